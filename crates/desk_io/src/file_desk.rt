@@ -1,0 +1,152 @@
+// The trusted edge: the files of the current folder, standard output and standard error.
+ghost use Rattle.std.specs.Prelude.{◌≡◌, ◌≤◌, IfOk, length};
+
+use crate::{Desk, Failed, Output, Table};
+use std::fs::File;
+use std::io::{ErrorKind, Read, Write};
+use std::{fs, io};
+
+/// A file that is read, from its first read on.
+#[derive(Drop)]
+enum TableFile {
+    NotOpened,
+    Absent,
+    Opened(File),
+}
+
+/// A desk over the current folder. It reads `node.csv`, `link.csv`, `movement.csv` and `demand.csv`, and puts to `agent.csv`,
+/// `link_performance.csv`, `gap.csv`, standard output (Report) and standard error (Watch). A `movement.csv` that doesn't exist
+/// reads as zero bytes; another missing file fails. A file is made, and an older one emptied, at its first put of
+/// a piece that isn't empty. It tells
+/// nothing of contents, and counts each failure.
+#[derive(Drop)]
+pub struct FileDesk {
+    rt: HostRuntime,
+    node: TableFile,
+    link: TableFile,
+    movement: TableFile,
+    demand: TableFile,
+    agent: Option<File>,
+    link_time: Option<File>,
+    gap: Option<File>,
+    read_faults: u64,
+    put_faults: u64,
+}
+
+impl FileDesk {
+    /// A desk over the current folder, of which nothing is opened yet.
+    pub fn here(rt: HostRuntime) -> Self
+        ensures { (result.read_faults ≡ 0) × (result.put_faults ≡ 0) }
+    {
+        FileDesk {
+            rt,
+            node: TableFile::NotOpened,
+            link: TableFile::NotOpened,
+            movement: TableFile::NotOpened,
+            demand: TableFile::NotOpened,
+            agent: None,
+            link_time: None,
+            gap: None,
+            read_faults: 0,
+            put_faults: 0,
+        }
+    }
+}
+
+// Reads from a file, which the first read opens.
+fn read_file(
+    rt: &HostRuntime,
+    file: &mut TableFile,
+    path: &str,
+    may_be_absent: bool,
+    buf: &mut [u8],
+) -> io::Result<usize>
+    ensures { IfOk result (λ n. n ≤ length buf.new) }
+{
+    if let TableFile::NotOpened = file {
+        *file = match fs::open(rt, path) {
+            Ok(opened) => TableFile::Opened(opened),
+            Err(why) => {
+                if may_be_absent && why.kind() == ErrorKind::NotFound {
+                    TableFile::Absent
+                } else {
+                    return Err(why);
+                }
+            }
+        };
+    }
+    match file {
+        TableFile::Opened(opened) => opened.read(buf),
+        _ => Ok(0),
+    }
+}
+
+// Puts to a file, which the first put makes.
+fn put_file(
+    rt: &HostRuntime,
+    file: &mut Option<File>,
+    path: &str,
+    piece: &[u8],
+) -> io::Result<usize>
+    ensures { IfOk result (λ n. n ≤ length piece.now) }
+{
+    if file.is_none() {
+        *file = Some(fs::create(rt, path)?);
+    }
+    match file {
+        Some(file) => file.write(piece),
+        None => Ok(0),
+    }
+}
+
+impl Desk for FileDesk {
+    ghost use Rattle.desk_io.specs.FileDesk.{untold_left, untold_taken, failed_reads, failed_puts};
+
+    ghost left = { untold_left };
+
+    ghost taken = { untold_taken };
+
+    ghost read_faults = { failed_reads };
+
+    ghost put_faults = { failed_puts };
+
+    fn read(&mut self, table: Table, buf: &mut [u8]) -> Result<usize, Failed> {
+        let read = match table {
+            Table::Node => read_file(&self.rt, &mut self.node, "node.csv", false, buf),
+            Table::Link => read_file(&self.rt, &mut self.link, "link.csv", false, buf),
+            Table::Movement => read_file(&self.rt, &mut self.movement, "movement.csv", true, buf),
+            Table::Demand => read_file(&self.rt, &mut self.demand, "demand.csv", false, buf),
+        };
+        match read {
+            Ok(count) => Ok(count),
+            Err(_) => {
+                self.read_faults = self.read_faults.saturating_add(1);
+                Err(Failed)
+            }
+        }
+    }
+
+    fn put(&mut self, output: Output, piece: &[u8]) -> Result<usize, Failed> {
+        // Nothing to put, and so no file to make or empty.
+        if piece.is_empty() {
+            return Ok(0);
+        }
+        let put = match output {
+            Output::Agent => put_file(&self.rt, &mut self.agent, "agent.csv", piece),
+            Output::LinkTime => {
+                put_file(&self.rt, &mut self.link_time, "link_performance.csv", piece)
+            }
+            Output::Gap => put_file(&self.rt, &mut self.gap, "gap.csv", piece),
+            Output::Report => self.rt.stdout().write(piece),
+            Output::Watch => self.rt.stderr().write(piece),
+        };
+        match put {
+            // A file that takes nothing of a piece has failed: the caller would put the piece for ever.
+            Ok(count) if count > 0 => Ok(count),
+            _ => {
+                self.put_faults = self.put_faults.saturating_add(1);
+                Err(Failed)
+            }
+        }
+    }
+}

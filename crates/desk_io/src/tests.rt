@@ -1,0 +1,78 @@
+use crate::{Desk, Failed, FileDesk, MemDesk, Output, ReadRefusal, Table, put_all, read_table};
+use std::alloc::Global;
+use std::fs;
+use std::test::Fail;
+
+// A desk whose node table is these bytes and whose other tables are empty.
+fn desk_of(alloc: Global, node: &[u8]) -> Result<MemDesk, Fail> {
+    let node = Vec::from_slice(alloc, node)?;
+    Ok(MemDesk::new(
+        alloc,
+        node,
+        Vec::new(alloc),
+        Vec::new(alloc),
+        Vec::new(alloc),
+    ))
+}
+
+#[test]
+fn eleven_bytes_with_a_limit(rt: HostRuntime) -> Result<(), Fail> {
+    for (limit, whole) in [(10, false), (11, true), (12, true)] {
+        let mut desk = desk_of(rt.alloc(), b"node_id\n123")?;
+        match read_table(rt.alloc(), &mut desk, Table::Node, limit) {
+            Ok(bytes) => {
+                assert!(rt; whole, "limit {limit}");
+                assert!(rt; bytes.as_slice() == b"node_id\n123".as_slice());
+            }
+            Err(refusal) => {
+                assert!(rt; !whole, "limit {limit}");
+                assert!(rt; refusal == ReadRefusal::TooLong);
+            }
+        }
+    }
+    Ok(())
+}
+
+#[test]
+fn listed_calls_fail(rt: HostRuntime) -> Result<(), Fail> {
+    let mut desk = desk_of(rt.alloc(), b"abcdef")?;
+    desk.set_most(2);
+    desk.fail_read(2)?;
+    desk.fail_put(2)?;
+    let mut buf = [0; 4];
+    assert!(rt; desk.read(Table::Node, &mut buf) == Ok(2));
+    assert!(rt; desk.read(Table::Node, &mut buf) == Err(Failed));
+    assert!(rt; desk.read(Table::Node, &mut buf) == Ok(2));
+    assert!(rt; buf.as_slice() == b"cd\0\0".as_slice());
+    assert!(rt; put_all(&mut desk, Output::Report, b"usage") == Err(Failed));
+    assert!(rt; desk.taken(Output::Report) == b"us".as_slice());
+    assert!(rt; put_all(&mut desk, Output::Report, b"age") == Ok(()));
+    assert!(rt; desk.taken(Output::Report) == b"usage".as_slice());
+    assert!(rt; desk.read_faults() == 1 && desk.put_faults() == 1 && desk.starved() == 0);
+    Ok(())
+}
+
+// A file is opened once, made anew at its first put alone, and only a movement table may be absent.
+#[test]
+fn files_of_the_folder(rt: HostRuntime) -> Result<(), Fail> {
+    fs::write(&rt, "node.csv", b"node_id\n1")?;
+    fs::write(&rt, "gap.csv", b"an older text")?;
+    let mut desk = FileDesk::here(rt);
+    let mut buf = [0; 4];
+    assert!(rt; desk.read(Table::Node, &mut buf) == Ok(4));
+    assert!(rt; desk.read(Table::Node, &mut buf) == Ok(4));
+    assert!(rt; buf.as_slice() == b"_id\n".as_slice());
+    assert!(rt; desk.read(Table::Movement, &mut buf) == Ok(0));
+    assert!(rt; desk.read(Table::Demand, &mut buf) == Err(Failed));
+    for (output, path) in [
+        (Output::Agent, "agent.csv"),
+        (Output::LinkTime, "link_performance.csv"),
+        (Output::Gap, "gap.csv"),
+    ] {
+        assert!(rt; put_all(&mut desk, output, b"two ") == Ok(()));
+        assert!(rt; put_all(&mut desk, output, b"puts") == Ok(()));
+        let text = fs::read_to_string(&rt, path)?;
+        assert!(rt; text.as_str() == "two puts", "{path}");
+    }
+    Ok(())
+}
