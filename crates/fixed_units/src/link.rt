@@ -1,0 +1,117 @@
+// What a link's length, speed, lanes and capacity give it.
+ghost use Rattle.std.specs.Prelude.{◌≡◌, ◌≤◌, ◌^◌, IfOk};
+ghost use Rattle.fixed_units.specs.Units.{free_steps_of, storage_of, link_rate_of};
+
+use crate::measure::{Length, Speed};
+use crate::quantity::MOST_THOUSANDTHS;
+
+/// The longest step, in seconds.
+pub const MOST_STEP: u32 = 60;
+
+/// The most free-flow steps of a link.
+pub const MOST_FREE_STEPS: u32 = 10_000;
+
+/// The most vehicles that a link stores.
+pub const MOST_STORAGE: u32 = 4_000_000;
+
+/// The most lanes of a link, in thousandths.
+pub const MOST_LANES: u32 = 100_000;
+
+/// The greatest jam density, in vehicles per kilometre and lane.
+pub const MOST_JAM: u32 = 1000;
+
+/// A link that takes more than `MOST_FREE_STEPS` at its free speed.
+#[derive(Clone, Copy, Debug, PartialEq, Eq)]
+pub struct TooSlow {
+    /// The steps that it takes.
+    pub steps: u128,
+}
+
+/// The steps of `delta` seconds that a link takes at its free speed, rounded up.
+pub fn ff_steps(length: Length, speed: Speed, delta: u32) -> Result<u32, TooSlow>
+    requires moves { 1 ≤ speed.micrometres_per_hour }
+    requires step { 1 ≤ delta }
+    requires short { delta ≤ MOST_STEP }
+    ensures value { result ≡ free_steps_of length speed delta }
+    ensures least { IfOk result (λ steps. 1 ≤ steps) }
+    ensures most { IfOk result (λ steps. steps ≤ MOST_FREE_STEPS) }
+{
+    let per_step = u128::from(speed.micrometres_per_hour) * u128::from(delta);
+    let steps = (3600 * u128::from(length.micrometres))
+        .div_ceil(per_step)
+        .max(1);
+    if steps > u128::from(MOST_FREE_STEPS) {
+        Err(TooSlow { steps })
+    } else {
+        Ok(steps as u32)
+    }
+}
+
+/// The vehicles that a link stores at a jam density, at least one. Lanes are in thousandths.
+pub fn storage(length: Length, lanes: u32, jam: u32) -> u32
+    requires lanes { lanes ≤ MOST_LANES }
+    requires sparse { 1 ≤ jam }
+    requires dense { jam ≤ MOST_JAM }
+    ensures value { result ≡ storage_of length lanes jam }
+    ensures least { 1 ≤ result }
+    ensures most { result ≤ MOST_STORAGE }
+{
+    let vehicles = u128::from(length.micrometres) * u128::from(lanes) * u128::from(jam)
+        / 1_000_000_000_000;
+    vehicles.max(1).min(u128::from(MOST_STORAGE)) as u32
+}
+
+/// The rate at which vehicles may enter and leave a link, in millionths of a vehicle per hour.
+/// The capacity is per lane, and both are in thousandths.
+pub fn link_rate(capacity: u64, lanes: u32) -> u64
+    requires capacity { capacity ≤ MOST_THOUSANDTHS }
+    requires lanes { lanes ≤ MOST_LANES }
+    ensures value { result ≡ link_rate_of capacity lanes }
+    ensures most { result ≤ 10 ^ 17 }
+{
+    capacity * u64::from(lanes)
+}
+
+#[cfg(test)]
+mod tests {
+    use super::*;
+    use crate::conversion::{length, speed};
+    use crate::measure::{LengthUnit, SpeedUnit};
+    use crate::turn::{penalty_steps, turn_rate};
+
+    #[test]
+    fn follows_the_formulas(rt: HostRuntime) {
+        let kilometre = length(1_000_000, LengthUnit::Metre);
+        let street = speed(60_000, SpeedUnit::Kmh);
+        assert_eq!(rt; length(1000, LengthUnit::Kilometre), kilometre);
+        assert_eq!(rt;
+            length(1000, LengthUnit::Mile),
+            length(1_609_344, LengthUnit::Metre)
+        );
+        assert_eq!(rt;
+            speed(1000, SpeedUnit::Mph).micrometres_per_hour,
+            1_609_344_000
+        );
+        assert_eq!(rt; ff_steps(kilometre, street, 6), Ok(10));
+        assert_eq!(rt;
+            ff_steps(length(1_000_490, LengthUnit::Metre), street, 6),
+            Ok(11)
+        );
+        assert_eq!(rt; ff_steps(length(5000, LengthUnit::Metre), street, 6), Ok(1));
+        let walk = speed(1000, SpeedUnit::Kmh);
+        assert_eq!(rt;
+            ff_steps(length(1_000_000, LengthUnit::Mile), walk, 6),
+            Err(TooSlow { steps: 965_607 })
+        );
+        assert_eq!(rt; storage(kilometre, 1000, 125), 125);
+        assert_eq!(rt; storage(length(80_000, LengthUnit::Metre), 1000, 125), 10);
+        assert_eq!(rt; storage(length(0, LengthUnit::Metre), 1000, 125), 1);
+        assert_eq!(rt;
+            storage(length(1_000_000_000, LengthUnit::Kilometre), 100_000, 1000),
+            4_000_000
+        );
+        assert_eq!(rt; link_rate(600_000, 1000), 600_000_000);
+        assert_eq!(rt; turn_rate(600_000), 600_000_000);
+        assert_eq!(rt; penalty_steps(7000, 6), 2);
+    }
+}

@@ -1,0 +1,60 @@
+// The zone field of a node table.
+ghost use Rattle.std.specs.Prelude.{◌≡◌};
+ghost use Rattle.fixed_units.specs.Zone.{is_minus_one as is_minus_one_of, zone_of};
+
+use crate::fault::NumberFault;
+use crate::identifier::whole;
+
+/// Reads the zone field of a node table: none where it is empty, an identifier of value 0, or `-` before an identifier of value 1,
+/// as tables of other programs write it; and else its identifier.
+pub fn zone(text: &[u8]) -> Result<Option<u64>, NumberFault>
+    ensures { result ≡ zone_of text.now }
+{
+    if text.is_empty() || is_minus_one(text) {
+        return Ok(None);
+    }
+    match whole(text) {
+        Ok(value) => Ok(if value == 0 { None } else { Some(value) }),
+        Err(fault) => Err(fault),
+    }
+}
+
+// Whether this is a minus before an identifier of value 1.
+fn is_minus_one(text: &[u8]) -> bool
+    ensures { result ≡ is_minus_one_of text.now }
+{
+    match text.split_first() {
+        Some((b'-', rest)) => match whole(rest) {
+            Ok(value) => value == 1,
+            Err(_) => false,
+        },
+        _ => false,
+    }
+}
+
+#[cfg(test)]
+mod tests {
+    use super::*;
+
+    #[test]
+    fn reads_zones(rt: HostRuntime) {
+        let cases: [(&[u8], Result<Option<u64>, NumberFault>); 13] = [
+            (b"", Ok(None)),
+            (b"0", Ok(None)),
+            (b"0.0", Ok(None)),
+            (b"-1", Ok(None)),
+            (b"-1.0", Ok(None)),
+            (b"-01", Ok(None)),
+            (b"3", Ok(Some(3))),
+            (b"3.0", Ok(Some(3))),
+            (b"-0", Err(NumberFault::OutOfRange)),
+            (b"-2", Err(NumberFault::OutOfRange)),
+            (b"--1", Err(NumberFault::NotNumber)),
+            (b"- 1", Err(NumberFault::NotNumber)),
+            (b"1.5", Err(NumberFault::NotNumber)),
+        ];
+        for (text, expected) in cases {
+            assert_eq!(rt; zone(text), expected, "{text:?}");
+        }
+    }
+}
