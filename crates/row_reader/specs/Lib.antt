@@ -1,0 +1,9 @@
+pub mod Records
+pub mod Trimmed
+pub mod Columns
+pub mod Rows
+pub mod RowsInside
+pub mod Faults
+pub mod Accepted
+pub mod OnLiterals
+pub mod Examples
