@@ -1,0 +1,3 @@
+pub mod IdsFacts
+pub mod TableFacts
+pub mod BetweenFacts
