@@ -1,0 +1,3 @@
+pub mod SendingFacts
+pub mod TextsFacts
+pub mod VerdictFacts

@@ -1,0 +1,12 @@
+pub mod Words
+pub mod WordsInside
+pub mod Status
+pub mod Limits
+pub mod Refusal
+pub mod Sending
+pub mod Texts
+pub mod Tables
+pub mod Verdict
+pub mod Outcome
+pub mod Stops
+pub mod Examples

@@ -1,0 +1,90 @@
+// The texts of `freeflow`.
+ghost use Rattle.std.specs.Prelude.{◌≡◌, ◌≤◌, ◌+◌, ◌++◌, length, OnOk, OnErr};
+ghost use Rattle.desk_io.specs.declared.desk.Output.TheVariants as output;
+ghost use Rattle.desk_io.specs.Desk.{grown};
+ghost use Rattle.desk_io.specs.Faults.{HasCause};
+ghost use Rattle.desk_io.specs.Transfers.{IsPartOut};
+ghost use Rattle.dta.specs.declared.pending.TheConstants.{PIECE};
+ghost use Rattle.dta.specs.Texts.{link_line, link_time_header, link_time_text, report_text, IsFreeOut, IsCutShort};
+
+use crate::pending::Pending;
+use desk_io::{Desk, Failed, Output};
+use gmns_tables::{LinkRow, NodeRow};
+
+/// No line of a link is longer: three numbers of at most 20 digits, two commas and a line feed.
+const LINE: usize = 64;
+
+// The header of LinkTime.
+#[tactic(auto, unfolding(crate::specs::Texts::link_time_header))]
+fn header() -> Pending
+    ensures { result ≡ link_time_header }
+{
+    let mut pending = Pending::new();
+    pending.push("link_id,free_steps,storage\n");
+    pending
+}
+
+// Adds the line of a link.
+#[tactic(auto, using(crate::proofs::TextsFacts::pieces), unfolding(crate::specs::Texts::link_line))]
+fn push_link(pending: &mut Pending, row: LinkRow)
+    requires { length pending.old + LINE ≤ PIECE }
+    ensures { pending.new ≡ pending.old ++ link_line row }
+{
+    pending.push_number(row.id);
+    pending.push(",");
+    pending.push_number(u64::from(row.free));
+    pending.push(",");
+    pending.push_number(u64::from(row.storage));
+    pending.push("\n");
+}
+
+// Puts the table of the links.
+#[tactic(auto, using(crate::proofs::SendingFacts::sending))]
+fn put_link_times<D: Desk>(desk: &mut D, links: &[LinkRow]) -> Result<(), Failed>
+    ensures whole { OnOk result (
+        D.taken desk.new ≡ grown output.LinkTime (link_time_text links.now) (D.taken desk.old)) }
+    ensures refused { OnErr result (
+        IsPartOut output.LinkTime (link_time_text links.now) (D.taken desk.old) (D.taken desk.new)) }
+    ensures left { D.left desk.new ≡ D.left desk.old }
+    ensures cause { HasCause (D.put_faults desk.old) (D.put_faults desk.new) result }
+    ensures reads { D.read_faults desk.new ≡ D.read_faults desk.old }
+{
+    let mut pending = header();
+    'each: for row in links {
+        pending.make_room(desk, Output::LinkTime, LINE)?;
+        push_link(&mut pending, *row);
+    }
+    pending.put_out(desk, Output::LinkTime)
+}
+
+// The report's two lines.
+#[tactic(auto, using(crate::proofs::TextsFacts::pieces), unfolding(crate::specs::Texts::report_text))]
+fn report(nodes: usize, links: usize) -> Pending
+    ensures { result ≡ report_text nodes links }
+{
+    let mut text = Pending::new();
+    text.push("nodes ");
+    text.push_number(nodes as u64);
+    text.push("\nlinks ");
+    text.push_number(links as u64);
+    text.push("\n");
+    text
+}
+
+/// Puts LinkTime, and then Report. On Failed a first part of one of them went out, of Report only where LinkTime is whole. It
+/// takes no memory.
+pub(crate) fn put_free<D: Desk>(
+    desk: &mut D,
+    nodes: &[NodeRow],
+    links: &[LinkRow],
+) -> Result<(), Failed>
+    ensures whole { OnOk result (IsFreeOut nodes.now links.now (D.taken desk.old) (D.taken desk.new)) }
+    ensures refused { OnErr result (
+        IsCutShort nodes.now links.now (D.taken desk.old) (D.taken desk.new)) }
+    ensures left { D.left desk.new ≡ D.left desk.old }
+    ensures cause { HasCause (D.put_faults desk.old) (D.put_faults desk.new) result }
+    ensures reads { D.read_faults desk.new ≡ D.read_faults desk.old }
+{
+    put_link_times(desk, links)?;
+    report(nodes.len(), links.len()).put_out(desk, Output::Report)
+}
