@@ -30,8 +30,6 @@ impl Source {
     pub(crate) fn read(&mut self, buf: &mut [u8], most: usize) -> usize
         requires { 0 < most }
         ensures many { result ≡ min (min (length self.old) (length buf.new)) most }
-        ensures count { result ≤ length buf.new }
-        ensures few { result ≤ most }
         ensures bytes { self.old ≡ take result buf.new ++ self.new }
         ensures end { result ≡ 0 → 0 < length buf.new → self.new ≡ [] }
     {

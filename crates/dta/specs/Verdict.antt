@@ -27,12 +27,15 @@ verdict_on_nodes (Some nodes) link =
     then verdict_on_links nodes (links_of nodes link)
     else Refused (refusal.LongTable table.Link)
 
+-- the verdict over the bytes of both tables
+abbrev pub verdict_on_tables : List ℕ → List ℕ → Verdict
+verdict_on_tables node link =
+    if nat_le (length node) table_limit
+    then verdict_on_nodes (nodes_of node) link
+    else Refused (refusal.LongTable table.Node)
+
 -- the first cause in the order of the work: the words; the node table, too long or not plain; the link
 -- table, too long or not plain
 abbrev pub verdict : List (List ℕ) → List ℕ → List ℕ → Verdict
 verdict words node link =
-    if is_freeflow words
-    then (if nat_le (length node) table_limit
-    then verdict_on_nodes (nodes_of node) link
-    else Refused (refusal.LongTable table.Node))
-    else Refused refusal.Usage
+    if is_freeflow words then verdict_on_tables node link else Refused refusal.Usage

@@ -1,8 +1,12 @@
 -- Small worked cases of the definitions.
-use Rattle.std.specs.Prelude.{◌≡◌, true, [], Ok, Err, codes, refl}
+use Rattle.std.specs.Prelude.{◌≡◌, ◌-◌, ◌^◌, true, [], Ok, Err, codes, refl}
 use Rattle.fixed_units.specs.declared.fault.NumberFault.TheVariants.{NotNumber, OutOfRange}
 use Rattle.fixed_units.specs.declared.measure.LengthUnit.TheVariants.{Metre, Mile}
 use Rattle.fixed_units.specs.declared.measure.SpeedUnit.TheVariants.{Kmh}
+use Rattle.fixed_units.specs.declared.identifier.TheConstants.{GREATEST_IDENTIFIER}
+use Rattle.fixed_units.specs.declared.quantity.TheConstants.{MOST_BYTES, MOST_THOUSANDTHS}
+use Rattle.fixed_units.specs.declared.link.TheConstants.{MOST_STEP, MOST_FREE_STEPS, MOST_STORAGE, MOST_LANES, MOST_JAM}
+use Rattle.fixed_units.specs.declared.turn.TheConstants.{MOST_PENALTY, MOST_PENALTY_STEPS}
 use Rattle.fixed_units.specs.Quantity.{number, whole_of, milli_of}
 use Rattle.fixed_units.specs.Spelling.{text_of, plus, minus, power}
 use Rattle.fixed_units.specs.Units.{length_of, speed_of, free_steps_of, storage_of, penalty_steps_of, link_rate_of, turn_rate_of}
@@ -200,3 +204,33 @@ one_lane = refl
 
 turn_of_600 : turn_rate_of 600000 ≡ 600000000
 turn_of_600 = refl
+
+-- ---- the limits of the formats
+
+longest_quantity : MOST_BYTES ≡ 64
+longest_quantity = refl
+
+greatest_quantity : MOST_THOUSANDTHS ≡ 10 ^ 12
+greatest_quantity = refl
+
+greatest_identifier_number : GREATEST_IDENTIFIER ≡ 2 ^ 63 - 1
+greatest_identifier_number = refl
+
+longest_step : MOST_STEP ≡ 60
+longest_step = refl
+
+most_free_steps : MOST_FREE_STEPS ≡ 10000
+most_free_steps = refl
+
+most_storage : MOST_STORAGE ≡ 4000000
+most_storage = refl
+
+most_lanes : MOST_LANES ≡ 100000
+most_lanes = refl
+
+densest_jam : MOST_JAM ≡ 1000
+densest_jam = refl
+
+-- ten hours
+longest_penalty : (MOST_PENALTY ≡ 36000000) × (MOST_PENALTY_STEPS ≡ 36000)
+longest_penalty = (refl, refl)

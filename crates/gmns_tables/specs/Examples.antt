@@ -7,6 +7,8 @@ use Rattle.fixed_units.specs.declared.measure.SpeedUnit.TheVariants as speed_uni
 use Rattle.row_reader.specs.Accepted.{rows_from}
 use Rattle.row_reader.specs.Records.{Record}
 use Rattle.row_reader.specs.Trimmed.{drop_blanks}
+use Rattle.gmns_tables.specs.declared.node_table.TheConstants.{MOST_NODES}
+use Rattle.gmns_tables.specs.declared.link_table.TheConstants.{MOST_LINKS, LEAST_SPEED}
 use Rattle.gmns_tables.specs.Fields.{identifier, quantity, zone}
 use Rattle.gmns_tables.specs.Nodes.{is_node_header, node_of}
 use Rattle.gmns_tables.specs.Links.{is_link_header, link_of, known_node}
@@ -78,3 +80,15 @@ empty-field = refl
 too-many-lanes : link_of nodes units [] (codes "20" ∷ codes "2" ∷ codes "3" ∷ codes "1000" ∷ codes "100.001" ∷ codes "60" ∷ codes "600" ∷ []) ≡ None
 unfolding link_of known_node identifier quantity drop_blanks field_at number
 too-many-lanes = refl
+
+-- ---- the limits of the formats
+
+most_nodes : MOST_NODES ≡ 1000000
+most_nodes = refl
+
+most_links : MOST_LINKS ≡ 1000000
+most_links = refl
+
+-- in thousandths
+least_speed : LEAST_SPEED ≡ 1
+least_speed = refl
