@@ -2,7 +2,6 @@ pub mod Firsts
 pub mod Leads
 pub mod Numbers
 pub mod Parts
-pub mod Plains
 pub mod Scales
 pub mod Spellings
 pub mod Splits

@@ -24,5 +24,3 @@ whole_part-None text h = before_first-None is_point text h
 pub fraction_part-None : (text : List ℕ) → position is_point text ≡ None → fraction_part text ≡ []
 fraction_part-None text h =
     let far : length text ≤ position_or_len is_point text = unfound is_point text h in drop_all _ text (omega arith)
-
-pub ruleset parts = (whole_part-None, fraction_part-None)

@@ -12,8 +12,21 @@ use Rattle.fixed_units.specs.Reading.{IsSplit, begins_with, end_of}
 use Rattle.fixed_units.specs.Spelling.{Sign, no_sign, plus, minus, sign_text, is_minus, Exponent, no_exponent, power, exponent_text, power_up, power_down, IsExponent, Spelling, text_of, IsSpelling, SpellingsAreRead, QuantitiesAreSpelled}
 use Rattle.fixed_units.proofs.Numbers.{and-first, and-second}
 use Rattle.fixed_units.proofs.Splits.{quantity-split, read-value}
-use Rattle.fixed_units.proofs.Plains.{no-sign, point-between}
 use Rattle.fixed_units.proofs.Parts.{before_first-None, whole_part-None, fraction_part-None, missing, found}
+
+no-sign : (text : List ℕ) → begins_with is_digit text ≡ true → (has_minus text ≡ false) × (unsigned text ≡ text)
+no-sign [] h = (refl, refl)
+no-sign (x ∷ text) h = (grind arith, grind arith)
+
+point-is : (x : ℕ) → is_point x ≡ true → x ≡ 46
+point-is x h = grind arith
+
+-- a text with its point between its parts
+point-between : (text : List ℕ) → has_point text ≡ true → text ≡ whole_part text ++ (46 ∷ fraction_part text)
+point-between text h =
+    let place : position_or_len is_point text < length text = found is_point text h in
+    let point : get_or text (position_or_len is_point text) 0 ≡ 46 = point-is _ (passes_at_first is_point text 0 place) in
+    split_at_first is_point text 0 place ∙ ap (λ (x : ℕ). whole_part text ++ (x ∷ fraction_part text)) point
 
 -- a sign before a text that begins with none
 sign-before : (sign : Sign) (text : List ℕ) → (has_minus text ≡ false) × (unsigned text ≡ text)

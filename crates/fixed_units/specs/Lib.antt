@@ -1,5 +1,4 @@
 pub mod Examples
-pub mod Plain
 pub mod Quantity
 pub mod Reading
 pub mod Spelling

@@ -16,7 +16,6 @@ mod identifier;
 mod leading;
 mod link;
 mod measure;
-mod plain;
 mod quantity;
 mod sign;
 mod turn;
@@ -30,7 +29,6 @@ pub use link::{
     storage,
 };
 pub use measure::{Length, LengthUnit, Speed, SpeedUnit};
-pub use plain::{is_plain_identifier, is_plain_quantity, plain_numbers_are_numbers};
 pub use quantity::{MOST_BYTES, MOST_THOUSANDTHS, milli, quantities_are_spellings};
 pub use turn::{MOST_PENALTY, MOST_PENALTY_STEPS, penalty_steps, turn_rate};
 pub use zone_field::zone;
