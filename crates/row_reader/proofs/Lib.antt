@@ -5,4 +5,5 @@ pub mod OpenFacts
 pub mod BlanksFacts
 pub mod ColumnsFacts
 pub mod GoodFacts
-pub mod AcceptedFacts
+pub mod FirstFaultFacts
+pub mod LawsFacts

@@ -1,13 +1,26 @@
 -- Small tables worked out.
--- A line ends in 10, or in 13 and 10; 34 is a quote, 32 a space, 9 a tab, and 239 187 191 a byte order mark.
-use Rattle.std.specs.Prelude.{ℕ, ◌≡◌, Bool, List, [], ◌∷◌, ◌++◌, Option, None, Some, codes, refl, true, false, is_some}
+-- A line ends in 10, or in 13 and 10; 34 is a quote, 32 a space, 9 a tab, and 239 187 191 a byte
+-- order mark.
+use Rattle.std.specs.Prelude.{ℕ, ◌≡◌, List, [], ◌∷◌, ◌++◌, length, nat_eq, Result, Ok, Err, None, Some, codes, refl, true, false}
+use Rattle.std.specs.List.{list_any}
+use Rattle.std.specs.Str.{bytes_eq}
+use Rattle.desk_io.specs.declared.desk.Table.TheVariants as table
+use Rattle.fixed_units.specs.Quantity.{number}
 use Rattle.row_reader.specs.Records.{Record, records, is_good}
 use Rattle.row_reader.specs.Trimmed.{trimmed}
 use Rattle.row_reader.specs.Columns.{column_of, cell}
-use Rattle.row_reader.specs.Accepted.{table_of}
+use Rattle.row_reader.specs.Fields.{unless, within, identifier, quantity, quantity_or, optional_quantity, required_column}
+use Rattle.row_reader.specs.FirstFault.{Judge, then_with, verdict}
+use Rattle.row_reader.specs.declared.faults.Code.{Code}
+use Rattle.row_reader.specs.declared.faults.Code.TheVariants as code
+use Rattle.row_reader.specs.declared.faults.Column.{Column}
+use Rattle.row_reader.specs.declared.faults.Column.TheVariants as column
+use Rattle.row_reader.specs.declared.faults.Complaint.{Complaint}
+use Rattle.row_reader.specs.declared.faults.TableFault.{TableFault}
 use Rattle.row_reader.specs.OnLiterals.{tables_on_literals}
 
--- a line ends in either way, the last one also at the end of the text, and an empty line is no record
+-- a line ends in either way, the last one also at the end of the text, and an empty line is no
+-- record
 line_ends : records (codes "id,zone" ++ 13 ∷ 10 ∷ codes "1,7" ++ 10 ∷ 10 ∷ codes "2,")
     ≡ (codes "id" ∷ codes "zone" ∷ []) ∷ (codes "1" ∷ codes "7" ∷ []) ∷ (codes "2" ∷ [] ∷ []) ∷ []
 unfolding tables_on_literals
@@ -85,46 +98,110 @@ good : is_good (codes "id" ∷ []) ((195 ∷ 169 ∷ []) ∷ []) ≡ true
 unfolding tables_on_literals
 good = refl
 
--- a table of names that may have two rows: its column is `name`, and a name isn't empty
-names : List Record → Option (List (List ℕ))
-names = table_of 2 is_right name_of
+-- a table of names that may have two rows: its column is `name`, and a name isn't empty and has no
+-- earlier row
+names : List Record → Result (List (List ℕ)) TableFault
+names = verdict table.Node 2 name_place name_of
   where
-    is_right : Record → Bool
-    is_right first = is_some (column_of first (codes "name"))
+    name_place : Record → Result ℕ Complaint
+    name_place first = required_column first column.NodeId
 
-    name_of : List (List ℕ) → Record → Option (List ℕ)
-    name_of before r = not_empty (cell r (Some 0))
-      where
-        not_empty : List ℕ → Option (List ℕ)
-        not_empty [] = None
-        not_empty (byte ∷ rest) = Some (byte ∷ rest)
+    name_of : ℕ → Judge (List ℕ)
+    name_of place before r =
+        then_with (unless (nat_eq (length (cell r (Some place))) 0) code.E3 column.NodeId) (λ filled.
+        then_with (unless (list_any (bytes_eq (cell r (Some place))) before) code.E6 column.NodeId) (λ new.
+        Ok (cell r (Some place))))
 
-two_names : names (records (codes "name" ++ 10 ∷ codes "ann" ++ 10 ∷ codes "bo" ++ 10 ∷ []))
-    ≡ Some (codes "ann" ∷ codes "bo" ∷ [])
+-- a fault of that table
+fault : ℕ → Code → Column → TableFault
+fault line why what = record { table = table.Node; line = line; code = why; column = what }
+
+two_names : names (records (codes "node_id" ++ 10 ∷ codes "ann" ++ 10 ∷ codes "bo" ++ 10 ∷ []))
+    ≡ Ok (codes "ann" ∷ codes "bo" ∷ [])
 unfolding tables_on_literals names
 two_names = refl
 
-no_names : names (records (codes "name")) ≡ Some []
+no_names : names (records (codes "id,node_id")) ≡ Ok []
 unfolding tables_on_literals names
 no_names = refl
 
-three_names : names (records (codes "name" ++ 10 ∷ codes "a" ++ 10 ∷ codes "b" ++ 10 ∷ codes "c")) ≡ None
-unfolding tables_on_literals names
-three_names = refl
-
-blank_name : names (records (codes "name" ++ 10 ∷ codes "ann" ++ 10 ∷ 32 ∷ [])) ≡ None
-unfolding tables_on_literals names
-blank_name = refl
-
-two_fields : names (records (codes "name" ++ 10 ∷ codes "ann,1")) ≡ None
-unfolding tables_on_literals names
-two_fields = refl
-
-other_header : names (records (codes "node" ++ 10 ∷ codes "ann")) ≡ None
-unfolding tables_on_literals names
-other_header = refl
-
--- a text without records has a header of no columns, which isn't the right one here
-empty_text : names (records []) ≡ None
-unfolding tables_on_literals names
+-- a text without records has a header of no columns, and so lacks the column
+empty_text : names (records []) ≡ Err (fault 1 code.E1 column.NodeId)
+unfolding tables_on_literals names fault
 empty_text = refl
+
+no_column : names (records (codes "node" ++ 10 ∷ codes "ann")) ≡ Err (fault 1 code.E1 column.NodeId)
+unfolding tables_on_literals names fault
+no_column = refl
+
+-- a header that isn't text, whether it lacks the column or has it
+no_text_header : names (records (codes "node," ++ 255 ∷ [])) ≡ Err (fault 1 code.E2 column.NoColumn)
+unfolding tables_on_literals names fault
+no_text_header = refl
+
+-- a later name is the same as an earlier one
+twice : names (records (codes "node_id" ++ 10 ∷ codes "ann" ++ 10 ∷ codes "ann" ++ 10 ∷ []))
+    ≡ Err (fault 3 code.E6 column.NodeId)
+unfolding tables_on_literals names fault
+twice = refl
+
+-- two faults in two lines: the first line's is told
+two_lines : names (records (codes "node_id" ++ 10 ∷ 32 ∷ 10 ∷ codes "ann,1" ++ 10 ∷ []))
+    ≡ Err (fault 2 code.E3 column.NodeId)
+unfolding tables_on_literals names fault
+two_lines = refl
+
+-- two faults in one line: a record that isn't good comes before one too many, and that before an
+-- empty field
+bad_and_many : names (records (codes "node_id" ++ 10 ∷ codes "a" ++ 10 ∷ codes "b" ++ 10 ∷ codes "c,1"))
+    ≡ Err (fault 4 code.E2 column.NoColumn)
+unfolding tables_on_literals names fault
+bad_and_many = refl
+
+many_and_empty : names (records (codes "node_id" ++ 10 ∷ codes "a" ++ 10 ∷ codes "b" ++ 10 ∷ 32 ∷ []))
+    ≡ Err (fault 4 code.E12 column.NoColumn)
+unfolding tables_on_literals names fault
+many_and_empty = refl
+
+-- a field's checks in their order: empty, then its form, then its range
+required_empty : identifier column.LinkId [] ≡ Err (record { code = code.E3; column = column.LinkId })
+unfolding identifier
+required_empty = refl
+
+required_form : identifier column.LinkId (codes "1e2") ≡ Err (record { code = code.E4; column = column.LinkId })
+unfolding identifier number
+required_form = refl
+
+required_range : identifier column.LinkId (codes "-1") ≡ Err (record { code = code.E5; column = column.LinkId })
+unfolding identifier number
+required_range = refl
+
+required_value : identifier column.LinkId (codes "7.0") ≡ Ok 7
+unfolding identifier number
+required_value = refl
+
+quantity_empty : quantity column.Length [] ≡ Err (record { code = code.E3; column = column.Length })
+unfolding quantity
+quantity_empty = refl
+
+quantity_value : quantity column.Length (codes "0.5") ≡ Ok 500
+unfolding quantity number
+quantity_value = refl
+
+default_value : quantity_or 1800000 column.Capacity [] ≡ Ok 1800000
+unfolding quantity_or
+default_value = refl
+
+no_value : optional_quantity column.Capacity [] ≡ Ok None
+unfolding optional_quantity
+no_value = refl
+
+some_value : optional_quantity column.Capacity (codes "2") ≡ Ok (Some 2000)
+unfolding optional_quantity number
+some_value = refl
+
+bound_low : within column.FreeSpeed 1 10 0 ≡ Err (record { code = code.E5; column = column.FreeSpeed })
+bound_low = refl
+
+bound_high : within column.FreeSpeed 1 10 10 ≡ Ok 10
+bound_high = refl

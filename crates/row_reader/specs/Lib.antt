@@ -4,6 +4,9 @@ pub mod Columns
 pub mod Rows
 pub mod RowsInside
 pub mod Faults
-pub mod Accepted
+pub mod Names
+pub mod Fields
+pub mod FirstFault
+pub mod Laws
 pub mod OnLiterals
 pub mod Examples

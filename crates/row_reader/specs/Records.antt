@@ -8,7 +8,8 @@ use Rattle.csv.specs.Reading as reading
 abbrev pub Record : Type 0
 Record = List (List ℕ)
 
--- the records of a table's bytes: no line is kept apart as a header, and a byte order mark is dropped once
+-- the records of a table's bytes: no line is kept apart as a header, and a byte order mark is
+-- dropped once
 abbrev pub records : List ℕ → List Record
 records bytes = reading.records reading.default_config (reading.strip_bom bytes)
 

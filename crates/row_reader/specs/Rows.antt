@@ -9,7 +9,8 @@ pub record RowView : Type 0 where
   pub fields : Record
   pub line : ℕ
 
--- rows: the header, the line of the last record that was read, the records that are left, and the fault that stands, if any
+-- rows: the header, the line of the last record that was read, the records that are left, and the
+-- fault that stands, if any
 pub record RowsView : Type 0 where
   pub header : Record
   pub line : ℕ
@@ -41,6 +42,7 @@ ExplainsFault old (BadRecord line) = (line ≡ old.line + 1) × HasBadNext old.h
 abbrev pub Steps : RowsView → RowsView → Result (Option RowView) RowFault → Type 0
 Steps old new (Ok None) = (old.rest ≡ []) × (new ≡ old)
 Steps old new (Ok (Some row)) =
-    (old.rest ≡ row.fields ∷ new.rest) × (is_good old.header row.fields ≡ true) × (row.line ≡ old.line + 1)
-    × (new ≡ record old { line = old.line + 1; rest = new.rest })
-Steps old new (Err fault) = (new ≡ record old { rest = new.rest; fault = Some fault }) × ExplainsFault old fault
+    (old.rest ≡ row.fields ∷ new.rest) × (is_good old.header row.fields ≡ true)
+    × (row.line ≡ old.line + 1) × (new ≡ record old { line = old.line + 1; rest = new.rest })
+Steps old new (Err fault) =
+    (new ≡ record old { rest = new.rest; fault = Some fault }) × ExplainsFault old fault

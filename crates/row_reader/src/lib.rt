@@ -1,15 +1,30 @@
-//! The records of a table, one at a time.
+//! The records of a table, one at a time, and its rows or its first fault.
 //!
-//! [`Rows`] reads a table's records in order and answers each with its line, the end exactly at the end,
-//! or the first record that isn't text or isn't as long as the header. [`accept_all`] makes rows of the
-//! records that are left, up to the first one that a table refuses.
+//! [`Rows`] reads a table's records in order and answers each with its line, the end exactly at the
+//! end, or the first record that isn't text or isn't as long as the header. [`accept_all`] makes
+//! rows of the records that are left, or answers the first fault: the least line at which a check
+//! fails, and there the first check that fails. A table supplies its checks of a line as an
+//! [`Accepted`], and makes them of the field checks here.
 #![tactic(auto)]
 
 mod accepted;
 mod blanks;
+mod faults;
+mod fields;
+mod laws;
+mod opening;
 mod rows;
 
 pub use accepted::{Accepted, RowRefusal, accept_all};
+pub use faults::{
+    Code, Column, Complaint, TableFault, TableRefusal, code_name, column_name, table_name,
+};
+pub use fields::{
+    complain, identifier, not_a_number, optional_column, optional_quantity, quantity, quantity_or,
+    required_column, unless, within,
+};
+pub use laws::{accepted_rows_are_those_of_all_records, the_fault_is_that_of_the_least_line};
+pub use opening::{header_refusal, open_table};
 pub use rows::{Row, RowFault, Rows};
 
 #[cfg(test)]

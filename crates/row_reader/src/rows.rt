@@ -100,8 +100,9 @@ impl<'a> Model for Rows<'a> {
 }
 
 impl<'a> Rows<'a> {
-    /// Reads the header of a table, its first record. A table is a text of RFC 4180 as `csv` reads it.
-    /// A text without records has a header of no columns. A header that isn't UTF-8 is a `BadRecord` at line 1.
+    /// Reads the header of a table, its first record. A table is a text of RFC 4180 as `csv` reads
+    /// it. A text without records has a header of no columns. A header that isn't UTF-8 is a
+    /// `BadRecord` at line 1.
     pub fn new(alloc: Global, text: &'a [u8]) -> Result<Self, RowFault>
         ensures opens { IfOk result (OpensAs (records text.now)) }
         ensures bad { IfErr result (λ e. (line : ℕ) → e ≡ fault.BadRecord line
@@ -152,8 +153,9 @@ impl<'a> Rows<'a> {
         None
     }
 
-    /// The next record, or the end. One that isn't UTF-8 or isn't as long as the header is a `BadRecord` at its line.
-    /// After a fault each later call answers that fault again and changes nothing.
+    /// The next record, or the end. One that isn't UTF-8 or isn't as long as the header is a
+    /// `BadRecord` at its line. After a fault each later call answers that fault again and changes
+    /// nothing.
     pub fn next(&mut self) -> Result<Option<Row>, RowFault>
         ensures again { IfSome self.old.fault (λ f. (result ≡ Err f) × (self.new ≡ self.old)) }
         ensures steps { IsNone self.old.fault → Steps self.old self.new result }

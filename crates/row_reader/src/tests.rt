@@ -1,16 +1,25 @@
-// Tables read past their end, and rows made of records, where memory is ample.
-ghost use Rattle.std.specs.Prelude.{◌≡◌, ◌==◌, List, ℕ, length, nat_eq, Option, Some, None, if◌then◌else◌};
+// Tables read past their end, and the rows or the first fault of tables, where memory is ample.
+ghost use Rattle.std.specs.Prelude.{◌≡◌, ◌==◌, List, ℕ, length, nat_eq, Result, Ok, Err, Some, if◌then◌else◌};
 ghost use Rattle.row_reader.specs.Columns.{cell};
+ghost use Rattle.row_reader.specs.Fields.{complain as complain_of};
+ghost use Rattle.row_reader.specs.declared.faults.Code.TheVariants as code;
+ghost use Rattle.row_reader.specs.declared.faults.Column.TheVariants as column;
 
-use crate::{Accepted, Row, RowFault, RowRefusal, Rows, accept_all};
+use crate::{
+    Accepted, Code, Column, Row, RowFault, RowRefusal, Rows, TableFault, TableRefusal, accept_all,
+    accepted_rows_are_those_of_all_records, complain, header_refusal, open_table, required_column,
+    the_fault_is_that_of_the_least_line,
+};
+use desk_io::Table;
 use std::alloc::Global;
 use std::fmt::Write;
 use std::str;
 use std::test::Fail;
 
-// The widths of a table's first fields: at most two, and none is 0.
+// The widths of the names in a table: at most two, and none is 0.
 #[derive(Drop)]
 struct Widths {
+    place: usize,
     items: Vec<usize>,
 }
 
@@ -21,17 +30,17 @@ impl Accepted for Widths {
 
     ghost rows = { λ s. s.items.items };
 
-    ghost judge = { λ s before r. let width = length (cell r (Some 0)) in
-        if nat_eq width 0 then None else Some width };
+    ghost judge = { λ s before r. let width = length (cell r (Some s.place)) in
+        if nat_eq width 0 then Err (complain_of code.E3 column.NodeId) else Ok width };
 
     fn is_full(&self) -> bool {
         self.items.len() >= 2
     }
 
     fn accept(&mut self, row: &Row) -> Result<(), RowRefusal> {
-        let width = row.cell(Some(0)).len();
+        let width = row.cell(Some(self.place)).len();
         if width == 0 {
-            return Err(RowRefusal::Refused);
+            return Err(RowRefusal::Complaint(complain(Code::E3, Column::NodeId)));
         }
         match self.items.push(width) {
             Ok(()) => Ok(()),
@@ -119,37 +128,55 @@ fn columns_by_name(rt: HostRuntime) {
 }
 
 // The widths that a table's records give.
-fn widths_of(alloc: Global, text: &[u8]) -> Result<Vec<usize>, RowRefusal> {
-    let mut rows = match Rows::new(alloc, text) {
-        Ok(rows) => rows,
-        Err(_) => return Err(RowRefusal::Memory),
+fn widths_of(alloc: Global, text: &[u8]) -> Result<Vec<usize>, TableRefusal> {
+    let mut rows = open_table(alloc, Table::Node, text)?;
+    let place = match required_column(&rows, Column::NodeId) {
+        Ok(place) => place,
+        Err(complaint) => return Err(header_refusal(Table::Node, complaint)),
     };
     let mut accepted = Widths {
+        place,
         items: Vec::new(alloc),
     };
-    accept_all(&mut rows, &mut accepted)?;
+    accept_all(Table::Node, &mut rows, &mut accepted)?;
     Ok(accepted.items)
 }
 
 #[test]
-fn rows_of_records(rt: HostRuntime) {
+fn rows_or_the_first_fault(rt: HostRuntime) {
     let alloc = rt.alloc();
     for (text, widths) in [
-        (b"name\nann\nbo\n".as_slice(), [3, 2].as_slice()),
-        (b"name\nann\n", &[3]),
-        (b"", &[]),
+        (b"node_id\nann\nbo\n".as_slice(), [3, 2].as_slice()),
+        (b"id,node_id\n1,ann\n", &[3]),
+        (b"node_id", &[]),
     ] {
         let found = widths_of(alloc, text).expect(&rt, "rows");
         assert_eq!(rt; found.as_slice(), widths, "of {text:?}");
     }
-    for text in [
-        b"name\nann\nbo\nc\n".as_slice(),
-        b"name\nann\n \n",
-        b"name\nann,1\n",
+    accepted_rows_are_those_of_all_records::<usize>();
+    the_fault_is_that_of_the_least_line::<usize>();
+    for (text, line, code, column) in [
+        (b"".as_slice(), 1, Code::E1, Column::NodeId),
+        (b"node\nann\n", 1, Code::E1, Column::NodeId),
+        (b"na\xff\n\n", 1, Code::E2, Column::NoColumn),
+        (b"node_id\nann\n \n", 3, Code::E3, Column::NodeId),
+        (b"node_id\nann,1\n \n", 2, Code::E2, Column::NoColumn),
+        (b"node_id\n \nann,1\n", 2, Code::E3, Column::NodeId),
+        (b"node_id\nann\nbo\nc\nd\n", 4, Code::E12, Column::NoColumn),
+        (b"node_id\nann\nbo\n \n", 4, Code::E12, Column::NoColumn),
+        (b"node_id\nann\nbo\nc,1\n", 4, Code::E2, Column::NoColumn),
     ] {
+        let fault = TableFault {
+            table: Table::Node,
+            line,
+            code,
+            column,
+        };
         match widths_of(alloc, text) {
             Ok(_) => panic!(rt; "rows of {text:?}"),
-            Err(refusal) => assert_eq!(rt; refusal, RowRefusal::Refused, "of {text:?}"),
+            Err(refusal) => {
+                assert_eq!(rt; refusal, TableRefusal::Fault(fault), "of {text:?}");
+            }
         }
     }
 }

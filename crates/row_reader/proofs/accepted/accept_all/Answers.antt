@@ -1,44 +1,44 @@
 use Rattle.std.proofs.Common.{rules, refl, ◌≡◌, ◌∙◌, sym, ap, ◌<◌, ◌≤◌, length}
 use Rattle.std.specs.Prelude.{Some, None, Ok, Err, nat_le, true, false}
 use Rattle.row_reader.specs.Rows.{Steps}
-use Rattle.row_reader.specs.declared.accepted.RowRefusal.TheVariants as refusal
 use Rattle.row_reader.specs.declared.rows.RowFault.TheVariants as fault
-use Rattle.row_reader.proofs.AcceptedFacts.{at-end, many, refuses, bad, more}
+use Rattle.row_reader.proofs.FirstFaultFacts.{at-end, many, complains, bad, more}
 use Rattle.row_reader.proofs.accepted.accept_all.Goals as goal
 
 pub returns-in-Ok-None-clause-ok : goal.returns-in-Ok-None-clause-ok
 returns-in-Ok-None-clause-ok g c =
     let e : Steps c.each.rows c.next.new.self (Ok None) = rw (c.in-Ok-None.is, c.in-Ok-None.field-0-is) at (c.next.ensures.steps (rw c.each.invariant.state.running refl)) in
-    at-end _ _ _ _ _ _ _ c.each.invariant.state e
+    at-end _ _ _ _ _ _ _ _ c.each.invariant.state e
 
 pub returns-then-is_full-clause-refused : goal.returns-then-is_full-clause-refused
-returns-then-is_full-clause-refused g c h =
+returns-then-is_full-clause-refused g c =
     let e : Steps c.each.rows c.next.new.self (Ok (Some c.in-Ok-Some.row)) = rw (c.in-Ok-Some.is, c.in-Ok-Some.field-0-is) at (c.next.ensures.steps (rw c.each.invariant.state.running refl)) in
     let n : g.A.Accepted.limit ≤ length (g.A.Accepted.rows c.each.accepted) = let b : nat_le g.A.Accepted.limit (length (g.A.Accepted.rows c.each.accepted)) ≡ true = sym c.is_full.ensures ∙ c.if-is_full.true in search (rules, b) in
-    many _ _ _ _ _ _ _ c.each.invariant.state c.in-Ok-Some.row e n
+    let m = many _ _ _ _ _ _ _ _ c.each.invariant.state c.in-Ok-Some.row e n in
+    rw (c.refusal_at.ensures, c.complain.ensures, c.line.ensures) m
 
-pub returns-in_err-accept-in-Ok-Some-clause-refused : goal.returns-in_err-accept-in-Ok-Some-clause-refused
-returns-in_err-accept-in-Ok-Some-clause-refused g c h =
+pub returns-in-Err-Complaint-clause-refused : goal.returns-in-Err-Complaint-clause-refused
+returns-in-Err-Complaint-clause-refused g c =
     let e : Steps c.each.rows c.next.new.self (Ok (Some c.in-Ok-Some.row)) = rw (c.in-Ok-Some.is, c.in-Ok-Some.field-0-is) at (c.next.ensures.steps (rw c.each.invariant.state.running refl)) in
     let n : length (g.A.Accepted.rows c.each.accepted) < g.A.Accepted.limit = let b : nat_le g.A.Accepted.limit (length (g.A.Accepted.rows c.each.accepted)) ≡ false = sym c.is_full.ensures ∙ c.if-is_full.false in search (rules, b) in
-    let same = rw h at c.from_residual.ensures.1 in
-    let refusing : c.accept.result ≡ Err refusal.Refused = c.in_err-accept-in-Ok-Some.was ∙ ap Err (sym same) in
-    let j = rw c.each.invariant.judge at (c.accept.ensures.refused refusing) in
-    refuses _ _ _ _ _ _ _ c.each.invariant.state c.in-Ok-Some.row e n j
+    let j = rw c.each.invariant.judge at (c.accept.ensures.complaint c.in-Err-Complaint.c (c.in-Err-Complaint.is ∙ ap Err c.in-Err-Complaint.field-0-is)) in
+    let m = complains _ _ _ _ _ _ _ _ c.each.invariant.state c.in-Ok-Some.row c.in-Err-Complaint.c e n j in
+    rw (c.refusal_at-in-Err-Complaint.ensures, c.line-in-Err-Complaint.ensures) m
 
 pub each-preserved : goal.each-preserved
 each-preserved g c =
     let e : Steps c.each.rows c.next.new.self (Ok (Some c.in-Ok-Some.row)) = rw (c.in-Ok-Some.is, c.in-Ok-Some.field-0-is) at (c.next.ensures.steps (rw c.each.invariant.state.running refl)) in
     let n : length (g.A.Accepted.rows c.each.accepted) < g.A.Accepted.limit = let b : nat_le g.A.Accepted.limit (length (g.A.Accepted.rows c.each.accepted)) ≡ false = sym c.is_full.ensures ∙ c.if-is_full.false in search (rules, b) in
-    let a = c.in_ok-accept-in-Ok-Some.ensures.accepted in
+    let a = c.in-Ok.ensures.accepted in
     let j = rw c.each.invariant.judge at a.1 in
-    let m = more _ _ _ _ _ _ _ c.each.invariant.state c.in-Ok-Some.row a.0 e n j in
+    let m = more _ _ _ _ _ _ _ _ c.each.invariant.state c.in-Ok-Some.row a.0 e n j in
     record {
       state = rw a.2 m;
       judge = c.accept.ensures.judge ∙ c.each.invariant.judge;
     }
 
 pub returns-in-Err-BadRecord-clause-refused : goal.returns-in-Err-BadRecord-clause-refused
-returns-in-Err-BadRecord-clause-refused g c h =
-    let e : Steps c.each.rows c.next.new.self (Err (fault.BadRecord c.in-Err-BadRecord.field-0-0)) = rw (c.in-Err-BadRecord.is, c.in-Err-BadRecord.field-0-is) at (c.next.ensures.steps (rw c.each.invariant.state.running refl)) in
-    bad _ _ _ _ _ c.next.new.self _ c.each.invariant.state c.in-Err-BadRecord.field-0-0 e
+returns-in-Err-BadRecord-clause-refused g c =
+    let e : Steps c.each.rows c.next.new.self (Err (fault.BadRecord c.in-Err-BadRecord.line)) = rw (c.in-Err-BadRecord.is, c.in-Err-BadRecord.field-0-is) at (c.next.ensures.steps (rw c.each.invariant.state.running refl)) in
+    let m = bad _ _ _ _ _ _ c.next.new.self _ c.each.invariant.state c.in-Err-BadRecord.line e in
+    rw (c.refusal_at-in-Err-BadRecord.ensures, c.complain-in-Err-BadRecord.ensures) m

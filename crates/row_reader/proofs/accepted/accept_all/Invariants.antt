@@ -1,10 +1,10 @@
 use Rattle.std.proofs.Common.{◌≡◌, length}
-use Rattle.row_reader.proofs.AcceptedFacts.{State}
+use Rattle.row_reader.proofs.FirstFaultFacts.{State}
 use Rattle.row_reader.proofs.accepted.accept_all.Given as goal
 
 abbrev pub invariant-each : goal.invariant-each
 invariant-each g l = record {
-  state : State g.A.Accepted.limit (g.A.Accepted.judge l.fn.accepted) l.fn.rows (g.A.Accepted.rows l.fn.accepted) l.rows (g.A.Accepted.rows l.accepted);
+  state : State l.table g.A.Accepted.limit (g.A.Accepted.judge l.fn.accepted) l.fn.rows (g.A.Accepted.rows l.fn.accepted) l.rows (g.A.Accepted.rows l.accepted);
   judge : g.A.Accepted.judge l.accepted ≡ g.A.Accepted.judge l.fn.accepted;
 }
 
