@@ -1,0 +1,9 @@
+pub mod BucketsFacts
+pub mod ByNodeFacts
+pub mod Checked
+pub mod FindFacts
+pub mod GroupedFacts
+pub mod IdsFacts
+pub mod RowsFacts
+pub mod TurnsFacts
+pub mod ZonesFacts

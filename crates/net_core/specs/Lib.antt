@@ -1,0 +1,9 @@
+pub mod Ids
+pub mod Rows
+pub mod Network
+pub mod Grouped
+pub mod ByNode
+pub mod Turns
+pub mod Zones
+pub mod NetInside
+pub mod Examples

@@ -1,0 +1,21 @@
+-- What a network keeps beside its rows: links and turns by node, and zones.
+use Rattle.std.specs.Prelude.{◌≡◌, ◌≤◌, length}
+use Rattle.net_core.specs.Grouped.{Grouped}
+use Rattle.net_core.specs.ByNode.{all_links, end_of, start_of, node_of}
+use Rattle.net_core.specs.Network.{IsNet, zones}
+use Rattle.net_core.specs.declared.net.Net.TheInside.{Inside}
+use Rattle.net_core.specs.declared.rows.NetRows.{NetRows}
+
+abbrev pub rows_of : Inside → NetRows
+rows_of net = record { nodes = net.nodes.items; links = net.links.items; turns = net.turns.items }
+
+pub record IsIndexed (net : Inside) : Type 0 where
+  pub rows : IsNet (rows_of net)
+  pub ins :
+      Grouped net.ins (length net.nodes.items) (end_of net.links.items) (all_links net.links.items)
+  pub outs :
+      Grouped net.outs (length net.nodes.items) (start_of net.links.items) (all_links net.links.items)
+  pub listed :
+      Grouped net.listed (length net.nodes.items) (node_of net.links.items) net.turns.items
+  pub zones : net.zones ≡ zones net.nodes.items
+  pub few : length net.zones ≤ length net.nodes.items

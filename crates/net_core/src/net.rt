@@ -1,0 +1,221 @@
+// A road network over the rows of its tables.
+ghost use Rattle.std.specs.Prelude.{◌≡◌, ◌<◌, ◌≤◌, ◌≢◌, ◌↔◌, length, slice_get, None, Some, All, IfOk, IfSome, find};
+ghost use Rattle.net_core.specs.ByNode.{is_from_to};
+ghost use Rattle.net_core.specs.Network.{IsNet, as_links, as_zone, as_turn, link_at, zone_id, zones, ins as ins_at, outs as outs_at, zone_number as zone_numbered, zone_of as zone_at, turn as turn_between, turn_at as turn_found};
+ghost use Rattle.net_core.specs.Turns.{IsAllowed};
+
+use crate::buckets::Buckets;
+use crate::by_node::{link_lists, listed_turns, row};
+use crate::ids::Ids;
+use crate::rows::{LinkNo, LinkRow, NodeNo, NodeRow, Turn, TurnRow, ZoneNo};
+use crate::zones::zones_of;
+use std::alloc::{AllocError, Global};
+use std::marker::Model;
+
+// A turn without penalty and limit.
+const FREE: Turn = Turn {
+    penalty: 0,
+    rate: None,
+};
+
+/// What a call that takes memory answers where there isn't enough.
+pub type Memory = AllocError;
+
+/// A road network: nodes, links and listed turns, as GMNS tables name them.
+#[derive(Drop)]
+pub struct Net {
+    nodes: Vec<NodeRow>,
+    links: Vec<LinkRow>,
+    turns: Vec<TurnRow>,
+    ins: Buckets<LinkNo>,
+    outs: Buckets<LinkNo>,
+    listed: Buckets<TurnRow>,
+    zones: Ids,
+}
+
+impl Model for Net {
+    ghost use Rattle.net_core.specs.NetInside.{rows_of, IsIndexed};
+    ghost use Rattle.net_core.specs.declared.rows.NetRows.{NetRows};
+
+    ghost Value = { NetRows };
+
+    ghost view = { rows_of };
+
+    ghost invariant = { IsIndexed };
+}
+
+impl Net {
+    /// The network with these rows. Zones are numbered in the order of their first appearance.
+    pub fn of(
+        alloc: Global,
+        nodes: Vec<NodeRow>,
+        links: Vec<LinkRow>,
+        turns: Vec<TurnRow>,
+    ) -> Result<Self, Memory>
+        requires { IsNet (record { nodes = nodes.items; links = links.items; turns = turns.items }) }
+        ensures { IfOk result (λ net. net ≡ record { nodes = nodes.items; links = links.items; turns = turns.items }) }
+    {
+        let lists = link_lists(alloc, &nodes, &links)?;
+        let listed = listed_turns(alloc, &nodes, &links, &turns)?;
+        let zones = zones_of(alloc, &nodes)?;
+        Ok(Net {
+            nodes,
+            links,
+            turns,
+            ins: lists.ins,
+            outs: lists.outs,
+            listed,
+            zones,
+        })
+    }
+
+    /// The number of nodes.
+    pub fn node_count(&self) -> u32
+        ensures count { result ≡ length self.now.nodes }
+        ensures sound { IsNet self.now }
+    {
+        self.nodes.len() as u32
+    }
+
+    /// The number of links.
+    pub fn link_count(&self) -> u32
+        ensures count { result ≡ length self.now.links }
+        ensures sound { IsNet self.now }
+    {
+        self.links.len() as u32
+    }
+
+    /// The number of zones.
+    pub fn zone_count(&self) -> u32
+        ensures count { result ≡ length (zones self.now.nodes) }
+        ensures few { result ≤ length self.now.nodes }
+    {
+        self.zones.len() as u32
+    }
+
+    /// The row of a node.
+    pub fn node(&self, node: NodeNo) -> NodeRow
+        requires { node.0 < length self.now.nodes }
+        ensures { slice_get self.now.nodes node.0 ≡ Some result }
+    {
+        self.nodes[node.0 as usize]
+    }
+
+    /// The row of a link.
+    pub fn link(&self, link: LinkNo) -> LinkRow
+        requires { link.0 < length self.now.links }
+        ensures { slice_get self.now.links link.0 ≡ Some result }
+    {
+        self.links[link.0 as usize]
+    }
+
+    /// The rows of all links, in the order of their table.
+    pub fn links(&self) -> &[LinkRow]
+        ensures { result.now ≡ self.now.links }
+    {
+        &self.links
+    }
+
+    /// The links into a node, in the order of their table.
+    pub fn ins(&self, node: NodeNo) -> &[LinkNo]
+        requires { node.0 < length self.now.nodes }
+        ensures { result.now ≡ as_links (ins_at self.now node.0) }
+    {
+        self.ins.get(node.0 as usize)
+    }
+
+    /// The links out of a node, in the order of their table.
+    pub fn outs(&self, node: NodeNo) -> &[LinkNo]
+        requires { node.0 < length self.now.nodes }
+        ensures { result.now ≡ as_links (outs_at self.now node.0) }
+    {
+        self.outs.get(node.0 as usize)
+    }
+
+    /// The number of a zone, by its identifier.
+    pub fn zone_number(&self, id: u64) -> Option<ZoneNo>
+        ensures number { result ≡ as_zone (zone_numbered self.now id) }
+        ensures none { (result ≡ None) ↔ All (λ node. node.zone ≢ Some id) self.now.nodes }
+        ensures within { IfSome result (λ zone. zone.0 < length (zones self.now.nodes)) }
+    {
+        match self.zones.place(id) {
+            Some(place) => Some(ZoneNo(place as u32)),
+            None => None,
+        }
+    }
+
+    /// The number of a node's zone, where it has one.
+    pub fn zone_of(&self, node: NodeNo) -> Option<ZoneNo>
+        requires { node.0 < length self.now.nodes }
+        ensures number { result ≡ as_zone (zone_at self.now node.0) }
+        ensures none { (result ≡ None) ↔ (zone_id self.now node.0 ≡ None) }
+        ensures within { IfSome result (λ zone. zone.0 < length (zones self.now.nodes)) }
+    {
+        match self.nodes[node.0 as usize].zone {
+            Some(zone) => self.zone_number(zone),
+            None => None,
+        }
+    }
+
+    /// The turn from a link to another, where it is allowed: the first link ends where the second
+    /// begins, and where some turn is listed at that node, this one is listed. At a node without
+    /// listed turns each turn is free of penalty and limit.
+    #[tactic(auto, unfolding(crate::specs::Network::turn))]
+    pub fn turn(&self, a: LinkNo, b: LinkNo) -> Option<Turn>
+        requires from { a.0 < length self.now.links }
+        requires to { b.0 < length self.now.links }
+        ensures turn { result ≡ turn_between self.now a.0 b.0 }
+        ensures none { (result ≡ None) ↔ ¬ IsAllowed self.now a.0 b.0 }
+    {
+        let node = row(&self.links, a).to;
+        if row(&self.links, b).from == node {
+            self.turn_at(node, a, b)
+        } else {
+            None
+        }
+    }
+
+    // The turn between two links that meet at a node.
+    fn turn_at(&self, node: NodeNo, a: LinkNo, b: LinkNo) -> Option<Turn>
+        requires here { (link_at self.now a.0).to ≡ node }
+        requires within { node.0 < length self.now.nodes }
+        ensures { result ≡ turn_found self.now node.0 a.0 b.0 }
+    {
+        let listed = self.listed.get(node.0 as usize);
+        if listed.is_empty() {
+            Some(FREE)
+        } else {
+            turn_among(listed, a, b)
+        }
+    }
+}
+
+// The first of these turns that is from a link to another.
+#[tactic(auto, using(crate::proofs::FindFacts::finding))]
+fn turn_among(listed: &[TurnRow], a: LinkNo, b: LinkNo) -> Option<Turn>
+    ensures { result ≡ as_turn (find (is_from_to a.0 b.0) listed.now) }
+{
+    for turn in listed {
+        if is_turn(turn, a, b) {
+            return Some(Turn {
+                penalty: turn.penalty,
+                rate: turn.rate,
+            });
+        }
+    }
+    None
+}
+
+// Whether a turn is from a link to another.
+fn is_turn(turn: &TurnRow, a: LinkNo, b: LinkNo) -> bool
+    ensures { result ≡ is_from_to a.0 b.0 turn.now }
+{
+    turn.a == a && turn.b == b
+}
+
+fn shared<T: Sync>(_shared: &T) {}
+
+/// A network can be read by several threads at once.
+pub fn shared_by_threads(net: &Net) {
+    shared(net)
+}
