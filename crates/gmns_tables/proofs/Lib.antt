@@ -1,3 +1,5 @@
-pub mod IdsFacts
+pub mod ChainFacts
 pub mod TableFacts
 pub mod BetweenFacts
+pub mod TurningFacts
+pub mod NetFacts

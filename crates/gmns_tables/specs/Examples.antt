@@ -1,94 +1,247 @@
--- Small tables, computed: a worked network's rows from its records, and records that give none.
-use Rattle.std.specs.Prelude.{◌≡◌, List, [], ◌∷◌, None, Some, codes, true, false, refl}
-use Rattle.csv.specs.Records.{field_at}
-use Rattle.fixed_units.specs.Quantity.{number}
-use Rattle.fixed_units.specs.declared.measure.LengthUnit.TheVariants as length_unit
-use Rattle.fixed_units.specs.declared.measure.SpeedUnit.TheVariants as speed_unit
-use Rattle.row_reader.specs.Accepted.{rows_from}
-use Rattle.row_reader.specs.Records.{Record}
-use Rattle.row_reader.specs.Trimmed.{drop_blanks}
-use Rattle.gmns_tables.specs.declared.node_table.TheConstants.{MOST_NODES}
-use Rattle.gmns_tables.specs.declared.link_table.TheConstants.{MOST_LINKS, LEAST_SPEED}
-use Rattle.gmns_tables.specs.Fields.{identifier, quantity, zone}
-use Rattle.gmns_tables.specs.Nodes.{is_node_header, node_of}
-use Rattle.gmns_tables.specs.Links.{is_link_header, link_of, known_node}
-use Rattle.gmns_tables.specs.declared.rows.NodeRow.{NodeRow}
+-- Small tables, computed from their bytes.
+use Rattle.std.specs.Prelude.{ℕ, ◌≡◌, ◌++◌, List, [], ◌∷◌, Option, None, Some, Result, Ok, Err, ⊤, codes, refl}
+use Rattle.fixed_units.specs.declared.measure.LengthUnit.TheVariants.{Metre}
+use Rattle.fixed_units.specs.declared.measure.SpeedUnit.TheVariants.{Kmh, Mph}
+use Rattle.desk_io.specs.declared.desk.Table.{Table}
+use Rattle.desk_io.specs.declared.desk.Table.TheVariants as table
+use Rattle.row_reader.specs.Records.{records}
+use Rattle.row_reader.specs.declared.faults.Code.{Code}
+use Rattle.row_reader.specs.declared.faults.Code.TheVariants.{E1, E3, E4, E5, E6, E7, E8, E9, E10, E11}
+use Rattle.row_reader.specs.declared.faults.Column.{Column}
+use Rattle.row_reader.specs.declared.faults.Column.TheVariants as column
+use Rattle.row_reader.specs.declared.faults.TableFault.{TableFault}
+use Rattle.net_core.specs.declared.rows.LinkRow.{LinkRow}
+use Rattle.net_core.specs.declared.rows.NodeRow.{NodeRow}
+use Rattle.net_core.specs.declared.rows.TurnRow.{TurnRow}
+use Rattle.gmns_tables.specs.Links.{link_verdict}
+use Rattle.gmns_tables.specs.Movements.{turn_verdict}
+use Rattle.gmns_tables.specs.Net.{net_verdict}
+use Rattle.gmns_tables.specs.Nodes.{node_verdict}
+use Rattle.gmns_tables.specs.OnLiterals.{networks_on_literals}
+use Rattle.gmns_tables.specs.declared.link_table.TheConstants as link_number
+use Rattle.gmns_tables.specs.declared.movement_table.TheConstants as turn_number
 use Rattle.gmns_tables.specs.declared.units.Units.{Units}
 
--- the worked network: nodes 1, 2 and 3, and links of 1000 m, one lane, 60 km/h and 600 vehicles per hour
-abbrev nodes : List NodeRow
-nodes = record { id = 1; zone = Some 1 } ∷ record { id = 2; zone = None } ∷ record { id = 3; zone = Some 3 } ∷ []
+-- steps of six seconds, 125 vehicles on a kilometre of a lane, metres and kilometres per hour
+metric : Units
+metric = record { delta = 6; jam = 125; length = Metre; speed = Kmh }
 
-abbrev units : Units
-units = record { delta = 6; jam = 125; length = length_unit.Metre; speed = speed_unit.Kmh }
+-- a node, a link and a turn
+node : ℕ → Option ℕ → NodeRow
+node id zone = record { id = id; zone = zone }
 
-abbrev link_10 : Record
-link_10 = codes "10" ∷ codes "1" ∷ codes "2" ∷ codes "1000" ∷ codes "1" ∷ codes "60" ∷ codes "600" ∷ []
+link : ℕ → ℕ → ℕ → ℕ → ℕ → ℕ → LinkRow
+link id from to free storage rate =
+    record { id = id; from = record { 0 = from }; to = record { 0 = to }; free = free; storage = storage; rate = rate }
 
-abbrev link_20 : Record
-link_20 = codes "20" ∷ codes "2" ∷ codes "3" ∷ codes "1000" ∷ codes "1" ∷ codes "60" ∷ codes "600" ∷ []
+turn : ℕ → ℕ → ℕ → Option ℕ → TurnRow
+turn a b penalty rate =
+    record { a = record { 0 = a }; b = record { 0 = b }; penalty = penalty; rate = rate }
 
--- a header with blanks round a name
-node-header : is_node_header (codes "node_id" ∷ codes " zone_id" ∷ []) ≡ true
-unfolding is_node_header drop_blanks
-node-header = refl
+-- two links in a row: their tables and their rows
+node_text : List ℕ
+node_text = codes "node_id,zone_id\n1,1\n2,\n3,3\n"
 
--- a header with its columns the other way round
-turned-header : is_node_header (codes "zone_id" ∷ codes "node_id" ∷ []) ≡ false
-unfolding is_node_header drop_blanks
-turned-header = refl
+link_text : List ℕ
+link_text =
+    codes "link_id,from_node_id,to_node_id,length,lanes,free_speed,capacity\n"
+    ++ codes "10,1,2,1000,1,60,600\n20,2,3,1000,1,60,600\n"
 
-three-nodes : rows_from node_of [] ((codes "1" ∷ codes "1" ∷ []) ∷ (codes "2" ∷ [] ∷ []) ∷ (codes "3" ∷ codes "3" ∷ []) ∷ []) ≡ Some nodes
-unfolding rows_from node_of zone identifier drop_blanks field_at number
-three-nodes = refl
+nodes : List NodeRow
+nodes = node 1 (Some 1) ∷ node 2 None ∷ node 3 (Some 3) ∷ []
 
--- zone 0 is no zone
-no-zone : node_of [] (codes "7" ∷ codes "0" ∷ []) ≡ Some (record { id = 7; zone = None })
-unfolding node_of zone identifier drop_blanks field_at number
-no-zone = refl
+links : List LinkRow
+links = link 10 0 1 10 125 600000000 ∷ link 20 1 2 10 125 600000000 ∷ []
+
+-- what a table of some bytes gives
+nodes_of : List ℕ → Result (List NodeRow) TableFault
+nodes_of text = node_verdict (records text)
+
+links_of : List ℕ → Result (List LinkRow) TableFault
+links_of text = link_verdict nodes metric (records text)
+
+turns_of : List ℕ → Result (List TurnRow) TableFault
+turns_of text = turn_verdict nodes links metric (records text)
+
+-- a fault at a line
+fault : {A : Type 0} → Table → ℕ → Code → Column → Result A TableFault
+fault what line why place = Err (record { table = what; line = line; code = why; column = place })
+
+unfoldable the_examples : ⊤
+unfolding networks_on_literals metric node link turn node_text link_text nodes links nodes_of links_of turns_of fault
+the_examples = tt
+
+-- ---- networks
+
+two_links : net_verdict metric (records node_text) (records link_text) None
+    ≡ Ok (record { nodes = nodes; links = links; turns = [] })
+unfolding the_examples
+two_links = refl
+
+-- the one turn with a penalty of seven seconds, which are two steps
+a_penalty : net_verdict metric (records node_text) (records link_text)
+    (Some (records (codes "node_id,ib_link_id,ob_link_id,penalty\n2,10,20,7\n")))
+    ≡ Ok (record { nodes = nodes; links = links; turns = turn 0 1 2 None ∷ [] })
+unfolding the_examples
+a_penalty = refl
+
+-- of two tables with faults the first one's is told: nodes, then links, then movements
+nodes_first : net_verdict metric (records (codes "node_id\nx\n")) (records (codes "link\n")) None
+    ≡ fault table.Node 2 E4 column.NodeId
+unfolding the_examples
+nodes_first = refl
+
+links_second : net_verdict metric (records node_text) (records (codes "link\n")) (Some (records (codes "turn\n")))
+    ≡ fault table.Link 1 E1 column.LinkId
+unfolding the_examples
+links_second = refl
+
+-- ---- lenient tables: a byte order mark, further columns, quoted fields, empty fields, identifiers
+-- such as 1.0
+
+lenient_nodes : nodes_of (239 ∷ 187 ∷ 191 ∷ codes "name,node_id,osm_node_id,osm_highway,zone_id,ctrl_type,x_coord,y_coord\n"
+    ++ codes ",0,171,,1,,-111.93,33.42\n,1.0,172,crossing,,signal,-111.92,33.42\n,2,173,,3.0,,-111.91,33.42\n")
+    ≡ Ok (node 0 (Some 1) ∷ node 1 None ∷ node 2 (Some 3) ∷ [])
+unfolding the_examples
+lenient_nodes = refl
+
+-- the first link's time is 10.0049 steps, so 11; its capacity is 1800 vehicles per hour and lane
+lenient_links : link_verdict (node 0 (Some 1) ∷ node 1 None ∷ node 2 (Some 3) ∷ []) metric (records
+    (codes "name,link_id,from_node_id,to_node_id,dir_flag,length,lanes,free_speed,capacity,geometry\n"
+    ++ codes "\"Mill, North\",0,0,1,1,1000.49,,60,,\"LINESTRING (-111.93 33.42, -111.92 33.42)\"\n"
+    ++ codes "Mill,1,1,2.0,1,1.0e3,1.0,60.0,600,\"LINESTRING (-111.92 33.42, -111.91 33.42)\"\n"))
+    ≡ Ok (link 0 0 1 11 125 1800000000 ∷ link 1 1 2 10 125 600000000 ∷ [])
+unfolding the_examples
+lenient_links = refl
+
+-- the required columns alone, in another order, of a link from a node to itself
+by_default : links_of (codes "to_node_id,length,from_node_id,link_id\n1,1000,1,30\n")
+    ≡ Ok (link 30 0 0 12 125 1800000000 ∷ [])
+unfolding the_examples
+by_default = refl
+
+-- the free speed by default is one in kilometres per hour, also where speeds are in miles per hour
+by_default_in_miles : link_verdict nodes (record metric { speed = Mph })
+    (records (codes "link_id,from_node_id,to_node_id,length,free_speed\n30,1,2,1000,\n31,1,2,1000,50\n"))
+    ≡ Ok (link 30 0 1 12 125 1800000000 ∷ link 31 0 1 8 125 1800000000 ∷ [])
+unfolding the_examples
+by_default_in_miles = refl
+
+-- a zone field of 0 or -1 is no zone
+no_zones : nodes_of (codes "zone_id,node_id\n0,1\n-1,2\n") ≡ Ok (node 1 None ∷ node 2 None ∷ [])
+unfolding the_examples
+no_zones = refl
+
+-- a header alone lists no turn
+no_turns : turns_of (codes "node_id,ib_link_id,ob_link_id\n") ≡ Ok []
+unfolding the_examples
+no_turns = refl
+
+-- ---- first faults
+
+-- a table without records lacks its first required column
+no_node_table : nodes_of [] ≡ fault table.Node 1 E1 column.NodeId
+unfolding the_examples
+no_node_table = refl
+
+line_ends_alone : turns_of (codes "\n") ≡ fault table.Movement 1 E1 column.NodeId
+unfolding the_examples
+line_ends_alone = refl
+
+-- of the columns that are missing the first one in the order of the formats is told
+missing_columns : links_of (codes "length,from_node_id\n") ≡ fault table.Link 1 E1 column.LinkId
+unfolding the_examples
+missing_columns = refl
 
 -- identifiers are one by value
-same-node : rows_from node_of [] ((codes "7" ∷ [] ∷ []) ∷ (codes "07" ∷ [] ∷ []) ∷ []) ≡ None
-unfolding rows_from node_of zone identifier drop_blanks field_at number
-same-node = refl
+same_node : nodes_of (codes "node_id\n1\n2\n1.0\n") ≡ fault table.Node 4 E6 column.NodeId
+unfolding the_examples
+same_node = refl
 
-link-header : is_link_header (codes "link_id" ∷ codes "from_node_id" ∷ codes "to_node_id" ∷ codes "length" ∷ codes "lanes" ∷ codes "free_speed" ∷ codes "capacity" ∷ []) ≡ true
-unfolding is_link_header drop_blanks
-link-header = refl
+bad_zone : nodes_of (codes "node_id,zone_id\n1,x\n") ≡ fault table.Node 2 E4 column.ZoneId
+unfolding the_examples
+bad_zone = refl
 
-two-links : rows_from (link_of nodes units) [] (link_10 ∷ link_20 ∷ [])
-    ≡ Some (record { id = 10; from = record { 0 = 0 }; to = record { 0 = 1 }; free = 10; storage = 125; rate = 600000000 }
-    ∷ record { id = 20; from = record { 0 = 1 }; to = record { 0 = 2 }; free = 10; storage = 125; rate = 600000000 } ∷ [])
-unfolding rows_from link_of known_node identifier quantity drop_blanks field_at number
-two-links = refl
+unknown_node : links_of (link_text ++ codes "30,9,3,1000,1,60,600\n") ≡ fault table.Link 4 E7 column.FromNodeId
+unfolding the_examples
+unknown_node = refl
 
-same-link : rows_from (link_of nodes units) [] (link_10 ∷ link_10 ∷ []) ≡ None
-unfolding rows_from link_of known_node identifier quantity drop_blanks field_at number
-same-link = refl
+-- of two faults in a line the first in the order of the formats is told, and not in that of the
+-- table
+two_in_a_line : links_of (codes "length,to_node_id,from_node_id,link_id\n,9,8,10\n")
+    ≡ fault table.Link 2 E7 column.FromNodeId
+unfolding the_examples
+two_in_a_line = refl
 
--- no node has the identifier 9
-unknown-node : link_of nodes units [] (codes "20" ∷ codes "9" ∷ codes "3" ∷ codes "1000" ∷ codes "1" ∷ codes "60" ∷ codes "600" ∷ []) ≡ None
-unfolding link_of known_node identifier quantity drop_blanks field_at number
-unknown-node = refl
+-- of faults in two lines that of the first line is told
+two_lines : links_of (codes "link_id,from_node_id,to_node_id,length\n10,1,2,\nx,1,2,5\n")
+    ≡ fault table.Link 2 E3 column.Length
+unfolding the_examples
+two_lines = refl
 
--- an empty length
-empty-field : link_of nodes units [] (codes "20" ∷ codes "2" ∷ codes "3" ∷ [] ∷ codes "1" ∷ codes "60" ∷ codes "600" ∷ []) ≡ None
-unfolding link_of known_node identifier quantity drop_blanks field_at number
-empty-field = refl
+-- a link that goes both ways, in capital letters
+both_ways : links_of (codes "link_id,from_node_id,to_node_id,directed,length\n10,1,2,FALSE,x\n")
+    ≡ fault table.Link 2 E10 column.Directed
+unfolding the_examples
+both_ways = refl
 
--- more than a hundred lanes
-too-many-lanes : link_of nodes units [] (codes "20" ∷ codes "2" ∷ codes "3" ∷ codes "1000" ∷ codes "100.001" ∷ codes "60" ∷ codes "600" ∷ []) ≡ None
-unfolding link_of known_node identifier quantity drop_blanks field_at number
-too-many-lanes = refl
+-- at 50 km/h a step is 83.333 m, and 10,000 of them are the most
+longest : links_of (codes "link_id,from_node_id,to_node_id,length,lanes\n10,1,2,833333.333,0\n")
+    ≡ Ok (link 10 0 1 10000 1 0 ∷ [])
+unfolding the_examples
+longest = refl
 
--- ---- the limits of the formats
+-- a link that is too slow at the speed by default is refused before its capacity is looked at
+too_slow : links_of (codes "link_id,from_node_id,to_node_id,length,capacity\n10,1,2,833333.334,x\n")
+    ≡ fault table.Link 2 E11 column.FreeSpeed
+unfolding the_examples
+too_slow = refl
 
-most_nodes : MOST_NODES ≡ 1000000
-most_nodes = refl
+-- the first link of a turn ends at the turn's node, and the second begins there
+wrong_way_in : turns_of (codes "mvmt_id,node_id,ib_link_id,ob_link_id\n1,2,20,20\n")
+    ≡ fault table.Movement 2 E9 column.IbLinkId
+unfolding the_examples
+wrong_way_in = refl
 
-most_links : MOST_LINKS ≡ 1000000
-most_links = refl
+wrong_way_out : turns_of (codes "mvmt_id,node_id,ib_link_id,ob_link_id\n1,2,10,10\n")
+    ≡ fault table.Movement 2 E9 column.ObLinkId
+unfolding the_examples
+wrong_way_out = refl
 
--- in thousandths
-least_speed : LEAST_SPEED ≡ 1
+unknown_link : turns_of (codes "node_id,ib_link_id,ob_link_id\n2,11,20\n") ≡ fault table.Movement 2 E8 column.IbLinkId
+unfolding the_examples
+unknown_link = refl
+
+-- two links make one turn
+same_turn : turns_of (codes "node_id,ib_link_id,ob_link_id\n2,10,20\n2.0,10.0,20\n")
+    ≡ fault table.Movement 3 E6 column.ObLinkId
+unfolding the_examples
+same_turn = refl
+
+-- ten hours are the longest penalty
+longest_penalty : turns_of (codes "node_id,ib_link_id,ob_link_id,penalty,capacity\n2,10,20,36000,600\n")
+    ≡ Ok (turn 0 1 6000 (Some 600000000) ∷ [])
+unfolding the_examples
+longest_penalty = refl
+
+too_long_penalty : turns_of (codes "node_id,ib_link_id,ob_link_id,penalty\n2,10,20,36000.001\n")
+    ≡ fault table.Movement 2 E5 column.Penalty
+unfolding the_examples
+too_long_penalty = refl
+
+-- ---- the numbers of the formats, in thousandths
+
+default_lanes : link_number.DEFAULT_LANES ≡ 1000
+default_lanes = refl
+
+default_speed : link_number.DEFAULT_SPEED ≡ 50000
+default_speed = refl
+
+least_speed : link_number.LEAST_SPEED ≡ 1
 least_speed = refl
+
+default_capacity : link_number.DEFAULT_CAPACITY ≡ 1800000
+default_capacity = refl
+
+default_penalty : turn_number.DEFAULT_PENALTY ≡ 0
+default_penalty = refl

@@ -1,7 +1,8 @@
-pub mod Ids
-pub mod Fields
 pub mod Units
-pub mod Plain
+pub mod Names
 pub mod Nodes
 pub mod Links
+pub mod Movements
+pub mod Net
+pub mod OnLiterals
 pub mod Examples

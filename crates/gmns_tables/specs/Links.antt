@@ -1,87 +1,107 @@
--- A plain link table's rows.
-use Rattle.std.specs.Prelude.{ℕ, ◌<◌, ◌≤◌, ◌^◌, ◌==◌, ◌&&◌, Bool, List, length, map, codes, Option, Some, is_some, option_map, All, nat_eq}
-use Rattle.std.specs.List.{IsDistinct}
-use Rattle.std.specs.Result.{result_ok}
+-- The rows of a link table.
+use Rattle.std.specs.Prelude.{ℕ, ◌||◌, Bool, List, codes, Option, None, Some, is_some, Result, Ok, Err}
+use Rattle.std.specs.Str.{str_eq_ignore_ascii_case}
 use Rattle.fixed_units.specs.Units.{length_of, speed_of, free_steps_of, storage_of, link_rate_of}
-use Rattle.fixed_units.specs.declared.link.TheConstants.{MOST_FREE_STEPS, MOST_LANES, MOST_STORAGE}
+use Rattle.fixed_units.specs.declared.link.TheConstants.{MOST_LANES}
+use Rattle.fixed_units.specs.declared.link.TooSlow.{TooSlow}
+use Rattle.fixed_units.specs.declared.measure.Speed.{Speed}
+use Rattle.fixed_units.specs.declared.measure.SpeedUnit.{SpeedUnit}
+use Rattle.fixed_units.specs.declared.measure.SpeedUnit.TheVariants.{Kmh}
+use Rattle.fixed_units.specs.declared.quantity.TheConstants.{MOST_THOUSANDTHS}
+use Rattle.desk_io.specs.declared.desk.Table.TheVariants as table
 use Rattle.row_reader.specs.Records.{Record}
 use Rattle.row_reader.specs.Columns.{cell}
-use Rattle.row_reader.specs.Accepted.{table_of}
-use Rattle.gmns_tables.specs.Ids.{place_of}
-use Rattle.gmns_tables.specs.Fields.{then_with, unless, at_least, at_most, identifier, quantity}
-use Rattle.gmns_tables.specs.Nodes.{node_named}
-use Rattle.gmns_tables.specs.Plain.{stands_at}
-use Rattle.gmns_tables.specs.declared.link_table.TheConstants.{LINK_ID, FROM_NODE_ID, TO_NODE_ID, LENGTH, LANES, FREE_SPEED, CAPACITY, LINK_COLUMNS, MOST_LINKS, LEAST_SPEED}
-use Rattle.gmns_tables.specs.declared.rows.NodeRow.{NodeRow}
-use Rattle.gmns_tables.specs.declared.rows.NodeNo.{NodeNo}
-use Rattle.gmns_tables.specs.declared.rows.LinkRow.{LinkRow}
-use Rattle.gmns_tables.specs.declared.rows.LinkNo.{LinkNo}
+use Rattle.row_reader.specs.FirstFault.{then_with, verdict}
+use Rattle.row_reader.specs.Fields.{complain, identifier, optional_column, optional_quantity, quantity, quantity_or, required_column, unless, within}
+use Rattle.row_reader.specs.declared.faults.Code.TheVariants as code
+use Rattle.row_reader.specs.declared.faults.Column.TheVariants as column
+use Rattle.row_reader.specs.declared.faults.Complaint.{Complaint}
+use Rattle.row_reader.specs.declared.faults.TableFault.{TableFault}
+use Rattle.net_core.specs.Ids.{place_of}
+use Rattle.net_core.specs.Rows.{link_ids}
+use Rattle.net_core.specs.declared.rows.LinkRow.{LinkRow}
+use Rattle.net_core.specs.declared.rows.NodeRow.{NodeRow}
+use Rattle.net_core.specs.declared.rows.TheConstants.{MOST_LINKS}
+use Rattle.gmns_tables.specs.Names.{known_node}
+use Rattle.gmns_tables.specs.declared.link_table.LinkPlaces.{LinkPlaces}
+use Rattle.gmns_tables.specs.declared.link_table.TheConstants.{DEFAULT_LANES, DEFAULT_SPEED, LEAST_SPEED, DEFAULT_CAPACITY}
 use Rattle.gmns_tables.specs.declared.units.Units.{Units}
 
--- the identifiers of links, in the order of the table
-abbrev pub link_ids : List LinkRow → List ℕ
-link_ids links = map (λ link. link.id) links
+-- the columns of a link table, or the first required one that is missing
+unfoldable pub link_places : Record → Result LinkPlaces Complaint
+link_places header =
+    then_with (required_column header column.LinkId) (λ id.
+    then_with (required_column header column.FromNodeId) (λ from.
+    then_with (required_column header column.ToNodeId) (λ to.
+    then_with (required_column header column.Length) (λ length.
+    Ok (record {
+      id = id;
+      from = from;
+      to = to;
+      directed = optional_column header column.Directed;
+      length = length;
+      lanes = optional_column header column.Lanes;
+      free_speed = optional_column header column.FreeSpeed;
+      capacity = optional_column header column.Capacity;
+    })))))
 
--- the link that has an identifier
-abbrev pub link_named : List LinkRow → ℕ → Option LinkNo
-link_named links id = option_map (λ place. record { 0 = place }) (place_of (link_ids links) id)
+-- a text that says that a link goes both ways, in small or capital letters
+unfoldable pub is_undirected : List ℕ → Bool
+is_undirected text =
+    (str_eq_ignore_ascii_case text (codes "0") || str_eq_ignore_ascii_case text (codes "0.0"))
+    || (str_eq_ignore_ascii_case text (codes "false") || str_eq_ignore_ascii_case text (codes "no"))
 
--- a link whose numbers are in range: 1 to MOST_FREE_STEPS steps, 1 to MOST_STORAGE vehicles, and a rate of at most 10^17
-pub record IsInRange (link : LinkRow) : Type 0 where
-  pub moves : 1 ≤ link.free
-  pub free : link.free ≤ MOST_FREE_STEPS
-  pub stores : 1 ≤ link.storage
-  pub storage : link.storage ≤ MOST_STORAGE
-  pub rate : link.rate ≤ 10 ^ 17
+-- a number of lanes in thousandths
+abbrev pub lanes_of : List ℕ → Result ℕ Complaint
+lanes_of text =
+    then_with (quantity_or DEFAULT_LANES column.Lanes text) (within column.Lanes 0 MOST_LANES)
 
--- links of a table: with different identifiers, no more than there may be, and with numbers in range
-pub record AreLinks (links : List LinkRow) : Type 0 where
-  pub distinct : IsDistinct nat_eq (link_ids links)
-  pub few : length links ≤ MOST_LINKS
-  pub range : All IsInRange links
+-- a speed of so many thousandths of a unit; where there is none, the default in kilometres per hour
+abbrev pub speed_or_default : SpeedUnit → Option ℕ → Result Speed Complaint
+speed_or_default unit None = Ok (speed_of DEFAULT_SPEED Kmh)
+speed_or_default unit (Some thousandths) =
+    then_with (within column.FreeSpeed LEAST_SPEED MOST_THOUSANDTHS thousandths) (λ n.
+    Ok (speed_of n unit))
 
--- a link between nodes that are there
-pub record IsBetween (nodes : List NodeRow) (link : LinkRow) : Type 0 where
-  pub from : link.from.0 < length nodes
-  pub to : link.to.0 < length nodes
+-- a free speed
+unfoldable pub free_speed_of : SpeedUnit → List ℕ → Result Speed Complaint
+free_speed_of unit text =
+    then_with (optional_quantity column.FreeSpeed text) (speed_or_default unit)
 
--- a field that names a node of the table
-unfoldable pub known_node : List NodeRow → List ℕ → Option NodeNo
-known_node nodes text = then_with (identifier text) (λ id. node_named nodes id)
+-- the free-flow steps of a link, or that it is too slow
+abbrev pub steps_told : Result ℕ TooSlow → Result ℕ Complaint
+steps_told (Ok steps) = Ok steps
+steps_told (Err _) = Err (complain code.E11 column.FreeSpeed)
 
--- the header of a plain link table: these columns, in this order
-unfoldable pub is_link_header : Record → Bool
-is_link_header header =
-    (length header == LINK_COLUMNS)
-    && stands_at header (codes "link_id") LINK_ID
-    && stands_at header (codes "from_node_id") FROM_NODE_ID
-    && stands_at header (codes "to_node_id") TO_NODE_ID
-    && stands_at header (codes "length") LENGTH
-    && stands_at header (codes "lanes") LANES
-    && stands_at header (codes "free_speed") FREE_SPEED
-    && stands_at header (codes "capacity") CAPACITY
+-- the capacity of a lane in thousandths
+abbrev pub capacity_of : List ℕ → Result ℕ Complaint
+capacity_of text = quantity_or DEFAULT_CAPACITY column.Capacity text
 
--- the link of a record after the links before it, or nothing where a check fails
-unfoldable pub link_of : List NodeRow → Units → List LinkRow → Record → Option LinkRow
-link_of nodes units before r =
-    then_with (identifier (cell r (Some LINK_ID))) (λ id.
-    then_with (unless (is_some (place_of (link_ids before) id))) (λ _.
-    then_with (known_node nodes (cell r (Some FROM_NODE_ID))) (λ from.
-    then_with (known_node nodes (cell r (Some TO_NODE_ID))) (λ to.
-    then_with (quantity (cell r (Some LENGTH))) (λ link_length.
-    then_with (then_with (quantity (cell r (Some LANES))) (at_most MOST_LANES)) (λ lanes.
-    then_with (then_with (quantity (cell r (Some FREE_SPEED))) (at_least LEAST_SPEED)) (λ free_speed.
-    then_with (result_ok (free_steps_of (length_of link_length units.length) (speed_of free_speed units.speed) units.delta)) (λ free.
-    then_with (quantity (cell r (Some CAPACITY))) (λ capacity.
-    Some (record {
+-- the link of a record after the links before it, or the first check that fails
+unfoldable pub link_of : List NodeRow → Units → LinkPlaces → List LinkRow → Record
+    → Result LinkRow Complaint
+link_of nodes units places before r =
+    then_with (identifier column.LinkId (cell r (Some places.id))) (λ id.
+    then_with (unless (is_some (place_of (link_ids before) id)) code.E6 column.LinkId) (λ _.
+    then_with (known_node nodes column.FromNodeId (cell r (Some places.from))) (λ from.
+    then_with (known_node nodes column.ToNodeId (cell r (Some places.to))) (λ to.
+    then_with (unless (is_undirected (cell r places.directed)) code.E10 column.Directed) (λ _.
+    then_with (quantity column.Length (cell r (Some places.length))) (λ length.
+    then_with (lanes_of (cell r places.lanes)) (λ lanes.
+    then_with (free_speed_of units.speed (cell r places.free_speed)) (λ speed.
+    then_with (steps_told (free_steps_of (length_of length units.length) speed units.delta)) (λ free.
+    then_with (capacity_of (cell r places.capacity)) (λ capacity.
+    Ok (record {
       id = id;
       from = from;
       to = to;
       free = free;
-      storage = storage_of (length_of link_length units.length) lanes units.jam;
+      storage = storage_of (length_of length units.length) lanes units.jam;
       rate = link_rate_of capacity lanes;
-    }))))))))))
+    })))))))))))
 
--- a plain link table's rows over these nodes, or nothing where the table isn't plain
-abbrev pub plain_links : List NodeRow → Units → List Record → Option (List LinkRow)
-plain_links nodes units records = table_of MOST_LINKS is_link_header (link_of nodes units) records
+-- a link table's rows over these nodes, or its first fault
+abbrev pub link_verdict : List NodeRow → Units → List Record
+    → Result (List LinkRow) TableFault
+link_verdict nodes units records =
+    verdict table.Link MOST_LINKS link_places (link_of nodes units) records

@@ -1,44 +1,41 @@
--- A plain node table's rows.
-use Rattle.std.specs.Prelude.{ℕ, ◌≤◌, ◌==◌, ◌&&◌, Bool, List, length, map, codes, Option, Some, is_some, option_map, nat_eq}
-use Rattle.std.specs.List.{IsDistinct}
+-- The rows of a node table.
+use Rattle.std.specs.Prelude.{ℕ, List, Option, Some, is_some, Result, Ok, Err}
+use Rattle.fixed_units.specs.Zone.{zone_of}
+use Rattle.fixed_units.specs.declared.fault.NumberFault.{NumberFault}
+use Rattle.desk_io.specs.declared.desk.Table.TheVariants as table
 use Rattle.row_reader.specs.Records.{Record}
 use Rattle.row_reader.specs.Columns.{cell}
-use Rattle.row_reader.specs.Accepted.{table_of}
-use Rattle.gmns_tables.specs.Ids.{place_of}
-use Rattle.gmns_tables.specs.Fields.{then_with, unless, identifier, zone}
-use Rattle.gmns_tables.specs.Plain.{stands_at}
-use Rattle.gmns_tables.specs.declared.node_table.TheConstants.{NODE_ID, ZONE_ID, NODE_COLUMNS, MOST_NODES}
-use Rattle.gmns_tables.specs.declared.rows.NodeRow.{NodeRow}
-use Rattle.gmns_tables.specs.declared.rows.NodeNo.{NodeNo}
+use Rattle.row_reader.specs.FirstFault.{then_with, verdict}
+use Rattle.row_reader.specs.Fields.{identifier, not_a_number, optional_column, required_column, unless}
+use Rattle.row_reader.specs.declared.faults.Code.TheVariants as code
+use Rattle.row_reader.specs.declared.faults.Column.TheVariants as column
+use Rattle.row_reader.specs.declared.faults.Complaint.{Complaint}
+use Rattle.row_reader.specs.declared.faults.TableFault.{TableFault}
+use Rattle.net_core.specs.Ids.{place_of}
+use Rattle.net_core.specs.Rows.{node_ids}
+use Rattle.net_core.specs.declared.rows.NodeRow.{NodeRow}
+use Rattle.net_core.specs.declared.rows.TheConstants.{MOST_NODES}
+use Rattle.gmns_tables.specs.declared.node_table.NodePlaces.{NodePlaces}
 
--- the identifiers of nodes, in the order of the table
-abbrev pub node_ids : List NodeRow → List ℕ
-node_ids nodes = map (λ node. node.id) nodes
+-- the columns of a node table, or the first required one that is missing
+unfoldable pub node_places : Record → Result NodePlaces Complaint
+node_places header =
+    then_with (required_column header column.NodeId) (λ id.
+    Ok (record { id = id; zone = optional_column header column.ZoneId }))
 
--- nodes of a table: with different identifiers, and no more than there may be
-pub record AreNodes (nodes : List NodeRow) : Type 0 where
-  pub distinct : IsDistinct nat_eq (node_ids nodes)
-  pub few : length nodes ≤ MOST_NODES
+-- a zone field's zone, or what is wrong with the field
+abbrev pub zone_told : Result (Option ℕ) NumberFault → Result (Option ℕ) Complaint
+zone_told (Ok zone) = Ok zone
+zone_told (Err fault) = Err (not_a_number column.ZoneId fault)
 
--- the node that has an identifier
-abbrev pub node_named : List NodeRow → ℕ → Option NodeNo
-node_named nodes id = option_map (λ place. record { 0 = place }) (place_of (node_ids nodes) id)
+-- the node of a record after the nodes before it, or the first check that fails
+unfoldable pub node_of : NodePlaces → List NodeRow → Record → Result NodeRow Complaint
+node_of places before r =
+    then_with (identifier column.NodeId (cell r (Some places.id))) (λ id.
+    then_with (unless (is_some (place_of (node_ids before) id)) code.E6 column.NodeId) (λ _.
+    then_with (zone_told (zone_of (cell r places.zone))) (λ zone.
+    Ok (record { id = id; zone = zone }))))
 
--- the header of a plain node table: these columns, in this order
-unfoldable pub is_node_header : Record → Bool
-is_node_header header =
-    (length header == NODE_COLUMNS)
-    && stands_at header (codes "node_id") NODE_ID
-    && stands_at header (codes "zone_id") ZONE_ID
-
--- the node of a record after the nodes before it, or nothing where a check fails
-unfoldable pub node_of : List NodeRow → Record → Option NodeRow
-node_of before r =
-    then_with (identifier (cell r (Some NODE_ID))) (λ id.
-    then_with (unless (is_some (place_of (node_ids before) id))) (λ _.
-    then_with (zone (cell r (Some ZONE_ID))) (λ place.
-    Some (record { id = id; zone = place }))))
-
--- a plain node table's rows, or nothing where the table isn't plain
-abbrev pub plain_nodes : List Record → Option (List NodeRow)
-plain_nodes records = table_of MOST_NODES is_node_header node_of records
+-- a node table's rows, or its first fault
+abbrev pub node_verdict : List Record → Result (List NodeRow) TableFault
+node_verdict records = verdict table.Node MOST_NODES node_places node_of records

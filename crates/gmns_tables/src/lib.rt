@@ -1,26 +1,29 @@
-//! Node and link tables of the General Modeling Network Specification (GMNS), read whole into rows.
+//! Node, link and movement tables of the General Modeling Network Specification (GMNS), and the
+//! network that they make.
 //!
-//! This crate carries the promise on plain tables: a reader answers exactly the rows that its table's records give, and refuses a
-//! table exactly where it isn't plain. Plain tables have fixed headers, plain numbers, and no empty field but the zone's.
+//! This crate carries the promise that a table is accepted or refused with its first fault: a
+//! reader answers exactly the rows that its table's records give, or the least line at which a
+//! check fails with the first check that fails there. The checks of a line stand in specs/Nodes,
+//! specs/Links and specs/Movements, a line a column.
 #![tactic(auto)]
 
-mod fields;
-mod header;
-mod ids;
 mod link_table;
 mod links;
+mod movement_table;
+mod names;
+mod network;
 mod node_table;
 mod nodes;
-mod refusal;
-mod rows;
+mod turns;
 mod units;
 
-pub use link_table::{MOST_LINKS, read_links};
+pub use link_table::read_links;
 pub use links::LinkRows;
-pub use node_table::{MOST_NODES, read_nodes};
+pub use movement_table::read_movements;
+pub use network::{join_net, read_net};
+pub use node_table::read_nodes;
 pub use nodes::NodeRows;
-pub use refusal::PlainRefusal;
-pub use rows::{LinkNo, LinkRow, NodeNo, NodeRow};
+pub use turns::TurnRows;
 pub use units::Units;
 
 #[cfg(test)]

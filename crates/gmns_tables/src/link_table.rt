@@ -1,88 +1,121 @@
 // Link tables.
-ghost use Rattle.std.specs.Prelude.{◌≡◌, ◌<◌, All, length, None, IfOk, IfSome};
+ghost use Rattle.std.specs.Prelude.{◌≡◌, ◌≤◌, All, None, IfOk};
+ghost use Rattle.fixed_units.specs.Units.{free_steps_of};
+ghost use Rattle.fixed_units.specs.declared.link.TheConstants.{MOST_FREE_STEPS, MOST_LANES, MOST_STEP};
+ghost use Rattle.fixed_units.specs.declared.quantity.TheConstants.{MOST_THOUSANDTHS};
+ghost use Rattle.desk_io.specs.declared.desk.Table.TheVariants as table;
+ghost use Rattle.row_reader.specs.FirstFault.{Tells, rows_of};
 ghost use Rattle.row_reader.specs.Records.{records};
-ghost use Rattle.row_reader.specs.Accepted.{rows_under};
-ghost use Rattle.gmns_tables.specs.Ids.{place_of};
-ghost use Rattle.gmns_tables.specs.Links.{IsBetween, IsInRange, is_link_header as is_link_header_of, known_node as known_node_of, link_ids, link_of, plain_links};
-ghost use Rattle.gmns_tables.specs.Plain.{Tells};
+ghost use Rattle.net_core.specs.Ids.{place_of};
+ghost use Rattle.net_core.specs.Rows.{AreLinks, IsBetween, IsLinkInRange, link_ids};
+ghost use Rattle.net_core.specs.declared.rows.TheConstants.{MOST_LINKS};
+ghost use Rattle.gmns_tables.specs.Links.{capacity_of, free_speed_of, is_undirected as is_undirected_of, lanes_of, link_of, link_places, link_verdict, steps_told};
 ghost use Rattle.gmns_tables.specs.Units.{IsUnits};
-ghost use Rattle.gmns_tables.specs.declared.link_table.TheConstants.{MOST_LINKS};
 
-use crate::fields::{at_least, at_most, identifier, quantity};
-use crate::header::stands_at;
 use crate::links::LinkRows;
+use crate::names::known_node;
 use crate::nodes::NodeRows;
-use crate::refusal::{OutOfMemory, PlainRefusal};
-use crate::rows::{LinkRow, NodeNo};
 use crate::units::Units;
-use fixed_units::{MOST_LANES, ff_steps, length, link_rate, speed, storage};
-use row_reader::{Accepted, Row, RowFault, RowRefusal, Rows, accept_all};
+use desk_io::Table;
+use fixed_units::{
+    Length, MOST_LANES, MOST_THOUSANDTHS, Speed, SpeedUnit, ff_steps, length, link_rate, speed,
+    storage,
+};
+use net_core::{LinkRow, MOST_LINKS};
+use row_reader::{
+    Accepted, Code, Column, Complaint, Row, RowRefusal, Rows, TableRefusal, accept_all, complain,
+    header_refusal, identifier, open_table, optional_column, optional_quantity, quantity,
+    quantity_or, required_column, unless, within,
+};
 use std::alloc::Global;
 
-/// The most rows of a link table.
-pub const MOST_LINKS: usize = 1_000_000;
+// The lanes of a link whose field is empty, in thousandths: one.
+const DEFAULT_LANES: u64 = 1000;
+
+// The free speed of a link whose field is empty, in thousandths of a kilometre per hour.
+const DEFAULT_SPEED: u64 = 50_000;
 
 // The least free speed of a link, in thousandths.
 const LEAST_SPEED: u64 = 1;
 
-// The columns of a plain link table, and how many there are.
-const LINK_ID: usize = 0;
+// The capacity of a lane of a link whose field is empty, in thousandths of a vehicle per hour.
+const DEFAULT_CAPACITY: u64 = 1_800_000;
 
-const FROM_NODE_ID: usize = 1;
+// Where the columns of a link table are.
+#[derive(Clone, Copy)]
+struct LinkPlaces {
+    id: usize,
+    from: usize,
+    to: usize,
+    directed: Option<usize>,
+    length: usize,
+    lanes: Option<usize>,
+    free_speed: Option<usize>,
+    capacity: Option<usize>,
+}
 
-const TO_NODE_ID: usize = 2;
-
-const LENGTH: usize = 3;
-
-const LANES: usize = 4;
-
-const FREE_SPEED: usize = 5;
-
-const CAPACITY: usize = 6;
-
-const LINK_COLUMNS: usize = 7;
+impl LinkPlaces {
+    #[tactic(auto, unfolding(crate::specs::Links::link_places))]
+    fn of(rows: &Rows<'_>) -> Result<Self, Complaint>
+        ensures { result ≡ link_places rows.now.header }
+    {
+        let id = required_column(rows, Column::LinkId)?;
+        let from = required_column(rows, Column::FromNodeId)?;
+        let to = required_column(rows, Column::ToNodeId)?;
+        let length = required_column(rows, Column::Length)?;
+        Ok(LinkPlaces {
+            id,
+            from,
+            to,
+            directed: optional_column(rows, Column::Directed),
+            length,
+            lanes: optional_column(rows, Column::Lanes),
+            free_speed: optional_column(rows, Column::FreeSpeed),
+            capacity: optional_column(rows, Column::Capacity),
+        })
+    }
+}
 
 // A link table that is being read.
 #[derive(Drop)]
 struct LinkTable<'a> {
     nodes: &'a NodeRows,
     units: Units,
+    places: LinkPlaces,
     rows: LinkRows,
     ghost sound: { IsUnits units },
 }
 
 impl LinkTable<'_> {
-    // The link of a record, if all checks pass.
+    // The link of a record, or the first check that fails.
     #[tactic(auto, unfolding(crate::specs::Links::link_of))]
-    fn row(&self, row: &Row) -> Option<LinkRow>
-        ensures row { result ≡ link_of self.now.nodes.now self.now.units self.now.rows row.now.fields }
-        ensures range { IfSome result IsInRange }
-        ensures new { IfSome result (λ link. place_of (link_ids self.now.rows) link.id ≡ None) }
+    fn row(&self, row: &Row) -> Result<LinkRow, Complaint>
+        ensures row { result ≡ link_of self.now.nodes.now self.now.units self.now.places
+            self.now.rows row.now.fields }
+        ensures range { IfOk result IsLinkInRange }
+        ensures new { IfOk result (λ link. place_of (link_ids self.now.rows) link.id ≡ None) }
     {
-        let id = identifier(row.cell(Some(LINK_ID)))?;
-        if self.rows.contains(id) {
-            return None;
-        }
-        let from = known_node(self.nodes, row.cell(Some(FROM_NODE_ID)))?;
-        let to = known_node(self.nodes, row.cell(Some(TO_NODE_ID)))?;
-        let link_length = quantity(row.cell(Some(LENGTH)))?;
-        let lanes = at_most(u64::from(MOST_LANES), quantity(row.cell(Some(LANES)))?)?;
-        let free_speed = at_least(LEAST_SPEED, quantity(row.cell(Some(FREE_SPEED)))?)?;
-        let length = length(link_length, self.units.length);
-        let free = ff_steps(
-            length,
-            speed(free_speed, self.units.speed),
-            self.units.delta,
-        )
-        .ok()?;
-        let capacity = quantity(row.cell(Some(CAPACITY)))?;
-        Some(LinkRow {
+        let places = &self.places;
+        let units = &self.units;
+        let id = identifier(Column::LinkId, row.cell(Some(places.id)))?;
+        unless(self.rows.contains(id), Code::E6, Column::LinkId)?;
+        let from = known_node(self.nodes, Column::FromNodeId, row.cell(Some(places.from)))?;
+        let to = known_node(self.nodes, Column::ToNodeId, row.cell(Some(places.to)))?;
+        let both_ways = is_undirected(row.cell(places.directed));
+        unless(both_ways, Code::E10, Column::Directed)?;
+        let size = quantity(Column::Length, row.cell(Some(places.length)))?;
+        let size = length(size, units.length);
+        let lanes = lanes(row.cell(places.lanes))?;
+        let speed = free_speed(units.speed, row.cell(places.free_speed))?;
+        let free = free_steps(size, speed, units.delta)?;
+        let capacity = capacity(row.cell(places.capacity))?;
+        Ok(LinkRow {
             id,
             from,
             to,
             free,
-            storage: storage(length, lanes as u32, self.units.jam),
-            rate: link_rate(capacity, lanes as u32),
+            storage: storage(size, lanes, units.jam),
+            rate: link_rate(capacity, lanes),
         })
     }
 }
@@ -94,7 +127,7 @@ impl Accepted for LinkTable<'_> {
 
     ghost rows = { λ t. t.rows };
 
-    ghost judge = { λ t. link_of t.nodes.now t.units };
+    ghost judge = { λ t. link_of t.nodes.now t.units t.places };
 
     fn is_full(&self) -> bool {
         self.rows.as_slice().len() >= MOST_LINKS
@@ -102,32 +135,34 @@ impl Accepted for LinkTable<'_> {
 
     fn accept(&mut self, row: &Row) -> Result<(), RowRefusal> {
         match self.row(row) {
-            Some(link) => match self.rows.push(link) {
+            Ok(link) => match self.rows.push(link) {
                 Ok(()) => Ok(()),
-                Err(OutOfMemory) => Err(RowRefusal::Memory),
+                Err(_) => Err(RowRefusal::Memory),
             },
-            None => Err(RowRefusal::Refused),
+            Err(complaint) => Err(RowRefusal::Complaint(complaint)),
         }
     }
 }
 
-/// Reads a plain link table over its nodes: the columns `link_id`, `from_node_id`, `to_node_id`, `length`, `lanes`, `free_speed` and
-/// `capacity` of GMNS, in this order. Lengths and speeds are in the units of the run, capacities in vehicles per hour and lane.
-/// `NotPlain` comes exactly where the table isn't plain.
+/// Reads a link table of GMNS over its nodes: the columns `link_id`, `from_node_id`, `to_node_id`
+/// and `length`, and the optional columns `directed`, `lanes`, `free_speed` and `capacity`. Lengths
+/// and speeds are in the units of the run, capacities in vehicles per hour and lane. Where a field
+/// is empty there is one lane, a speed of 50 kilometres per hour in either unit of speed, and a
+/// capacity of 1800. The refusal is the table's first fault, or want of memory.
 pub fn read_links(
     alloc: Global,
     nodes: &NodeRows,
     text: &[u8],
     units: &Units,
-) -> Result<LinkRows, PlainRefusal>
+) -> Result<LinkRows, TableRefusal>
     requires { IsUnits units.now }
-    ensures rows { Tells (plain_links nodes.now units.now (records text.now)) result }
+    ensures rows { Tells (link_verdict nodes.now units.now (records text.now)) result }
+    ensures sound { IfOk result AreLinks }
     ensures between { IfOk result (All (IsBetween nodes.now)) }
 {
-    match Rows::new(alloc, text) {
+    match open_table(alloc, Table::Link, text) {
         Ok(mut rows) => accept_links(alloc, nodes, *units, &mut rows),
-        Err(RowFault::BadRecord { .. }) => Err(PlainRefusal::NotPlain),
-        Err(RowFault::Memory) => Err(PlainRefusal::Memory),
+        Err(refusal) => Err(refusal),
     }
 }
 
@@ -137,46 +172,91 @@ fn accept_links(
     nodes: &NodeRows,
     units: Units,
     rows: &mut Rows<'_>,
-) -> Result<LinkRows, PlainRefusal>
+) -> Result<LinkRows, TableRefusal>
     requires sound { IsUnits units }
     requires running { rows.old.fault ≡ None }
-    ensures { Tells (rows_under MOST_LINKS is_link_header_of (link_of nodes.now units) rows.old.header rows.old.rest) result }
+    requires line { rows.old.line ≡ 1 }
+    ensures rows { Tells (rows_of table.Link MOST_LINKS link_places (link_of nodes.now units)
+        rows.old.header rows.old.rest) result }
+    ensures sound { IfOk result AreLinks }
 {
-    if !is_link_header(rows) {
-        return Err(PlainRefusal::NotPlain);
-    }
+    let places = match LinkPlaces::of(rows) {
+        Ok(places) => places,
+        Err(complaint) => return Err(header_refusal(Table::Link, complaint)),
+    };
     let mut table = LinkTable {
         nodes,
         units,
+        places,
         rows: LinkRows::new(alloc),
     };
-    match accept_all(rows, &mut table) {
-        Ok(()) => Ok(table.rows),
-        Err(RowRefusal::Refused) => Err(PlainRefusal::NotPlain),
-        Err(RowRefusal::Memory) => Err(PlainRefusal::Memory),
+    match accept_all(Table::Link, rows, &mut table) {
+        Ok(()) => {
+            let _sound = table.rows.as_slice();
+            Ok(table.rows)
+        }
+        Err(refusal) => Err(refusal),
     }
 }
 
-// Whether these are the columns of a plain link table.
-#[tactic(auto, unfolding(crate::specs::Links::is_link_header))]
-fn is_link_header(rows: &Rows<'_>) -> bool
-    ensures { result ≡ is_link_header_of rows.now.header }
+// Whether a text says that a link goes both ways.
+#[tactic(auto, unfolding(crate::specs::Links::is_undirected))]
+fn is_undirected(text: &[u8]) -> bool
+    ensures { result ≡ is_undirected_of text.now }
 {
-    rows.width() == LINK_COLUMNS
-        && stands_at(rows, "link_id", LINK_ID)
-        && stands_at(rows, "from_node_id", FROM_NODE_ID)
-        && stands_at(rows, "to_node_id", TO_NODE_ID)
-        && stands_at(rows, "length", LENGTH)
-        && stands_at(rows, "lanes", LANES)
-        && stands_at(rows, "free_speed", FREE_SPEED)
-        && stands_at(rows, "capacity", CAPACITY)
+    (text.eq_ignore_ascii_case(b"0") || text.eq_ignore_ascii_case(b"0.0"))
+        || (text.eq_ignore_ascii_case(b"false") || text.eq_ignore_ascii_case(b"no"))
 }
 
-// The node that a field names.
-#[tactic(auto, unfolding(crate::specs::Links::known_node))]
-fn known_node(nodes: &NodeRows, text: &[u8]) -> Option<NodeNo>
-    ensures node { result ≡ known_node_of nodes.now text.now }
-    ensures within { IfSome result (λ node. node.0 < length nodes.now) }
+// The lanes of a field, in thousandths.
+fn lanes(text: &[u8]) -> Result<u32, Complaint>
+    ensures value { result ≡ lanes_of text.now }
+    ensures most { IfOk result (λ n. n ≤ MOST_LANES) }
 {
-    nodes.place(identifier(text)?)
+    let lanes = quantity_or(DEFAULT_LANES, Column::Lanes, text)?;
+    let lanes = within(Column::Lanes, 0, u64::from(MOST_LANES), lanes)?;
+    Ok(lanes as u32)
+}
+
+// The free speed of a field, in a unit.
+#[tactic(auto, unfolding(crate::specs::Links::free_speed_of))]
+fn free_speed(unit: SpeedUnit, text: &[u8]) -> Result<Speed, Complaint>
+    ensures value { result ≡ free_speed_of unit text.now }
+    ensures moves { IfOk result (λ speed. 1 ≤ speed.micrometres_per_hour) }
+{
+    match optional_quantity(Column::FreeSpeed, text)? {
+        Some(thousandths) => {
+            let thousandths = within(
+                Column::FreeSpeed,
+                LEAST_SPEED,
+                MOST_THOUSANDTHS,
+                thousandths,
+            )?;
+            Ok(speed(thousandths, unit))
+        }
+        None => Ok(speed(DEFAULT_SPEED, SpeedUnit::Kmh)),
+    }
+}
+
+// The free-flow steps of a link, or that it is too slow.
+fn free_steps(length: Length, speed: Speed, delta: u32) -> Result<u32, Complaint>
+    requires moves { 1 ≤ speed.micrometres_per_hour }
+    requires step { 1 ≤ delta }
+    requires short { delta ≤ MOST_STEP }
+    ensures value { result ≡ steps_told (free_steps_of length speed delta) }
+    ensures least { IfOk result (λ steps. 1 ≤ steps) }
+    ensures most { IfOk result (λ steps. steps ≤ MOST_FREE_STEPS) }
+{
+    match ff_steps(length, speed, delta) {
+        Ok(steps) => Ok(steps),
+        Err(_) => Err(complain(Code::E11, Column::FreeSpeed)),
+    }
+}
+
+// The capacity of a lane in a field, in thousandths of a vehicle per hour.
+fn capacity(text: &[u8]) -> Result<u64, Complaint>
+    ensures value { result ≡ capacity_of text.now }
+    ensures most { IfOk result (λ n. n ≤ MOST_THOUSANDTHS) }
+{
+    quantity_or(DEFAULT_CAPACITY, Column::Capacity, text)
 }

@@ -1,13 +1,11 @@
 // The links of a table that was accepted.
 ghost use Rattle.std.specs.Prelude.{◌≡◌, ◌<◌, ◌++◌, ◌∷◌, [], length, OnOk, None, IfSome, is_some};
-ghost use Rattle.gmns_tables.specs.Ids.{place_of};
-ghost use Rattle.gmns_tables.specs.Links.{AreLinks, IsInRange, link_ids, link_named};
-ghost use Rattle.gmns_tables.specs.declared.link_table.TheConstants.{MOST_LINKS};
+ghost use Rattle.net_core.specs.Ids.{place_of};
+ghost use Rattle.net_core.specs.Rows.{AreLinks, IsLinkInRange, link_ids, link_named};
+ghost use Rattle.net_core.specs.declared.rows.TheConstants.{MOST_LINKS};
 
-use crate::ids::Ids;
-use crate::refusal::OutOfMemory;
-use crate::rows::{LinkNo, LinkRow};
-use std::alloc::Global;
+use net_core::{Ids, LinkNo, LinkRow};
+use std::alloc::{AllocError, Global};
 use std::marker::Model;
 
 /// The links of a table, in its order, with different identifiers and numbers in range.
@@ -19,8 +17,8 @@ pub struct LinkRows {
 
 impl Model for LinkRows {
     ghost use Rattle.std.specs.Prelude.{◌≡◌, List};
-    ghost use Rattle.gmns_tables.specs.Links.{AreLinks, link_ids};
-    ghost use Rattle.gmns_tables.specs.declared.rows.LinkRow.{LinkRow};
+    ghost use Rattle.net_core.specs.Rows.{AreLinks, link_ids};
+    ghost use Rattle.net_core.specs.declared.rows.LinkRow.{LinkRow};
 
     ghost Value = { List LinkRow };
 
@@ -75,23 +73,15 @@ impl LinkRows {
     }
 
     // Adds a link with a new identifier and numbers in range, as the last one.
-    pub(crate) fn push(&mut self, row: LinkRow) -> Result<(), OutOfMemory>
+    pub(crate) fn push(&mut self, row: LinkRow) -> Result<(), AllocError>
         requires new { place_of (link_ids self.old) row.id ≡ None }
         requires room { length self.old < MOST_LINKS }
-        requires range { IsInRange row }
+        requires range { IsLinkInRange row }
         ensures { OnOk result (self.new ≡ self.old ++ row ∷ []) }
     {
-        match self.items.reserve(1) {
-            Ok(()) => {}
-            Err(_) => return Err(OutOfMemory),
-        }
-        match self.ids.add(row.id) {
-            Ok(()) => {}
-            Err(_) => return Err(OutOfMemory),
-        }
-        match self.items.push(row) {
-            Ok(()) => Ok(()),
-            Err(_) => Err(OutOfMemory),
-        }
+        self.items.reserve(1)?;
+        self.ids.add(row.id)?;
+        self.items.push(row)?;
+        Ok(())
     }
 }

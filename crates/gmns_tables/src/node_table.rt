@@ -1,49 +1,62 @@
 // Node tables.
-ghost use Rattle.std.specs.Prelude.{◌≡◌, None, IfSome};
+ghost use Rattle.std.specs.Prelude.{◌≡◌, None, IfOk};
+ghost use Rattle.fixed_units.specs.Zone.{zone_of};
+ghost use Rattle.desk_io.specs.declared.desk.Table.TheVariants as table;
+ghost use Rattle.row_reader.specs.FirstFault.{Tells, rows_of};
 ghost use Rattle.row_reader.specs.Records.{records};
-ghost use Rattle.row_reader.specs.Accepted.{rows_under};
-ghost use Rattle.gmns_tables.specs.Ids.{place_of};
-ghost use Rattle.gmns_tables.specs.Nodes.{node_ids, node_of, plain_nodes, is_node_header as is_node_header_of};
-ghost use Rattle.gmns_tables.specs.Plain.{Tells};
-ghost use Rattle.gmns_tables.specs.declared.node_table.TheConstants.{MOST_NODES};
+ghost use Rattle.net_core.specs.Ids.{place_of};
+ghost use Rattle.net_core.specs.Rows.{AreNodes, node_ids};
+ghost use Rattle.net_core.specs.declared.rows.TheConstants.{MOST_NODES};
+ghost use Rattle.gmns_tables.specs.Nodes.{node_of, node_places, node_verdict, zone_told};
 
-use crate::fields::{identifier, plain_zone};
-use crate::header::stands_at;
 use crate::nodes::NodeRows;
-use crate::refusal::{OutOfMemory, PlainRefusal};
-use crate::rows::NodeRow;
-use row_reader::{Accepted, Row, RowFault, RowRefusal, Rows, accept_all};
+use desk_io::Table;
+use fixed_units::zone;
+use net_core::{MOST_NODES, NodeRow};
+use row_reader::{
+    Accepted, Code, Column, Complaint, Row, RowRefusal, Rows, TableRefusal, accept_all,
+    header_refusal, identifier, not_a_number, open_table, optional_column, required_column, unless,
+};
 use std::alloc::Global;
 
-/// The most rows of a node table.
-pub const MOST_NODES: usize = 1_000_000;
+// Where the columns of a node table are.
+#[derive(Clone, Copy)]
+struct NodePlaces {
+    id: usize,
+    zone: Option<usize>,
+}
 
-// The columns of a plain node table, and how many there are.
-const NODE_ID: usize = 0;
-
-const ZONE_ID: usize = 1;
-
-const NODE_COLUMNS: usize = 2;
+impl NodePlaces {
+    #[tactic(auto, unfolding(crate::specs::Nodes::node_places))]
+    fn of(rows: &Rows<'_>) -> Result<Self, Complaint>
+        ensures { result ≡ node_places rows.now.header }
+    {
+        let id = required_column(rows, Column::NodeId)?;
+        Ok(NodePlaces {
+            id,
+            zone: optional_column(rows, Column::ZoneId),
+        })
+    }
+}
 
 // A node table that is being read.
 #[derive(Drop)]
 struct NodeTable {
+    places: NodePlaces,
     rows: NodeRows,
 }
 
 impl NodeTable {
-    // The node of a record, if all checks pass.
+    // The node of a record, or the first check that fails.
     #[tactic(auto, unfolding(crate::specs::Nodes::node_of))]
-    fn row(&self, row: &Row) -> Option<NodeRow>
-        ensures row { result ≡ node_of self.now.rows row.now.fields }
-        ensures new { IfSome result (λ node. place_of (node_ids self.now.rows) node.id ≡ None) }
+    fn row(&self, row: &Row) -> Result<NodeRow, Complaint>
+        ensures row { result ≡ node_of self.now.places self.now.rows row.now.fields }
+        ensures new { IfOk result (λ node. place_of (node_ids self.now.rows) node.id ≡ None) }
     {
-        let id = identifier(row.cell(Some(NODE_ID)))?;
-        if self.rows.contains(id) {
-            return None;
-        }
-        let zone = plain_zone(row.cell(Some(ZONE_ID)))?;
-        Some(NodeRow { id, zone })
+        let id = identifier(Column::NodeId, row.cell(Some(self.places.id)))?;
+        unless(self.rows.contains(id), Code::E6, Column::NodeId)?;
+        let zone = zone_field(row.cell(self.places.zone))?;
+        Ok(NodeRow { id, zone })
     }
 }
 
@@ -54,7 +67,7 @@ impl Accepted for NodeTable {
 
     ghost rows = { λ t. t.rows };
 
-    ghost judge = { λ t. node_of };
+    ghost judge = { λ t. node_of t.places };
 
     fn is_full(&self) -> bool {
         self.rows.as_slice().len() >= MOST_NODES
@@ -62,51 +75,59 @@ impl Accepted for NodeTable {
 
     fn accept(&mut self, row: &Row) -> Result<(), RowRefusal> {
         match self.row(row) {
-            Some(node) => match self.rows.push(node) {
+            Ok(node) => match self.rows.push(node) {
                 Ok(()) => Ok(()),
-                Err(OutOfMemory) => Err(RowRefusal::Memory),
+                Err(_) => Err(RowRefusal::Memory),
             },
-            None => Err(RowRefusal::Refused),
+            Err(complaint) => Err(RowRefusal::Complaint(complaint)),
         }
     }
 }
 
-/// Reads a plain node table: the columns `node_id` and `zone_id` of GMNS, in this order. An empty zone and zone 0 are no zone.
-/// `NotPlain` comes exactly where the table isn't plain.
-pub fn read_nodes(alloc: Global, text: &[u8]) -> Result<NodeRows, PlainRefusal>
-    ensures rows { Tells (plain_nodes (records text.now)) result }
+/// Reads a node table of GMNS: the column `node_id`, an identifier, and the optional column
+/// `zone_id`, the identifier of the node's zone. A zone that is empty, 0 or -1 is none.
+/// The refusal is the table's first fault, or want of memory.
+pub fn read_nodes(alloc: Global, text: &[u8]) -> Result<NodeRows, TableRefusal>
+    ensures rows { Tells (node_verdict (records text.now)) result }
+    ensures sound { IfOk result AreNodes }
 {
-    match Rows::new(alloc, text) {
+    match open_table(alloc, Table::Node, text) {
         Ok(mut rows) => accept_nodes(alloc, &mut rows),
-        Err(RowFault::BadRecord { .. }) => Err(PlainRefusal::NotPlain),
-        Err(RowFault::Memory) => Err(PlainRefusal::Memory),
+        Err(refusal) => Err(refusal),
     }
 }
 
 // The nodes of the records below a header.
-fn accept_nodes(alloc: Global, rows: &mut Rows<'_>) -> Result<NodeRows, PlainRefusal>
+fn accept_nodes(alloc: Global, rows: &mut Rows<'_>) -> Result<NodeRows, TableRefusal>
     requires running { rows.old.fault ≡ None }
-    ensures { Tells (rows_under MOST_NODES is_node_header_of node_of rows.old.header rows.old.rest) result }
+    requires line { rows.old.line ≡ 1 }
+    ensures rows { Tells (rows_of table.Node MOST_NODES node_places node_of
+        rows.old.header rows.old.rest) result }
+    ensures sound { IfOk result AreNodes }
 {
-    if !is_node_header(rows) {
-        return Err(PlainRefusal::NotPlain);
-    }
+    let places = match NodePlaces::of(rows) {
+        Ok(places) => places,
+        Err(complaint) => return Err(header_refusal(Table::Node, complaint)),
+    };
     let mut table = NodeTable {
+        places,
         rows: NodeRows::new(alloc),
     };
-    match accept_all(rows, &mut table) {
-        Ok(()) => Ok(table.rows),
-        Err(RowRefusal::Refused) => Err(PlainRefusal::NotPlain),
-        Err(RowRefusal::Memory) => Err(PlainRefusal::Memory),
+    match accept_all(Table::Node, rows, &mut table) {
+        Ok(()) => {
+            let _sound = table.rows.as_slice();
+            Ok(table.rows)
+        }
+        Err(refusal) => Err(refusal),
     }
 }
 
-// Whether these are the columns of a plain node table.
-#[tactic(auto, unfolding(crate::specs::Nodes::is_node_header))]
-fn is_node_header(rows: &Rows<'_>) -> bool
-    ensures { result ≡ is_node_header_of rows.now.header }
+// The zone of a field.
+fn zone_field(text: &[u8]) -> Result<Option<u64>, Complaint>
+    ensures { result ≡ zone_told (zone_of text.now) }
 {
-    rows.width() == NODE_COLUMNS
-        && stands_at(rows, "node_id", NODE_ID)
-        && stands_at(rows, "zone_id", ZONE_ID)
+    match zone(text) {
+        Ok(zone) => Ok(zone),
+        Err(fault) => Err(not_a_number(Column::ZoneId, fault)),
+    }
 }

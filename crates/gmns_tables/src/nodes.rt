@@ -1,13 +1,11 @@
 // The nodes of a table that was accepted.
 ghost use Rattle.std.specs.Prelude.{◌≡◌, ◌<◌, ◌++◌, ◌∷◌, [], length, OnOk, None, IfSome, is_some};
-ghost use Rattle.gmns_tables.specs.Ids.{place_of};
-ghost use Rattle.gmns_tables.specs.Nodes.{AreNodes, node_ids, node_named};
-ghost use Rattle.gmns_tables.specs.declared.node_table.TheConstants.{MOST_NODES};
+ghost use Rattle.net_core.specs.Ids.{place_of};
+ghost use Rattle.net_core.specs.Rows.{AreNodes, node_ids, node_named};
+ghost use Rattle.net_core.specs.declared.rows.TheConstants.{MOST_NODES};
 
-use crate::ids::Ids;
-use crate::refusal::OutOfMemory;
-use crate::rows::{NodeNo, NodeRow};
-use std::alloc::Global;
+use net_core::{Ids, NodeNo, NodeRow};
+use std::alloc::{AllocError, Global};
 use std::marker::Model;
 
 /// The nodes of a table, in its order, with different identifiers.
@@ -19,8 +17,8 @@ pub struct NodeRows {
 
 impl Model for NodeRows {
     ghost use Rattle.std.specs.Prelude.{◌≡◌, List};
-    ghost use Rattle.gmns_tables.specs.Nodes.{AreNodes, node_ids};
-    ghost use Rattle.gmns_tables.specs.declared.rows.NodeRow.{NodeRow};
+    ghost use Rattle.net_core.specs.Rows.{AreNodes, node_ids};
+    ghost use Rattle.net_core.specs.declared.rows.NodeRow.{NodeRow};
 
     ghost Value = { List NodeRow };
 
@@ -75,22 +73,14 @@ impl NodeRows {
     }
 
     // Adds a node with a new identifier, as the last one.
-    pub(crate) fn push(&mut self, row: NodeRow) -> Result<(), OutOfMemory>
+    pub(crate) fn push(&mut self, row: NodeRow) -> Result<(), AllocError>
         requires new { place_of (node_ids self.old) row.id ≡ None }
         requires room { length self.old < MOST_NODES }
         ensures { OnOk result (self.new ≡ self.old ++ row ∷ []) }
     {
-        match self.items.reserve(1) {
-            Ok(()) => {}
-            Err(_) => return Err(OutOfMemory),
-        }
-        match self.ids.add(row.id) {
-            Ok(()) => {}
-            Err(_) => return Err(OutOfMemory),
-        }
-        match self.items.push(row) {
-            Ok(()) => Ok(()),
-            Err(_) => Err(OutOfMemory),
-        }
+        self.items.reserve(1)?;
+        self.ids.add(row.id)?;
+        self.items.push(row)?;
+        Ok(())
     }
 }

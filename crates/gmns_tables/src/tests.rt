@@ -1,12 +1,11 @@
-// Worked tables, and texts that are refused, through the readers of whole tables.
-use crate::{LinkNo, LinkRow, NodeNo, NodeRow, PlainRefusal, Units, read_links, read_nodes};
+// Tables that are read, networks that they make, and first faults, where memory is ample.
+use crate::{Units, join_net, read_links, read_movements, read_net, read_nodes};
+use desk_io::Table;
 use fixed_units::{LengthUnit, SpeedUnit};
+use net_core::{LinkNo, LinkRow, Net, NodeNo, NodeRow, Turn, TurnRow, ZoneNo};
+use row_reader::{Code, Column, TableFault, TableRefusal};
+use std::alloc::Global;
 use std::test::Fail;
-
-const NODES: &str = "node_id,zone_id\n1,1\n2,\n3,3\n";
-
-const LINKS: &str =
-    "link_id,from_node_id,to_node_id,length,lanes,free_speed,capacity\n10,1,2,1000,1,60,600\n20,2,3,1000,1,60,600\n";
 
 const UNITS: Units = Units {
     delta: 6,
@@ -15,34 +14,62 @@ const UNITS: Units = Units {
     speed: SpeedUnit::Kmh,
 };
 
+// Two links in a row.
+const NODES: &str = "node_id,zone_id\n1,1\n2,\n3,3\n";
+
+const LINKS: &str = "link_id,from_node_id,to_node_id,length,lanes,free_speed,capacity\n\
+    10,1,2,1000,1,60,600\n\
+    20,2,3,1000,1,60,600\n";
+
+const MOVEMENTS: &str = "node_id,ib_link_id,ob_link_id,penalty,capacity\n2,10,20,7,900\n";
+
+// Two links in a row, and a third one beside the second.
+const BESIDE: &str = "link_id,from_node_id,to_node_id,length\n10,1,2,9\n21,2,3,9\n20,2,3,9\n";
+
+// Two links in a row, and a third one from their node to itself.
+const LOOP: &str = "link_id,from_node_id,to_node_id,length\n10,1,2,9\n20,2,3,9\n30,2,2,9\n";
+
+// Two links that merge into a third one.
+const MERGE: &str = "link_id,from_node_id,to_node_id,length\n11,1,2,9\n12,3,2,9\n13,2,3,9\n";
+
+const FREE: Turn = Turn {
+    penalty: 0,
+    rate: None,
+};
+
+// The network of these tables, of which the last stands for none where it is empty.
+fn network(alloc: Global, node: &str, link: &str, movement: &str) -> Result<Net, TableRefusal> {
+    let text = movement.as_bytes();
+    if text.is_empty() {
+        read_net(alloc, node.as_bytes(), link.as_bytes(), None, &UNITS)
+    } else {
+        read_net(alloc, node.as_bytes(), link.as_bytes(), Some(text), &UNITS)
+    }
+}
+
 #[test]
 fn two_links_in_a_row(rt: HostRuntime) -> Result<(), Fail> {
-    let nodes = read_nodes(rt.alloc(), NODES.as_bytes())?;
-    let links = read_links(rt.alloc(), &nodes, LINKS.as_bytes(), &UNITS)?;
-    assert_eq!(rt; links.place(20), Some(LinkNo(1)));
+    let alloc = rt.alloc();
+    let nodes = read_nodes(alloc, NODES.as_bytes()).expect(&rt, "nodes");
+    let links = read_links(alloc, &nodes, LINKS.as_bytes(), &UNITS).expect(&rt, "links");
+    let text = MOVEMENTS.as_bytes();
+    assert!(rt; !text.is_empty());
+    let turns = read_movements(alloc, &nodes, &links, text, &UNITS).expect(&rt, "turns");
     assert_eq!(rt; nodes.place(3), Some(NodeNo(2)));
     assert_eq!(rt; nodes.place(4), None);
-    let rows = nodes.into_vec();
-    let first = NodeRow {
-        id: 1,
-        zone: Some(1),
+    assert_eq!(rt; links.place(20), Some(LinkNo(1)));
+    let turn = TurnRow {
+        a: LinkNo(0),
+        b: LinkNo(1),
+        penalty: 2,
+        rate: Some(900_000_000),
     };
-    let second = NodeRow { id: 2, zone: None };
-    let third = NodeRow {
-        id: 3,
-        zone: Some(3),
-    };
-    assert_eq!(rt; rows.as_slice(), [first, second, third].as_slice());
-    let rows = links.into_vec();
-    let first = LinkRow {
-        id: 10,
-        from: NodeNo(0),
-        to: NodeNo(1),
-        free: 10,
-        storage: 125,
-        rate: 600_000_000,
-    };
-    let second = LinkRow {
+    assert_eq!(rt; turns.as_slice(), [turn].as_slice());
+    let net = join_net(alloc, nodes, links, Some(turns)).expect(&rt, "a network");
+    let node = NodeRow { id: 2, zone: None };
+    assert!(rt; net.node_count() == 3);
+    assert_eq!(rt; net.node(NodeNo(1)), node);
+    let link = LinkRow {
         id: 20,
         from: NodeNo(1),
         to: NodeNo(2),
@@ -50,67 +77,108 @@ fn two_links_in_a_row(rt: HostRuntime) -> Result<(), Fail> {
         storage: 125,
         rate: 600_000_000,
     };
-    assert_eq!(rt; rows.as_slice(), [first, second].as_slice());
+    assert!(rt; net.link_count() == 2);
+    assert_eq!(rt; net.link(LinkNo(1)), link);
     Ok(())
 }
 
 #[test]
-fn accepted_spellings(rt: HostRuntime) -> Result<(), Fail> {
-    let texts = [
-        "node_id,zone_id\n",
-        "\u{feff}node_id,zone_id\n1,1\n",
-        " node_id ,\tzone_id\r\n 1 , 2 \r\n",
-        "node_id,zone_id\n\"1\",\"\"",
-        "\"node_id\",\"zone_id\"\n007,0\n9223372036854775807,1\n",
-    ];
-    for text in texts {
-        let answer = read_nodes(rt.alloc(), text.as_bytes());
-        assert!(rt; answer.is_ok(), "{text}");
+fn turns_of_small_networks(rt: HostRuntime) {
+    let header = "node_id,ib_link_id,ob_link_id\n";
+    let straight = "node_id,ib_link_id,ob_link_id\n2,10,20\n";
+    let limited = Turn {
+        penalty: 2,
+        rate: Some(900_000_000),
+    };
+    for (links, movements, a, b, turn) in [
+        (LINKS, "", 0, 1, Some(FREE)),
+        (LINKS, header, 0, 1, Some(FREE)),
+        (LINKS, MOVEMENTS, 0, 1, Some(limited)),
+        (LINKS, "", 1, 0, None),
+        (BESIDE, "", 0, 1, Some(FREE)),
+        (BESIDE, straight, 0, 1, None),
+        (BESIDE, straight, 0, 2, Some(FREE)),
+        (LOOP, "", 2, 2, Some(FREE)),
+        (LOOP, straight, 2, 2, None),
+        (MERGE, "", 0, 2, Some(FREE)),
+        (MERGE, "", 1, 2, Some(FREE)),
+        (MERGE, "", 0, 1, None),
+    ] {
+        let net = network(rt.alloc(), NODES, links, movements).expect(&rt, "a network");
+        assert!(rt; a < net.link_count());
+        assert!(rt; b < net.link_count());
+        assert_eq!(rt;
+            net.turn(LinkNo(a), LinkNo(b)),
+            turn,
+            "{a} to {b} of {links}{movements}"
+        );
     }
-    Ok(())
 }
 
 #[test]
-fn refused_nodes(rt: HostRuntime) {
-    let texts = [
-        "",
-        "\u{feff}",
-        "node_id\n1\n",
-        "zone_id,node_id\n1,1\n",
-        "node_id,zone_id,name\n1,1,a\n",
-        "Node_id,zone_id\n1,1\n",
-        "node_id,zone_id\n1\n",
-        "node_id,zone_id\n,1\n",
-        "node_id,zone_id\n1.0,1\n",
-        "node_id,zone_id\n1,-1\n",
-        "node_id,zone_id\n1,1\n01,2\n",
-        "node_id,zone_id\n9223372036854775808,1\n",
-    ];
-    for text in texts {
-        let answer = read_nodes(rt.alloc(), text.as_bytes());
-        assert!(rt; answer.err() == Some(PlainRefusal::NotPlain), "{text}");
-    }
-    let answer = read_nodes(rt.alloc(), b"node_id,zone_id\n1,\xff\n");
-    assert!(rt; answer.err() == Some(PlainRefusal::NotPlain));
+fn two_nodes_of_one_zone(rt: HostRuntime) {
+    let nodes = "zone_id,node_id\n7,1\n5,2\n7.0,3\n";
+    let net = network(rt.alloc(), nodes, BESIDE, "").expect(&rt, "a network");
+    assert_eq!(rt; net.zone_count(), 2);
+    assert_eq!(rt; net.zone_number(5), Some(ZoneNo(1)));
+    assert!(rt; net.node_count() == 3);
+    assert_eq!(rt; net.zone_of(NodeNo(2)), Some(ZoneNo(0)));
+    assert_eq!(rt; net.outs(NodeNo(1)), [LinkNo(1), LinkNo(2)].as_slice());
 }
 
 #[test]
-fn refused_links(rt: HostRuntime) -> Result<(), Fail> {
-    let nodes = read_nodes(rt.alloc(), NODES.as_bytes())?;
-    let texts = [
-        "",
-        "link_id,to_node_id,from_node_id,length,lanes,free_speed,capacity\n",
-        "link_id,from_node_id,to_node_id,length,lanes,free_speed,capacity\n10,1,2,1000,1,60,600\n20,9,3,1000,1,60,600\n",
-        "link_id,from_node_id,to_node_id,length,lanes,free_speed,capacity\n10,1,2,1000,1,60,600\n10,2,3,1000,1,60,600\n",
-        "link_id,from_node_id,to_node_id,length,lanes,free_speed,capacity\n10,1,2,,1,60,600\n",
-        "link_id,from_node_id,to_node_id,length,lanes,free_speed,capacity\n10,1,2,1000,100.001,60,600\n",
-        "link_id,from_node_id,to_node_id,length,lanes,free_speed,capacity\n10,1,2,1000,1,0,600\n",
-        "link_id,from_node_id,to_node_id,length,lanes,free_speed,capacity\n10,1,2,1000001,1,60,600\n",
-        "link_id,from_node_id,to_node_id,length,lanes,free_speed,capacity\n10,1,2,1000,1,60,1000000001\n",
-    ];
-    for text in texts {
-        let answer = read_links(rt.alloc(), &nodes, text.as_bytes(), &UNITS);
-        assert!(rt; answer.err() == Some(PlainRefusal::NotPlain), "{text}");
+fn first_faults(rt: HostRuntime) {
+    let wrong = "mvmt_id,node_id,ib_link_id,ob_link_id\n1,2,20,20\n";
+    for (node, link, movement, table, line, code, column) in [
+        ("", LINKS, "", Table::Node, 1, Code::E1, Column::NodeId),
+        (
+            "node_id\n\u{feff}\n",
+            "",
+            "",
+            Table::Node,
+            2,
+            Code::E4,
+            Column::NodeId,
+        ),
+        (NODES, "", wrong, Table::Link, 1, Code::E1, Column::LinkId),
+        (
+            NODES,
+            "link_id,a\n1\n",
+            "",
+            Table::Link,
+            1,
+            Code::E1,
+            Column::FromNodeId,
+        ),
+        (
+            NODES,
+            LINKS,
+            wrong,
+            Table::Movement,
+            2,
+            Code::E9,
+            Column::IbLinkId,
+        ),
+        (
+            NODES,
+            LINKS,
+            "\n",
+            Table::Movement,
+            1,
+            Code::E1,
+            Column::NodeId,
+        ),
+    ] {
+        let fault = TableFault {
+            table,
+            line,
+            code,
+            column,
+        };
+        let answer = network(rt.alloc(), node, link, movement);
+        assert!(rt;
+            answer.err() == Some(TableRefusal::Fault(fault)),
+            "{fault:?}"
+        );
     }
-    Ok(())
 }

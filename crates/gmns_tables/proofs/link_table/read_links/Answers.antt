@@ -1,19 +1,20 @@
-use Rattle.row_reader.proofs.AcceptedFacts.{bad-table}
-use Rattle.gmns_tables.specs.Links.{IsBetween, is_link_header, link_of}
-use Rattle.gmns_tables.specs.declared.link_table.TheConstants.{MOST_LINKS}
+use Rattle.desk_io.specs.declared.desk.Table.TheVariants as table
+use Rattle.row_reader.proofs.FirstFaultFacts.{opened-verdict, header-told}
+use Rattle.net_core.specs.Rows.{IsBetween}
+use Rattle.net_core.specs.declared.rows.TheConstants.{MOST_LINKS}
+use Rattle.gmns_tables.specs.Links.{link_of, link_places}
 use Rattle.gmns_tables.proofs.BetweenFacts.{link_of-between}
-use Rattle.gmns_tables.proofs.TableFacts.{table_of-opened, tells-all}
+use Rattle.gmns_tables.proofs.TableFacts.{tells-all}
 use Rattle.gmns_tables.proofs.link_table.read_links.Goals as goal
 
-pub returns-in-Ok : goal.returns-in-Ok
-returns-in-Ok c =
-    let columns = link_of c.args.nodes.now c.args.units.now in
-    let told = rw (← table_of-opened MOST_LINKS is_link_header columns _ c.in-Ok.rows c.in-Ok.ensures.opens) at c.accept_links.ensures in
-    record {
-      rows = told;
-      between = tells-all (IsBetween c.args.nodes.now) MOST_LINKS is_link_header columns (link_of-between c.args.nodes.now c.args.units.now) _ c.accept_links.result told;
-    }
+pub returns-in-Ok-clause-rows : goal.returns-in-Ok-clause-rows
+returns-in-Ok-clause-rows c =
+    rw (opened-verdict table.Link MOST_LINKS link_places (link_of c.args.nodes.now c.args.units.now) _ c.in-Ok.rows c.in-Ok.ensures.opens) c.accept_links.ensures.rows
 
-pub returns-in-Err-BadRecord-clause-rows : goal.returns-in-Err-BadRecord-clause-rows
-returns-in-Err-BadRecord-clause-rows c =
-    bad-table MOST_LINKS is_link_header (link_of c.args.nodes.now c.args.units.now) _ (c.in-Err-BadRecord.ensures.bad _ c.in-Err-BadRecord.field-0-is).1
+pub returns-in-Ok-clause-between : goal.returns-in-Ok-clause-between
+returns-in-Ok-clause-between c =
+    tells-all (IsBetween c.args.nodes.now) table.Link MOST_LINKS link_places (link_of c.args.nodes.now c.args.units.now)
+    (link_of-between c.args.nodes.now c.args.units.now) _ c.accept_links.result (returns-in-Ok-clause-rows c)
+
+pub returns-in-Err-clause-rows : goal.returns-in-Err-clause-rows
+returns-in-Err-clause-rows c = header-told table.Link MOST_LINKS link_places (link_of c.args.nodes.now c.args.units.now) _ c.in-Err.refusal c.in-Err.ensures.refused

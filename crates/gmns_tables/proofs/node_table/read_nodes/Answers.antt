@@ -1,15 +1,11 @@
-use Rattle.row_reader.proofs.AcceptedFacts.{bad-table}
-use Rattle.gmns_tables.specs.Nodes.{is_node_header, node_of}
-use Rattle.gmns_tables.specs.declared.node_table.TheConstants.{MOST_NODES}
-use Rattle.gmns_tables.proofs.TableFacts.{table_of-opened}
+use Rattle.desk_io.specs.declared.desk.Table.TheVariants as table
+use Rattle.row_reader.proofs.FirstFaultFacts.{opened-verdict, header-told}
+use Rattle.net_core.specs.declared.rows.TheConstants.{MOST_NODES}
+use Rattle.gmns_tables.specs.Nodes.{node_of, node_places}
 use Rattle.gmns_tables.proofs.node_table.read_nodes.Goals as goal
 
-pub returns-in-Ok : goal.returns-in-Ok
-returns-in-Ok c = record {
-  rows = rw (table_of-opened MOST_NODES is_node_header node_of _ c.in-Ok.rows c.in-Ok.ensures.opens) c.accept_nodes.ensures;
-}
+pub returns-in-Ok-clause-rows : goal.returns-in-Ok-clause-rows
+returns-in-Ok-clause-rows c = rw (opened-verdict table.Node MOST_NODES node_places node_of _ c.in-Ok.rows c.in-Ok.ensures.opens) c.accept_nodes.ensures.rows
 
-pub returns-in-Err-BadRecord : goal.returns-in-Err-BadRecord
-returns-in-Err-BadRecord c = record {
-  rows = bad-table MOST_NODES is_node_header node_of _ (c.in-Err-BadRecord.ensures.bad _ c.in-Err-BadRecord.field-0-is).1;
-}
+pub returns-in-Err-clause-rows : goal.returns-in-Err-clause-rows
+returns-in-Err-clause-rows c = header-told table.Node MOST_NODES node_places node_of _ c.in-Err.refusal c.in-Err.ensures.refused

@@ -1,6 +1,0 @@
-use Rattle.std.proofs.Common.{◌∙◌}
-use Rattle.gmns_tables.proofs.IdsFacts.{insert_key-new}
-use Rattle.gmns_tables.proofs.ids.Ids.add.Goals as goal
-
-pub returns-clause-ok : goal.returns-clause-ok
-returns-clause-ok c = rw (← c.self.view_is) (c.in_ok-insert.ensures.keys ∙ insert_key-new c.self.inside.set.keys c.args.id (rw c.self.view_is c.requires))

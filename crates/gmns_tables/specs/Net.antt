@@ -1,0 +1,46 @@
+-- The network of tables that were read in order.
+use Rattle.std.specs.Prelude.{◌≡◌, List, [], Option, None, Some, Result, Ok, Err, ⊤}
+use Rattle.row_reader.specs.Records.{Record}
+use Rattle.row_reader.specs.FirstFault.{then_with}
+use Rattle.row_reader.specs.declared.faults.TableFault.{TableFault}
+use Rattle.row_reader.specs.declared.faults.TableRefusal.{TableRefusal}
+use Rattle.row_reader.specs.declared.faults.TableRefusal.TheVariants as refusal
+use Rattle.net_core.specs.declared.rows.LinkRow.{LinkRow}
+use Rattle.net_core.specs.declared.rows.NetRows.{NetRows}
+use Rattle.net_core.specs.declared.rows.NodeRow.{NodeRow}
+use Rattle.net_core.specs.declared.rows.TurnRow.{TurnRow}
+use Rattle.gmns_tables.specs.Links.{link_verdict}
+use Rattle.gmns_tables.specs.Movements.{turn_verdict}
+use Rattle.gmns_tables.specs.Nodes.{node_verdict}
+use Rattle.gmns_tables.specs.declared.units.Units.{Units}
+
+-- the turns of a movement table that may be missing
+abbrev pub listed_turns : Option (List TurnRow) → List TurnRow
+listed_turns None = []
+listed_turns (Some turns) = turns
+
+-- the rows of a network, whose movement table may be missing
+abbrev pub net_of : List NodeRow → List LinkRow → Option (List TurnRow) → NetRows
+net_of nodes links turns = record { nodes = nodes; links = links; turns = listed_turns turns }
+
+-- the rows of a movement table that may be missing, or its first fault
+abbrev pub listed_verdict : List NodeRow → List LinkRow → Units → Option (List Record)
+    → Result (List TurnRow) TableFault
+listed_verdict nodes links units None = Ok []
+listed_verdict nodes links units (Some records) = turn_verdict nodes links units records
+
+-- a network's rows, or the first fault of its first table that has one: nodes, then links, then
+-- movements
+unfoldable pub net_verdict : Units → List Record → List Record → Option (List Record)
+    → Result NetRows TableFault
+net_verdict units node link movement =
+    then_with (node_verdict node) (λ nodes.
+    then_with (link_verdict nodes units link) (λ links.
+    then_with (listed_verdict nodes links units movement) (λ turns.
+    Ok (record { nodes = nodes; links = links; turns = turns }))))
+
+-- what the reader of a network answers: its rows, the first fault, or want of memory
+abbrev pub TellsNet : Result NetRows TableFault → Result NetRows TableRefusal → Type 0
+TellsNet told (Ok net) = told ≡ Ok net
+TellsNet told (Err (refusal.Fault fault)) = told ≡ Err fault
+TellsNet told (Err refusal.Memory) = ⊤

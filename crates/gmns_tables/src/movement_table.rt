@@ -1,0 +1,220 @@
+// Movement tables.
+ghost use Rattle.std.specs.Prelude.{◌≡◌, ◌≤◌, ◌<◌, All, length, option_map, None, IfOk, IfSome};
+ghost use Rattle.fixed_units.specs.Units.{turn_rate_of};
+ghost use Rattle.fixed_units.specs.declared.quantity.TheConstants.{MOST_THOUSANDTHS};
+ghost use Rattle.fixed_units.specs.declared.turn.TheConstants.{MOST_PENALTY};
+ghost use Rattle.desk_io.specs.declared.desk.Table.TheVariants as table;
+ghost use Rattle.row_reader.specs.FirstFault.{Tells, rows_of};
+ghost use Rattle.row_reader.specs.Records.{records};
+ghost use Rattle.net_core.specs.Ids.{place_of_pair};
+ghost use Rattle.net_core.specs.Rows.{AreTurns, IsTurnInRange, IsTurning, turn_pairs};
+ghost use Rattle.net_core.specs.declared.rows.TheConstants.{MOST_RATE, MOST_TURNS};
+ghost use Rattle.gmns_tables.specs.Movements.{begins_at as begins_at_of, ends_at as ends_at_of, penalty_of, turn_of, turn_places, turn_verdict};
+ghost use Rattle.gmns_tables.specs.Units.{IsUnits};
+
+use crate::links::LinkRows;
+use crate::names::{known_link, known_node};
+use crate::nodes::NodeRows;
+use crate::turns::TurnRows;
+use crate::units::Units;
+use desk_io::Table;
+use fixed_units::{MOST_PENALTY, penalty_steps, turn_rate};
+use net_core::{LinkNo, MOST_TURNS, NodeNo, TurnRow};
+use row_reader::{
+    Accepted, Code, Column, Complaint, Row, RowRefusal, Rows, TableRefusal, accept_all, complain,
+    header_refusal, identifier, open_table, optional_column, optional_quantity, quantity_or,
+    required_column, unless, within,
+};
+use std::alloc::Global;
+
+// The penalty of a turn whose field is empty, in thousandths of a second.
+const DEFAULT_PENALTY: u64 = 0;
+
+// Where the columns of a movement table are.
+#[derive(Clone, Copy)]
+struct TurnPlaces {
+    node: usize,
+    from: usize,
+    to: usize,
+    penalty: Option<usize>,
+    capacity: Option<usize>,
+}
+
+impl TurnPlaces {
+    #[tactic(auto, unfolding(crate::specs::Movements::turn_places))]
+    fn of(rows: &Rows<'_>) -> Result<Self, Complaint>
+        ensures { result ≡ turn_places rows.now.header }
+    {
+        let node = required_column(rows, Column::NodeId)?;
+        let from = required_column(rows, Column::IbLinkId)?;
+        let to = required_column(rows, Column::ObLinkId)?;
+        Ok(TurnPlaces {
+            node,
+            from,
+            to,
+            penalty: optional_column(rows, Column::Penalty),
+            capacity: optional_column(rows, Column::Capacity),
+        })
+    }
+}
+
+// A movement table that is being read.
+#[derive(Drop)]
+struct TurnTable<'a> {
+    nodes: &'a NodeRows,
+    links: &'a LinkRows,
+    units: Units,
+    places: TurnPlaces,
+    rows: TurnRows,
+    ghost sound: { IsUnits units },
+}
+
+impl TurnTable<'_> {
+    // The turn of a record, or the first check that fails.
+    #[tactic(auto, unfolding(crate::specs::Movements::turn_of))]
+    fn row(&self, row: &Row) -> Result<TurnRow, Complaint>
+        ensures row { result ≡ turn_of self.now.nodes.now self.now.links.now self.now.units
+            self.now.places self.now.rows row.now.fields }
+        ensures range { IfOk result IsTurnInRange }
+        ensures new { IfOk result (λ turn.
+            place_of_pair (turn_pairs self.now.rows) turn.a.0 turn.b.0 ≡ None) }
+    {
+        let places = &self.places;
+        let links = self.links;
+        let node = known_node(self.nodes, Column::NodeId, row.cell(Some(places.node)))?;
+        let a = known_link(links, Column::IbLinkId, row.cell(Some(places.from)))?;
+        unless(!ends_at(links, a, node), Code::E9, Column::IbLinkId)?;
+        let b = known_link(links, Column::ObLinkId, row.cell(Some(places.to)))?;
+        unless(!begins_at(links, b, node), Code::E9, Column::ObLinkId)?;
+        unless(self.rows.contains(a, b), Code::E6, Column::ObLinkId)?;
+        let penalty = penalty(row.cell(places.penalty))?;
+        let capacity = optional_quantity(Column::Capacity, row.cell(places.capacity))?;
+        Ok(TurnRow {
+            a,
+            b,
+            penalty: penalty_steps(penalty, self.units.delta),
+            rate: rate(capacity),
+        })
+    }
+}
+
+impl Accepted for TurnTable<'_> {
+    type Item = TurnRow;
+
+    ghost limit = { MOST_TURNS };
+
+    ghost rows = { λ t. t.rows };
+
+    ghost judge = { λ t. turn_of t.nodes.now t.links.now t.units t.places };
+
+    fn is_full(&self) -> bool {
+        self.rows.as_slice().len() >= MOST_TURNS
+    }
+
+    fn accept(&mut self, row: &Row) -> Result<(), RowRefusal> {
+        match self.row(row) {
+            Ok(turn) => match self.rows.push(turn) {
+                Ok(()) => Ok(()),
+                Err(_) => Err(RowRefusal::Memory),
+            },
+            Err(complaint) => Err(RowRefusal::Complaint(complaint)),
+        }
+    }
+}
+
+/// Reads a movement table of GMNS over its nodes and links: the columns `node_id`, `ib_link_id` and
+/// `ob_link_id`, and the optional columns `penalty`, in seconds, and `capacity`, in vehicles per
+/// hour. Where a field is empty there is no penalty, and no limit. The refusal is the table's first
+/// fault, or want of memory. A text of zero bytes stands for no table, and isn't read.
+pub fn read_movements(
+    alloc: Global,
+    nodes: &NodeRows,
+    links: &LinkRows,
+    text: &[u8],
+    units: &Units,
+) -> Result<TurnRows, TableRefusal>
+    requires units { IsUnits units.now }
+    requires there { 1 ≤ length text.now }
+    ensures rows { Tells (turn_verdict nodes.now links.now units.now (records text.now)) result }
+    ensures sound { IfOk result AreTurns }
+    ensures turning { IfOk result (All (IsTurning links.now)) }
+{
+    match open_table(alloc, Table::Movement, text) {
+        Ok(mut rows) => accept_movements(alloc, nodes, links, *units, &mut rows),
+        Err(refusal) => Err(refusal),
+    }
+}
+
+// The turns of the records below a header.
+fn accept_movements(
+    alloc: Global,
+    nodes: &NodeRows,
+    links: &LinkRows,
+    units: Units,
+    rows: &mut Rows<'_>,
+) -> Result<TurnRows, TableRefusal>
+    requires sound { IsUnits units }
+    requires running { rows.old.fault ≡ None }
+    requires line { rows.old.line ≡ 1 }
+    ensures rows { Tells (rows_of table.Movement MOST_TURNS turn_places
+        (turn_of nodes.now links.now units) rows.old.header rows.old.rest) result }
+    ensures sound { IfOk result AreTurns }
+{
+    let places = match TurnPlaces::of(rows) {
+        Ok(places) => places,
+        Err(complaint) => return Err(header_refusal(Table::Movement, complaint)),
+    };
+    let mut table = TurnTable {
+        nodes,
+        links,
+        units,
+        places,
+        rows: TurnRows::new(alloc),
+    };
+    match accept_all(Table::Movement, rows, &mut table) {
+        Ok(()) => {
+            let _sound = table.rows.as_slice();
+            Ok(table.rows)
+        }
+        Err(refusal) => Err(refusal),
+    }
+}
+
+// Whether a link ends at a node.
+#[tactic(auto, unfolding(net_core::specs::Rows::link_in))]
+fn ends_at(links: &LinkRows, link: LinkNo, node: NodeNo) -> bool
+    requires { link.0 < length links.now }
+    ensures { result ≡ ends_at_of links.now link node }
+{
+    links.as_slice()[link.0 as usize].to.0 == node.0
+}
+
+// Whether a link begins at a node.
+#[tactic(auto, unfolding(net_core::specs::Rows::link_in))]
+fn begins_at(links: &LinkRows, link: LinkNo, node: NodeNo) -> bool
+    requires { link.0 < length links.now }
+    ensures { result ≡ begins_at_of links.now link node }
+{
+    links.as_slice()[link.0 as usize].from.0 == node.0
+}
+
+// The penalty of a field, in thousandths of a second.
+fn penalty(text: &[u8]) -> Result<u64, Complaint>
+    ensures value { result ≡ penalty_of text.now }
+    ensures most { IfOk result (λ n. n ≤ MOST_PENALTY) }
+{
+    let penalty = quantity_or(DEFAULT_PENALTY, Column::Penalty, text)?;
+    within(Column::Penalty, 0, MOST_PENALTY, penalty)
+}
+
+// The rate of a turn whose capacity may be without limit.
+fn rate(capacity: Option<u64>) -> Option<u64>
+    requires { IfSome capacity (λ n. n ≤ MOST_THOUSANDTHS) }
+    ensures value { result ≡ option_map turn_rate_of capacity }
+    ensures most { IfSome result (λ n. n ≤ MOST_RATE) }
+{
+    match capacity {
+        Some(capacity) => Some(turn_rate(capacity)),
+        None => None,
+    }
+}

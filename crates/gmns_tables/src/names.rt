@@ -1,0 +1,34 @@
+// Fields that name a node or a link.
+ghost use Rattle.std.specs.Prelude.{◌≡◌, ◌<◌, length, IfOk};
+ghost use Rattle.gmns_tables.specs.Names.{known_link as known_link_of, known_node as known_node_of};
+
+use crate::links::LinkRows;
+use crate::nodes::NodeRows;
+use net_core::{LinkNo, NodeNo};
+use row_reader::{Code, Column, Complaint, complain, identifier};
+
+// The node that a required field names.
+#[tactic(auto, unfolding(crate::specs::Names::known_node))]
+pub(crate) fn known_node(nodes: &NodeRows, column: Column, text: &[u8]) -> Result<NodeNo, Complaint>
+    ensures node { result ≡ known_node_of nodes.now column text.now }
+    ensures within { IfOk result (λ node. node.0 < length nodes.now) }
+{
+    let id = identifier(column, text)?;
+    match nodes.place(id) {
+        Some(node) => Ok(node),
+        None => Err(complain(Code::E7, column)),
+    }
+}
+
+// The link that a required field names.
+#[tactic(auto, unfolding(crate::specs::Names::known_link))]
+pub(crate) fn known_link(links: &LinkRows, column: Column, text: &[u8]) -> Result<LinkNo, Complaint>
+    ensures link { result ≡ known_link_of links.now column text.now }
+    ensures within { IfOk result (λ link. link.0 < length links.now) }
+{
+    let id = identifier(column, text)?;
+    match links.place(id) {
+        Some(link) => Ok(link),
+        None => Err(complain(Code::E8, column)),
+    }
+}
