@@ -1,3 +1,4 @@
 pub mod SendingFacts
 pub mod TextsFacts
+pub mod TurnFacts
 pub mod VerdictFacts

@@ -3,7 +3,7 @@ use Rattle.std.proofs.Common.{◌≡◌, ℕ, ◌+◌, ◌<◌, List, [], ◌∷
 use Rattle.std.specs.List.{flat_map}
 use Rattle.std.proofs.lemmas.List.{take_more, append-nil, take-append-drop}
 use Rattle.std.proofs.lemmas.Grind.{flat_map-append}
-use Rattle.gmns_tables.specs.declared.rows.LinkRow.{LinkRow}
+use Rattle.net_core.specs.declared.rows.LinkRow.{LinkRow}
 use Rattle.desk_io.specs.declared.desk.Output.TheVariants.{LinkTime}
 use Rattle.desk_io.specs.Desk.{Taken}
 use Rattle.desk_io.specs.Transfers.{IsPartOut}

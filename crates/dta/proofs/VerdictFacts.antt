@@ -1,20 +1,24 @@
 -- Where the bytes of both tables are told, what was read is what is told, and so the answer is that of the verdict.
 use Rattle.std.proofs.Common.{◌≡◌, ◌≢◌, ℕ, ◌<◌, ◌≤◌, List, ◌++◌, length, refl, sym, ap, ◌∙◌, arith, rules, inl, inr, length-append, subst, Bool, true, false}
-use Rattle.std.specs.Prelude.{Option, None, Some, is_some, nat_le, ◌↔◌, if◌then◌else◌}
+use Rattle.std.specs.Prelude.{Option, None, Some, Result, Ok, Err, nat_le, ◌↔◌, if◌then◌else◌}
 use Rattle.std.proofs.lemmas.List.{append-nil}
 use Rattle.std.specs.Io.KnownBytes.{prepend_known, IsAtEnd}
 use Rattle.desk_io.specs.declared.desk.Table.{Table}
 use Rattle.desk_io.specs.declared.desk.Table.TheVariants.{Node, Link, Movement, Demand}
 use Rattle.desk_io.specs.Desk.{Left}
 use Rattle.desk_io.specs.Transfers.{IsRead, IsLong}
-use Rattle.gmns_tables.specs.declared.rows.NodeRow.{NodeRow}
-use Rattle.gmns_tables.specs.declared.rows.LinkRow.{LinkRow}
+use Rattle.row_reader.specs.declared.faults.TableFault.{TableFault}
+use Rattle.net_core.specs.declared.rows.LinkRow.{LinkRow}
+use Rattle.net_core.specs.declared.rows.NetRows.{NetRows}
+use Rattle.net_core.specs.declared.rows.NodeRow.{NodeRow}
+use Rattle.net_core.specs.declared.rows.TurnRow.{TurnRow}
 use Rattle.dta.specs.declared.refusal.Refusal.TheVariants as refusal
 use Rattle.dta.specs.declared.status.Status.{Status}
 use Rattle.dta.specs.declared.status.Status.TheVariants as status
 use Rattle.dta.specs.Words.{is_freeflow}
-use Rattle.dta.specs.Limits.{table_limit}
-use Rattle.dta.specs.Tables.{nodes_of, links_of, HasNodes, HasLinks, HasNet}
+use Rattle.dta.specs.declared.tables.TheConstants.{TABLE_LIMIT}
+use Rattle.gmns_tables.specs.Net.{net_of}
+use Rattle.dta.specs.Tables.{nodes_of, links_of, HasNodes, HasLinks, HasNet, IsFaulty, InTurn}
 use Rattle.dta.specs.Verdict.{Verdict, Refused, Accepted, verdict, verdict_on_nodes, verdict_on_links}
 use Rattle.dta.specs.Outcome.{DeskState, IsCause, Means, Answers, IsHindered}
 
@@ -43,10 +47,6 @@ node-long limit xs before after r e = let m = r.more in let n = known-longer aft
 link-long : (limit : ℕ) (xs : List ℕ) (before after : Left) → IsLong Link limit before after → before.link ≡ Some xs → limit < length xs
 link-long limit xs before after r e = let m = r.more in let n = known-longer after.link r.bytes xs (sym (ap (λ (l : Left). l.link) r.read) ∙ e) in omega arith
 
-not-some : {A : Type 0} (o : Option A) → is_some o ≡ false → o ≡ None
-not-some None e = refl
-not-some (Some x) e = absurd cc
-
 short-is : (n limit : ℕ) → n ≤ limit → nat_le n limit ≡ true
 short-is n limit h = search rules
 
@@ -59,51 +59,53 @@ verdict-usage : (words : List (List ℕ)) (node link : List ℕ) → is_freeflow
 verdict-usage words node link f = rw f refl
 
 verdict-nodes : (words : List (List ℕ)) (node link : List ℕ) (nodes : List NodeRow) (before after : Left) → is_freeflow words ≡ true
-    → HasNodes nodes before after → before.node ≡ Some node → verdict words node link ≡ verdict_on_nodes (Some nodes) link
+    → HasNodes nodes before after → before.node ≡ Some node → verdict words node link ≡ verdict_on_nodes (Ok nodes) link
 verdict-nodes words node link nodes before after f h e =
     let same : h.bytes ≡ node = node-told h.bytes node before after h.read e in
-    let s : nat_le (length node) table_limit ≡ true = short-is (length node) table_limit (rw same at h.short) in
-    let p : nodes_of node ≡ Some nodes = rw same at h.plain in
+    let s : nat_le (length node) TABLE_LIMIT ≡ true = short-is (length node) TABLE_LIMIT (rw same at h.short) in
+    let p : nodes_of node ≡ Ok nodes = rw same at h.accepted in
     rw (f, s, p) refl
 
 verdict-links : (link : List ℕ) (nodes : List NodeRow) (links : List LinkRow) (before after : Left)
-    → HasLinks nodes links before after → before.link ≡ Some link → verdict_on_nodes (Some nodes) link ≡ Accepted nodes links
+    → HasLinks nodes links before after → before.link ≡ Some link → verdict_on_nodes (Ok nodes) link ≡ Accepted (net_of nodes links None)
 verdict-links link nodes links before after h e =
     let same : h.bytes ≡ link = link-told h.bytes link before after h.read e in
-    let s : nat_le (length link) table_limit ≡ true = short-is (length link) table_limit (rw same at h.short) in
-    let p : links_of nodes link ≡ Some links = rw same at h.plain in
+    let s : nat_le (length link) TABLE_LIMIT ≡ true = short-is (length link) TABLE_LIMIT (rw same at h.short) in
+    let p : links_of nodes link ≡ Ok links = rw same at h.accepted in
     rw (s, p) refl
 
-verdict-net : (words : List (List ℕ)) (node link : List ℕ) (nodes : List NodeRow) (links : List LinkRow) (before after : Left) → is_freeflow words ≡ true
-    → HasNet nodes links before after → before.node ≡ Some node → before.link ≡ Some link → verdict words node link ≡ Accepted nodes links
-verdict-net words node link nodes links before after f h n l =
-    verdict-nodes words node link nodes before h.between f h.node n
-    ∙ verdict-links link nodes links h.between after h.link (link-still h.node.bytes link before h.between h.node.read l)
+verdict-net : (words : List (List ℕ)) (node link : List ℕ) (net : NetRows) (before after : Left) → is_freeflow words ≡ true
+    → HasNet net before after → before.node ≡ Some node → before.link ≡ Some link → verdict words node link ≡ Accepted net
+verdict-net words node link net before after f h n l =
+    verdict-nodes words node link net.nodes before h.between f h.node n
+    ∙ verdict-links link net.nodes net.links h.between after h.link (link-still h.node.bytes link before h.between h.node.read l)
+    ∙ ap (λ (turns : List TurnRow). Accepted (record { nodes = net.nodes; links = net.links; turns = turns })) (sym h.turns)
 
-verdict-table : (words : List (List ℕ)) (node link : List ℕ) (t : Table) (before after : Left) → is_freeflow words ≡ true
-    → IsCause (refusal.Table t) words before after → before.node ≡ Some node → before.link ≡ Some link → verdict words node link ≡ Refused (refusal.Table t)
-verdict-table words node link Node before after f h n l =
+-- the turn of table t ended in its first fault
+verdict-table : (words : List (List ℕ)) (node link : List ℕ) (fault : TableFault) (t : Table) (before after : Left) → is_freeflow words ≡ true
+    → InTurn t (IsFaulty fault t) before after → before.node ≡ Some node → before.link ≡ Some link → verdict words node link ≡ Refused (refusal.Table fault)
+verdict-table words node link fault Node before after f h n l =
     let same : h.bytes ≡ node = node-told h.bytes node before after h.read n in
-    let s : nat_le (length node) table_limit ≡ true = short-is (length node) table_limit (rw same at h.short) in
-    let p : nodes_of node ≡ None = not-some (nodes_of node) (rw same at h.refused) in
+    let s : nat_le (length node) TABLE_LIMIT ≡ true = short-is (length node) TABLE_LIMIT (rw same at h.short) in
+    let p : nodes_of node ≡ Err fault = rw same at h.first in
     rw (f, s, p) refl
-verdict-table words node link Link before after f h n l =
+verdict-table words node link fault Link before after f h n l =
     let still : h.1.link ≡ Some link = link-still h.2.bytes link before h.1 h.2.read l in
     let same : h.3.bytes ≡ link = link-told h.3.bytes link h.1 after h.3.read still in
-    let s : nat_le (length link) table_limit ≡ true = short-is (length link) table_limit (rw same at h.3.short) in
-    let p : links_of h.0 link ≡ None = not-some (links_of h.0 link) (rw same at h.3.refused) in
+    let s : nat_le (length link) TABLE_LIMIT ≡ true = short-is (length link) TABLE_LIMIT (rw same at h.3.short) in
+    let p : links_of h.0 link ≡ Err fault = rw same at h.3.first in
     verdict-nodes words node link h.0 before h.1 f h.2 n ∙ rw (s, p) refl
-verdict-table words node link Movement before after f h n l = absurd h
-verdict-table words node link Demand before after f h n l = absurd h
+verdict-table words node link fault Movement before after f h n l = absurd h
+verdict-table words node link fault Demand before after f h n l = absurd h
 
 verdict-long : (words : List (List ℕ)) (node link : List ℕ) (t : Table) (before after : Left) → is_freeflow words ≡ true
     → IsCause (refusal.LongTable t) words before after → before.node ≡ Some node → before.link ≡ Some link → verdict words node link ≡ Refused (refusal.LongTable t)
 verdict-long words node link Node before after f h n l =
-    let s : nat_le (length node) table_limit ≡ false = long-is (length node) table_limit (node-long table_limit node before after h n) in
+    let s : nat_le (length node) TABLE_LIMIT ≡ false = long-is (length node) TABLE_LIMIT (node-long TABLE_LIMIT node before after h n) in
     rw (f, s) refl
 verdict-long words node link Link before after f h n l =
     let still : h.1.link ≡ Some link = link-still h.2.bytes link before h.1 h.2.read l in
-    let s : nat_le (length link) table_limit ≡ false = long-is (length link) table_limit (link-long table_limit link h.1 after h.3 still) in
+    let s : nat_le (length link) TABLE_LIMIT ≡ false = long-is (length link) TABLE_LIMIT (link-long TABLE_LIMIT link h.1 after h.3 still) in
     verdict-nodes words node link h.0 before h.1 f h.2 n ∙ rw s refl
 verdict-long words node link Movement before after f h n l = absurd h
 verdict-long words node link Demand before after f h n l = absurd h
@@ -115,29 +117,29 @@ IsOnTables (Refused refusal.Usage) = ⊥
 IsOnTables (Refused (refusal.Table t)) = Unit {0}
 IsOnTables (Refused (refusal.Read t)) = Unit {0}
 IsOnTables (Refused (refusal.LongTable t)) = Unit {0}
-IsOnTables (Accepted nodes links) = Unit {0}
+IsOnTables (Accepted net) = Unit {0}
 
 either : (b : Bool) (x y : Verdict) → IsOnTables x → IsOnTables y → IsOnTables (if b then x else y)
 either true x y p q = p
 either false x y p q = q
 
-on-links : (nodes : List NodeRow) (o : Option (List LinkRow)) → IsOnTables (verdict_on_links nodes o)
-on-links nodes None = tt
-on-links nodes (Some links) = tt
+on-links : (nodes : List NodeRow) (o : Result (List LinkRow) TableFault) → IsOnTables (verdict_on_links nodes o)
+on-links nodes (Err fault) = tt
+on-links nodes (Ok links) = tt
 
-on-nodes : (o : Option (List NodeRow)) (link : List ℕ) → IsOnTables (verdict_on_nodes o link)
-on-nodes None link = tt
-on-nodes (Some nodes) link = either (nat_le (length link) table_limit) _ _ (on-links nodes (links_of nodes link)) tt
+on-nodes : (o : Result (List NodeRow) TableFault) (link : List ℕ) → IsOnTables (verdict_on_nodes o link)
+on-nodes (Err fault) link = tt
+on-nodes (Ok nodes) link = either (nat_le (length link) TABLE_LIMIT) _ _ (on-links nodes (links_of nodes link)) tt
 
 on-tables : (words : List (List ℕ)) (node link : List ℕ) → is_freeflow words ≡ true → IsOnTables (verdict words node link)
-on-tables words node link f = rw f (either (nat_le (length node) table_limit) _ _ (on-nodes (nodes_of node) link) tt)
+on-tables words node link f = rw f (either (nat_le (length node) TABLE_LIMIT) _ _ (on-nodes (nodes_of node) link) tt)
 
 hindered : (v : Verdict) (answer : Status) (before after : DeskState) → IsOnTables v → IsHindered answer before after → Answers v answer before after
 hindered (Refused refusal.Usage) answer before after p h = absurd p
 hindered (Refused (refusal.Table t)) answer before after p h = inr h
 hindered (Refused (refusal.Read t)) answer before after p h = inr h
 hindered (Refused (refusal.LongTable t)) answer before after p h = inr h
-hindered (Accepted nodes links) answer before after p h = inr (inr h)
+hindered (Accepted net) answer before after p h = inr (inr h)
 
 -- ---- the answer
 
@@ -152,14 +154,14 @@ pub told : (words : List (List ℕ)) (answer : Status) (node link : List ℕ) (b
 told words status.Usage node link before after m u n l = subst (λ v. Answers v status.Usage before after) (sym (verdict-usage words node link m.cause.0)) refl
 told words status.Done node link before after m u n l =
     let f = freeflow words status.Done u (λ e. absurd cc) in
-    subst (λ v. Answers v status.Done before after) (sym (verdict-net words node link m.nodes m.links before.left after.left f m.net n l)) (inl (refl, m.out))
+    subst (λ v. Answers v status.Done before after) (sym (verdict-net words node link m.net before.left after.left f m.tables n l)) (inl (refl, m.out))
 told words status.WriteFault node link before after m u n l =
     let f = freeflow words status.WriteFault u (λ e. absurd cc) in
-    subst (λ v. Answers v status.WriteFault before after) (sym (verdict-net words node link m.nodes m.links before.left after.left f m.net n l))
+    subst (λ v. Answers v status.WriteFault before after) (sym (verdict-net words node link m.net before.left after.left f m.tables n l))
     (inr (inl (refl, m.out, m.failed)))
 told words status.Table node link before after m u n l =
     let f = freeflow words status.Table u (λ e. absurd cc) in
-    subst (λ v. Answers v status.Table before after) (sym (verdict-table words node link m.0 before.left after.left f m.1.cause n l)) (inl (refl, m.1.report))
+    subst (λ v. Answers v status.Table before after) (sym (verdict-table words node link m.0 m.0.table before.left after.left f m.1.cause n l)) (inl (refl, m.1.report))
 told words status.Size node link before after m u n l =
     let f = freeflow words status.Size u (λ e. absurd cc) in
     subst (λ v. Answers v status.Size before after) (sym (verdict-long words node link m.0 before.left after.left f m.1.cause n l)) (inl (refl, m.1.report))

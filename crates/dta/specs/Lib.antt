@@ -1,7 +1,6 @@
 pub mod Words
 pub mod WordsInside
 pub mod Status
-pub mod Limits
 pub mod Refusal
 pub mod Sending
 pub mod Texts

@@ -1,6 +1,8 @@
-// What workers pass before each unit of their work. No worker loads yet, so nothing calls it so far.
+// What workers pass before each unit of their work. No worker loads yet, so nothing calls it so
+// far.
 
-/// A gate that a caller holds in the way of workers: a test can hold them there. It promises nothing and changes nothing.
+/// A gate that a caller holds in the way of workers: a test can hold them there. It promises
+/// nothing and changes nothing.
 pub trait Gate {
     /// Called by a worker before the work of a unit.
     fn at(&self, worker: u32, unit: u64);

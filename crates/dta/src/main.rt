@@ -1,11 +1,14 @@
 //! The program `dta`, and the public call `run` that is its whole work.
 //!
-//! `run` carries the promise of the repository: over any desk, with the word `freeflow`, it answers Done only where both tables
-//! are plain and LinkTime and Report grew by exactly their texts, and every other answer has its cause in its contract. `main`
-//! hands it the words of the command line and the files of the current folder.
+//! `run` carries the promise of the repository: over any desk, with the word `freeflow`, it answers
+//! Done only where both tables are accepted and LinkTime and Report grew by exactly their texts, and
+//! every other answer has its cause in its contract. `main` hands it the words of the command line
+//! and the files of the current folder.
 #![tactic(auto)]
 
 mod gate;
+#[cfg(test)]
+mod link_time_cases;
 mod pending;
 mod refusal;
 mod run;

@@ -1,3 +1,4 @@
+// Text on its way out.
 ghost use Rattle.std.specs.Prelude.{◌≡◌, ◌≤◌, ◌+◌, ◌++◌, [], length, decimal, OnOk, OnErr};
 ghost use Rattle.desk_io.specs.Desk.{grown};
 ghost use Rattle.desk_io.specs.Faults.{HasCause};

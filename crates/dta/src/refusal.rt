@@ -1,20 +1,22 @@
+// Refusals: their lines and their statuses.
 ghost use Rattle.std.specs.Prelude.{◌≡◌, ◌≤◌};
 ghost use Rattle.desk_io.specs.declared.desk.Output.TheVariants as output;
 ghost use Rattle.desk_io.specs.Transfers.{IsOut};
-ghost use Rattle.dta.specs.Refusal.{table_name as table_name_of, refusal_line, refusal_status};
+ghost use Rattle.dta.specs.Refusal.{refusal_line, refusal_status};
 
 use crate::pending::Pending;
 use crate::status::Status;
 use crate::tables::TABLE_LIMIT;
 use desk_io::{Desk, Output, Table};
+use row_reader::{TableFault, code_name, column_name, table_name};
 
 /// Why a run does none of its work.
 #[derive(Clone, Copy, Debug, PartialEq, Eq)]
 pub enum Refusal {
     /// The words aren't in the grammar.
     Usage,
-    /// This table was read whole and isn't plain.
-    Table(Table),
+    /// A table was read whole and has this first fault.
+    Table(TableFault),
     /// This table couldn't be read.
     Read(Table),
     /// This table has more bytes than the limit.
@@ -35,17 +37,6 @@ impl Refusal {
     }
 }
 
-fn table_name(table: Table) -> &'static str
-    ensures { result.now ≡ table_name_of table }
-{
-    match table {
-        Table::Node => "node",
-        Table::Link => "link",
-        Table::Movement => "movement",
-        Table::Demand => "demand",
-    }
-}
-
 // The line of a refusal.
 #[tactic(auto, unfolding(crate::specs::Refusal::refusal_line))]
 fn line(refusal: Refusal) -> Pending
@@ -54,9 +45,15 @@ fn line(refusal: Refusal) -> Pending
     let mut line = Pending::new();
     match refusal {
         Refusal::Usage => line.push("usage: dta freeflow|assign|demo N [options]\n"),
-        Refusal::Table(table) => {
-            line.push(table_name(table));
-            line.push(" refused\n");
+        Refusal::Table(fault) => {
+            line.push(table_name(fault.table));
+            line.push(" line ");
+            line.push_number(fault.line);
+            line.push(": ");
+            line.push(code_name(fault.code));
+            line.push(" ");
+            line.push(column_name(fault.column));
+            line.push("\n");
         }
         Refusal::Read(table) => {
             line.push("read fault in ");
@@ -74,7 +71,8 @@ fn line(refusal: Refusal) -> Pending
     line
 }
 
-/// Puts the line of a refusal to Report, and answers the refusal's status, also where the put fails. It takes no memory.
+/// Puts the line of a refusal to Report, and answers the refusal's status, also where the put
+/// fails. It takes no memory.
 pub(crate) fn refuse<D: Desk>(desk: &mut D, refusal: Refusal) -> Status
     ensures status { result ≡ refusal_status refusal }
     ensures report { IsOut output.Report (refusal_line refusal)

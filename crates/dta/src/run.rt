@@ -1,3 +1,4 @@
+// The public call.
 ghost use Rattle.std.specs.Prelude.{◌≡◌, ◌≤◌, ◌↔◌, ℕ, List, Some, false};
 ghost use Rattle.dta.specs.declared.status.Status.TheVariants as status;
 ghost use Rattle.dta.specs.Outcome.{state_of, Means, Answers};
@@ -24,7 +25,7 @@ fn answer<D: Desk>(alloc: Global, words: &Words, desk: &mut D) -> Status
     ensures puts { D.put_faults desk.old ≤ D.put_faults desk.new }
 {
     match accept(alloc, words, desk) {
-        Ok(tables) => match put_free(desk, tables.nodes.as_slice(), tables.links.as_slice()) {
+        Ok(net) => match put_free(desk, &net) {
             Ok(()) => Status::Done,
             Err(Failed) => Status::WriteFault,
         },
@@ -33,10 +34,12 @@ fn answer<D: Desk>(alloc: Global, words: &Words, desk: &mut D) -> Status
     }
 }
 
-/// Does what the words ask for: `freeflow` reads the node and the link table of the desk, and puts each link's free-flow steps
-/// and storage to LinkTime and the numbers of nodes and links to Report. `words` are those after the program's name.
+/// Does what the words ask for: `freeflow` reads the node and the link table of the desk, and puts
+/// each link's free-flow steps and storage to LinkTime and the numbers of nodes and links to
+/// Report. `words` are those after the program's name.
 ///
-/// The node table is read and checked before the link table is read. No memory is taken after the first byte of LinkTime.
+/// The node table is read and checked before the link table is read. No memory is taken after the
+/// first byte of LinkTime.
 #[tactic(auto, using(crate::proofs::VerdictFacts::told))]
 pub fn run<R: AllocGlobal + Threads + Wait, D: Desk + Send, G: Gate + Sync>(
     rt: &R,
@@ -48,7 +51,8 @@ pub fn run<R: AllocGlobal + Threads + Wait, D: Desk + Send, G: Gate + Sync>(
     ensures means { let state = state_of D.left D.taken D.read_faults D.put_faults in
         Means words.now result (state desk.old) (state desk.new) }
 
-    // Where the bytes of both tables are told, the answer is that of the verdict over words and bytes.
+    // Where the bytes of both tables are told, the answer is that of the verdict over words and
+    // bytes.
     ensures told { let state = state_of D.left D.taken D.read_faults D.put_faults in
         (node link : List ℕ) → (D.left desk.old).node ≡ Some node
         → (D.left desk.old).link ≡ Some link

@@ -1,3 +1,4 @@
+// The statuses with which a run ends.
 ghost use Rattle.std.specs.Prelude.{◌≡◌};
 ghost use Rattle.dta.specs.Status.{number_of};
 

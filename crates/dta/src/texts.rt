@@ -9,7 +9,7 @@ ghost use Rattle.dta.specs.Texts.{link_line, link_time_header, link_time_text, r
 
 use crate::pending::Pending;
 use desk_io::{Desk, Failed, Output};
-use gmns_tables::{LinkRow, NodeRow};
+use net_core::{LinkRow, Net};
 
 /// No line of a link is longer: three numbers of at most 20 digits, two commas and a line feed.
 const LINE: usize = 64;
@@ -59,32 +59,28 @@ fn put_link_times<D: Desk>(desk: &mut D, links: &[LinkRow]) -> Result<(), Failed
 
 // The report's two lines.
 #[tactic(auto, using(crate::proofs::TextsFacts::pieces), unfolding(crate::specs::Texts::report_text))]
-fn report(nodes: usize, links: usize) -> Pending
+fn report(nodes: u32, links: u32) -> Pending
     ensures { result ≡ report_text nodes links }
 {
     let mut text = Pending::new();
     text.push("nodes ");
-    text.push_number(nodes as u64);
+    text.push_number(u64::from(nodes));
     text.push("\nlinks ");
-    text.push_number(links as u64);
+    text.push_number(u64::from(links));
     text.push("\n");
     text
 }
 
-/// Puts LinkTime, and then Report. On Failed a first part of one of them went out, of Report only where LinkTime is whole. It
-/// takes no memory.
-pub(crate) fn put_free<D: Desk>(
-    desk: &mut D,
-    nodes: &[NodeRow],
-    links: &[LinkRow],
-) -> Result<(), Failed>
-    ensures whole { OnOk result (IsFreeOut nodes.now links.now (D.taken desk.old) (D.taken desk.new)) }
+/// Puts LinkTime, and then Report. On Failed a first part of one of them went out, of Report only
+/// where LinkTime is whole. It takes no memory.
+pub(crate) fn put_free<D: Desk>(desk: &mut D, net: &Net) -> Result<(), Failed>
+    ensures whole { OnOk result (IsFreeOut net.now (D.taken desk.old) (D.taken desk.new)) }
     ensures refused { OnErr result (
-        IsCutShort nodes.now links.now (D.taken desk.old) (D.taken desk.new)) }
+        IsCutShort net.now (D.taken desk.old) (D.taken desk.new)) }
     ensures left { D.left desk.new ≡ D.left desk.old }
     ensures cause { HasCause (D.put_faults desk.old) (D.put_faults desk.new) result }
     ensures reads { D.read_faults desk.new ≡ D.read_faults desk.old }
 {
-    put_link_times(desk, links)?;
-    report(nodes.len(), links.len()).put_out(desk, Output::Report)
+    put_link_times(desk, net.links())?;
+    report(net.node_count(), net.link_count()).put_out(desk, Output::Report)
 }

@@ -1,3 +1,4 @@
+// The words of a command line.
 ghost use Rattle.std.specs.Prelude.{◌≡◌, ◌<◌, ◌++◌, ◌∷◌, [], length, OnOk, OnErr, slice_get, Some};
 ghost use Rattle.dta.specs.Words.{is_freeflow as is_freeflow_of};
 
