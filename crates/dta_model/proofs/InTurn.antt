@@ -1,0 +1,235 @@
+-- Links are left in the order of entry.
+use Rattle.std.specs.List.{range_with_len}
+use Rattle.std.specs.List.{list_any, flat_map}
+use Rattle.std.specs.Prelude.{slice_get, All, ◌≢◌, ⊤}
+use Rattle.std.proofs.Common.{◌≡◌, ℕ, zero, suc, ◌+◌, ◌<◌, Bool, true, false, cond, ◌||◌, not, List, [], ◌∷◌, ◌++◌, length, refl, ap, sym, ◌∙◌, subst, arith, Some, ◌⊎◌, inl, inr, append_assoc, append-nil, Option, None}
+use Rattle.std.proofs.lemmas.Bool.{eqb-false, eq-eqb, ne_eqb, eqb-true, and_parts, cases_Bool, not-true}
+use Rattle.std.proofs.lemmas.List.Elements.{All-head, All-tail, All-push, All-nil, All-append, All-weaker, filter-append}
+use Rattle.std.proofs.Math.Dec.{eqb}
+use Rattle.dta_model.proofs.Blocked.{next_target-other}
+use Rattle.dta_model.proofs.Gathering.{no-moves}
+use Rattle.dta_model.specs.declared.plan.Plan.{Plan}
+use Rattle.dta_model.specs.Laws.{HeadsMove, LeftInOrder, MovesInTurn}
+use Rattle.dta_model.specs.Loading.{after_step, step_moves, trace_after}
+use Rattle.dta_model.specs.NodeMoves.{is_first, next_move, node_moves, waits_for}
+use Rattle.dta_model.specs.Plans.{all_nodes, first_link, route_of}
+use Rattle.dta_model.specs.Trace.{Move, Onto, has_moved, is_of, last_move, leads_to, moves_made, next_target, queue_of, target_at}
+use Rattle.dta_model.proofs.Queues.{absent, without, queue-push}
+use Rattle.dta_model.proofs.Pushes.{last_move-still, last_move-own, has_moved-append, moves_made_is}
+use Rattle.dta_model.proofs.Standing.{in-queue}
+use Rattle.dta_model.proofs.NextMoves.{Kind, head, waiting, next_cases, moves-keep}
+use Rattle.dta_model.proofs.Same.{Same, Same-blocks, Apart}
+use Rattle.dta_model.proofs.Places.{AtNode, at-node, kind_at}
+use Rattle.dta_model.proofs.Congruence.{has_moved-same, next_target-same}
+use Rattle.dta_model.proofs.AnyOrder.{apart_of}
+use Rattle.dta_model.proofs.Fuel.{has_moved-if, absent_without}
+use Rattle.dta_model.proofs.Conserved.{one_link}
+use Rattle.std.proofs.lemmas.Option.{same_Some}
+
+-- each of these moves is as the relation says, after those before it
+abbrev pub Follows : (List Move → Move → Type 0) → List Move → List Move → Type 0
+Follows R U [] = ⊤
+Follows R U (m ∷ M) = R U m × Follows R (U ++ m ∷ []) M
+
+Follows-append : (R : List Move → Move → Type 0) (M N U : List Move) → Follows R U M → Follows R (U ++ M) N → Follows R U (M ++ N)
+Follows-append R [] N U f g = subst (λ L. Follows R L N) (append-nil U) g
+Follows-append R (m ∷ M) N U f g = (f.0, Follows-append R M N (U ++ m ∷ []) f.1 (subst (λ L. Follows R L N) (sym (append_assoc U (m ∷ []) M)) g))
+
+Follows-at : (R : List Move → Move → Type 0) (S X : List Move) (m : Move) (U : List Move) → Follows R U (S ++ m ∷ X) → R (U ++ S) m
+Follows-at R [] X m U f = subst (λ L. R L m) (sym (append-nil U)) f.0
+Follows-at R (x ∷ S) X m U f = subst (λ L. R L m) (append_assoc U (x ∷ []) S) (Follows-at R S X m (U ++ x ∷ []) f.1)
+
+-- a move in turn, to the next target
+abbrev pub Fits : Plan → List Move → Move → Type 0
+Fits p S m = MovesInTurn S m × (m.target ≡ next_target p S m.vehicle)
+
+head_stays : (Q X : List ℕ) (v w : ℕ) → w ≢ v → slice_get Q 0 ≡ Some v → slice_get (without w Q ++ X) 0 ≡ Some v
+head_stays [] X v w n h = cc
+head_stays (q ∷ Q) X v w n h = let same : q ≡ v = same_Some q v h in rw (ne_eqb q w (λ e. n (sym e ∙ same))) h
+
+none_more : (W : List Move) (d : Move) (v : ℕ) → d.vehicle ≢ v → has_moved v W ≡ false → has_moved v (W ++ d ∷ []) ≡ false
+unfolding has_moved
+none_more W d v n h = has_moved-append v W (d ∷ []) ∙ rw (h, ne_eqb d.vehicle v n) refl
+
+-- a move of another vehicle before it
+turn-other : (W : List Move) (d m : Move) → d.vehicle ≢ m.vehicle → MovesInTurn W m → MovesInTurn (W ++ d ∷ []) m
+turn-other W d m n (inl h) = inl (none_more W d m.vehicle n h)
+turn-other W d m n (inr (l, e)) = inr (l, ap (λ Q. slice_get Q 0) (queue-push l W d) ∙ head_stays (queue_of l W) (cond (leads_to l d) (d.vehicle ∷ []) []) m.vehicle d.vehicle n e)
+
+fits-others : (p : Plan) (D W : List Move) (m : Move) → All (λ d. d.vehicle ≢ m.vehicle) D → Fits p W m → Fits p (W ++ D) m
+fits-others p [] W m all h = subst (λ L. Fits p L m) (sym (append-nil W)) h
+fits-others p (d ∷ D) W m all h =
+    let other = All-head (λ x. x.vehicle ≢ m.vehicle) d D all in
+    subst (λ L. Fits p L m) (append_assoc W (d ∷ []) D) (fits-others p D (W ++ d ∷ []) m (All-tail (λ x. x.vehicle ≢ m.vehicle) d D all) (turn-other W d m other h.0, h.1 ∙ sym (next_target-other p W d m.vehicle other)))
+
+fits-same : (p : Plan) (T U : List Move) (m : Move) → Same T U → Fits p T m → Fits p U m
+fits-same p T U m s (inl h, e) = (inl (sym (has_moved-same T U s m.vehicle) ∙ h), e ∙ next_target-same p T U s m.vehicle)
+fits-same p T U m s (inr (l, h), e) = (inr (l, ap (λ Q. slice_get Q 0) (sym (s.queues l)) ∙ h), e ∙ next_target-same p T U s m.vehicle)
+
+module _ (p : Plan) (t : ℕ) (T : List Move) where
+  -- a move of a node before this one
+  Earlier : ℕ → Move → Type 0
+  Earlier n d = (a : ℕ) × (a < n) × AtNode p a t T d
+
+  starts : (M : List Move) (b : ℕ) (m : Move) → is_first b (first_link p m.vehicle) ≡ true → has_moved m.vehicle (T ++ M) ≡ false → Onto b ≡ next_target p (T ++ M) m.vehicle
+  unfolding next_target first_link
+  starts M b m f h =
+      let none : moves_made m.vehicle (T ++ M) ≡ 0 = moves_made_is m.vehicle (T ++ M) ∙ ap (λ L. length L) (no-moves m.vehicle (T ++ M) h) in
+      sym (ap (λ k. target_at (slice_get (route_of p m.vehicle) k)) none ∙ onto_first (slice_get (route_of p m.vehicle) 0) f)
+    where
+      onto_first : (o : Option ℕ) → is_first b o ≡ true → target_at o ≡ Onto b
+      onto_first None e = cc
+      onto_first (Some l) e = ap (λ k. Onto k) (eqb-true l b e)
+
+  kind_fits : (n : ℕ) (M : List Move) (m : Move) → Kind p n t T M m → Fits p (T ++ M) m
+  unfolding waits_for
+  kind_fits n M m (head l into h) = (inr (l, h.first), h.goes)
+  kind_fits n M m (waiting b out h) =
+      let parts = and_parts _ _ h.waits in
+      let more = and_parts _ _ parts.0 in
+      let still = not-true _ parts.1 in
+      (inl still, h.goes ∙ starts M b m more.0 still)
+
+  less_apart : (a n : ℕ) → a < n → a ≢ n
+  less_apart a n l e = absurd (omega (arith, l, e))
+
+  node-follows : (n : ℕ) (D : List Move) → All (Earlier n) D → Follows (Fits p) (T ++ D) (node_moves p n t T) × All (AtNode p n t T) (node_moves p n t T)
+  unfolding Earlier
+  node-follows n D early = moves-keep p n t T (λ M. Follows (Fits p) (T ++ D) M × All (AtNode p n t T) M) step (tt, All-nil (AtNode p n t T))
+    where
+      step : (M : List Move) (m : Move) → Follows (Fits p) (T ++ D) M × All (AtNode p n t T) M → next_move p n t T M ≡ Some m → Follows (Fits p) (T ++ D) (M ++ m ∷ []) × All (AtNode p n t T) (M ++ m ∷ [])
+      step M m so_far e =
+          let k = next_cases p n t T M m e in
+          let here : AtNode p n t T m = kind_at p n t T M m so_far.1 k in
+          let others : All (λ d. d.vehicle ≢ m.vehicle) D = All-weaker (Earlier n) (λ d. d.vehicle ≢ m.vehicle) (λ d x. (apart_of p t T (x.0) n (less_apart (x.0) n (x.1)) d m (x.2) here).others) D early in
+          let apart : All (λ d. All (λ a. Apart a d) M) D = All-weaker (Earlier n) (λ d. All (λ a. Apart a d) M) (λ d x. All-weaker (AtNode p n t T) (λ a. Apart a d) (λ a y. apart_of p t T n (x.0) (λ q. less_apart (x.0) n (x.1) (sym q)) a d y (x.2)) M so_far.1) D early in
+          let now = fits-same p ((T ++ M) ++ D) ((T ++ D) ++ M) m (Same-blocks D M T apart) (fits-others p D (T ++ M) m others (kind_fits n M m k)) in
+          (Follows-append (Fits p) M (m ∷ []) (T ++ D) so_far.0 (now, tt), All-push (AtNode p n t T) M m so_far.1 here)
+
+  nodes-follow : (k from : ℕ) (D : List Move) → All (Earlier from) D → Follows (Fits p) (T ++ D) (flat_map (λ n. node_moves p n t T) (range_with_len from k))
+  unfolding Earlier
+  nodes-follow zero from D early = tt
+  nodes-follow (suc k) from D early =
+      let M = node_moves p from t T in
+      let more : All (Earlier (from + 1)) (D ++ M) = All-append (Earlier (from + 1)) D M
+      (All-weaker (Earlier from) (Earlier (from + 1)) (λ d x. (x.0, less_more (x.0) from (x.1), x.2)) D early)
+      (All-weaker (AtNode p from t T) (Earlier (from + 1)) (λ d x. (from, less_next from, x)) M (at-node p from t T)) in
+      Follows-append (Fits p) M (flat_map (λ n. node_moves p n t T) (range_with_len (from + 1) k)) (T ++ D) (node-follows from D early).0
+      (subst (λ L. Follows (Fits p) L (flat_map (λ n. node_moves p n t T) (range_with_len (from + 1) k))) (sym (append_assoc T D M)) (nodes-follow k (from + 1) (D ++ M) more))
+    where
+      less_more : (a b : ℕ) → a < b → a < b + 1
+      less_more a b h = omega (arith, h)
+
+      less_next : (b : ℕ) → b < b + 1
+      less_next b = omega arith
+
+pub trace-follows : (p : Plan) (t : ℕ) → Follows (Fits p) [] (trace_after p t)
+unfolding trace_after after_step
+trace-follows p zero = tt
+trace-follows p (suc t) =
+    let T = trace_after p t in
+    Follows-append (Fits p) T (step_moves p t T (all_nodes p)) [] (trace-follows p t) (subst (λ L. Follows (Fits p) L (step_moves p t T (all_nodes p))) (append-nil T) (nodes-follow p t T (length p.net.nodes) 0 [] (All-nil (Earlier p t T 0))))
+
+pub heads_move : HeadsMove
+heads_move p t S R m e = (Follows-at (Fits p) S R m [] (subst (λ L. Follows (Fits p) [] L) e (trace-follows p t))).0
+
+-- a place in a queue, while its vehicle stays: those before it only grow fewer
+record Place (l w : ℕ) (T : List Move) (X : List ℕ) : Type 0 where
+  front : List ℕ
+  back : List ℕ
+  is : queue_of l T ≡ front ++ w ∷ back
+  fewer : (u : ℕ) → absent u X ≡ true → absent u front ≡ true
+
+without_at : (v w : ℕ) (X Y : List ℕ) → w ≢ v → without v (X ++ w ∷ Y) ≡ without v X ++ w ∷ without v Y
+without_at v w X Y n = filter-append (λ x. not (eqb x v)) X (w ∷ Y) ∙ rw (ne_eqb w v n) refl
+
+keeps_place : (l w : ℕ) (N T : List Move) (X Y : List ℕ) → queue_of l T ≡ X ++ w ∷ Y → has_moved w N ≡ false → Place l w (T ++ N) X
+unfolding has_moved
+keeps_place l w [] T X Y q h = record { front = X; back = Y; is = ap (λ L. queue_of l L) (append-nil T) ∙ q; fewer = λ u a. a }
+keeps_place l w (m ∷ N) T X Y q h =
+    let parts = or_parts (eqb m.vehicle w) (list_any (is_of w) N) h in
+    let other : w ≢ m.vehicle = λ e. eqb-false m.vehicle w parts.0 (sym e) in
+    let next : queue_of l (T ++ m ∷ []) ≡ without m.vehicle X ++ w ∷ (without m.vehicle Y ++ cond (leads_to l m) (m.vehicle ∷ []) []) =
+    queue-push l T m ∙ ap (λ Q. without m.vehicle Q ++ cond (leads_to l m) (m.vehicle ∷ []) []) q ∙ ap (λ Q. Q ++ cond (leads_to l m) (m.vehicle ∷ []) []) (without_at m.vehicle w X Y other) ∙ append_assoc (without m.vehicle X) (w ∷ without m.vehicle Y) (cond (leads_to l m) (m.vehicle ∷ []) []) in
+    let rest = keeps_place l w N (T ++ m ∷ []) (without m.vehicle X) (without m.vehicle Y ++ cond (leads_to l m) (m.vehicle ∷ []) []) next parts.1 in
+    record { front = rest.front; back = rest.back; is = ap (λ L. queue_of l L) (sym (append_assoc T (m ∷ []) N)) ∙ rest.is; fewer = λ u a. rest.fewer u (absent_without m.vehicle u X a) }
+  where
+    or_parts : (b c : Bool) → (b || c) ≡ false → (b ≡ false) × (c ≡ false)
+    or_parts true c h = cc
+    or_parts false c h = (refl, h)
+
+gone : (v : ℕ) (xs : List ℕ) → absent v (without v xs) ≡ true
+gone v [] = refl
+gone v (x ∷ xs) = gone_step (eqb x v) refl (gone v xs)
+  where
+    gone_step : (b : Bool) → b ≡ eqb x v → absent v (without v xs) ≡ true → absent v (cond (not b) (x ∷ without v xs) (without v xs)) ≡ true
+    gone_step true r h = h
+    gone_step false r h = rw (← r) h
+
+not_front : (X Y : List ℕ) (w v : ℕ) → absent v X ≡ true → w ≢ v → slice_get (X ++ w ∷ Y) 0 ≡ Some v → ⊥
+not_front [] Y w v a n h = n (same_Some w v h)
+not_front (x ∷ X) Y w v a n h =
+    let same : x ≡ v = same_Some x v h in
+    let b : not (eqb x v || list_any (λ y. eqb y v) X) ≡ true = a in
+    let c : false ≡ true = sym (rw (eq-eqb x v same) refl) ∙ b in cc
+
+split_moved : (v : ℕ) (B C : List Move) (b : Move) → has_moved v (B ++ b ∷ C) ≡ false → (has_moved v B ≡ false) × (b.vehicle ≢ v) × (has_moved v C ≡ false)
+unfolding has_moved
+split_moved v B C b h = parts (list_any (is_of v) B) (eqb b.vehicle v) (list_any (is_of v) C) refl (sym (has_moved-append v B (b ∷ C)) ∙ h)
+  where
+    parts : (x y z : Bool) → y ≡ eqb b.vehicle v → (x || (y || z)) ≡ false → (x ≡ false) × (b.vehicle ≢ v) × (z ≡ false)
+    parts true y z e f = cc
+    parts false true z e f = cc
+    parts false false z e f = (refl, eqb-false b.vehicle v (sym e), f)
+
+module _ (l : ℕ) (A B C : List Move) (a b c : Move) (at_a : leads_to l a ≡ true) (at_b : leads_to l b ≡ true) (of_b : c.vehicle ≡ b.vehicle) (still : has_moved b.vehicle C ≡ false) where
+  before_b : List Move
+  before_b = (A ++ a ∷ []) ++ B
+
+  whole : List Move
+  whole = (before_b ++ b ∷ []) ++ C
+
+  last_b : last_move b.vehicle whole ≡ Some b
+  unfolding whole
+  last_b = last_move-still b.vehicle C (before_b ++ b ∷ []) still ∙ last_move-own before_b b
+
+  same_link : (k : ℕ) → slice_get (queue_of k whole) 0 ≡ Some b.vehicle → k ≡ l
+  same_link k h =
+      let x = in-queue k whole 0 b.vehicle h in
+      let same : x.0 ≡ b = some_move (x.0) b (sym (x.1) ∙ last_b) in
+      one_link k l b.target (subst (λ z. leads_to k z ≡ true) same (x.2)) at_b
+    where
+      some_move : (x y : Move) → Some x ≡ Some y → x ≡ y
+      some_move x y e = cc
+
+  not_head : has_moved a.vehicle (B ++ b ∷ C) ≡ false → slice_get (queue_of l whole) 0 ≡ Some b.vehicle → ⊥
+  unfolding whole before_b
+  not_head none h =
+      let parts = split_moved a.vehicle B C b none in
+      let start : queue_of l (A ++ a ∷ []) ≡ without a.vehicle (queue_of l A) ++ a.vehicle ∷ [] = queue-push l A a ∙ rw at_a refl in
+      let one = keeps_place l a.vehicle B (A ++ a ∷ []) (without a.vehicle (queue_of l A)) [] start (parts.0) in
+      let other : a.vehicle ≢ b.vehicle = λ e. parts.1 (sym e) in
+      let two : queue_of l (((A ++ a ∷ []) ++ B) ++ b ∷ []) ≡ without b.vehicle one.front ++ a.vehicle ∷ (without b.vehicle one.back ++ b.vehicle ∷ []) =
+      queue-push l ((A ++ a ∷ []) ++ B) b ∙ rw at_b (ap (λ Q. without b.vehicle Q ++ b.vehicle ∷ []) one.is ∙ ap (λ Q. Q ++ b.vehicle ∷ []) (without_at b.vehicle a.vehicle one.front one.back other) ∙ append_assoc (without b.vehicle one.front) (a.vehicle ∷ without b.vehicle one.back) (b.vehicle ∷ [])) in
+      let three = keeps_place l a.vehicle C (((A ++ a ∷ []) ++ B) ++ b ∷ []) (without b.vehicle one.front) (without b.vehicle one.back ++ b.vehicle ∷ []) two (parts.2) in
+      not_front three.front three.back a.vehicle b.vehicle (three.fewer b.vehicle (gone b.vehicle one.front)) other (ap (λ Q. slice_get Q 0) (sym three.is) ∙ h)
+
+  in_order : MovesInTurn whole c → has_moved a.vehicle (B ++ b ∷ C) ≡ true
+  in_order turn = order_step (cases_Bool (has_moved a.vehicle (B ++ b ∷ C))) (subst (λ v. (has_moved v whole ≡ false) ⊎ ((k : ℕ) × (slice_get (queue_of k whole) 0 ≡ Some v))) of_b turn)
+    where
+      order_step : (has_moved a.vehicle (B ++ b ∷ C) ≡ true) ⊎ (has_moved a.vehicle (B ++ b ∷ C) ≡ false) → (has_moved b.vehicle whole ≡ false) ⊎ ((k : ℕ) × (slice_get (queue_of k whole) 0 ≡ Some b.vehicle)) → has_moved a.vehicle (B ++ b ∷ C) ≡ true
+      order_step (inl e) x = e
+      order_step (inr e) (inl x) = let f : true ≡ false = sym (has_moved-if b.vehicle whole b last_b) ∙ x in cc
+      order_step (inr e) (inr (k, h)) = absurd (not_head e (subst (λ j. slice_get (queue_of j whole) 0 ≡ Some b.vehicle) (same_link k h) h))
+
+regrouped : (A B C R : List Move) (a b c : Move) → A ++ a ∷ (B ++ b ∷ (C ++ c ∷ R)) ≡ ((((A ++ a ∷ []) ++ B) ++ b ∷ []) ++ C) ++ c ∷ R
+regrouped A B C R a b c =
+    sym (append_assoc A (a ∷ []) (B ++ b ∷ (C ++ c ∷ R)))
+    ∙ sym (append_assoc (A ++ a ∷ []) B (b ∷ (C ++ c ∷ R)))
+    ∙ sym (append_assoc ((A ++ a ∷ []) ++ B) (b ∷ []) (C ++ c ∷ R))
+    ∙ sym (append_assoc (((A ++ a ∷ []) ++ B) ++ b ∷ []) C (c ∷ R))
+
+pub left_in_order : LeftInOrder
+unfolding whole before_b
+left_in_order p t l A B C R a b c e at_a at_b of_b still =
+    in_order l A B C a b c at_a at_b of_b still (heads_move p t ((((A ++ a ∷ []) ++ B) ++ b ∷ []) ++ C) R c (e ∙ regrouped A B C R a b c))

@@ -1,0 +1,223 @@
+-- Small worked cases of the definitions. Steps are of six seconds; a rate of 600,000,000 is one
+-- vehicle in such a step.
+use Rattle.std.specs.Prelude.{◌≡◌, ℕ, List, [], ◌∷◌, ◌++◌, Option, Some, None, map, refl}
+use Rattle.std.specs.List.{repeat}
+use Rattle.net_core.specs.Network.{numbers_below}
+use Rattle.net_core.specs.declared.rows.LinkNo.{LinkNo}
+use Rattle.net_core.specs.declared.rows.LinkRow.{LinkRow}
+use Rattle.net_core.specs.declared.rows.NetRows.{NetRows}
+use Rattle.net_core.specs.declared.rows.NodeRow.{NodeRow}
+use Rattle.net_core.specs.declared.rows.TurnRow.{TurnRow}
+use Rattle.dta_model.specs.Loading.{trace_after, entries_of, arrival_of}
+use Rattle.dta_model.specs.OnLiterals.{releases_on_literals, loadings_on_literals}
+use Rattle.dta_model.specs.Release.{trips_of}
+use Rattle.dta_model.specs.Riders.{RiderState}
+use Rattle.dta_model.specs.Stages.{CellContent, cell_before, cell_after, room_mail, batch_mail}
+use Rattle.dta_model.specs.State.{eight_after}
+use Rattle.dta_model.specs.Trace.{Move}
+use Rattle.dta_model.specs.declared.credit.TheConstants.{PARTS_OF_A_VEHICLE}
+use Rattle.dta_model.specs.declared.loading.TheConstants.{MOST_HORIZON}
+use Rattle.dta_model.specs.declared.plan.Plan.{Plan}
+use Rattle.dta_model.specs.declared.queue.Queue.TheVariants as queue
+use Rattle.dta_model.specs.declared.trip.DemandCell.{DemandCell}
+use Rattle.dta_model.specs.declared.trip.TheConstants.{MOST_TRIPS, VOLUME_OF_A_VEHICLE}
+use Rattle.dta_model.specs.declared.trip.Trip.{Trip}
+
+-- ---- limits and units
+most_trips : MOST_TRIPS ≡ 2000000
+most_trips = refl
+
+most_horizon : MOST_HORIZON ≡ 86400
+most_horizon = refl
+
+volume_of_a_vehicle : VOLUME_OF_A_VEHICLE ≡ 1000
+volume_of_a_vehicle = refl
+
+-- a million millionths of a vehicle, times the seconds of an hour
+parts_of_a_vehicle : PARTS_OF_A_VEHICLE ≡ 3600000000
+parts_of_a_vehicle = refl
+
+-- ---- words for the tables of a case
+unfoldable pub trip : ℕ → ℕ → Trip
+trip number departs = record { number = number; origin = 1; destination = 3; departure = departs }
+
+abbrev row : ℕ → ℕ → DemandCell
+row line volume = record { line = line; origin = 1; destination = 3; volume = volume }
+
+abbrev pub node : ℕ → NodeRow
+node zone = record { id = zone; zone = Some zone }
+
+abbrev pub number : ℕ → LinkNo
+number l = record { 0 = l }
+
+abbrev pub link : ℕ → ℕ → ℕ → ℕ → ℕ → ℕ → LinkRow
+link id from to free storage rate =
+    record { id = id; from = record { 0 = from }; to = record { 0 = to }; free = free; storage = storage; rate = rate }
+
+-- a link after another, from zone 1 to zone 3
+abbrev pub in_a_line : LinkRow → LinkRow → List TurnRow → NetRows
+in_a_line a b turns = record { nodes = node 1 ∷ node 2 ∷ node 3 ∷ []; links = a ∷ b ∷ []; turns = turns }
+
+abbrev pub both : List (Option (List LinkNo))
+both = Some (number 0 ∷ number 1 ∷ []) ∷ []
+
+-- the entries and arrivals of the first vehicles by a trace
+abbrev journeys : ℕ → List Move → List (List ℕ)
+journeys count T = map (entries_of T) (numbers_below count)
+
+abbrev arrivals : ℕ → List Move → List (Option ℕ)
+arrivals count T = map (arrival_of T) (numbers_below count)
+
+-- ---- release
+-- three vehicles in thirty steps
+three_in_thirty_steps : trips_of (row 2 3000 ∷ []) 30 ≡ trip 0 5 ∷ trip 1 15 ∷ trip 2 25 ∷ []
+unfolding releases_on_literals trip
+three_in_thirty_steps = refl
+
+-- three rows of 0.4 vehicles make one, of the third row
+three_small_volumes : trips_of (row 2 400 ∷ row 3 400 ∷ row 4 400 ∷ []) 30 ≡ trip 0 15 ∷ []
+unfolding releases_on_literals trip
+three_small_volumes = refl
+
+-- a row from a zone to itself makes none
+a_row_within_a_zone : trips_of (record (row 2 3000) { destination = 1 } ∷ row 3 1000 ∷ []) 30 ≡ trip 0 15 ∷ []
+unfolding releases_on_literals trip
+a_row_within_a_zone = refl
+
+-- ---- two links of ten steps, and one vehicle in a step
+unfoldable pub two_links_in_a_line : Plan
+two_links_in_a_line = record {
+  net = in_a_line (link 0 0 1 10 125 600000000) (link 1 1 2 10 125 600000000) [];
+  queue = queue.Point;
+  delta = 6;
+  horizon = 60;
+  trips = trip 0 5 ∷ trip 1 15 ∷ trip 2 25 ∷ [];
+  routes = repeat 3 both;
+}
+
+two_links_in_a_line-entries : journeys 3 (trace_after two_links_in_a_line 46) ≡ (5 ∷ 15 ∷ []) ∷ (15 ∷ 25 ∷ []) ∷ (25 ∷ 35 ∷ []) ∷ []
+unfolding loadings_on_literals trip two_links_in_a_line
+two_links_in_a_line-entries = refl
+
+two_links_in_a_line-arrivals : arrivals 3 (trace_after two_links_in_a_line 46) ≡ Some 25 ∷ Some 35 ∷ Some 45 ∷ []
+unfolding loadings_on_literals trip two_links_in_a_line
+two_links_in_a_line-arrivals = refl
+
+two_links_in_a_line-state : eight_after two_links_in_a_line 20 ≡ record { steps = 20; waiting = 0; running = 2; arrived = 0; first = 1 ∷ 1 ∷ 0 ∷ 0 ∷ [] }
+unfolding loadings_on_literals trip two_links_in_a_line
+two_links_in_a_line-state = refl
+
+-- the middle node in step 15, when the first vehicle goes from one link to the other
+abbrev first_rider : List ℕ → RiderState
+first_rider entries = record { number = 0; departure = 5; route = 0 ∷ 1 ∷ []; entries = entries; arrival = None }
+
+abbrev middle_cell : List RiderState → CellContent
+middle_cell line = record {
+  lines = line ∷ [];
+  waiting = [] ∷ [];
+  arrived = [];
+  outflow = 0 ∷ [];
+  inflow = 0 ∷ [];
+  turns = (None ∷ []) ∷ [];
+}
+
+before_the_transfer : cell_before two_links_in_a_line 1 15 ≡ middle_cell (first_rider (5 ∷ []) ∷ [])
+unfolding loadings_on_literals trip two_links_in_a_line
+before_the_transfer = refl
+
+after_the_transfer : cell_after two_links_in_a_line 1 15 ≡ middle_cell []
+unfolding loadings_on_literals trip two_links_in_a_line
+after_the_transfer = refl
+
+batch_of_the_step : batch_mail two_links_in_a_line 1 15 ≡ first_rider (5 ∷ 15 ∷ []) ∷ []
+unfolding loadings_on_literals trip two_links_in_a_line
+batch_of_the_step = refl
+
+room_of_the_step : room_mail two_links_in_a_line 1 15 ≡ None
+unfolding loadings_on_literals trip two_links_in_a_line
+room_of_the_step = refl
+
+-- ---- the second link has no capacity
+unfoldable a_link_without_capacity : Plan
+a_link_without_capacity =
+    record two_links_in_a_line { net = in_a_line (link 0 0 1 10 125 600000000) (link 1 1 2 10 125 0) [] }
+
+a_link_without_capacity-entries : journeys 3 (trace_after a_link_without_capacity 60) ≡ (5 ∷ []) ∷ (15 ∷ []) ∷ (25 ∷ []) ∷ []
+unfolding loadings_on_literals trip two_links_in_a_line a_link_without_capacity
+a_link_without_capacity-entries = refl
+
+a_link_without_capacity-arrivals : arrivals 3 (trace_after a_link_without_capacity 60) ≡ None ∷ None ∷ None ∷ []
+unfolding loadings_on_literals trip two_links_in_a_line a_link_without_capacity
+a_link_without_capacity-arrivals = refl
+
+-- ---- a turn of two penalty steps between the links
+unfoldable turn_penalty : Plan
+turn_penalty = record two_links_in_a_line {
+  net = in_a_line (link 0 0 1 10 125 600000000) (link 1 1 2 10 125 600000000) (record { a = number 0; b = number 1; penalty = 2; rate = None } ∷ []);
+}
+
+turn_penalty-entries : journeys 3 (trace_after turn_penalty 48) ≡ (5 ∷ 17 ∷ []) ∷ (15 ∷ 27 ∷ []) ∷ (25 ∷ 37 ∷ []) ∷ []
+unfolding loadings_on_literals trip two_links_in_a_line turn_penalty
+turn_penalty-entries = refl
+
+turn_penalty-arrivals : arrivals 3 (trace_after turn_penalty 48) ≡ Some 27 ∷ Some 37 ∷ Some 47 ∷ []
+unfolding loadings_on_literals trip two_links_in_a_line turn_penalty
+turn_penalty-arrivals = refl
+
+-- ---- the second link stores ten vehicles. Of those on it, six leave in step 11, and make no room in that step
+unfoldable room_at_the_start_of_the_step : Plan
+room_at_the_start_of_the_step = record {
+  net = in_a_line (link 0 0 1 10 125 3600000000) (link 1 1 2 1 10 3600000000) [];
+  queue = queue.Spatial;
+  delta = 6;
+  horizon = 60;
+  trips = map (λ v. trip v 0) (numbers_below 12);
+  routes = repeat 12 both;
+}
+
+room_at_the_start_of_the_step-entries : journeys 12 (trace_after room_at_the_start_of_the_step 14) ≡ repeat 6 ((0 ∷ 10 ∷ []) ∷ []) ++ repeat 4 ((1 ∷ 11 ∷ []) ∷ []) ++ repeat 2 ((1 ∷ 12 ∷ []) ∷ [])
+unfolding loadings_on_literals trip room_at_the_start_of_the_step
+room_at_the_start_of_the_step-entries = refl
+
+room_at_the_start_of_the_step-arrivals : arrivals 12 (trace_after room_at_the_start_of_the_step 14) ≡ repeat 6 (Some 11 ∷ []) ++ repeat 4 (Some 12 ∷ []) ++ repeat 2 (Some 13 ∷ [])
+unfolding loadings_on_literals trip room_at_the_start_of_the_step
+room_at_the_start_of_the_step-arrivals = refl
+
+-- ---- the second link stores one vehicle
+unfoldable storage_of_one : Plan
+storage_of_one = record room_at_the_start_of_the_step {
+  net = in_a_line (link 0 0 1 10 125 3600000000) (link 1 1 2 1 1 3600000000) [];
+  trips = trip 0 0 ∷ trip 1 0 ∷ [];
+  routes = repeat 2 both;
+}
+
+storage_of_one-entries : journeys 2 (trace_after storage_of_one 14) ≡ (0 ∷ 10 ∷ []) ∷ (0 ∷ 12 ∷ []) ∷ []
+unfolding loadings_on_literals trip room_at_the_start_of_the_step storage_of_one
+storage_of_one-entries = refl
+
+storage_of_one-arrivals : arrivals 2 (trace_after storage_of_one 14) ≡ Some 11 ∷ Some 13 ∷ []
+unfolding loadings_on_literals trip room_at_the_start_of_the_step storage_of_one
+storage_of_one-arrivals = refl
+
+-- ---- two links lead to one that takes a vehicle in a step; they take turns, the second of them first
+unfoldable two_links_merge : Plan
+two_links_merge = record {
+  net = record {
+    nodes = node 1 ∷ node 1 ∷ node 2 ∷ node 3 ∷ [];
+    links = link 0 0 2 1 12 3600000000 ∷ link 1 1 2 1 12 3600000000 ∷ link 2 2 3 1 12 600000000 ∷ [];
+    turns = [];
+  };
+  queue = queue.Point;
+  delta = 6;
+  horizon = 20;
+  trips = map (λ v. trip v 0) (numbers_below 4);
+  routes = repeat 2 (Some (number 0 ∷ number 2 ∷ []) ∷ []) ++ repeat 2 (Some (number 1 ∷ number 2 ∷ []) ∷ []);
+}
+
+two_links_merge-entries : journeys 4 (trace_after two_links_merge 8) ≡ (0 ∷ 2 ∷ []) ∷ (0 ∷ 4 ∷ []) ∷ (0 ∷ 1 ∷ []) ∷ (0 ∷ 3 ∷ []) ∷ []
+unfolding loadings_on_literals trip two_links_merge
+two_links_merge-entries = refl
+
+two_links_merge-arrivals : arrivals 4 (trace_after two_links_merge 8) ≡ Some 3 ∷ Some 5 ∷ Some 2 ∷ Some 4 ∷ []
+unfolding loadings_on_literals trip two_links_merge
+two_links_merge-arrivals = refl

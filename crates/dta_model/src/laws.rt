@@ -1,0 +1,137 @@
+// Laws of the definitions. Each is the contract of a function that does nothing.
+ghost use Rattle.dta_model.specs.Examples.{two_links_in_a_line};
+ghost use Rattle.dta_model.specs.HandOver.{CellsHoldAll};
+ghost use Rattle.dta_model.specs.Laws.{ArrivalIsLast, HeadsMove, JourneysEndInOrder, LeftInOrder, NoMoveIsLeft, NoneOutside, QueuesAddUp, RoutesAreFollowed, StepsRise, VehiclesAreConserved, VisitsEndInOrder};
+ghost use Rattle.dta_model.specs.OnePass.{OnePassIsEnough};
+ghost use Rattle.dta_model.specs.Orders.{AnyOrder};
+ghost use Rattle.dta_model.specs.Released.{TripsAreReleased};
+ghost use Rattle.dta_model.specs.Sound.{IsSound};
+ghost use Rattle.dta_model.specs.Transfers.{CellsGather, FirstWaits, HeadsOfLines, LinesGather, MovesCount, MovesPass, RidersMove, RidersTell, RoutesLeadOn};
+
+/// The nodes of a step may be taken in any order.
+pub fn nodes_in_any_order()
+    ensures { AnyOrder }
+{}
+
+/// A node's moves in a step end only where it has no next move.
+pub fn no_move_is_left()
+    ensures { NoMoveIsLeft }
+{}
+
+/// A due vehicle waits, is on one link or has arrived, and the three counts add up.
+pub fn vehicles_are_conserved()
+    ensures { VehiclesAreConserved }
+{}
+
+/// The links together hold the vehicles that run.
+pub fn queues_add_up()
+    ensures { QueuesAddUp }
+{}
+
+/// A vehicle moves for the first time, or as the head of its link.
+pub fn heads_move()
+    ensures { HeadsMove }
+{}
+
+/// Links are left in the order of entry.
+pub fn links_are_left_in_order()
+    ensures { LeftInOrder }
+{}
+
+/// An in-line of the next step is what the transfer left of it, and then the batch.
+pub fn lines_gather()
+    ensures { LinesGather }
+{}
+
+/// A cell of the next step is what the transfer left of it, with the batch at the end of each
+/// in-line.
+pub fn cells_gather()
+    ensures { CellsGather }
+{}
+
+/// One pass over a node's links makes its moves.
+pub fn one_pass_is_enough()
+    ensures { OnePassIsEnough }
+{}
+
+/// A rider on a link tells its last entry and its next target.
+pub fn riders_tell()
+    ensures { RidersTell }
+{}
+
+/// Who is admitted is the first of the waiting line, where departures don't fall.
+pub fn the_first_waits()
+    ensures { FirstWaits }
+{}
+
+/// The head that may move is the first that is left of the line at the start of the step.
+pub fn heads_of_lines()
+    ensures { HeadsOfLines }
+{}
+
+/// A rider after one more move.
+pub fn riders_move()
+    ensures { RidersMove }
+{}
+
+/// A vehicle's moves follow its route.
+pub fn routes_are_followed()
+    ensures { RoutesAreFollowed }
+{}
+
+/// Steps don't fall along a trace.
+pub fn steps_rise()
+    ensures { StepsRise }
+{}
+
+/// Of two visits to one link the earlier one ends no later, or the other hasn't ended.
+pub fn visits_end_in_order()
+    ensures { VisitsEndInOrder }
+{}
+
+/// The moves of a vehicle are its entries, and then perhaps the arrival.
+pub fn arrival_is_last()
+    ensures { ArrivalIsLast }
+{}
+
+/// What one move changes of lines and batches.
+pub fn moves_pass()
+    ensures { MovesPass }
+{}
+
+/// The same of what a loading gives: of two visits to one link the one that begins earlier ends no
+/// later, or the other hasn't ended.
+pub fn journeys_end_in_order()
+    ensures { JourneysEndInOrder }
+{}
+
+/// All cells together hold the vehicles that have routes, each once and as the trace makes it.
+pub fn cells_hold_all()
+    ensures { CellsHoldAll }
+{}
+
+/// A table releases as many trips as its volumes make whole vehicles, numbered in order, by
+/// departures below the period.
+pub fn trips_are_released()
+    ensures { TripsAreReleased }
+{}
+
+/// How the counts of a node grow by a move.
+pub fn moves_count()
+    ensures { MovesCount }
+{}
+
+/// The next link of a vehicle on a link begins where that one ends, and there is a turn to it.
+pub fn routes_lead_on()
+    ensures { RoutesLeadOn }
+{}
+
+/// No vehicle is on a link that isn't in the table.
+pub fn none_outside()
+    ensures { NoneOutside }
+{}
+
+/// A loading can be sound: that of two links in a line is.
+pub fn two_links_are_sound()
+    ensures { IsSound two_links_in_a_line }
+{}

@@ -1,0 +1,37 @@
+//! The data of a loading, and the definitions that say what a loading is.
+//!
+//! The definitions stand in specs/, from the release of vehicles to the state after a number of
+//! steps, over a [`Plan`]: what a [`Loading`] lends, as plain data. Each function of `laws` does
+//! nothing; its contract is something that is true of every loading.
+#![tactic(auto)]
+
+mod credit;
+mod eight;
+mod laws;
+mod loaded;
+mod loading;
+mod plan;
+mod queue;
+mod routes;
+mod steps;
+mod trip;
+
+pub use credit::PARTS_OF_A_VEHICLE;
+pub use eight::Eight;
+pub use laws::{
+    arrival_is_last, cells_gather, cells_hold_all, heads_move, heads_of_lines,
+    journeys_end_in_order, lines_gather, links_are_left_in_order, moves_count, moves_pass,
+    no_move_is_left, nodes_in_any_order, none_outside, one_pass_is_enough, queues_add_up,
+    riders_move, riders_tell, routes_are_followed, routes_lead_on, steps_rise, the_first_waits,
+    trips_are_released, two_links_are_sound, vehicles_are_conserved, visits_end_in_order,
+};
+pub use loaded::{Journey, Loaded};
+pub use loading::{Loading, MOST_HORIZON};
+pub use plan::Plan;
+pub use queue::Queue;
+pub use routes::{Route, Routes};
+pub use steps::Steps;
+pub use trip::{DemandCell, MOST_TRIPS, Trip, VOLUME_OF_A_VEHICLE};
+
+#[cfg(test)]
+mod tests;
