@@ -1,0 +1,5 @@
+pub mod SumsFacts
+pub mod OrderFacts
+pub mod MadeFacts
+pub mod NumbersFacts
+pub mod WholeFacts

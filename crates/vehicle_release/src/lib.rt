@@ -1,0 +1,14 @@
+//! The vehicles that a demand table releases over a period.
+//!
+//! [`release`] answers exactly the trips of the definition, or the first row with which the vehicles are too many.
+#![tactic(auto)]
+
+mod fault;
+mod sums;
+mod trips;
+
+pub use fault::ReleaseFault;
+pub use trips::release;
+
+#[cfg(test)]
+mod tests;
