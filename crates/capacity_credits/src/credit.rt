@@ -1,0 +1,54 @@
+// What is carried from step to step.
+ghost use Rattle.std.specs.Prelude.{◌≡◌, ◌+◌, ◌*◌, ◌/◌, ◌%◌, ◌≤◌, ℕ};
+ghost use Rattle.capacity_credits.specs.Grants.{StandsAfter};
+ghost use Rattle.dta_model.specs.Allowance.{allowance};
+
+use dta_model::PARTS_OF_A_VEHICLE;
+use fixed_units::MOST_STEP;
+use net_core::MOST_RATE;
+use std::marker::Model;
+
+/// The parts of a vehicle that are carried to the next step, fewer than one vehicle has.
+#[derive(Drop)]
+pub struct Credit {
+    carried: u64,
+}
+
+impl Model for Credit {
+    ghost use Rattle.dta_model.specs.declared.credit.TheConstants.{PARTS_OF_A_VEHICLE};
+    ghost use Rattle.std.specs.Prelude.{ℕ, ◌<◌};
+
+    ghost Value = { ℕ };
+
+    ghost view = { λ c. c.carried };
+
+    ghost invariant = { λ c. c.carried < PARTS_OF_A_VEHICLE };
+}
+
+impl Credit {
+    /// Nothing is granted yet, and nothing is carried.
+    pub fn new() -> Self
+        ensures empty { result ≡ 0 }
+        ensures stands { (rate delta : ℕ) → StandsAfter 0 rate delta result }
+    {
+        Credit { carried: 0 }
+    }
+
+    /// The whole vehicles of the next step, of `delta` seconds, at a rate in millionths of a
+    /// vehicle per hour. What is left over is carried.
+    #[tactic(auto, unfolding(dta_model::specs::Allowance::allowance))]
+    pub fn grant(&mut self, rate: u64, delta: u32) -> u64
+        requires rate { rate ≤ MOST_RATE }
+        requires step { delta ≤ MOST_STEP }
+        ensures whole { result ≡ (self.old + rate * delta) / PARTS_OF_A_VEHICLE }
+        ensures carried { self.new ≡ (self.old + rate * delta) % PARTS_OF_A_VEHICLE }
+        ensures gives { (grants : ℕ) → StandsAfter grants rate delta self.old
+            → result ≡ allowance rate delta grants }
+        ensures stands { (grants : ℕ) → StandsAfter grants rate delta self.old
+            → StandsAfter (grants + 1) rate delta self.new }
+    {
+        let parts = self.carried + rate * delta as u64;
+        self.carried = parts % PARTS_OF_A_VEHICLE;
+        parts / PARTS_OF_A_VEHICLE
+    }
+}
