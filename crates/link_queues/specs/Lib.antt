@@ -1,0 +1,4 @@
+pub mod Riders
+pub mod Lines
+pub mod RidersInside
+pub mod Examples

@@ -1,0 +1,23 @@
+-- What a rider is inside.
+use Rattle.std.specs.Prelude.{◌≡◌, ◌≤◌, IsSome, length}
+use Rattle.std.specs.Vec.{vec_len, vec_capacity}
+use Rattle.dta_model.specs.Plans.{link_numbers}
+use Rattle.dta_model.specs.Riders.{RiderState}
+use Rattle.link_queues.specs.declared.rider.Rider.TheInside.{Inside}
+
+-- what contracts see of it: no room, and no place in memory
+abbrev pub rider_state : Inside → RiderState
+rider_state r = record {
+  number = r.number;
+  departure = r.departure;
+  route = link_numbers r.route;
+  entries = r.entries.items;
+  arrival = r.arrival;
+}
+
+-- what stands in every rider: room for the entry steps of all links of its route, and an arrival
+-- only after the last entry
+pub record IsSoundRider (r : Inside) : Type 0 where
+  pub entered : vec_len r.entries ≤ length r.route
+  pub room : length r.route ≤ vec_capacity r.entries
+  pub arrives : IsSome r.arrival → vec_len r.entries ≡ length r.route

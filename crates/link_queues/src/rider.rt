@@ -1,0 +1,124 @@
+// A vehicle on its way.
+ghost use Rattle.dta_model.specs.Plans.{link_numbers};
+ghost use Rattle.dta_model.specs.Riders.{moved};
+ghost use Rattle.link_queues.specs.Riders.{setting_out};
+ghost use Rattle.std.specs.List.{last_or};
+ghost use Rattle.std.specs.Prelude.{◌≡◌, ◌<◌, ◌++◌, ◌∷◌, [], ◌↔◌, length, slice_get, option_map, IfOk, IsNone, IsSome, None};
+
+use dta_model::{Journey, Route, Steps};
+use net_core::LinkNo;
+use std::alloc::{AllocError, Global};
+use std::marker::Model;
+
+/// A vehicle on its way along a route.
+#[derive(Drop)]
+pub struct Rider {
+    number: u32,
+    departure: u32,
+    route: Route,
+    entries: Vec<u32>,
+    arrival: Option<u32>,
+}
+
+impl Model for Rider {
+    ghost use Rattle.dta_model.specs.Riders.{RiderState};
+    ghost use Rattle.link_queues.specs.RidersInside.{rider_state, IsSoundRider};
+
+    ghost Value = { RiderState };
+
+    ghost view = { rider_state };
+
+    ghost invariant = { IsSoundRider };
+}
+
+impl Rider {
+    /// A rider who has entered no link, with room for the entry steps of all links of the route.
+    /// The route is copied.
+    pub fn new(
+        alloc: Global,
+        number: u32,
+        departure: u32,
+        route: &Route,
+    ) -> Result<Self, AllocError>
+        ensures { IfOk result
+            (λ rider. rider ≡ setting_out number departure (link_numbers route.now)) }
+    {
+        let links = Vec::from_slice(alloc, route.as_slice())?;
+        let entries = Vec::with_capacity(alloc, links.len())?;
+        Ok(Rider {
+            number,
+            departure,
+            route: Route::of(links),
+            entries,
+            arrival: None,
+        })
+    }
+
+    /// The vehicle's number.
+    pub fn number(&self) -> u32
+        ensures { result ≡ self.now.number }
+    {
+        self.number
+    }
+
+    /// The step of departure.
+    pub fn departure(&self) -> u32
+        ensures { result ≡ self.now.departure }
+    {
+        self.departure
+    }
+
+    /// The first link of the route that isn't entered yet, and `None` exactly where all are
+    /// entered. A rider who has one hasn't arrived.
+    pub fn next_link(&self) -> Option<LinkNo>
+        ensures link { option_map (λ link. link.0) result
+            ≡ slice_get self.now.route (length self.now.entries) }
+        ensures none { IsNone result ↔ (length self.now.entries ≡ length self.now.route) }
+        ensures under_way { IsSome result → self.now.arrival ≡ None }
+    {
+        self.route.as_slice().get(self.entries.len()).copied()
+    }
+
+    /// The step of the last entry, and `None` exactly where no link is entered.
+    #[tactic(auto, using(crate::proofs::LastFacts::last_is))]
+    pub fn last_entry(&self) -> Option<u32>
+        ensures step { result ≡ last_or None self.now.entries }
+        ensures none { IsNone result ↔ (self.now.entries ≡ []) }
+    {
+        self.entries.last().copied()
+    }
+
+    /// The entry steps and the step of arrival, given away.
+    pub fn journey(self) -> Journey
+        ensures entries { result.entries ≡ self.entries }
+        ensures arrival { result.arrival ≡ self.arrival }
+    {
+        Journey {
+            entries: Steps::of(self.entries),
+            arrival: self.arrival,
+        }
+    }
+
+    // Notes a step as that of the next entry, or of the arrival where all links are entered.
+    pub(crate) fn note(&mut self, step: u32)
+        requires { self.old.arrival ≡ None }
+        ensures { self.new ≡ moved self.old step }
+    {
+        if self.entries.len() < self.route.as_slice().len() {
+            self.enter(step);
+        } else {
+            self.arrival = Some(step);
+        }
+    }
+
+    // Notes a step as that of the next entry. The room is there.
+    fn enter(&mut self, step: u32)
+        requires { length self.old.entries < length self.old.route }
+        ensures { self.new ≡ record self.old { entries = self.old.entries ++ step ∷ [] } }
+    {
+        match self.entries.push(step) {
+            Ok(()) => {}
+            Err(_) => unreachable!(),
+        }
+    }
+}
