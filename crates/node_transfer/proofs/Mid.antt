@@ -1,0 +1,89 @@
+-- A node's cell in the middle of its transfer, by the moves that it has made so far in the step.
+use Rattle.std.specs.Prelude.{ℕ, suc, ◌-◌, min, nat_le, List, [], ◌++◌, map, filter, Option, None, Some}
+use Rattle.dta_model.specs.Allowance.{carried, allowance}
+use Rattle.dta_model.specs.Loading.{trace_after}
+use Rattle.dta_model.specs.NodeMoves.{left, entered, turned}
+use Rattle.dta_model.specs.Plans.{link_at, link_allowance, turn, departure_of}
+use Rattle.dta_model.specs.Riders.{RiderState, riders}
+use Rattle.dta_model.specs.Room.{room}
+use Rattle.dta_model.specs.Stages.{staying, waiting_for, arrived_before, arrive_by, batch_by}
+use Rattle.dta_model.specs.Trace.{Move, queue_of}
+use Rattle.dta_model.specs.declared.plan.Plan.{Plan}
+use Rattle.node_transfer.specs.Contents.{kept_turns, turn_by, storage_by, gate_after, meter_after}
+use Rattle.node_transfer.specs.Meter.{MeterState}
+use Rattle.node_transfer.specs.declared.in_link.InLink.{InLink}
+use Rattle.node_transfer.specs.declared.mail.Mail.TheVariants.{Away, Batch}
+use Rattle.node_transfer.specs.declared.out_link.OutLink.{OutLink}
+use Rattle.node_transfer.specs.declared.out_link.Waiting.{Waiting}
+use Rattle.node_transfer.specs.declared.pass.Gate.{Gate}
+use Rattle.node_transfer.specs.declared.turn.Turn.{Turn}
+
+-- a rate in step t, of whose allowance some are used
+abbrev pub meter_mid : Plan → ℕ → ℕ → ℕ → MeterState
+meter_mid p t rate used = record { rate = rate; carried = carried rate p.delta (suc t); left = allowance rate p.delta t - used }
+
+abbrev pub capped_room : Option ℕ → ℕ → ℕ
+capped_room None a = a
+capped_room (Some places) a = min a places
+
+-- M are the moves so far
+module _ (p : Plan) (n t : ℕ) where
+  abbrev pub T : List Move
+  T = trace_after p t
+
+  abbrev pub line_mid : List Move → ℕ → List RiderState
+  line_mid M l = riders p T (staying M (queue_of l T))
+
+  abbrev pub turn_mid : List Move → ℕ → ℕ → Turn
+  turn_mid M l b = turn_by (λ rate. meter_mid p t rate (turned p n t T M l b)) b (turn p l b)
+
+  abbrev pub gate_mid : List Move → ℕ → Gate
+  gate_mid M l = record {
+    free = (link_at p l).free;
+    outflow = meter_mid p t (link_at p l).rate (left p n t T M l);
+    turns = map (turn_mid M l) (kept_turns p n l);
+  }
+
+  -- how many may enter a link in the step
+  abbrev pub takes : ℕ → ℕ
+  takes b = capped_room (room p b t T) (link_allowance p b t)
+
+  -- those who wait and are due, and those who are later
+  abbrev pub due_now : List Move → ℕ → List ℕ
+  due_now M b = filter (λ v. nat_le (departure_of p v) t) (staying M (waiting_for p b T))
+
+  abbrev pub due_later : List Move → ℕ → List ℕ
+  due_later M b = filter (λ v. nat_le (suc t) (departure_of p v)) (staying M (waiting_for p b T))
+
+  abbrev pub waiting_mid : List Move → ℕ → Waiting
+  waiting_mid M b = record { later = riders p T (due_later M b); due = riders p T (due_now M b) }
+
+  abbrev pub out_mid : List Move → ℕ → OutLink
+  out_mid M b = record {
+    link = b;
+    inflow = record { rate = (link_at p b).rate; carried = carried (link_at p b).rate p.delta (suc t); left = takes b - entered p n t T M b };
+    waiting = waiting_mid M b;
+    batch = batch_by p b T M;
+    mail = Away;
+  }
+
+  abbrev pub arrived_mid : List Move → List RiderState
+  arrived_mid M = arrived_before p n t ++ arrive_by p T M
+
+  -- an in-link that has had its turn, and an out-link that has
+  abbrev pub in_done : List Move → ℕ → InLink
+  in_done M l = record {
+    line = line_mid M l;
+    gate = gate_after p n (suc t) l;
+    storage = storage_by p.queue (link_at p l).storage;
+    mail = Away;
+  }
+
+  abbrev pub out_done : List Move → ℕ → OutLink
+  out_done M b = record {
+    link = b;
+    inflow = meter_after p (suc t) (link_at p b).rate;
+    waiting = waiting_mid M b;
+    batch = [];
+    mail = Batch t (batch_by p b T M);
+  }

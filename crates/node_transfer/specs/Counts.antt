@@ -1,0 +1,31 @@
+-- How many vehicles of a cell wait, run and have arrived.
+use Rattle.std.specs.List.{sum_by}
+use Rattle.std.specs.Prelude.{ℕ, List, length, min}
+use Rattle.dta_model.specs.Loading.{trace_after}
+use Rattle.dta_model.specs.Plans.{ins, outs}
+use Rattle.dta_model.specs.Stages.{arrived_before, waiting_before}
+use Rattle.dta_model.specs.State.{count_on}
+use Rattle.dta_model.specs.declared.plan.Plan.{Plan}
+use Rattle.link_queues.specs.Lines.{due}
+use Rattle.dta_model.specs.Riders.{RiderState}
+use Rattle.node_transfer.specs.Cells.{line_length, waiting_length}
+use Rattle.node_transfer.specs.declared.in_link.InLink.{InLink}
+use Rattle.node_transfer.specs.declared.out_link.OutLink.{OutLink}
+use Rattle.node_transfer.specs.declared.places.TheConstants.{MOST_COUNT}
+use Rattle.node_transfer.specs.declared.cell.CellCounts.{CellCounts}
+
+-- of node n after t steps: those who wait for its out-links and are due, those on its in-links, and those who arrived at it
+abbrev pub counts_at : Plan → ℕ → ℕ → CellCounts
+counts_at p n t = record {
+  waiting = sum_by (λ b. due t (waiting_before p t b)) (outs p n);
+  running = sum_by (count_on (trace_after p t)) (ins p n);
+  arrived = length (arrived_before p n t);
+}
+
+-- the numbers of riders in the lines of a cell; a sum that no number holds is the greatest one
+abbrev pub counted : List InLink → List OutLink → List RiderState → CellCounts
+counted ins outs arrived = record {
+  waiting = min (sum_by waiting_length outs) MOST_COUNT;
+  running = min (sum_by line_length ins) MOST_COUNT;
+  arrived = length arrived;
+}

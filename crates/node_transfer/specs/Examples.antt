@@ -1,0 +1,39 @@
+-- Small worked cases of the definitions.
+use Rattle.std.specs.Prelude.{◌≡◌, ℕ, ◌∷◌, [], None, Some, refl}
+use Rattle.dta_model.specs.Riders.{RiderState}
+use Rattle.node_transfer.specs.Contents.{away, waiting_parts}
+use Rattle.node_transfer.specs.Hand.{handed}
+use Rattle.node_transfer.specs.Laws.{put_mail}
+use Rattle.node_transfer.specs.Outs.{released}
+use Rattle.node_transfer.specs.Start.{no_journey, no_journeys}
+use Rattle.node_transfer.specs.declared.mail.Mail.TheVariants.{Away, Room}
+use Rattle.node_transfer.specs.declared.places.TheConstants.{MOST_COUNT}
+
+most_count : MOST_COUNT ≡ 18446744073709551615
+most_count = refl
+
+-- two riders before their first link, who depart at steps 3 and 4
+abbrev waiting : ℕ → ℕ → RiderState
+waiting number departure = record { number = number; departure = departure; route = 2 ∷ []; entries = []; arrival = None }
+
+-- after four steps the first of them is due
+one_is_due : waiting_parts 4 (waiting 0 3 ∷ waiting 1 4 ∷ []) ≡ record { later = waiting 1 4 ∷ []; due = waiting 0 3 ∷ [] }
+one_is_due = refl
+
+-- step 4 releases the other one, behind the first
+both_are_due : released 4 (waiting 1 4 ∷ []) (waiting 0 3 ∷ []) ≡ record { later = []; due = waiting 0 3 ∷ waiting 1 4 ∷ [] }
+unfolding released
+both_are_due = refl
+
+-- a rider hands its journey over at its number, and the other journeys stay
+second_of_three : handed (record (waiting 1 4) { entries = 4 ∷ []; arrival = Some 9 } ∷ []) (no_journeys 3)
+    ≡ no_journey ∷ record { entries = 4 ∷ []; arrival = Some 9 } ∷ no_journey ∷ []
+unfolding handed
+second_of_three = refl
+
+-- a mail that is put at link 7 is there, and at no other link
+at_seven : put_mail 7 (Room 2 None) away 7 ≡ Room 2 None
+at_seven = refl
+
+not_at_six : put_mail 7 (Room 2 None) away 6 ≡ Away
+not_at_six = refl

@@ -1,0 +1,12 @@
+pub mod Meter
+pub mod Pass
+pub mod Outs
+pub mod Cells
+pub mod Hand
+pub mod Contents
+pub mod Start
+pub mod StartInside
+pub mod StartCells
+pub mod Counts
+pub mod Laws
+pub mod Examples

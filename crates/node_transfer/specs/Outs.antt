@@ -1,0 +1,41 @@
+-- An out-link at the start and at the end of a step, on lists.
+use Rattle.std.specs.Prelude.{ℕ, cond, nat_lt, nat_le, List, [], ◌∷◌, ◌++◌, Option, None, Some}
+use Rattle.dta_model.specs.Riders.{RiderState, moved}
+use Rattle.node_transfer.specs.Meter.{MeterState, granted, passed_one, closed, capped}
+use Rattle.node_transfer.specs.declared.mail.Mail.{Mail}
+use Rattle.node_transfer.specs.declared.mail.Mail.TheVariants.{Away, Room, Batch}
+use Rattle.node_transfer.specs.declared.out_link.Waiting.{Waiting}
+use Rattle.node_transfer.specs.declared.out_link.OutLink.{OutLink}
+
+-- those that are due stand behind those that were due before
+unfoldable pub released : ℕ → List RiderState → List RiderState → Waiting
+released step [] due = record { later = []; due = due }
+released step (r ∷ later) due = cond (nat_le r.departure step) (released step later (due ++ r ∷ [])) (record { later = r ∷ later; due = due })
+
+abbrev pub capped_at : Option ℕ → MeterState → MeterState
+capped_at None m = m
+capped_at (Some room) m = capped room m
+
+abbrev pub capped_by : Mail → MeterState → MeterState
+capped_by Away m = m
+capped_by (Room step room) m = capped_at room m
+capped_by (Batch step line) m = m
+
+abbrev pub opened_out : ℕ → ℕ → OutLink → OutLink
+opened_out delta step o = record o { inflow = capped_by o.mail (granted delta o.inflow); waiting = released step o.waiting.later o.waiting.due; mail = Away }
+
+pub record Admitted : Type 0 where
+  pub due : List RiderState
+  pub batch : List RiderState
+  pub meter : MeterState
+
+-- those that are due enter while the allowance lasts
+unfoldable pub admitted : ℕ → List RiderState → List RiderState → MeterState → Admitted
+admitted step [] batch m = record { due = []; batch = batch; meter = m }
+admitted step (r ∷ due) batch m = cond (nat_lt 0 m.left) (admitted step due (batch ++ moved r step ∷ []) (passed_one m)) (record { due = r ∷ due; batch = batch; meter = m })
+
+abbrev pub closed_with : ℕ → OutLink → Admitted → OutLink
+closed_with step o a = record o { inflow = closed a.meter; waiting = record o.waiting { due = a.due }; batch = []; mail = Batch step a.batch }
+
+abbrev pub closed_out : ℕ → OutLink → OutLink
+closed_out step o = closed_with step o (admitted step o.waiting.due o.batch o.inflow)

@@ -1,0 +1,180 @@
+// A node's cell.
+ghost use Rattle.dta_model.specs.declared.plan.Plan.{Plan};
+ghost use Rattle.node_transfer.specs.Cells.{CanGather, CanTransfer, gathered, in_mail, out_mail, transferred, with_in_mail, with_out_mail};
+ghost use Rattle.node_transfer.specs.Contents.{IsStep, away, batch_of, cell_after, cell_before, room_of};
+ghost use Rattle.node_transfer.specs.Counts.{counted, counts_at};
+ghost use Rattle.node_transfer.specs.Hand.{Within, handed, riders_in};
+ghost use Rattle.dta_model.specs.Sound.{IsSound};
+ghost use Rattle.std.specs.Prelude.{◌≡◌, ℕ, suc, ◌<◌, ◌≤◌, [], All, length, slice_get, IfSome, Some};
+
+use crate::hand::hand_parts;
+use crate::in_link::{InLink, gather_links};
+use crate::mail::Mail;
+use crate::out_link::OutLink;
+use crate::places::{count_parts, put_in_mail, put_out_mail, swap_in_mail, swap_out_mail};
+use crate::step::step_links;
+use dta_model::{Loaded, MOST_HORIZON};
+use fixed_units::MOST_STEP;
+use link_queues::Line;
+use std::alloc::Global;
+use std::marker::Model;
+
+/// How many vehicles of a cell wait, run and have arrived.
+#[derive(Clone, Copy, Drop)]
+pub struct CellCounts {
+    pub waiting: u64,
+    pub running: u64,
+    pub arrived: u64,
+}
+
+/// One node's links, riders and credits.
+#[derive(Drop)]
+pub struct NodeCell {
+    ins: Vec<InLink>,
+    outs: Vec<OutLink>,
+    arrived: Line,
+    delta: u32,
+}
+
+impl Model for NodeCell {
+    ghost use Rattle.fixed_units.specs.declared.link.TheConstants.{MOST_STEP};
+    ghost use Rattle.std.specs.Prelude.{◌≤◌};
+    ghost use Rattle.node_transfer.specs.Cells.{CellState};
+
+    ghost Value = { CellState };
+
+    ghost view = { λ c. record { ins = c.ins.items; outs = c.outs.items; arrived = c.arrived; delta = c.delta } };
+
+    ghost invariant = { λ c. c.delta ≤ MOST_STEP };
+}
+
+impl NodeCell {
+    // A cell of these links, where nobody has arrived.
+    pub(crate) fn of(alloc: Global, ins: Vec<InLink>, outs: Vec<OutLink>, delta: u32) -> Self
+        requires { delta ≤ MOST_STEP }
+        ensures { result ≡ record { ins = ins.items; outs = outs.items; arrived = []; delta = delta } }
+    {
+        NodeCell {
+            ins,
+            outs,
+            arrived: Line::new(alloc),
+            delta,
+        }
+    }
+
+    /// Moves the vehicles of a step. The mail of each out-link is the room of that step, and becomes the batch of it.
+    pub fn transfer(&mut self, step: u32)
+        requires { (p : Plan) × (n : ℕ) × IsStep p n step × (self.old ≡ cell_before p n step away (room_of p step)) }
+        ensures { (p : Plan) (n : ℕ) → IsStep p n step → self.old ≡ cell_before p n step away (room_of p step)
+            → self.new ≡ cell_after p n step away (batch_of p step) }
+    {
+        self.pass_vehicles(step);
+    }
+
+    /// Puts those who come in a step last on their links. The mail of each in-link is the batch of that step, and becomes the room
+    /// of the next one.
+    pub fn gather(&mut self, step: u32)
+        requires { (p : Plan) × (n : ℕ) × IsStep p n step × (self.old ≡ cell_after p n step (batch_of p step) away) }
+        ensures { (p : Plan) (n : ℕ) → IsStep p n step → self.old ≡ cell_after p n step (batch_of p step) away
+            → self.new ≡ cell_before p n (suc step) (room_of p (suc step)) away }
+    {
+        self.join_batches(step);
+    }
+
+    // Moves the vehicles of a step.
+    fn pass_vehicles(&mut self, step: u32)
+        requires { CanTransfer self.old }
+        ensures { self.new ≡ transferred step self.old }
+    {
+        step_links(
+            &mut self.ins,
+            &mut self.outs,
+            &mut self.arrived,
+            self.delta,
+            step,
+        );
+    }
+
+    // Puts those who come in a step last on their links.
+    fn join_batches(&mut self, step: u32)
+        requires step { step < MOST_HORIZON }
+        requires can { All (CanGather step) self.old.ins }
+        ensures { self.new ≡ gathered step self.old }
+    {
+        gather_links(&mut self.ins, step);
+    }
+
+    /// Fills the place of an out-link's mail.
+    pub fn take_out(&mut self, place: usize, mail: Mail)
+        requires there { place < length self.old.outs }
+        requires away { out_mail place self.old ≡ Some Mail.Away }
+        ensures { self.new ≡ with_out_mail place mail self.old }
+    {
+        put_out_mail(&mut self.outs, place, mail);
+    }
+
+    /// Fills the place of an in-link's mail.
+    pub fn take_in(&mut self, place: usize, mail: Mail)
+        requires there { place < length self.old.ins }
+        requires away { in_mail place self.old ≡ Some Mail.Away }
+        ensures { self.new ≡ with_in_mail place mail self.old }
+    {
+        put_in_mail(&mut self.ins, place, mail);
+    }
+
+    /// Takes out the mail of an out-link.
+    pub fn give_out(&mut self, place: usize) -> Mail
+        requires { place < length self.old.outs }
+        ensures mail { out_mail place self.old ≡ Some result }
+        ensures away { self.new ≡ with_out_mail place Mail.Away self.old }
+    {
+        swap_out_mail(&mut self.outs, place)
+    }
+
+    /// Takes out the mail of an in-link.
+    pub fn give_in(&mut self, place: usize) -> Mail
+        requires { place < length self.old.ins }
+        ensures mail { in_mail place self.old ≡ Some result }
+        ensures away { self.new ≡ with_in_mail place Mail.Away self.old }
+    {
+        swap_in_mail(&mut self.ins, place)
+    }
+
+    /// How many vehicles are on the in-link of a place.
+    pub fn on_link(&self, place: usize) -> u64
+        requires { place < length self.now.ins }
+        ensures line { IfSome (slice_get self.now.ins place) (λ link. result ≡ length link.line) }
+    {
+        self.ins[place].line.len() as u64
+    }
+
+    /// How many vehicles wait for the out-links and are due, how many are on the in-links, and how many have arrived, where the cell
+    /// is before the transfer of step `steps`. It looks at each link once, and at no vehicle.
+    pub fn counts(&self, steps: u32) -> CellCounts
+        ensures { (p : Plan) (n : ℕ) → IsSound p → n < length p.net.nodes → self.now ≡ cell_before p n steps away away
+            → result ≡ counts_at p n steps }
+    {
+        self.count_vehicles()
+    }
+
+    // How many wait and are due, are on the in-links, and have arrived.
+    fn count_vehicles(&self) -> CellCounts
+        ensures { result ≡ counted self.now.ins self.now.outs self.now.arrived }
+    {
+        count_parts(&self.ins, &self.outs, &self.arrived)
+    }
+
+    /// Sets the journey of each rider of the cell; the other journeys stay.
+    pub fn hand_over(self, loaded: &mut Loaded)
+        requires { All (Within (length loaded.old)) (riders_in self) }
+        ensures { loaded.new ≡ handed (riders_in self) loaded.old }
+    {
+        let NodeCell {
+            mut ins,
+            mut outs,
+            mut arrived,
+            ..
+        } = self;
+        hand_parts(&mut ins, &mut outs, &mut arrived, loaded);
+    }
+}

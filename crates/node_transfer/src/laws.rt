@@ -1,0 +1,12 @@
+// Laws of the contents of cells. Each is the contract of a function that does nothing.
+ghost use Rattle.node_transfer.specs.Laws.{CellsHandOver, MailGoesByLinks};
+
+/// A mail that is put into the place of a link is the mail of that link.
+pub fn mail_goes_by_links()
+    ensures { MailGoesByLinks }
+{}
+
+/// All cells together, at the horizon, hand over the journeys of the loading.
+pub fn cells_hand_over()
+    ensures { CellsHandOver }
+{}

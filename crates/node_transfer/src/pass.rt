@@ -1,0 +1,187 @@
+// One pass over one in-link.
+ghost use Rattle.std.specs.Prelude.{◌≡◌, ℕ, ◌+◌, ◌-◌, ◌<◌, ◌≤◌, List, [], ◌∷◌, ◌++◌, length, IfSome, IsSomeAnd, nat_le, slice_get, slice_set, drop, All, IsTrue, true, false, map, Option, None, Some};
+ghost use Rattle.dta_model.specs.Riders.{RiderState, moved};
+ghost use Rattle.node_transfer.specs.Meter.{MeterState, granted, passed_one, closed};
+ghost use Rattle.node_transfer.specs.Pass.{Work, verdict, passed, CanPass, Rides, FitsAll, total, out_links, waitings, turn_links, used_at, entered_at, turn_open, out_open, is_entry, opened_gate, closed_gate, after_arrival, after_entry, place_of};
+
+use crate::meter::Meter;
+use crate::out_link::{OutLink, place_to};
+use crate::turn::{Turns, has_pass};
+use fixed_units::MOST_STEP;
+use link_queues::{Line, MOST_RIDERS, Rider};
+
+/// What lets the heads of an in-link go.
+#[derive(Drop)]
+pub struct Gate {
+    pub free: u32,
+    pub outflow: Meter,
+    pub turns: Turns,
+}
+
+/// What the head of a line does.
+#[derive(Drop)]
+pub enum Verdict {
+    Stays,
+    Arrives,
+    Enters(usize, usize),
+}
+
+/// Grants a gate its allowances.
+pub fn open_gate(gate: &mut Gate, delta: u32)
+    requires { delta ≤ MOST_STEP }
+    ensures { gate.new ≡ opened_gate delta gate.old }
+{
+    gate.outflow.open(delta);
+    gate.turns.open(delta);
+}
+
+/// Ends the step for a gate.
+pub fn close_gate(gate: &mut Gate)
+    ensures { gate.new ≡ closed_gate gate.old }
+{
+    gate.outflow.close();
+    gate.turns.close();
+}
+
+/// Whether a rider that is ready at a step may take the turn at a place into the out-link at a place.
+pub fn may_enter(
+    turns: &Turns,
+    outs: &[OutLink],
+    ready: u64,
+    step: u32,
+    place: usize,
+    turn: usize,
+) -> bool
+    requires there { place < length outs.now }
+    ensures { result ≡ is_entry step ready turns.now outs.now place turn }
+{
+    match turns.get(turn) {
+        None => ready <= step as u64 && outs[place].inflow.left() > 0,
+        Some(way) => is_served(ready, way.penalty, step)
+            && has_pass(way)
+            && outs[place].inflow.left() > 0,
+    }
+}
+
+/// Whether one that is ready at a step has served the penalty of a turn by another.
+pub fn is_served(ready: u64, penalty: u32, step: u32) -> bool
+    ensures { result ≡ nat_le (ready + penalty) step }
+{
+    ready <= step as u64 && penalty as u64 <= step as u64 - ready
+}
+
+/// What the rider does next.
+#[tactic(auto, unfolding(crate::specs::Pass::verdict))]
+pub fn judge(rider: &Rider, gate: &Gate, outs: &[OutLink], step: u32) -> Verdict
+    requires { Rides (out_links outs.now) rider.now }
+    ensures value { result ≡ verdict step gate.now outs.now rider.now }
+    ensures arrives { result ≡ Verdict.Arrives → 0 < gate.now.outflow.left }
+    ensures enters { (p k : ℕ) → result ≡ Verdict.Enters p k → (0 < gate.now.outflow.left) × (out_open (slice_get outs.now p) ≡ true) × (turn_open (slice_get gate.now.turns k) ≡ true) }
+{
+    let ready = match rider.last_entry() {
+        Some(entry) => entry as u64 + gate.free as u64,
+        None => return Verdict::Stays,
+    };
+    if gate.outflow.left() > 0 {
+        match rider.next_link() {
+            None => {
+                if ready <= step as u64 {
+                    Verdict::Arrives
+                } else {
+                    Verdict::Stays
+                }
+            }
+            Some(link) => {
+                let place = place_to(outs, link.0);
+                let turn = gate.turns.place_to(link.0);
+                if may_enter(&gate.turns, outs, ready, step, place, turn) {
+                    Verdict::Enters(place, turn)
+                } else {
+                    Verdict::Stays
+                }
+            }
+        }
+    } else {
+        Verdict::Stays
+    }
+}
+
+/// One vehicle leaves the network through the gate.
+pub fn count_arrival(gate: &mut Gate)
+    requires { 0 < gate.old.outflow.left }
+    ensures { gate.new ≡ after_arrival gate.old }
+{
+    gate.outflow.pass();
+}
+
+/// One vehicle leaves by the turn at a place.
+pub fn count_entry(gate: &mut Gate, turn: usize)
+    requires left { 0 < gate.old.outflow.left }
+    requires open { turn_open (slice_get gate.old.turns turn) ≡ true }
+    ensures { gate.new ≡ after_entry turn gate.old }
+{
+    gate.outflow.pass();
+    gate.turns.use_at(turn);
+}
+
+/// Moves the head of the line into an out-link.
+pub fn enter_at(line: &mut Line, outs: &mut [OutLink], place: usize, step: u32)
+    requires rides { IsSomeAnd (slice_get line.old 0) (λ r. r.arrival ≡ None) }
+    requires open { out_open (slice_get outs.old place) ≡ true }
+    requires fits { IfSome (slice_get outs.old place) (λ o. length o.batch < MOST_RIDERS) }
+    ensures rest { line.new ≡ drop 1 line.old }
+    ensures entered { IfSome (slice_get line.old 0) (λ r. outs.new ≡ entered_at place step r outs.old) }
+{
+    let out = &mut outs[place];
+    line.move_front_to(&mut out.batch, step);
+    out.inflow.pass();
+}
+
+/// Moves the head of the line, where it may move, and says whether it did.
+#[tactic(auto, using(crate::proofs::Passes::pass_steps))]
+pub fn advance(
+    line: &mut Line,
+    gate: &mut Gate,
+    outs: &mut [OutLink],
+    arrived: &mut Line,
+    step: u32,
+) -> bool
+    requires { CanPass line.old outs.old arrived.old }
+    ensures kept { CanPass line.new outs.new arrived.new }
+    ensures links { out_links outs.new ≡ out_links outs.old }
+    ensures waits { waitings outs.new ≡ waitings outs.old }
+    ensures total { total line.new outs.new arrived.new ≤ total line.old outs.old arrived.old }
+    ensures goes { passed step line.old gate.old outs.old arrived.old ≡ passed step line.new gate.new outs.new arrived.new }
+    ensures shorter { IsTrue result → length line.new + 1 ≡ length line.old }
+    ensures done { result ≡ false → passed step line.new gate.new outs.new arrived.new ≡ record { line = line.new; gate = gate.new; outs = outs.new; arrived = arrived.new } }
+{
+    let what = match line.front() {
+        None => return false,
+        Some(rider) => judge(rider, gate, outs, step),
+    };
+    match what {
+        Verdict::Stays => false,
+        Verdict::Arrives => {
+            line.move_front_to(arrived, step);
+            count_arrival(gate);
+            true
+        }
+        Verdict::Enters(place, turn) => {
+            enter_at(line, outs, place, step);
+            count_entry(gate, turn);
+            true
+        }
+    }
+}
+
+/// Moves heads of the line until none may move.
+pub fn pass(line: &mut Line, gate: &mut Gate, outs: &mut [OutLink], arrived: &mut Line, step: u32)
+    requires { CanPass line.old outs.old arrived.old }
+    ensures kept { CanPass line.new outs.new arrived.new }
+    ensures links { out_links outs.new ≡ out_links outs.old }
+    ensures waits { waitings outs.new ≡ waitings outs.old }
+    ensures total { total line.new outs.new arrived.new ≤ total line.old outs.old arrived.old }
+    ensures done { passed step line.old gate.old outs.old arrived.old ≡ record { line = line.new; gate = gate.new; outs = outs.new; arrived = arrived.new } }
+{
+    while advance(line, gate, outs, arrived, step) {}
+}

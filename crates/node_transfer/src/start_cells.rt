@@ -1,0 +1,215 @@
+// Cells at the start of a loading.
+ghost use Rattle.dta_model.specs.Lent.{plan_of};
+ghost use Rattle.dta_model.specs.Plans.{ins as ins_of, link_at, link_numbers, outs as outs_of};
+ghost use Rattle.dta_model.specs.Sound.{IsSound};
+ghost use Rattle.net_core.specs.Network.{numbers_below};
+ghost use Rattle.node_transfer.specs.Meter.{unused};
+ghost use Rattle.node_transfer.specs.StartCells.{kept_at_start, lines_left, start_in, taken_cell, taken_cells, taken_outs, turns_at_start};
+ghost use Rattle.std.specs.Prelude.{◌≡◌, ◌<◌, ◌≤◌, All, IfOk, IfSome, OnOk, length, map, option_map};
+
+use crate::cell::NodeCell;
+use crate::in_link::InLink;
+use crate::mail::Mail;
+use crate::meter::Meter;
+use crate::out_link::{OutLink, Waiting};
+use crate::pass::Gate;
+use crate::start::storage_of;
+use crate::turn::{Turn, Turns};
+use dta_model::Loading;
+use link_queues::Line;
+use net_core::{LinkNo, MOST_RATE, Memory, NodeNo};
+use std::alloc::{AllocError, Global};
+
+/// The cell of each node before the first step. The waiting lines are moved into them.
+#[tactic(auto, using(crate::proofs::Starts::start_steps))]
+pub fn start_cells(
+    alloc: Global,
+    loading: &Loading,
+    lines: &mut [Line],
+) -> Result<Vec<NodeCell>, Memory>
+    requires sound { IsSound (plan_of loading.now) }
+    requires lines { length lines.old ≡ length loading.now.net.now.links }
+    ensures { IfOk result (λ cells. cells.items ≡ taken_cells (plan_of loading.now) lines.old (numbers_below (length loading.now.net.now.nodes))) }
+{
+    let mut cells = Vec::new(alloc);
+    for n in 0..loading.net.node_count() {
+        let cell = start_cell(alloc, loading, NodeNo(n), lines)?;
+        match cells.push(cell) {
+            Ok(()) => {}
+            Err(_) => return Err(AllocError),
+        }
+    }
+    Ok(cells)
+}
+
+// The cell of a node before the first step.
+fn start_cell(
+    alloc: Global,
+    loading: &Loading,
+    node: NodeNo,
+    lines: &mut [Line],
+) -> Result<NodeCell, Memory>
+    requires sound { IsSound (plan_of loading.now) }
+    requires node { node.0 < length loading.now.net.now.nodes }
+    requires lines { length lines.old ≡ length loading.now.net.now.links }
+    ensures cell { IfOk result (λ cell. cell ≡ taken_cell (plan_of loading.now) lines.old node.0) }
+    ensures left { OnOk result (lines.new ≡ lines_left lines.old (outs_of (plan_of loading.now) node.0)) }
+    ensures count { length lines.new ≡ length lines.old }
+{
+    let outs = loading.net.outs(node);
+    let out_links = start_outs(alloc, loading, outs, lines)?;
+    let in_links = start_ins(alloc, loading, loading.net.ins(node), outs)?;
+    Ok(NodeCell::of(alloc, in_links, out_links, loading.delta))
+}
+
+// Out-links before the first step. Their waiting lines are moved into them.
+#[tactic(auto, using(crate::proofs::Starts::start_steps))]
+fn start_outs(
+    alloc: Global,
+    loading: &Loading,
+    outs: &[LinkNo],
+    lines: &mut [Line],
+) -> Result<Vec<OutLink>, Memory>
+    requires sound { IsSound (plan_of loading.now) }
+    requires links { All (λ l. l.0 < length loading.now.net.now.links) outs.now }
+    requires lines { length lines.old ≡ length loading.now.net.now.links }
+    ensures taken { IfOk result (λ out_links. out_links.items ≡ taken_outs (plan_of loading.now) lines.old (link_numbers outs.now)) }
+    ensures left { OnOk result (lines.new ≡ lines_left lines.old (link_numbers outs.now)) }
+    ensures count { length lines.new ≡ length lines.old }
+{
+    let mut out_links = Vec::new(alloc);
+    for i in 0..outs.len() {
+        let out = OutLink {
+            link: outs[i].0,
+            inflow: start_meter(loading, outs[i]),
+            waiting: Waiting {
+                later: lines[outs[i].0 as usize].take_all(),
+                due: Line::new(alloc),
+            },
+            batch: Line::new(alloc),
+            mail: Mail::Away,
+        };
+        match out_links.push(out) {
+            Ok(()) => {}
+            Err(_) => return Err(AllocError),
+        }
+    }
+    Ok(out_links)
+}
+
+// In-links before the first step.
+#[tactic(auto, using(crate::proofs::Starts::start_steps))]
+fn start_ins(
+    alloc: Global,
+    loading: &Loading,
+    ins: &[LinkNo],
+    outs: &[LinkNo],
+) -> Result<Vec<InLink>, Memory>
+    requires sound { IsSound (plan_of loading.now) }
+    requires ins { All (λ l. l.0 < length loading.now.net.now.links) ins.now }
+    requires outs { All (λ l. l.0 < length loading.now.net.now.links) outs.now }
+    ensures { IfOk result (λ in_links. in_links.items ≡ map (start_in (plan_of loading.now) (link_numbers outs.now)) (link_numbers ins.now)) }
+{
+    let mut in_links = Vec::new(alloc);
+    for i in 0..ins.len() {
+        let link = start_in_link(alloc, loading, ins[i], outs)?;
+        match in_links.push(link) {
+            Ok(()) => {}
+            Err(_) => return Err(AllocError),
+        }
+    }
+    Ok(in_links)
+}
+
+// An in-link before the first step.
+#[tactic(auto, using(crate::proofs::Starts::start_steps))]
+fn start_in_link(
+    alloc: Global,
+    loading: &Loading,
+    link: LinkNo,
+    outs: &[LinkNo],
+) -> Result<InLink, Memory>
+    requires sound { IsSound (plan_of loading.now) }
+    requires link { link.0 < length loading.now.net.now.links }
+    requires outs { All (λ l. l.0 < length loading.now.net.now.links) outs.now }
+    ensures { IfOk result (λ in_link. in_link ≡ start_in (plan_of loading.now) (link_numbers outs.now) link.0) }
+{
+    let row = loading.net.link(link);
+    let outflow = start_meter(loading, link);
+    let turns = start_turns(alloc, loading, link, outs)?;
+    Ok(InLink {
+        line: Line::new(alloc),
+        gate: Gate {
+            free: row.free,
+            outflow,
+            turns,
+        },
+        storage: storage_of(loading.queue, row.storage),
+        mail: Mail::Away,
+    })
+}
+
+// The turns of an in-link that have a penalty or a limit.
+#[tactic(auto, using(crate::proofs::Starts::start_steps))]
+fn start_turns(
+    alloc: Global,
+    loading: &Loading,
+    link: LinkNo,
+    outs: &[LinkNo],
+) -> Result<Turns, Memory>
+    requires sound { IsSound (plan_of loading.now) }
+    requires link { link.0 < length loading.now.net.now.links }
+    requires outs { All (λ l. l.0 < length loading.now.net.now.links) outs.now }
+    ensures { IfOk result (λ turns. turns ≡ turns_at_start (plan_of loading.now) link.0 (link_numbers outs.now)) }
+{
+    let mut list = Vec::new(alloc);
+    for i in 0..outs.len() {
+        if let Some(turn) = start_turn(loading, link, outs[i]) {
+            match list.push(turn) {
+                Ok(()) => {}
+                Err(_) => return Err(AllocError),
+            }
+        }
+    }
+    Ok(Turns { list })
+}
+
+// The rate of a link, of which nothing is granted yet.
+#[tactic(auto, using(crate::proofs::Starts::rate_fits, crate::proofs::Starts::got_link))]
+fn start_meter(loading: &Loading, link: LinkNo) -> Meter
+    requires sound { IsSound (plan_of loading.now) }
+    requires link { link.0 < length loading.now.net.now.links }
+    ensures { result ≡ unused (link_at (plan_of loading.now) link.0).rate }
+{
+    Meter::new(loading.net.link(link).rate)
+}
+
+// The turn from a link to another, where it has a penalty or a limit.
+#[tactic(auto, using(crate::proofs::Starts::limit_fits))]
+fn start_turn(loading: &Loading, a: LinkNo, b: LinkNo) -> Option<Turn>
+    requires sound { IsSound (plan_of loading.now) }
+    requires from { a.0 < length loading.now.net.now.links }
+    requires to { b.0 < length loading.now.net.now.links }
+    ensures { result ≡ kept_at_start (plan_of loading.now) a.0 b.0 }
+{
+    let turn = loading.net.turn(a, b)?;
+    if turn.penalty == 0 && turn.rate.is_none() {
+        return None;
+    }
+    Some(Turn {
+        to: b.0,
+        penalty: turn.penalty,
+        limit: limit_of(turn.rate),
+    })
+}
+
+// A limit of which nothing is granted yet.
+fn limit_of(rate: Option<u64>) -> Option<Meter>
+    requires { IfSome rate (λ r. r ≤ MOST_RATE) }
+    ensures { result ≡ option_map unused rate }
+{
+    match rate {
+        None => None,
+        Some(rate) => Some(Meter::new(rate)),
+    }
+}

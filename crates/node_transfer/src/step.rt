@@ -1,0 +1,27 @@
+// One step of a node's links.
+ghost use Rattle.std.specs.Prelude.{◌≡◌, ◌≤◌};
+ghost use Rattle.node_transfer.specs.Cells.{CellState, transferred, CanTransfer};
+
+use crate::in_link::{InLink, pass_rotated};
+use crate::out_link::{OutLink, close_outs, open_outs};
+use crate::places::start_place;
+use fixed_units::MOST_STEP;
+use link_queues::Line;
+
+/// Moves the vehicles of one step.
+pub fn step_links(
+    ins: &mut [InLink],
+    outs: &mut [OutLink],
+    arrived: &mut Line,
+    delta: u32,
+    step: u32,
+)
+    requires delta { delta ≤ MOST_STEP }
+    requires can { CanTransfer (record { ins = ins.old; outs = outs.old; arrived = arrived.old; delta = delta }) }
+    ensures { transferred step (record { ins = ins.old; outs = outs.old; arrived = arrived.old; delta = delta }) ≡ record { ins = ins.new; outs = outs.new; arrived = arrived.new; delta = delta } }
+{
+    open_outs(outs, delta, step);
+    let start = start_place(step, ins.len());
+    pass_rotated(ins, outs, arrived, delta, step, start);
+    close_outs(outs, step);
+}

@@ -1,0 +1,47 @@
+ghost use Rattle.std.specs.Prelude.{◌≡◌, [], IfOk};
+
+use crate::opening;
+use dta_model::{Loading, Queue, Routes};
+use net_core::Net;
+use std::alloc::{AllocError, Global};
+use std::test::Fail;
+
+// A network without nodes.
+fn no_net(alloc: Global) -> Result<Net, AllocError>
+    ensures { IfOk result (λ net. net ≡ record { nodes = []; links = []; turns = [] }) }
+{
+    Net::of(alloc, Vec::new(alloc), Vec::new(alloc), Vec::new(alloc))
+}
+
+// No routes.
+fn no_routes(alloc: Global) -> Routes
+    ensures { result ≡ [] }
+{
+    Routes::of(Vec::new(alloc))
+}
+
+#[test]
+fn opens_without_nodes(rt: HostRuntime) -> Result<(), Fail> {
+    let net = no_net(rt.alloc())?;
+    let routes = no_routes(rt.alloc());
+    let loading = Loading {
+        net: &net,
+        queue: Queue::Point,
+        delta: 6,
+        horizon: 1,
+        trips: &[],
+        routes: &routes,
+    };
+    let start = opening(rt.alloc(), &loading);
+    let Loading {
+        net: _,
+        queue: _,
+        delta: _,
+        horizon: _,
+        trips: _,
+        routes: _,
+    } = loading;
+    let start = start?;
+    assert!(rt; start.cells.as_slice().is_empty());
+    Ok(())
+}

@@ -1,0 +1,152 @@
+// Turns of an in-link.
+ghost use Rattle.std.specs.Prelude.{◌≡◌, ℕ, ◌+◌, ◌-◌, ◌<◌, ◌≤◌, length, map, slice_get, List, slice_index_or, slice_set, option_copied, Option, Some, None, IfSome, true, take, drop, ◌++◌};
+ghost use Rattle.node_transfer.specs.Meter.{MeterState, granted, passed_one, closed};
+ghost use Rattle.node_transfer.specs.Pass.{place_of, turn_links, opened_turn, closed_turn, used_turn, limit_open, used_at, turn_open};
+
+use crate::meter::Meter;
+use fixed_units::MOST_STEP;
+use std::marker::Model;
+
+/// A listed turn to a link.
+#[derive(Drop)]
+pub struct Turn {
+    pub to: u32,
+    pub penalty: u32,
+    pub limit: Option<Meter>,
+}
+
+/// The listed turns of an in-link.
+#[derive(Drop)]
+pub struct Turns {
+    pub list: Vec<Turn>,
+}
+
+impl Model for Turns {
+    ghost use Rattle.std.specs.Prelude.{List};
+    ghost use Rattle.node_transfer.specs.declared.turn.Turn.{Turn};
+
+    ghost Value = { List Turn };
+
+    ghost view = { λ t. t.list.items };
+}
+
+/// Grants a turn its allowance.
+pub fn open_turn(turn: &mut Turn, delta: u32)
+    requires { delta ≤ MOST_STEP }
+    ensures { turn.new ≡ opened_turn delta turn.old }
+{
+    match &mut turn.limit {
+        None => {}
+        Some(meter) => meter.open(delta),
+    }
+}
+
+/// Ends the step for a turn.
+pub fn close_turn(turn: &mut Turn)
+    ensures { turn.new ≡ closed_turn turn.old }
+{
+    match &mut turn.limit {
+        None => {}
+        Some(meter) => meter.close(),
+    }
+}
+
+/// One vehicle turns.
+pub fn use_turn(turn: &mut Turn)
+    requires { IfSome turn.old.limit (λ m. 0 < m.left) }
+    ensures { turn.new ≡ used_turn turn.old }
+{
+    match &mut turn.limit {
+        None => {}
+        Some(meter) => meter.pass(),
+    }
+}
+
+/// Whether a turn has a pass left.
+pub fn has_pass(turn: &Turn) -> bool
+    ensures { result ≡ limit_open turn.now.limit }
+{
+    match &turn.limit {
+        None => true,
+        Some(meter) => meter.left() > 0,
+    }
+}
+
+/// Grants all turns their allowances.
+pub fn open_turns(turns: &mut [Turn], delta: u32)
+    requires { delta ≤ MOST_STEP }
+    ensures { turns.new ≡ map (opened_turn delta) turns.old }
+{
+    for i in 0..turns.len() {
+        open_turn(&mut turns[i], delta);
+    }
+}
+
+/// Ends the step for all turns.
+pub fn close_turns(turns: &mut [Turn])
+    ensures { turns.new ≡ map closed_turn turns.old }
+{
+    for i in 0..turns.len() {
+        close_turn(&mut turns[i]);
+    }
+}
+
+/// The place of the turn to a link; their number where there is none.
+pub fn turn_to(turns: &[Turn], link: u32) -> usize
+    ensures { result ≡ place_of link (turn_links turns.now) }
+{
+    let mut place = 0;
+    while place < turns.len() && turns[place].to != link {
+        place += 1;
+    }
+    place
+}
+
+/// Uses the turn at a place, if one is there.
+pub fn use_turn_at(turns: &mut [Turn], place: usize)
+    requires { turn_open (slice_get turns.old place) ≡ true }
+    ensures { turns.new ≡ used_at place turns.old }
+{
+    if place < turns.len() {
+        use_turn(&mut turns[place]);
+    }
+}
+
+impl Turns {
+    /// Grants all turns their allowances.
+    pub fn open(&mut self, delta: u32)
+        requires { delta ≤ MOST_STEP }
+        ensures { self.new ≡ map (opened_turn delta) self.old }
+    {
+        open_turns(&mut self.list, delta);
+    }
+
+    /// Ends the step for all turns.
+    pub fn close(&mut self)
+        ensures { self.new ≡ map closed_turn self.old }
+    {
+        close_turns(&mut self.list);
+    }
+
+    /// One vehicle takes the turn at a place, if one is there.
+    pub fn use_at(&mut self, place: usize)
+        requires { turn_open (slice_get self.old place) ≡ true }
+        ensures { self.new ≡ used_at place self.old }
+    {
+        use_turn_at(&mut self.list, place);
+    }
+
+    /// The place of the turn to a link; their number where there is none.
+    pub fn place_to(&self, link: u32) -> usize
+        ensures { result ≡ place_of link (turn_links self.now) }
+    {
+        turn_to(&self.list, link)
+    }
+
+    /// The turn at a place.
+    pub fn get(&self, place: usize) -> Option<&Turn>
+        ensures { option_copied result ≡ slice_get self.now place }
+    {
+        self.list.get(place)
+    }
+}
