@@ -1,0 +1,17 @@
+//! The plain simulator: a loading on one processor, one node after another.
+//!
+//! [`load_plain`] is the loading to which every other way of loading is equal. In each step all
+//! nodes make their transfers, and then all nodes their gathers. Its promise is that it gives
+//! exactly the journeys of the definition, for every sound loading; only memory can fail.
+#![tactic(auto)]
+
+mod exchange;
+mod hand_over;
+mod node;
+mod phases;
+mod plain;
+
+pub use plain::load_plain;
+
+#[cfg(test)]
+mod tests;
