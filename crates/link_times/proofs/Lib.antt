@@ -1,0 +1,13 @@
+pub mod TravelTimes
+pub mod Along
+pub mod Sums
+pub mod Gone
+pub mod Steps
+pub mod Places
+pub mod OneMore
+pub mod Totals
+pub mod RoundedUp
+pub mod Links
+pub mod Tabled
+pub mod Reading
+pub mod SoundTimes

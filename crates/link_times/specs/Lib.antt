@@ -1,0 +1,6 @@
+pub mod Journeys
+pub mod Sums
+pub mod Means
+pub mod Tables
+pub mod TimeTables
+pub mod Examples
