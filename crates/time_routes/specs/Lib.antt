@@ -1,0 +1,14 @@
+pub mod Paths
+pub mod Rests
+pub mod Firsts
+pub mod Follows
+pub mod Cells
+pub mod Tail
+pub mod Rows
+pub mod Named
+pub mod Routers
+pub mod Onwards
+pub mod ToZone
+pub mod Serves
+pub mod LabelsTo
+pub mod Examples

@@ -1,0 +1,118 @@
+// The ways on from the links of a network.
+ghost use Rattle.std.specs.Prelude.{◌≡◌, ◌++◌, ◌<◌, length, List, IfOk, OnOk, MatchOption, ℕ, Option};
+ghost use Rattle.net_core.specs.Network.{as_zone, link_at, IsNet};
+ghost use Rattle.time_routes.specs.Onwards.{with_turn, ways_from, zone_or_none, end_zone, AreStates};
+ghost use Rattle.time_routes.specs.Serves.{IsRouter};
+ghost use Rattle.time_routes.specs.declared.onward.Onward.{Onward};
+
+use crate::onward::Onward;
+use crate::router::Router;
+use net_core::{LinkNo, Memory, Net, NodeNo, Turn, ZoneNo};
+use std::alloc::Global;
+
+/// Stands for no zone.
+pub(crate) const NO_ZONE: u32 = 4_294_967_295;
+
+// The states of links, and the links that lead them.
+#[derive(Drop)]
+struct States {
+    of: Vec<u32>,
+    leads: Vec<u32>,
+}
+
+// A state for each link.
+#[tactic(auto, using(crate::proofs::StateFacts::own_states))]
+fn states_of(alloc: Global, net: &Net) -> Result<States, Memory>
+    ensures are { IfOk result (λ states. AreStates net.now states.of.items states.leads.items) }
+    ensures net { IsNet net.now }
+{
+    let mut of = Vec::new(alloc);
+    let mut leads = Vec::new(alloc);
+    for link in 0..net.link_count() {
+        of.push(link)?;
+        leads.push(link)?;
+    }
+    Ok(States { of, leads })
+}
+
+// The node at which a link ends.
+#[tactic(auto, unfolding(net_core::specs::Rows::link_in))]
+fn end_of(net: &Net, link: LinkNo) -> NodeNo
+    requires net { IsNet net.now }
+    requires link { link.0 < length net.now.links }
+    ensures is { result ≡ (link_at net.now link.0).to }
+    ensures within { result.0 < length net.now.nodes }
+{
+    net.link(link).to
+}
+
+// The number of a zone, or the one that stands for none.
+pub(crate) fn or_none(zone: Option<ZoneNo>) -> u32
+    ensures told { MatchOption zone (result ≡ NO_ZONE) (λ z. result ≡ z.0) }
+    ensures is { (number : Option ℕ) → zone ≡ as_zone number → result ≡ zone_or_none number }
+{
+    match zone {
+        Some(zone) => zone.0,
+        None => NO_ZONE,
+    }
+}
+
+// The number of the zone in which a link ends, or the one that stands for none.
+fn zone_of_end(net: &Net, link: LinkNo) -> u32
+    requires net { IsNet net.now }
+    requires link { link.0 < length net.now.links }
+    ensures { result ≡ end_zone net.now link.0 }
+{
+    or_none(net.zone_of(end_of(net, link)))
+}
+
+// Adds the way on by a turn, where it is allowed.
+fn add_way(ways: &mut Vec<Onward>, turn: Option<Turn>, link: LinkNo, to: u32) -> Result<(), Memory>
+    ensures { OnOk result ((others : List Onward) → ways.new.items ++ others ≡ ways.old.items ++ with_turn turn link.0 to others) }
+{
+    if let Some(turn) = turn {
+        ways.push(Onward {
+            wait: turn.penalty,
+            link: link.0,
+            to,
+        })?;
+    }
+    Ok(())
+}
+
+// Adds the ways on from a link.
+#[tactic(auto, using(crate::proofs::OnwardFacts::outs_within))]
+fn add_ways(ways: &mut Vec<Onward>, net: &Net, states: &[u32], link: LinkNo) -> Result<(), Memory>
+    requires net { IsNet net.now }
+    requires states { length states.now ≡ length net.now.links }
+    requires link { link.0 < length net.now.links }
+    ensures { OnOk result (ways.new.items ≡ ways.old.items ++ ways_from net.now states.now link.0) }
+{
+    for next in net.outs(end_of(net, link)) {
+        add_way(ways, net.turn(link, *next), *next, states[next.0 as usize])?;
+    }
+    Ok(())
+}
+
+/// The ways on from the links of a network.
+#[tactic(auto, using(crate::proofs::RouterFacts::AreOnwards_none, crate::proofs::RouterFacts::AreOnwards_more, crate::proofs::RouterFacts::router_is))]
+pub(crate) fn router_of(alloc: Global, net: &Net) -> Result<Router, Memory>
+    ensures { IfOk result (λ r. IsRouter net.now r) }
+{
+    let States { of, leads } = states_of(alloc, net)?;
+    let mut starts = Vec::new(alloc);
+    let mut ways = Vec::new(alloc);
+    let mut zones = Vec::new(alloc);
+    starts.push(0usize)?;
+    for lead in leads.as_slice() {
+        add_ways(&mut ways, net, of.as_slice(), LinkNo(*lead))?;
+        starts.push(ways.len())?;
+        zones.push(zone_of_end(net, LinkNo(*lead)))?;
+    }
+    Ok(Router {
+        states: of,
+        starts,
+        ways,
+        zones,
+    })
+}

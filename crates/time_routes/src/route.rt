@@ -1,0 +1,165 @@
+// Chosen walks by what is left.
+ghost use Rattle.std.specs.Prelude.{◌≡◌, ◌≢◌, ℕ, ◌+◌, ◌<◌, ◌≤◌, ◌^◌, List, length, All, Option, None, Some, IfOk, MatchOption, slice_get, true, false, Bool};
+ghost use Rattle.net_core.specs.declared.rows.NetRows.{NetRows};
+ghost use Rattle.dta_model.specs.LinkTimes.{time_at};
+ghost use Rattle.dta_model.specs.Plans.{link_numbers};
+ghost use Rattle.link_times.specs.TimeTables.{IsTimeTable};
+ghost use Rattle.time_routes.specs.Cells.{far};
+ghost use Rattle.time_routes.specs.Paths.{path_time, IsChosenPath};
+ghost use Rattle.time_routes.specs.Firsts.{AreFirsts};
+ghost use Rattle.time_routes.specs.Rests.{over, least_over, IsPick};
+ghost use Rattle.time_routes.specs.Routers.{ways_to};
+ghost use Rattle.time_routes.specs.Serves.{Fit, Serves, rests, state_of, label_in, FirstOver, FirstWith, IsFollowed};
+
+use crate::cells::Cells;
+use crate::least::{label_at, least_label, rest_at};
+use crate::onward::Onward;
+use crate::router::Router;
+use crate::rows::span_of;
+use dta_model::Route;
+use link_times::LinkTimes;
+use net_core::{LinkNo, Net};
+use std::alloc::{AllocError, Global};
+
+// The time over a way on.
+#[tactic(auto, unfolding(crate::specs::Rests::over))]
+fn over_at(cells: &Cells, times: &LinkTimes, way: &Onward, step: u64) -> u64
+    requires to { way.now.to < cells.now.states }
+    requires sound { IsTimeTable times.now }
+    requires link { way.now.link < length times.now.free }
+    requires step { step < 2 ^ 63 }
+    ensures { result ≡ over (time_at times.now) far (rests cells.now) step way.now }
+{
+    let span = span_of(times, step, way);
+    rest_at(cells, way.to, step + span) + span
+}
+
+// The first way on that takes a time.
+fn pick(cells: &Cells, times: &LinkTimes, ways: &[Onward], step: u64, left: u64) -> Option<Onward>
+    requires to { All (λ w. w.to < cells.now.states) ways.now }
+    requires sound { IsTimeTable times.now }
+    requires link { All (λ w. w.link < length times.now.free) ways.now }
+    requires step { step < 2 ^ 63 }
+    ensures { FirstOver (over (time_at times.now) far (rests cells.now) step) ways.now left result }
+{
+    for way in ways {
+        if over_at(cells, times, way, step) == left {
+            return Some(*way);
+        }
+    }
+    None
+}
+
+// The way on that gives what is left.
+fn next_way(cells: &Cells, times: &LinkTimes, ways: &[Onward], step: u64, left: u64) -> Onward
+    requires to { All (λ w. w.to < cells.now.states) ways.now }
+    requires sound { IsTimeTable times.now }
+    requires link { All (λ w. w.link < length times.now.free) ways.now }
+    requires step { step < 2 ^ 63 }
+    requires left { (left < far) × (left ≡ least_over (time_at times.now) far (rests cells.now) step ways.now) }
+    ensures { IsPick (time_at times.now) far (rests cells.now) ways.now step left result }
+{
+    match pick(cells, times, ways, step, left) {
+        Some(way) => way,
+        None => unreachable!(),
+    }
+}
+
+// The links of the walk that follows the labels from a link at a step.
+fn follow(
+    alloc: Global,
+    cells: &Cells,
+    router: &Router,
+    times: &LinkTimes,
+    net: &Net,
+    zone: u32,
+    first: u32,
+    step: u64,
+) -> Result<Vec<LinkNo>, AllocError>
+    requires sound { IsTimeTable times.now }
+    requires fit { Fit cells.now router.now times.now }
+    requires serves { Serves net.now zone (time_at times.now) (rests cells.now) router.now }
+    requires first { first < length times.now.free }
+    requires step { step < 2 ^ 40 }
+    requires near { rests cells.now (state_of router.now first) (step + time_at times.now first step) < far }
+    ensures { IfOk result (λ v. IsFollowed (ways_to (time_at times.now) net.now zone) (label_in (time_at times.now) (rests cells.now) router.now) first step (link_numbers v.items)) }
+{
+    let mut route = Vec::new(alloc);
+    route.push(LinkNo(first))?;
+    let mut link = first;
+    let mut entry = step;
+    while !router.is_in(router.state(link) as usize, zone) {
+        let state = router.state(link);
+        let start = entry + times.at(LinkNo(link), entry) as u64;
+        let left = rest_at(cells, state, start);
+        let way = next_way(cells, times, router.ways_on(state as usize), start, left);
+        link = way.link;
+        entry = start + way.wait as u64;
+        route.push(LinkNo(link))?;
+    }
+    Ok(route)
+}
+
+// The first of some links whose label is a time.
+fn first_with(
+    cells: &Cells,
+    router: &Router,
+    times: &LinkTimes,
+    firsts: &[u32],
+    step: u64,
+    least: u64,
+) -> Option<u32>
+    requires fit { Fit cells.now router.now times.now }
+    requires firsts { All (λ l. l < length times.now.free) firsts.now }
+    requires step { step < 2 ^ 40 }
+    ensures { FirstWith (λ l. label_in (time_at times.now) (rests cells.now) router.now l step) firsts.now least result }
+{
+    for link in firsts {
+        if has_time(label_at(cells, router, times, *link, step), least) {
+            return Some(*link);
+        }
+    }
+    None
+}
+
+// Whether a label is a time.
+fn has_time(label: Option<u64>, time: u64) -> bool
+    ensures so { result ≡ true → label ≡ Some time }
+    ensures not_so { result ≡ false → label ≢ Some time }
+{
+    match label {
+        Some(x) => x == time,
+        None => false,
+    }
+}
+
+/// The walk from one of some links that the labels choose, at a step.
+pub(crate) fn walk_of(
+    alloc: Global,
+    cells: &Cells,
+    router: &Router,
+    times: &LinkTimes,
+    net: &Net,
+    zone: u32,
+    firsts: &[u32],
+    step: u64,
+) -> Result<Option<Route>, AllocError>
+    requires sound { IsTimeTable times.now }
+    requires fit { Fit cells.now router.now times.now }
+    requires serves { Serves net.now zone (time_at times.now) (rests cells.now) router.now }
+    requires firsts { All (λ l. l < length times.now.free) firsts.now }
+    requires rising { (i k a b : ℕ) → i < k → slice_get firsts.now i ≡ Some a → slice_get firsts.now k ≡ Some b → a < b }
+    requires step { step < 2 ^ 40 }
+    ensures { (begins : ℕ → Bool) → AreFirsts begins firsts.now → IfOk result (λ o. MatchOption o ((w : List ℕ) → path_time (ways_to (time_at times.now) net.now zone) begins step w ≡ None) (λ links. IsChosenPath (ways_to (time_at times.now) net.now zone) begins step (link_numbers links))) }
+{
+    match least_label(cells, router, times, firsts, step) {
+        None => Ok(None),
+        Some(least) => match first_with(cells, router, times, firsts, step, least) {
+            Some(first) => {
+                let links = follow(alloc, cells, router, times, net, zone, first, step)?;
+                Ok(Some(Route::of(links)))
+            }
+            None => unreachable!(),
+        },
+    }
+}
