@@ -8,28 +8,15 @@ folder=$(mktemp -d)
 trap 'rm -rf "$folder"' EXIT
 program=$("$bench/build.sh" tables "$folder/build")
 cd "$folder"
+"$bench/ring.sh" "$nodes" 1 7
 
-# Node k leads to the nodes 1 and 7 places after it, round the ring: links 2k - 1 and 2k.
-awk -v n="$nodes" 'BEGIN {
-    print "node_id,zone_id"
-    for (k = 1; k <= n; k++) print k "," (k % 100 == 1 ? k : "")
-}' >node.csv
-awk -v n="$nodes" 'BEGIN {
-    print "link_id,from_node_id,to_node_id,length,lanes,free_speed,capacity"
-    split("1 7", step, " ")
-    for (k = 1; k <= n; k++)
-        for (i = 1; i <= 2; i++)
-            print 2 * (k - 1) + i "," k "," (k - 1 + step[i]) % n + 1 "," 200 + (37 * k + i) % 1800 ".5," 1 + k % 3 "," 30 + 10 * i ",900"
-}' >link.csv
+# At each node each of the two links that end there may be followed by each of the two that begin there.
 awk -v n="$nodes" 'BEGIN {
     print "node_id,ib_link_id,ob_link_id,penalty,capacity"
-    split("1 7", step, " ")
-    for (k = 1; k <= n; k++)
-        for (i = 1; i <= 2; i++)
-            for (j = 1; j <= 2; j++) {
-                to = (k - 1 + step[i]) % n + 1
-                print to "," 2 * (k - 1) + i "," 2 * (to - 1) + j "," i * j ",1200.5"
-            }
+    for (link = 1; link <= 2 * n; link++) {
+        to = (int((link - 1) / 2) + (link % 2 == 1 ? 1 : 7)) % n + 1
+        for (j = 1; j <= 2; j++) print to "," link "," 2 * (to - 1) + j "," link % 7 * j ",1200.5"
+    }
 }' >movement.csv
 
 "$program" >/dev/null # the files read once
