@@ -38,6 +38,17 @@ unfolding outs
 outs-filtered net n =
     filter-map as_link (λ link. nat_eq (start_of net.links link) n) (numbers_below (length net.links))
 
+-- a node is named where some turn is at it
+module _ (net : NetRows) (n : ℕ) (listed : List TurnRow)
+    (are : listed ≡ filter (λ turn. nat_eq (node_of net.links turn) n) net.turns) where
+  pub is_named-no : length listed ≡ 0 → is_named net n ≡ false
+  unfolding is_named
+  is_named-no e = list_any-no (λ turn. nat_eq (node_of net.links turn) n) net.turns (rw are at e)
+
+  pub is_named-some : length listed ≢ 0 → is_named net n ≡ true
+  unfolding is_named
+  is_named-some e = list_any-some (λ turn. nat_eq (node_of net.links turn) n) net.turns (rw are at e)
+
 -- the turns at a node, of which the first link ends there
 module _ (net : NetRows) (n a b : ℕ) (listed : List TurnRow) (here : (link_at net a).to.0 ≡ n)
     (are : listed ≡ filter (λ turn. nat_eq (node_of net.links turn) n) net.turns) where

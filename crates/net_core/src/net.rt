@@ -1,7 +1,7 @@
 // A road network over the rows of its tables.
 ghost use Rattle.std.specs.Prelude.{◌≡◌, ◌<◌, ◌≤◌, ◌≢◌, ◌↔◌, length, slice_get, None, Some, All, IfOk, IfSome, find};
 ghost use Rattle.net_core.specs.ByNode.{is_from_to};
-ghost use Rattle.net_core.specs.Network.{IsNet, as_links, as_zone, as_turn, link_at, zone_id, zones, ins as ins_at, outs as outs_at, zone_number as zone_numbered, zone_of as zone_at, turn as turn_between, turn_at as turn_found};
+ghost use Rattle.net_core.specs.Network.{IsNet, as_links, as_zone, as_turn, link_at, zone_id, zones, ins as ins_at, outs as outs_at, zone_number as zone_numbered, zone_of as zone_at, turn as turn_between, turn_at as turn_found, is_named as is_named_at};
 ghost use Rattle.net_core.specs.Turns.{IsAllowed};
 
 use crate::buckets::Buckets;
@@ -173,6 +173,14 @@ impl Net {
         } else {
             None
         }
+    }
+
+    /// Whether some turn is listed at a node, so that the listed ones alone are allowed there.
+    pub fn is_named(&self, node: NodeNo) -> bool
+        requires { node.0 < length self.now.nodes }
+        ensures { result ≡ is_named_at self.now node.0 }
+    {
+        !self.listed.get(node.0 as usize).is_empty()
     }
 
     // The turn between two links that meet at a node.
