@@ -1,9 +1,13 @@
 -- Small cases of the definitions, computed.
 use Rattle.std.specs.Prelude.{◌≡◌, refl, codes, [], ◌∷◌, Some, true, false, ◌^◌, ◌-◌}
+use Rattle.std.proofs.Math.Nat.{le_refl, lt_irrefl, le-add_right}
 use Rattle.desk_io.specs.declared.desk.Table.TheVariants.{Link}
-use Rattle.desk_io.specs.declared.desk.Output.TheVariants.{Report}
+use Rattle.desk_io.specs.declared.desk.Output.TheVariants.{Report, Watch}
 use Rattle.desk_io.specs.Desk.{before_left, grown}
+use Rattle.desk_io.specs.Faults.{last_count, Rose}
 use Rattle.desk_io.specs.MemDesk.{all_left, all_taken, is_listed, number_after}
+use Rattle.desk_io.specs.TallyDesk.{count_of, counted, no_counts}
+use Rattle.desk_io.specs.Transfers.{IsPartOut}
 
 -- a desk with the texts "n" and "link" had handed out "li" when "nk" was left
 a-link-table-half-read : all_left (codes "n") (codes "link") [] [] ≡ before_left Link (codes "li") (all_left (codes "n") (codes "nk") [] [])
@@ -20,3 +24,35 @@ the-second-call = refl
 -- no call past the last number of a counter is made to fail
 past-the-last-call : is_listed ((2 ^ 64 - 1) ∷ []) (number_after (Some (2 ^ 64 - 1))) ≡ false
 past-the-last-call = refl
+
+-- the last value of a counter
+the-last-count : last_count ≡ 18446744073709551615
+the-last-count = refl
+
+-- one failure more is a rise
+one-more : Rose 3 4
+one-more = le_refl 4
+
+-- a count that stands where it stood is no rise
+no-more : Rose 3 3 → ⊥
+no-more h = lt_irrefl 3 h
+
+-- but a counter at its last value is taken to have risen
+at-the-last : Rose last_count last_count
+at-the-last = le_refl last_count
+
+-- of "usage" the first part "us" went out to Report
+us-of-usage : IsPartOut Report (codes "usage") (all_taken [] [] [] (codes "a") []) (all_taken [] [] [] (codes "aus") [])
+us-of-usage = record { count = 2; within = le-add_right 2 3; out = refl }
+
+-- Watch took 3 bytes and then 2
+five-bytes : count_of Watch (counted Watch 2 (counted Watch 3 no_counts)) ≡ 5
+five-bytes = refl
+
+-- what Watch takes isn't counted for Report
+another-output : count_of Report (counted Watch 3 no_counts) ≡ 0
+another-output = refl
+
+-- a count near its last value stops there
+at-the-last-byte : count_of Report (counted Report 7 (counted Report (last_count - 1) no_counts)) ≡ last_count
+at-the-last-byte = refl

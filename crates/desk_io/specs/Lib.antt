@@ -4,4 +4,6 @@ pub mod Transfers
 pub mod MemDesk
 pub mod MemInside
 pub mod FileDesk
+pub mod TallyDesk
+pub mod TallyInside
 pub mod Examples

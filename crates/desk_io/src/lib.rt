@@ -9,6 +9,7 @@ mod desk;
 mod file_desk;
 mod mem_desk;
 mod source;
+mod tally_desk;
 #[cfg(test)]
 mod tests;
 mod transfers;
@@ -17,6 +18,7 @@ pub use desk::{Desk, Failed, Output, Table};
 pub use file_desk::FileDesk;
 pub use mem_desk::MemDesk;
 use std::alloc::AllocError;
+pub use tally_desk::TallyDesk;
 pub use transfers::{ReadRefusal, put_all, read_table};
 
 /// Want of memory: the error of a call that may allocate and fails in no other way.

@@ -1,4 +1,6 @@
-use crate::{Desk, Failed, FileDesk, MemDesk, Output, ReadRefusal, Table, put_all, read_table};
+use crate::{
+    Desk, Failed, FileDesk, MemDesk, Output, ReadRefusal, Table, TallyDesk, put_all, read_table,
+};
 use std::alloc::Global;
 use std::fs;
 use std::test::Fail;
@@ -49,6 +51,35 @@ fn listed_calls_fail(rt: HostRuntime) -> Result<(), Fail> {
     assert!(rt; put_all(&mut desk, Output::Report, b"age") == Ok(()));
     assert!(rt; desk.taken(Output::Report) == b"usage".as_slice());
     assert!(rt; desk.read_faults() == 1 && desk.put_faults() == 1 && desk.starved() == 0);
+    Ok(())
+}
+
+#[test]
+fn a_tally_reads_and_counts(rt: HostRuntime) -> Result<(), Fail> {
+    let mut desk = TallyDesk::new(
+        Vec::new(rt.alloc()),
+        Vec::from_slice(rt.alloc(), b"link_id\n7")?,
+        Vec::new(rt.alloc()),
+        Vec::from_slice(rt.alloc(), b"volume")?,
+    );
+    let mut buf = [0; 4];
+    assert!(rt; desk.read(Table::Node, &mut buf) == Ok(0));
+    assert!(rt; desk.read(Table::Link, &mut buf) == Ok(4));
+    assert!(rt; buf.as_slice() == b"link".as_slice());
+    let rest = read_table(rt.alloc(), &mut desk, Table::Link, 100)?;
+    assert!(rt; rest.as_slice() == b"_id\n7".as_slice());
+    assert!(rt; put_all(&mut desk, Output::Report, b"nodes 3\n") == Ok(()));
+    assert!(rt; put_all(&mut desk, Output::Report, b"links 4\n") == Ok(()));
+    assert!(rt; put_all(&mut desk, Output::Gap, b"1,0,0,0,0\n") == Ok(()));
+    for (output, count) in [
+        (Output::Agent, 0),
+        (Output::LinkTime, 0),
+        (Output::Gap, 10),
+        (Output::Report, 16),
+        (Output::Watch, 0),
+    ] {
+        assert!(rt; desk.count(output) == count);
+    }
     Ok(())
 }
 
