@@ -1,0 +1,4 @@
+pub mod OneMore
+pub mod OnLinks
+pub mod ByJourney
+pub mod AtTheEnd
