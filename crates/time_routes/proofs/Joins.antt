@@ -1,5 +1,5 @@
 -- Rows over a settled tail: what is left is what it ought to be at every step, and near.
-use Rattle.std.proofs.Common.{◌≡◌, ℕ, suc, ◌+◌, ◌-◌, ◌*◌, ◌≤◌, ◌<◌, Bool, true, false, cond, List, [], ◌∷◌, length, refl, ap, sym, ◌∙◌, subst, arith, ◌⊎◌, inl, inr, get_or, Some}
+use Rattle.std.proofs.Common.{◌≡◌, ℕ, suc, ◌+◌, ◌-◌, ◌*◌, ◌≤◌, ◌<◌, Bool, true, false, cond, List, [], ◌∷◌, length, refl, sym, ◌∙◌, subst, arith, ◌⊎◌, inl, inr, get_or, Some}
 use Rattle.std.proofs.lemmas.List.{get_or_past}
 use Rattle.std.proofs.lemmas.Option.{slice_get_within, get_or_from_slice_get}
 use Rattle.std.specs.Prelude.{nat_lt, nat_eq, slice_get, All}
@@ -11,9 +11,8 @@ use Rattle.net_core.specs.declared.rows.TheConstants.{MOST_LINKS, MOST_PENALTY_S
 use Rattle.time_routes.specs.Cells.{most_left, most_span, far, rest_in}
 use Rattle.time_routes.specs.Rests.{span, over, least_over}
 use Rattle.time_routes.specs.Rows.{AreRows}
-use Rattle.time_routes.specs.Serves.{AreLeft, rests, is_own, onwards}
+use Rattle.time_routes.specs.Serves.{AreLeft, is_own, onwards}
 use Rattle.time_routes.specs.Tail.{still_least, ways_of, known, AreSettled, AreShort}
-use Rattle.time_routes.specs.declared.cells.Cells.{Cells}
 use Rattle.time_routes.specs.declared.onward.Onward.{Onward}
 use Rattle.time_routes.specs.declared.router.Router.{Router}
 use Rattle.time_routes.proofs.Joined.{near}
@@ -36,7 +35,7 @@ pub free_late : (t : TimeTable) (l e : ℕ) → t.horizon ≤ e → time_at t l 
 unfolding time_at
 free_late t l e late = let n : nat_lt e t.horizon ≡ false = grind (arith, nat_tests) in rw n refl
 
-either : (b : Bool) (x y : ℕ) → x ≡ cond b 0 y → cond b (x ≡ 0) (x ≡ y)
+pub either : (b : Bool) (x y : ℕ) → x ≡ cond b 0 y → cond b (x ≡ 0) (x ≡ y)
 either true x y h = h
 either false x y h = h
 
@@ -65,44 +64,38 @@ module _ (t : TimeTable) (free old cells zones : List ℕ) (zone : ℕ) (tail st
           cond_same (nat_eq (get_or zones s 0) zone) _ _ _ _ (settled s (omega (arith, as_many, small))) (late_rest s e small late)
           (least_stands (time_at t) (rest_in (length zones) t.horizon cells) free tail t.horizon (length zones) e late (λ l f x. free_late t l f x ∙ frees l) (λ s f x. late_rest s f x) (ways_of starts ways s) (inside s small))
 
-in_all : {X : Type 0} (P : X → Type 0) (xs : List X) (k : ℕ) (x : X) → slice_get xs k ≡ Some x → All P xs → P x
+pub in_all : {X : Type 0} (P : X → Type 0) (xs : List X) (k : ℕ) (x : X) → slice_get xs k ≡ Some x → All P xs → P x
 in_all P xs k x h all = subst P (get_or_from_slice_get xs k x x h) (all k x (slice_get_within xs k x h))
 
--- filled cells over a settled tail hold what is left
-pub left_is : (t : TimeTable) (r : Router) (c : Cells) (zone : ℕ) (free old tail : List ℕ)
-    → IsTimeTable t → c.states ≡ length r.zones.items → c.horizon ≡ t.horizon → length r.states.items ≡ length t.free → length r.zones.items ≤ MOST_LINKS
+-- lists with the same elements at all places
+pub frees_same : (xs ys : List ℕ) → length ys ≡ length xs → ((l : ℕ) → l < length xs → get_or ys l 0 ≡ get_or xs l 0) → (l : ℕ) → get_or xs l 0 ≡ get_or ys l 0
+frees_same xs ys many same l = by (cases_lt l (length xs))
+  where
+    by : (l < length xs) ⊎ (length xs ≤ l) → get_or xs l 0 ≡ get_or ys l 0
+    by (inl x) = sym (same l x)
+    by (inr x) = get_or_past xs l 0 x ∙ sym (get_or_past ys l 0 (omega (arith, x, many)))
+
+-- filled rows over a settled tail hold what is left
+pub left_is : (t : TimeTable) (r : Router) (zone : ℕ) (free old new tail : List ℕ)
+    → IsTimeTable t → length r.states.items ≡ length t.free → length r.zones.items ≤ MOST_LINKS
     → length free ≡ length t.free → ((l : ℕ) → l < length t.free → get_or free l 0 ≡ get_or t.free l 0)
     → length tail ≡ length r.zones.items → AreSettled free r.starts.items r.ways.items r.zones.items zone tail → AreShort tail
     → ((s : ℕ) → s < length tail → get_or old s 0 ≡ get_or tail s 0)
-    → AreRows (time_at t) (length r.zones.items) t.horizon old c.items.items r.zones.items zone r.starts.items r.ways.items 0
-    → AreLeft (time_at t) c r zone
-left_is t r c zone free old tail sound states horizon links few many same as_many settled short copied rows = record {
-  states = states;
-  left = subst (λ f. (s e : ℕ) → s < length r.zones.items → cond (is_own r zone s) (f s e ≡ 0) (f s e ≡ least_over (time_at t) far f e (onwards r s))) (sym rests_same) left;
-  near = subst (λ f. (s e : ℕ) → s < length r.zones.items → f s e < far → f s e ≤ most_left) (sym rests_same) near_all;
-}
+    → AreRows (time_at t) (length r.zones.items) t.horizon old new r.zones.items zone r.starts.items r.ways.items 0
+    → AreLeft (time_at t) (rest_in (length r.zones.items) t.horizon new) r zone
+left_is t r zone free old new tail sound links few many same as_many settled short copied rows = record { left = left; near = near_all }
   where
-    rest : ℕ → ℕ → ℕ
-    rest = rest_in (length r.zones.items) t.horizon c.items.items
-
-    rests_same : rests c ≡ rest_in (length r.zones.items) t.horizon c.items.items
-    rests_same = ap (λ n. rest_in n c.horizon c.items.items) states ∙ ap (λ h. rest_in (length r.zones.items) h c.items.items) horizon
-
     frees : (l : ℕ) → get_or t.free l 0 ≡ get_or free l 0
-    frees l = by (cases_lt l (length t.free))
-      where
-        by : (l < length t.free) ⊎ (length t.free ≤ l) → get_or t.free l 0 ≡ get_or free l 0
-        by (inl x) = sym (same l x)
-        by (inr x) = get_or_past t.free l 0 x ∙ sym (get_or_past free l 0 (omega (arith, x, many)))
+    frees = frees_same t.free free many same
 
-    narrow : (s : ℕ) → s < length r.zones.items → get_or c.items.items s 0 ≡ get_or tail s 0
+    narrow : (s : ℕ) → s < length r.zones.items → get_or new s 0 ≡ get_or tail s 0
     narrow s h = rows.tail s h ∙ copied s (omega (arith, h, as_many))
 
     of_range : (P : Onward → Type 0) (s : ℕ) → s < length r.zones.items → All P r.ways.items → All P (onwards r s)
     of_range P s h all = let o = r.inside.order s h in All_range P r.ways.items (get_or r.starts.items s 0) (get_or r.starts.items (s + 1) 0) (o.0) (o.1) all
 
-    left : (s e : ℕ) → s < length r.zones.items → cond (is_own r zone s) (rest_in (length r.zones.items) t.horizon c.items.items s e ≡ 0) (rest_in (length r.zones.items) t.horizon c.items.items s e ≡ least_over (time_at t) far (rest_in (length r.zones.items) t.horizon c.items.items) e (onwards r s))
-    left = rests_of t free old c.items.items r.zones.items zone tail r.starts.items r.ways.items frees narrow as_many (λ s h. of_range (λ w. w.to < length r.zones.items) s h r.inside.to) rows settled
+    left : (s e : ℕ) → s < length r.zones.items → cond (is_own r zone s) (rest_in (length r.zones.items) t.horizon new s e ≡ 0) (rest_in (length r.zones.items) t.horizon new s e ≡ least_over (time_at t) far (rest_in (length r.zones.items) t.horizon new) e (onwards r s))
+    left = rests_of t free old new r.zones.items zone tail r.starts.items r.ways.items frees narrow as_many (λ s h. of_range (λ w. w.to < length r.zones.items) s h r.inside.to) rows settled
 
     spans : (s k e : ℕ) (w : Onward) → s < length r.zones.items → slice_get (onwards r s) k ≡ Some w → (w.to < length r.zones.items) × (0 < span (time_at t) e w) × (span (time_at t) e w ≤ most_span)
     spans s k e w h g =
@@ -113,15 +106,15 @@ left_is t r c zone free old tail sound states horizon links few many same as_man
         let most = sound.most w.link (e + w.wait) (omega (arith, link, links)) in
         (to, omega (arith, least), omega (arith, most, wait))
 
-    late : (s e : ℕ) → s < length r.zones.items → t.horizon ≤ e → rest_in (length r.zones.items) t.horizon c.items.items s e < far → rest_in (length r.zones.items) t.horizon c.items.items s e ≤ known tail * most_span
+    late : (s e : ℕ) → s < length r.zones.items → t.horizon ≤ e → rest_in (length r.zones.items) t.horizon new s e < far → rest_in (length r.zones.items) t.horizon new s e ≤ known tail * most_span
     late s e h after below =
-        let is = late_rest t free old c.items.items r.zones.items zone tail r.starts.items r.ways.items frees narrow as_many (λ x y. of_range (λ w. w.to < length r.zones.items) x y r.inside.to) rows settled s e h after in
+        let is = late_rest t free old new r.zones.items zone tail r.starts.items r.ways.items frees narrow as_many (λ x y. of_range (λ w. w.to < length r.zones.items) x y r.inside.to) rows settled s e h after in
         let low = short s 0 (omega (arith, h, as_many)) (omega (arith, is, below)) in
         omega (arith, is, low)
 
-    near_all : (s e : ℕ) → s < length r.zones.items → rest_in (length r.zones.items) t.horizon c.items.items s e < far → rest_in (length r.zones.items) t.horizon c.items.items s e ≤ most_left
+    near_all : (s e : ℕ) → s < length r.zones.items → rest_in (length r.zones.items) t.horizon new s e < far → rest_in (length r.zones.items) t.horizon new s e ≤ most_left
     near_all s e h below =
-        let n = near (time_at t) far t.horizon most_span (known tail * most_span) (length r.zones.items) (is_own r zone) (onwards r) (rest_in (length r.zones.items) t.horizon c.items.items) left spans late s e h below in
+        let n = near (time_at t) far t.horizon most_span (known tail * most_span) (length r.zones.items) (is_own r zone) (onwards r) (rest_in (length r.zones.items) t.horizon new) left spans late s e h below in
         let k = known_few tail in
         let horizon_in = sound.horizon in
         omega (arith, n, k, horizon_in, as_many, few)

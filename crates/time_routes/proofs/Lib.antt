@@ -17,3 +17,11 @@ pub mod ZoneFacts
 pub mod RouterFacts
 pub mod FirstFacts
 pub mod ServeFacts
+pub mod GroupFacts
+pub mod DestinationFacts
+pub mod SpanFacts
+pub mod LaneFacts
+pub mod LaneRows
+pub mod NarrowFacts
+pub mod LongestFacts
+pub mod LaneTails

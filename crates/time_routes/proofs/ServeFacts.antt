@@ -12,14 +12,13 @@ use Rattle.time_routes.specs.Cells.{most_left, most_span}
 use Rattle.time_routes.specs.Named.{zone_named}
 use Rattle.time_routes.specs.Paths.{path_time, IsLeastPath, IsChosenPath}
 use Rattle.time_routes.specs.Routers.{begins_from, ways_to}
-use Rattle.time_routes.specs.Serves.{AreLeft, IsRouter, Serves, rests}
-use Rattle.time_routes.specs.declared.cells.Cells.{Cells}
+use Rattle.time_routes.specs.Serves.{AreLeft, IsRouter, Serves}
 use Rattle.time_routes.specs.declared.router.Router.{Router}
 use Rattle.time_routes.proofs.Bridges.{least_walk, no_walk, chosen_walk}
 use Rattle.time_routes.proofs.RouterFacts.{penalty-in, turned}
 
-pub serves_of : (net : NetRows) (t : TimeTable) (r : Router) (c : Cells) (zone : ℕ) → IsNet net → IsTimeTable t → length t.free ≡ length net.links → zone < length (zones net.nodes) → IsRouter net r → AreLeft (time_at t) c r zone → Serves net zone (time_at t) (rests c) r
-serves_of net t r c zone sound table links small router left = record {
+pub serves_of : (net : NetRows) (t : TimeTable) (r : Router) (rest : ℕ → ℕ → ℕ) (zone : ℕ) → IsNet net → IsTimeTable t → length t.free ≡ length net.links → zone < length (zones net.nodes) → IsRouter net r → AreLeft (time_at t) rest r zone → Serves net zone (time_at t) rest r
+serves_of net t r rest zone sound table links small router left = record {
   routes = router.routes zone (time_at t) small;
   rests = left.left;
   most = most_left;

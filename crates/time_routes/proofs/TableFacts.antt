@@ -2,6 +2,9 @@
 use Rattle.std.proofs.Common.{◌≡◌, ◌⊎◌, inl, inr, ℕ, ◌+◌, ◌-◌, ◌*◌, ◌<◌, ◌≤◌, Bool, cond, List, length, refl, arith, get_or, ap, sym, ◌∙◌, mul-le-mul_right}
 use Rattle.std.specs.Prelude.{nat_eq, All}
 use Rattle.std.proofs.lemmas.Bool.{cases_lt}
+use Rattle.std.proofs.lemmas.List.{length-map}
+use Rattle.net_core.specs.declared.rows.NetRows.{NetRows}
+use Rattle.dta_model.specs.LinkTimes.{TimeTable, free_table}
 use Rattle.time_routes.specs.Cells.{far, rest_in, value}
 use Rattle.time_routes.specs.Rests.{span, least_over}
 use Rattle.time_routes.specs.Rows.{IsRowTo, AreRows}
@@ -54,3 +57,14 @@ AreRows_more at states horizon old now new zones zone starts ways step back sum 
 
 pub AreRows_self : (at : ℕ → ℕ → ℕ) (states horizon : ℕ) (old new zones : List ℕ) (zone : ℕ) (starts : List ℕ) (ways : List Onward) (first : ℕ) → AreRows at states horizon old new zones zone starts ways first → AreRows at states horizon new new zones zone starts ways first
 AreRows_self at states horizon old new zones zone starts ways first rows = record { as_many = refl; tail = λ k h. refl; each = rows.each; low = rows.low }
+
+-- a place in a row stands in the table
+pub place_inside : (n wide back k : ℕ) → back ≤ n → k < wide → back * wide + k < (n + 1) * wide
+place_inside n wide back k h inside =
+    let rows : (back + 1) * wide ≤ (n + 1) * wide = mul-le-mul_right wide (omega arith) in
+    omega arith
+
+-- the free-flow table has the steps of each link
+pub free_many : (t : TimeTable) (net : NetRows) (bucket horizon : ℕ) → t ≡ free_table net bucket horizon → length t.free ≡ length net.links
+unfolding free_table
+free_many t net bucket horizon is = ap (λ x. length x.free) is ∙ length-map net.links (λ link. link.free)

@@ -13,7 +13,9 @@ use Rattle.dta_model.specs.TimedWalks.{arrival_after, walk_time}
 use Rattle.time_routes.specs.Cells.{most_span}
 use Rattle.time_routes.specs.Named.{zone_named}
 use Rattle.time_routes.specs.declared.building.TheConstants.{NO_ZONE}
-use Rattle.time_routes.specs.declared.cells.TheConstants.{FAR}
+use Rattle.time_routes.specs.declared.cells.TheConstants.{FAR, NARROW_FAR}
+use Rattle.time_routes.specs.declared.group.TheConstants.{MOST_GROUP}
+use Rattle.time_routes.specs.declared.states.TheConstants.{NO_STATE}
 
 abbrev pub node : ℕ → Option ℕ → NodeRow
 node id zone = record { id = id; zone = zone }
@@ -94,6 +96,15 @@ second_zone = refl
 -- ---- limits
 for_no_walk : FAR ≡ 2 ^ 62
 for_no_walk = refl
+
+for_no_walk_in_32_bits : NARROW_FAR ≡ 2 ^ 31
+for_no_walk_in_32_bits = refl
+
+for_no_state : NO_STATE ≡ 2 ^ 32 - 1
+for_no_state = refl
+
+most_zones_at_once : MOST_GROUP ≡ 4
+most_zones_at_once = refl
 
 for_no_zone : NO_ZONE ≡ 2 ^ 32 - 1
 for_no_zone = refl

@@ -1,5 +1,5 @@
 -- When what is left serves walks to a zone.
-use Rattle.std.specs.Prelude.{◌≡◌, ◌≢◌, ℕ, ◌+◌, ◌<◌, ◌≤◌, Bool, cond, nat_eq, nat_lt, List, ◌∷◌, length, slice_index, slice_index_or, slice_get, Option, Some, None}
+use Rattle.std.specs.Prelude.{◌≡◌, ◌≢◌, ℕ, ◌+◌, ◌<◌, ◌≤◌, Bool, cond, nat_eq, nat_lt, List, [], ◌∷◌, length, get_or, slice_index, slice_index_or, slice_get, Option, Some, None}
 use Rattle.net_core.specs.Network.{zones}
 use Rattle.net_core.specs.declared.rows.NetRows.{NetRows}
 use Rattle.dta_model.specs.LinkTimes.{TimeTable}
@@ -8,14 +8,11 @@ use Rattle.time_routes.specs.Follows.{Follows}
 use Rattle.time_routes.specs.Paths.{Ways}
 use Rattle.time_routes.specs.Rests.{least_over, AreTurns, AreOrdered, label_of}
 use Rattle.time_routes.specs.Routers.{ways_to}
+use Rattle.time_routes.specs.Tables.{places, rests, states_in}
 use Rattle.time_routes.specs.Tail.{ways_of}
-use Rattle.time_routes.specs.declared.cells.Cells.{Cells}
 use Rattle.time_routes.specs.declared.onward.Onward.{Onward}
 use Rattle.time_routes.specs.declared.router.Router.{Router}
-
--- what is left by filled cells
-abbrev pub rests : Cells → ℕ → ℕ → ℕ
-rests c = rest_in c.states c.horizon c.items.items
+use Rattle.time_routes.specs.declared.table.Table.{Table}
 
 -- whether a state is in a zone, the ways on from it, and the state of a link
 abbrev pub is_own : Router → ℕ → ℕ → Bool
@@ -27,9 +24,10 @@ onwards r = ways_of r.starts.items r.ways.items
 abbrev pub state_of : Router → ℕ → ℕ
 state_of r = slice_index r.states.items
 
--- cells, ways on and a table of as many states and links
-pub record Fit (c : Cells) (r : Router) (t : TimeTable) : Type 0 where
-  pub states : c.states ≡ length r.zones.items
+-- a place of what is left, and ways on and times of as many states and links
+pub record Fit (l : Table) (place : ℕ) (r : Router) (t : TimeTable) : Type 0 where
+  pub within : place < places l
+  pub states : states_in l ≡ length r.zones.items
   pub links : length r.states.items ≡ length t.free
 
 -- the label of a link at a step
@@ -47,12 +45,21 @@ pub record IsRouter (net : NetRows) (r : Router) : Type 0 where
   pub few : length r.zones.items ≤ length net.links
   pub routes : (zone : ℕ) (at : ℕ → ℕ → ℕ) → zone < length (zones net.nodes) → AreRoutes net zone at r
 
--- what is left over a table by filled cells: nothing at the zone, elsewhere the least over the
--- ways on; where there is a walk it is far from what stands for none
-pub record AreLeft (at : ℕ → ℕ → ℕ) (c : Cells) (r : Router) (zone : ℕ) : Type 0 where
-  pub states : c.states ≡ length r.zones.items
-  pub left : (s e : ℕ) → s < length r.zones.items → cond (is_own r zone s) (rests c s e ≡ 0) (rests c s e ≡ least_over at far (rests c) e (onwards r s))
-  pub near : (s e : ℕ) → s < length r.zones.items → rests c s e < far → rests c s e ≤ most_left
+-- what is left over a table: nothing at the zone, elsewhere the least over the ways on; where there
+-- is a walk it is far from what stands for none
+pub record AreLeft (at rest : ℕ → ℕ → ℕ) (r : Router) (zone : ℕ) : Type 0 where
+  pub left : (s e : ℕ) → s < length r.zones.items → cond (is_own r zone s) (rest s e ≡ 0) (rest s e ≡ least_over at far rest e (onwards r s))
+  pub near : (s e : ℕ) → s < length r.zones.items → rest s e < far → rest s e ≤ most_left
+
+-- what is left to each zone of a list, in a row for each of them
+abbrev pub AreRowsLeft : (ℕ → ℕ → ℕ) → Router → ℕ → List (List ℕ) → List ℕ → Type 0
+AreRowsLeft at r horizon rows zones = (j : ℕ) → j < length rows → AreLeft at (rest_in (length r.zones.items) horizon (get_or rows j [])) r (slice_index zones j)
+
+-- what is left to each zone of a list
+pub record AreAllLeft (at : ℕ → ℕ → ℕ) (r : Router) (t : Table) (zones : List ℕ) : Type 0 where
+  pub states : states_in t ≡ length r.zones.items
+  pub places : length zones ≤ places t
+  pub each : (j : ℕ) → j < length zones → AreLeft at (rests t j) r (slice_index zones j)
 
 -- what is left is that of walks to a zone
 pub record Serves (net : NetRows) (zone : ℕ) (at : ℕ → ℕ → ℕ) (rest : ℕ → ℕ → ℕ) (r : Router) : Type 0 where

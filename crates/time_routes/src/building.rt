@@ -1,50 +1,18 @@
 // The ways on from the links of a network.
 ghost use Rattle.std.specs.Prelude.{◌≡◌, ◌++◌, ◌<◌, length, List, IfOk, OnOk, MatchOption, ℕ, Option};
 ghost use Rattle.net_core.specs.Network.{as_zone, link_at, IsNet};
-ghost use Rattle.time_routes.specs.Onwards.{with_turn, ways_from, zone_or_none, end_zone, AreStates};
+ghost use Rattle.time_routes.specs.Onwards.{with_turn, ways_from, zone_or_none, end_zone};
 ghost use Rattle.time_routes.specs.Serves.{IsRouter};
 ghost use Rattle.time_routes.specs.declared.onward.Onward.{Onward};
 
 use crate::onward::Onward;
 use crate::router::Router;
-use net_core::{LinkNo, Memory, Net, NodeNo, Turn, ZoneNo};
+use crate::states::{States, end_of, states_of};
+use net_core::{LinkNo, Memory, Net, Turn, ZoneNo};
 use std::alloc::Global;
 
 /// Stands for no zone.
 pub(crate) const NO_ZONE: u32 = 4_294_967_295;
-
-// The states of links, and the links that lead them.
-#[derive(Drop)]
-struct States {
-    of: Vec<u32>,
-    leads: Vec<u32>,
-}
-
-// A state for each link.
-#[tactic(auto, using(crate::proofs::StateFacts::own_states))]
-fn states_of(alloc: Global, net: &Net) -> Result<States, Memory>
-    ensures are { IfOk result (λ states. AreStates net.now states.of.items states.leads.items) }
-    ensures net { IsNet net.now }
-{
-    let mut of = Vec::new(alloc);
-    let mut leads = Vec::new(alloc);
-    for link in 0..net.link_count() {
-        of.push(link)?;
-        leads.push(link)?;
-    }
-    Ok(States { of, leads })
-}
-
-// The node at which a link ends.
-#[tactic(auto, unfolding(net_core::specs::Rows::link_in))]
-fn end_of(net: &Net, link: LinkNo) -> NodeNo
-    requires net { IsNet net.now }
-    requires link { link.0 < length net.now.links }
-    ensures is { result ≡ (link_at net.now link.0).to }
-    ensures within { result.0 < length net.now.nodes }
-{
-    net.link(link).to
-}
 
 // The number of a zone, or the one that stands for none.
 pub(crate) fn or_none(zone: Option<ZoneNo>) -> u32

@@ -2,13 +2,12 @@
 ghost use Rattle.std.specs.Prelude.{◌≡◌, ◌+◌, ◌*◌, ◌<◌, ◌≤◌, ℕ, length, slice_index, All, IfOk};
 ghost use Rattle.net_core.specs.declared.rows.TheConstants.{MOST_LINKS};
 ghost use Rattle.dta_model.specs.LinkTimes.{time_at};
-ghost use Rattle.link_times.specs.TimeTables.{IsTimeTable};
-ghost use Rattle.time_routes.specs.Cells.{far};
+ghost use Rattle.time_routes.specs.Cells.{far, rest_in};
 ghost use Rattle.time_routes.specs.Rows.{AreRows};
 ghost use Rattle.time_routes.specs.Serves.{AreLeft};
 ghost use Rattle.time_routes.specs.Tail.{AreSettled, AreShort};
 
-use crate::cells::{Cells, FAR};
+use crate::cells::FAR;
 use crate::router::Router;
 use crate::rows::fill;
 use crate::tail::settle;
@@ -16,9 +15,9 @@ use link_times::LinkTimes;
 use net_core::{LinkNo, Memory};
 use std::alloc::Global;
 
-// The free-flow steps of links, which a table has from its horizon on.
+/// The free-flow steps of links, which a table has from its horizon on.
 #[tactic(auto, using(crate::proofs::Joins::free_late))]
-fn free_steps(alloc: Global, times: &LinkTimes, links: u32) -> Result<Vec<u32>, Memory>
+pub(crate) fn free_steps(alloc: Global, times: &LinkTimes, links: u32) -> Result<Vec<u32>, Memory>
     requires { links ≡ length times.now.free }
     ensures many { IfOk result (λ free. length free.items ≡ links) }
     ensures each { IfOk result (λ free. (l : ℕ) → l < links → slice_index free.items l ≡ slice_index times.now.free l) }
@@ -31,9 +30,14 @@ fn free_steps(alloc: Global, times: &LinkTimes, links: u32) -> Result<Vec<u32>, 
     Ok(free)
 }
 
-// The least free-flow times from each state to a zone.
+/// The least free-flow times from each state to a zone.
 #[tactic(auto, using(crate::proofs::TailFacts::start_low, crate::proofs::TailFacts::start_above, crate::proofs::TailFacts::start_short))]
-fn tail_of(alloc: Global, router: &Router, free: &[u32], zone: u32) -> Result<Vec<u64>, Memory>
+pub(crate) fn tail_of(
+    alloc: Global,
+    router: &Router,
+    free: &[u32],
+    zone: u32,
+) -> Result<Vec<u64>, Memory>
     requires { length router.now.states.items ≡ length free.now }
     ensures many { IfOk result (λ tail. length tail.items ≡ length router.now.zones.items) }
     ensures settled { IfOk result (λ tail. AreSettled free.now router.now.starts.items router.now.ways.items router.now.zones.items zone tail.items) }
@@ -98,29 +102,24 @@ fn rows_over(
     Ok(rows)
 }
 
-impl Cells {
-    /// What is left to a zone over a table of link times.
-    pub(crate) fn of(
-        alloc: Global,
-        router: &Router,
-        times: &LinkTimes,
-        links: u32,
-        zone: u32,
-    ) -> Result<Self, Memory>
-        requires links { links ≡ length times.now.free }
-        requires states { length router.now.states.items ≡ length times.now.free }
-        requires few { length router.now.zones.items ≤ MOST_LINKS }
-        ensures left { IfOk result (λ cells. AreLeft (time_at times.now) cells router.now zone) }
-        ensures sound { IsTimeTable times.now }
-    {
-        let horizon = times.horizon();
-        let free = free_steps(alloc, times, links)?;
-        let tail = tail_of(alloc, router, free.as_slice(), zone)?;
-        let items = rows_over(alloc, tail.as_slice(), times, router, zone)?;
-        Ok(Cells {
-            states: router.state_count(),
-            horizon,
-            items,
-        })
-    }
+/// What is left to a zone over a table of link times, in 64 bits.
+pub(crate) fn row_of(
+    alloc: Global,
+    router: &Router,
+    times: &LinkTimes,
+    links: u32,
+    zone: u32,
+) -> Result<Vec<u64>, Memory>
+    requires links { links ≡ length times.now.free }
+    requires states { length router.now.states.items ≡ length times.now.free }
+    requires few { length router.now.zones.items ≤ MOST_LINKS }
+    ensures left { IfOk result (λ row. AreLeft (time_at times.now) (rest_in (length router.now.zones.items) times.now.horizon row.items) router.now zone) }
+    ensures many { IfOk result (λ row. length row.items ≡ (times.now.horizon + 1) * length router.now.zones.items) }
+    ensures low { IfOk result (λ row. All (λ x. x ≤ far) row.items) }
+{
+    let _sound = times.horizon();
+    let free = free_steps(alloc, times, links)?;
+    let tail = tail_of(alloc, router, free.as_slice(), zone)?;
+    let rows = rows_over(alloc, tail.as_slice(), times, router, zone)?;
+    Ok(rows)
 }

@@ -25,7 +25,7 @@ impl Model for Firsts {
 
 impl Firsts {
     // So many zones without links.
-    fn new(alloc: Global, count: u32) -> Result<Self, Memory>
+    pub(crate) fn new(alloc: Global, count: u32) -> Result<Self, Memory>
         ensures { IfOk result (λ firsts. firsts ≡ replicate count []) }
     {
         let mut lists = Vec::new(alloc);
@@ -59,7 +59,7 @@ impl Firsts {
     }
 
     // Notes the zone in which a link begins, where it is in one.
-    fn note(&mut self, zone: u32, link: u32) -> Result<(), Memory>
+    pub(crate) fn note(&mut self, zone: u32, link: u32) -> Result<(), Memory>
         requires zone { zone ≢ NO_ZONE → zone < length self.old }
         requires short { length self.old < NO_ZONE }
         ensures { OnOk result ((number : ℕ → ℕ) (items : List ℕ) → number link ≡ zone → Grouped self.old (length self.old) number items → Grouped self.new (length self.old) number (items ++ link ∷ [])) }

@@ -4,22 +4,41 @@
 //! ends, over the free-flow times from the horizon on. [`Labels::least`] then tells the least time
 //! from a zone at a step, and [`Labels::walk`] the chosen walk, in the words of
 //! specs/Least.antt of `dta_model`: over all walks, also those that repeat links, and None exactly
-//! where there is none.
+//! where there is none. [`GroupLabels`] does the same for up to four zones at once.
 //!
-//! Labels take 8 bytes for each link and step up to the horizon. `least` looks at the links out of
-//! the origin and takes no memory; `walk` looks once at the turns of each of its links.
+//! What is left is kept for each state and step up to the horizon. A state is a node where no turn
+//! is listed, or a link that ends at another. A group takes 16 bytes for each state and step, four
+//! zones side by side; where times may take more than 32 bits, 8 bytes for each of its zones.
+//! `least` looks at the links out of the origin and takes no memory; `walk` looks once at the turns
+//! of each of its links.
 #![tactic(auto)]
 
 mod building;
 mod cells;
+mod destinations;
 mod filled;
 mod firsts;
+mod form;
+mod group;
 mod labels;
+mod lanes;
 mod least;
+mod longest;
+mod narrow;
 mod onward;
 mod route;
 mod router;
 mod rows;
+mod spans;
+mod states;
+mod table;
+mod tables;
 mod tail;
+mod wide;
 
+pub use destinations::{Ask, Told, tell};
+pub use group::{GroupLabels, MOST_GROUP};
 pub use labels::Labels;
+
+#[cfg(test)]
+mod tests;

@@ -9,13 +9,14 @@ ghost use Rattle.time_routes.specs.Paths.{path_time, IsChosenPath};
 ghost use Rattle.time_routes.specs.Firsts.{AreFirsts};
 ghost use Rattle.time_routes.specs.Rests.{over, least_over, IsPick};
 ghost use Rattle.time_routes.specs.Routers.{ways_to};
-ghost use Rattle.time_routes.specs.Serves.{Fit, Serves, rests, state_of, label_in, FirstOver, FirstWith, IsFollowed};
+ghost use Rattle.time_routes.specs.Serves.{Fit, Serves, state_of, label_in, FirstOver, FirstWith, IsFollowed};
+ghost use Rattle.time_routes.specs.Tables.{places, rests, states_in};
 
-use crate::cells::Cells;
-use crate::least::{label_at, least_label, rest_at};
+use crate::least::{label_at, least_label};
 use crate::onward::Onward;
 use crate::router::Router;
 use crate::rows::span_of;
+use crate::table::Table;
 use dta_model::Route;
 use link_times::LinkTimes;
 use net_core::{LinkNo, Net};
@@ -23,27 +24,36 @@ use std::alloc::{AllocError, Global};
 
 // The time over a way on.
 #[tactic(auto, unfolding(crate::specs::Rests::over))]
-fn over_at(cells: &Cells, times: &LinkTimes, way: &Onward, step: u64) -> u64
-    requires to { way.now.to < cells.now.states }
+fn over_at(cells: &Table, place: usize, times: &LinkTimes, way: &Onward, step: u64) -> u64
+    requires place { place < places cells.now }
+    requires to { way.now.to < states_in cells.now }
     requires sound { IsTimeTable times.now }
     requires link { way.now.link < length times.now.free }
     requires step { step < 2 ^ 63 }
-    ensures { result ≡ over (time_at times.now) far (rests cells.now) step way.now }
+    ensures { result ≡ over (time_at times.now) far (rests cells.now place) step way.now }
 {
     let span = span_of(times, step, way);
-    rest_at(cells, way.to, step + span) + span
+    cells.rest_at(place, way.to, step + span) + span
 }
 
 // The first way on that takes a time.
-fn pick(cells: &Cells, times: &LinkTimes, ways: &[Onward], step: u64, left: u64) -> Option<Onward>
-    requires to { All (λ w. w.to < cells.now.states) ways.now }
+fn pick(
+    cells: &Table,
+    place: usize,
+    times: &LinkTimes,
+    ways: &[Onward],
+    step: u64,
+    left: u64,
+) -> Option<Onward>
+    requires place { place < places cells.now }
+    requires to { All (λ w. w.to < states_in cells.now) ways.now }
     requires sound { IsTimeTable times.now }
     requires link { All (λ w. w.link < length times.now.free) ways.now }
     requires step { step < 2 ^ 63 }
-    ensures { FirstOver (over (time_at times.now) far (rests cells.now) step) ways.now left result }
+    ensures { FirstOver (over (time_at times.now) far (rests cells.now place) step) ways.now left result }
 {
     for way in ways {
-        if over_at(cells, times, way, step) == left {
+        if over_at(cells, place, times, way, step) == left {
             return Some(*way);
         }
     }
@@ -51,15 +61,23 @@ fn pick(cells: &Cells, times: &LinkTimes, ways: &[Onward], step: u64, left: u64)
 }
 
 // The way on that gives what is left.
-fn next_way(cells: &Cells, times: &LinkTimes, ways: &[Onward], step: u64, left: u64) -> Onward
-    requires to { All (λ w. w.to < cells.now.states) ways.now }
+fn next_way(
+    cells: &Table,
+    place: usize,
+    times: &LinkTimes,
+    ways: &[Onward],
+    step: u64,
+    left: u64,
+) -> Onward
+    requires place { place < places cells.now }
+    requires to { All (λ w. w.to < states_in cells.now) ways.now }
     requires sound { IsTimeTable times.now }
     requires link { All (λ w. w.link < length times.now.free) ways.now }
     requires step { step < 2 ^ 63 }
-    requires left { (left < far) × (left ≡ least_over (time_at times.now) far (rests cells.now) step ways.now) }
-    ensures { IsPick (time_at times.now) far (rests cells.now) ways.now step left result }
+    requires left { (left < far) × (left ≡ least_over (time_at times.now) far (rests cells.now place) step ways.now) }
+    ensures { IsPick (time_at times.now) far (rests cells.now place) ways.now step left result }
 {
-    match pick(cells, times, ways, step, left) {
+    match pick(cells, place, times, ways, step, left) {
         Some(way) => way,
         None => unreachable!(),
     }
@@ -68,7 +86,8 @@ fn next_way(cells: &Cells, times: &LinkTimes, ways: &[Onward], step: u64, left: 
 // The links of the walk that follows the labels from a link at a step.
 fn follow(
     alloc: Global,
-    cells: &Cells,
+    cells: &Table,
+    place: usize,
     router: &Router,
     times: &LinkTimes,
     net: &Net,
@@ -77,12 +96,12 @@ fn follow(
     step: u64,
 ) -> Result<Vec<LinkNo>, AllocError>
     requires sound { IsTimeTable times.now }
-    requires fit { Fit cells.now router.now times.now }
-    requires serves { Serves net.now zone (time_at times.now) (rests cells.now) router.now }
+    requires fit { Fit cells.now place router.now times.now }
+    requires serves { Serves net.now zone (time_at times.now) (rests cells.now place) router.now }
     requires first { first < length times.now.free }
     requires step { step < 2 ^ 40 }
-    requires near { rests cells.now (state_of router.now first) (step + time_at times.now first step) < far }
-    ensures { IfOk result (λ v. IsFollowed (ways_to (time_at times.now) net.now zone) (label_in (time_at times.now) (rests cells.now) router.now) first step (link_numbers v.items)) }
+    requires near { rests cells.now place (state_of router.now first) (step + time_at times.now first step) < far }
+    ensures { IfOk result (λ v. IsFollowed (ways_to (time_at times.now) net.now zone) (label_in (time_at times.now) (rests cells.now place) router.now) first step (link_numbers v.items)) }
 {
     let mut route = Vec::new(alloc);
     route.push(LinkNo(first))?;
@@ -91,8 +110,15 @@ fn follow(
     while !router.is_in(router.state(link) as usize, zone) {
         let state = router.state(link);
         let start = entry + times.at(LinkNo(link), entry) as u64;
-        let left = rest_at(cells, state, start);
-        let way = next_way(cells, times, router.ways_on(state as usize), start, left);
+        let left = cells.rest_at(place, state, start);
+        let way = next_way(
+            cells,
+            place,
+            times,
+            router.ways_on(state as usize),
+            start,
+            left,
+        );
         link = way.link;
         entry = start + way.wait as u64;
         route.push(LinkNo(link))?;
@@ -102,20 +128,21 @@ fn follow(
 
 // The first of some links whose label is a time.
 fn first_with(
-    cells: &Cells,
+    cells: &Table,
+    place: usize,
     router: &Router,
     times: &LinkTimes,
     firsts: &[u32],
     step: u64,
     least: u64,
 ) -> Option<u32>
-    requires fit { Fit cells.now router.now times.now }
+    requires fit { Fit cells.now place router.now times.now }
     requires firsts { All (λ l. l < length times.now.free) firsts.now }
     requires step { step < 2 ^ 40 }
-    ensures { FirstWith (λ l. label_in (time_at times.now) (rests cells.now) router.now l step) firsts.now least result }
+    ensures { FirstWith (λ l. label_in (time_at times.now) (rests cells.now place) router.now l step) firsts.now least result }
 {
     for link in firsts {
-        if has_time(label_at(cells, router, times, *link, step), least) {
+        if has_time(label_at(cells, place, router, times, *link, step), least) {
             return Some(*link);
         }
     }
@@ -136,7 +163,8 @@ fn has_time(label: Option<u64>, time: u64) -> bool
 /// The walk from one of some links that the labels choose, at a step.
 pub(crate) fn walk_of(
     alloc: Global,
-    cells: &Cells,
+    cells: &Table,
+    place: usize,
     router: &Router,
     times: &LinkTimes,
     net: &Net,
@@ -145,18 +173,18 @@ pub(crate) fn walk_of(
     step: u64,
 ) -> Result<Option<Route>, AllocError>
     requires sound { IsTimeTable times.now }
-    requires fit { Fit cells.now router.now times.now }
-    requires serves { Serves net.now zone (time_at times.now) (rests cells.now) router.now }
+    requires fit { Fit cells.now place router.now times.now }
+    requires serves { Serves net.now zone (time_at times.now) (rests cells.now place) router.now }
     requires firsts { All (λ l. l < length times.now.free) firsts.now }
     requires rising { (i k a b : ℕ) → i < k → slice_get firsts.now i ≡ Some a → slice_get firsts.now k ≡ Some b → a < b }
     requires step { step < 2 ^ 40 }
     ensures { (begins : ℕ → Bool) → AreFirsts begins firsts.now → IfOk result (λ o. MatchOption o ((w : List ℕ) → path_time (ways_to (time_at times.now) net.now zone) begins step w ≡ None) (λ links. IsChosenPath (ways_to (time_at times.now) net.now zone) begins step (link_numbers links))) }
 {
-    match least_label(cells, router, times, firsts, step) {
+    match least_label(cells, place, router, times, firsts, step) {
         None => Ok(None),
-        Some(least) => match first_with(cells, router, times, firsts, step, least) {
+        Some(least) => match first_with(cells, place, router, times, firsts, step, least) {
             Some(first) => {
-                let links = follow(alloc, cells, router, times, net, zone, first, step)?;
+                let links = follow(alloc, cells, place, router, times, net, zone, first, step)?;
                 Ok(Some(Route::of(links)))
             }
             None => unreachable!(),

@@ -34,6 +34,14 @@ impl Router {
         self.states[link as usize]
     }
 
+    /// The number of the zone of a state, or the one that stands for none.
+    pub(crate) fn zone(&self, state: usize) -> u32
+        requires { state < length self.now.zones.items }
+        ensures { result ≡ slice_index self.now.zones.items state }
+    {
+        self.zones[state]
+    }
+
     /// Whether a state is in a zone.
     pub(crate) fn is_in(&self, state: usize, zone: u32) -> bool
         requires { state < length self.now.zones.items }

@@ -4,15 +4,16 @@ use Rattle.dta_model.specs.Plans.{link_numbers}
 use Rattle.time_routes.specs.Cells.{far}
 use Rattle.time_routes.specs.Follows.{Follows}
 use Rattle.time_routes.specs.Routers.{ways_to}
-use Rattle.time_routes.specs.Serves.{rests, state_of, label_in, IsFollowed}
+use Rattle.time_routes.specs.Serves.{state_of, label_in, IsFollowed}
+use Rattle.time_routes.specs.Tables.{rests}
 use Rattle.time_routes.proofs.route.follow.Given as goal
 
 abbrev pub invariant-loop-state : goal.invariant-loop-state
 invariant-loop-state l =
     (l.link < length l.router.states.items)
-    × (rests l.cells (state_of l.router l.link) (l.entry + time_at l.times l.link l.entry) < far)
-    × (l.entry + time_at l.times l.link l.entry + rests l.cells (state_of l.router l.link) (l.entry + time_at l.times l.link l.entry) < 2 ^ 63)
-    × ((others : List ℕ) → Follows (ways_to (time_at l.times) l.net l.zone) (label_in (time_at l.times) (rests l.cells) l.router) l.link l.entry others → IsFollowed (ways_to (time_at l.times) l.net l.zone) (label_in (time_at l.times) (rests l.cells) l.router) l.fn.first l.fn.step (link_numbers l.route.items ++ others))
+    × (rests l.cells l.place (state_of l.router l.link) (l.entry + time_at l.times l.link l.entry) < far)
+    × (l.entry + time_at l.times l.link l.entry + rests l.cells l.place (state_of l.router l.link) (l.entry + time_at l.times l.link l.entry) < 2 ^ 63)
+    × ((others : List ℕ) → Follows (ways_to (time_at l.times) l.net l.zone) (label_in (time_at l.times) (rests l.cells l.place) l.router) l.link l.entry others → IsFollowed (ways_to (time_at l.times) l.net l.zone) (label_in (time_at l.times) (rests l.cells l.place) l.router) l.fn.first l.fn.step (link_numbers l.route.items ++ others))
 
 abbrev pub decreases-loop-state : goal.decreases-loop-state
-decreases-loop-state l = rests l.cells (state_of l.router l.link) (l.entry + time_at l.times l.link l.entry)
+decreases-loop-state l = rests l.cells l.place (state_of l.router l.link) (l.entry + time_at l.times l.link l.entry)

@@ -3,7 +3,8 @@ use Rattle.dta_model.specs.LinkTimes.{time_at}
 use Rattle.dta_model.specs.Plans.{link_numbers}
 use Rattle.time_routes.specs.Paths.{IsChosenPath}
 use Rattle.time_routes.specs.Routers.{ways_to}
-use Rattle.time_routes.specs.Serves.{rests, label_in, LeastSoFar, FirstWith}
+use Rattle.time_routes.specs.Serves.{label_in, LeastSoFar, FirstWith}
+use Rattle.time_routes.specs.Tables.{rests}
 use Rattle.time_routes.proofs.Leasts.{least_of, near_of}
 use Rattle.time_routes.proofs.Chosens.{no_first, chosen_of}
 use Rattle.time_routes.proofs.route.walk_of.Goals as goal
@@ -11,7 +12,7 @@ use Rattle.time_routes.proofs.route.walk_of.Goals as goal
 pub follow-requires-clause-near : goal.follow-requires-clause-near
 follow-requires-clause-near c =
     let at = time_at c.args.times.now in
-    let rest = rests c.args.cells.now in
+    let rest = rests c.args.cells.now c.args.place in
     let r = c.args.router.now in
     let m = c.in-Some.least in
     let f = subst (λ o. FirstWith (λ l. label_in at rest r l c.args.step) c.args.firsts.now m o) c.in-Some-first_with.is c.first_with.ensures in
@@ -20,7 +21,7 @@ follow-requires-clause-near c =
 pub unreachable-requires : goal.unreachable-requires
 unreachable-requires c =
     let at = time_at c.args.times.now in
-    let rest = rests c.args.cells.now in
+    let rest = rests c.args.cells.now c.args.place in
     let label : ℕ → Option ℕ = λ l. label_in at rest c.args.router.now l c.args.step in
     let firsts = c.args.firsts.now in
     let m = c.in-Some.least in
@@ -30,7 +31,7 @@ unreachable-requires c =
 pub returns-in-None : goal.returns-in-None
 returns-in-None c begins are =
     let at = time_at c.args.times.now in
-    let rest = rests c.args.cells.now in
+    let rest = rests c.args.cells.now c.args.place in
     let r = c.args.router.now in
     let firsts = c.args.firsts.now in
     least_of c.args.net.now c.args.zone at rest r c.requires.serves begins firsts are c.args.step None (subst (λ o. LeastSoFar (λ l. label_in at rest r l c.args.step) firsts (length firsts) o) c.in-None.is c.least_label.ensures)
@@ -38,7 +39,7 @@ returns-in-None c begins are =
 pub returns-in_ok-links-in-Some-first_with : goal.returns-in_ok-links-in-Some-first_with
 returns-in_ok-links-in-Some-first_with c begins are =
     let at = time_at c.args.times.now in
-    let rest = rests c.args.cells.now in
+    let rest = rests c.args.cells.now c.args.place in
     let r = c.args.router.now in
     let label : ℕ → Option ℕ = λ l. label_in at rest r l c.args.step in
     let firsts = c.args.firsts.now in

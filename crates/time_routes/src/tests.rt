@@ -1,0 +1,196 @@
+// Small networks, through all calls.
+ghost use Rattle.std.specs.Prelude.{◌≡◌, ◌≤◌, ◌↔◌, length, All, IfOk, IfSome, IsTrue};
+
+use crate::{GroupLabels, Labels};
+use link_times::LinkTimes;
+use net_core::{LinkNo, LinkRow, Memory, Net, NodeNo, NodeRow, TurnRow, ZoneNo};
+use std::alloc::Global;
+use std::test::Fail;
+
+fn node(id: u64, zone: Option<u64>) -> NodeRow
+    ensures { result ≡ record { id = id; zone = zone } }
+{
+    NodeRow { id, zone }
+}
+
+fn link(id: u64, from: u32, to: u32) -> LinkRow
+    ensures { result ≡ record { id = id; from = record { 0 = from }; to = record { 0 = to }; free = 10; storage = 125; rate = 600000000 } }
+{
+    LinkRow {
+        id,
+        from: NodeNo(from),
+        to: NodeNo(to),
+        free: 10,
+        storage: 125,
+        rate: 600_000_000,
+    }
+}
+
+// A line of two links, with a loop at the node between them.
+fn loop_net(alloc: Global) -> Result<Net, Memory> {
+    let nodes = vec![in alloc; node(1, Some(1)), node(2, None), node(3, Some(3))]?;
+    let links = vec![in alloc; link(10, 0, 1), link(20, 1, 2), link(30, 1, 1)]?;
+    let net = Net::of(alloc, nodes, links, Vec::new(alloc))?;
+    Ok(net)
+}
+
+// A line of two links, with a second way over its second half listed before the first.
+fn parallel_net(alloc: Global) -> Result<Net, Memory> {
+    let nodes = vec![in alloc; node(1, Some(1)), node(2, None), node(3, Some(3))]?;
+    let links = vec![in alloc; link(10, 0, 1), link(21, 1, 2), link(20, 1, 2)]?;
+    let net = Net::of(alloc, nodes, links, Vec::new(alloc))?;
+    Ok(net)
+}
+
+// The same, where one turn alone is allowed.
+fn one_turn_net(alloc: Global) -> Result<Net, Memory> {
+    let nodes = vec![in alloc; node(1, Some(1)), node(2, None), node(3, Some(3))]?;
+    let links = vec![in alloc; link(10, 0, 1), link(21, 1, 2), link(20, 1, 2)]?;
+    let only = TurnRow {
+        a: LinkNo(0),
+        b: LinkNo(2),
+        penalty: 0,
+        rate: None,
+    };
+    let turns = vec![in alloc; only]?;
+    let net = Net::of(alloc, nodes, links, turns)?;
+    Ok(net)
+}
+
+// A table of buckets of 50 steps up to step 100, where its numbers fit the network.
+fn given(net: &Net, free: Vec<u32>, steps: Vec<u32>) -> Option<LinkTimes>
+    ensures { IfSome result (λ times. length times.free ≡ length net.now.links) }
+{
+    let fits = free.len() == net.link_count() as usize && steps.len() == free.len() * 2;
+    if !fits || !are_some(&free) || !are_some(&steps) {
+        return None;
+    }
+    Some(LinkTimes::given(50, 100, free, steps))
+}
+
+// Whether all numbers are at least 1.
+fn are_some(numbers: &[u32]) -> bool
+    ensures { IsTrue result ↔ All (λ x. 1 ≤ x) numbers.now }
+{
+    numbers.iter().all(|&number| number >= 1)
+}
+
+// The free-flow times of a network.
+fn free(alloc: Global, net: &Net) -> Result<LinkTimes, Memory>
+    ensures { IfOk result (λ times. length times.free ≡ length net.now.links) }
+{
+    let times = LinkTimes::free(alloc, net, 50, 100)?;
+    Ok(times)
+}
+
+// What the labels of two zones tell of the way from the second to the first: the least time, and
+// the links of the chosen walk. No time and no links where the zones are none of the network's.
+fn told(
+    alloc: Global,
+    net: &Net,
+    times: &LinkTimes,
+    zones: (u32, u32),
+    step: u32,
+) -> Result<(Option<u64>, Vec<LinkNo>), Memory>
+    requires { length times.now.free ≡ length net.now.links }
+{
+    let (destination, origin) = zones;
+    let count = net.zone_count();
+    if destination >= count || origin >= count || origin == destination {
+        return Ok((None, Vec::new(alloc)));
+    }
+    let labels = GroupLabels::to_zones(alloc, net, times, &[ZoneNo(origin), ZoneNo(destination)])?;
+    let least = labels.least(1, ZoneNo(origin), step);
+    match labels.walk(alloc, 1, ZoneNo(origin), step)? {
+        Some(route) => Ok((least, route.into_vec())),
+        None => Ok((least, Vec::new(alloc))),
+    }
+}
+
+// From step 30 a loop before the slow link saves 280 steps; at step 90 it saves nothing.
+#[test]
+fn a_loop_that_pays(rt: HostRuntime) -> Result<(), Fail> {
+    let alloc = rt.alloc();
+    let net = loop_net(alloc)?;
+    let steps = vec![in alloc; 10, 10, 300, 10, 10, 10]?;
+    let times = given(&net, vec![in alloc; 10, 10, 10]?, steps);
+    assert!(rt; times.is_some());
+    if let Some(times) = times {
+        let (least, links) = told(alloc, &net, &times, (1, 0), 30)?;
+        assert_eq!(rt; least, Some(30));
+        assert_eq!(rt;
+            links.as_slice(),
+            [LinkNo(0), LinkNo(2), LinkNo(1)].as_slice()
+        );
+        let (least, links) = told(alloc, &net, &times, (1, 0), 90)?;
+        assert_eq!(rt; least, Some(20));
+        assert_eq!(rt; links.as_slice(), [LinkNo(0), LinkNo(1)].as_slice());
+    }
+    Ok(())
+}
+
+// Of two walks of the same time, the one over the link that is listed first.
+#[test]
+fn a_further_link_listed_earlier(rt: HostRuntime) -> Result<(), Fail> {
+    let alloc = rt.alloc();
+    let net = parallel_net(alloc)?;
+    let (least, links) = told(alloc, &net, &free(alloc, &net)?, (1, 0), 0)?;
+    assert_eq!(rt; least, Some(20));
+    assert_eq!(rt; links.as_slice(), [LinkNo(0), LinkNo(1)].as_slice());
+    Ok(())
+}
+
+#[test]
+fn one_turn_is_allowed(rt: HostRuntime) -> Result<(), Fail> {
+    let alloc = rt.alloc();
+    let net = one_turn_net(alloc)?;
+    let (least, links) = told(alloc, &net, &free(alloc, &net)?, (1, 0), 0)?;
+    assert_eq!(rt; least, Some(20));
+    assert_eq!(rt; links.as_slice(), [LinkNo(0), LinkNo(2)].as_slice());
+    Ok(())
+}
+
+// No link leaves the last node.
+#[test]
+fn an_unrouted_zone(rt: HostRuntime) -> Result<(), Fail> {
+    let alloc = rt.alloc();
+    let net = loop_net(alloc)?;
+    let (least, links) = told(alloc, &net, &free(alloc, &net)?, (0, 1), 0)?;
+    assert_eq!(rt; least, None);
+    assert_eq!(rt; links.len(), 0);
+    Ok(())
+}
+
+// Times of 32 bits, whose sums take more; the second link is entered after the horizon.
+#[test]
+fn times_of_32_bits(rt: HostRuntime) -> Result<(), Fail> {
+    let alloc = rt.alloc();
+    let net = loop_net(alloc)?;
+    let steps = vec![in alloc; 4_294_967_295, 4_294_967_295, 10, 10, 10, 10]?;
+    let times = given(
+        &net,
+        vec![in alloc; 4_294_967_295, 4_294_967_295, 10]?,
+        steps,
+    );
+    assert!(rt; times.is_some());
+    if let Some(times) = times {
+        let (least, links) = told(alloc, &net, &times, (1, 0), 0)?;
+        assert_eq!(rt; least, Some(8_589_934_590));
+        assert_eq!(rt; links.as_slice(), [LinkNo(0), LinkNo(1)].as_slice());
+    }
+    Ok(())
+}
+
+// One zone alone.
+#[test]
+fn labels_of_a_zone(rt: HostRuntime) -> Result<(), Fail> {
+    let alloc = rt.alloc();
+    let net = loop_net(alloc)?;
+    let times = free(alloc, &net)?;
+    if net.zone_count() > 1 {
+        let labels = Labels::to_zone(alloc, &net, &times, ZoneNo(1))?;
+        assert_eq!(rt; labels.least(ZoneNo(0), 95), Some(20));
+        assert!(rt; labels.walk(alloc, ZoneNo(0), 95)?.is_some());
+    }
+    Ok(())
+}
