@@ -1,0 +1,4 @@
+pub mod Shorts
+pub mod Sums
+pub mod OfLoadings
+pub mod Determined

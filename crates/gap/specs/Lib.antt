@@ -1,0 +1,4 @@
+pub mod Gap
+pub mod Told
+pub mod Laws
+pub mod Examples

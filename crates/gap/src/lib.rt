@@ -1,0 +1,18 @@
+//! How far the routes of an iteration are from the least ones, in whole steps.
+//!
+//! [`gap`] tells the least times of all vehicles that have routes, walks their routes over the same
+//! table of link times, and sums both in 128 bits. Its contract is the gap of an iteration
+//! (specs/Gap.antt). [`gap_line`] is the same where the least times are told already.
+//!
+//! The labels of up to four destinations are there at once; beside them it takes 40 bytes for each
+//! vehicle.
+#![tactic(auto)]
+
+mod laws;
+mod line;
+mod measure;
+mod walked;
+
+pub use laws::gap_lines_are_determined;
+pub use line::GapLine;
+pub use measure::{gap, gap_line};

@@ -1,0 +1,149 @@
+// The gap of an iteration.
+ghost use Rattle.std.specs.Prelude.{◌≡◌, ◌<◌, ◌≤◌, ◌*◌, ◌^◌, ℕ, List, length, All, Some, IfOk};
+ghost use Rattle.dta_model.specs.LinkTimes.{time_at};
+ghost use Rattle.dta_model.specs.Sound.{AreTrips};
+ghost use Rattle.gap.specs.Gap.{AreWalks, IsGapLine, IsShort, has_route, over_vehicles, ppm_of, route_time, steps_of};
+ghost use Rattle.gap.specs.Told.{asks_for, least_at, least_in};
+ghost use Rattle.net_core.specs.declared.rows.LinkNo.{LinkNo as LinkOf};
+ghost use Rattle.time_routes.specs.Destinations.{AreTold, LeastOf};
+
+use crate::line::GapLine;
+use crate::walked::time_of;
+use dta_model::{MOST_TRIPS, Route, Routes, Trip};
+use link_times::LinkTimes;
+use net_core::{Memory, Net};
+use std::alloc::Global;
+use time_routes::{Ask, tell};
+
+// Parts per million are of so many.
+const PER_MILLION: u128 = 1_000_000;
+
+// The steps of a trip's route, and 0 where there is none.
+fn route_steps(net: &Net, times: &LinkTimes, trip: &Trip, route: &Option<Route>) -> u128
+    requires table { length times.now.free ≡ length net.now.links }
+    requires short { IsShort times.now }
+    requires links { (links : List LinkOf) → route.now ≡ Some links → All (λ l. l.0 < length net.now.links) links }
+    ensures is { result ≡ steps_of (time_at times.now) net.now (Some trip.now) (Some route.now) }
+    ensures low { result < 2 ^ 82 }
+{
+    match route {
+        Some(route) => time_of(net, times, trip.departure, route.as_slice()),
+        None => 0,
+    }
+}
+
+// The steps of all routes, summed.
+fn all_route_steps(net: &Net, times: &LinkTimes, trips: &[Trip], routes: &[Option<Route>]) -> u128
+    requires table { length times.now.free ≡ length net.now.links }
+    requires short { IsShort times.now }
+    requires few { length trips.now ≤ MOST_TRIPS }
+    requires each { length routes.now ≡ length trips.now }
+    requires walks { AreWalks net.now trips.now routes.now }
+    ensures is { result ≡ over_vehicles (length trips.now) (route_time (time_at times.now) net.now trips.now routes.now) }
+    ensures low { result ≤ length trips.now * 2 ^ 82 }
+{
+    let mut total: u128 = 0;
+    for v in 0..trips.len() {
+        total += route_steps(net, times, &trips[v], &routes[v]);
+    }
+    total
+}
+
+// The least steps that are told of a vehicle with a route, and 0 without one.
+fn least_steps(route: &Option<Route>, told: Option<u64>) -> u64
+    ensures { result ≡ least_in route.now told }
+{
+    match (route, told) {
+        (Some(_), Some(time)) => time,
+        _ => 0,
+    }
+}
+
+// The least steps of all vehicles with routes, summed.
+fn all_least_steps(routes: &[Option<Route>], told: &[Option<u64>]) -> u128
+    requires few { length routes.now ≤ MOST_TRIPS }
+    requires each { length told.now ≡ length routes.now }
+    ensures { result ≡ over_vehicles (length routes.now) (least_at routes.now told.now) }
+{
+    let mut total: u128 = 0;
+    for v in 0..routes.len() {
+        total += least_steps(&routes[v], told[v]) as u128;
+    }
+    total
+}
+
+// A gap in parts per million of the least steps.
+fn ppm(gap: u128, least: u128) -> u128
+    requires { gap < 2 ^ 108 }
+    ensures { result ≡ ppm_of gap least }
+{
+    if least == 0 {
+        0
+    } else {
+        PER_MILLION * gap / least
+    }
+}
+
+/// The line of the gap of routes over a table, where the least times of the vehicles that have
+/// routes are told. It takes no memory.
+pub fn gap_line(
+    net: &Net,
+    times: &LinkTimes,
+    trips: &[Trip],
+    routes: &Routes,
+    told: &[Option<u64>],
+) -> GapLine
+    requires table { length times.now.free ≡ length net.now.links }
+    requires short { IsShort times.now }
+    requires few { length trips.now ≤ MOST_TRIPS }
+    requires each { length routes.now ≡ length trips.now }
+    requires walks { AreWalks net.now trips.now routes.now }
+    requires told { AreTold (LeastOf (time_at times.now) net.now) (has_route routes.now) trips.now told.now }
+    ensures { IsGapLine (time_at times.now) net.now trips.now routes.now result }
+{
+    let routes = routes.as_slice();
+    let route_steps = all_route_steps(net, times, trips, routes);
+    let least_steps = all_least_steps(routes, told);
+    let gap_steps = route_steps - least_steps;
+    GapLine {
+        route_steps,
+        least_steps,
+        gap_steps,
+        ppm: ppm(gap_steps, least_steps),
+    }
+}
+
+// What is asked for a gap: the least times of the vehicles that have routes.
+fn asks_of(alloc: Global, routes: &[Option<Route>]) -> Result<Vec<Ask>, Memory>
+    ensures { IfOk result (λ asks. asks.items ≡ asks_for routes.now) }
+{
+    let mut asks = Vec::new(alloc);
+    for route in routes {
+        asks.push(Ask {
+            least: route.is_some(),
+            walk: false,
+        })?;
+    }
+    Ok(asks)
+}
+
+/// The line of the gap of routes over a table: how many steps the routes take, started at the
+/// departures, and how many the least ones of the same vehicles.
+pub fn gap(
+    alloc: Global,
+    net: &Net,
+    times: &LinkTimes,
+    trips: &[Trip],
+    routes: &Routes,
+) -> Result<GapLine, Memory>
+    requires table { length times.now.free ≡ length net.now.links }
+    requires short { IsShort times.now }
+    requires trips { AreTrips trips.now }
+    requires each { length routes.now ≡ length trips.now }
+    requires walks { AreWalks net.now trips.now routes.now }
+    ensures { IfOk result (IsGapLine (time_at times.now) net.now trips.now routes.now) }
+{
+    let asks = asks_of(alloc, routes.as_slice())?;
+    let told = tell(alloc, net, times, trips, &asks)?;
+    Ok(gap_line(net, times, trips, routes, &told.leasts))
+}
