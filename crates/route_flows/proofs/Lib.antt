@@ -1,0 +1,3 @@
+pub mod Averaged
+pub mod FreeTimes
+pub mod Determined

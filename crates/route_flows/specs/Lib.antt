@@ -1,0 +1,4 @@
+pub mod Averages
+pub mod Asked
+pub mod Laws
+pub mod Examples

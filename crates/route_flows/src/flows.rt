@@ -1,0 +1,112 @@
+// The routes of the iterations.
+ghost use Rattle.std.specs.Prelude.{◌≡◌, ◌≤◌, ℕ, length, IfOk};
+ghost use Rattle.dta_model.specs.LinkTimes.{free_table, time_at};
+ghost use Rattle.dta_model.specs.Sound.{AreTrips};
+ghost use Rattle.dta_model.specs.declared.loading.TheConstants.{MOST_HORIZON};
+ghost use Rattle.gap.specs.Gap.{AreWalks, IsGapLine, IsShort};
+ghost use Rattle.route_flows.specs.Averages.{AreChosenRoutes, AreFirstRoutes, AreNextRoutes};
+ghost use Rattle.route_flows.specs.declared.selection.TheConstants.{MOST_ITERATION};
+
+use crate::kept::keep_others;
+use crate::selection::{all_walks, asks_of};
+use dta_model::{Routes, Trip};
+use gap::{GapLine, gap_line};
+use link_times::LinkTimes;
+use net_core::{Memory, Net};
+use std::thread::Threads;
+use time_routes::{Told, tell};
+
+/// The most workers.
+pub const MOST_WORKERS: u32 = 16;
+
+/// The routes of the first iteration: each vehicle's chosen walk by free-flow steps, from its
+/// departure. They are those of the free-flow table of any bucket length up to the horizon.
+pub fn first_routes<R: AllocGlobal + Threads>(
+    rt: &R,
+    net: &Net,
+    trips: &[Trip],
+    horizon: u32,
+    workers: u32,
+) -> Result<Routes, Memory>
+    requires trips { AreTrips trips.now }
+    requires horizon_least { 1 ≤ horizon }
+    requires horizon_most { horizon ≤ MOST_HORIZON }
+    requires workers_least { 1 ≤ workers }
+    requires workers_most { workers ≤ MOST_WORKERS }
+    ensures first { IfOk result (AreFirstRoutes net.now trips.now) }
+    ensures table { (bucket : ℕ) → 1 ≤ bucket → IfOk result (AreChosenRoutes (time_at (free_table net.now bucket horizon)) net.now trips.now) }
+    ensures walks { IfOk result (AreWalks net.now trips.now) }
+{
+    let alloc = rt.alloc();
+    // Free-flow steps stand still, so that a table of one step serves.
+    let times = LinkTimes::free(alloc, net, 1, 1)?;
+    let asks = all_walks(alloc, trips.len())?;
+    let told = tell(alloc, net, &times, trips, &asks)?;
+    Ok(Routes::of(told.walks))
+}
+
+/// The routes of the iteration after k, from those of iteration k and its link times: the vehicles
+/// that are selected have their chosen walks from their departures, the others keep their routes.
+pub fn next_routes<R: AllocGlobal + Threads>(
+    rt: &R,
+    net: &Net,
+    trips: &[Trip],
+    times: &LinkTimes,
+    routes: &Routes,
+    k: u32,
+    workers: u32,
+) -> Result<Routes, Memory>
+    requires table { length times.now.free ≡ length net.now.links }
+    requires trips { AreTrips trips.now }
+    requires each { length routes.now ≡ length trips.now }
+    requires walks { AreWalks net.now trips.now routes.now }
+    requires k_least { 1 ≤ k }
+    requires k_most { k ≤ MOST_ITERATION }
+    requires workers_least { 1 ≤ workers }
+    requires workers_most { workers ≤ MOST_WORKERS }
+    ensures next { IfOk result (AreNextRoutes (time_at times.now) net.now trips.now k routes.now) }
+    ensures walks { IfOk result (AreWalks net.now trips.now) }
+{
+    let alloc = rt.alloc();
+    let old = routes.as_slice();
+    let asks = asks_of(alloc, old, false, k)?;
+    let Told {
+        leasts: _,
+        mut walks,
+    } = tell(alloc, net, times, trips, &asks)?;
+    keep_others(alloc, old, k, &mut walks)?;
+    Ok(Routes::of(walks))
+}
+
+/// The gap of iteration k and the routes of the next one, in one pass over the destinations: what
+/// `gap` and [`next_routes`] give.
+pub fn gap_and_next_routes<R: AllocGlobal + Threads>(
+    rt: &R,
+    net: &Net,
+    trips: &[Trip],
+    times: &LinkTimes,
+    routes: &Routes,
+    k: u32,
+    workers: u32,
+) -> Result<(GapLine, Routes), Memory>
+    requires table { length times.now.free ≡ length net.now.links }
+    requires short { IsShort times.now }
+    requires trips { AreTrips trips.now }
+    requires each { length routes.now ≡ length trips.now }
+    requires walks { AreWalks net.now trips.now routes.now }
+    requires k_least { 1 ≤ k }
+    requires k_most { k ≤ MOST_ITERATION }
+    requires workers_least { 1 ≤ workers }
+    requires workers_most { workers ≤ MOST_WORKERS }
+    ensures gap { IfOk result (λ r. IsGapLine (time_at times.now) net.now trips.now routes.now r.0) }
+    ensures next { IfOk result (λ r. AreNextRoutes (time_at times.now) net.now trips.now k routes.now r.1) }
+    ensures walks { IfOk result (λ r. AreWalks net.now trips.now r.1) }
+{
+    let alloc = rt.alloc();
+    let old = routes.as_slice();
+    let asks = asks_of(alloc, old, true, k)?;
+    let Told { leasts, mut walks } = tell(alloc, net, times, trips, &asks)?;
+    let line = gap_line(net, times, trips, routes, &leasts);
+    keep_others(alloc, old, k, &mut walks)?;
+    Ok((line, Routes::of(walks)))
+}

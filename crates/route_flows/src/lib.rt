@@ -1,0 +1,23 @@
+//! Routes by iteration: successive averages over chosen walks.
+//!
+//! [`first_routes`] gives each vehicle its chosen walk by free-flow steps. After iteration k
+//! [`next_routes`] gives those that are selected their chosen walks by the link times of the
+//! iteration; the others keep their routes. The contracts are the definition of successive
+//! averages (specs/Averages.antt), for every number of workers. [`gap_and_next_routes`] measures
+//! the gap of the iteration with the same labels.
+//!
+//! Destinations are worked one after another, up to four at once; the labels of four are freed
+//! before the next are made. A destination to which no selected vehicle goes has none.
+#![tactic(auto)]
+
+mod flows;
+mod kept;
+mod laws;
+mod selection;
+
+pub use flows::{MOST_WORKERS, first_routes, gap_and_next_routes, next_routes};
+pub use laws::routes_are_determined;
+pub use selection::{MOST_ITERATION, is_selected};
+
+#[cfg(test)]
+mod tests;

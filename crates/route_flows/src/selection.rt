@@ -1,0 +1,66 @@
+// Who takes a new route after an iteration, and what is asked for that.
+ghost use Rattle.std.specs.Prelude.{◌≡◌, ◌≤◌, ◌&&◌, is_some, length, IfOk, replicate, true, false};
+ghost use Rattle.dta_model.specs.declared.trip.TheConstants.{MOST_TRIPS};
+ghost use Rattle.route_flows.specs.Asked.{AreAsked};
+ghost use Rattle.route_flows.specs.Averages.{is_selected as selected_of};
+
+use dta_model::Route;
+use net_core::Memory;
+use std::alloc::Global;
+use time_routes::Ask;
+
+/// The last iteration after which routes may change.
+pub const MOST_ITERATION: u32 = 1000;
+
+/// Whether a vehicle takes a new route after an iteration: one in k + 1 does, by its number over
+/// all vehicles.
+pub fn is_selected(vehicle: u32, k: u32) -> bool
+    requires { k ≤ MOST_ITERATION }
+    ensures { result ≡ selected_of vehicle k }
+{
+    let k = k as u64;
+    (vehicle as u64 + k * k / 4) % (k + 1) == 0
+}
+
+// Whether the least time of a vehicle is asked for: it is wanted, and the vehicle has a route.
+fn is_measured(least: bool, route: &Option<Route>) -> bool
+    ensures { result ≡ (least && is_some route.now) }
+{
+    least && route.is_some()
+}
+
+/// The walks of the vehicles that are selected after an iteration, and the least times of those
+/// that have routes, if they are wanted.
+pub(crate) fn asks_of(
+    alloc: Global,
+    routes: &[Option<Route>],
+    least: bool,
+    k: u32,
+) -> Result<Vec<Ask>, Memory>
+    requires k { k ≤ MOST_ITERATION }
+    requires few { length routes.now ≤ MOST_TRIPS }
+    ensures { IfOk result (λ asks. AreAsked least k routes.now (length routes.now) asks.items) }
+{
+    let mut asks = Vec::new(alloc);
+    for v in 0..routes.len() {
+        asks.push(Ask {
+            least: is_measured(least, &routes[v]),
+            walk: is_selected(v as u32, k),
+        })?;
+    }
+    Ok(asks)
+}
+
+/// The walks of so many vehicles.
+pub(crate) fn all_walks(alloc: Global, count: usize) -> Result<Vec<Ask>, Memory>
+    ensures { IfOk result (λ asks. asks.items ≡ replicate count (record { least = false; walk = true })) }
+{
+    let mut asks = Vec::new(alloc);
+    for _ in 0..count {
+        asks.push(Ask {
+            least: false,
+            walk: true,
+        })?;
+    }
+    Ok(asks)
+}
