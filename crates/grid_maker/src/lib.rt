@@ -1,0 +1,19 @@
+//! Grids to try the program on.
+//!
+//! From a number this crate makes the node, link and demand table of a square grid of streets with
+//! a zone at each corner. Its promise: [`grid`] answers exactly the three texts that specs/Grid
+//! defines, and refuses exactly the numbers out of range.
+#![tactic(auto)]
+
+mod demand_table;
+mod link_table;
+mod links;
+mod maker;
+mod node_table;
+mod places;
+#[cfg(test)]
+mod tests;
+mod text;
+
+pub use maker::{GridFault, LEAST_SIDE, MOST_SIDE, Texts, grid};
+pub use text::Text;
