@@ -1,0 +1,2 @@
+pub mod SendingFacts
+pub mod TextsFacts

@@ -1,0 +1,245 @@
+-- Texts of lines, and lists joined by `;`, one after another.
+use Rattle.std.proofs.Common.{◌≡◌, ℕ, zero, suc, ◌+◌, ◌<◌, ◌≤◌, List, [], ◌∷◌, ◌++◌, length, take, drop, get_or, map, refl, sym, ap, ◌∙◌, subst, arith, append_assoc}
+use Rattle.std.specs.List.{enumerate_from, flat_map, join_with_byte}
+use Rattle.std.specs.Prelude.{decimal}
+use Rattle.std.proofs.lemmas.List.{take_more, append-nil, take-append-drop, take_all, map-append, get_or-map, length-map}
+use Rattle.std.proofs.lemmas.Grind.{flat_map-append}
+use Rattle.desk_io.specs.declared.desk.Output.{Output}
+use Rattle.desk_io.specs.Desk.{Taken, grown}
+use Rattle.desk_io.specs.Transfers.{IsPartOut}
+use Rattle.reports.specs.Sending.{IsAdded}
+use Rattle.std.specs.Prelude.{Option, None, Some, IfSome, slice_get}
+use Rattle.std.proofs.lemmas.Option.{slice_get-get_or}
+use Rattle.std.proofs.Math.ListN.{get_or-map as get_or-map_same}
+use Rattle.desk_io.specs.declared.desk.Output.TheVariants.{Agent}
+use Rattle.reports.specs.declared.status.AgentStatus.{AgentStatus}
+use Rattle.reports.specs.declared.status.AgentStatus.TheVariants.{Unrouted}
+use Rattle.std.proofs.lemmas.List.FromFn.{get_or-enumerate_from, get_or-range_with_len}
+use Rattle.net_core.specs.Network.{link_at, numbers_below}
+use Rattle.net_core.specs.Rows.{link_in}
+use Rattle.net_core.specs.declared.rows.LinkNo.{LinkNo}
+use Rattle.net_core.specs.declared.rows.LinkRow.{LinkRow}
+use Rattle.net_core.specs.declared.rows.NetRows.{NetRows}
+use Rattle.dta_model.specs.Sound.{AreRoutes}
+use Rattle.dta_model.specs.declared.plan.Plan.{Plan}
+use Rattle.dta_model.specs.declared.loaded.Journey.{Journey}
+use Rattle.dta_model.specs.declared.trip.Trip.{Trip}
+use Rattle.gap.specs.declared.line.GapLine.{GapLine}
+use Rattle.reports.specs.Texts.{AreLinksOf, AreOnNet, Vehicle, agent_line, gap_line, ids_of, item, joined, numbered_line, routed_status, semicolon, trip_columns, vehicles, way_columns}
+use Rattle.reports.proofs.SendingFacts.{added-then, added-done, part-first, part-then, part-done}
+
+-- ---- a head, and then a line for each element of a list
+
+-- one more line
+pub lines-more : {X : Type 0} (f : X → List ℕ) (h : List ℕ) (xs : List X) (i : ℕ) (d : X) → i < length xs
+    → h ++ flat_map f (take (i + 1) xs) ≡ (h ++ flat_map f (take i xs)) ++ f (get_or xs i d)
+lines-more f h xs i d k =
+    rw (take_more xs i d k, flat_map-append f (take i xs) (get_or xs i d ∷ []), append-nil (f (get_or xs i d)))
+    (sym (append_assoc h (flat_map f (take i xs)) (f (get_or xs i d))))
+
+-- the first lines and the others
+pub lines-split : {X : Type 0} (f : X → List ℕ) (h : List ℕ) (xs : List X) (i : ℕ)
+    → h ++ flat_map f xs ≡ (h ++ flat_map f (take i xs)) ++ flat_map f (drop i xs)
+lines-split {X} f h xs i =
+    ap (λ (l : List X). h ++ flat_map f l) (sym (take-append-drop i xs))
+    ∙ ap (λ (x : List ℕ). h ++ x) (flat_map-append f (take i xs) (drop i xs))
+    ∙ sym (append_assoc h (flat_map f (take i xs)) (flat_map f (drop i xs)))
+
+-- the line of one more element was added
+pub added-line : {X : Type 0} (o : Output) (f : X → List ℕ) (h : List ℕ) (xs : List X) (i : ℕ) (d : X) (line p0 p q : List ℕ) (t0 t1 t2 : Taken)
+    → i < length xs → line ≡ f (get_or xs i d) → IsAdded o (h ++ flat_map f (take i xs)) p0 p t0 t1 → IsAdded o line p q t1 t2
+    → IsAdded o (h ++ flat_map f (take (i + 1) xs)) p0 q t0 t2
+added-line o f h xs i d line p0 p q t0 t1 t2 k e a b =
+    rw (lines-more f h xs i d k, ← e) (added-then o (h ++ flat_map f (take i xs)) line p0 p q t0 t1 t2 a b)
+
+-- a first part of it went out, and so a first part of the whole text did
+pub part-line : {X : Type 0} (o : Output) (f : X → List ℕ) (h : List ℕ) (xs : List X) (i : ℕ) (d : X) (line p0 p : List ℕ) (t0 t1 t2 : Taken)
+    → i < length xs → line ≡ f (get_or xs i d) → IsAdded o (h ++ flat_map f (take i xs)) p0 p t0 t1 → IsPartOut o (p ++ line) t1 t2
+    → IsPartOut o (p0 ++ (h ++ flat_map f xs)) t0 t2
+part-line o f h xs i d line p0 p t0 t1 t2 k e a b =
+    let c : IsPartOut o (p0 ++ ((h ++ flat_map f (take i xs)) ++ line)) t0 t2
+    = part-then o (h ++ flat_map f (take i xs)) line p0 p t0 t1 t2 a b in
+    let r : IsPartOut o (p0 ++ (h ++ flat_map f (take (i + 1) xs))) t0 t2 = rw (lines-more f h xs i d k, ← e) c in
+    rw (lines-split f h xs (i + 1)) (part-first o (h ++ flat_map f (take (i + 1) xs)) (flat_map f (drop (i + 1) xs)) p0 t0 t2 r)
+
+-- the lines of all elements were added
+pub added-lines : {X : Type 0} (o : Output) (f : X → List ℕ) (h : List ℕ) (xs : List X) (i : ℕ) (p0 p : List ℕ) (t0 t1 : Taken)
+    → length xs ≤ i → IsAdded o (h ++ flat_map f (take i xs)) p0 p t0 t1 → IsAdded o (h ++ flat_map f xs) p0 p t0 t1
+added-lines o f h xs i p0 p t0 t1 k a = rw (take_all i xs k) at a
+
+-- and what was pending went out
+pub lines-done : {X : Type 0} (o : Output) (f : X → List ℕ) (h : List ℕ) (xs : List X) (i : ℕ) (p : List ℕ) (t0 t1 t2 : Taken)
+    → length xs ≤ i → IsAdded o (h ++ flat_map f (take i xs)) [] p t0 t1 → t2 ≡ grown o p t1 → t2 ≡ grown o (h ++ flat_map f xs) t0
+lines-done o f h xs i p t0 t1 t2 k a e = added-done o (h ++ flat_map f xs) p t0 t1 t2 (added-lines o f h xs i [] p t0 t1 k a) e
+
+-- or a first part of it
+pub lines-part-done : {X : Type 0} (o : Output) (f : X → List ℕ) (h : List ℕ) (xs : List X) (i : ℕ) (p : List ℕ) (t0 t1 t2 : Taken)
+    → length xs ≤ i → IsAdded o (h ++ flat_map f (take i xs)) [] p t0 t1 → IsPartOut o p t1 t2 → IsPartOut o (h ++ flat_map f xs) t0 t2
+lines-part-done o f h xs i p t0 t1 t2 k a b = part-done o (h ++ flat_map f xs) p t0 t1 t2 (added-lines o f h xs i [] p t0 t1 k a) b
+
+-- ---- lists joined by `;`
+
+-- one more piece
+join_more : (c : ℕ) (ys : List (List ℕ)) (x : List ℕ) → 0 < length ys → join_with_byte c (ys ++ (x ∷ [])) ≡ join_with_byte c ys ++ (c ∷ x)
+join_more c [] x k = absurd (omega arith)
+join_more c (y ∷ []) x k = refl
+join_more c (y ∷ z ∷ ys) x k = ap (λ v. y ++ (c ∷ v)) (join_more c (z ∷ ys) x (omega arith)) ∙ sym (append_assoc y (c ∷ join_with_byte c (z ∷ ys)) (c ∷ x))
+
+-- more pieces
+join_rest : (c : ℕ) (xs ys : List (List ℕ)) → (rest : List ℕ) × (join_with_byte c (xs ++ ys) ≡ join_with_byte c xs ++ rest)
+join_rest c [] ys = (join_with_byte c ys, refl)
+join_rest c (x ∷ []) [] = ([], sym (append-nil x))
+join_rest c (x ∷ []) (y ∷ ys) = (c ∷ join_with_byte c (y ∷ ys), refl)
+join_rest c (x ∷ z ∷ xs) ys =
+    let r = join_rest c (z ∷ xs) ys in
+    (r.0, ap (λ v. x ++ (c ∷ v)) r.1 ∙ sym (append_assoc x (c ∷ join_with_byte c (z ∷ xs)) r.0))
+
+-- one more number
+pub joined-more : (ns : List ℕ) (i d : ℕ) → i < length ns → joined (take (i + 1) ns) ≡ joined (take i ns) ++ item i (get_or ns i d)
+joined-more [] i d k = absurd (omega arith)
+joined-more (n ∷ ns) zero d k = refl
+joined-more (n ∷ ns) (suc i) d k =
+    let some : 0 < length (map decimal (take (suc i) (n ∷ ns))) = omega arith in
+    ap joined (take_more (n ∷ ns) (suc i) d k)
+    ∙ ap (join_with_byte semicolon) (map-append decimal (take (suc i) (n ∷ ns)) (get_or (n ∷ ns) (suc i) d ∷ []))
+    ∙ join_more semicolon (map decimal (take (suc i) (n ∷ ns))) (decimal (get_or (n ∷ ns) (suc i) d)) some
+
+-- the first numbers and the others
+joined-split : (ns : List ℕ) (i : ℕ) → (rest : List ℕ) × (joined ns ≡ joined (take i ns) ++ rest)
+joined-split ns i =
+    let r = join_rest semicolon (map decimal (take i ns)) (map decimal (drop i ns)) in
+    (r.0, ap joined (sym (take-append-drop i ns)) ∙ ap (join_with_byte semicolon) (map-append decimal (take i ns) (drop i ns)) ∙ r.1)
+
+-- one more number was added
+pub added-item : (o : Output) (ns : List ℕ) (i n : ℕ) (p0 p q : List ℕ) (t0 t1 t2 : Taken) → i < length ns → n ≡ get_or ns i 0
+    → IsAdded o (joined (take i ns)) p0 p t0 t1 → IsAdded o (item i n) p q t1 t2 → IsAdded o (joined (take (i + 1) ns)) p0 q t0 t2
+added-item o ns i n p0 p q t0 t1 t2 k e a b =
+    subst (λ text. IsAdded o text p0 q t0 t2) (ap (λ m. joined (take i ns) ++ item i m) e ∙ sym (joined-more ns i 0 k))
+    (added-then o (joined (take i ns)) (item i n) p0 p q t0 t1 t2 a b)
+
+-- a first part of it went out
+pub part-item : (o : Output) (ns : List ℕ) (i n : ℕ) (p0 p : List ℕ) (t0 t1 t2 : Taken) → i < length ns → n ≡ get_or ns i 0
+    → IsAdded o (joined (take i ns)) p0 p t0 t1 → IsPartOut o (p ++ item i n) t1 t2 → IsPartOut o (p0 ++ joined ns) t0 t2
+part-item o ns i n p0 p t0 t1 t2 k e a b =
+    let c : IsPartOut o (p0 ++ joined (take (i + 1) ns)) t0 t2
+    = subst (λ text. IsPartOut o (p0 ++ text) t0 t2) (ap (λ m. joined (take i ns) ++ item i m) e ∙ sym (joined-more ns i 0 k))
+    (part-then o (joined (take i ns)) (item i n) p0 p t0 t1 t2 a b) in
+    let r = joined-split ns (i + 1) in
+    subst (λ text. IsPartOut o (p0 ++ text) t0 t2) (sym r.1) (part-first o (joined (take (i + 1) ns)) r.0 p0 t0 t2 c)
+
+-- all numbers were added
+pub added-items : (o : Output) (ns : List ℕ) (i : ℕ) (p0 p : List ℕ) (t0 t1 : Taken) → length ns ≤ i
+    → IsAdded o (joined (take i ns)) p0 p t0 t1 → IsAdded o (joined ns) p0 p t0 t1
+added-items o ns i p0 p t0 t1 k a = rw (take_all i ns k) at a
+
+-- ---- what stands at a place
+
+-- the row that a place has is the link there
+pub link-there : (net : NetRows) (l : ℕ) (row : LinkRow) → slice_get net.links l ≡ Some row → link_at net l ≡ row
+unfolding link_in
+link-there net l row e = rw e refl
+
+-- the identifier of a link of a route
+pub id-there : (net : NetRows) (route : List LinkNo) (i : ℕ) (d : LinkNo) (row : LinkRow) → i < length route
+    → slice_get net.links (get_or route i d).0 ≡ Some row → row.id ≡ get_or (ids_of net route) i 0
+id-there net route i d row k e =
+    ap (λ link. link.id) (sym (link-there net (get_or route i d).0 row e)) ∙ sym (get_or-map (λ l. (link_at net l.0).id) route i d 0 k)
+
+-- as many identifiers as links
+pub length-ids_of : (net : NetRows) (route : List LinkNo) → length (ids_of net route) ≡ length route
+length-ids_of net route = length-map route (λ l. (link_at net l.0).id)
+
+-- the routes of a plan whose routes are walks are over the links of its network
+pub walks-on-net : (p : Plan) → AreRoutes p → length p.routes ≡ length p.trips → AreOnNet p.net p.routes
+walks-on-net p walks each v d k = each_route (get_or p.routes v d) (slice_get-get_or p.routes v d k)
+  where
+    trip : Trip
+    trip = get_or p.trips v (record { number = 0; origin = 0; destination = 0; departure = 0 })
+
+    its_trip : slice_get p.trips v ≡ Some trip
+    its_trip = slice_get-get_or p.trips v _ (omega arith)
+
+    each_route : (r : Option (List LinkNo)) → slice_get p.routes v ≡ Some r → IfSome r (AreLinksOf p.net)
+    each_route None e = tt
+    each_route (Some route) e = λ i l h.
+        let w = walks v trip route its_trip e in
+        subst (λ m. m < length p.net.links) (get_or-map_same (λ x. x.0) route i l) (w.links i l.0 (rw (length-map route (λ x. x.0)) h))
+
+-- a number below a bound
+pub number-there : (f : ℕ → List ℕ) (n i : ℕ) → i < n → f i ≡ f (get_or (numbers_below n) i 0)
+number-there f n i k =
+    let same : 0 + i ≡ i = omega arith in
+    ap f (sym (get_or-range_with_len 0 n i 0 k ∙ same))
+
+-- a line and its iteration
+pub gap-there : (lines : List GapLine) (i : ℕ) (d : GapLine) → i < length lines
+    → gap_line (i + 1) (get_or lines i d) ≡ numbered_line (get_or (enumerate_from 1 lines) i (0, d))
+gap-there lines i d k =
+    let same : i + 1 ≡ 1 + i = omega arith in
+    ap (λ n. gap_line n (get_or lines i d)) same ∙ ap numbered_line (sym (get_or-enumerate_from 1 lines i (0, d) k))
+
+-- as many vehicles as trips
+pub length-vehicles : (trips : List Trip) (routes : List (Option (List LinkNo))) (journeys : List Journey) → length routes ≡ length trips
+    → length journeys ≡ length trips → length (vehicles trips routes journeys) ≡ length trips
+unfolding vehicles
+length-vehicles [] routes journeys a b = refl
+length-vehicles (t ∷ trips) [] journeys a b = absurd (omega arith)
+length-vehicles (t ∷ trips) (r ∷ routes) [] a b = absurd (omega arith)
+length-vehicles (t ∷ trips) (r ∷ routes) (j ∷ journeys) a b = ap suc (length-vehicles trips routes journeys (omega arith) (omega arith))
+
+-- a vehicle is its trip, its route and its journey
+pub vehicle-there : (trips : List Trip) (routes : List (Option (List LinkNo))) (journeys : List Journey) (i : ℕ)
+    (trip : Trip) (route : Option (List LinkNo)) (journey : Journey) (d : Vehicle)
+    → slice_get trips i ≡ Some trip → slice_get routes i ≡ Some route → slice_get journeys i ≡ Some journey
+    → record { trip = trip; route = route; journey = journey } ≡ get_or (vehicles trips routes journeys) i d
+unfolding vehicles
+vehicle-there [] routes journeys i trip route journey d a b c = absurd cc
+vehicle-there (t ∷ trips) [] journeys i trip route journey d a b c = absurd cc
+vehicle-there (t ∷ trips) (r ∷ routes) [] i trip route journey d a b c = absurd cc
+vehicle-there (t ∷ trips) (r ∷ routes) (j ∷ journeys) zero trip route journey d a b c =
+    let x : trip ≡ t = cc in
+    let y : route ≡ r = cc in
+    let z : journey ≡ j = cc in
+    rw (x, y, z) refl
+vehicle-there (t ∷ trips) (r ∷ routes) (j ∷ journeys) (suc i) trip route journey d a b c = vehicle-there trips routes journeys i trip route journey d a b c
+
+-- ---- the line of a vehicle
+
+-- one that has a route, piece by piece
+pub added-agent : (net : NetRows) (trip : Trip) (route links : List LinkNo) (journey : Journey) (named : AgentStatus) (entries p q r : List ℕ) (t0 t1 t2 : Taken)
+    → named ≡ routed_status journey → links ≡ route → entries ≡ journey.entries
+    → IsAdded Agent (trip_columns trip journey.arrival named) p q t0 t1 → IsAdded Agent (way_columns (ids_of net links) entries) q r t1 t2
+    → IsAdded Agent (agent_line net trip (Some route) journey) p r t0 t2
+unfolding agent_line
+added-agent net trip route links journey named entries p q r t0 t1 t2 e f g a b =
+    added-then Agent _ _ p q r t0 t1 t2
+    (subst (λ s. IsAdded Agent (trip_columns trip journey.arrival s) p q t0 t1) e a)
+    (subst (λ s. IsAdded Agent (way_columns (ids_of net route) s) q r t1 t2) g
+    (subst (λ l. IsAdded Agent (way_columns (ids_of net l) entries) q r t1 t2) f b))
+
+pub part-agent : (net : NetRows) (trip : Trip) (route links : List LinkNo) (journey : Journey) (named : AgentStatus) (entries p q : List ℕ) (t0 t1 t2 : Taken)
+    → named ≡ routed_status journey → links ≡ route → entries ≡ journey.entries
+    → IsAdded Agent (trip_columns trip journey.arrival named) p q t0 t1 → IsPartOut Agent (q ++ way_columns (ids_of net links) entries) t1 t2
+    → IsPartOut Agent (p ++ agent_line net trip (Some route) journey) t0 t2
+unfolding agent_line
+part-agent net trip route links journey named entries p q t0 t1 t2 e f g a b =
+    part-then Agent _ _ p q t0 t1 t2
+    (subst (λ s. IsAdded Agent (trip_columns trip journey.arrival s) p q t0 t1) e a)
+    (subst (λ s. IsPartOut Agent (q ++ way_columns (ids_of net route) s) t1 t2) g
+    (subst (λ l. IsPartOut Agent (q ++ way_columns (ids_of net l) entries) t1 t2) f b))
+
+-- one that has none
+pub added-unrouted : (net : NetRows) (trip : Trip) (journey : Journey) (p q r : List ℕ) (t0 t1 t2 : Taken)
+    → IsAdded Agent (trip_columns trip None Unrouted) p q t0 t1 → IsAdded Agent (way_columns [] []) q r t1 t2
+    → IsAdded Agent (agent_line net trip None journey) p r t0 t2
+unfolding agent_line
+added-unrouted net trip journey p q r t0 t1 t2 a b = added-then Agent _ _ p q r t0 t1 t2 a b
+
+pub part-unrouted : (net : NetRows) (trip : Trip) (journey : Journey) (p q : List ℕ) (t0 t1 t2 : Taken)
+    → IsAdded Agent (trip_columns trip None Unrouted) p q t0 t1 → IsPartOut Agent (q ++ way_columns [] []) t1 t2
+    → IsPartOut Agent (p ++ agent_line net trip None journey) t0 t2
+unfolding agent_line
+part-unrouted net trip journey p q t0 t1 t2 a b = part-then Agent _ _ p q t0 t1 t2 a b
+
+-- the row of a link
+pub ruleset rows = (link-there)

@@ -1,0 +1,28 @@
+use Rattle.std.proofs.Common.{rules, arith}
+use Rattle.std.proofs.lemmas.Grind.{common_steps}
+use Rattle.std.proofs.lemmas.Result.{err_from_is_err_and}
+use Rattle.desk_io.specs.declared.desk.Output.TheVariants as output
+use Rattle.reports.specs.Texts.{ids_of}
+use Rattle.reports.proofs.TextsFacts.{added-item, part-item, added-items, id-there, length-ids_of}
+use Rattle.reports.proofs.agents.add_ids.Goals as goal
+
+pub link-row-requires : goal.link-row-requires
+link-row-requires g c = c.requires c.each.place _ c.each-test.true
+
+pub returns-in_err-add_item-clause-refused : goal.returns-in_err-add_item-clause-refused
+returns-in_err-add_item-clause-refused g c =
+    let p = err_from_is_err_and c.from_residual.result c.from_residual.ensures.1 in
+    rw p.1 (part-item output.Agent (ids_of c.args.net.now c.args.route.now) c.each.place _ c.args.pending.now c.each.pending _ _ _
+    (rw (length-ids_of c.args.net.now c.args.route.now) c.each-test.true) (id-there c.args.net.now c.args.route.now c.each.place _ c.link-row.result c.each-test.true c.link-row.ensures) c.each.invariant.added c.in_err-add_item.ensures.refused)
+
+pub each-preserved : goal.each-preserved
+each-preserved g c = record {
+  added = added-item output.Agent (ids_of c.args.net.now c.args.route.now) c.each.place _ c.args.pending.now c.each.pending c.add_item.new.pending _ _ _
+      (rw (length-ids_of c.args.net.now c.args.route.now) c.each-test.true) (id-there c.args.net.now c.args.route.now c.each.place _ c.link-row.result c.each-test.true c.link-row.ensures) c.each.invariant.added c.in_ok-add_item.ensures.whole;
+  left = search rules;
+  later = grind (arith, common_steps);
+  reads = search rules;
+}
+
+pub returns-clause-whole : goal.returns-clause-whole
+returns-clause-whole g c = added-items output.Agent (ids_of c.args.net.now c.args.route.now) c.each.place c.args.pending.now c.each.pending _ _ (rw (length-ids_of c.args.net.now c.args.route.now) c.each-test.false) c.each.invariant.added

@@ -1,0 +1,43 @@
+use Rattle.std.proofs.Common.{◌≡◌, rules, arith, []}
+use Rattle.std.proofs.lemmas.Grind.{common_steps}
+use Rattle.std.proofs.lemmas.Result.{on_err_weaker, on_ok_weaker, err_from_is_err_and}
+use Rattle.desk_io.specs.declared.desk.Output.TheVariants as output
+use Rattle.desk_io.specs.Desk.{grown}
+use Rattle.desk_io.specs.Transfers.{IsPartOut}
+use Rattle.std.specs.List.{enumerate_from}
+use Rattle.std.proofs.lemmas.List.FromFn.{length-enumerate_from}
+use Rattle.reports.specs.Texts.{gap_header, gap_text, numbered_line}
+use Rattle.reports.proofs.TextsFacts.{added-line, part-line, lines-done, lines-part-done, gap-there}
+use Rattle.reports.proofs.gaps.put_gaps.Goals as goal
+
+pub returns-in_err-add_gap-clause-refused : goal.returns-in_err-add_gap-clause-refused
+unfolding gap_text
+returns-in_err-add_gap-clause-refused g c =
+    let p = err_from_is_err_and c.from_residual.result c.from_residual.ensures.1 in
+    rw p.1 (part-line output.Gap numbered_line gap_header (enumerate_from 1 c.args.lines.now) c.each.place (0, _) _ [] c.each.pending _ _ _
+    (rw (length-enumerate_from 1 c.args.lines.now) c.each-test.true) (gap-there c.args.lines.now c.each.place _ c.each-test.true) c.each.invariant.added c.in_err-add_gap.ensures.refused)
+
+pub each-preserved : goal.each-preserved
+each-preserved g c = record {
+  added = added-line output.Gap numbered_line gap_header (enumerate_from 1 c.args.lines.now) c.each.place (0, _) _ [] c.each.pending c.add_gap.new.pending _ _ _
+      (rw (length-enumerate_from 1 c.args.lines.now) c.each-test.true) (gap-there c.args.lines.now c.each.place _ c.each-test.true) c.each.invariant.added c.in_ok-add_gap.ensures.whole;
+  left = search rules;
+  later = grind (arith, common_steps);
+  reads = search rules;
+}
+
+pub returns-clause-whole : goal.returns-clause-whole
+unfolding gap_text
+returns-clause-whole g c =
+    let all : g.D.Desk.taken c.put_out.new.desk ≡ grown output.Gap c.each.pending (g.D.Desk.taken c.each.desk)
+    → g.D.Desk.taken c.put_out.new.desk ≡ grown output.Gap (gap_text c.args.lines.now) (g.D.Desk.taken c.args.desk.now)
+    = λ out. lines-done output.Gap numbered_line gap_header (enumerate_from 1 c.args.lines.now) c.each.place c.each.pending _ _ _ (rw (length-enumerate_from 1 c.args.lines.now) c.each-test.false) c.each.invariant.added out in
+    on_ok_weaker _ all c.put_out.ensures.whole
+
+pub returns-clause-refused : goal.returns-clause-refused
+unfolding gap_text
+returns-clause-refused g c =
+    let some : IsPartOut output.Gap c.each.pending (g.D.Desk.taken c.each.desk) (g.D.Desk.taken c.put_out.new.desk)
+    → IsPartOut output.Gap (gap_text c.args.lines.now) (g.D.Desk.taken c.args.desk.now) (g.D.Desk.taken c.put_out.new.desk)
+    = λ part. lines-part-done output.Gap numbered_line gap_header (enumerate_from 1 c.args.lines.now) c.each.place c.each.pending _ _ _ (rw (length-enumerate_from 1 c.args.lines.now) c.each-test.false) c.each.invariant.added part in
+    on_err_weaker _ some c.put_out.ensures.refused

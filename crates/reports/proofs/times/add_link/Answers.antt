@@ -1,0 +1,30 @@
+use Rattle.std.proofs.Common.{rules, arith, []}
+use Rattle.std.proofs.lemmas.Grind.{common_steps}
+use Rattle.std.proofs.lemmas.Result.{err_from_is_err_and}
+use Rattle.desk_io.specs.declared.desk.Output.TheVariants as output
+use Rattle.std.proofs.lemmas.List.FromFn.{length-range_with_len}
+use Rattle.net_core.specs.Network.{numbers_below}
+use Rattle.dta_model.specs.LinkTimes.{bucket_count}
+use Rattle.reports.specs.Texts.{bucket_line, link_lines}
+use Rattle.reports.proofs.TextsFacts.{added-line, part-line, added-lines, number-there}
+use Rattle.reports.proofs.times.add_link.Goals as goal
+
+pub returns-in_err-add_bucket-clause-refused : goal.returns-in_err-add_bucket-clause-refused
+unfolding link_lines
+returns-in_err-add_bucket-clause-refused g c =
+    let p = err_from_is_err_and c.from_residual.result c.from_residual.ensures.1 in
+    rw p.1 (part-line output.LinkTime (bucket_line c.args.net.now c.args.times.now c.args.link.0) [] (numbers_below (bucket_count c.args.times.now)) c.each.bucket 0 _ c.args.pending.now c.each.pending _ _ _
+    (rw (length-range_with_len 0 (bucket_count c.args.times.now)) (omega arith)) (number-there (bucket_line c.args.net.now c.args.times.now c.args.link.0) (bucket_count c.args.times.now) c.each.bucket (omega arith)) c.each.invariant.added c.in_err-add_bucket.ensures.refused)
+
+pub each-preserved : goal.each-preserved
+each-preserved g c = record {
+  added = added-line output.LinkTime (bucket_line c.args.net.now c.args.times.now c.args.link.0) [] (numbers_below (bucket_count c.args.times.now)) c.each.bucket 0 _ c.args.pending.now c.each.pending c.add_bucket.new.pending _ _ _
+      (rw (length-range_with_len 0 (bucket_count c.args.times.now)) (omega arith)) (number-there (bucket_line c.args.net.now c.args.times.now c.args.link.0) (bucket_count c.args.times.now) c.each.bucket (omega arith)) c.each.invariant.added c.in_ok-add_bucket.ensures.whole;
+  left = search rules;
+  later = grind (arith, common_steps);
+  reads = search rules;
+}
+
+pub returns-clause-whole : goal.returns-clause-whole
+unfolding link_lines
+returns-clause-whole g c = added-lines output.LinkTime (bucket_line c.args.net.now c.args.times.now c.args.link.0) [] (numbers_below (bucket_count c.args.times.now)) c.each.bucket c.args.pending.now c.each.pending _ _ (rw (length-range_with_len 0 (bucket_count c.args.times.now)) (omega arith)) c.each.invariant.added

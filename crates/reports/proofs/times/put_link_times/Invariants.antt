@@ -1,0 +1,15 @@
+use Rattle.std.proofs.Common.{◌≡◌, ◌≤◌, take, [], ◌++◌, length}
+use Rattle.desk_io.specs.declared.desk.Output.TheVariants as output
+use Rattle.reports.specs.Sending.{IsAdded}
+use Rattle.std.specs.List.{flat_map}
+use Rattle.net_core.specs.Network.{numbers_below}
+use Rattle.reports.specs.Texts.{link_lines, link_time_header}
+use Rattle.reports.proofs.times.put_link_times.Given as goal
+
+abbrev pub invariant-each : goal.invariant-each
+invariant-each g l = record {
+  added : IsAdded output.LinkTime (link_time_header ++ flat_map (link_lines l.net l.times) (take l.link (numbers_below (length l.net.links)))) [] l.pending (g.D.Desk.taken l.fn.desk) (g.D.Desk.taken l.desk);
+  left : g.D.Desk.left l.desk ≡ g.D.Desk.left l.fn.desk;
+  later : g.D.Desk.put_faults l.fn.desk ≤ g.D.Desk.put_faults l.desk;
+  reads : g.D.Desk.read_faults l.desk ≡ g.D.Desk.read_faults l.fn.desk;
+}

@@ -1,0 +1,225 @@
+-- The texts that go out, as functions of what they tell. Numbers are decimal, nothing is quoted, and each line ends with a line feed.
+use Rattle.std.specs.Prelude.{ℕ, zero, suc, ◌≡◌, ◌+◌, ◌*◌, ◌<◌, ◌⊎◌, if◌then◌else◌, min, nat_lt, is_some, List, [], ◌∷◌, ◌++◌, length, map, All, IfSome, Option, None, Some, slice_index, codes, decimal}
+use Rattle.std.specs.List.{enumerate_from, flat_map, join_with_byte}
+use Rattle.desk_io.specs.declared.desk.Output.TheVariants as output
+use Rattle.desk_io.specs.Desk.{Taken, grown}
+use Rattle.desk_io.specs.Transfers.{IsPartOut}
+use Rattle.row_reader.specs.Names.{code_name, column_name, table_name}
+use Rattle.net_core.specs.Network.{link_at, numbers_below}
+use Rattle.net_core.specs.declared.rows.LinkNo.{LinkNo}
+use Rattle.net_core.specs.declared.rows.LinkRow.{LinkRow}
+use Rattle.net_core.specs.declared.rows.NetRows.{NetRows}
+use Rattle.dta_model.specs.LinkTimes.{TimeTable, bucket_count, entered_in, time_at}
+use Rattle.dta_model.specs.declared.eight.Eight.{Eight}
+use Rattle.dta_model.specs.declared.loaded.Journey.{Journey}
+use Rattle.dta_model.specs.declared.trip.TheConstants.{MOST_TRIPS}
+use Rattle.dta_model.specs.declared.trip.Trip.{Trip}
+use Rattle.gap.specs.declared.line.GapLine.{GapLine}
+use Rattle.reports.specs.declared.refusal.Refusal.{Refusal}
+use Rattle.reports.specs.declared.refusal.Refusal.TheVariants as refusal
+use Rattle.reports.specs.declared.refusal.TheConstants.{CELL_LIMIT, TABLE_LIMIT}
+use Rattle.reports.specs.declared.status.AgentStatus.{AgentStatus}
+use Rattle.reports.specs.declared.status.AgentStatus.TheVariants as status
+use Rattle.reports.specs.declared.summary.Summary.{Summary}
+
+-- ---- the texts of `freeflow`
+
+-- the line of one link: its identifier, its free-flow steps and its storage
+unfoldable pub free_link_line : LinkRow → List ℕ
+free_link_line row =
+    decimal row.id ++ codes "," ++ decimal row.free ++ codes "," ++ decimal row.storage ++ codes "\n"
+
+unfoldable pub free_link_time_header : List ℕ
+free_link_time_header = codes "link_id,free_steps,storage\n"
+
+-- LinkTime: its header, and a line for each link in table order
+unfoldable pub free_link_time_text : List LinkRow → List ℕ
+free_link_time_text links = free_link_time_header ++ flat_map free_link_line links
+
+-- Report: the numbers of nodes and links
+unfoldable pub free_report_text : ℕ → ℕ → List ℕ
+free_report_text nodes links =
+    codes "nodes " ++ decimal nodes ++ codes "\nlinks " ++ decimal links ++ codes "\n"
+
+-- both texts of a network went out whole, LinkTime first
+abbrev pub IsFreeOut : NetRows → Taken → Taken → Type 0
+IsFreeOut net before after =
+    after ≡ grown output.Report (free_report_text (length net.nodes) (length net.links))
+    (grown output.LinkTime (free_link_time_text net.links) before)
+
+-- a first part of LinkTime went out, or LinkTime whole and a first part of Report
+abbrev pub IsCutShort : NetRows → Taken → Taken → Type 0
+IsCutShort net before after =
+    IsPartOut output.LinkTime (free_link_time_text net.links) before after
+    ⊎ IsPartOut output.Report (free_report_text (length net.nodes) (length net.links))
+    (grown output.LinkTime (free_link_time_text net.links) before) after
+
+-- ---- Agent
+
+-- a vehicle: its trip, its route if it has one, and its journey
+pub record Vehicle : Type 0 where
+  pub trip : Trip
+  pub route : Option (List LinkNo)
+  pub journey : Journey
+
+-- the vehicles of these trips, routes and journeys, in order
+unfoldable pub vehicles : List Trip → List (Option (List LinkNo)) → List Journey → List Vehicle
+vehicles (trip ∷ trips) (route ∷ routes) (journey ∷ journeys) =
+    record { trip = trip; route = route; journey = journey } ∷ vehicles trips routes journeys
+vehicles (trip ∷ trips) (route ∷ routes) [] = []
+vehicles (trip ∷ trips) [] journeys = []
+vehicles [] routes journeys = []
+
+-- these links are the network's
+abbrev pub AreLinksOf : NetRows → List LinkNo → Type 0
+AreLinksOf net links = All (λ l. l.0 < length net.links) links
+
+-- and so are those of each route
+abbrev pub AreOnNet : NetRows → List (Option (List LinkNo)) → Type 0
+AreOnNet net routes = All (λ route. IfSome route (AreLinksOf net)) routes
+
+-- the status of a vehicle that has a route
+abbrev pub routed_status : Journey → AgentStatus
+routed_status journey =
+    if is_some journey.arrival then status.Arrived
+    else if nat_lt 0 (length journey.entries) then status.Running
+    else status.Waiting
+
+abbrev pub status_name : AgentStatus → List ℕ
+status_name status.Unrouted = codes "unrouted"
+status_name status.Arrived = codes "arrived"
+status_name status.Running = codes "running"
+status_name status.Waiting = codes "waiting"
+
+-- a number, or nothing where there is none
+abbrev pub number_or_nothing : Option ℕ → List ℕ
+number_or_nothing None = []
+number_or_nothing (Some n) = decimal n
+
+-- the byte `;`
+abbrev pub semicolon : ℕ
+semicolon = 59
+
+-- numbers joined by `;`
+abbrev pub joined : List ℕ → List ℕ
+joined numbers = join_with_byte semicolon (map decimal numbers)
+
+-- the part of such a list that a number at a place takes
+abbrev pub item : ℕ → ℕ → List ℕ
+item zero number = decimal number
+item (suc place) number = semicolon ∷ decimal number
+
+-- the identifiers of the links of a route
+abbrev pub ids_of : NetRows → List LinkNo → List ℕ
+ids_of net route = map (λ l. (link_at net l.0).id) route
+
+-- the first six columns of a vehicle
+unfoldable pub trip_columns : Trip → Option ℕ → AgentStatus → List ℕ
+trip_columns trip arrival status =
+    decimal trip.number ++ codes "," ++ decimal trip.origin ++ codes "," ++ decimal trip.destination ++ codes ","
+    ++ decimal trip.departure ++ codes "," ++ number_or_nothing arrival ++ codes "," ++ status_name status ++ codes ","
+
+-- and the last two: the links of its route, and the steps in which it entered them
+unfoldable pub way_columns : List ℕ → List ℕ → List ℕ
+way_columns ids entries = joined ids ++ codes "," ++ joined entries ++ codes "\n"
+
+-- the line of a vehicle. One without a route has no arrival, no links and no entries
+unfoldable pub agent_line : NetRows → Trip → Option (List LinkNo) → Journey → List ℕ
+agent_line net trip None journey = trip_columns trip None status.Unrouted ++ way_columns [] []
+agent_line net trip (Some route) journey =
+    trip_columns trip journey.arrival (routed_status journey) ++ way_columns (ids_of net route) journey.entries
+
+-- the line of a vehicle with its trip, route and journey
+abbrev pub vehicle_line : NetRows → Vehicle → List ℕ
+vehicle_line net v = agent_line net v.trip v.route v.journey
+
+unfoldable pub agent_header : List ℕ
+agent_header = codes "agent_id,o_zone_id,d_zone_id,departure_step,arrival_step,status,link_ids,entry_steps\n"
+
+-- Agent: its header, and a line for each vehicle in order
+unfoldable pub agent_text : NetRows → List Trip → List (Option (List LinkNo)) → List Journey → List ℕ
+agent_text net trips routes journeys =
+    agent_header ++ flat_map (vehicle_line net) (vehicles trips routes journeys)
+
+-- ---- LinkTime of `assign`
+
+-- the line of one bucket of a link: the link's identifier, the first step, the step after the last one, the number of visits, the time, and the
+-- link's free-flow steps
+unfoldable pub bucket_line : NetRows → TimeTable → ℕ → ℕ → List ℕ
+bucket_line net times l b =
+    decimal (link_at net l).id ++ codes "," ++ decimal (b * times.bucket) ++ codes ","
+    ++ decimal (min ((b + 1) * times.bucket) times.horizon) ++ codes "," ++ decimal (entered_in times l b) ++ codes ","
+    ++ decimal (time_at times l (b * times.bucket)) ++ codes "," ++ decimal (link_at net l).free ++ codes "\n"
+
+-- the lines of a link
+unfoldable pub link_lines : NetRows → TimeTable → ℕ → List ℕ
+link_lines net times l = flat_map (bucket_line net times l) (numbers_below (bucket_count times))
+
+unfoldable pub link_time_header : List ℕ
+link_time_header = codes "link_id,from_step,to_step,entered,travel_steps,free_steps\n"
+
+-- LinkTime: its header, and the lines of each link in table order
+unfoldable pub link_time_text : NetRows → TimeTable → List ℕ
+link_time_text net times = link_time_header ++ flat_map (link_lines net times) (numbers_below (length net.links))
+
+-- ---- Gap
+
+-- the line of an iteration
+unfoldable pub gap_line : ℕ → GapLine → List ℕ
+gap_line iteration line =
+    decimal iteration ++ codes "," ++ decimal line.route_steps ++ codes "," ++ decimal line.least_steps ++ codes ","
+    ++ decimal line.gap_steps ++ codes "," ++ decimal line.ppm ++ codes "\n"
+
+-- the line of an iteration with its number
+abbrev pub numbered_line : ℕ × GapLine → List ℕ
+numbered_line numbered = gap_line numbered.0 numbered.1
+
+unfoldable pub gap_header : List ℕ
+gap_header = codes "iteration,route_steps,least_steps,gap_steps,gap_ppm\n"
+
+-- Gap: its header, and a line for each iteration, from 1
+unfoldable pub gap_text : List GapLine → List ℕ
+gap_text lines = gap_header ++ flat_map numbered_line (enumerate_from 1 lines)
+
+-- ---- Report of `assign` and `demo`
+
+-- its counts, and the gap of the last iteration
+unfoldable pub count_lines : Summary → List ℕ
+count_lines s =
+    codes "nodes " ++ decimal s.nodes ++ codes "\nlinks " ++ decimal s.links ++ codes "\nvehicles " ++ decimal s.vehicles
+    ++ codes "\nunrouted " ++ decimal s.unrouted ++ codes "\niterations " ++ decimal s.iterations
+    ++ codes "\narrived " ++ decimal s.arrived ++ codes "\nrunning " ++ decimal s.running
+    ++ codes "\nwaiting " ++ decimal s.waiting ++ codes "\n"
+
+unfoldable pub last_gap_lines : GapLine → List ℕ
+last_gap_lines line =
+    codes "route_steps " ++ decimal line.route_steps ++ codes "\nleast_steps " ++ decimal line.least_steps
+    ++ codes "\ngap_steps " ++ decimal line.gap_steps ++ codes "\ngap_ppm " ++ decimal line.ppm ++ codes "\n"
+
+unfoldable pub report_text : Summary → List ℕ
+report_text s = count_lines s ++ last_gap_lines s.gap
+
+-- ---- Watch
+
+-- the line of an iteration's state
+unfoldable pub watch_line : ℕ → Eight → List ℕ
+watch_line iteration eight =
+    decimal iteration ++ codes "," ++ decimal eight.steps ++ codes "," ++ decimal eight.waiting ++ codes ","
+    ++ decimal eight.running ++ codes "," ++ decimal eight.arrived
+    ++ codes "," ++ decimal (slice_index eight.first 0) ++ codes "," ++ decimal (slice_index eight.first 1)
+    ++ codes "," ++ decimal (slice_index eight.first 2) ++ codes "," ++ decimal (slice_index eight.first 3) ++ codes "\n"
+
+-- ---- Report of a refusal
+
+unfoldable pub refusal_line : Refusal → List ℕ
+refusal_line refusal.Usage = codes "usage: dta freeflow|assign|demo N [options]\n"
+refusal_line (refusal.Table fault) =
+    table_name fault.table ++ codes " line " ++ decimal fault.line ++ codes ": "
+    ++ code_name fault.code ++ codes " " ++ column_name fault.column ++ codes "\n"
+refusal_line (refusal.Read t) = codes "read fault in " ++ table_name t ++ codes "\n"
+refusal_line (refusal.LongTable t) =
+    codes "size: table " ++ table_name t ++ codes " limit " ++ decimal TABLE_LIMIT ++ codes "\n"
+refusal_line (refusal.Cells links steps) =
+    codes "size: links " ++ decimal links ++ codes " steps " ++ decimal steps ++ codes " limit " ++ decimal CELL_LIMIT ++ codes "\n"
+refusal_line (refusal.Vehicles line total) =
+    codes "size: demand line " ++ decimal line ++ codes " vehicles " ++ decimal total ++ codes " limit " ++ decimal MOST_TRIPS ++ codes "\n"

@@ -1,0 +1,265 @@
+// The text of the vehicles.
+ghost use Rattle.std.specs.Prelude.{◌≡◌, ◌≤◌, ◌+◌, ◌++◌, IfSome, length, OnOk, OnErr, option_copied};
+ghost use Rattle.desk_io.specs.declared.desk.Output.TheVariants as output;
+ghost use Rattle.desk_io.specs.Desk.{grown};
+ghost use Rattle.desk_io.specs.Faults.{HasCause};
+ghost use Rattle.desk_io.specs.Transfers.{IsPartOut};
+ghost use Rattle.reports.specs.declared.pending.TheConstants.{DIGITS, PIECE};
+ghost use Rattle.reports.specs.Sending.{IsAdded};
+ghost use Rattle.reports.specs.Texts.{agent_header, agent_line, agent_text, AreLinksOf, AreOnNet};
+ghost use Rattle.reports.specs.Texts.{ids_of, item, joined, number_or_nothing, trip_columns, way_columns};
+
+use crate::pending::Pending;
+use crate::status::{AgentStatus, status_of};
+use desk_io::{Desk, Failed, Output};
+use dta_model::{Journey, Loaded, MOST_TRIPS, Route, Routes, Trip};
+use net_core::{LinkNo, Net};
+
+/// No first six columns are longer: five numbers of at most 20 digits, a status of at most 8
+/// letters and six commas.
+const COLUMNS: usize = 128;
+
+/// No item of a list is longer: a semicolon and a number.
+const ITEM: usize = 24;
+
+// The header of Agent.
+#[tactic(auto, unfolding(crate::specs::Texts::agent_header))]
+fn header() -> Pending
+    ensures { result ≡ agent_header }
+{
+    let mut pending = Pending::new();
+    pending.push(
+        "agent_id,o_zone_id,d_zone_id,departure_step,arrival_step,status,link_ids,entry_steps\n",
+    );
+    pending
+}
+
+// Adds a step to what is pending, and nothing where there is none.
+fn push_step(pending: &mut Pending, step: Option<u32>)
+    requires { length pending.old + DIGITS ≤ PIECE }
+    ensures text { pending.new ≡ pending.old ++ number_or_nothing step }
+    ensures few { length pending.new ≤ length pending.old + DIGITS }
+{
+    if let Some(number) = step {
+        pending.push_number(u64::from(number));
+    }
+}
+
+// Adds the first six columns of a vehicle to what is pending.
+#[tactic(auto, using(crate::proofs::SendingFacts::lengths), unfolding(crate::specs::Texts::trip_columns))]
+fn push_trip(pending: &mut Pending, trip: &Trip, arrival: Option<u32>, status: AgentStatus)
+    requires { length pending.old + COLUMNS ≤ PIECE }
+    ensures { pending.new ≡ pending.old ++ trip_columns trip.now arrival status }
+{
+    pending.push_number(u64::from(trip.number));
+    pending.push(",");
+    pending.push_number(trip.origin);
+    pending.push(",");
+    pending.push_number(trip.destination);
+    pending.push(",");
+    pending.push_number(u64::from(trip.departure));
+    pending.push(",");
+    push_step(pending, arrival);
+    pending.push(",");
+    pending.push(status.name());
+    pending.push(",");
+}
+
+// Adds the first six columns of a vehicle.
+#[tactic(auto, using(crate::proofs::SendingFacts::pieces))]
+fn add_trip<D: Desk>(
+    pending: &mut Pending,
+    desk: &mut D,
+    trip: &Trip,
+    arrival: Option<u32>,
+    status: AgentStatus,
+) -> Result<(), Failed>
+    ensures whole { OnOk result (
+        IsAdded output.Agent (trip_columns trip.now arrival status)
+        pending.old pending.new (D.taken desk.old) (D.taken desk.new)) }
+    ensures refused { OnErr result (
+        IsPartOut output.Agent (pending.old ++ trip_columns trip.now arrival status)
+        (D.taken desk.old) (D.taken desk.new)) }
+    ensures left { D.left desk.new ≡ D.left desk.old }
+    ensures cause { HasCause (D.put_faults desk.old) (D.put_faults desk.new) result }
+    ensures reads { D.read_faults desk.new ≡ D.read_faults desk.old }
+{
+    pending.make_room(desk, Output::Agent, COLUMNS)?;
+    push_trip(pending, trip, arrival, status);
+    Ok(())
+}
+
+// Adds an item of a list to what is pending.
+#[tactic(auto, using(crate::proofs::SendingFacts::lengths))]
+fn push_item(pending: &mut Pending, place: usize, number: u64)
+    requires { length pending.old + ITEM ≤ PIECE }
+    ensures { pending.new ≡ pending.old ++ item place number }
+{
+    if place > 0 {
+        pending.push(";");
+    }
+    pending.push_number(number);
+}
+
+// Adds an item of a list.
+#[tactic(auto, using(crate::proofs::SendingFacts::pieces))]
+fn add_item<D: Desk>(
+    pending: &mut Pending,
+    desk: &mut D,
+    place: usize,
+    number: u64,
+) -> Result<(), Failed>
+    ensures whole { OnOk result (
+        IsAdded output.Agent (item place number)
+        pending.old pending.new (D.taken desk.old) (D.taken desk.new)) }
+    ensures refused { OnErr result (
+        IsPartOut output.Agent (pending.old ++ item place number)
+        (D.taken desk.old) (D.taken desk.new)) }
+    ensures left { D.left desk.new ≡ D.left desk.old }
+    ensures cause { HasCause (D.put_faults desk.old) (D.put_faults desk.new) result }
+    ensures reads { D.read_faults desk.new ≡ D.read_faults desk.old }
+{
+    pending.make_room(desk, Output::Agent, ITEM)?;
+    push_item(pending, place, number);
+    Ok(())
+}
+
+// Adds the identifiers of the links of a route, joined.
+fn add_ids<D: Desk>(
+    pending: &mut Pending,
+    desk: &mut D,
+    net: &Net,
+    route: &[LinkNo],
+) -> Result<(), Failed>
+    requires { AreLinksOf net.now route.now }
+    ensures whole { OnOk result (
+        IsAdded output.Agent (joined (ids_of net.now route.now))
+        pending.old pending.new (D.taken desk.old) (D.taken desk.new)) }
+    ensures refused { OnErr result (
+        IsPartOut output.Agent (pending.old ++ joined (ids_of net.now route.now))
+        (D.taken desk.old) (D.taken desk.new)) }
+    ensures left { D.left desk.new ≡ D.left desk.old }
+    ensures cause { HasCause (D.put_faults desk.old) (D.put_faults desk.new) result }
+    ensures reads { D.read_faults desk.new ≡ D.read_faults desk.old }
+{
+    'each: for place in 0..route.len() {
+        let row = net.link(route[place]);
+        add_item(pending, desk, place, row.id)?;
+    }
+    Ok(())
+}
+
+// Adds steps, joined.
+fn add_steps<D: Desk>(pending: &mut Pending, desk: &mut D, steps: &[u32]) -> Result<(), Failed>
+    ensures whole { OnOk result (
+        IsAdded output.Agent (joined steps.now)
+        pending.old pending.new (D.taken desk.old) (D.taken desk.new)) }
+    ensures refused { OnErr result (
+        IsPartOut output.Agent (pending.old ++ joined steps.now)
+        (D.taken desk.old) (D.taken desk.new)) }
+    ensures left { D.left desk.new ≡ D.left desk.old }
+    ensures cause { HasCause (D.put_faults desk.old) (D.put_faults desk.new) result }
+    ensures reads { D.read_faults desk.new ≡ D.read_faults desk.old }
+{
+    'each: for place in 0..steps.len() {
+        add_item(pending, desk, place, u64::from(steps[place]))?;
+    }
+    Ok(())
+}
+
+// Adds the last two columns of a vehicle.
+#[tactic(auto, unfolding(crate::specs::Texts::way_columns))]
+fn add_way<D: Desk>(
+    pending: &mut Pending,
+    desk: &mut D,
+    net: &Net,
+    route: &[LinkNo],
+    steps: &[u32],
+) -> Result<(), Failed>
+    requires { AreLinksOf net.now route.now }
+    ensures whole { OnOk result (
+        IsAdded output.Agent (way_columns (ids_of net.now route.now) steps.now)
+        pending.old pending.new (D.taken desk.old) (D.taken desk.new)) }
+    ensures refused { OnErr result (
+        IsPartOut output.Agent (pending.old ++ way_columns (ids_of net.now route.now) steps.now)
+        (D.taken desk.old) (D.taken desk.new)) }
+    ensures left { D.left desk.new ≡ D.left desk.old }
+    ensures cause { HasCause (D.put_faults desk.old) (D.put_faults desk.new) result }
+    ensures reads { D.read_faults desk.new ≡ D.read_faults desk.old }
+{
+    add_ids(pending, desk, net, route)?;
+    pending.add(desk, Output::Agent, ",")?;
+    add_steps(pending, desk, steps)?;
+    pending.add(desk, Output::Agent, "\n")
+}
+
+// Adds the line of a vehicle.
+#[tactic(auto, unfolding(crate::specs::Texts::agent_line))]
+fn add_agent<D: Desk>(
+    pending: &mut Pending,
+    desk: &mut D,
+    net: &Net,
+    trip: &Trip,
+    route: Option<&Route>,
+    journey: &Journey,
+) -> Result<(), Failed>
+    requires { IfSome (option_copied route) (AreLinksOf net.now) }
+    ensures whole { OnOk result (
+        IsAdded output.Agent (agent_line net.now trip.now (option_copied route.entry) journey.now)
+        pending.old pending.new (D.taken desk.old) (D.taken desk.new)) }
+    ensures refused { OnErr result (
+        IsPartOut output.Agent (pending.old ++ agent_line net.now trip.now (option_copied route.entry) journey.now)
+        (D.taken desk.old) (D.taken desk.new)) }
+    ensures left { D.left desk.new ≡ D.left desk.old }
+    ensures cause { HasCause (D.put_faults desk.old) (D.put_faults desk.new) result }
+    ensures reads { D.read_faults desk.new ≡ D.read_faults desk.old }
+{
+    match route {
+        None => {
+            add_trip(pending, desk, trip, None, AgentStatus::Unrouted)?;
+            add_way(pending, desk, net, &[], &[])
+        }
+        Some(route) => {
+            add_trip(pending, desk, trip, journey.arrival, status_of(journey))?;
+            add_way(
+                pending,
+                desk,
+                net,
+                route.as_slice(),
+                journey.entries.as_slice(),
+            )
+        }
+    }
+}
+
+/// Puts Agent: a line for each vehicle, by its trip, its route if it has one, and its journey.
+/// Zones and links stand by their identifiers. On Failed a first part of it went out. It takes no
+/// memory.
+pub fn put_agents<D: Desk>(
+    desk: &mut D,
+    net: &Net,
+    trips: &[Trip],
+    routes: &Routes,
+    loaded: &Loaded,
+) -> Result<(), Failed>
+    requires few { length trips.now ≤ MOST_TRIPS }
+    requires routes { length routes.now ≡ length trips.now }
+    requires journeys { length loaded.now ≡ length trips.now }
+    requires on_net { AreOnNet net.now routes.now }
+    ensures whole { OnOk result (
+        D.taken desk.new ≡ grown output.Agent (agent_text net.now trips.now routes.now loaded.now)
+        (D.taken desk.old)) }
+    ensures refused { OnErr result (
+        IsPartOut output.Agent (agent_text net.now trips.now routes.now loaded.now)
+        (D.taken desk.old) (D.taken desk.new)) }
+    ensures left { D.left desk.new ≡ D.left desk.old }
+    ensures cause { HasCause (D.put_faults desk.old) (D.put_faults desk.new) result }
+    ensures reads { D.read_faults desk.new ≡ D.read_faults desk.old }
+{
+    let mut pending = header();
+    'each: for v in 0..trips.len() as u32 {
+        let trip = &trips[v as usize];
+        add_agent(&mut pending, desk, net, trip, routes.get(v), loaded.get(v))?;
+    }
+    pending.put_out(desk, Output::Agent)
+}

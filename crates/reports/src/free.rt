@@ -1,0 +1,106 @@
+// The texts of `freeflow`.
+ghost use Rattle.std.specs.Prelude.{◌≡◌, ◌≤◌, ◌+◌, ◌++◌, length, OnOk, OnErr};
+ghost use Rattle.desk_io.specs.declared.desk.Output.TheVariants as output;
+ghost use Rattle.desk_io.specs.Desk.{grown};
+ghost use Rattle.desk_io.specs.Faults.{HasCause};
+ghost use Rattle.desk_io.specs.Transfers.{IsPartOut};
+ghost use Rattle.reports.specs.declared.pending.TheConstants.{PIECE};
+ghost use Rattle.reports.specs.Sending.{IsAdded};
+ghost use Rattle.reports.specs.Texts.{free_link_line, free_link_time_header, free_link_time_text};
+ghost use Rattle.reports.specs.Texts.{free_report_text, IsFreeOut, IsCutShort};
+
+use crate::pending::Pending;
+use desk_io::{Desk, Failed, Output};
+use net_core::{LinkRow, Net};
+
+/// No line of a link is longer: three numbers of at most 20 digits, two commas and a line feed.
+const LINE: usize = 64;
+
+// The header of LinkTime.
+#[tactic(auto, unfolding(crate::specs::Texts::free_link_time_header))]
+fn header() -> Pending
+    ensures { result ≡ free_link_time_header }
+{
+    let mut pending = Pending::new();
+    pending.push("link_id,free_steps,storage\n");
+    pending
+}
+
+// Adds the line of a link to what is pending.
+#[tactic(auto, using(crate::proofs::SendingFacts::lengths), unfolding(crate::specs::Texts::free_link_line))]
+fn push_link(pending: &mut Pending, row: LinkRow)
+    requires { length pending.old + LINE ≤ PIECE }
+    ensures { pending.new ≡ pending.old ++ free_link_line row }
+{
+    pending.push_number(row.id);
+    pending.push(",");
+    pending.push_number(u64::from(row.free));
+    pending.push(",");
+    pending.push_number(u64::from(row.storage));
+    pending.push("\n");
+}
+
+// Adds the line of a link.
+#[tactic(auto, using(crate::proofs::SendingFacts::pieces))]
+fn add_link<D: Desk>(pending: &mut Pending, desk: &mut D, row: LinkRow) -> Result<(), Failed>
+    ensures whole { OnOk result (
+        IsAdded output.LinkTime (free_link_line row)
+        pending.old pending.new (D.taken desk.old) (D.taken desk.new)) }
+    ensures refused { OnErr result (
+        IsPartOut output.LinkTime (pending.old ++ free_link_line row)
+        (D.taken desk.old) (D.taken desk.new)) }
+    ensures left { D.left desk.new ≡ D.left desk.old }
+    ensures cause { HasCause (D.put_faults desk.old) (D.put_faults desk.new) result }
+    ensures reads { D.read_faults desk.new ≡ D.read_faults desk.old }
+{
+    pending.make_room(desk, Output::LinkTime, LINE)?;
+    push_link(pending, row);
+    Ok(())
+}
+
+// Puts the table of the links.
+fn put_links<D: Desk>(desk: &mut D, links: &[LinkRow]) -> Result<(), Failed>
+    ensures whole { OnOk result (
+        D.taken desk.new ≡ grown output.LinkTime (free_link_time_text links.now)
+        (D.taken desk.old)) }
+    ensures refused { OnErr result (
+        IsPartOut output.LinkTime (free_link_time_text links.now)
+        (D.taken desk.old) (D.taken desk.new)) }
+    ensures left { D.left desk.new ≡ D.left desk.old }
+    ensures cause { HasCause (D.put_faults desk.old) (D.put_faults desk.new) result }
+    ensures reads { D.read_faults desk.new ≡ D.read_faults desk.old }
+{
+    let mut pending = header();
+    'each: for row in links {
+        add_link(&mut pending, desk, *row)?;
+    }
+    pending.put_out(desk, Output::LinkTime)
+}
+
+// The report's two lines.
+#[tactic(auto, using(crate::proofs::SendingFacts::lengths), unfolding(crate::specs::Texts::free_report_text))]
+fn report(nodes: u32, links: u32) -> Pending
+    ensures { result ≡ free_report_text nodes links }
+{
+    let mut text = Pending::new();
+    text.push("nodes ");
+    text.push_number(u64::from(nodes));
+    text.push("\nlinks ");
+    text.push_number(u64::from(links));
+    text.push("\n");
+    text
+}
+
+/// Puts LinkTime of `freeflow`, and then its Report. On Failed a first part of one of them went
+/// out, of Report only where LinkTime is whole. It takes no memory.
+pub fn put_free<D: Desk>(desk: &mut D, net: &Net) -> Result<(), Failed>
+    ensures whole { OnOk result (IsFreeOut net.now (D.taken desk.old) (D.taken desk.new)) }
+    ensures refused { OnErr result (
+        IsCutShort net.now (D.taken desk.old) (D.taken desk.new)) }
+    ensures left { D.left desk.new ≡ D.left desk.old }
+    ensures cause { HasCause (D.put_faults desk.old) (D.put_faults desk.new) result }
+    ensures reads { D.read_faults desk.new ≡ D.read_faults desk.old }
+{
+    put_links(desk, net.links())?;
+    report(net.node_count(), net.link_count()).put_out(desk, Output::Report)
+}

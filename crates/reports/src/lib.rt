@@ -1,0 +1,29 @@
+//! The texts that go out: those of `freeflow`, vehicles, link times, gaps, the report, watch lines
+//! and refusals.
+//!
+//! Each call puts one text (`put_free` two) to its output of a desk, in pieces of a few kilobytes,
+//! and takes no memory. Its contract names the whole text, as a function of the data that it is
+//! given (specs/Texts.antt). It answers Failed only where the desk counts one more failed put; then
+//! a first part of the text went out, and nothing after it.
+#![tactic(auto)]
+
+mod agents;
+mod free;
+mod gaps;
+mod pending;
+mod refusal;
+mod status;
+mod summary;
+mod times;
+mod watch;
+
+pub use agents::put_agents;
+pub use free::put_free;
+pub use gaps::put_gaps;
+pub use refusal::{CELL_LIMIT, Refusal, TABLE_LIMIT, put_refusal};
+pub use summary::{Summary, put_summary};
+pub use times::put_link_times;
+pub use watch::put_watch;
+
+#[cfg(test)]
+mod tests;

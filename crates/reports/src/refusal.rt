@@ -1,0 +1,102 @@
+// Refusals, and the limits that their lines print.
+ghost use Rattle.std.specs.Prelude.{◌≡◌, ◌≤◌, ◌+◌, ◌++◌, length, OnOk, OnErr};
+ghost use Rattle.desk_io.specs.declared.desk.Output.TheVariants as output;
+ghost use Rattle.desk_io.specs.Desk.{grown};
+ghost use Rattle.desk_io.specs.Faults.{HasCause};
+ghost use Rattle.desk_io.specs.Transfers.{IsPartOut};
+ghost use Rattle.reports.specs.declared.pending.TheConstants.{PIECE};
+ghost use Rattle.reports.specs.Texts.{refusal_line};
+
+use crate::pending::Pending;
+use desk_io::{Desk, Failed, Output, Table};
+use dta_model::MOST_TRIPS;
+use row_reader::{TableFault, code_name, column_name, table_name};
+
+/// The most bytes of a table.
+pub const TABLE_LIMIT: u64 = 268_435_456;
+
+/// The most of links times steps of the horizon.
+pub const CELL_LIMIT: u64 = 67_108_864;
+
+/// Why a run does none of its work.
+#[derive(Clone, Copy, Debug, PartialEq, Eq)]
+pub enum Refusal {
+    /// The words aren't in the grammar.
+    Usage,
+    /// A table was read whole and has this first fault.
+    Table(TableFault),
+    /// This table couldn't be read.
+    Read(Table),
+    /// This table has more bytes than the limit.
+    LongTable(Table),
+    /// So many links over so many steps are above the limit.
+    Cells { links: u32, steps: u32 },
+    /// At this line of the demand table the vehicles, so many, are above the limit.
+    Vehicles { line: u64, total: u64 },
+}
+
+// The line of a refusal.
+#[tactic(auto, using(crate::proofs::SendingFacts::lengths), unfolding(crate::specs::Texts::refusal_line))]
+fn line(refusal: &Refusal) -> Pending
+    ensures { result ≡ refusal_line refusal.now }
+{
+    let mut line = Pending::new();
+    match *refusal {
+        Refusal::Usage => line.push("usage: dta freeflow|assign|demo N [options]\n"),
+        Refusal::Table(fault) => {
+            line.push(table_name(fault.table));
+            line.push(" line ");
+            line.push_number(fault.line);
+            line.push(": ");
+            line.push(code_name(fault.code));
+            line.push(" ");
+            line.push(column_name(fault.column));
+            line.push("\n");
+        }
+        Refusal::Read(table) => {
+            line.push("read fault in ");
+            line.push(table_name(table));
+            line.push("\n");
+        }
+        Refusal::LongTable(table) => {
+            line.push("size: table ");
+            line.push(table_name(table));
+            line.push(" limit ");
+            line.push_number(TABLE_LIMIT);
+            line.push("\n");
+        }
+        Refusal::Cells { links, steps } => {
+            line.push("size: links ");
+            line.push_number(u64::from(links));
+            line.push(" steps ");
+            line.push_number(u64::from(steps));
+            line.push(" limit ");
+            line.push_number(CELL_LIMIT);
+            line.push("\n");
+        }
+        Refusal::Vehicles { line: at, total } => {
+            line.push("size: demand line ");
+            line.push_number(at);
+            line.push(" vehicles ");
+            line.push_number(total);
+            line.push(" limit ");
+            line.push_number(MOST_TRIPS as u64);
+            line.push("\n");
+        }
+    }
+    line
+}
+
+/// Puts the one line that Report has of a refusal. On Failed a first part of it went out. It takes
+/// no memory.
+pub fn put_refusal<D: Desk>(desk: &mut D, refusal: &Refusal) -> Result<(), Failed>
+    ensures whole { OnOk result (
+        D.taken desk.new ≡ grown output.Report (refusal_line refusal.now) (D.taken desk.old)) }
+    ensures refused { OnErr result (
+        IsPartOut output.Report (refusal_line refusal.now) (D.taken desk.old) (D.taken desk.new)) }
+    ensures left { D.left desk.new ≡ D.left desk.old }
+    ensures cause { HasCause (D.put_faults desk.old) (D.put_faults desk.new) result }
+    ensures reads { D.read_faults desk.new ≡ D.read_faults desk.old }
+{
+    line(refusal).put_out(desk, Output::Report)
+}

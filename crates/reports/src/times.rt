@@ -1,0 +1,154 @@
+// The text of the link times.
+ghost use Rattle.std.specs.Prelude.{◌≡◌, ◌<◌, ◌≤◌, ◌+◌, ◌*◌, ◌++◌, length, min, OnOk, OnErr};
+ghost use Rattle.desk_io.specs.declared.desk.Output.TheVariants as output;
+ghost use Rattle.desk_io.specs.Desk.{grown};
+ghost use Rattle.desk_io.specs.Faults.{HasCause};
+ghost use Rattle.desk_io.specs.Transfers.{IsPartOut};
+ghost use Rattle.dta_model.specs.LinkTimes.{bucket_count, free_steps};
+ghost use Rattle.net_core.specs.Network.{link_at};
+ghost use Rattle.reports.specs.declared.pending.TheConstants.{PIECE};
+ghost use Rattle.reports.specs.Sending.{IsAdded};
+ghost use Rattle.reports.specs.Texts.{bucket_line, link_lines, link_time_header, link_time_text};
+
+use crate::pending::Pending;
+use desk_io::{Desk, Failed, Output};
+use link_times::LinkTimes;
+use net_core::{LinkNo, LinkRow, Net};
+
+/// No line of a bucket is longer: six numbers of at most 20 digits, five commas and a line feed.
+const LINE: usize = 128;
+
+// The header of LinkTime.
+#[tactic(auto, unfolding(crate::specs::Texts::link_time_header))]
+fn header() -> Pending
+    ensures { result ≡ link_time_header }
+{
+    let mut pending = Pending::new();
+    pending.push("link_id,from_step,to_step,entered,travel_steps,free_steps\n");
+    pending
+}
+
+// The row of a link.
+#[tactic(auto, using(crate::proofs::TextsFacts::rows))]
+fn link_row(net: &Net, link: LinkNo) -> LinkRow
+    requires { link.0 < length net.now.links }
+    ensures { result ≡ link_at net.now link.0 }
+{
+    net.link(link)
+}
+
+// The first step of a bucket.
+fn first_step(times: &LinkTimes, bucket: u32) -> u64
+    ensures { result ≡ bucket * times.now.bucket }
+{
+    u64::from(bucket) * u64::from(times.bucket_steps())
+}
+
+// The step after the last one of a bucket.
+fn step_after(times: &LinkTimes, bucket: u32) -> u64
+    ensures { result ≡ min ((bucket + 1) * times.now.bucket) times.now.horizon }
+{
+    let end = (u64::from(bucket) + 1) * u64::from(times.bucket_steps());
+    end.min(u64::from(times.horizon()))
+}
+
+// Adds the line of a bucket to what is pending.
+#[tactic(auto, using(crate::proofs::SendingFacts::lengths), unfolding(crate::specs::Texts::bucket_line))]
+fn push_bucket(pending: &mut Pending, net: &Net, times: &LinkTimes, link: LinkNo, bucket: u32)
+    requires room { length pending.old + LINE ≤ PIECE }
+    requires free { times.now.free ≡ free_steps net.now }
+    requires link { link.0 < length net.now.links }
+    requires bucket { bucket < bucket_count times.now }
+    ensures { pending.new ≡ pending.old ++ bucket_line net.now times.now link.0 bucket }
+{
+    let row = link_row(net, link);
+    let first = first_step(times, bucket);
+    pending.push_number(row.id);
+    pending.push(",");
+    pending.push_number(first);
+    pending.push(",");
+    pending.push_number(step_after(times, bucket));
+    pending.push(",");
+    pending.push_number(times.entered(link, bucket));
+    pending.push(",");
+    pending.push_number(u64::from(times.at(link, first)));
+    pending.push(",");
+    pending.push_number(u64::from(row.free));
+    pending.push("\n");
+}
+
+// Adds the line of a bucket.
+#[tactic(auto, using(crate::proofs::SendingFacts::pieces))]
+fn add_bucket<D: Desk>(
+    pending: &mut Pending,
+    desk: &mut D,
+    net: &Net,
+    times: &LinkTimes,
+    link: LinkNo,
+    bucket: u32,
+) -> Result<(), Failed>
+    requires free { times.now.free ≡ free_steps net.now }
+    requires link { link.0 < length net.now.links }
+    requires bucket { bucket < bucket_count times.now }
+    ensures whole { OnOk result (
+        IsAdded output.LinkTime (bucket_line net.now times.now link.0 bucket)
+        pending.old pending.new (D.taken desk.old) (D.taken desk.new)) }
+    ensures refused { OnErr result (
+        IsPartOut output.LinkTime (pending.old ++ bucket_line net.now times.now link.0 bucket)
+        (D.taken desk.old) (D.taken desk.new)) }
+    ensures left { D.left desk.new ≡ D.left desk.old }
+    ensures cause { HasCause (D.put_faults desk.old) (D.put_faults desk.new) result }
+    ensures reads { D.read_faults desk.new ≡ D.read_faults desk.old }
+{
+    pending.make_room(desk, Output::LinkTime, LINE)?;
+    push_bucket(pending, net, times, link, bucket);
+    Ok(())
+}
+
+// Adds the lines of a link.
+#[tactic(auto, unfolding(crate::specs::Texts::link_lines))]
+fn add_link<D: Desk>(
+    pending: &mut Pending,
+    desk: &mut D,
+    net: &Net,
+    times: &LinkTimes,
+    link: LinkNo,
+) -> Result<(), Failed>
+    requires free { times.now.free ≡ free_steps net.now }
+    requires link { link.0 < length net.now.links }
+    ensures whole { OnOk result (
+        IsAdded output.LinkTime (link_lines net.now times.now link.0)
+        pending.old pending.new (D.taken desk.old) (D.taken desk.new)) }
+    ensures refused { OnErr result (
+        IsPartOut output.LinkTime (pending.old ++ link_lines net.now times.now link.0)
+        (D.taken desk.old) (D.taken desk.new)) }
+    ensures left { D.left desk.new ≡ D.left desk.old }
+    ensures cause { HasCause (D.put_faults desk.old) (D.put_faults desk.new) result }
+    ensures reads { D.read_faults desk.new ≡ D.read_faults desk.old }
+{
+    'each: for bucket in 0..times.buckets() {
+        add_bucket(pending, desk, net, times, link, bucket)?;
+    }
+    Ok(())
+}
+
+/// Puts LinkTime of `assign`: for each link in table order a line for each bucket. The table has
+/// the network's links. On Failed a first part of it went out. It takes no memory.
+pub fn put_link_times<D: Desk>(desk: &mut D, net: &Net, times: &LinkTimes) -> Result<(), Failed>
+    requires { times.now.free ≡ free_steps net.now }
+    ensures whole { OnOk result (
+        D.taken desk.new ≡ grown output.LinkTime (link_time_text net.now times.now)
+        (D.taken desk.old)) }
+    ensures refused { OnErr result (
+        IsPartOut output.LinkTime (link_time_text net.now times.now)
+        (D.taken desk.old) (D.taken desk.new)) }
+    ensures left { D.left desk.new ≡ D.left desk.old }
+    ensures cause { HasCause (D.put_faults desk.old) (D.put_faults desk.new) result }
+    ensures reads { D.read_faults desk.new ≡ D.read_faults desk.old }
+{
+    let mut pending = header();
+    'each: for link in 0..net.link_count() {
+        add_link(&mut pending, desk, net, times, LinkNo(link))?;
+    }
+    pending.put_out(desk, Output::LinkTime)
+}
