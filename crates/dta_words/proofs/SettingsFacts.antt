@@ -1,0 +1,115 @@
+-- Settings by what the words tell.
+use Rattle.std.proofs.Common.{◌≡◌, ◌∙◌, Bool, codes, refl, sym, ap, List, [], ◌∷◌, drop, Option, Some, None}
+use Rattle.std.specs.Prelude.{option_and_then, slice_get}
+use Rattle.clap.specs.Matches.{first_value}
+use Rattle.clap.specs.declared.parser.matches.Found.{Found}
+use Rattle.dta_words.specs.Uses.{Text, uses_of, value_in}
+use Rattle.dta_words.specs.Options.{takes_of}
+use Rattle.dta_words.specs.Reading.{Reads}
+use Rattle.dta_words.specs.Grammar.{is_plain, settings_by, settings_from, settings_of, word_of}
+use Rattle.dta_words.specs.declared.options.CommandWord.{CommandWord}
+use Rattle.dta_words.specs.declared.options.CommandWord.TheVariants.{Freeflow, Assign, Demo}
+
+-- settings read no more of the values than these names
+record SameValues (v w : Text → Option Text) : Type 0 where
+  number : v (codes "number") ≡ w (codes "number")
+  step : v (codes "step") ≡ w (codes "step")
+  jam : v (codes "jam") ≡ w (codes "jam")
+  length_unit : v (codes "length-unit") ≡ w (codes "length-unit")
+  speed_unit : v (codes "speed-unit") ≡ w (codes "speed-unit")
+  horizon : v (codes "horizon") ≡ w (codes "horizon")
+  period : v (codes "period") ≡ w (codes "period")
+  iterations : v (codes "iterations") ≡ w (codes "iterations")
+  workers : v (codes "workers") ≡ w (codes "workers")
+  bucket : v (codes "bucket") ≡ w (codes "bucket")
+  line : v (codes "queue") ≡ w (codes "queue")
+  watch : v (codes "watch") ≡ w (codes "watch")
+
+same_settings : (word : CommandWord) (v w : Text → Option Text) (plain : Bool) → SameValues v w
+    → settings_by word v plain ≡ settings_by word w plain
+same_settings word v w plain s = rw (
+  s.number,
+  s.step,
+  s.jam,
+  s.length_unit,
+  s.speed_unit,
+  s.horizon,
+  s.period,
+  s.iterations,
+  s.workers,
+  s.bucket,
+  s.line,
+  s.watch,
+) refl
+
+values_of : (word : CommandWord) (words : List Text) (found : Found) (r : Reads (takes_of word) words found)
+    → SameValues (first_value found) (value_in r.uses)
+values_of Freeflow words found r = record {
+  number = r.values _ refl;
+  step = r.values _ refl;
+  jam = r.values _ refl;
+  length_unit = r.values _ refl;
+  speed_unit = r.values _ refl;
+  horizon = r.values _ refl;
+  period = r.values _ refl;
+  iterations = r.values _ refl;
+  workers = r.values _ refl;
+  bucket = r.values _ refl;
+  line = r.values _ refl;
+  watch = r.values _ refl;
+}
+values_of Assign words found r = record {
+  number = r.values _ refl;
+  step = r.values _ refl;
+  jam = r.values _ refl;
+  length_unit = r.values _ refl;
+  speed_unit = r.values _ refl;
+  horizon = r.values _ refl;
+  period = r.values _ refl;
+  iterations = r.values _ refl;
+  workers = r.values _ refl;
+  bucket = r.values _ refl;
+  line = r.values _ refl;
+  watch = r.values _ refl;
+}
+values_of Demo words found r = record {
+  number = r.values _ refl;
+  step = r.values _ refl;
+  jam = r.values _ refl;
+  length_unit = r.values _ refl;
+  speed_unit = r.values _ refl;
+  horizon = r.values _ refl;
+  period = r.values _ refl;
+  iterations = r.values _ refl;
+  workers = r.values _ refl;
+  bucket = r.values _ refl;
+  line = r.values _ refl;
+  watch = r.values _ refl;
+}
+
+pub settings_read : (word : CommandWord) (words : List Text) (found : Found) (plain : Bool)
+    (r : Reads (takes_of word) words found) → plain ≡ is_plain word r.uses
+    → settings_by word (first_value found) plain
+    ≡ option_and_then (settings_from word) (uses_of (takes_of word) words)
+settings_read word words found plain r is =
+    same_settings word (first_value found) (value_in r.uses) plain (values_of word words found r)
+    ∙ ap (settings_by word (value_in r.uses)) is
+    ∙ sym (ap (option_and_then (settings_from word)) r.all)
+
+-- the words are those behind the first one, which names the command
+pub settings_named : (words : List Text) (first : Text) (word : CommandWord)
+    → slice_get words 0 ≡ Some first → word_of first ≡ Some word
+    → settings_of words ≡ option_and_then (settings_from word) (uses_of (takes_of word) (drop 1 words))
+settings_named [] first word e named = cc
+settings_named (w ∷ words) first word e named =
+    let same : w ≡ first = cc in
+    ap (option_and_then (λ c. option_and_then (settings_from c) (uses_of (takes_of c) words)))
+    (ap word_of same ∙ named)
+
+pub settings_unnamed : (words : List Text) (first : Text)
+    → slice_get words 0 ≡ Some first → word_of first ≡ None → settings_of words ≡ None
+settings_unnamed [] first e named = refl
+settings_unnamed (w ∷ words) first e named =
+    let same : w ≡ first = cc in
+    ap (option_and_then (λ c. option_and_then (settings_from c) (uses_of (takes_of c) words)))
+    (ap word_of same ∙ named)

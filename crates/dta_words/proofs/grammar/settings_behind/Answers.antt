@@ -1,0 +1,16 @@
+use Rattle.std.proofs.Common.{◌∙◌, drop, sym}
+use Rattle.clap.specs.Matches.{found_of}
+use Rattle.dta_words.proofs.SettingsFacts.{settings_read}
+use Rattle.dta_words.proofs.grammar.settings_behind.Goals as goal
+
+pub returns-in-Some-clause-ok : goal.returns-in-Some-clause-ok
+returns-in-Some-clause-ok c =
+    let plain = c.is_plain-plain.ensures (drop 1 c.args.words.now) c.in_ok-found.ensures.ok in
+    sym (settings_read c.args.word (drop 1 c.args.words.now) (found_of c.in_ok-found.found)
+    c.is_plain-plain.result c.in_ok-found.ensures.ok plain) ∙ sym c.settings_by_values.ensures.value ∙ c.in-Some.is
+
+pub returns-clause-usage : goal.returns-clause-usage
+returns-clause-usage c = λ why.
+    let plain = c.is_plain-plain.ensures (drop 1 c.args.words.now) c.in_ok-found.ensures.ok in
+    sym (settings_read c.args.word (drop 1 c.args.words.now) (found_of c.in_ok-found.found)
+    c.is_plain-plain.result c.in_ok-found.ensures.ok plain) ∙ sym c.settings_by_values.ensures.value ∙ c.in-None.is

@@ -1,0 +1,121 @@
+-- The grammar of the words: the settings of a list of words, if it has any.
+use Rattle.std.specs.Prelude.{ℕ, Bool, false, List, [], ◌∷◌, min, codes, Option, Some, None}
+use Rattle.std.specs.Prelude.{if◌then◌else◌, option_and_then}
+use Rattle.std.specs.Str.{bytes_eq}
+use Rattle.fixed_units.specs.declared.measure.LengthUnit.{LengthUnit}
+use Rattle.fixed_units.specs.declared.measure.LengthUnit.TheVariants as length_unit
+use Rattle.fixed_units.specs.declared.measure.SpeedUnit.{SpeedUnit}
+use Rattle.fixed_units.specs.declared.measure.SpeedUnit.TheVariants as speed_unit
+use Rattle.gmns_tables.specs.declared.units.Units.{Units}
+use Rattle.dta_model.specs.declared.queue.Queue.{Queue}
+use Rattle.dta_model.specs.declared.queue.Queue.TheVariants as queue
+use Rattle.dta_words.specs.Uses.{Text, Use, is_given, number_name, uses_of, value_in}
+use Rattle.dta_words.specs.Options.{takes_of}
+use Rattle.dta_words.specs.Numbers.{number_between, number_given}
+use Rattle.dta_words.specs.declared.options.Bounds.{Bounds}
+use Rattle.dta_words.specs.declared.options.CommandWord.{CommandWord}
+use Rattle.dta_words.specs.declared.options.CommandWord.TheVariants as word
+use Rattle.dta_words.specs.declared.options.TheConstants.{BUCKET, DEFAULT_PERIOD, HORIZON}
+use Rattle.dta_words.specs.declared.options.TheConstants.{ITERATIONS, JAM, LEAST_SIDE, MOST_SIDE}
+use Rattle.dta_words.specs.declared.options.TheConstants.{STEP, WATCH, WORKERS}
+use Rattle.dta_words.specs.declared.command.Command.{Command}
+use Rattle.dta_words.specs.declared.command.Command.TheVariants as command
+use Rattle.dta_words.specs.declared.command.Settings.{Settings}
+
+infixl 10 ◌>>=◌
+abbrev pub ◌>>=◌ : {A B : Type 0} → Option A → (A → Option B) → Option B
+o >>= f = option_and_then f o
+
+-- the command that the first word names
+abbrev pub word_of : Text → Option CommandWord
+word_of text = if bytes_eq text (codes "freeflow") then Some word.Freeflow
+    else (if bytes_eq text (codes "assign") then Some word.Assign
+    else (if bytes_eq text (codes "demo") then Some word.Demo else None))
+
+-- ---- values that aren't numbers
+
+abbrev pub length_unit_of : Option Text → Option LengthUnit
+length_unit_of None = Some length_unit.Metre
+length_unit_of (Some text) = if bytes_eq text (codes "m") then Some length_unit.Metre
+    else (if bytes_eq text (codes "km") then Some length_unit.Kilometre
+    else (if bytes_eq text (codes "mi") then Some length_unit.Mile else None))
+
+abbrev pub speed_unit_of : Option Text → Option SpeedUnit
+speed_unit_of None = Some speed_unit.Kmh
+speed_unit_of (Some text) = if bytes_eq text (codes "kmh") then Some speed_unit.Kmh
+    else (if bytes_eq text (codes "mph") then Some speed_unit.Mph else None)
+
+abbrev pub queue_of : Option Text → Option Queue
+queue_of None = Some queue.Point
+queue_of (Some text) = if bytes_eq text (codes "point") then Some queue.Point
+    else (if bytes_eq text (codes "spatial") then Some queue.Spatial else None)
+
+-- ---- what the values come to
+
+-- the period ends with the horizon at the latest, also where no option says it
+abbrev pub period_within : ℕ → Bounds
+period_within horizon =
+    record { least = 1; most = horizon; default = min DEFAULT_PERIOD horizon }
+
+-- the side of the grid has to be given
+abbrev pub side_of : Option Text → Option ℕ
+side_of None = None
+side_of (Some text) = number_between LEAST_SIDE MOST_SIDE text
+
+abbrev pub command_of : CommandWord → Option Text → Option Command
+command_of word.Freeflow side = Some command.Freeflow
+command_of word.Assign side = Some command.Assign
+command_of word.Demo side = do
+  n ← side_of side
+  Some (command.Demo n)
+
+abbrev pub units_by : (Text → Option Text) → Option Units
+units_by value = do
+  step ← number_given STEP (value (codes "step"))
+  jam ← number_given JAM (value (codes "jam"))
+  length_unit ← length_unit_of (value (codes "length-unit"))
+  speed_unit ← speed_unit_of (value (codes "speed-unit"))
+  Some (record { delta = step; jam = jam; length = length_unit; speed = speed_unit })
+
+-- the settings, where `value` has the text of each option, and `plain` says whether that flag is
+-- given
+abbrev pub settings_by : CommandWord → (Text → Option Text) → Bool → Option Settings
+settings_by first value plain = do
+  what ← command_of first (value number_name)
+  units ← units_by value
+  horizon ← number_given HORIZON (value (codes "horizon"))
+  period ← number_given (period_within horizon) (value (codes "period"))
+  iterations ← number_given ITERATIONS (value (codes "iterations"))
+  workers ← number_given WORKERS (value (codes "workers"))
+  bucket ← number_given BUCKET (value (codes "bucket"))
+  line ← queue_of (value (codes "queue"))
+  watch ← number_given WATCH (value (codes "watch"))
+  Some (record {
+    command = what;
+    units = units;
+    horizon = horizon;
+    period = period;
+    iterations = iterations;
+    workers = workers;
+    bucket = bucket;
+    queue = line;
+    watch = watch;
+    plain = plain;
+  })
+
+-- whether a command's uses have the flag; `freeflow` has none
+abbrev pub is_plain : CommandWord → List Use → Bool
+is_plain word.Freeflow uses = false
+is_plain word.Assign uses = is_given uses (codes "plain")
+is_plain word.Demo uses = is_given uses (codes "plain")
+
+abbrev pub settings_from : CommandWord → List Use → Option Settings
+settings_from first uses = settings_by first (value_in uses) (is_plain first uses)
+
+-- the settings that a list of words asks for
+abbrev pub settings_of : List Text → Option Settings
+settings_of [] = None
+settings_of (first ∷ rest) = do
+  named ← word_of first
+  uses ← uses_of (takes_of named) rest
+  settings_from named uses

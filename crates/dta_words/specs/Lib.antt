@@ -1,0 +1,9 @@
+pub mod WordsInside
+pub mod Uses
+pub mod Asked
+pub mod Options
+pub mod Numbers
+pub mod Reading
+pub mod Grammar
+pub mod Ranges
+pub mod Examples

@@ -1,0 +1,26 @@
+-- The options of the commands.
+use Rattle.std.specs.Prelude.{true, false, [], ◌∷◌, codes}
+use Rattle.dta_words.specs.Uses.{Takes}
+use Rattle.dta_words.specs.declared.options.CommandWord.{CommandWord}
+use Rattle.dta_words.specs.declared.options.CommandWord.TheVariants.{Freeflow, Assign, Demo}
+
+-- what each command takes, by name; a name's values stand in `Grammar`
+abbrev pub takes_of : CommandWord → Takes
+takes_of Freeflow = record {
+  options = codes "step" ∷ codes "jam" ∷ codes "length-unit" ∷ codes "speed-unit" ∷ [];
+  flags = [];
+  number = false;
+}
+takes_of Assign = record {
+  options = codes "step" ∷ codes "jam" ∷ codes "length-unit" ∷ codes "speed-unit"
+      ∷ codes "horizon" ∷ codes "period" ∷ codes "iterations" ∷ codes "workers"
+      ∷ codes "bucket" ∷ codes "queue" ∷ codes "watch" ∷ [];
+  flags = codes "plain" ∷ [];
+  number = false;
+}
+takes_of Demo = record {
+  options = codes "step" ∷ codes "jam" ∷ codes "horizon" ∷ codes "period" ∷ codes "iterations"
+      ∷ codes "workers" ∷ codes "bucket" ∷ codes "queue" ∷ codes "watch" ∷ [];
+  flags = codes "plain" ∷ [];
+  number = true;
+}

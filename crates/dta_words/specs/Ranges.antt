@@ -1,0 +1,26 @@
+-- The ranges of settings.
+use Rattle.std.specs.Prelude.{ℕ, ◌≤◌, ⊤}
+use Rattle.dta_words.specs.declared.command.Command.{Command}
+use Rattle.dta_words.specs.declared.command.Command.TheVariants as command
+use Rattle.dta_words.specs.declared.command.Settings.{Settings}
+
+abbrev pub IsBetween : ℕ → ℕ → ℕ → Type 0
+IsBetween least most n = (least ≤ n) × (n ≤ most)
+
+-- a grid has 2 to 60 nodes on a side
+abbrev pub IsSide : Command → Type 0
+IsSide command.Freeflow = ⊤
+IsSide command.Assign = ⊤
+IsSide (command.Demo n) = IsBetween 2 60 n
+
+-- what every settings keep, whatever the words
+pub record AreSettings (s : Settings) : Type 0 where
+  pub side : IsSide s.command
+  pub step : IsBetween 1 60 s.units.delta
+  pub jam : IsBetween 1 1000 s.units.jam
+  pub horizon : IsBetween 1 86400 s.horizon
+  pub period : IsBetween 1 s.horizon s.period
+  pub iterations : IsBetween 1 1000 s.iterations
+  pub workers : IsBetween 1 16 s.workers
+  pub bucket : IsBetween 1 86400 s.bucket
+  pub watch : s.watch ≤ 86400

@@ -1,0 +1,18 @@
+-- What a command's matches tell of the uses in its words.
+use Rattle.std.specs.Prelude.{◌≡◌, Bool, true, false, List, Some, codes, if◌then◌else◌}
+use Rattle.clap.specs.Matches.{first_value, one_text}
+use Rattle.clap.specs.declared.parser.matches.Found.{Found}
+use Rattle.dta_words.specs.Uses.{Takes, Text, Use, has_name, is_given, uses_of, value_in}
+
+-- the text of a flag
+abbrev pub flag_text : Bool → Text
+flag_text given = if given then codes "true" else codes "false"
+
+-- the words are uses, and the matches have the value of each option, and each flag
+pub record Reads (takes : Takes) (words : List Text) (found : Found) : Type 0 where
+  pub uses : List Use
+  pub all : uses_of takes words ≡ Some uses
+  pub values : (name : Text) → has_name takes.flags name ≡ false
+      → first_value found name ≡ value_in uses name
+  pub flags : (name : Text) → has_name takes.flags name ≡ true → has_name takes.options name ≡ false
+      → one_text found name ≡ Some (flag_text (is_given uses name))

@@ -1,0 +1,36 @@
+// The settings of a run.
+use dta_model::Queue;
+use gmns_tables::Units;
+
+/// What the program is asked to do.
+#[derive(Clone, Copy, Debug, PartialEq, Eq)]
+pub enum Command {
+    /// Free-flow steps and storage of each link.
+    Freeflow,
+    /// Assignment over the tables of a folder.
+    Assign,
+    /// Assignment over a grid with so many nodes on a side, from 2 to 60.
+    Demo(u32),
+}
+
+/// The settings of a run. A field that the command has no option for holds its default.
+#[derive(Clone, Copy, Debug, PartialEq, Eq)]
+pub struct Settings {
+    pub command: Command,
+    pub units: Units,
+    /// The steps of a loading, from 1 to 86,400.
+    pub horizon: u32,
+    /// The steps in which vehicles are released, from 1 to the horizon.
+    pub period: u32,
+    /// From 1 to 1,000.
+    pub iterations: u32,
+    /// From 1 to 16.
+    pub workers: u32,
+    /// The steps of a bucket of link times, from 1 to 86,400.
+    pub bucket: u32,
+    pub queue: Queue,
+    /// The steps between two watch lines, up to 86,400, and 0 for none.
+    pub watch: u32,
+    /// Whether the plain loader loads.
+    pub plain: bool,
+}

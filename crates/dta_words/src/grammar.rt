@@ -1,0 +1,86 @@
+// The settings that words ask for.
+ghost use Rattle.std.specs.Prelude.{◌≡◌, ◌<◌, IfErr, IfOk, List, None, Some, drop, length};
+ghost use Rattle.std.specs.Prelude.{option_and_then};
+ghost use Rattle.clap.specs.Matches.{found_of};
+ghost use Rattle.dta_words.specs.Grammar.{is_plain as is_plain_of, settings_from};
+ghost use Rattle.dta_words.specs.Grammar.{settings_of, word_of};
+ghost use Rattle.dta_words.specs.Options.{takes_of};
+ghost use Rattle.dta_words.specs.Ranges.{AreSettings};
+ghost use Rattle.dta_words.specs.Reading.{Reads};
+ghost use Rattle.dta_words.specs.Uses.{Text, uses_of};
+ghost use Rattle.dta_words.specs.declared.refusal.WordsRefusal.TheVariants as refusal;
+
+use crate::command::Settings;
+use crate::options::CommandWord;
+use crate::reading::read;
+use crate::refusal::WordsRefusal;
+use crate::values::settings_by_values;
+use crate::words::Words;
+use clap::ArgMatches;
+use std::alloc::Global;
+
+/// The command that the first word names.
+fn command_word(text: &str) -> Option<CommandWord>
+    ensures { result ≡ word_of text.now }
+{
+    if text == "freeflow" {
+        Some(CommandWord::Freeflow)
+    } else if text == "assign" {
+        Some(CommandWord::Assign)
+    } else if text == "demo" {
+        Some(CommandWord::Demo)
+    } else {
+        None
+    }
+}
+
+/// Whether the flag for the plain loader is given.
+fn is_plain(word: CommandWord, found: &ArgMatches) -> bool
+    ensures { (words : List Text) → (r : Reads (takes_of word) words (found_of found.now))
+        → result ≡ is_plain_of word r.uses }
+{
+    match word {
+        CommandWord::Freeflow => false,
+        CommandWord::Assign | CommandWord::Demo => found.get_flag("plain"),
+    }
+}
+
+/// The settings of the words behind a command's name.
+fn settings_behind(
+    alloc: Global,
+    word: CommandWord,
+    words: &Words,
+) -> Result<Settings, WordsRefusal>
+    requires { 0 < length words.now }
+    ensures ok { IfOk result (λ s.
+        option_and_then (settings_from word) (uses_of (takes_of word) (drop 1 words.now)) ≡ Some s) }
+    ensures ranges { IfOk result AreSettings }
+    ensures usage { IfErr result (λ why. why ≡ refusal.Usage
+        → option_and_then (settings_from word) (uses_of (takes_of word) (drop 1 words.now))
+        ≡ None) }
+{
+    let found = read(alloc, word, words)?;
+    let plain = is_plain(word, &found);
+    match settings_by_values(word, &found, plain) {
+        Some(settings) => Ok(settings),
+        None => Err(WordsRefusal::Usage),
+    }
+}
+
+/// The settings that the words after the program's name ask for. Usage comes exactly where the
+/// grammar gives them none, and Memory where there was none.
+pub fn settings(alloc: Global, words: &Words) -> Result<Settings, WordsRefusal>
+    ensures ok { IfOk result (λ s. settings_of words.now ≡ Some s) }
+    ensures usage { IfErr result (λ why. why ≡ refusal.Usage → settings_of words.now ≡ None) }
+
+    // What holds of all settings.
+    ensures ranges { IfOk result AreSettings }
+{
+    if words.len() == 0 {
+        return Err(WordsRefusal::Usage);
+    }
+    match command_word(words.get(0)) {
+        None => Err(WordsRefusal::Usage),
+        Some(word) => settings_behind(alloc, word, words),
+    }
+}

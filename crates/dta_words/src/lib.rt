@@ -1,0 +1,26 @@
+//! The words of a command line, and the settings that they ask for.
+//!
+//! The first word is a command's name and is read by hand. The words behind it are read by one
+//! `clap` command per name, whose options all take text, and the product reads the values. The
+//! crate's promise: `settings` answers the settings that the grammar gives the words, or refuses
+//! them exactly where it gives none. The grammar stands in specs/ over the list of words, apart
+//! from clap.
+#![tactic(auto)]
+
+mod clap_command;
+mod command;
+mod grammar;
+mod numbers;
+mod options;
+mod reading;
+mod refusal;
+mod values;
+mod words;
+
+pub use command::{Command, Settings};
+pub use grammar::settings;
+pub use refusal::WordsRefusal;
+pub use words::Words;
+
+#[cfg(test)]
+mod tests;

@@ -1,0 +1,141 @@
+// The options of the commands: names, bounds, and what stands where one isn't given.
+ghost use Rattle.std.specs.Prelude.{◌≡◌};
+ghost use Rattle.clap.specs.Walk.{texts};
+ghost use Rattle.dta_words.specs.Options.{takes_of};
+
+use dta_model::MOST_HORIZON;
+
+/// The command that the first word names.
+#[derive(Clone, Copy, Debug, PartialEq, Eq)]
+pub(crate) enum CommandWord {
+    Freeflow,
+    Assign,
+    Demo,
+}
+
+/// A whole number that an option takes: its least and its most, and what stands where the option
+/// isn't given.
+#[derive(Clone, Copy, Debug, PartialEq, Eq)]
+pub(crate) struct Bounds {
+    pub(crate) least: u32,
+    pub(crate) most: u32,
+    pub(crate) default: u32,
+}
+
+/// The seconds of a step.
+pub(crate) const STEP: Bounds = Bounds {
+    least: 1,
+    most: 60,
+    default: 6,
+};
+
+/// The vehicles on a kilometre of a lane in a jam.
+pub(crate) const JAM: Bounds = Bounds {
+    least: 1,
+    most: 1000,
+    default: 125,
+};
+
+/// The steps of a loading.
+pub(crate) const HORIZON: Bounds = Bounds {
+    least: 1,
+    most: MOST_HORIZON,
+    default: 1200,
+};
+
+/// The steps in which vehicles are released, where the horizon is longer and no option says it.
+pub(crate) const DEFAULT_PERIOD: u32 = 600;
+
+/// The iterations of a run.
+pub(crate) const ITERATIONS: Bounds = Bounds {
+    least: 1,
+    most: 1000,
+    default: 1,
+};
+
+/// The workers that load.
+pub(crate) const WORKERS: Bounds = Bounds {
+    least: 1,
+    most: 16,
+    default: 4,
+};
+
+/// The steps of a bucket of link times.
+pub(crate) const BUCKET: Bounds = Bounds {
+    least: 1,
+    most: MOST_HORIZON,
+    default: 50,
+};
+
+/// The steps between two watch lines, 0 for none.
+pub(crate) const WATCH: Bounds = Bounds {
+    least: 0,
+    most: MOST_HORIZON,
+    default: 0,
+};
+
+/// The nodes on a side of the grid of `demo`, at least.
+pub(crate) const LEAST_SIDE: u32 = 2;
+
+/// The nodes on a side of the grid of `demo`, at most.
+pub(crate) const MOST_SIDE: u32 = 60;
+
+static FREEFLOW_OPTIONS: [&str; 4] = ["step", "jam", "length-unit", "speed-unit"];
+
+static ASSIGN_OPTIONS: [&str; 11] = [
+    "step",
+    "jam",
+    "length-unit",
+    "speed-unit",
+    "horizon",
+    "period",
+    "iterations",
+    "workers",
+    "bucket",
+    "queue",
+    "watch",
+];
+
+static DEMO_OPTIONS: [&str; 9] = [
+    "step",
+    "jam",
+    "horizon",
+    "period",
+    "iterations",
+    "workers",
+    "bucket",
+    "queue",
+    "watch",
+];
+
+static FLAGS: [&str; 1] = ["plain"];
+
+static NO_FLAGS: [&str; 0] = [];
+
+/// The names of the options with a value that a command takes.
+pub(crate) fn options_of(word: CommandWord) -> &'static [&'static str]
+    ensures { texts result.now ≡ (takes_of word).options }
+{
+    match word {
+        CommandWord::Freeflow => FREEFLOW_OPTIONS.as_slice(),
+        CommandWord::Assign => ASSIGN_OPTIONS.as_slice(),
+        CommandWord::Demo => DEMO_OPTIONS.as_slice(),
+    }
+}
+
+/// The names of the flags that a command takes.
+pub(crate) fn flags_of(word: CommandWord) -> &'static [&'static str]
+    ensures { texts result.now ≡ (takes_of word).flags }
+{
+    match word {
+        CommandWord::Freeflow => NO_FLAGS.as_slice(),
+        CommandWord::Assign | CommandWord::Demo => FLAGS.as_slice(),
+    }
+}
+
+/// Whether a command takes a number that stands alone.
+pub(crate) fn takes_number(word: CommandWord) -> bool
+    ensures { result ≡ (takes_of word).number }
+{
+    matches!(word, CommandWord::Demo)
+}

@@ -1,0 +1,177 @@
+// The values of options, as settings.
+ghost use Rattle.std.specs.Prelude.{◌≡◌, ◌≤◌, IfSome, Some, codes};
+ghost use Rattle.clap.specs.Matches.{first_value, found_of, one_text};
+ghost use Rattle.dta_words.specs.Numbers.{number_given};
+ghost use Rattle.dta_words.specs.Grammar.{command_of, length_unit_of, period_within, queue_of};
+ghost use Rattle.dta_words.specs.Grammar.{settings_by, side_of, speed_unit_of, units_by};
+ghost use Rattle.dta_words.specs.Ranges.{AreSettings, IsSide};
+
+use crate::clap_command::NUMBER;
+use crate::command::{Command, Settings};
+use crate::numbers::number_between;
+use crate::options::{
+    BUCKET, Bounds, CommandWord, DEFAULT_PERIOD, HORIZON, ITERATIONS, JAM, LEAST_SIDE, MOST_SIDE,
+    STEP, WATCH, WORKERS,
+};
+use clap::ArgMatches;
+use dta_model::Queue;
+use fixed_units::{LengthUnit, SpeedUnit};
+use gmns_tables::Units;
+
+/// The number that an option gives, or what stands in its place.
+fn number(found: &ArgMatches, name: &str, bounds: Bounds) -> Option<u32>
+    requires least { bounds.least ≤ bounds.default }
+    requires most { bounds.default ≤ bounds.most }
+    ensures value { result ≡ number_given bounds (first_value (found_of found.now) name.now) }
+    ensures within { IfSome result (λ n. (bounds.least ≤ n) × (n ≤ bounds.most)) }
+{
+    match found.get_str(name) {
+        None => Some(bounds.default),
+        Some(text) => number_between(bounds.least, bounds.most, text),
+    }
+}
+
+/// The unit of lengths.
+fn length_unit(found: &ArgMatches) -> Option<LengthUnit>
+    ensures { result ≡ length_unit_of (first_value (found_of found.now) (codes "length-unit")) }
+{
+    match found.get_str("length-unit") {
+        None => Some(LengthUnit::Metre),
+        Some(text) => {
+            if text == "m" {
+                Some(LengthUnit::Metre)
+            } else if text == "km" {
+                Some(LengthUnit::Kilometre)
+            } else if text == "mi" {
+                Some(LengthUnit::Mile)
+            } else {
+                None
+            }
+        }
+    }
+}
+
+/// The unit of speeds.
+fn speed_unit(found: &ArgMatches) -> Option<SpeedUnit>
+    ensures { result ≡ speed_unit_of (first_value (found_of found.now) (codes "speed-unit")) }
+{
+    match found.get_str("speed-unit") {
+        None => Some(SpeedUnit::Kmh),
+        Some(text) => {
+            if text == "kmh" {
+                Some(SpeedUnit::Kmh)
+            } else if text == "mph" {
+                Some(SpeedUnit::Mph)
+            } else {
+                None
+            }
+        }
+    }
+}
+
+/// The kind of queues.
+fn queue(found: &ArgMatches) -> Option<Queue>
+    ensures { result ≡ queue_of (first_value (found_of found.now) (codes "queue")) }
+{
+    match found.get_str("queue") {
+        None => Some(Queue::Point),
+        Some(text) => {
+            if text == "point" {
+                Some(Queue::Point)
+            } else if text == "spatial" {
+                Some(Queue::Spatial)
+            } else {
+                None
+            }
+        }
+    }
+}
+
+/// The side of the grid, which has to be given.
+fn side(found: &ArgMatches) -> Option<u32>
+    ensures value { result ≡ side_of (first_value (found_of found.now) (codes "number")) }
+    ensures within { IfSome result (λ n. (LEAST_SIDE ≤ n) × (n ≤ MOST_SIDE)) }
+{
+    let text = found.get_str(NUMBER)?;
+    number_between(LEAST_SIDE, MOST_SIDE, text)
+}
+
+/// The command with its number.
+fn command(word: CommandWord, found: &ArgMatches) -> Option<Command>
+    ensures value { result ≡ command_of word (first_value (found_of found.now) (codes "number")) }
+    ensures within { IfSome result IsSide }
+{
+    match word {
+        CommandWord::Freeflow => Some(Command::Freeflow),
+        CommandWord::Assign => Some(Command::Assign),
+        CommandWord::Demo => {
+            let side = side(found)?;
+            Some(Command::Demo(side))
+        }
+    }
+}
+
+/// The units.
+fn units(found: &ArgMatches) -> Option<Units>
+    ensures value { result ≡ units_by (first_value (found_of found.now)) }
+    ensures step { IfSome result (λ u. (1 ≤ u.delta) × (u.delta ≤ 60)) }
+    ensures jam { IfSome result (λ u. (1 ≤ u.jam) × (u.jam ≤ 1000)) }
+{
+    let delta = number(found, "step", STEP)?;
+    let jam = number(found, "jam", JAM)?;
+    let length = length_unit(found)?;
+    let speed = speed_unit(found)?;
+    Some(Units {
+        delta,
+        jam,
+        length,
+        speed,
+    })
+}
+
+/// The steps in which vehicles are released.
+fn period(found: &ArgMatches, horizon: u32) -> Option<u32>
+    requires { 1 ≤ horizon }
+    ensures value { result
+        ≡ number_given (period_within horizon) (first_value (found_of found.now) (codes "period")) }
+    ensures within { IfSome result (λ n. (1 ≤ n) × (n ≤ horizon)) }
+{
+    let bounds = Bounds {
+        least: 1,
+        most: horizon,
+        default: DEFAULT_PERIOD.min(horizon),
+    };
+    number(found, "period", bounds)
+}
+
+/// The settings that the values come to.
+pub(crate) fn settings_by_values(
+    word: CommandWord,
+    found: &ArgMatches,
+    plain: bool,
+) -> Option<Settings>
+    ensures value { result ≡ settings_by word (first_value (found_of found.now)) plain }
+    ensures ranges { IfSome result AreSettings }
+{
+    let command = command(word, found)?;
+    let units = units(found)?;
+    let horizon = number(found, "horizon", HORIZON)?;
+    let period = period(found, horizon)?;
+    let iterations = number(found, "iterations", ITERATIONS)?;
+    let workers = number(found, "workers", WORKERS)?;
+    let bucket = number(found, "bucket", BUCKET)?;
+    let queue = queue(found)?;
+    let watch = number(found, "watch", WATCH)?;
+    Some(Settings {
+        command,
+        units,
+        horizon,
+        period,
+        iterations,
+        workers,
+        bucket,
+        queue,
+        watch,
+        plain,
+    })
+}
