@@ -1,4 +1,8 @@
-pub mod SendingFacts
-pub mod TextsFacts
 pub mod TurnFacts
+pub mod ChainFacts
+pub mod JobFacts
 pub mod VerdictFacts
+pub mod OutputFacts
+pub mod IterateFacts
+pub mod RunFacts
+pub mod Determined

@@ -1,4 +1,4 @@
--- The first fault of a table stands in that table.
+-- The first fault of a table stands in that table, and the turn of a table ends in it.
 use Rattle.std.proofs.Common.{◌≡◌, ℕ, ◌+◌, ◌≤◌, List, [], ◌∷◌, ◌++◌, length, refl, sym, ap, subst, true, false}
 use Rattle.std.specs.Prelude.{Result, Ok, Err}
 use Rattle.desk_io.specs.declared.desk.Table.{Table}
@@ -14,15 +14,17 @@ use Rattle.row_reader.specs.declared.faults.Complaint.{Complaint}
 use Rattle.row_reader.specs.declared.faults.TableFault.{TableFault}
 use Rattle.row_reader.specs.declared.faults.TableRefusal.{TableRefusal}
 use Rattle.row_reader.specs.declared.faults.TableRefusal.TheVariants as refusal
-use Rattle.net_core.specs.declared.rows.NodeRow.{NodeRow}
-use Rattle.net_core.specs.declared.rows.TheConstants.{MOST_LINKS, MOST_NODES}
+use Rattle.net_core.specs.declared.rows.TheConstants.{MOST_LINKS, MOST_NODES, MOST_TURNS}
 use Rattle.gmns_tables.specs.Links.{link_of, link_places, link_verdict}
+use Rattle.gmns_tables.specs.Movements.{turn_of, turn_places}
 use Rattle.gmns_tables.specs.Nodes.{node_of, node_places, node_verdict}
 use Rattle.gmns_tables.specs.declared.units.Units.{Units}
-use Rattle.dta.specs.declared.tables.TheConstants.{TABLE_LIMIT}
+use Rattle.demand.specs.Cells.{cell_of, cell_places, demand_verdict}
+use Rattle.demand.specs.declared.cells.TheConstants.{MOST_CELLS}
+use Rattle.reports.specs.declared.refusal.TheConstants.{TABLE_LIMIT}
 use Rattle.dta.specs.Outcome.{DeskState}
 use Rattle.dta.specs.Stops.{StopsTurn, stop_of}
-use Rattle.dta.specs.Tables.{default_units, links_of, nodes_of}
+use Rattle.dta.specs.Tables.{Rows, turns_of, with_table}
 
 -- of a line, and then of the rest
 then-table : {A B : Type 0} (t : Table) (line : ℕ) (r : Result A Complaint) (next : A → Result B TableFault) (f : TableFault)
@@ -46,20 +48,63 @@ verdict-table t limit places columns (header ∷ rest) f e =
       | false ↦ λ b. let k = rw b at e in let s : fault_of t 1 (complain E2 NoColumn) ≡ f = cc in ap (λ (g : TableFault). g.table) (sym s)
     ] refl
 
--- the turn of the node table ended in what its reader answered over the text that was read
-pub nodes-stop : (bytes text : List ℕ) (before after : DeskState) (why : TableRefusal) → IsRead table.Node bytes before.left after.left → length bytes ≤ TABLE_LIMIT
-    → text ≡ bytes → Tells (node_verdict (records text)) (Err why) → StopsTurn table.Node [] (stop_of why) before after
-nodes-stop bytes text before after (refusal.Fault f) read short same t =
-    let told : nodes_of bytes ≡ Err f = subst (λ x. node_verdict (records x) ≡ Err f) same t in
-    (verdict-table table.Node MOST_NODES node_places node_of (records bytes) f told, record { bytes = bytes; read = read; short = short; first = told })
-nodes-stop bytes text before after refusal.Memory read short same t = record { bytes = bytes; read = read.read }
+-- what a reader refused over a text that is these bytes
+abbrev IsToldBy : Units → Table → Rows → List ℕ → TableRefusal → Type 0
+IsToldBy units t rows bytes (refusal.Fault f) = (with_table units rows t bytes ≡ Err f) × (f.table ≡ t)
+IsToldBy units t rows bytes refusal.Memory = Unit {0}
 
--- the turn of the link table ended in what its reader answered over these nodes and the text that was read
-pub links-stop : (nodes : List NodeRow) (units : Units) (bytes text : List ℕ) (before after : DeskState) (why : TableRefusal)
-    → IsRead table.Link bytes before.left after.left → length bytes ≤ TABLE_LIMIT
-    → text ≡ bytes → units ≡ default_units → Tells (link_verdict nodes units (records text)) (Err why) → StopsTurn table.Link nodes (stop_of why) before after
-links-stop nodes units bytes text before after (refusal.Fault f) read short same usual t =
-    let told : links_of nodes bytes ≡ Err f =
-    subst (λ u. link_verdict nodes u (records bytes) ≡ Err f) usual (subst (λ x. link_verdict nodes units (records x) ≡ Err f) same t) in
-    (verdict-table table.Link MOST_LINKS link_places (link_of nodes default_units) (records bytes) f told, record { bytes = bytes; read = read; short = short; first = told })
-links-stop nodes units bytes text before after refusal.Memory read short same usual t = record { bytes = bytes; read = read.read }
+-- the turn of a table ended in what its reader answered over the text that was read
+turn-stop : (units : Units) (t : Table) (rows : Rows) (bytes : List ℕ) (before after : DeskState) (why : TableRefusal)
+    → IsRead t bytes before.left after.left → length bytes ≤ TABLE_LIMIT → IsToldBy units t rows bytes why
+    → StopsTurn units t rows (stop_of why) before after
+turn-stop units t rows bytes before after (refusal.Fault f) read short told =
+    (told.1, record { bytes = bytes; read = read; short = short; first = told.0; its_own = told.1 })
+turn-stop units t rows bytes before after refusal.Memory read short told = record { bytes = bytes; read = read.read }
+
+nodes-told : (units : Units) (rows : Rows) (bytes : List ℕ) (why : TableRefusal) → Tells (node_verdict (records bytes)) (Err why)
+    → IsToldBy units table.Node rows bytes why
+nodes-told units rows bytes (refusal.Fault f) told =
+    (rw (told) refl, verdict-table table.Node MOST_NODES node_places node_of (records bytes) f told)
+nodes-told units rows bytes refusal.Memory told = tt
+
+links-told : (units : Units) (rows : Rows) (bytes : List ℕ) (why : TableRefusal) → Tells (link_verdict rows.nodes units (records bytes)) (Err why)
+    → IsToldBy units table.Link rows bytes why
+links-told units rows bytes (refusal.Fault f) told =
+    (rw (told) refl, verdict-table table.Link MOST_LINKS link_places (link_of rows.nodes units) (records bytes) f told)
+links-told units rows bytes refusal.Memory told = tt
+
+turns-table : (units : Units) (rows : Rows) (bytes : List ℕ) (f : TableFault) → turns_of units rows bytes ≡ Err f → f.table ≡ table.Movement
+turns-table units rows [] f told = absurd cc
+turns-table units rows (b ∷ bytes) f told =
+    verdict-table table.Movement MOST_TURNS turn_places (turn_of rows.nodes rows.links units) (records (b ∷ bytes)) f told
+
+turns-told : (units : Units) (rows : Rows) (bytes : List ℕ) (why : TableRefusal) → Tells (turns_of units rows bytes) (Err why)
+    → IsToldBy units table.Movement rows bytes why
+turns-told units rows bytes (refusal.Fault f) told = (rw (told) refl, turns-table units rows bytes f told)
+turns-told units rows bytes refusal.Memory told = tt
+
+cells-told : (units : Units) (rows : Rows) (bytes : List ℕ) (why : TableRefusal) → Tells (demand_verdict (records bytes)) (Err why)
+    → IsToldBy units table.Demand rows bytes why
+cells-told units rows bytes (refusal.Fault f) told =
+    (rw (told) refl, verdict-table table.Demand MOST_CELLS cell_places cell_of (records bytes) f told)
+cells-told units rows bytes refusal.Memory told = tt
+
+pub nodes-stop : (units : Units) (rows : Rows) (bytes text : List ℕ) (before after : DeskState) (why : TableRefusal) → IsRead table.Node bytes before.left after.left
+    → length bytes ≤ TABLE_LIMIT → text ≡ bytes → Tells (node_verdict (records text)) (Err why) → StopsTurn units table.Node rows (stop_of why) before after
+nodes-stop units rows bytes text before after why read short same told =
+    turn-stop units table.Node rows bytes before after why read short (nodes-told units rows bytes why (subst (λ x. Tells (node_verdict (records x)) (Err why)) same told))
+
+pub links-stop : (units : Units) (rows : Rows) (bytes text : List ℕ) (before after : DeskState) (why : TableRefusal) → IsRead table.Link bytes before.left after.left
+    → length bytes ≤ TABLE_LIMIT → text ≡ bytes → Tells (link_verdict rows.nodes units (records text)) (Err why) → StopsTurn units table.Link rows (stop_of why) before after
+links-stop units rows bytes text before after why read short same told =
+    turn-stop units table.Link rows bytes before after why read short (links-told units rows bytes why (subst (λ x. Tells (link_verdict rows.nodes units (records x)) (Err why)) same told))
+
+pub turns-stop : (units : Units) (rows : Rows) (bytes text : List ℕ) (before after : DeskState) (why : TableRefusal) → IsRead table.Movement bytes before.left after.left
+    → length bytes ≤ TABLE_LIMIT → text ≡ bytes → Tells (turns_of units rows text) (Err why) → StopsTurn units table.Movement rows (stop_of why) before after
+turns-stop units rows bytes text before after why read short same told =
+    turn-stop units table.Movement rows bytes before after why read short (turns-told units rows bytes why (subst (λ x. Tells (turns_of units rows x) (Err why)) same told))
+
+pub cells-stop : (units : Units) (rows : Rows) (bytes text : List ℕ) (before after : DeskState) (why : TableRefusal) → IsRead table.Demand bytes before.left after.left
+    → length bytes ≤ TABLE_LIMIT → text ≡ bytes → Tells (demand_verdict (records text)) (Err why) → StopsTurn units table.Demand rows (stop_of why) before after
+cells-stop units rows bytes text before after why read short same told =
+    turn-stop units table.Demand rows bytes before after why read short (cells-told units rows bytes why (subst (λ x. Tells (demand_verdict (records x)) (Err why)) same told))

@@ -1,26 +1,35 @@
--- Where the bytes of both tables are told, what was read is what is told, and so the answer is that of the verdict.
-use Rattle.std.proofs.Common.{◌≡◌, ◌≢◌, ℕ, ◌<◌, ◌≤◌, List, ◌++◌, length, refl, sym, ap, ◌∙◌, arith, rules, inl, inr, length-append, subst, Bool, true, false}
-use Rattle.std.specs.Prelude.{Option, None, Some, Result, Ok, Err, nat_le, ◌↔◌, if◌then◌else◌}
+-- Where the bytes of the tables are told, what was read is what is told, and so the answer is that of the verdict.
+use Rattle.std.proofs.Common.{◌≡◌, ◌≢◌, ℕ, ◌+◌, ◌*◌, ◌<◌, ◌≤◌, suc, zero, List, [], ◌∷◌, ◌++◌, length, refl, sym, ap, ◌∙◌, arith, rules, inl, inr, length-append, subst, Bool, true, false, cond}
+use Rattle.std.specs.Prelude.{⊤, Option, None, Some, Ok, Err, nat_le, nat_lt, find, slice_get}
+use Rattle.std.specs.List.{range_with_len}
 use Rattle.std.proofs.lemmas.List.{append-nil}
 use Rattle.std.specs.Io.KnownBytes.{prepend_known, IsAtEnd}
 use Rattle.desk_io.specs.declared.desk.Table.{Table}
 use Rattle.desk_io.specs.declared.desk.Table.TheVariants.{Node, Link, Movement, Demand}
-use Rattle.desk_io.specs.Desk.{Left}
+use Rattle.desk_io.specs.Desk.{Left, left_of, before_left}
 use Rattle.desk_io.specs.Transfers.{IsRead, IsLong}
 use Rattle.row_reader.specs.declared.faults.TableFault.{TableFault}
-use Rattle.net_core.specs.declared.rows.LinkRow.{LinkRow}
-use Rattle.net_core.specs.declared.rows.NetRows.{NetRows}
-use Rattle.net_core.specs.declared.rows.NodeRow.{NodeRow}
-use Rattle.net_core.specs.declared.rows.TurnRow.{TurnRow}
-use Rattle.dta.specs.declared.refusal.Refusal.TheVariants as refusal
+use Rattle.dta_model.specs.Release.{vehicles_before}
+use Rattle.dta_model.specs.declared.trip.DemandCell.{DemandCell}
+use Rattle.dta_model.specs.declared.trip.TheConstants.{MOST_TRIPS}
+use Rattle.gmns_tables.specs.declared.units.Units.{Units}
+use Rattle.vehicle_release.specs.Limits.{IsFirstAbove, IsWithin}
+use Rattle.reports.specs.declared.refusal.Refusal.{Refusal}
+use Rattle.reports.specs.declared.refusal.Refusal.TheVariants as refusal
+use Rattle.reports.specs.declared.refusal.TheConstants.{CELL_LIMIT, TABLE_LIMIT}
+use Rattle.dta_words.specs.Grammar.{settings_of}
+use Rattle.dta_words.specs.declared.command.Command.{Command}
+use Rattle.dta_words.specs.declared.command.Command.TheVariants as command
+use Rattle.dta_words.specs.declared.command.Settings.{Settings}
 use Rattle.dta.specs.declared.status.Status.{Status}
 use Rattle.dta.specs.declared.status.Status.TheVariants as status
-use Rattle.dta.specs.Words.{is_freeflow}
-use Rattle.dta.specs.declared.tables.TheConstants.{TABLE_LIMIT}
-use Rattle.gmns_tables.specs.Net.{net_of}
-use Rattle.dta.specs.Tables.{nodes_of, links_of, HasNodes, HasLinks, HasNet, IsFaulty, InTurn}
-use Rattle.dta.specs.Verdict.{Verdict, Refused, Accepted, verdict, verdict_on_nodes, verdict_on_links}
-use Rattle.dta.specs.Outcome.{DeskState, IsCause, Means, Answers, IsHindered}
+use Rattle.dta.specs.Jobs.{AreWithin, HasRoom, IsAcceptedJob, JobRows, job_of, read_tables, source, tables_of}
+use Rattle.dta.specs.Outcome.{AreCounted, Answers, DeskState, IsCause, IsHindered, IsRefused, Means}
+use Rattle.dta.specs.Status.{refusal_status}
+use Rattle.dta.specs.Tables.{AreAccepted, AreTold, InTurn, IsAccepted, IsFaulty, Rows, no_rows, with_table}
+use Rattle.dta.specs.Verdict.{Verdict, Refused, Accepted, AreToldBy, first_above, texts_of, verdict, verdict_by, verdict_on, verdict_on_rows, verdict_on_sizes}
+
+-- ---- what was read is what is told
 
 known-whole : (k : Option (List ℕ)) (bytes xs : List ℕ) → IsAtEnd k → prepend_known bytes k ≡ Some xs → bytes ≡ xs
 known-whole None bytes xs end e = absurd cc
@@ -30,22 +39,58 @@ known-longer : (k : Option (List ℕ)) (bytes xs : List ℕ) → prepend_known b
 known-longer None bytes xs e = absurd cc
 known-longer (Some ys) bytes xs e = let s : bytes ++ ys ≡ xs = cc in let n : length (bytes ++ ys) ≡ length xs = ap length s in omega (arith, length-append bytes ys)
 
--- the bytes that were read of the node table are those that were told
-node-told : (bytes xs : List ℕ) (before after : Left) → IsRead Node bytes before after → before.node ≡ Some xs → bytes ≡ xs
-node-told bytes xs before after r e = known-whole after.node bytes xs r.ended (sym (ap (λ (l : Left). l.node) r.read) ∙ e)
+-- bytes of one table before what is left of it
+its-own : (t : Table) (bytes : List ℕ) (left : Left) → left_of t (before_left t bytes left) ≡ prepend_known bytes (left_of t left)
+its-own Node bytes left = refl
+its-own Link bytes left = refl
+its-own Movement bytes left = refl
+its-own Demand bytes left = refl
 
-link-told : (bytes xs : List ℕ) (before after : Left) → IsRead Link bytes before after → before.link ≡ Some xs → bytes ≡ xs
-link-told bytes xs before after r e = known-whole after.link bytes xs r.ended (sym (ap (λ (l : Left). l.link) r.read) ∙ e)
+-- and what is left of another table
+another : (t u : Table) (bytes : List ℕ) (left : Left) → t ≢ u → left_of u (before_left t bytes left) ≡ left_of u left
+another Node Node bytes left n = absurd (n refl)
+another Link Link bytes left n = absurd (n refl)
+another Movement Movement bytes left n = absurd (n refl)
+another Demand Demand bytes left n = absurd (n refl)
+another t u bytes left n = refl
 
--- the link table is told as before once the node table was read
-link-still : (bytes xs : List ℕ) (before after : Left) → IsRead Node bytes before after → before.link ≡ Some xs → after.link ≡ Some xs
-link-still bytes xs before after r e = sym (ap (λ (l : Left). l.link) r.read) ∙ e
+-- the bytes that were read of a table are a first part of those that were told
+part-told : (t : Table) (bytes xs : List ℕ) (before after : Left) → before ≡ before_left t bytes after → left_of t before ≡ Some xs
+    → prepend_known bytes (left_of t after) ≡ Some xs
+part-told t bytes xs before after r e = sym (its-own t bytes after) ∙ sym (ap (left_of t) r) ∙ e
 
-node-long : (limit : ℕ) (xs : List ℕ) (before after : Left) → IsLong Node limit before after → before.node ≡ Some xs → limit < length xs
-node-long limit xs before after r e = let m = r.more in let n = known-longer after.node r.bytes xs (sym (ap (λ (l : Left). l.node) r.read) ∙ e) in omega arith
+whole-told : (t : Table) (bytes xs : List ℕ) (before after : Left) → IsRead t bytes before after → left_of t before ≡ Some xs → bytes ≡ xs
+whole-told t bytes xs before after r e = known-whole (left_of t after) bytes xs r.ended (part-told t bytes xs before after r.read e)
 
-link-long : (limit : ℕ) (xs : List ℕ) (before after : Left) → IsLong Link limit before after → before.link ≡ Some xs → limit < length xs
-link-long limit xs before after r e = let m = r.more in let n = known-longer after.link r.bytes xs (sym (ap (λ (l : Left). l.link) r.read) ∙ e) in omega arith
+long-told : (t : Table) (limit : ℕ) (xs : List ℕ) (before after : Left) → IsLong t limit before after → left_of t before ≡ Some xs → limit < length xs
+long-told t limit xs before after r e =
+    let m = r.more in
+    let n = known-longer (left_of t after) r.bytes xs (part-told t r.bytes xs before after r.read e) in
+    omega arith
+
+-- ---- each table of a list stands there once
+
+abbrev AreOthers : Table → List Table → Type 0
+AreOthers t [] = ⊤
+AreOthers t (u ∷ others) = (t ≢ u) × AreOthers t others
+
+abbrev AreDistinct : List Table → Type 0
+AreDistinct [] = ⊤
+AreDistinct (t ∷ others) = AreOthers t others × AreDistinct others
+
+-- what is told of the others stays told once a table was read
+others-told : (t : Table) (others : List Table) (texts : Table → List ℕ) (bytes : List ℕ) (after : Left)
+    → AreOthers t others → AreTold others (before_left t bytes after) texts → AreTold others after texts
+others-told t [] texts bytes after o h = tt
+others-told t (u ∷ others) texts bytes after o h =
+    (sym (another t u bytes after o.0) ∙ h.0, others-told t others texts bytes after o.1 h.1)
+
+still-told : (units : Units) (t : Table) (others : List Table) (texts : Table → List ℕ) (rows next : Rows) (before after : Left)
+    → AreOthers t others → IsAccepted units t rows next before after → AreTold others before texts → AreTold others after texts
+still-told units t others texts rows next before after o h told =
+    others-told t others texts h.bytes after o (subst (λ (l : Left). AreTold others l texts) h.read.read told)
+
+-- ---- the verdict, turn by turn
 
 short-is : (n limit : ℕ) → n ≤ limit → nat_le n limit ≡ true
 short-is n limit h = search rules
@@ -53,119 +98,245 @@ short-is n limit h = search rules
 long-is : (n limit : ℕ) → limit < n → nat_le n limit ≡ false
 long-is n limit h = search rules
 
--- ---- the verdict, turn by turn
+above-is : (n limit : ℕ) → limit < n → nat_lt limit n ≡ true
+above-is n limit h = search rules
 
-verdict-usage : (words : List (List ℕ)) (node link : List ℕ) → is_freeflow words ≡ false → verdict words node link ≡ Refused refusal.Usage
-verdict-usage words node link f = rw f refl
+within-is : (n limit : ℕ) → n ≤ limit → nat_lt limit n ≡ false
+within-is n limit h = search rules
 
-verdict-nodes : (words : List (List ℕ)) (node link : List ℕ) (nodes : List NodeRow) (before after : Left) → is_freeflow words ≡ true
-    → HasNodes nodes before after → before.node ≡ Some node → verdict words node link ≡ verdict_on_nodes (Ok nodes) link
-verdict-nodes words node link nodes before after f h e =
-    let same : h.bytes ≡ node = node-told h.bytes node before after h.read e in
-    let s : nat_le (length node) TABLE_LIMIT ≡ true = short-is (length node) TABLE_LIMIT (rw same at h.short) in
-    let p : nodes_of node ≡ Ok nodes = rw same at h.accepted in
-    rw (f, s, p) refl
-
-verdict-links : (link : List ℕ) (nodes : List NodeRow) (links : List LinkRow) (before after : Left)
-    → HasLinks nodes links before after → before.link ≡ Some link → verdict_on_nodes (Ok nodes) link ≡ Accepted (net_of nodes links None)
-verdict-links link nodes links before after h e =
-    let same : h.bytes ≡ link = link-told h.bytes link before after h.read e in
-    let s : nat_le (length link) TABLE_LIMIT ≡ true = short-is (length link) TABLE_LIMIT (rw same at h.short) in
-    let p : links_of nodes link ≡ Ok links = rw same at h.accepted in
+-- a table that was accepted
+on-accepted : (units : Units) (t : Table) (others : List Table) (texts : Table → List ℕ) (rows next : Rows) (before after : Left) (then : Rows → Verdict)
+    → IsAccepted units t rows next before after → left_of t before ≡ Some (texts t)
+    → verdict_on units (t ∷ others) texts rows then ≡ verdict_on units others texts next then
+on-accepted units t others texts rows next before after then h e =
+    let same : h.bytes ≡ texts t = whole-told t h.bytes (texts t) before after h.read e in
+    let s : nat_le (length (texts t)) TABLE_LIMIT ≡ true = short-is (length (texts t)) TABLE_LIMIT (rw same at h.short) in
+    let p : with_table units rows t (texts t) ≡ Ok next = rw same at h.accepted in
     rw (s, p) refl
 
-verdict-net : (words : List (List ℕ)) (node link : List ℕ) (net : NetRows) (before after : Left) → is_freeflow words ≡ true
-    → HasNet net before after → before.node ≡ Some node → before.link ≡ Some link → verdict words node link ≡ Accepted net
-verdict-net words node link net before after f h n l =
-    verdict-nodes words node link net.nodes before h.between f h.node n
-    ∙ verdict-links link net.nodes net.links h.between after h.link (link-still h.node.bytes link before h.between h.node.read l)
-    ∙ ap (λ (turns : List TurnRow). Accepted (record { nodes = net.nodes; links = net.links; turns = turns })) (sym h.turns)
+-- a table with a first fault
+on-faulty : (units : Units) (fault : TableFault) (t : Table) (others : List Table) (texts : Table → List ℕ) (rows : Rows) (before after : Left) (then : Rows → Verdict)
+    → IsFaulty units fault t rows before after → left_of t before ≡ Some (texts t)
+    → verdict_on units (t ∷ others) texts rows then ≡ Refused (refusal.Table fault)
+on-faulty units fault t others texts rows before after then h e =
+    let same : h.bytes ≡ texts t = whole-told t h.bytes (texts t) before after h.read e in
+    let s : nat_le (length (texts t)) TABLE_LIMIT ≡ true = short-is (length (texts t)) TABLE_LIMIT (rw same at h.short) in
+    let p : with_table units rows t (texts t) ≡ Err fault = rw same at h.first in
+    rw (s, p) refl
 
--- the turn of table t ended in its first fault
-verdict-table : (words : List (List ℕ)) (node link : List ℕ) (fault : TableFault) (t : Table) (before after : Left) → is_freeflow words ≡ true
-    → InTurn t (IsFaulty fault t) before after → before.node ≡ Some node → before.link ≡ Some link → verdict words node link ≡ Refused (refusal.Table fault)
-verdict-table words node link fault Node before after f h n l =
-    let same : h.bytes ≡ node = node-told h.bytes node before after h.read n in
-    let s : nat_le (length node) TABLE_LIMIT ≡ true = short-is (length node) TABLE_LIMIT (rw same at h.short) in
-    let p : nodes_of node ≡ Err fault = rw same at h.first in
-    rw (f, s, p) refl
-verdict-table words node link fault Link before after f h n l =
-    let still : h.1.link ≡ Some link = link-still h.2.bytes link before h.1 h.2.read l in
-    let same : h.3.bytes ≡ link = link-told h.3.bytes link h.1 after h.3.read still in
-    let s : nat_le (length link) TABLE_LIMIT ≡ true = short-is (length link) TABLE_LIMIT (rw same at h.3.short) in
-    let p : links_of h.0 link ≡ Err fault = rw same at h.3.first in
-    verdict-nodes words node link h.0 before h.1 f h.2 n ∙ rw (s, p) refl
-verdict-table words node link fault Movement before after f h n l = absurd h
-verdict-table words node link fault Demand before after f h n l = absurd h
+-- a table that is too long
+on-long : (units : Units) (t : Table) (others : List Table) (texts : Table → List ℕ) (rows : Rows) (before after : Left) (then : Rows → Verdict)
+    → IsLong t TABLE_LIMIT before after → left_of t before ≡ Some (texts t)
+    → verdict_on units (t ∷ others) texts rows then ≡ Refused (refusal.LongTable t)
+on-long units t others texts rows before after then h e =
+    let s : nat_le (length (texts t)) TABLE_LIMIT ≡ false = long-is (length (texts t)) TABLE_LIMIT (long-told t TABLE_LIMIT (texts t) before after h e) in
+    rw s refl
 
-verdict-long : (words : List (List ℕ)) (node link : List ℕ) (t : Table) (before after : Left) → is_freeflow words ≡ true
-    → IsCause (refusal.LongTable t) words before after → before.node ≡ Some node → before.link ≡ Some link → verdict words node link ≡ Refused (refusal.LongTable t)
-verdict-long words node link Node before after f h n l =
-    let s : nat_le (length node) TABLE_LIMIT ≡ false = long-is (length node) TABLE_LIMIT (node-long TABLE_LIMIT node before after h n) in
-    rw (f, s) refl
-verdict-long words node link Link before after f h n l =
-    let still : h.1.link ≡ Some link = link-still h.2.bytes link before h.1 h.2.read l in
-    let s : nat_le (length link) TABLE_LIMIT ≡ false = long-is (length link) TABLE_LIMIT (link-long TABLE_LIMIT link h.1 after h.3 still) in
-    verdict-nodes words node link h.0 before h.1 f h.2 n ∙ rw s refl
-verdict-long words node link Movement before after f h n l = absurd h
-verdict-long words node link Demand before after f h n l = absurd h
+-- all tables were accepted
+on-all : (units : Units) (tables : List Table) (texts : Table → List ℕ) (rows more : Rows) (before after : Left) (then : Rows → Verdict)
+    → AreDistinct tables → AreTold tables before texts → AreAccepted units tables rows more before after
+    → verdict_on units tables texts rows then ≡ then more
+on-all units [] texts rows more before after then d told h = ap then (sym h.0)
+on-all units (t ∷ others) texts rows more before after then d told h =
+    on-accepted units t others texts rows h.0 before h.1 then h.2 told.0
+    ∙ on-all units others texts h.0 more h.1 after then d.1 (still-told units t others texts rows h.0 before h.1 d.0 h.2 told.1) h.3
 
--- ---- a run that was hindered may have any verdict but that on words
+-- the turn of a table came
+on-turn : (units : Units) (tables : List Table) (t : Table) (Turn : Rows → Left → Left → Type 0) (texts : Table → List ℕ) (rows : Rows)
+    (before after : Left) (then : Rows → Verdict) (v : Verdict)
+    → AreDistinct tables → AreTold tables before texts → InTurn units tables t Turn rows before after
+    → ((others : List Table) (so_far : Rows) (left : Left) → Turn so_far left after → left_of t left ≡ Some (texts t)
+    → verdict_on units (t ∷ others) texts so_far then ≡ v)
+    → verdict_on units tables texts rows then ≡ v
+on-turn units [] t Turn texts rows before after then v d told h step = absurd h
+on-turn units (first ∷ others) t Turn texts rows before after then v d told (inl h) step =
+    subst (λ (u : Table). left_of u before ≡ Some (texts u) → verdict_on units (u ∷ others) texts rows then ≡ v) (sym h.0)
+    (λ e. step others rows before h.1 e) told.0
+on-turn units (first ∷ others) t Turn texts rows before after then v d told (inr h) step =
+    on-accepted units first others texts rows h.0 before h.1 then h.2 told.0
+    ∙ on-turn units others t Turn texts h.0 h.1 after then v d.1
+    (still-told units first others texts rows h.0 before h.1 d.0 h.2 told.1) h.3 step
 
-abbrev IsOnTables : Verdict → Type 0
-IsOnTables (Refused refusal.Usage) = ⊥
-IsOnTables (Refused (refusal.Table t)) = Unit {0}
-IsOnTables (Refused (refusal.Read t)) = Unit {0}
-IsOnTables (Refused (refusal.LongTable t)) = Unit {0}
-IsOnTables (Accepted net) = Unit {0}
+-- ---- the sizes of a loading
 
-either : (b : Bool) (x y : Verdict) → IsOnTables x → IsOnTables y → IsOnTables (if b then x else y)
-either true x y p q = p
-either false x y p q = q
+-- no number of a range passes
+find-none : (p : ℕ → Bool) (a n : ℕ) → ((i : ℕ) → a ≤ i → i < a + n → p i ≡ false) → find p (range_with_len a n) ≡ None
+find-none p a zero none = refl
+find-none p a (suc n) none =
+    let here : p a ≡ false = none a (omega arith) (omega arith) in
+    rw here (find-none p (a + 1) n (λ i low high. none i (omega arith) (omega arith)))
 
-on-links : (nodes : List NodeRow) (o : Result (List LinkRow) TableFault) → IsOnTables (verdict_on_links nodes o)
-on-links nodes (Err fault) = tt
-on-links nodes (Ok links) = tt
+-- the first number of a range that passes
+find-first : (p : ℕ → Bool) (a n i : ℕ) → a ≤ i → i < a + n → p i ≡ true → ((j : ℕ) → j < i → p j ≡ false) → find p (range_with_len a n) ≡ Some i
+find-first p a zero i low high passes first = absurd (omega arith)
+find-first p a (suc n) i low high passes first =
+    elim (p a) as (λ b. p a ≡ b → cond b (Some a) (find p (range_with_len (a + 1) n)) ≡ Some i) [
+      | true ↦ λ here.
+          let not_below : a < i → ⊥ = λ below. let gone = first a below in absurd cc in
+          let same : a ≡ i = omega arith in
+          ap Some same
+      | false ↦ λ here.
+          let not_same : a ≡ i → ⊥ = λ same. let there : p a ≡ true = rw same passes in absurd cc in
+          find-first p (a + 1) n i (omega arith) (omega arith) passes first
+    ] refl
 
-on-nodes : (o : Result (List NodeRow) TableFault) (link : List ℕ) → IsOnTables (verdict_on_nodes o link)
-on-nodes (Err fault) link = tt
-on-nodes (Ok nodes) link = either (nat_le (length link) TABLE_LIMIT) _ _ (on-links nodes (links_of nodes link)) tt
+no-row-above : (cells : List DemandCell) → IsWithin cells → first_above cells ≡ None
+no-row-above cells w =
+    find-none (λ row. nat_lt MOST_TRIPS (vehicles_before cells (row + 1))) 0 (length cells)
+    (λ row low high. within-is (vehicles_before cells (row + 1)) MOST_TRIPS (w row (omega arith)))
 
-on-tables : (words : List (List ℕ)) (node link : List ℕ) → is_freeflow words ≡ true → IsOnTables (verdict words node link)
-on-tables words node link f = rw f (either (nat_le (length node) TABLE_LIMIT) _ _ (on-nodes (nodes_of node) link) tt)
+below-length : (cells : List DemandCell) (row : ℕ) (cell : DemandCell) → slice_get cells row ≡ Some cell → row < length cells
+below-length [] row cell e = absurd cc
+below-length (x ∷ cells) zero cell e = omega arith
+below-length (x ∷ cells) (suc row) cell e = let r = below-length cells row cell e in omega arith
 
-hindered : (v : Verdict) (answer : Status) (before after : DeskState) → IsOnTables v → IsHindered answer before after → Answers v answer before after
-hindered (Refused refusal.Usage) answer before after p h = absurd p
-hindered (Refused (refusal.Table t)) answer before after p h = inr h
-hindered (Refused (refusal.Read t)) answer before after p h = inr h
-hindered (Refused (refusal.LongTable t)) answer before after p h = inr h
-hindered (Accepted net) answer before after p h = inr (inr h)
+row-above : (cells : List DemandCell) (line total : ℕ) (h : IsFirstAbove cells line total) → first_above cells ≡ Some h.row
+row-above cells line total h =
+    let there = below-length cells h.row h.cell h.at in
+    let many : MOST_TRIPS < vehicles_before cells (h.row + 1) = rw h.so_many h.above in
+    find-first (λ row. nat_lt MOST_TRIPS (vehicles_before cells (row + 1))) 0 (length cells) h.row (omega arith) (omega arith)
+    (above-is (vehicles_before cells (h.row + 1)) MOST_TRIPS many)
+    (λ row below. within-is (vehicles_before cells (row + 1)) MOST_TRIPS (h.first row below))
+
+-- a command but `freeflow` has sizes
+has-sizes : (c : Command) (s : Settings) (rows : Rows) → c ≢ command.Freeflow → verdict_on_rows c s rows ≡ verdict_on_sizes s rows
+has-sizes command.Freeflow s rows n = absurd (n refl)
+has-sizes command.Assign s rows n = refl
+has-sizes (command.Demo size) s rows n = refl
+
+on-sizes : (s : Settings) (rows : Rows) → HasRoom s rows → IsWithin rows.cells → verdict_on_sizes s rows ≡ Accepted s (job_of s rows)
+on-sizes s rows room w =
+    let r : nat_le (length rows.links * s.horizon) CELL_LIMIT ≡ true = short-is (length rows.links * s.horizon) CELL_LIMIT room in
+    let n : first_above rows.cells ≡ None = no-row-above rows.cells w in
+    rw (r, n) refl
+
+on-within : (c : Command) (s : Settings) (rows : Rows) → AreWithin c s rows → verdict_on_rows c s rows ≡ Accepted s (job_of s rows)
+on-within command.Freeflow s rows w = refl
+on-within command.Assign s rows w = on-sizes s rows w.0 w.1
+on-within (command.Demo size) s rows w = on-sizes s rows w.0 w.1
+
+on-many-cells : (s : Settings) (rows : Rows) (links steps : ℕ) → links ≡ length rows.links → steps ≡ s.horizon → CELL_LIMIT < links * steps
+    → verdict_on_sizes s rows ≡ Refused (refusal.Cells links steps)
+on-many-cells s rows links steps l t m =
+    let n : CELL_LIMIT < length rows.links * s.horizon = rw (l, t) at m in
+    let r : nat_le (length rows.links * s.horizon) CELL_LIMIT ≡ false = long-is (length rows.links * s.horizon) CELL_LIMIT n in
+    rw (l, t, r) refl
+
+on-many-vehicles : (s : Settings) (rows : Rows) (line total : ℕ) → HasRoom s rows → IsFirstAbove rows.cells line total
+    → verdict_on_sizes s rows ≡ Refused (refusal.Vehicles line total)
+on-many-vehicles s rows line total room h =
+    let r : nat_le (length rows.links * s.horizon) CELL_LIMIT ≡ true = short-is (length rows.links * s.horizon) CELL_LIMIT room in
+    let f : first_above rows.cells ≡ Some h.row = row-above rows.cells line total h in
+    let at : slice_get rows.cells h.row ≡ Some h.cell = h.at in
+    let on : h.cell.line ≡ line = h.on in
+    let many : vehicles_before rows.cells (h.row + 1) ≡ total = h.so_many in
+    rw (r, f, at, on, many) refl
+
+-- ---- the verdict of a run whose words are in the grammar
+
+distinct : (c : Command) → AreDistinct (tables_of c)
+distinct command.Freeflow = ((λ e. absurd cc, tt), (tt, tt))
+distinct command.Assign =
+    ((λ e. absurd cc, (λ e. absurd cc, (λ e. absurd cc, tt))), ((λ e. absurd cc, (λ e. absurd cc, tt)), ((λ e. absurd cc, tt), (tt, tt))))
+distinct (command.Demo n) =
+    ((λ e. absurd cc, (λ e. absurd cc, (λ e. absurd cc, tt))), ((λ e. absurd cc, (λ e. absurd cc, tt)), ((λ e. absurd cc, tt), (tt, tt))))
+
+source-told : (c : Command) (left : Left) (texts : Table → List ℕ) → AreTold (read_tables c) left texts
+    → AreTold (tables_of c) (source c left) (texts_of c texts)
+source-told command.Freeflow left texts h = h
+source-told command.Assign left texts h = h
+source-told (command.Demo n) left texts h = (refl, (refl, (refl, (refl, tt))))
+
+-- the texts that these settings read are told
+abbrev AreAllTold : Settings → Left → (Table → List ℕ) → Type 0
+AreAllTold s left texts = AreTold (tables_of s.command) (source s.command left) (texts_of s.command texts)
+
+verdict-job : (s : Settings) (job : JobRows) (texts : Table → List ℕ) (before after : Left) → AreAllTold s before texts
+    → IsAcceptedJob s job before after → verdict_by (Some s) texts ≡ Accepted s job
+verdict-job s job texts before after told h =
+    on-all s.units (tables_of s.command) (texts_of s.command texts) no_rows h.part.rows (source s.command before) h.rest
+    (verdict_on_rows s.command s) (distinct s.command) told h.part.read
+    ∙ on-within s.command s h.part.rows h.part.within ∙ ap (Accepted s) (sym h.part.makes)
+
+verdict-counted : (s : Settings) (Part : Rows → Type 0) (texts : Table → List ℕ) (before after : Left) (v : Verdict) → AreTold (tables_of s.command) before (texts_of s.command texts)
+    → s.command ≢ command.Freeflow → AreCounted s Part before after → ((rows : Rows) → Part rows → verdict_on_sizes s rows ≡ v)
+    → verdict_by (Some s) texts ≡ v
+verdict-counted s Part texts before after v told n h step =
+    on-all s.units (tables_of s.command) (texts_of s.command texts) no_rows h.rows before after
+    (verdict_on_rows s.command s) (distinct s.command) told h.read
+    ∙ has-sizes s.command s h.rows n ∙ step h.rows h.part
+
+-- a refusal whose cause the bytes of the tables show
+abbrev IsShown : Refusal → Type 0
+IsShown refusal.Usage = ⊥
+IsShown (refusal.Table fault) = ⊤
+IsShown (refusal.Read t) = ⊥
+IsShown (refusal.LongTable t) = ⊤
+IsShown (refusal.Cells links steps) = ⊤
+IsShown (refusal.Vehicles line total) = ⊤
+
+verdict-refused : (s : Settings) (r : Refusal) (texts : Table → List ℕ) (before after : Left) → IsShown r → AreAllTold s before texts
+    → IsCause s r before after → verdict_by (Some s) texts ≡ Refused r
+verdict-refused s refusal.Usage texts before after i told h = absurd i
+verdict-refused s (refusal.Read t) texts before after i told h = absurd i
+verdict-refused s (refusal.Table fault) texts before after i told h =
+    on-turn s.units (tables_of s.command) fault.table (IsFaulty s.units fault fault.table) (texts_of s.command texts) no_rows
+    (source s.command before) h.rest (verdict_on_rows s.command s) (Refused (refusal.Table fault)) (distinct s.command) told h.part
+    (λ others rows left turn e. on-faulty s.units fault fault.table others (texts_of s.command texts) rows left h.rest (verdict_on_rows s.command s) turn e)
+verdict-refused s (refusal.LongTable t) texts before after i told h =
+    on-turn s.units (tables_of s.command) t (λ _. IsLong t TABLE_LIMIT) (texts_of s.command texts) no_rows
+    (source s.command before) h.rest (verdict_on_rows s.command s) (Refused (refusal.LongTable t)) (distinct s.command) told h.part
+    (λ others rows left turn e. on-long s.units t others (texts_of s.command texts) rows left h.rest (verdict_on_rows s.command s) turn e)
+verdict-refused s (refusal.Cells links steps) texts before after i told h =
+    verdict-counted s (λ rows. (links ≡ length rows.links) × (steps ≡ s.horizon) × (CELL_LIMIT < links * steps)) texts
+    (source s.command before) h.rest (Refused (refusal.Cells links steps)) told h.part.0 h.part.1
+    (λ rows p. on-many-cells s rows links steps p.0 p.1 p.2)
+verdict-refused s (refusal.Vehicles line total) texts before after i told h =
+    verdict-counted s (λ rows. HasRoom s rows × IsFirstAbove rows.cells line total) texts
+    (source s.command before) h.rest (Refused (refusal.Vehicles line total)) told h.part.0 h.part.1
+    (λ rows p. on-many-vehicles s rows line total p.0 p.1)
 
 -- ---- the answer
 
-freeflow : (words : List (List ℕ)) (answer : Status) → ((answer ≡ status.Usage) ↔ (is_freeflow words ≡ false)) → answer ≢ status.Usage → is_freeflow words ≡ true
-freeflow words answer u n =
-    elim (is_freeflow words) as (λ b. is_freeflow words ≡ b → b ≡ true) [ true ↦ λ e. refl | false ↦ λ e. absurd (n (u.1 e)) ] refl
+all-told : (words : List (List ℕ)) (s : Settings) (left : Left) (texts : Table → List ℕ) → settings_of words ≡ Some s
+    → AreToldBy (settings_of words) left texts → AreAllTold s left texts
+all-told words s left texts e told =
+    source-told s.command left texts (subst (λ (o : Option Settings). AreToldBy o left texts) e told)
 
--- what an answer says of the desk, where both tables are told
-pub told : (words : List (List ℕ)) (answer : Status) (node link : List ℕ) (before after : DeskState) → Means words answer before after
-    → ((answer ≡ status.Usage) ↔ (is_freeflow words ≡ false)) → before.left.node ≡ Some node → before.left.link ≡ Some link
-    → Answers (verdict words node link) answer before after
-told words status.Usage node link before after m u n l = subst (λ v. Answers v status.Usage before after) (sym (verdict-usage words node link m.cause.0)) refl
-told words status.Done node link before after m u n l =
-    let f = freeflow words status.Done u (λ e. absurd cc) in
-    subst (λ v. Answers v status.Done before after) (sym (verdict-net words node link m.net before.left after.left f m.tables n l)) (inl (refl, m.out))
-told words status.WriteFault node link before after m u n l =
-    let f = freeflow words status.WriteFault u (λ e. absurd cc) in
-    subst (λ v. Answers v status.WriteFault before after) (sym (verdict-net words node link m.net before.left after.left f m.tables n l))
-    (inr (inl (refl, m.out, m.failed)))
-told words status.Table node link before after m u n l =
-    let f = freeflow words status.Table u (λ e. absurd cc) in
-    subst (λ v. Answers v status.Table before after) (sym (verdict-table words node link m.0 m.0.table before.left after.left f m.1.cause n l)) (inl (refl, m.1.report))
-told words status.Size node link before after m u n l =
-    let f = freeflow words status.Size u (λ e. absurd cc) in
-    subst (λ v. Answers v status.Size before after) (sym (verdict-long words node link m.0 before.left after.left f m.1.cause n l)) (inl (refl, m.1.report))
-told words status.ReadFault node link before after m u n l =
-    hindered _ status.ReadFault before after (on-tables words node link (freeflow words status.ReadFault u (λ e. absurd cc))) (inl (refl, m.2))
-told words status.Memory node link before after m u n l =
-    hindered _ status.Memory before after (on-tables words node link (freeflow words status.Memory u (λ e. absurd cc))) (inr refl)
+-- a run that was hindered may have any verdict
+hindered : (v : Verdict) (answer : Status) (before after : DeskState) → IsHindered answer before after → Answers v answer before after
+hindered (Refused r) answer before after h = inr h
+hindered (Accepted s job) answer before after h = inr h
+
+answers-by : (words : List (List ℕ)) (texts : Table → List ℕ) (o : Option Settings) (v : Verdict) (answer : Status) (before after : DeskState)
+    → settings_of words ≡ o → verdict_by o texts ≡ v → Answers v answer before after → Answers (verdict words texts) answer before after
+answers-by words texts o v answer before after e f h =
+    subst (λ (x : Verdict). Answers x answer before after) (sym (ap (λ (p : Option Settings). verdict_by p texts) e ∙ f)) h
+
+answers-refused : (words : List (List ℕ)) (texts : Table → List ℕ) (r : Refusal) (before after : DeskState) → IsShown r
+    → IsRefused r words before after → AreToldBy (settings_of words) before.left texts → Answers (verdict words texts) (refusal_status r) before after
+answers-refused words texts r before after i h told =
+    answers-by words texts (Some h.settings) (Refused r) (refusal_status r) before after h.told
+    (verdict-refused h.settings r texts before.left after.left i (all-told words h.settings before.left texts h.told told) h.cause)
+    (inl (refl, h.report))
+
+-- what an answer says of the desk, where the bytes of all tables are told
+pub told : (words : List (List ℕ)) (texts : Table → List ℕ) (answer : Status) (before after : DeskState)
+    → Means words answer before after
+    → AreToldBy (settings_of words) before.left texts
+    → Answers (verdict words texts) answer before after
+told words texts status.Usage before after m t = answers-by words texts None (Refused refusal.Usage) status.Usage before after m.told refl (inl (refl, m.report))
+told words texts status.Done before after m t =
+    answers-by words texts (Some m.settings) (Accepted m.settings m.job) status.Done before after m.told
+    (verdict-job m.settings m.job texts before.left after.left (all-told words m.settings before.left texts m.told t) m.accepted)
+    (inl (inl (refl, (m.texts, m.work, m.out))))
+told words texts status.WriteFault before after m t =
+    answers-by words texts (Some m.settings) (Accepted m.settings m.job) status.WriteFault before after m.told
+    (verdict-job m.settings m.job texts before.left after.left (all-told words m.settings before.left texts m.told t) m.accepted)
+    (inl (inr (refl, (m.texts, m.work, m.out), m.failed)))
+told words texts status.Table before after m t = answers-refused words texts (refusal.Table m.0) before after tt m.1 t
+told words texts status.Size before after (inl m) t = answers-refused words texts (refusal.LongTable m.0) before after tt m.1 t
+told words texts status.Size before after (inr (inl m)) t = answers-refused words texts (refusal.Cells m.0 m.1) before after tt m.2 t
+told words texts status.Size before after (inr (inr m)) t = answers-refused words texts (refusal.Vehicles m.0 m.1) before after tt m.2 t
+told words texts status.ReadFault before after m t = hindered (verdict words texts) status.ReadFault before after (inl (refl, m.2))
+told words texts status.Memory before after m t = hindered (verdict words texts) status.Memory before after (inr refl)

@@ -1,11 +1,11 @@
-pub mod Words
-pub mod WordsInside
 pub mod Status
-pub mod Refusal
-pub mod Sending
-pub mod Texts
 pub mod Tables
+pub mod Jobs
+pub mod Assignment
+pub mod Outputs
 pub mod Verdict
 pub mod Outcome
 pub mod Stops
+pub mod Progress
 pub mod Examples
+pub mod Laws

@@ -1,23 +1,26 @@
 -- What a run's answer says of its desk, from before the run to after it.
-use Rattle.std.specs.Prelude.{ℕ, ◌≡◌, ◌⊎◌, List, false}
+use Rattle.std.specs.Prelude.{ℕ, ◌≡◌, ◌≢◌, ◌<◌, ◌*◌, ◌⊎◌, ⊤, List, length, None, Some}
 use Rattle.desk_io.specs.declared.desk.Table.{Table}
 use Rattle.desk_io.specs.declared.desk.Output.TheVariants as output
-use Rattle.desk_io.specs.declared.desk.Table.TheVariants as table
 use Rattle.desk_io.specs.Desk.{Left, Taken}
 use Rattle.desk_io.specs.Faults.{Rose}
 use Rattle.desk_io.specs.Transfers.{IsBegun, IsLong, IsOut}
 use Rattle.row_reader.specs.declared.faults.TableFault.{TableFault}
-use Rattle.net_core.specs.declared.rows.NetRows.{NetRows}
-use Rattle.dta.specs.declared.refusal.Refusal.{Refusal}
-use Rattle.dta.specs.declared.refusal.Refusal.TheVariants as refusal
+use Rattle.vehicle_release.specs.Limits.{IsFirstAbove}
+use Rattle.reports.specs.Texts.{refusal_line}
+use Rattle.reports.specs.declared.refusal.Refusal.{Refusal}
+use Rattle.reports.specs.declared.refusal.Refusal.TheVariants as refusal
+use Rattle.reports.specs.declared.refusal.TheConstants.{CELL_LIMIT, TABLE_LIMIT}
+use Rattle.dta_words.specs.Grammar.{settings_of}
+use Rattle.dta_words.specs.declared.command.Command.TheVariants as command
+use Rattle.dta_words.specs.declared.command.Settings.{Settings}
 use Rattle.dta.specs.declared.status.Status.{Status}
 use Rattle.dta.specs.declared.status.Status.TheVariants as status
-use Rattle.dta.specs.Refusal.{refusal_line, refusal_status}
-use Rattle.dta.specs.declared.tables.TheConstants.{TABLE_LIMIT}
-use Rattle.dta.specs.Tables.{HasNet, IsFaulty, InTurn}
-use Rattle.dta.specs.Texts.{IsFreeOut, IsCutShort}
+use Rattle.dta.specs.Jobs.{HasRoom, IsAcceptedJob, JobRows, Reading, tables_of}
+use Rattle.dta.specs.Outputs.{AreTexts, AreTextsSoFar, AreWatched, IsCutOff, OutText, grown_by}
+use Rattle.dta.specs.Status.{refusal_status}
+use Rattle.dta.specs.Tables.{AreAccepted, InTurn, IsFaulty, Rows, no_rows}
 use Rattle.dta.specs.Verdict.{Verdict, Refused, Accepted}
-use Rattle.dta.specs.Words.{is_freeflow}
 
 -- all that a clause sees of a desk
 pub record DeskState : Type 0 where
@@ -46,68 +49,138 @@ abbrev pub ReportsLine : Refusal → DeskState → DeskState → Type 0
 ReportsLine r before after =
     IsOut output.Report (refusal_line r) before.taken after.taken before.put_faults after.put_faults
 
--- the cause of a refusal, as what was read until then shows it
-abbrev pub IsCause : Refusal → List (List ℕ) → Left → Left → Type 0
-IsCause refusal.Usage words before after = (is_freeflow words ≡ false) × (after ≡ before)
-IsCause (refusal.Table fault) words before after =
-    InTurn fault.table (IsFaulty fault fault.table) before after
-IsCause (refusal.Read t) words before after = InTurn t (λ _. IsBegun t) before after
-IsCause (refusal.LongTable t) words before after = InTurn t (λ _. IsLong t TABLE_LIMIT) before after
+-- all tables of a command were accepted, and this is so of their rows
+pub record AreCounted (s : Settings) (Part : Rows → Type 0) (before after : Left) : Type 0 where
+  pub rows : Rows
+  pub read : AreAccepted s.units (tables_of s.command) no_rows rows before after
+  pub part : Part rows
 
--- a run was refused: the cause was there, and its line was put
+-- the turn of a table came, and this was so of it
+abbrev pub Turned : Settings → Table → (Rows → Left → Left → Type 0) → Left → Left → Type 0
+Turned s t Turn before after = InTurn s.units (tables_of s.command) t Turn no_rows before after
+
+-- the cause of a refusal, as the reading of the tables until then shows it; `freeflow` has no sizes
+abbrev pub IsCauseIn : Settings → Refusal → Left → Left → Type 0
+IsCauseIn s refusal.Usage before after = ⊥
+IsCauseIn s (refusal.Table fault) before after =
+    Turned s fault.table (IsFaulty s.units fault fault.table) before after
+IsCauseIn s (refusal.Read t) before after = Turned s t (λ _. IsBegun t) before after
+IsCauseIn s (refusal.LongTable t) before after = Turned s t (λ _. IsLong t TABLE_LIMIT) before after
+IsCauseIn s (refusal.Cells links steps) before after =
+    (s.command ≢ command.Freeflow)
+    × AreCounted s (λ rows. (links ≡ length rows.links) × (steps ≡ s.horizon) × (CELL_LIMIT < links * steps))
+    before after
+IsCauseIn s (refusal.Vehicles line total) before after =
+    (s.command ≢ command.Freeflow)
+    × AreCounted s (λ rows. HasRoom s rows × IsFirstAbove rows.cells line total)
+    before after
+
+-- the same of the desk of a run
+abbrev pub IsCause : Settings → Refusal → Left → Left → Type 0
+IsCause s r before after = Reading s.command (IsCauseIn s r) before after
+
+-- a run was refused: the words are in the grammar, the cause was there, and its line was put
 pub record IsRefused (r : Refusal) (words : List (List ℕ)) (before after : DeskState) : Type 0 where
-  pub cause : IsCause r words before.left after.left
+  pub settings : Settings
+  pub told : settings_of words ≡ Some settings
+  pub cause : IsCause settings r before.left after.left
   pub report : ReportsLine r before after
 
--- both tables were accepted and both texts of their network went out whole
-pub record IsDone (before after : DeskState) : Type 0 where
-  pub net : NetRows
-  pub tables : HasNet net before.left after.left
-  pub out : IsFreeOut net before.taken after.taken
+-- the words aren't in the grammar; nothing was read, and the line of usage was put
+pub record IsUsage (words : List (List ℕ)) (before after : DeskState) : Type 0 where
+  pub told : settings_of words ≡ None
+  pub left : after.left ≡ before.left
+  pub report : ReportsLine refusal.Usage before after
 
--- both tables were accepted, puts failed, and a first part of the texts went out
-pub record IsUnfinished (before after : DeskState) : Type 0 where
-  pub net : NetRows
-  pub tables : HasNet net before.left after.left
-  pub out : IsCutShort net before.taken after.taken
+-- what the work over an accepted job put, by the status with which it ended
+abbrev pub Works : Settings → JobRows → Status → Taken → Taken → Type 0
+Works s job status.Done before after =
+    (texts : List OutText) × AreTexts s.command s job texts × (after ≡ grown_by texts before)
+Works s job status.WriteFault before after =
+    (texts : List OutText) × AreTextsSoFar s.command s job texts × IsCutOff texts before after
+Works s job status.Memory before after =
+    (texts : List OutText) × AreWatched s job texts × (after ≡ grown_by texts before)
+Works s job _ before after = ⊥
+
+-- all tables were accepted, and all texts of the work went out whole, in their order
+pub record IsDone (words : List (List ℕ)) (before after : DeskState) : Type 0 where
+  pub settings : Settings
+  pub told : settings_of words ≡ Some settings
+  pub job : JobRows
+  pub accepted : IsAcceptedJob settings job before.left after.left
+  pub texts : List OutText
+  pub work : AreTexts settings.command settings job texts
+  pub out : after.taken ≡ grown_by texts before.taken
+
+-- all tables were accepted, puts failed, and of the texts of the work some went out whole, in their
+-- order, and then a first part of the next
+pub record IsUnfinished (words : List (List ℕ)) (before after : DeskState) : Type 0 where
+  pub settings : Settings
+  pub told : settings_of words ≡ Some settings
+  pub job : JobRows
+  pub accepted : IsAcceptedJob settings job before.left after.left
+  pub texts : List OutText
+  pub work : AreTextsSoFar settings.command settings job texts
+  pub out : IsCutOff texts before.taken after.taken
   pub failed : PutsFailed before after
 
--- the reading of the node table or, after that, of the link table was cut off
-abbrev pub IsCutOff : Left → Left → Type 0
-IsCutOff before after =
-    InTurn table.Node (λ _. IsBegun table.Node) before after
-    ⊎ InTurn table.Link (λ _. IsBegun table.Link) before after
+-- memory was wanting before a table was read, in the turn of one, or after all were accepted
+abbrev pub IsCutIn : Settings → Left → Left → Type 0
+IsCutIn s before after =
+    (after ≡ before)
+    ⊎ (((t : Table) × Turned s t (λ _. IsBegun t) before after) ⊎ AreCounted s (λ rows. ⊤) before after)
 
--- memory was wanting in the turn of a table: nothing was put, and no later table was read
-pub record IsStarved (before after : DeskState) : Type 0 where
-  pub begun : IsCutOff before.left after.left
-  pub taken : after.taken ≡ before.taken
+abbrev pub IsCutShort : Settings → Left → Left → Type 0
+IsCutShort s before after = Reading s.command (IsCutIn s) before after
+
+-- memory was wanting in the work: of all outputs only Watch grew, by whole lines of iterations
+pub record IsStopped (s : Settings) (before after : DeskState) : Type 0 where
+  pub job : JobRows
+  pub accepted : IsAcceptedJob s job before.left after.left
+  pub texts : List OutText
+  pub watched : AreWatched s job texts
+  pub out : after.taken ≡ grown_by texts before.taken
+
+-- memory was wanting: for the words, before the work, or in it. No output was put but Watch
+abbrev pub IsStarved : List (List ℕ) → DeskState → DeskState → Type 0
+IsStarved words before after =
+    ((after.left ≡ before.left) × (after.taken ≡ before.taken))
+    ⊎ ((s : Settings) × (settings_of words ≡ Some s)
+    × ((IsCutShort s before.left after.left × (after.taken ≡ before.taken)) ⊎ IsStopped s before after))
 
 -- what each status says
 abbrev pub Means : List (List ℕ) → Status → DeskState → DeskState → Type 0
-Means words status.Done before after = IsDone before after
-Means words status.Usage before after = IsRefused refusal.Usage words before after
+Means words status.Done before after = IsDone words before after
+Means words status.Usage before after = IsUsage words before after
 Means words status.Table before after =
     (fault : TableFault) × IsRefused (refusal.Table fault) words before after
 Means words status.ReadFault before after =
     (t : Table) × IsRefused (refusal.Read t) words before after × ReadsFailed before after
 Means words status.Size before after =
-    (t : Table) × IsRefused (refusal.LongTable t) words before after
-Means words status.WriteFault before after = IsUnfinished before after
-Means words status.Memory before after = IsStarved before after
+    ((t : Table) × IsRefused (refusal.LongTable t) words before after)
+    ⊎ (((links : ℕ) × (steps : ℕ) × IsRefused (refusal.Cells links steps) words before after)
+    ⊎ ((line : ℕ) × (total : ℕ) × IsRefused (refusal.Vehicles line total) words before after))
+Means words status.WriteFault before after = IsUnfinished words before after
+Means words status.Memory before after = IsStarved words before after
 
 -- a fault of the outside, or want of memory
 abbrev pub IsHindered : Status → DeskState → DeskState → Type 0
 IsHindered answer before after =
     ((answer ≡ status.ReadFault) × ReadsFailed before after) ⊎ (answer ≡ status.Memory)
 
--- what a run answers where the bytes of both tables are told, and so the verdict is known before it
+-- all texts of the work went out whole, or puts failed and they were cut off
+abbrev pub IsPut : Settings → JobRows → Status → DeskState → DeskState → Type 0
+IsPut s job answer before after =
+    ((answer ≡ status.Done)
+    × ((texts : List OutText) × AreTexts s.command s job texts × (after.taken ≡ grown_by texts before.taken)))
+    ⊎ ((answer ≡ status.WriteFault)
+    × ((texts : List OutText) × AreTextsSoFar s.command s job texts × IsCutOff texts before.taken after.taken)
+    × PutsFailed before after)
+
+-- what a run answers where the bytes of its tables are told, and so the verdict is known before it
 -- runs
 abbrev pub Answers : Verdict → Status → DeskState → DeskState → Type 0
-Answers (Refused refusal.Usage) answer before after = answer ≡ status.Usage
 Answers (Refused r) answer before after =
     ((answer ≡ refusal_status r) × ReportsLine r before after) ⊎ IsHindered answer before after
-Answers (Accepted net) answer before after =
-    ((answer ≡ status.Done) × IsFreeOut net before.taken after.taken)
-    ⊎ (((answer ≡ status.WriteFault) × IsCutShort net before.taken after.taken × PutsFailed before after)
-    ⊎ IsHindered answer before after)
+Answers (Accepted s job) answer before after =
+    IsPut s job answer before after ⊎ IsHindered answer before after

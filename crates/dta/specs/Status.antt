@@ -1,5 +1,7 @@
 -- The numbers with which the program ends. 1 is the runtime's own.
 use Rattle.std.specs.Prelude.{ℕ}
+use Rattle.reports.specs.declared.refusal.Refusal.{Refusal}
+use Rattle.reports.specs.declared.refusal.Refusal.TheVariants as refusal
 use Rattle.dta.specs.declared.status.Status.{Status}
 use Rattle.dta.specs.declared.status.Status.TheVariants.{Done, Usage, Table, ReadFault, WriteFault, Memory, Size}
 
@@ -11,3 +13,12 @@ number_of ReadFault = 4
 number_of WriteFault = 5
 number_of Memory = 6
 number_of Size = 7
+
+-- the status of a run that is refused
+abbrev pub refusal_status : Refusal → Status
+refusal_status refusal.Usage = Usage
+refusal_status (refusal.Table _) = Table
+refusal_status (refusal.Read _) = ReadFault
+refusal_status (refusal.LongTable _) = Size
+refusal_status (refusal.Cells _ _) = Size
+refusal_status (refusal.Vehicles _ _) = Size

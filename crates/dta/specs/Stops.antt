@@ -1,41 +1,64 @@
 -- What stops a run before its work.
-use Rattle.std.specs.Prelude.{ℕ, ◌≡◌, ⊤, List}
+use Rattle.std.specs.Prelude.{◌≡◌, ◌<◌, ◌*◌, ⊤, List, length}
 use Rattle.desk_io.specs.declared.desk.Table.{Table}
 use Rattle.desk_io.specs.Transfers.{IsBegun, IsLong}
 use Rattle.row_reader.specs.declared.faults.TableRefusal.{TableRefusal}
 use Rattle.row_reader.specs.declared.faults.TableRefusal.TheVariants as table_refusal
-use Rattle.net_core.specs.declared.rows.NodeRow.{NodeRow}
-use Rattle.dta.specs.declared.refusal.Refusal.{Refusal}
-use Rattle.dta.specs.declared.refusal.Refusal.TheVariants as refusal
-use Rattle.dta.specs.declared.tables.Stop.{Stop}
-use Rattle.dta.specs.declared.tables.Stop.TheVariants.{Refused, Memory}
-use Rattle.dta.specs.declared.tables.TheConstants.{TABLE_LIMIT}
-use Rattle.dta.specs.Tables.{IsFaulty}
-use Rattle.dta.specs.Outcome.{DeskState, ReadsFailed, IsCause, IsCutOff}
+use Rattle.gmns_tables.specs.declared.units.Units.{Units}
+use Rattle.reports.specs.declared.refusal.Refusal.{Refusal}
+use Rattle.reports.specs.declared.refusal.Refusal.TheVariants as refusal
+use Rattle.reports.specs.declared.refusal.TheConstants.{CELL_LIMIT, TABLE_LIMIT}
+use Rattle.dta_words.specs.declared.command.Settings.{Settings}
+use Rattle.dta.specs.declared.stop.Stop.{Stop}
+use Rattle.dta.specs.declared.stop.Stop.TheVariants.{Refused, Memory}
+use Rattle.vehicle_release.specs.Limits.{IsFirstAbove}
+use Rattle.dta.specs.Jobs.{HasRoom}
+use Rattle.dta.specs.Outcome.{DeskState, ReadsFailed, IsCause, IsCauseIn, IsCutIn, IsCutShort}
+use Rattle.dta.specs.Tables.{InTurn, IsFaulty, Rows}
 
 -- what a refused table stops
 abbrev pub stop_of : TableRefusal → Stop
 stop_of (table_refusal.Fault fault) = Refused (refusal.Table fault)
 stop_of table_refusal.Memory = Memory
 
--- the turn of a table ended in this stop, where these nodes were accepted before
-abbrev pub StopsTurn : Table → List NodeRow → Stop → DeskState → DeskState → Type 0
-StopsTurn t nodes Memory before after = IsBegun t before.left after.left
-StopsTurn t nodes (Refused refusal.Usage) before after = ⊥
-StopsTurn t nodes (Refused (refusal.Table fault)) before after =
-    (fault.table ≡ t) × IsFaulty fault t nodes before.left after.left
-StopsTurn t nodes (Refused (refusal.Read u)) before after =
+-- the turn of a table ended in this stop, where these rows were accepted before
+abbrev pub StopsTurn : Units → Table → Rows → Stop → DeskState → DeskState → Type 0
+StopsTurn units t rows Memory before after = IsBegun t before.left after.left
+StopsTurn units t rows (Refused refusal.Usage) before after = ⊥
+StopsTurn units t rows (Refused (refusal.Table fault)) before after =
+    (fault.table ≡ t) × IsFaulty units fault t rows before.left after.left
+StopsTurn units t rows (Refused (refusal.Read u)) before after =
     (u ≡ t) × IsBegun t before.left after.left × ReadsFailed before after
-StopsTurn t nodes (Refused (refusal.LongTable u)) before after =
+StopsTurn units t rows (Refused (refusal.LongTable u)) before after =
     (u ≡ t) × IsLong t TABLE_LIMIT before.left after.left
+StopsTurn units t rows (Refused (refusal.Cells links steps)) before after = ⊥
+StopsTurn units t rows (Refused (refusal.Vehicles line total)) before after = ⊥
+
+-- the reading of these tables ended in this stop, in the turn of one of them
+abbrev pub StopsAmong : Units → List Table → Rows → Stop → DeskState → DeskState → Type 0
+StopsAmong units tables rows stop before after =
+    (t : Table) × InTurn units tables t (λ rows left rest. StopsTurn units t rows stop (record before { left = left }) (record after { left = rest })) rows before.left after.left
+
+-- the rows of all tables are past a limit, or memory was wanting for their job
+abbrev pub StopsJob : Settings → Rows → Stop → Type 0
+StopsJob s rows Memory = ⊤
+StopsJob s rows (Refused (refusal.Cells links steps)) =
+    (links ≡ length rows.links) × (steps ≡ s.horizon) × (CELL_LIMIT < links * steps)
+StopsJob s rows (Refused (refusal.Vehicles line total)) =
+    HasRoom s rows × IsFirstAbove rows.cells line total
+StopsJob s rows (Refused _) = ⊥
 
 -- a count of failed reads rose where a table couldn't be read
 abbrev pub HasFault : Refusal → DeskState → DeskState → Type 0
 HasFault (refusal.Read t) before after = ReadsFailed before after
 HasFault _ before after = ⊤
 
--- a run over these words ended in this stop
-abbrev pub Stops : List (List ℕ) → Stop → DeskState → DeskState → Type 0
-Stops words Memory before after = IsCutOff before.left after.left
-Stops words (Refused r) before after =
-    IsCause r words before.left after.left × HasFault r before after
+-- the reading of a command's tables ended in this stop
+abbrev pub StopsIn : Settings → Stop → DeskState → DeskState → Type 0
+StopsIn s Memory before after = IsCutIn s before.left after.left
+StopsIn s (Refused r) before after = IsCauseIn s r before.left after.left × HasFault r before after
+
+-- a run of these settings ended in this stop
+abbrev pub Stops : Settings → Stop → DeskState → DeskState → Type 0
+Stops s Memory before after = IsCutShort s before.left after.left
+Stops s (Refused r) before after = IsCause s r before.left after.left × HasFault r before after

@@ -1,76 +1,89 @@
--- The tables of a run, read and accepted one after the other: the node table, then the link table.
-use Rattle.std.specs.Prelude.{ℕ, ◌≡◌, ◌≤◌, List, [], length, Result, Ok, Err}
-use Rattle.fixed_units.specs.declared.measure.LengthUnit.TheVariants as length_unit
-use Rattle.fixed_units.specs.declared.measure.SpeedUnit.TheVariants as speed_unit
+-- The tables that a command reads, one after the other, and the rows that they give.
+use Rattle.std.specs.Prelude.{ℕ, ◌≡◌, ◌≤◌, ◌⊎◌, ⊤, List, [], ◌∷◌, length, Some, Result, Ok, Err}
 use Rattle.desk_io.specs.declared.desk.Table.{Table}
 use Rattle.desk_io.specs.declared.desk.Table.TheVariants as table
-use Rattle.desk_io.specs.Desk.{Left}
+use Rattle.desk_io.specs.Desk.{Left, left_of}
 use Rattle.desk_io.specs.Transfers.{IsRead}
+use Rattle.row_reader.specs.FirstFault.{then_with}
 use Rattle.row_reader.specs.Records.{records}
 use Rattle.row_reader.specs.declared.faults.TableFault.{TableFault}
 use Rattle.net_core.specs.declared.rows.LinkRow.{LinkRow}
-use Rattle.net_core.specs.declared.rows.NetRows.{NetRows}
 use Rattle.net_core.specs.declared.rows.NodeRow.{NodeRow}
+use Rattle.net_core.specs.declared.rows.TurnRow.{TurnRow}
+use Rattle.dta_model.specs.declared.trip.DemandCell.{DemandCell}
 use Rattle.gmns_tables.specs.Nodes.{node_verdict}
 use Rattle.gmns_tables.specs.Links.{link_verdict}
+use Rattle.gmns_tables.specs.Movements.{turn_verdict}
 use Rattle.gmns_tables.specs.declared.units.Units.{Units}
-use Rattle.dta.specs.declared.tables.TheConstants.{DEFAULT_JAM, DEFAULT_STEP, TABLE_LIMIT}
+use Rattle.demand.specs.Cells.{demand_verdict}
+use Rattle.reports.specs.declared.refusal.TheConstants.{TABLE_LIMIT}
 
--- the units of a run without options: steps of 6 seconds, 125 vehicles per kilometre and lane,
--- metres, kilometres per hour
-abbrev pub default_units : Units
-default_units = record { delta = DEFAULT_STEP; jam = DEFAULT_JAM; length = length_unit.Metre; speed = speed_unit.Kmh }
+-- the rows of the tables that were accepted so far; those of the others are missing
+pub record Rows : Type 0 where
+  pub nodes : List NodeRow
+  pub links : List LinkRow
+  pub turns : List TurnRow
+  pub cells : List DemandCell
 
--- the rows that the bytes of a node table give, or its first fault
-abbrev pub nodes_of : List ℕ → Result (List NodeRow) TableFault
-nodes_of bytes = node_verdict (records bytes)
+abbrev pub no_rows : Rows
+no_rows = record { nodes = []; links = []; turns = []; cells = [] }
 
--- the rows that the bytes of a link table give over these nodes, or its first fault
-abbrev pub links_of : List NodeRow → List ℕ → Result (List LinkRow) TableFault
-links_of nodes bytes = link_verdict nodes default_units (records bytes)
+-- the rows of a node and a link table
+abbrev pub road_rows : List NodeRow → List LinkRow → Rows
+road_rows nodes links = record { nodes = nodes; links = links; turns = []; cells = [] }
 
--- the node table was read to its end and accepted with these rows
-pub record HasNodes (nodes : List NodeRow) (before after : Left) : Type 0 where
-  pub bytes : List ℕ
-  pub read : IsRead table.Node bytes before after
-  pub short : length bytes ≤ TABLE_LIMIT
-  pub accepted : nodes_of bytes ≡ Ok nodes
+-- the rows of all four tables
+abbrev pub rows_of : List NodeRow → List LinkRow → List TurnRow → List DemandCell → Rows
+rows_of nodes links turns cells = record { nodes = nodes; links = links; turns = turns; cells = cells }
 
--- the link table was read to its end and accepted over these nodes with these rows
-pub record HasLinks (nodes : List NodeRow) (links : List LinkRow) (before after : Left)
-    : Type 0 where
-  pub bytes : List ℕ
-  pub read : IsRead table.Link bytes before after
-  pub short : length bytes ≤ TABLE_LIMIT
-  pub accepted : links_of nodes bytes ≡ Ok links
+-- a movement table of zero bytes stands for none
+abbrev pub turns_of : Units → Rows → List ℕ → Result (List TurnRow) TableFault
+turns_of units rows [] = Ok []
+turns_of units rows (byte ∷ bytes) =
+    turn_verdict rows.nodes rows.links units (records (byte ∷ bytes))
 
--- both tables were read to their ends and accepted, the node table first, and make this network
-pub record HasNet (net : NetRows) (before after : Left) : Type 0 where
-  pub between : Left
-  pub node : HasNodes net.nodes before between
-  pub link : HasLinks net.nodes net.links between after
-  pub turns : net.turns ≡ []
+-- the rows with those of one more table, or that table's first fault
+abbrev pub with_table : Units → Rows → Table → List ℕ → Result Rows TableFault
+with_table units rows table.Node bytes =
+    then_with (node_verdict (records bytes)) (λ nodes. Ok (record rows { nodes = nodes }))
+with_table units rows table.Link bytes =
+    then_with (link_verdict rows.nodes units (records bytes)) (λ links. Ok (record rows { links = links }))
+with_table units rows table.Movement bytes =
+    then_with (turns_of units rows bytes) (λ turns. Ok (record rows { turns = turns }))
+with_table units rows table.Demand bytes =
+    then_with (demand_verdict (records bytes)) (λ cells. Ok (record rows { cells = cells }))
 
--- the bytes of a table have this first fault, where these nodes were accepted before
-abbrev pub IsFirstFault : TableFault → Table → List NodeRow → List ℕ → Type 0
-IsFirstFault fault table.Node nodes bytes = nodes_of bytes ≡ Err fault
-IsFirstFault fault table.Link nodes bytes = links_of nodes bytes ≡ Err fault
-IsFirstFault fault table.Movement nodes bytes = ⊥
-IsFirstFault fault table.Demand nodes bytes = ⊥
-
--- a table was read to its end and has this first fault
-pub record IsFaulty (fault : TableFault) (t : Table) (nodes : List NodeRow) (before after : Left)
-    : Type 0 where
+-- a table was read to its end and accepted after these rows, which are then those
+pub record IsAccepted (units : Units) (t : Table) (rows more : Rows) (before after : Left) : Type 0 where
   pub bytes : List ℕ
   pub read : IsRead t bytes before after
   pub short : length bytes ≤ TABLE_LIMIT
-  pub first : IsFirstFault fault t nodes bytes
+  pub accepted : with_table units rows t bytes ≡ Ok more
 
--- a table's turn came, since those before it were accepted, and this was so of it
-abbrev pub InTurn : Table → (List NodeRow → Left → Left → Type 0) → Left → Left → Type 0
-InTurn table.Node Turn before after = Turn [] before after
-InTurn table.Link Turn before after =
-    (nodes : List NodeRow) × (between : Left)
-    × HasNodes nodes before between × Turn nodes between after
-InTurn table.Movement Turn before after = ⊥
-InTurn table.Demand Turn before after = ⊥
+-- a table was read to its end and has this first fault
+pub record IsFaulty (units : Units) (fault : TableFault) (t : Table) (rows : Rows) (before after : Left) : Type 0 where
+  pub bytes : List ℕ
+  pub read : IsRead t bytes before after
+  pub short : length bytes ≤ TABLE_LIMIT
+  pub first : with_table units rows t bytes ≡ Err fault
+  pub its_own : fault.table ≡ t
+
+-- these tables were read and accepted one after the other
+abbrev pub AreAccepted : Units → List Table → Rows → Rows → Left → Left → Type 0
+AreAccepted units [] rows more before after = (more ≡ rows) × (after ≡ before)
+AreAccepted units (t ∷ others) rows more before after =
+    (next : Rows) × (between : Left) × IsAccepted units t rows next before between
+    × AreAccepted units others next more between after
+
+-- the turn of a table came, since those before it were accepted, and this was so of it
+abbrev pub InTurn : Units → List Table → Table → (Rows → Left → Left → Type 0) → Rows → Left → Left → Type 0
+InTurn units [] t Turn rows before after = ⊥
+InTurn units (first ∷ others) t Turn rows before after =
+    ((first ≡ t) × Turn rows before after)
+    ⊎ ((next : Rows) × (between : Left) × IsAccepted units first rows next before between
+    × InTurn units others t Turn next between after)
+
+-- the bytes of these tables are told
+abbrev pub AreTold : List Table → Left → (Table → List ℕ) → Type 0
+AreTold [] left texts = ⊤
+AreTold (t ∷ others) left texts = (left_of t left ≡ Some (texts t)) × AreTold others left texts

@@ -1,44 +1,93 @@
 -- What the words and the bytes of the tables come to, before any work.
-use Rattle.std.specs.Prelude.{ℕ, List, length, nat_le, None, Result, Ok, Err, if◌then◌else◌}
+use Rattle.std.specs.Prelude.{ℕ, ◌*◌, ◌+◌, ⊤, nat_le, nat_lt, List, [], ◌∷◌, length, Option, None, Some, Result, Ok, Err, slice_get, find, if◌then◌else◌}
+use Rattle.desk_io.specs.declared.desk.Table.{Table}
 use Rattle.desk_io.specs.declared.desk.Table.TheVariants as table
+use Rattle.desk_io.specs.Desk.{Left}
+use Rattle.net_core.specs.Network.{numbers_below}
+use Rattle.dta_model.specs.Release.{vehicles_before}
+use Rattle.dta_model.specs.declared.trip.DemandCell.{DemandCell}
+use Rattle.dta_model.specs.declared.trip.TheConstants.{MOST_TRIPS}
 use Rattle.row_reader.specs.declared.faults.TableFault.{TableFault}
-use Rattle.net_core.specs.declared.rows.LinkRow.{LinkRow}
-use Rattle.net_core.specs.declared.rows.NetRows.{NetRows}
-use Rattle.net_core.specs.declared.rows.NodeRow.{NodeRow}
-use Rattle.dta.specs.declared.refusal.Refusal.{Refusal}
-use Rattle.dta.specs.declared.refusal.Refusal.TheVariants as refusal
-use Rattle.dta.specs.Words.{is_freeflow}
-use Rattle.dta.specs.declared.tables.TheConstants.{TABLE_LIMIT}
-use Rattle.gmns_tables.specs.Net.{net_of}
-use Rattle.dta.specs.Tables.{nodes_of, links_of}
+use Rattle.gmns_tables.specs.declared.units.Units.{Units}
+use Rattle.grid_maker.specs.Grid.{node_text, link_text, demand_text}
+use Rattle.reports.specs.declared.refusal.Refusal.{Refusal}
+use Rattle.reports.specs.declared.refusal.Refusal.TheVariants as refusal
+use Rattle.reports.specs.declared.refusal.TheConstants.{CELL_LIMIT, TABLE_LIMIT}
+use Rattle.dta_words.specs.Grammar.{settings_of}
+use Rattle.dta_words.specs.declared.command.Command.{Command}
+use Rattle.dta_words.specs.declared.command.Command.TheVariants as command
+use Rattle.dta_words.specs.declared.command.Settings.{Settings}
+use Rattle.dta.specs.Jobs.{JobRows, job_of, tables_of, read_tables}
+use Rattle.dta.specs.Tables.{AreTold, Rows, no_rows, with_table}
 
--- a run is refused, or both tables are accepted and make this network
+-- a run is refused, or its tables are accepted and make this job
 pub data Verdict : Type 0 where
   Refused : Refusal → Verdict
-  Accepted : NetRows → Verdict
+  Accepted : Settings → JobRows → Verdict
 
--- the verdict over the rows of the link table
-abbrev pub verdict_on_links : List NodeRow → Result (List LinkRow) TableFault → Verdict
-verdict_on_links nodes (Err fault) = Refused (refusal.Table fault)
-verdict_on_links nodes (Ok links) = Accepted (net_of nodes links None)
+-- the texts of the tables that a command reads; those of a demonstration are its grid's
+abbrev pub grid_texts : ℕ → Table → List ℕ
+grid_texts n table.Node = node_text n
+grid_texts n table.Link = link_text n
+grid_texts n table.Movement = []
+grid_texts n table.Demand = demand_text n
 
--- the verdict over the rows of the node table and the bytes of the link table
-abbrev pub verdict_on_nodes : Result (List NodeRow) TableFault → List ℕ → Verdict
-verdict_on_nodes (Err fault) link = Refused (refusal.Table fault)
-verdict_on_nodes (Ok nodes) link =
-    if nat_le (length link) TABLE_LIMIT
-    then verdict_on_links nodes (links_of nodes link)
-    else Refused (refusal.LongTable table.Link)
+abbrev pub texts_of : Command → (Table → List ℕ) → Table → List ℕ
+texts_of (command.Demo n) texts t = grid_texts n t
+texts_of c texts t = texts t
 
--- the verdict over the bytes of both tables
-abbrev pub verdict_on_tables : List ℕ → List ℕ → Verdict
-verdict_on_tables node link =
-    if nat_le (length node) TABLE_LIMIT
-    then verdict_on_nodes (nodes_of node) link
-    else Refused (refusal.LongTable table.Node)
+-- one table, and then what is next
+abbrev pub after_table : Result Rows TableFault → (Rows → Verdict) → Verdict
+after_table (Err fault) next = Refused (refusal.Table fault)
+after_table (Ok rows) next = next rows
 
--- the first cause in the order of the work: the words; the node table, too long or with a first
--- fault; the link table, too long or with a first fault
-abbrev pub verdict : List (List ℕ) → List ℕ → List ℕ → Verdict
-verdict words node link =
-    if is_freeflow words then verdict_on_tables node link else Refused refusal.Usage
+-- the tables one after the other: the first that is too long or has a fault is told, and otherwise
+-- the verdict is that on the rows of all
+abbrev pub verdict_on : Units → List Table → (Table → List ℕ) → Rows → (Rows → Verdict) → Verdict
+verdict_on units [] texts rows next = next rows
+verdict_on units (t ∷ others) texts rows next =
+    if nat_le (length (texts t)) TABLE_LIMIT
+    then after_table (with_table units rows t (texts t)) (λ more. verdict_on units others texts more next)
+    else Refused (refusal.LongTable t)
+
+-- the first row of a demand table with which the vehicles are too many
+abbrev pub first_above : List DemandCell → Option ℕ
+first_above cells =
+    find (λ row. nat_lt MOST_TRIPS (vehicles_before cells (row + 1))) (numbers_below (length cells))
+
+abbrev pub line_in : Option DemandCell → ℕ
+line_in None = 0
+line_in (Some cell) = cell.line
+
+abbrev pub verdict_on_trips : Settings → Rows → Option ℕ → Verdict
+verdict_on_trips s rows None = Accepted s (job_of s rows)
+verdict_on_trips s rows (Some row) = Refused (refusal.Vehicles
+    (line_in (slice_get rows.cells row))
+    (vehicles_before rows.cells (row + 1)))
+
+-- the sizes of a loading: its links times its steps, and then its vehicles
+abbrev pub verdict_on_sizes : Settings → Rows → Verdict
+verdict_on_sizes s rows =
+    if nat_le (length rows.links * s.horizon) CELL_LIMIT
+    then verdict_on_trips s rows (first_above rows.cells)
+    else Refused (refusal.Cells (length rows.links) s.horizon)
+
+abbrev pub verdict_on_rows : Command → Settings → Rows → Verdict
+verdict_on_rows command.Freeflow s rows = Accepted s (job_of s rows)
+verdict_on_rows c s rows = verdict_on_sizes s rows
+
+abbrev pub verdict_by : Option Settings → (Table → List ℕ) → Verdict
+verdict_by None texts = Refused refusal.Usage
+verdict_by (Some s) texts =
+    verdict_on s.units (tables_of s.command) (texts_of s.command texts) no_rows
+    (verdict_on_rows s.command s)
+
+-- the first cause in the order of the work: the words; each table, too long or with a first fault,
+-- before the next is looked at; the sizes
+abbrev pub verdict : List (List ℕ) → (Table → List ℕ) → Verdict
+verdict words texts = verdict_by (settings_of words) texts
+
+-- the texts of all tables that these words read are told
+abbrev pub AreToldBy : Option Settings → Left → (Table → List ℕ) → Type 0
+AreToldBy None left texts = ⊤
+AreToldBy (Some s) left texts = AreTold (read_tables s.command) left texts

@@ -1,32 +1,34 @@
 //! The program `dta`, and the public call `run` that is its whole work.
 //!
-//! `run` carries the promise of the repository: over any desk, with the word `freeflow`, it answers
-//! Done only where both tables are accepted and LinkTime and Report grew by exactly their texts, and
-//! every other answer has its cause in its contract. `main` hands it the words of the command line
-//! and the files of the current folder.
+//! `run` carries the promise of the repository: over any desk, it answers Done only where every
+//! table that its command reads is accepted and the outputs grew by exactly the texts of the
+//! definitions, which depend on the words and the tables alone. Every other answer has its cause in
+//! its contract. `main` hands it the words of the command line and the files of the current folder.
 #![tactic(auto)]
 
 mod gate;
+mod iterate;
+mod job;
+mod laws;
 #[cfg(test)]
 mod link_time_cases;
-mod pending;
-mod refusal;
+mod outputs;
 mod run;
+mod sizes;
 mod status;
+mod stop;
 mod tables;
 #[cfg(test)]
 mod tests;
-mod texts;
-mod words;
 
 use desk_io::FileDesk;
+use dta_words::Words;
 use gate::NoGate;
 use run::run;
 use status::Status;
 use std::env;
 use std::io::ErrorKind;
 use std::process::ExitCode;
-use words::Words;
 
 fn main(rt: HostRuntime) -> ExitCode {
     let mut words = Words::new(rt.alloc());

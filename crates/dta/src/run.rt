@@ -1,46 +1,158 @@
 // The public call.
-ghost use Rattle.std.specs.Prelude.{◌≡◌, ◌≤◌, ◌↔◌, ℕ, List, Some, false};
+ghost use Rattle.std.specs.Prelude.{◌≡◌, ◌≢◌, ◌≤◌, ℕ, List, None, Some};
+ghost use Rattle.desk_io.specs.Faults.{Rose};
+ghost use Rattle.dta_words.specs.Ranges.{AreSettings};
+ghost use Rattle.dta_words.specs.declared.command.Command.TheVariants as command;
+ghost use Rattle.dta.specs.Jobs.{IsJob};
+ghost use Rattle.dta.specs.Outcome.{Works};
+ghost use Rattle.desk_io.specs.declared.desk.Table.{Table};
+ghost use Rattle.desk_io.specs.declared.desk.Output.TheVariants as output;
+ghost use Rattle.desk_io.specs.Transfers.{IsOut};
+ghost use Rattle.dta_model.specs.Laws.{JourneysEndInOrder, VehiclesAreConserved};
+ghost use Rattle.dta_words.specs.Grammar.{settings_of};
+ghost use Rattle.reports.specs.Texts.{refusal_line};
+ghost use Rattle.dta.specs.Status.{refusal_status as status_of_refusal};
 ghost use Rattle.dta.specs.declared.status.Status.TheVariants as status;
+ghost use Rattle.dta.specs.Laws.{TextsAreDetermined};
 ghost use Rattle.dta.specs.Outcome.{state_of, Means, Answers};
-ghost use Rattle.dta.specs.Verdict.{verdict};
-ghost use Rattle.dta.specs.Words.{is_freeflow};
+ghost use Rattle.dta.specs.Verdict.{verdict, AreToldBy};
 
 use crate::gate::Gate;
-use crate::refusal::refuse;
+use crate::iterate::{Halt, iterate};
+use crate::job::{Job, accept};
+use crate::laws::texts_are_determined;
+use crate::outputs::put_assigned;
 use crate::status::Status;
-use crate::tables::{Stop, accept};
-use crate::texts::put_free;
-use crate::words::Words;
+use crate::stop::Stop;
 use desk_io::{Desk, Failed};
-use std::alloc::Global;
+use dta_model::{journeys_end_in_order, vehicles_are_conserved};
+use dta_words::{Command, Settings, Words, WordsRefusal, settings};
+use reports::{Refusal, put_free, put_refusal};
 use std::sync::Wait;
 use std::thread::Threads;
 
-// Checks the words and the tables, and does the work.
-fn answer<D: Desk>(alloc: Global, words: &Words, desk: &mut D) -> Status
-    ensures means { let state = state_of D.left D.taken D.read_faults D.put_faults in
-        Means words.now result (state desk.old) (state desk.new) }
-    ensures usage { (result ≡ status.Usage) ↔ (is_freeflow words.now ≡ false) }
-    ensures reads { D.read_faults desk.old ≤ D.read_faults desk.new }
-    ensures puts { D.put_faults desk.old ≤ D.put_faults desk.new }
+// The status of a run that is refused.
+fn refusal_status(refusal: Refusal) -> Status
+    ensures { result ≡ status_of_refusal refusal }
 {
-    match accept(alloc, words, desk) {
-        Ok(net) => match put_free(desk, &net) {
+    match refusal {
+        Refusal::Usage => Status::Usage,
+        Refusal::Table(_) => Status::Table,
+        Refusal::Read(_) => Status::ReadFault,
+        Refusal::LongTable(_) | Refusal::Cells { .. } | Refusal::Vehicles { .. } => Status::Size,
+    }
+}
+
+// Puts the line of a refusal to Report, and answers the refusal's status, also where the put fails.
+// It takes no memory.
+fn refuse<D: Desk>(desk: &mut D, refusal: Refusal) -> Status
+    ensures status { result ≡ status_of_refusal refusal }
+    ensures report { IsOut output.Report (refusal_line refusal)
+        (D.taken desk.old) (D.taken desk.new) (D.put_faults desk.old) (D.put_faults desk.new) }
+    ensures later { D.put_faults desk.old ≤ D.put_faults desk.new }
+    ensures left { D.left desk.new ≡ D.left desk.old }
+    ensures reads { D.read_faults desk.new ≡ D.read_faults desk.old }
+{
+    let _ = put_refusal(desk, &refusal);
+    refusal_status(refusal)
+}
+
+// Does the iterations of an assignment and puts its outputs.
+fn assign<R: AllocGlobal + Threads, D: Desk>(
+    rt: &R,
+    settings: &Settings,
+    job: &Job,
+    desk: &mut D,
+) -> Status
+    requires settings { AreSettings settings.now }
+    requires job { IsJob settings.now job.now }
+    requires command { settings.now.command ≢ command.Freeflow }
+    ensures work { Works settings.now job.now result (D.taken desk.old) (D.taken desk.new) }
+    ensures failed { result ≡ status.WriteFault → Rose (D.put_faults desk.old) (D.put_faults desk.new) }
+    ensures left { D.left desk.new ≡ D.left desk.old }
+    ensures later { D.put_faults desk.old ≤ D.put_faults desk.new }
+    ensures reads { D.read_faults desk.new ≡ D.read_faults desk.old }
+{
+    match iterate(rt, settings, job, desk) {
+        Ok(assigned) => match put_assigned(desk, settings, job, &assigned) {
             Ok(()) => Status::Done,
             Err(Failed) => Status::WriteFault,
         },
+        Err(Halt::Watch) => Status::WriteFault,
+        Err(Halt::Memory) => Status::Memory,
+    }
+}
+
+// Does the work over an accepted job.
+fn work<R: AllocGlobal + Threads, D: Desk>(
+    rt: &R,
+    settings: &Settings,
+    job: &Job,
+    desk: &mut D,
+) -> Status
+    requires settings { AreSettings settings.now }
+    requires job { IsJob settings.now job.now }
+    ensures work { Works settings.now job.now result (D.taken desk.old) (D.taken desk.new) }
+    ensures failed { result ≡ status.WriteFault → Rose (D.put_faults desk.old) (D.put_faults desk.new) }
+    ensures left { D.left desk.new ≡ D.left desk.old }
+    ensures later { D.put_faults desk.old ≤ D.put_faults desk.new }
+    ensures reads { D.read_faults desk.new ≡ D.read_faults desk.old }
+{
+    match settings.command {
+        Command::Freeflow => match put_free(desk, &job.net) {
+            Ok(()) => Status::Done,
+            Err(Failed) => Status::WriteFault,
+        },
+        Command::Assign | Command::Demo(_) => assign(rt, settings, job, desk),
+    }
+}
+
+// Checks the tables, and does the work.
+fn accept_and_work<R: AllocGlobal + Threads, D: Desk>(
+    rt: &R,
+    settings: &Settings,
+    desk: &mut D,
+) -> Status
+    requires settings { AreSettings settings.now }
+    ensures means { let state = state_of D.left D.taken D.read_faults D.put_faults in
+        (words : List (List ℕ)) → settings_of words ≡ Some settings.now
+        → Means words result (state desk.old) (state desk.new) }
+    ensures reads { D.read_faults desk.old ≤ D.read_faults desk.new }
+    ensures puts { D.put_faults desk.old ≤ D.put_faults desk.new }
+{
+    match accept(rt.alloc(), desk, settings) {
+        Ok(job) => work(rt, settings, &job, desk),
         Err(Stop::Refused(refusal)) => refuse(desk, refusal),
         Err(Stop::Memory) => Status::Memory,
     }
 }
 
-/// Does what the words ask for: `freeflow` reads the node and the link table of the desk, and puts
-/// each link's free-flow steps and storage to LinkTime and the numbers of nodes and links to
-/// Report. `words` are those after the program's name.
+// Checks the words and the tables, and does the work.
+fn answer<R: AllocGlobal + Threads, D: Desk>(rt: &R, words: &Words, desk: &mut D) -> Status
+    ensures means { let state = state_of D.left D.taken D.read_faults D.put_faults in
+        Means words.now result (state desk.old) (state desk.new) }
+    ensures reads { D.read_faults desk.old ≤ D.read_faults desk.new }
+    ensures puts { D.put_faults desk.old ≤ D.put_faults desk.new }
+{
+    match settings(rt.alloc(), words) {
+        Ok(settings) => accept_and_work(rt, &settings, desk),
+        Err(WordsRefusal::Usage) => refuse(desk, Refusal::Usage),
+        Err(WordsRefusal::Memory) => Status::Memory,
+    }
+}
+
+/// Does what the words ask for. `words` are those after the program's name.
 ///
-/// The node table is read and checked before the link table is read. No memory is taken after the
-/// first byte of LinkTime.
-#[tactic(auto, using(crate::proofs::VerdictFacts::told))]
+/// `freeflow` reads the node and the link table of the desk, and puts each link's free-flow steps
+/// and storage to LinkTime and the numbers of nodes and links to Report. `assign` reads all four
+/// tables, iterates routes, loadings, link times and gaps (successive averages over a queue-based
+/// simulator, Zhou and Taylor 2014), and puts Agent, LinkTime, Gap and Report, in this order.
+/// `demo` does the same over a made grid, and puts the report alone. With a watch, each iteration
+/// puts a line to Watch once it is loaded.
+///
+/// A table is checked before the next is read. No memory is taken after the first byte of LinkTime
+/// in `freeflow`, or of Agent in `assign`.
+#[tactic(auto, using(crate::proofs::RunFacts::usage_means, crate::proofs::VerdictFacts::told))]
 pub fn run<R: AllocGlobal + Threads + Wait, D: Desk + Send, G: Gate + Sync>(
     rt: &R,
     words: &Words,
@@ -51,15 +163,25 @@ pub fn run<R: AllocGlobal + Threads + Wait, D: Desk + Send, G: Gate + Sync>(
     ensures means { let state = state_of D.left D.taken D.read_faults D.put_faults in
         Means words.now result (state desk.old) (state desk.new) }
 
-    // Where the bytes of both tables are told, the answer is that of the verdict over words and
-    // bytes.
+    // Where the bytes of the tables are told that the command reads, the answer is that of the
+    // verdict over words and bytes.
     ensures told { let state = state_of D.left D.taken D.read_faults D.put_faults in
-        (node link : List ℕ) → (D.left desk.old).node ≡ Some node
-        → (D.left desk.old).link ≡ Some link
-        → Answers (verdict words.now node link) result (state desk.old) (state desk.new) }
-    ensures usage { (result ≡ status.Usage) ↔ (is_freeflow words.now ≡ false) }
+        (texts : Table → List ℕ) → AreToldBy (settings_of words.now) (D.left desk.old) texts
+        → Answers (verdict words.now texts) result (state desk.old) (state desk.new) }
+    ensures usage { result ≡ status.Usage → settings_of words.now ≡ None }
+
+    // After every step each due vehicle with a route waits, is on one link or has arrived, and links
+    // are left in the order of entry.
+    ensures conserved { VehiclesAreConserved }
+    ensures ordered { JourneysEndInOrder }
+
+    // Settings and a job, which are made of words and tables alone, have one list of texts.
+    ensures determined { TextsAreDetermined }
     ensures reads { D.read_faults desk.old ≤ D.read_faults desk.new }
     ensures puts { D.put_faults desk.old ≤ D.put_faults desk.new }
 {
-    answer(rt.alloc(), words, desk)
+    vehicles_are_conserved();
+    journeys_end_in_order();
+    texts_are_determined();
+    answer(rt, words, desk)
 }

@@ -9,7 +9,7 @@ pub enum Status {
     Done,
     /// The words aren't in the grammar.
     Usage,
-    /// A table isn't accepted. Report names it.
+    /// A table has a fault. Report names the first one.
     Table,
     /// A table couldn't be read. Report names it.
     ReadFault,
@@ -17,7 +17,7 @@ pub enum Status {
     WriteFault,
     /// There was no memory.
     Memory,
-    /// A table is too long. Report has the limit.
+    /// A table is too long, or the loading is too large. Report has the limit.
     Size,
 }
 

@@ -1,63 +1,33 @@
-// The two tables of `freeflow`, read and checked one after the other.
-ghost use Rattle.std.specs.Prelude.{◌≡◌, ◌≤◌, All, List, [], length, Err, IfOk, IfErr, false};
+// The tables of a run, read and checked one after the other.
+ghost use Rattle.std.specs.Prelude.{◌≡◌, ◌≤◌, ◌∷◌, [], All, length, Ok, Err, IfOk, IfErr};
 ghost use Rattle.desk_io.specs.declared.desk.Table.TheVariants as table;
 ghost use Rattle.desk_io.specs.Transfers.{IsRead};
-ghost use Rattle.net_core.specs.Rows.{AreLinks, AreNodes, IsBetween};
-ghost use Rattle.net_core.specs.declared.rows.NodeRow.{NodeRow};
-ghost use Rattle.dta.specs.declared.refusal.Refusal.TheVariants as refusal;
-ghost use Rattle.dta.specs.declared.tables.Stop.TheVariants as stop;
-ghost use Rattle.dta.specs.Words.{is_freeflow as is_freeflow_of};
-ghost use Rattle.dta.specs.Tables.{default_units as default_units_of, HasNodes, HasLinks, HasNet};
+ghost use Rattle.demand.specs.Cells.{AreCells};
+ghost use Rattle.gmns_tables.specs.Net.{listed_turns, net_of};
+ghost use Rattle.gmns_tables.specs.declared.units.Units.{Units};
+ghost use Rattle.gmns_tables.specs.Units.{IsUnits};
+ghost use Rattle.net_core.specs.Network.{IsNet};
+ghost use Rattle.net_core.specs.Rows.{AreLinks, AreNodes, AreTurns, IsBetween, IsTurning};
+ghost use Rattle.row_reader.specs.FirstFault.{Tells};
+ghost use Rattle.reports.specs.declared.refusal.TheConstants.{TABLE_LIMIT};
 ghost use Rattle.dta.specs.Outcome.{state_of};
-ghost use Rattle.dta.specs.Stops.{Stops, StopsTurn, stop_of};
+ghost use Rattle.dta.specs.Stops.{StopsAmong, StopsTurn};
+ghost use Rattle.dta.specs.Tables.{AreAccepted, IsAccepted, Rows, no_rows, road_rows, rows_of, turns_of};
 
-use crate::refusal::Refusal;
-use crate::words::{Words, is_freeflow};
+use crate::stop::Stop;
+use demand::read_demand;
 use desk_io::{Desk, ReadRefusal, Table, read_table};
-use fixed_units::{LengthUnit, SpeedUnit};
-use gmns_tables::{LinkRows, NodeRows, Units, join_net, read_links, read_nodes};
-use net_core::Net;
+use dta_model::DemandCell;
+use gmns_tables::{LinkRows, NodeRows, TurnRows, Units, read_links, read_movements, read_nodes};
+use reports::{Refusal, TABLE_LIMIT};
 use row_reader::TableRefusal;
 use std::alloc::Global;
 
-/// The most bytes of a table.
-pub(crate) const TABLE_LIMIT: u64 = 268_435_456;
-
-/// The step of a run without options, in seconds.
-const DEFAULT_STEP: u32 = 6;
-
-/// The jam density of a run without options, in vehicles per kilometre and lane.
-const DEFAULT_JAM: u32 = 125;
-
-/// Why a run stops before its work.
-#[derive(Clone, Copy, Debug, PartialEq, Eq)]
-pub enum Stop {
-    /// The run is refused.
-    Refused(Refusal),
-    /// There was no memory.
-    Memory,
-}
-
-// The units of a run without options.
-fn default_units() -> Units
-    ensures { result ≡ default_units_of }
-{
-    Units {
-        delta: DEFAULT_STEP,
-        jam: DEFAULT_JAM,
-        length: LengthUnit::Metre,
-        speed: SpeedUnit::Kmh,
-    }
-}
-
-// What a refused table stops.
-fn stop_at(why: TableRefusal) -> Stop
-    ensures { result ≡ stop_of why }
-{
-    match why {
-        TableRefusal::Fault(fault) => Stop::Refused(Refusal::Table(fault)),
-        TableRefusal::Memory => Stop::Memory,
-    }
+/// The rows of a network's nodes and links.
+#[derive(Drop)]
+pub(crate) struct Roads {
+    pub(crate) nodes: NodeRows,
+    pub(crate) links: LinkRows,
 }
 
 // Reads the bytes of a table.
@@ -66,8 +36,8 @@ fn bytes_of<D: Desk>(alloc: Global, desk: &mut D, table: Table) -> Result<Vec<u8
         IsRead table bytes.items (D.left desk.old) (D.left desk.new)) }
     ensures short { IfOk result (λ bytes. length bytes.items ≤ TABLE_LIMIT) }
     ensures stops { let state = state_of D.left D.taken D.read_faults D.put_faults in
-        (nodes : List NodeRow)
-        → IfErr result (λ s. StopsTurn table nodes s (state desk.old) (state desk.new)) }
+        (units : Units) (rows : Rows)
+        → IfErr result (λ s. StopsTurn units table rows s (state desk.old) (state desk.new)) }
     ensures later { D.read_faults desk.old ≤ D.read_faults desk.new }
     ensures taken { D.taken desk.new ≡ D.taken desk.old }
     ensures puts { D.put_faults desk.new ≡ D.put_faults desk.old }
@@ -82,11 +52,12 @@ fn bytes_of<D: Desk>(alloc: Global, desk: &mut D, table: Table) -> Result<Vec<u8
 
 // Reads and checks the node table.
 fn accept_nodes<D: Desk>(alloc: Global, desk: &mut D) -> Result<NodeRows, Stop>
-    ensures nodes { IfOk result (λ nodes.
-        HasNodes nodes (D.left desk.old) (D.left desk.new)) }
+    ensures nodes { (units : Units) → IfOk result (λ nodes. IsAccepted units table.Node no_rows
+        (road_rows nodes []) (D.left desk.old) (D.left desk.new)) }
     ensures sound { IfOk result AreNodes }
     ensures stops { let state = state_of D.left D.taken D.read_faults D.put_faults in
-        IfErr result (λ s. StopsTurn table.Node [] s (state desk.old) (state desk.new)) }
+        (units : Units)
+        → IfErr result (λ s. StopsTurn units table.Node no_rows s (state desk.old) (state desk.new)) }
     ensures later { D.read_faults desk.old ≤ D.read_faults desk.new }
     ensures taken { D.taken desk.new ≡ D.taken desk.old }
     ensures puts { D.put_faults desk.new ≡ D.put_faults desk.old }
@@ -94,47 +65,156 @@ fn accept_nodes<D: Desk>(alloc: Global, desk: &mut D) -> Result<NodeRows, Stop>
     let bytes = bytes_of(alloc, desk, Table::Node)?;
     match read_nodes(alloc, &bytes) {
         Ok(nodes) => Ok(nodes),
-        Err(why) => Err(stop_at(why)),
+        Err(why) => Err(Stop::at(why)),
     }
 }
 
 // Reads and checks the link table over accepted nodes.
-fn accept_links<D: Desk>(alloc: Global, desk: &mut D, nodes: &NodeRows) -> Result<LinkRows, Stop>
-    ensures links { IfOk result (λ links.
-        HasLinks nodes.now links (D.left desk.old) (D.left desk.new)) }
+fn accept_links<D: Desk>(
+    alloc: Global,
+    desk: &mut D,
+    units: &Units,
+    nodes: &NodeRows,
+) -> Result<LinkRows, Stop>
+    requires units { IsUnits units.now }
+    ensures links { IfOk result (λ links. IsAccepted units.now table.Link (road_rows nodes.now [])
+        (road_rows nodes.now links) (D.left desk.old) (D.left desk.new)) }
     ensures sound { IfOk result AreLinks }
     ensures between { IfOk result (All (IsBetween nodes.now)) }
     ensures stops { let state = state_of D.left D.taken D.read_faults D.put_faults in
-        IfErr result (λ s. StopsTurn table.Link nodes.now s (state desk.old) (state desk.new)) }
+        IfErr result (λ s. StopsTurn units.now table.Link (road_rows nodes.now []) s (state desk.old) (state desk.new)) }
     ensures later { D.read_faults desk.old ≤ D.read_faults desk.new }
     ensures taken { D.taken desk.new ≡ D.taken desk.old }
     ensures puts { D.put_faults desk.new ≡ D.put_faults desk.old }
 {
     let bytes = bytes_of(alloc, desk, Table::Link)?;
-    match read_links(alloc, nodes, &bytes, &default_units()) {
+    match read_links(alloc, nodes, &bytes, units) {
         Ok(links) => Ok(links),
-        Err(why) => Err(stop_at(why)),
+        Err(why) => Err(Stop::at(why)),
     }
 }
 
-/// Checks the words, and then reads and checks the node table and the link table, whose rows make a
-/// network without listed turns. The first cause in this order stops the run.
-pub(crate) fn accept<D: Desk>(alloc: Global, words: &Words, desk: &mut D) -> Result<Net, Stop>
-    ensures net { IfOk result (λ net. HasNet net (D.left desk.old) (D.left desk.new)) }
+/// Reads and checks the node table, and then the link table over its nodes.
+pub(crate) fn accept_roads<D: Desk>(
+    alloc: Global,
+    desk: &mut D,
+    units: &Units,
+) -> Result<Roads, Stop>
+    requires units { IsUnits units.now }
+    ensures roads { IfOk result (λ roads. AreAccepted units.now (table.Node ∷ table.Link ∷ []) no_rows
+        (road_rows roads.nodes roads.links) (D.left desk.old) (D.left desk.new)) }
+    ensures nodes { IfOk result (λ roads. AreNodes roads.nodes) }
+    ensures links { IfOk result (λ roads. AreLinks roads.links) }
+    ensures between { IfOk result (λ roads. All (IsBetween roads.nodes) roads.links) }
     ensures stops { let state = state_of D.left D.taken D.read_faults D.put_faults in
-        IfErr result (λ s. Stops words.now s (state desk.old) (state desk.new)) }
-    ensures usage { is_freeflow_of words.now ≡ false → result ≡ Err (stop.Refused refusal.Usage) }
+        IfErr result (λ s. StopsAmong units.now (table.Node ∷ table.Link ∷ []) no_rows s (state desk.old) (state desk.new)) }
     ensures later { D.read_faults desk.old ≤ D.read_faults desk.new }
     ensures taken { D.taken desk.new ≡ D.taken desk.old }
     ensures puts { D.put_faults desk.new ≡ D.put_faults desk.old }
 {
-    if !is_freeflow(words) {
-        return Err(Stop::Refused(Refusal::Usage));
-    }
     let nodes = accept_nodes(alloc, desk)?;
-    let links = accept_links(alloc, desk, &nodes)?;
-    match join_net(alloc, nodes, links, None) {
-        Ok(net) => Ok(net),
-        Err(_) => Err(Stop::Memory),
+    let links = accept_links(alloc, desk, units, &nodes)?;
+    Ok(Roads { nodes, links })
+}
+
+// The turns of a movement table; one of zero bytes stands for none.
+fn turns_in(
+    alloc: Global,
+    roads: &Roads,
+    bytes: &[u8],
+    units: &Units,
+) -> Result<Option<TurnRows>, TableRefusal>
+    requires units { IsUnits units.now }
+    ensures turns { IfOk result (λ turns.
+        turns_of units.now (road_rows roads.now.nodes roads.now.links) bytes.now ≡ Ok (listed_turns turns)) }
+    ensures refused { IfErr result (λ why.
+        Tells (turns_of units.now (road_rows roads.now.nodes roads.now.links) bytes.now) (Err why)) }
+    ensures sound { IfOk result (λ turns. AreTurns (listed_turns turns)) }
+    ensures turning { IfOk result (λ turns. All (IsTurning roads.now.links) (listed_turns turns)) }
+{
+    if bytes.is_empty() {
+        Ok(None)
+    } else {
+        let turns = read_movements(alloc, &roads.nodes, &roads.links, bytes, units)?;
+        Ok(Some(turns))
     }
+}
+
+// Reads and checks the movement table over accepted nodes and links.
+fn accept_turns<D: Desk>(
+    alloc: Global,
+    desk: &mut D,
+    units: &Units,
+    roads: &Roads,
+) -> Result<Option<TurnRows>, Stop>
+    requires units { IsUnits units.now }
+    ensures turns { IfOk result (λ turns. IsAccepted units.now table.Movement (road_rows roads.now.nodes roads.now.links)
+        (rows_of roads.now.nodes roads.now.links (listed_turns turns) []) (D.left desk.old) (D.left desk.new)) }
+    ensures sound { IfOk result (λ turns. AreTurns (listed_turns turns)) }
+    ensures turning { IfOk result (λ turns. All (IsTurning roads.now.links) (listed_turns turns)) }
+    ensures stops { let state = state_of D.left D.taken D.read_faults D.put_faults in
+        IfErr result (λ s. StopsTurn units.now table.Movement (road_rows roads.now.nodes roads.now.links) s (state desk.old) (state desk.new)) }
+    ensures later { D.read_faults desk.old ≤ D.read_faults desk.new }
+    ensures taken { D.taken desk.new ≡ D.taken desk.old }
+    ensures puts { D.put_faults desk.new ≡ D.put_faults desk.old }
+{
+    let bytes = bytes_of(alloc, desk, Table::Movement)?;
+    match turns_in(alloc, roads, &bytes, units) {
+        Ok(turns) => Ok(turns),
+        Err(why) => Err(Stop::at(why)),
+    }
+}
+
+// Reads and checks the demand table.
+fn accept_cells<D: Desk>(alloc: Global, desk: &mut D) -> Result<Vec<DemandCell>, Stop>
+    ensures cells { (units : Units) (rows : Rows) → IfOk result (λ cells. IsAccepted units table.Demand rows
+        (record rows { cells = cells.items }) (D.left desk.old) (D.left desk.new)) }
+    ensures sound { IfOk result (λ cells. AreCells cells.items) }
+    ensures stops { let state = state_of D.left D.taken D.read_faults D.put_faults in
+        (units : Units) (rows : Rows)
+        → IfErr result (λ s. StopsTurn units table.Demand rows s (state desk.old) (state desk.new)) }
+    ensures later { D.read_faults desk.old ≤ D.read_faults desk.new }
+    ensures taken { D.taken desk.new ≡ D.taken desk.old }
+    ensures puts { D.put_faults desk.new ≡ D.put_faults desk.old }
+{
+    let bytes = bytes_of(alloc, desk, Table::Demand)?;
+    match read_demand(alloc, &bytes) {
+        Ok(cells) => Ok(cells),
+        Err(why) => Err(Stop::at(why)),
+    }
+}
+
+/// The rows of all four tables.
+#[derive(Drop)]
+pub(crate) struct Tables {
+    pub(crate) roads: Roads,
+    pub(crate) turns: Option<TurnRows>,
+    pub(crate) cells: Vec<DemandCell>,
+}
+
+/// Reads and checks all four tables, one after the other.
+pub(crate) fn accept_all<D: Desk>(
+    alloc: Global,
+    desk: &mut D,
+    units: &Units,
+) -> Result<Tables, Stop>
+    requires units { IsUnits units.now }
+    ensures tables { IfOk result (λ t. AreAccepted units.now (table.Node ∷ table.Link ∷ table.Movement ∷ table.Demand ∷ []) no_rows
+        (rows_of t.roads.nodes t.roads.links (listed_turns t.turns) t.cells.items) (D.left desk.old) (D.left desk.new)) }
+    ensures net { IfOk result (λ t. IsNet (net_of t.roads.nodes t.roads.links t.turns)) }
+    ensures cells { IfOk result (λ t. AreCells t.cells.items) }
+    ensures stops { let state = state_of D.left D.taken D.read_faults D.put_faults in
+        IfErr result (λ s. StopsAmong units.now (table.Node ∷ table.Link ∷ table.Movement ∷ table.Demand ∷ []) no_rows s (state desk.old) (state desk.new)) }
+    ensures later { D.read_faults desk.old ≤ D.read_faults desk.new }
+    ensures taken { D.taken desk.new ≡ D.taken desk.old }
+    ensures puts { D.put_faults desk.new ≡ D.put_faults desk.old }
+{
+    let roads = accept_roads(alloc, desk, units)?;
+    let turns = accept_turns(alloc, desk, units, &roads)?;
+    let cells = accept_cells(alloc, desk)?;
+    Ok(Tables {
+        roads,
+        turns,
+        cells,
+    })
 }

@@ -3,5 +3,5 @@ use Rattle.dta.proofs.tables.accept_links.Goals as goal
 
 pub returns-clause-stops : goal.returns-clause-stops
 returns-clause-stops g c =
-    rw (c.stop_at.ensures) (links-stop c.args.nodes.now c.default_units.result c.in_ok-bytes.bytes.items c.deref.result.now _ _ c.in-Err.why
-    c.in_ok-bytes.ensures.whole c.in_ok-bytes.ensures.short c.deref.ensures.value c.default_units.ensures c.in-Err.ensures.rows)
+    rw (c.at.ensures) (links-stop c.args.units.now _ c.in_ok-bytes.bytes.items c.deref.result.now _ _ c.in-Err.why
+    c.in_ok-bytes.ensures.whole c.in_ok-bytes.ensures.short c.deref.ensures.value c.in-Err.ensures.rows)

@@ -1,0 +1,329 @@
+-- The iterations of an assignment, one after another.
+use Rattle.dta_model.specs.declared.queue.Queue.TheVariants as queue
+use Rattle.reports.proofs.TextsFacts.{walks-on-net}
+use Rattle.std.specs.Prelude.{All, slice_get}
+use Rattle.std.proofs.Common.{◌≡◌, ℕ, ◌+◌, ◌<◌, ◌≤◌, List, [], ◌∷◌, ◌++◌, length, refl, ap, sym, subst, ◌∙◌, arith, length-append, ◌⊎◌, inl, inr, Some}
+use Rattle.std.proofs.lemmas.Bool.{cases_lt}
+use Rattle.std.proofs.lemmas.List.{get_or_append_left, length-map}
+use Rattle.std.proofs.lemmas.List.FromFn.{length-map-range_with_len}
+use Rattle.std.proofs.lemmas.Option.{get_or_from_slice_get, slice_get-get_or, slice_get_within}
+use Rattle.std.proofs.Math.Seq.{get_or-append_seam}
+use Rattle.desk_io.specs.Desk.{Taken}
+use Rattle.net_core.specs.declared.rows.NetRows.{NetRows}
+use Rattle.dta_model.specs.LinkTimes.{TimeTable, free_steps, table_in, table_of, time_at}
+use Rattle.dta_model.specs.Loading.{journey_of, journeys_of}
+use Rattle.dta_model.specs.Sound.{IsSound}
+use Rattle.dta_model.specs.declared.loaded.Journey.{Journey}
+use Rattle.dta_model.specs.declared.loading.TheConstants.{MOST_HORIZON}
+use Rattle.dta_model.specs.declared.plan.Plan.{Plan}
+use Rattle.dta_model.specs.declared.trip.Trip.{Trip}
+use Rattle.reports.specs.Texts.{AreOnNet}
+use Rattle.link_times.proofs.Links.{steps_most}
+use Rattle.gap.specs.Gap.{AreWalks, IsGapLine, IsShort}
+use Rattle.gap.specs.declared.line.GapLine.{GapLine}
+use Rattle.route_flows.specs.Averages.{AreFirstRoutes, AreNextRoutes}
+use Rattle.dta_words.specs.Ranges.{AreSettings}
+use Rattle.dta_words.specs.declared.command.Settings.{Settings}
+use Rattle.dta.specs.Assignment.{AreIterations, VehicleRoutes, times_of}
+use Rattle.dta.specs.Jobs.{AreRoutesOf, IsJob, JobRows, plan_of}
+use Rattle.dta.specs.Outputs.{grown_by, watch_every, watch_from, watch_texts}
+use Rattle.dta.specs.Progress.{Halts, HaltsIn, IsAssigned, IsAt, IsLast}
+use Rattle.dta.specs.declared.iterate.Halt.{Halt}
+use Rattle.dta.specs.declared.iterate.Halt.TheVariants as halt
+use Rattle.dta.proofs.OutputFacts.{cut-more, grown-more, no-lines}
+
+-- a job, settings and routes make a sound loading
+pub sound-plan : (s : Settings) (job : JobRows) (routes : VehicleRoutes) → AreSettings s → IsJob s job → AreRoutesOf job routes → IsSound (plan_of s job routes)
+sound-plan s job routes settings good are = record {
+  net = good.net;
+  delta_least = settings.step.0;
+  delta_most = settings.step.1;
+  horizon_least = settings.horizon.0;
+  horizon_most = (let h = settings.horizon.1 in omega (arith, h));
+  trips = good.trips.in_order;
+  rising = good.trips.rising;
+  early = good.trips.early;
+  each = are.each;
+  walks = are.walks;
+}
+
+-- the free-flow steps of a loading's table are those of its network
+pub table-free : (p : Plan) (bucket : ℕ) → (table_of p bucket).free ≡ free_steps p.net
+unfolding table_in
+table-free p bucket = refl
+
+-- the table of a sound loading is short
+pub short-table : (p : Plan) (bucket : ℕ) (t : TimeTable) → IsSound p → t ≡ table_of p bucket → All (λ x. x ≤ MOST_HORIZON) t.times → IsShort t
+short-table p bucket t sound e times = record {
+  times = times;
+  free = rw (ap (λ (x : TimeTable). x.free) e ∙ table-free p bucket) (steps_most p.net sound.net);
+}
+
+-- an element of a list stands there too once more is added
+get-kept : {A : Type 0} → (xs ys : List A) (i : ℕ) (x : A) → slice_get xs i ≡ Some x → slice_get (xs ++ ys) i ≡ Some x
+get-kept xs ys i x e =
+    let h = slice_get_within xs i x e in
+    slice_get-get_or (xs ++ ys) i x (omega (arith, h, length-append xs ys))
+    ∙ ap Some (get_or_append_left xs ys x i h ∙ get_or_from_slice_get xs i x x e)
+
+-- and one that stands early in the longer list stood there before
+get-back : {A : Type 0} → (xs ys : List A) (i : ℕ) (x : A) → slice_get (xs ++ ys) i ≡ Some x → i < length xs → slice_get xs i ≡ Some x
+get-back xs ys i x e h =
+    slice_get-get_or xs i x h
+    ∙ ap Some (sym (get_or_append_left xs ys x i h) ∙ get_or_from_slice_get (xs ++ ys) i x x e)
+
+-- after a list stands what was added to it
+get-last : {A : Type 0} → (xs : List A) (y : A) (i : ℕ) (x : A) → slice_get (xs ++ y ∷ []) i ≡ Some x → i ≡ length xs → y ≡ x
+get-last xs y i x e h =
+    sym (get_or-append_seam xs y [] x)
+    ∙ get_or_from_slice_get (xs ++ y ∷ []) (length xs) x x (rw (← h) e)
+
+-- how far a place is in a list with one more
+last-or-before : {A : Type 0} → (xs : List A) (y : A) (i : ℕ) (x : A) → slice_get (xs ++ y ∷ []) i ≡ Some x → (i < length xs) ⊎ (i ≡ length xs)
+last-or-before xs y i x e = by (cases_lt i (length xs))
+  where
+    by : (i < length xs) ⊎ (length xs ≤ i) → (i < length xs) ⊎ (i ≡ length xs)
+    by (inl h) = inl h
+    by (inr h) =
+        let w = slice_get_within (xs ++ y ∷ []) i x e in
+        inr (omega (arith, w, h, length-append xs (y ∷ [])))
+
+-- what stands for a trip that isn't there
+abbrev pub no_trip : Trip
+no_trip = record { number = 0; origin = 0; destination = 0; departure = 0 }
+
+-- a table of a job's loading has its links
+pub table-links : (s : Settings) (job : JobRows) (routes : VehicleRoutes) (t : TimeTable) (net : NetRows) → t ≡ times_of s job routes → net ≡ job.net → length t.free ≡ length net.links
+table-links s job routes t net e same =
+    ap (λ (x : TimeTable). length x.free) e
+    ∙ ap length (table-free (plan_of s job routes) s.bucket)
+    ∙ length-map job.net.links (λ link. link.free)
+    ∙ ap (λ (x : NetRows). length x.links) (sym same)
+
+-- each route is one over the network
+pub on-net : (job : JobRows) (routes : VehicleRoutes) → AreRoutesOf job routes → AreOnNet job.net routes
+on-net job routes are =
+    walks-on-net (record { net = job.net; queue = queue.Point; delta = 1; horizon = 1; trips = job.trips; routes = routes }) are.walks are.each
+
+-- a job by its network and its trips
+abbrev pub job_with : NetRows → List Trip → JobRows
+job_with net trips = record { net = net; trips = trips }
+
+-- routes that are walks are those of a job
+pub routes-of : (job : JobRows) (net : NetRows) (trips : List Trip) (routes : VehicleRoutes) → job_with net trips ≡ job
+    → length routes ≡ length trips → AreWalks net trips routes → AreRoutesOf job routes
+routes-of job net trips routes e each walks =
+    subst (λ (j : JobRows). AreRoutesOf j routes) e (record { each = each; walks = walks })
+
+-- and the other way round
+pub walks-of : (job : JobRows) (net : NetRows) (trips : List Trip) (routes : VehicleRoutes) → job_with net trips ≡ job
+    → AreRoutesOf job routes → AreWalks net trips routes
+walks-of job net trips routes e are =
+    subst (λ (j : JobRows). AreWalks j.net j.trips routes) (sym e) are.walks
+
+-- as many journeys as trips
+pub many-journeys : (s : Settings) (job : JobRows) (net : NetRows) (trips : List Trip) (routes : VehicleRoutes) (loaded : List Journey) → job_with net trips ≡ job
+    → loaded ≡ journeys_of (plan_of s job routes) → length loaded ≡ length trips
+unfolding journeys_of
+many-journeys s job net trips routes loaded e is =
+    ap length is ∙ length-map-range_with_len (journey_of (plan_of s job routes)) 0 (length job.trips)
+    ∙ ap (λ (j : JobRows). length j.trips) (sym e)
+
+-- the routes of a job are over its network
+pub net-routes : (job : JobRows) (net : NetRows) (trips : List Trip) (routes : VehicleRoutes) → job_with net trips ≡ job → AreRoutesOf job routes → AreOnNet net routes
+net-routes job net trips routes e are =
+    subst (λ (j : JobRows). AreOnNet j.net routes) (sym e) (on-net job routes are)
+
+-- a table of a job's loading has the free-flow steps of its links
+pub free-of : (s : Settings) (job : JobRows) (net : NetRows) (trips : List Trip) (routes : VehicleRoutes) (times : TimeTable) → job_with net trips ≡ job
+    → times ≡ times_of s job routes → times.free ≡ free_steps net
+free-of s job net trips routes times e is =
+    ap (λ (x : TimeTable). x.free) is ∙ table-free (plan_of s job routes) s.bucket
+    ∙ ap (λ (j : JobRows). free_steps j.net) (sym e)
+
+-- the iterations of a job
+module _ (s : Settings) (job : JobRows) where
+  -- the first routes alone
+  only-first : (r : VehicleRoutes) → AreFirstRoutes job.net job.trips r → AreIterations s job (r ∷ []) []
+  only-first r are = record {
+    first = λ z e. subst (AreFirstRoutes job.net job.trips) (get-last [] r 0 z e refl) are;
+    next = λ i old new e f. let h = slice_get_within (r ∷ []) (i + 1) new f in absurd (omega (arith, h));
+    gaps = λ i z line e f. let h = slice_get_within {A = GapLine} [] i line f in absurd (omega (arith, h));
+  }
+
+  pub begun : (r : VehicleRoutes) (lines : List GapLine) (start : Taken) → lines ≡ [] → AreFirstRoutes job.net job.trips r → IsAt s job 1 r lines start start
+  begun r lines start none are = rw none record {
+    done = [];
+    as_many = refl;
+    with_gaps = refl;
+    iterations = only-first r are;
+    watched = rw (no-lines s.watch) refl;
+  }
+
+  -- the iterations before one of them
+  but-last : (done : List VehicleRoutes) (r : VehicleRoutes) (lines : List GapLine) → AreIterations s job (done ++ r ∷ []) lines → AreIterations s job done lines
+  but-last done r lines it = record {
+    first = λ z e. it.first z (get-kept done (r ∷ []) 0 z e);
+    next = λ i old new e f. it.next i old new (get-kept done (r ∷ []) i old e) (get-kept done (r ∷ []) (i + 1) new f);
+    gaps = λ i z line e f. it.gaps i z line (get-kept done (r ∷ []) i z e) f;
+  }
+
+  -- the gap of the last iteration
+  with-gap : (done : List VehicleRoutes) (r : VehicleRoutes) (lines : List GapLine) (line : GapLine) → length lines ≡ length done
+      → IsGapLine (time_at (times_of s job r)) job.net job.trips r line
+      → AreIterations s job (done ++ r ∷ []) lines → AreIterations s job (done ++ r ∷ []) (lines ++ line ∷ [])
+  with-gap done r lines line many gap it = record {
+    first = it.first;
+    next = it.next;
+    gaps = λ i z l e f. by i z l e f (last-or-before lines line i l f);
+  }
+    where
+      by : (i : ℕ) (z : VehicleRoutes) (l : GapLine) → slice_get (done ++ r ∷ []) i ≡ Some z → slice_get (lines ++ line ∷ []) i ≡ Some l
+          → (i < length lines) ⊎ (i ≡ length lines) → IsGapLine (time_at (times_of s job z)) job.net job.trips z l
+      by i z l e f (inl h) = it.gaps i z l e (get-back lines (line ∷ []) i l f h)
+      by i z l e f (inr h) =
+          subst (λ (z : VehicleRoutes). IsGapLine (time_at (times_of s job z)) job.net job.trips z l) (get-last done r i z e (h ∙ many))
+          (subst (IsGapLine (time_at (times_of s job r)) job.net job.trips r) (get-last lines line i l f h) gap)
+
+  -- the routes of one more iteration
+  with-next : (done : List VehicleRoutes) (r next : VehicleRoutes) (lines : List GapLine) → length lines ≡ length done + 1
+      → AreNextRoutes (time_at (times_of s job r)) job.net job.trips (length done + 1) r next
+      → AreIterations s job (done ++ r ∷ []) lines → AreIterations s job ((done ++ r ∷ []) ++ next ∷ []) lines
+  with-next done r next lines many are it = record {
+    first = λ z e. it.first z (get-back all (next ∷ []) 0 z e (omega (arith, long)));
+    next = λ i old new e f. by i old new e f (last-or-before all next (i + 1) new f);
+    gaps = λ i z l e f.
+        let h = slice_get_within lines i l f in
+        it.gaps i z l (get-back all (next ∷ []) i z e (omega (arith, h, long, many))) f;
+  }
+    where
+      all : List VehicleRoutes
+      all = done ++ r ∷ []
+
+      long : length (done ++ r ∷ []) ≡ length done + 1
+      long = omega (arith, length-append done (r ∷ []))
+
+      by : (i : ℕ) (old new : VehicleRoutes) → slice_get ((done ++ r ∷ []) ++ next ∷ []) i ≡ Some old → slice_get ((done ++ r ∷ []) ++ next ∷ []) (i + 1) ≡ Some new
+          → (i + 1 < length (done ++ r ∷ [])) ⊎ (i + 1 ≡ length (done ++ r ∷ [])) → AreNextRoutes (time_at (times_of s job old)) job.net job.trips (i + 1) old new
+      by i old new e f (inl h) =
+          it.next i old new (get-back (done ++ r ∷ []) (next ∷ []) i old e (omega (arith, h))) (get-back (done ++ r ∷ []) (next ∷ []) (i + 1) new f h)
+      by i old new e f (inr h) =
+          let at : i ≡ length done = omega (arith, h, long) in
+          let was = get-last done r i old (get-back (done ++ r ∷ []) (next ∷ []) i old e (omega (arith, h))) at in
+          let is = get-last (done ++ r ∷ []) next (i + 1) new f h in
+          subst (λ (n : ℕ). AreNextRoutes (time_at (times_of s job old)) job.net job.trips (n + 1) old new) (sym at)
+          (subst (λ (old : VehicleRoutes). AreNextRoutes (time_at (times_of s job old)) job.net job.trips (length done + 1) old new) was
+          (subst (AreNextRoutes (time_at (times_of s job r)) job.net job.trips (length done + 1) r) is are))
+
+  -- an iteration that isn't the last is done
+  pub ahead : (number : ℕ) (r next : VehicleRoutes) (lines more : List GapLine) (line : GapLine) (start before now : Taken)
+      → IsAt s job number r lines start before
+      → now ≡ grown_by (watch_every s.watch (watch_from s job number (r ∷ []))) before
+      → more ≡ lines ++ line ∷ []
+      → IsGapLine (time_at (times_of s job r)) job.net job.trips r line
+      → AreNextRoutes (time_at (times_of s job r)) job.net job.trips number r next
+      → IsAt s job (number + 1) next more start now
+  ahead number r next lines more line start before now at put pushed gap are =
+      let many = at.as_many in
+      let gaps = at.with_gaps in
+      let long = length-append at.done (r ∷ []) in
+      rw pushed record {
+        done = at.done ++ r ∷ [];
+        as_many = omega (arith, many, long);
+        with_gaps = omega (arith, gaps, long, length-append lines (line ∷ []));
+        iterations = with-next at.done r next (lines ++ line ∷ []) (omega (arith, gaps, length-append lines (line ∷ [])))
+            (subst (λ (n : ℕ). AreNextRoutes (time_at (times_of s job r)) job.net job.trips n r next) (sym many) are)
+            (with-gap at.done r lines line gaps gap at.iterations);
+        watched = grown-more s job at.done number r start before now many at.watched put;
+      }
+
+  -- memory was wanting before the watch line of an iteration, or the line was cut off
+  pub halts-in : (why : Halt) (number : ℕ) (r : VehicleRoutes) (lines : List GapLine) (start before now : Taken)
+      → IsAt s job number r lines start before → number ≤ s.iterations
+      → HaltsIn why (watch_every s.watch (watch_from s job number (r ∷ []))) before now
+      → Halts s job why start now
+  halts-in halt.Memory number r lines start before now at few same =
+      let many = at.as_many in (
+        watch_texts s job at.done,
+        record {
+          routes = at.done;
+          lines = lines;
+          iterations = but-last at.done r lines at.iterations;
+          few = omega (arith, many, few);
+          texts_are = refl;
+        },
+        same ∙ at.watched,
+      )
+  halts-in halt.Watch number r lines start before now at few cut =
+      let many = at.as_many in
+      let long = length-append at.done (r ∷ []) in (
+        watch_texts s job (at.done ++ r ∷ []),
+        record {
+          routes = at.done ++ r ∷ [];
+          lines = lines;
+          iterations = at.iterations;
+          few = omega (arith, many, few, long);
+          texts_are = refl;
+        },
+        cut-more s job at.done number r start before now many at.watched cut,
+      )
+
+  -- memory was wanting after the watch line
+  pub halts-after : (why : Halt) (number : ℕ) (r : VehicleRoutes) (lines : List GapLine) (start before now : Taken)
+      → IsAt s job number r lines start before → number ≤ s.iterations
+      → now ≡ grown_by (watch_every s.watch (watch_from s job number (r ∷ []))) before
+      → why ≡ halt.Memory
+      → Halts s job why start now
+  halts-after why number r lines start before now at few put memory =
+      let many = at.as_many in
+      let long = length-append at.done (r ∷ []) in
+      rw memory (
+        watch_texts s job (at.done ++ r ∷ []),
+        record {
+          routes = at.done ++ r ∷ [];
+          lines = lines;
+          iterations = at.iterations;
+          few = omega (arith, many, few, long);
+          texts_are = refl;
+        },
+        grown-more s job at.done number r start before now many at.watched put,
+      )
+
+  -- the last iteration is done
+  pub assigned : (r : VehicleRoutes) (loaded : List Journey) (times : TimeTable) (lines more : List GapLine) (line : GapLine) (start before now : Taken)
+      → IsAt s job s.iterations r lines start before
+      → now ≡ grown_by (watch_every s.watch (watch_from s job s.iterations (r ∷ []))) before
+      → more ≡ lines ++ line ∷ []
+      → IsGapLine (time_at (times_of s job r)) job.net job.trips r line
+      → IsLast s job r loaded times
+      → IsAssigned s job r loaded times more line start now
+  assigned r loaded times lines more line start before now at put pushed gap last = record {
+    done = at.done;
+    as_many = at.as_many;
+    before = lines;
+    with_gaps = at.with_gaps;
+    lines_are = pushed;
+    iterations = rw pushed (with-gap at.done r lines line at.with_gaps gap at.iterations);
+    watched = grown-more s job at.done s.iterations r start before now at.as_many at.watched put;
+    last = last;
+  }
+
+  -- memory was wanting for the first routes
+  pub halts-first : (start : Taken) → Halts s job halt.Memory start start
+  halts-first start = (
+    watch_texts s job [],
+    record {
+      routes = [];
+      lines = [];
+      iterations = record {
+        first = λ r e. let h = slice_get_within {A = VehicleRoutes} [] 0 r e in absurd (omega (arith, h));
+        next = λ i old new e f. let h = slice_get_within {A = VehicleRoutes} [] i old e in absurd (omega (arith, h));
+        gaps = λ i r line e f. let h = slice_get_within {A = VehicleRoutes} [] i r e in absurd (omega (arith, h));
+      };
+      few = omega arith;
+      texts_are = refl;
+    },
+    rw (no-lines s.watch) refl,
+  )
+
+pub ruleset routings = (table-links, on-net)

@@ -1,0 +1,210 @@
+-- Jobs of accepted tables, and what stops a run before its work.
+use Rattle.std.proofs.Common.{◌≡◌, ◌≢◌, ℕ, List, [], ◌∷◌, refl, sym, ap, subst, arith, inl, inr}
+use Rattle.std.specs.Prelude.{⊤, Result, Ok, Err, OnOk, IfOk, IfErr, filter, nat_eq}
+use Rattle.std.specs.List.{flat_map}
+use Rattle.std.proofs.lemmas.Result.{IfErr-weaker}
+use Rattle.desk_io.specs.declared.desk.Table.{Table}
+use Rattle.desk_io.specs.declared.desk.Table.TheVariants as table
+use Rattle.desk_io.specs.Desk.{Left}
+use Rattle.desk_io.specs.Faults.{Rose}
+use Rattle.desk_io.specs.MemDesk.{all_left}
+use Rattle.desk_io.specs.Transfers.{IsBegun, IsLong}
+use Rattle.net_core.specs.Network.{numbers_below}
+use Rattle.net_core.specs.declared.rows.LinkRow.{LinkRow}
+use Rattle.net_core.specs.declared.rows.NodeRow.{NodeRow}
+use Rattle.dta_model.specs.Release.{in_order_of_departure, released, Released, trips_of}
+use Rattle.vehicle_release.specs.Limits.{IsWithin}
+use Rattle.gmns_tables.specs.declared.units.Units.{Units}
+use Rattle.grid_maker.specs.Grid.{node_text, link_text, demand_text}
+use Rattle.reports.specs.declared.refusal.Refusal.{Refusal}
+use Rattle.reports.specs.declared.refusal.Refusal.TheVariants as refusal
+use Rattle.reports.specs.declared.refusal.TheConstants.{TABLE_LIMIT}
+use Rattle.dta_words.specs.declared.command.Command.{Command}
+use Rattle.dta_words.specs.declared.command.Command.TheVariants as command
+use Rattle.dta_words.specs.declared.command.Settings.{Settings}
+use Rattle.dta.specs.Jobs.{AreWithin, HasRoom, IsJobOf, JobRows, LeavesOf, Reading, job_of, source, tables_of}
+use Rattle.dta.specs.Outcome.{AreCounted, DeskState, IsCauseIn, IsCutIn, ReadsFailed}
+use Rattle.dta.specs.Stops.{HasFault, Stops, StopsAmong, StopsIn, StopsJob, StopsTurn}
+use Rattle.dta.specs.Tables.{AreAccepted, InTurn, IsFaulty, Rows, no_rows, road_rows}
+use Rattle.dta.specs.declared.stop.Stop.{Stop}
+use Rattle.dta.specs.declared.stop.Stop.TheVariants.{Refused, Memory}
+
+-- ---- the trips of no rows
+
+none-in-any-step : (xs : List ℕ) → flat_map (λ (step : ℕ). filter (λ (r : Released). nat_eq r.departs step) []) xs ≡ []
+none-in-any-step [] = refl
+none-in-any-step (x ∷ xs) = none-in-any-step xs
+
+pub trips_of-none : (period : ℕ) → trips_of [] period ≡ []
+unfolding trips_of released in_order_of_departure
+trips_of-none period = rw (none-in-any-step (numbers_below period)) refl
+
+-- ---- turns
+
+module _ (units : Units) where
+  turn-map : (t : Table) (Turn Other : Rows → Left → Left → Type 0) (tables : List Table) (rows : Rows) (left rest : Left)
+      → ((r : Rows) (a b : Left) → Turn r a b → Other r a b) → InTurn units tables t Turn rows left rest → InTurn units tables t Other rows left rest
+  turn-map t Turn Other [] rows left rest f h = absurd h
+  turn-map t Turn Other (u ∷ tables) rows left rest f (inl h) = inl (h.0, f rows left rest h.1)
+  turn-map t Turn Other (u ∷ tables) rows left rest f (inr h) = inr (h.0, h.1, h.2, turn-map t Turn Other tables h.0 h.1 rest f h.3)
+
+  -- what is so of the turn whatever the rows are
+  turn-holds : (t : Table) (Turn : Rows → Left → Left → Type 0) (P : Type 0) (tables : List Table) (rows : Rows) (left rest : Left)
+      → ((r : Rows) (a b : Left) → Turn r a b → P) → InTurn units tables t Turn rows left rest → P
+  turn-holds t Turn P [] rows left rest f h = absurd h
+  turn-holds t Turn P (u ∷ tables) rows left rest f (inl h) = f rows left rest h.1
+  turn-holds t Turn P (u ∷ tables) rows left rest f (inr h) = turn-holds t Turn P tables h.0 h.1 rest f h.3
+
+-- the turn in which reading stopped, as the cause of the stop
+module _ (s : Settings) (before after : DeskState) where
+  abbrev Turn : Table → Stop → Rows → Left → Left → Type 0
+  Turn t stop rows left rest = StopsTurn s.units t rows stop (record before { left = left }) (record after { left = rest })
+
+  pub among-in : (stop : Stop) → StopsAmong s.units (tables_of s.command) no_rows stop before after → StopsIn s stop before after
+  among-in Memory h = inr (inl h)
+  among-in (Refused refusal.Usage) h =
+      absurd (turn-holds s.units h.0 (Turn h.0 (Refused refusal.Usage)) ⊥ (tables_of s.command) no_rows before.left after.left (λ r a b k. k) h.1)
+  among-in (Refused (refusal.Table fault)) h =
+      let same : fault.table ≡ h.0 = turn-holds s.units h.0 (Turn h.0 (Refused (refusal.Table fault))) (fault.table ≡ h.0) (tables_of s.command) no_rows before.left after.left (λ r a b k. k.0) h.1 in
+      let faulty = turn-map s.units h.0 (Turn h.0 (Refused (refusal.Table fault))) (IsFaulty s.units fault h.0) (tables_of s.command) no_rows before.left after.left (λ r a b k. k.1) h.1 in
+      (subst (λ (t : Table). InTurn s.units (tables_of s.command) t (IsFaulty s.units fault t) no_rows before.left after.left) (sym same) faulty, tt)
+  among-in (Refused (refusal.Read u)) h =
+      let same : u ≡ h.0 = turn-holds s.units h.0 (Turn h.0 (Refused (refusal.Read u))) (u ≡ h.0) (tables_of s.command) no_rows before.left after.left (λ r a b k. k.0) h.1 in
+      let failed : ReadsFailed before after = turn-holds s.units h.0 (Turn h.0 (Refused (refusal.Read u))) (ReadsFailed before after) (tables_of s.command) no_rows before.left after.left (λ r a b k. k.2) h.1 in
+      let begun = turn-map s.units h.0 (Turn h.0 (Refused (refusal.Read u))) (λ _. IsBegun h.0) (tables_of s.command) no_rows before.left after.left (λ r a b k. k.1) h.1 in
+      (subst (λ (t : Table). InTurn s.units (tables_of s.command) t (λ _. IsBegun t) no_rows before.left after.left) (sym same) begun, failed)
+  among-in (Refused (refusal.LongTable u)) h =
+      let same : u ≡ h.0 = turn-holds s.units h.0 (Turn h.0 (Refused (refusal.LongTable u))) (u ≡ h.0) (tables_of s.command) no_rows before.left after.left (λ r a b k. k.0) h.1 in
+      let long = turn-map s.units h.0 (Turn h.0 (Refused (refusal.LongTable u))) (λ _. IsLong h.0 TABLE_LIMIT) (tables_of s.command) no_rows before.left after.left (λ r a b k. k.1) h.1 in
+      (subst (λ (t : Table). InTurn s.units (tables_of s.command) t (λ _. IsLong t TABLE_LIMIT) no_rows before.left after.left) (sym same) long, tt)
+  among-in (Refused (refusal.Cells links steps)) h =
+      absurd (turn-holds s.units h.0 (Turn h.0 (Refused (refusal.Cells links steps))) ⊥ (tables_of s.command) no_rows before.left after.left (λ r a b k. k) h.1)
+  among-in (Refused (refusal.Vehicles line total)) h =
+      absurd (turn-holds s.units h.0 (Turn h.0 (Refused (refusal.Vehicles line total))) ⊥ (tables_of s.command) no_rows before.left after.left (λ r a b k. k) h.1)
+
+  -- the sizes of accepted tables, as the cause of the stop
+  pub job-in : (rows : Rows) (stop : Stop) → s.command ≢ command.Freeflow → AreAccepted s.units (tables_of s.command) no_rows rows before.left after.left
+      → StopsJob s rows stop → StopsIn s stop before after
+  job-in rows Memory loads read h = inr (inr (record { rows = rows; read = read; part = tt }))
+  job-in rows (Refused refusal.Usage) loads read h = absurd h
+  job-in rows (Refused (refusal.Table fault)) loads read h = absurd h
+  job-in rows (Refused (refusal.Read u)) loads read h = absurd h
+  job-in rows (Refused (refusal.LongTable u)) loads read h = absurd h
+  job-in rows (Refused (refusal.Cells links steps)) loads read h = ((loads, record { rows = rows; read = read; part = h }), tt)
+  job-in rows (Refused (refusal.Vehicles line total)) loads read h = ((loads, record { rows = rows; read = read; part = h }), tt)
+
+-- the same at a desk that is the source itself
+pub own-stops : (s : Settings) (stop : Stop) (before after : DeskState) → source s.command before.left ≡ before.left
+    → LeavesOf s.command after.left before.left after.left → StopsIn s stop before after → Stops s stop before after
+own-stops s Memory before after from leaves h = record { rest = after.left; leaves = leaves; part = subst (λ l. IsCutIn s l after.left) (sym from) h }
+own-stops s (Refused r) before after from leaves h =
+    (record { rest = after.left; leaves = leaves; part = subst (λ l. IsCauseIn s r l after.left) (sym from) h.0 }, h.1)
+
+module _ {T : Type 0} (s : Settings) (r : Result T Stop) (before after : DeskState) where
+  pub free-stop : s.command ≡ command.Freeflow → IfErr r (λ stop. StopsIn s stop before after) → IfErr r (λ stop. Stops s stop before after)
+  free-stop asks h = IfErr-weaker r (λ stop. StopsIn s stop before after) (λ stop. Stops s stop before after)
+      (λ stop k. own-stops s stop before after (ap (λ (c : Command). source c before.left) asks)
+      (subst (λ (c : Command). LeavesOf c after.left before.left after.left) (sym asks) refl) k) h
+
+  pub assign-stop : s.command ≡ command.Assign → IfErr r (λ stop. StopsIn s stop before after) → IfErr r (λ stop. Stops s stop before after)
+  assign-stop asks h = IfErr-weaker r (λ stop. StopsIn s stop before after) (λ stop. Stops s stop before after)
+      (λ stop k. own-stops s stop before after (ap (λ (c : Command). source c before.left) asks)
+      (subst (λ (c : Command). LeavesOf c after.left before.left after.left) (sym asks) refl) k) h
+
+never-rose : Rose 0 0 → ⊥
+never-rose r = omega (arith, r)
+
+no-fault : (r : Refusal) (made later before after : DeskState) → made.read_faults ≡ 0 → later.read_faults ≡ 0 → HasFault r made later → HasFault r before after
+no-fault refusal.Usage made later before after m l h = tt
+no-fault (refusal.Table fault) made later before after m l h = tt
+no-fault (refusal.Read u) made later before after m l h = absurd (never-rose (subst (λ x. Rose x 0) m (subst (λ x. Rose made.read_faults x) l h)))
+no-fault (refusal.LongTable u) made later before after m l h = tt
+no-fault (refusal.Cells links steps) made later before after m l h = tt
+no-fault (refusal.Vehicles line total) made later before after m l h = tt
+
+-- and at a desk that was made for the source
+module _ (s : Settings) (n : ℕ) (asks : s.command ≡ command.Demo n) where
+  abbrev grid_left : Left
+  grid_left = all_left (node_text n) (link_text n) [] (demand_text n)
+
+  grid-source : (left : Left) → source s.command left ≡ grid_left
+  grid-source left = ap (λ (c : Command). source c left) asks
+
+  grid-leaves : (rest before after : Left) → after ≡ before → LeavesOf s.command rest before after
+  grid-leaves rest before after same = subst (λ (c : Command). LeavesOf c rest before after) (sym asks) same
+
+  pub grid-reading : (Part : Left → Left → Type 0) (rest before after : Left) → after ≡ before → Part grid_left rest → Reading s.command Part before after
+  grid-reading Part rest before after same part = record {
+    rest = rest;
+    leaves = grid-leaves rest before after same;
+    part = subst (λ l. Part l rest) (sym (grid-source before)) part;
+  }
+
+  pub grid-stops : (stop : Stop) (made later before after : DeskState) → made.left ≡ grid_left → made.read_faults ≡ 0 → later.read_faults ≡ 0
+      → after.left ≡ before.left → StopsIn s stop made later → Stops s stop before after
+  grid-stops Memory made later before after from m l same h =
+      grid-reading (IsCutIn s) later.left before.left after.left same (subst (λ x. IsCutIn s x later.left) from h)
+  grid-stops (Refused r) made later before after from m l same h =
+      (grid-reading (IsCauseIn s r) later.left before.left after.left same (subst (λ x. IsCauseIn s r x later.left) from h.0), no-fault r made later before after m l h.1)
+
+-- ---- jobs
+
+pub full-tables : (c : Command) → c ≢ command.Freeflow → tables_of c ≡ table.Node ∷ table.Link ∷ table.Movement ∷ table.Demand ∷ []
+full-tables command.Freeflow loads = absurd (loads refl)
+full-tables command.Assign loads = refl
+full-tables (command.Demo n) loads = refl
+
+within-of : (s : Settings) (rows : Rows) (c : Command) → c ≢ command.Freeflow → HasRoom s rows × IsWithin rows.cells → AreWithin c s rows
+within-of s rows command.Freeflow loads w = absurd (loads refl)
+within-of s rows command.Assign loads w = w
+within-of s rows (command.Demo n) loads w = w
+
+-- the job of all four tables
+pub full-job : (s : Settings) (rows : Rows) (job : JobRows) (left rest : Left) → s.command ≢ command.Freeflow
+    → AreAccepted s.units (table.Node ∷ table.Link ∷ table.Movement ∷ table.Demand ∷ []) no_rows rows left rest
+    → HasRoom s rows × IsWithin rows.cells → job ≡ job_of s rows → IsJobOf s job left rest
+full-job s rows job left rest loads read within makes = record {
+  rows = rows;
+  read = subst (λ (ts : List Table). AreAccepted s.units ts no_rows rows left rest) (sym (full-tables s.command loads)) read;
+  within = within-of s rows s.command loads within;
+  makes = makes;
+}
+
+full-made : {T E : Type 0} (r : Result T E) (P Q : T → Type 0) (K : Type 0) → ((x : T) → K → P x → Q x) → OnOk r K → IfOk r P → IfOk r Q
+full-made (Ok x) P Q K f k p = f x k p
+full-made (Err e) P Q K f k p = tt
+
+pub full-jobs : {E : Type 0} (s : Settings) (rows : Rows) (r : Result JobRows E) (left rest : Left) → s.command ≢ command.Freeflow
+    → AreAccepted s.units (table.Node ∷ table.Link ∷ table.Movement ∷ table.Demand ∷ []) no_rows rows left rest
+    → OnOk r (HasRoom s rows × IsWithin rows.cells) → IfOk r (λ job. job ≡ job_of s rows) → IfOk r (λ job. IsJobOf s job left rest)
+full-jobs s rows r left rest loads read within makes =
+    full-made r (λ job. job ≡ job_of s rows) (λ job. IsJobOf s job left rest) (HasRoom s rows × IsWithin rows.cells)
+    (λ job w m. full-job s rows job left rest loads read w m) within makes
+
+-- what stopped the reading of all four tables, or was over their rows
+module _ (s : Settings) (loads : s.command ≢ command.Freeflow) (before after : DeskState) where
+  pub among-full : (stop : Stop) → StopsAmong s.units (table.Node ∷ table.Link ∷ table.Movement ∷ table.Demand ∷ []) no_rows stop before after → StopsIn s stop before after
+  among-full stop h = among-in s before after stop (subst (λ (ts : List Table). StopsAmong s.units ts no_rows stop before after) (sym (full-tables s.command loads)) h)
+
+  pub sized : {T : Type 0} (rows : Rows) (r : Result T Stop)
+      → AreAccepted s.units (table.Node ∷ table.Link ∷ table.Movement ∷ table.Demand ∷ []) no_rows rows before.left after.left
+      → IfErr r (StopsJob s rows) → IfErr r (λ stop. StopsIn s stop before after)
+  sized rows r read h = IfErr-weaker r (StopsJob s rows) (λ stop. StopsIn s stop before after)
+      (λ stop k. job-in s before after rows stop loads (subst (λ (ts : List Table). AreAccepted s.units ts no_rows rows before.left after.left) (sym (full-tables s.command loads)) read) k) h
+
+-- the tables of `freeflow`
+module _ (s : Settings) (asks : s.command ≡ command.Freeflow) (nodes : List NodeRow) (links : List LinkRow) (left rest : Left)
+    (read : AreAccepted s.units (table.Node ∷ table.Link ∷ []) no_rows (road_rows nodes links) left rest) where
+  free-read : AreAccepted s.units (tables_of s.command) no_rows (road_rows nodes links) left rest
+  free-read = subst (λ (c : Command). AreAccepted s.units (tables_of c) no_rows (road_rows nodes links) left rest) (sym asks) read
+
+  pub free-job : IsJobOf s (record { net = record { nodes = nodes; links = links; turns = [] }; trips = [] }) left rest
+  free-job = record {
+    rows = road_rows nodes links;
+    read = free-read;
+    within = subst (λ (c : Command). AreWithin c s (road_rows nodes links)) (sym asks) tt;
+    makes = rw (trips_of-none s.period) refl;
+  }
+
+  pub free-counted : AreCounted s (λ rows. ⊤) left rest
+  free-counted = record { rows = road_rows nodes links; read = free-read; part = tt }

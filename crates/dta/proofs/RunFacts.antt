@@ -1,0 +1,175 @@
+-- What a run's answer says, from what its parts say.
+use Rattle.std.proofs.Common.{◌≡◌, ◌≢◌, ℕ, ◌+◌, ◌-◌, List, [], ◌∷◌, ◌++◌, length, refl, sym, ap, subst, arith, inl, inr, ◌∙◌, length-append}
+use Rattle.std.specs.Prelude.{None, Some, slice_get}
+use Rattle.desk_io.specs.declared.desk.Output.TheVariants as output
+use Rattle.desk_io.specs.Desk.{Taken}
+use Rattle.desk_io.specs.Faults.{Rose}
+use Rattle.desk_io.specs.Transfers.{IsOut}
+use Rattle.dta_model.specs.LinkTimes.{TimeTable}
+use Rattle.dta_model.specs.declared.loaded.Journey.{Journey}
+use Rattle.gap.specs.declared.line.GapLine.{GapLine}
+use Rattle.reports.specs.Texts.{IsCutShort as IsFreeCut, IsFreeOut, refusal_line}
+use Rattle.reports.specs.declared.refusal.Refusal.{Refusal}
+use Rattle.reports.specs.declared.refusal.Refusal.TheVariants as refusal
+use Rattle.dta_words.specs.Grammar.{settings_of}
+use Rattle.dta_words.specs.declared.command.Command.{Command}
+use Rattle.dta_words.specs.declared.command.Command.TheVariants as command
+use Rattle.dta_words.specs.declared.command.Settings.{Settings}
+use Rattle.dta.specs.Assignment.{VehicleRoutes}
+use Rattle.dta.specs.Jobs.{IsAcceptedJob, JobRows}
+use Rattle.dta.specs.Outcome.{DeskState, IsCause, IsCutShort, IsRefused, Means, ReportsLine, Works}
+use Rattle.dta.specs.Outputs.{AreAssigned, AreTexts, AreTextsSoFar, AreWatched, IsCutOff, OutText, free_texts, grown_by, last_texts, watch_texts}
+use Rattle.dta.specs.Progress.{Halts, IsAssigned}
+use Rattle.dta.specs.Status.{refusal_status}
+use Rattle.dta.specs.Stops.{HasFault}
+use Rattle.dta.specs.declared.iterate.Halt.TheVariants as halt
+use Rattle.dta.specs.declared.status.Status.{Status}
+use Rattle.dta.specs.declared.status.Status.TheVariants as status
+use Rattle.dta.proofs.OutputFacts.{cut-later, grown-append}
+
+-- what was added to a list stands after it
+get-seam : {A : Type 0} → (xs : List A) (y : A) → slice_get (xs ++ y ∷ []) (length xs) ≡ Some y
+get-seam [] y = refl
+get-seam (x ∷ xs) y = get-seam xs y
+
+-- ---- the work
+
+texts-are : (c : Command) (s : Settings) (job : JobRows) (texts : List OutText) → c ≢ command.Freeflow → AreAssigned s job texts → AreTexts c s job texts
+texts-are command.Freeflow s job texts loads a = absurd (loads refl)
+texts-are command.Assign s job texts loads a = a
+texts-are (command.Demo n) s job texts loads a = a
+
+so-far-assigned : (c : Command) (s : Settings) (job : JobRows) (texts : List OutText) → c ≢ command.Freeflow → AreAssigned s job texts → AreTextsSoFar c s job texts
+so-far-assigned command.Freeflow s job texts loads a = absurd (loads refl)
+so-far-assigned command.Assign s job texts loads a = inl a
+so-far-assigned (command.Demo n) s job texts loads a = inl a
+
+so-far-watched : (c : Command) (s : Settings) (job : JobRows) (texts : List OutText) → c ≢ command.Freeflow → AreWatched s job texts → AreTextsSoFar c s job texts
+so-far-watched command.Freeflow s job texts loads a = absurd (loads refl)
+so-far-watched command.Assign s job texts loads a = inr a
+so-far-watched (command.Demo n) s job texts loads a = inr a
+
+module _ (s : Settings) (job : JobRows) (loads : s.command ≢ command.Freeflow) where
+  -- all texts of an assignment whose iterations are done
+  module _ (routes : VehicleRoutes) (loaded : List Journey) (times : TimeTable) (lines : List GapLine) (line : GapLine) (start now : Taken)
+      (a : IsAssigned s job routes loaded times lines line start now) where
+    abbrev watched : List OutText
+    watched = watch_texts s job (a.done ++ routes ∷ [])
+
+    abbrev last : List OutText
+    last = last_texts s.command s job routes lines line
+
+    assigned-texts : AreAssigned s job (watched ++ last)
+    assigned-texts = record {
+      routes = a.done ++ routes ∷ [];
+      lines = lines;
+      last = routes;
+      line = line;
+      iterations = a.iterations;
+      as_many = length-append a.done (routes ∷ []) ∙ a.as_many;
+      with_gaps = ap length a.lines_are ∙ length-append a.before (line ∷ []) ∙ ap (λ n. n + 1) a.with_gaps ∙ a.as_many;
+      last_routes = ap (λ n. slice_get (a.done ++ routes ∷ []) n) (omega (arith, a.as_many)) ∙ get-seam a.done routes;
+      last_line = ap (λ xs. slice_get xs (s.iterations - 1)) a.lines_are ∙ ap (λ n. slice_get (a.before ++ line ∷ []) n) (omega (arith, a.as_many, a.with_gaps)) ∙ get-seam a.before line;
+      texts_are = refl;
+    }
+
+    pub assigned-done : (after : Taken) → after ≡ grown_by last now → Works s job status.Done start after
+    assigned-done after out = (
+      watched ++ last,
+      texts-are s.command s job (watched ++ last) loads assigned-texts,
+      out ∙ ap (grown_by last) a.watched ∙ sym (grown-append watched last start),
+    )
+
+    pub assigned-cut : (after : Taken) → IsCutOff last now after → Works s job status.WriteFault start after
+    assigned-cut after cut = (
+      watched ++ last,
+      so-far-assigned s.command s job (watched ++ last) loads assigned-texts,
+      cut-later watched last start after (subst (λ t. IsCutOff last t after) a.watched cut),
+    )
+
+  pub halted-watch : (start now : Taken) → Halts s job halt.Watch start now → Works s job status.WriteFault start now
+  halted-watch start now h = (h.0, so-far-watched s.command s job h.0 loads h.1, h.2)
+
+-- the work of `freeflow`
+module _ (s : Settings) (job : JobRows) (asks : s.command ≡ command.Freeflow) (before after : Taken) where
+  pub free-done : IsFreeOut job.net before after → Works s job status.Done before after
+  free-done out = (free_texts job.net, subst (λ (c : Command). AreTexts c s job (free_texts job.net)) (sym asks) refl, out)
+
+  pub free-cut : IsFreeCut job.net before after → Works s job status.WriteFault before after
+  free-cut (inl part) = (free_texts job.net, subst (λ (c : Command). AreTextsSoFar c s job (free_texts job.net)) (sym asks) refl, inl part)
+  free-cut (inr part) = (free_texts job.net, subst (λ (c : Command). AreTextsSoFar c s job (free_texts job.net)) (sym asks) refl, inr (inl part))
+
+-- ---- the answer
+
+-- the work over an accepted job
+pub works-means : (words : List (List ℕ)) (s : Settings) (job : JobRows) (answer : Status) (before between after : DeskState)
+    → settings_of words ≡ Some s → IsAcceptedJob s job before.left between.left → between.taken ≡ before.taken → before.put_faults ≡ between.put_faults
+    → after.left ≡ between.left → Works s job answer between.taken after.taken
+    → (answer ≡ status.WriteFault → Rose between.put_faults after.put_faults) → Means words answer before after
+works-means words s job status.Done before between after told accepted taken puts left works failed = record {
+  settings = s;
+  told = told;
+  job = job;
+  accepted = subst (λ l. IsAcceptedJob s job before.left l) (sym left) accepted;
+  texts = works.0;
+  work = works.1;
+  out = works.2 ∙ ap (grown_by works.0) taken;
+}
+works-means words s job status.Usage before between after told accepted taken puts left works failed = absurd works
+works-means words s job status.Table before between after told accepted taken puts left works failed = absurd works
+works-means words s job status.ReadFault before between after told accepted taken puts left works failed = absurd works
+works-means words s job status.Size before between after told accepted taken puts left works failed = absurd works
+works-means words s job status.WriteFault before between after told accepted taken puts left works failed = record {
+  settings = s;
+  told = told;
+  job = job;
+  accepted = subst (λ l. IsAcceptedJob s job before.left l) (sym left) accepted;
+  texts = works.0;
+  work = works.1;
+  out = subst (λ t. IsCutOff works.0 t after.taken) taken works.2;
+  failed = subst (λ f. Rose f after.put_faults) (sym puts) (failed refl);
+}
+works-means words s job status.Memory before between after told accepted taken puts left works failed =
+    inr (
+      s,
+      told,
+      inr (record {
+        job = job;
+        accepted = subst (λ l. IsAcceptedJob s job before.left l) (sym left) accepted;
+        texts = works.0;
+        watched = works.1;
+        out = works.2 ∙ ap (grown_by works.0) taken;
+      }),
+    )
+
+-- the line of a refusal
+module _ (words : List (List ℕ)) (s : Settings) (before between after : DeskState) (told : settings_of words ≡ Some s) (taken : between.taken ≡ before.taken)
+    (puts : before.put_faults ≡ between.put_faults) (left : after.left ≡ between.left) (reads : between.read_faults ≡ after.read_faults) where
+  refused : (r : Refusal) → IsCause s r before.left between.left → ReportsLine r between after → IsRefused r words before after
+  refused r cause line = record {
+    settings = s;
+    told = told;
+    cause = subst (λ l. IsCause s r before.left l) (sym left) cause;
+    report = subst (λ f. IsOut output.Report (refusal_line r) before.taken after.taken f after.put_faults) (sym puts)
+        (subst (λ t. IsOut output.Report (refusal_line r) t after.taken between.put_faults after.put_faults) taken line);
+  }
+
+  pub refused-means : (r : Refusal) → IsCause s r before.left between.left → HasFault r before between → ReportsLine r between after
+      → Means words (refusal_status r) before after
+  refused-means refusal.Usage cause fault line = absurd cause.part
+  refused-means (refusal.Table f) cause fault line = (f, refused (refusal.Table f) cause line)
+  refused-means (refusal.Read t) cause fault line =
+      (t, refused (refusal.Read t) cause line, subst (λ n. Rose before.read_faults n) reads fault)
+  refused-means (refusal.LongTable t) cause fault line = inl (t, refused (refusal.LongTable t) cause line)
+  refused-means (refusal.Cells links steps) cause fault line = inr (inl (links, steps, refused (refusal.Cells links steps) cause line))
+  refused-means (refusal.Vehicles line-no total) cause fault line = inr (inr (line-no, total, refused (refusal.Vehicles line-no total) cause line))
+
+-- memory was wanting before the work
+pub starved-means : (words : List (List ℕ)) (s : Settings) (before after : DeskState) → settings_of words ≡ Some s
+    → IsCutShort s before.left after.left → after.taken ≡ before.taken → Means words status.Memory before after
+starved-means words s before after told cut taken = inr (s, told, inl (cut, taken))
+
+-- Usage is the answer to words that aren't in the grammar
+pub usage_means : (words : List (List ℕ)) (answer : Status) (before after : DeskState) → Means words answer before after → answer ≡ status.Usage
+    → settings_of words ≡ None
+usage_means words answer before after means same = (subst (λ (a : Status). Means words a before after) same means).told

@@ -1,0 +1,13 @@
+use Rattle.std.proofs.Common.{◌≡◌, ◌≤◌}
+use Rattle.dta.specs.Jobs.{AreRoutesOf}
+use Rattle.dta.specs.Progress.{IsAt}
+use Rattle.dta.proofs.iterate.iterate.Given as goal
+
+abbrev pub invariant-loop-iteration : goal.invariant-loop-iteration
+invariant-loop-iteration g l = record {
+  before : IsAt l.settings l.job l.iteration l.routes l.lines.items (g.D.Desk.taken l.fn.desk) (g.D.Desk.taken l.desk);
+  routes : AreRoutesOf l.job l.routes;
+  left : g.D.Desk.left l.desk ≡ g.D.Desk.left l.fn.desk;
+  later : g.D.Desk.put_faults l.fn.desk ≤ g.D.Desk.put_faults l.desk;
+  reads : g.D.Desk.read_faults l.desk ≡ g.D.Desk.read_faults l.fn.desk;
+}

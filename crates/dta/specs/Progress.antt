@@ -1,0 +1,58 @@
+-- How far an assignment came, and what went out until then.
+use Rattle.std.specs.Prelude.{ℕ, ◌≡◌, ◌+◌, ◌≤◌, List, [], ◌∷◌, ◌++◌, length, Result, IfErr}
+use Rattle.desk_io.specs.Desk.{Taken}
+use Rattle.desk_io.specs.Faults.{Rose}
+use Rattle.dta_model.specs.LinkTimes.{TimeTable}
+use Rattle.dta_model.specs.Loading.{journeys_of}
+use Rattle.dta_model.specs.declared.loaded.Journey.{Journey}
+use Rattle.gap.specs.declared.line.GapLine.{GapLine}
+use Rattle.dta_words.specs.declared.command.Settings.{Settings}
+use Rattle.dta.specs.Assignment.{AreIterations, VehicleRoutes, times_of}
+use Rattle.dta.specs.Jobs.{AreRoutesOf, JobRows, plan_of}
+use Rattle.dta.specs.Outputs.{AreWatched, IsCutOff, OutText, grown_by, watch_texts}
+use Rattle.dta.specs.declared.iterate.Halt.{Halt}
+use Rattle.dta.specs.declared.iterate.Halt.TheVariants as halt
+
+-- an iteration is about to be loaded over these routes, and those before it are done
+pub record IsAt (s : Settings) (job : JobRows) (number : ℕ) (routes : VehicleRoutes) (lines : List GapLine) (start now : Taken) : Type 0 where
+  pub done : List VehicleRoutes
+  pub as_many : length done + 1 ≡ number
+  pub with_gaps : length lines ≡ length done
+  pub iterations : AreIterations s job (done ++ routes ∷ []) lines
+  pub watched : now ≡ grown_by (watch_texts s job done) start
+
+-- an assignment ended before its last iteration was done: memory was wanting, or a watch line
+-- couldn't be put
+abbrev pub Halts : Settings → JobRows → Halt → Taken → Taken → Type 0
+Halts s job halt.Memory start now =
+    (texts : List OutText) × AreWatched s job texts × (now ≡ grown_by texts start)
+Halts s job halt.Watch start now =
+    (texts : List OutText) × AreWatched s job texts × IsCutOff texts start now
+
+-- the same in the midst of an iteration, whose watch lines are these
+abbrev pub HaltsIn : Halt → List OutText → Taken → Taken → Type 0
+HaltsIn halt.Memory lines before now = now ≡ before
+HaltsIn halt.Watch lines before now = IsCutOff lines before now
+
+-- the count of failed puts doesn't fall, and a watch line is missing only where it rose
+pub record HasHaltCause {T : Type 0} (before now : ℕ) (result : Result T Halt) : Type 0 where
+  pub later : before ≤ now
+  pub failed : IfErr result (λ why. why ≡ halt.Watch → Rose before now)
+
+-- the routes, the journeys and the link times of an iteration belong together
+pub record IsLast (s : Settings) (job : JobRows) (routes : VehicleRoutes) (loaded : List Journey) (times : TimeTable) : Type 0 where
+  pub routed : AreRoutesOf job routes
+  pub journeys : loaded ≡ journeys_of (plan_of s job routes)
+  pub times_are : times ≡ times_of s job routes
+
+-- all iterations are done: these are the last one's routes, journeys, link times and gap, and the
+-- gaps of all
+pub record IsAssigned (s : Settings) (job : JobRows) (routes : VehicleRoutes) (loaded : List Journey) (times : TimeTable) (lines : List GapLine) (line : GapLine) (start now : Taken) : Type 0 where
+  pub done : List VehicleRoutes
+  pub as_many : length done + 1 ≡ s.iterations
+  pub before : List GapLine
+  pub with_gaps : length before ≡ length done
+  pub lines_are : lines ≡ before ++ line ∷ []
+  pub iterations : AreIterations s job (done ++ routes ∷ []) lines
+  pub watched : now ≡ grown_by (watch_texts s job (done ++ routes ∷ [])) start
+  pub last : IsLast s job routes loaded times

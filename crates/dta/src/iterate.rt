@@ -1,0 +1,350 @@
+// The iterations of an assignment.
+ghost use Rattle.std.specs.Prelude.{◌≡◌, ◌<◌, ◌≤◌, ◌+◌, ◌++◌, ◌∷◌, [], length, IfOk, IfErr, OnOk, OnErr};
+ghost use Rattle.desk_io.specs.Desk.{Taken};
+ghost use Rattle.dta_model.specs.Lent.{plan_of as loading_plan};
+ghost use Rattle.dta_model.specs.LinkTimes.{table_of, time_at};
+ghost use Rattle.dta_model.specs.Loading.{journeys_of};
+ghost use Rattle.dta_model.specs.Sound.{IsSound};
+ghost use Rattle.dta_words.specs.Ranges.{AreSettings};
+ghost use Rattle.gap.specs.Gap.{IsGapLine, IsShort};
+ghost use Rattle.route_flows.specs.Averages.{AreFirstRoutes, AreNextRoutes};
+ghost use Rattle.dta.specs.Assignment.{end_of as end_of_loading, times_of};
+ghost use Rattle.dta.specs.Jobs.{AreRoutesOf, IsJob, plan_of};
+ghost use Rattle.dta.specs.Outputs.{IsCutOff, grown_by, watch_every, watch_from};
+ghost use Rattle.dta.specs.Progress.{Halts, HaltsIn, HasHaltCause, IsAssigned, IsAt};
+ghost use Rattle.dta.specs.declared.iterate.Halt.TheVariants as halt;
+
+use crate::job::Job;
+use desk_io::Desk;
+use dta_model::{Eight, Loaded, Loading, Routes};
+use dta_words::Settings;
+use final_state::final_state;
+use gap::{GapLine, gap};
+use link_times::LinkTimes;
+use reports::put_watch;
+use route_flows::{first_routes, gap_and_next_routes};
+use serial_loader::load_plain;
+use std::alloc::Global;
+use std::thread::Threads;
+
+/// Why an assignment ends before its last iteration is done.
+#[derive(Clone, Copy, Debug, PartialEq, Eq)]
+pub(crate) enum Halt {
+    /// There was no memory.
+    Memory,
+    /// A watch line couldn't be put.
+    Watch,
+}
+
+/// What the last iteration of an assignment gives, and the gaps of all.
+#[derive(Drop)]
+pub(crate) struct Assigned {
+    pub(crate) routes: Routes,
+    pub(crate) loaded: Loaded,
+    pub(crate) times: LinkTimes,
+    pub(crate) lines: Vec<GapLine>,
+    pub(crate) line: GapLine,
+}
+
+// The loading of an iteration and its link times.
+#[derive(Drop)]
+struct Round {
+    loaded: Loaded,
+    times: LinkTimes,
+}
+
+// Loads the vehicles of a loading, and makes its link times.
+fn load_over(alloc: Global, loading: &Loading, bucket: u32) -> Result<Round, Halt>
+    requires sound { IsSound (loading_plan loading.now) }
+    requires bucket { 1 ≤ bucket }
+    ensures loaded { IfOk result (λ round. round.loaded ≡ journeys_of (loading_plan loading.now)) }
+    ensures times { IfOk result (λ round. round.times ≡ table_of (loading_plan loading.now) bucket) }
+    ensures short { IfOk result (λ round. IsShort round.times) }
+    ensures memory { IfErr result (λ why. why ≡ halt.Memory) }
+{
+    match load_plain(alloc, loading) {
+        Ok(loaded) => match LinkTimes::of(alloc, loading, &loaded, bucket) {
+            Ok(times) => Ok(Round { loaded, times }),
+            Err(_) => Err(Halt::Memory),
+        },
+        Err(_) => Err(Halt::Memory),
+    }
+}
+
+// Loads the vehicles of a job over their routes.
+fn load(alloc: Global, settings: &Settings, job: &Job, routes: &Routes) -> Result<Round, Halt>
+    requires settings { AreSettings settings.now }
+    requires job { IsJob settings.now job.now }
+    requires routes { AreRoutesOf job.now routes.now }
+    ensures loaded { IfOk result (λ round. round.loaded ≡ journeys_of (plan_of settings.now job.now routes.now)) }
+    ensures times { IfOk result (λ round. round.times ≡ times_of settings.now job.now routes.now) }
+    ensures short { IfOk result (λ round. IsShort round.times) }
+    ensures memory { IfErr result (λ why. why ≡ halt.Memory) }
+{
+    let loading = job.loading(settings, routes);
+    let round = load_over(alloc, &loading, settings.bucket);
+    let Loading {
+        net: _,
+        queue: _,
+        delta: _,
+        horizon: _,
+        trips: _,
+        routes: _,
+    } = loading;
+    round
+}
+
+// The state of a job's loading after its last step.
+pub(crate) fn end_of(settings: &Settings, job: &Job, routes: &Routes, loaded: &Loaded) -> Eight
+    requires settings { AreSettings settings.now }
+    requires job { IsJob settings.now job.now }
+    requires routes { AreRoutesOf job.now routes.now }
+    requires loaded { loaded.now ≡ journeys_of (plan_of settings.now job.now routes.now) }
+    ensures is { result ≡ end_of_loading settings.now job.now routes.now }
+    ensures few { result.waiting + result.running + result.arrived ≤ length job.now.trips }
+{
+    let loading = job.loading(settings, routes);
+    let eight = final_state(&loading, loaded);
+    let Loading {
+        net: _,
+        queue: _,
+        delta: _,
+        horizon: _,
+        trips: _,
+        routes: _,
+    } = loading;
+    eight
+}
+
+// Puts the watch line of an iteration, where there is a watch: the state after the last step.
+#[tactic(auto, using(crate::proofs::OutputFacts::parts))]
+fn watch<D: Desk>(
+    settings: &Settings,
+    job: &Job,
+    routes: &Routes,
+    loaded: &Loaded,
+    iteration: u32,
+    desk: &mut D,
+) -> Result<(), Halt>
+    requires settings { AreSettings settings.now }
+    requires job { IsJob settings.now job.now }
+    requires routes { AreRoutesOf job.now routes.now }
+    requires loaded { loaded.now ≡ journeys_of (plan_of settings.now job.now routes.now) }
+    ensures whole { OnOk result (D.taken desk.new
+        ≡ grown_by (watch_every settings.now.watch (watch_from settings.now job.now iteration (routes.now ∷ []))) (D.taken desk.old)) }
+    ensures cut { OnErr result (IsCutOff
+        (watch_every settings.now.watch (watch_from settings.now job.now iteration (routes.now ∷ []))) (D.taken desk.old) (D.taken desk.new)) }
+    ensures why { IfErr result (λ why. why ≡ halt.Watch) }
+    ensures left { D.left desk.new ≡ D.left desk.old }
+    ensures cause { HasHaltCause (D.put_faults desk.old) (D.put_faults desk.new) result }
+    ensures reads { D.read_faults desk.new ≡ D.read_faults desk.old }
+{
+    if settings.watch == 0 {
+        return Ok(());
+    }
+    let eight = end_of(settings, job, routes, loaded);
+    match put_watch(desk, iteration, &eight) {
+        Ok(()) => Ok(()),
+        Err(_) => Err(Halt::Watch),
+    }
+}
+
+// Loads an iteration and puts its watch line.
+fn load_watched<D: Desk>(
+    alloc: Global,
+    settings: &Settings,
+    job: &Job,
+    routes: &Routes,
+    iteration: u32,
+    desk: &mut D,
+) -> Result<Round, Halt>
+    requires settings { AreSettings settings.now }
+    requires job { IsJob settings.now job.now }
+    requires routes { AreRoutesOf job.now routes.now }
+    ensures loaded { IfOk result (λ round. round.loaded ≡ journeys_of (plan_of settings.now job.now routes.now)) }
+    ensures times { IfOk result (λ round. round.times ≡ times_of settings.now job.now routes.now) }
+    ensures short { IfOk result (λ round. IsShort round.times) }
+    ensures whole { OnOk result (D.taken desk.new
+        ≡ grown_by (watch_every settings.now.watch (watch_from settings.now job.now iteration (routes.now ∷ []))) (D.taken desk.old)) }
+    ensures halts { IfErr result (λ why. HaltsIn why
+        (watch_every settings.now.watch (watch_from settings.now job.now iteration (routes.now ∷ []))) (D.taken desk.old) (D.taken desk.new)) }
+    ensures left { D.left desk.new ≡ D.left desk.old }
+    ensures cause { HasHaltCause (D.put_faults desk.old) (D.put_faults desk.new) result }
+    ensures reads { D.read_faults desk.new ≡ D.read_faults desk.old }
+{
+    let round = load(alloc, settings, job, routes)?;
+    watch(settings, job, routes, &round.loaded, iteration, desk)?;
+    Ok(round)
+}
+
+// The routes of the first iteration.
+#[tactic(auto, using(crate::proofs::IterateFacts::routings))]
+fn begin<R: AllocGlobal + Threads>(rt: &R, settings: &Settings, job: &Job) -> Result<Routes, Halt>
+    requires settings { AreSettings settings.now }
+    requires job { IsJob settings.now job.now }
+    ensures first { IfOk result (λ routes. AreFirstRoutes job.now.net job.now.trips routes) }
+    ensures routes { IfOk result (λ routes. AreRoutesOf job.now routes) }
+    ensures memory { IfErr result (λ why. why ≡ halt.Memory) }
+{
+    match first_routes(rt, &job.net, &job.trips, settings.horizon, settings.workers) {
+        Ok(routes) => Ok(routes),
+        Err(_) => Err(Halt::Memory),
+    }
+}
+
+// The gap of an iteration, and the routes of the next.
+#[tactic(auto, using(crate::proofs::IterateFacts::routings))]
+fn leave<R: AllocGlobal + Threads>(
+    rt: &R,
+    settings: &Settings,
+    job: &Job,
+    routes: &Routes,
+    times: &LinkTimes,
+    iteration: u32,
+) -> Result<(GapLine, Routes), Halt>
+    requires settings { AreSettings settings.now }
+    requires job { IsJob settings.now job.now }
+    requires routes { AreRoutesOf job.now routes.now }
+    requires times { times.now ≡ times_of settings.now job.now routes.now }
+    requires short { IsShort times.now }
+    requires number { (1 ≤ iteration) × (iteration < settings.now.iterations) }
+    ensures gap { IfOk result (λ r. IsGapLine (time_at (times_of settings.now job.now routes.now)) job.now.net job.now.trips routes.now r.0) }
+    ensures next { IfOk result (λ r. AreNextRoutes (time_at (times_of settings.now job.now routes.now)) job.now.net job.now.trips iteration routes.now r.1) }
+    ensures routes { IfOk result (λ r. AreRoutesOf job.now r.1) }
+    ensures memory { IfErr result (λ why. why ≡ halt.Memory) }
+{
+    match gap_and_next_routes(
+        rt,
+        &job.net,
+        &job.trips,
+        times,
+        routes,
+        iteration,
+        settings.workers,
+    ) {
+        Ok(both) => Ok(both),
+        Err(_) => Err(Halt::Memory),
+    }
+}
+
+// The gap of the last iteration.
+#[tactic(auto, using(crate::proofs::IterateFacts::routings))]
+fn gap_of(
+    alloc: Global,
+    settings: &Settings,
+    job: &Job,
+    routes: &Routes,
+    times: &LinkTimes,
+) -> Result<GapLine, Halt>
+    requires settings { AreSettings settings.now }
+    requires job { IsJob settings.now job.now }
+    requires routes { AreRoutesOf job.now routes.now }
+    requires times { times.now ≡ times_of settings.now job.now routes.now }
+    requires short { IsShort times.now }
+    ensures gap { IfOk result (IsGapLine (time_at (times_of settings.now job.now routes.now)) job.now.net job.now.trips routes.now) }
+    ensures memory { IfErr result (λ why. why ≡ halt.Memory) }
+{
+    match gap(alloc, &job.net, times, &job.trips, routes) {
+        Ok(line) => Ok(line),
+        Err(_) => Err(Halt::Memory),
+    }
+}
+
+// Does an iteration that isn't the last: its loading, its gap, and the routes of the next.
+fn advance<R: AllocGlobal + Threads, D: Desk>(
+    rt: &R,
+    settings: &Settings,
+    job: &Job,
+    routes: &mut Routes,
+    lines: &mut Vec<GapLine>,
+    iteration: u32,
+    desk: &mut D,
+) -> Result<(), Halt>
+    requires settings { AreSettings settings.now }
+    requires job { IsJob settings.now job.now }
+    requires routes { AreRoutesOf job.now routes.old }
+    requires number { (1 ≤ iteration) × (iteration < settings.now.iterations) }
+    ensures routes { OnOk result (AreRoutesOf job.now routes.new) }
+    ensures forward { (start : Taken) → IsAt settings.now job.now iteration routes.old lines.old.items start (D.taken desk.old)
+        → OnOk result (IsAt settings.now job.now (iteration + 1) routes.new lines.new.items start (D.taken desk.new)) }
+    ensures halts { (start : Taken) → IsAt settings.now job.now iteration routes.old lines.old.items start (D.taken desk.old)
+        → IfErr result (λ why. Halts settings.now job.now why start (D.taken desk.new)) }
+    ensures left { D.left desk.new ≡ D.left desk.old }
+    ensures cause { HasHaltCause (D.put_faults desk.old) (D.put_faults desk.new) result }
+    ensures reads { D.read_faults desk.new ≡ D.read_faults desk.old }
+{
+    let round = load_watched(rt.alloc(), settings, job, routes, iteration, desk)?;
+    let (line, next) = leave(rt, settings, job, routes, &round.times, iteration)?;
+    push(lines, line)?;
+    *routes = next;
+    Ok(())
+}
+
+// Does the last iteration: its loading and its gap.
+fn finish<D: Desk>(
+    alloc: Global,
+    settings: &Settings,
+    job: &Job,
+    routes: Routes,
+    lines: Vec<GapLine>,
+    desk: &mut D,
+) -> Result<Assigned, Halt>
+    requires settings { AreSettings settings.now }
+    requires job { IsJob settings.now job.now }
+    requires routes { AreRoutesOf job.now routes }
+    ensures done { (start : Taken) → IsAt settings.now job.now settings.now.iterations routes lines.items start (D.taken desk.old)
+        → IfOk result (λ a. IsAssigned settings.now job.now a.routes a.loaded a.times a.lines.items a.line start (D.taken desk.new)) }
+    ensures halts { (start : Taken) → IsAt settings.now job.now settings.now.iterations routes lines.items start (D.taken desk.old)
+        → IfErr result (λ why. Halts settings.now job.now why start (D.taken desk.new)) }
+    ensures left { D.left desk.new ≡ D.left desk.old }
+    ensures cause { HasHaltCause (D.put_faults desk.old) (D.put_faults desk.new) result }
+    ensures reads { D.read_faults desk.new ≡ D.read_faults desk.old }
+{
+    let round = load_watched(alloc, settings, job, &routes, settings.iterations, desk)?;
+    let line = gap_of(alloc, settings, job, &routes, &round.times)?;
+    let mut lines = lines;
+    push(&mut lines, line)?;
+    let Round { loaded, times } = round;
+    Ok(Assigned {
+        routes,
+        loaded,
+        times,
+        lines,
+        line,
+    })
+}
+
+// Adds a gap last.
+fn push(lines: &mut Vec<GapLine>, line: GapLine) -> Result<(), Halt>
+    ensures ok { OnOk result (lines.new.items ≡ lines.old.items ++ line ∷ []) }
+    ensures memory { IfErr result (λ why. why ≡ halt.Memory) }
+{
+    match lines.push(line) {
+        Ok(()) => Ok(()),
+        Err(_) => Err(Halt::Memory),
+    }
+}
+
+/// Does all iterations of an assignment: the routes of each, its loading, its link times and its
+/// gap. Where there is a watch, each puts its line once it is loaded.
+pub(crate) fn iterate<R: AllocGlobal + Threads, D: Desk>(
+    rt: &R,
+    settings: &Settings,
+    job: &Job,
+    desk: &mut D,
+) -> Result<Assigned, Halt>
+    requires settings { AreSettings settings.now }
+    requires job { IsJob settings.now job.now }
+    ensures done { IfOk result (λ a. IsAssigned settings.now job.now a.routes a.loaded a.times a.lines.items a.line (D.taken desk.old) (D.taken desk.new)) }
+    ensures halts { IfErr result (λ why. Halts settings.now job.now why (D.taken desk.old) (D.taken desk.new)) }
+    ensures left { D.left desk.new ≡ D.left desk.old }
+    ensures cause { HasHaltCause (D.put_faults desk.old) (D.put_faults desk.new) result }
+    ensures reads { D.read_faults desk.new ≡ D.read_faults desk.old }
+{
+    let mut routes = begin(rt, settings, job)?;
+    let mut lines = Vec::new(rt.alloc());
+    for iteration in 1..settings.iterations {
+        advance(rt, settings, job, &mut routes, &mut lines, iteration, desk)?;
+    }
+    finish(rt.alloc(), settings, job, routes, lines, desk)
+}

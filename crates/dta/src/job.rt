@@ -1,0 +1,198 @@
+// The job of a run: what its settings and its tables come to.
+ghost use Rattle.std.specs.Prelude.{◌≡◌, ◌≢◌, ◌≤◌, ◌*◌, length, IfOk, IfErr, OnOk};
+ghost use Rattle.desk_io.specs.Desk.{Left};
+ghost use Rattle.demand.specs.Cells.{AreCells};
+ghost use Rattle.dta_model.specs.Lent.{plan_of as loading_plan};
+ghost use Rattle.dta_model.specs.Release.{trips_of};
+ghost use Rattle.dta_words.specs.Ranges.{AreSettings};
+ghost use Rattle.dta_words.specs.declared.command.Command.TheVariants as command;
+ghost use Rattle.gmns_tables.specs.Net.{listed_turns, net_of as joined};
+ghost use Rattle.net_core.specs.Network.{IsNet};
+ghost use Rattle.reports.specs.declared.refusal.TheConstants.{CELL_LIMIT};
+ghost use Rattle.vehicle_release.specs.Limits.{IsWithin};
+ghost use Rattle.dta.specs.Jobs.{AreTripsBelow, HasRoom, IsAcceptedJob, IsJob, IsJobOf, job_of as job_of_rows, plan_of};
+ghost use Rattle.dta.specs.Outcome.{DeskState, state_of};
+ghost use Rattle.dta.specs.Stops.{Stops, StopsIn, StopsJob};
+ghost use Rattle.dta.specs.Tables.{Rows, road_rows, rows_of};
+
+use crate::sizes::sizes;
+use crate::stop::Stop;
+use crate::tables::{Tables, accept_all, accept_roads};
+use desk_io::{Desk, TallyDesk};
+use dta_model::{DemandCell, Loading, Routes, Trip};
+use dta_words::{Command, Settings};
+use gmns_tables::join_net;
+use grid_maker::{GridFault, grid};
+use net_core::Net;
+use reports::Refusal;
+use std::alloc::Global;
+use std::marker::Model;
+use vehicle_release::{ReleaseFault, release};
+
+/// The network and the trips of a run; `freeflow` has no trips.
+#[derive(Drop)]
+pub(crate) struct Job {
+    pub(crate) net: Net,
+    pub(crate) trips: Vec<Trip>,
+}
+
+impl Model for Job {
+    ghost use Rattle.dta.specs.Jobs.{JobRows};
+
+    ghost Value = { JobRows };
+
+    ghost view = { λ job. record { net = job.net; trips = job.trips.items } };
+}
+
+impl Job {
+    /// The loading of the job over the routes of its vehicles.
+    pub(crate) fn loading<'a>(&'a self, settings: &Settings, routes: &'a Routes) -> Loading<'a>
+        ensures { loading_plan result ≡ plan_of settings.now self.now routes.now }
+    {
+        Loading {
+            net: &self.net,
+            queue: settings.queue,
+            delta: settings.units.delta,
+            horizon: settings.horizon,
+            trips: &self.trips,
+            routes,
+        }
+    }
+}
+
+// The trips of a demand table over so many links, within the limits of a run.
+fn trips_within(
+    alloc: Global,
+    links: u32,
+    cells: &[DemandCell],
+    settings: &Settings,
+) -> Result<Vec<Trip>, Stop>
+    requires settings { AreSettings settings.now }
+    requires cells { AreCells cells.now }
+    ensures trips { IfOk result (λ trips. trips.items ≡ trips_of cells.now settings.now.period) }
+    ensures sound { IfOk result (λ trips. AreTripsBelow settings.now.horizon trips.items) }
+    ensures within { OnOk result ((links * settings.now.horizon ≤ CELL_LIMIT) × IsWithin cells.now) }
+    ensures stops { (rows : Rows) → length rows.links ≡ links → rows.cells ≡ cells.now
+        → IfErr result (StopsJob settings.now rows) }
+{
+    if sizes(links, settings.horizon).is_err() {
+        return Err(Stop::Refused(Refusal::Cells {
+            links,
+            steps: settings.horizon,
+        }));
+    }
+    match release(alloc, cells, settings.period) {
+        Ok(trips) => Ok(trips),
+        Err(ReleaseFault::TooMany { line, total }) => {
+            Err(Stop::Refused(Refusal::Vehicles { line, total }))
+        }
+        Err(ReleaseFault::Memory) => Err(Stop::Memory),
+    }
+}
+
+// The job of accepted tables.
+fn job_of(alloc: Global, tables: Tables, settings: &Settings) -> Result<Job, Stop>
+    requires settings { AreSettings settings.now }
+    requires net { IsNet (joined tables.roads.nodes tables.roads.links tables.turns) }
+    requires cells { AreCells tables.cells.items }
+    ensures makes { IfOk result (λ job. job ≡ job_of_rows settings.now
+        (rows_of tables.roads.nodes tables.roads.links (listed_turns tables.turns) tables.cells.items)) }
+    ensures sound { IfOk result (IsJob settings.now) }
+    ensures within { OnOk result (HasRoom settings.now (road_rows tables.roads.nodes tables.roads.links) × IsWithin tables.cells.items) }
+    ensures stops { IfErr result (StopsJob settings.now
+        (rows_of tables.roads.nodes tables.roads.links (listed_turns tables.turns) tables.cells.items)) }
+{
+    let Tables {
+        roads,
+        turns,
+        cells,
+    } = tables;
+    let links = roads.links.as_slice().len() as u32;
+    let trips = trips_within(alloc, links, &cells, settings)?;
+    match join_net(alloc, roads.nodes, roads.links, turns) {
+        Ok(net) => Ok(Job { net, trips }),
+        Err(_) => Err(Stop::Memory),
+    }
+}
+
+// Reads and checks all tables of an assignment, and makes its job.
+fn accept_tables<D: Desk>(alloc: Global, desk: &mut D, settings: &Settings) -> Result<Job, Stop>
+    requires settings { AreSettings settings.now }
+    requires command { settings.now.command ≢ command.Freeflow }
+    ensures job { IfOk result (λ job. IsJobOf settings.now job (D.left desk.old) (D.left desk.new)) }
+    ensures sound { IfOk result (IsJob settings.now) }
+    ensures stops { let state = state_of D.left D.taken D.read_faults D.put_faults in
+        IfErr result (λ s. StopsIn settings.now s (state desk.old) (state desk.new)) }
+    ensures later { D.read_faults desk.old ≤ D.read_faults desk.new }
+    ensures taken { D.taken desk.new ≡ D.taken desk.old }
+    ensures puts { D.put_faults desk.new ≡ D.put_faults desk.old }
+{
+    let tables = accept_all(alloc, desk, &settings.units)?;
+    job_of(alloc, tables, settings)
+}
+
+// Reads and checks the tables of `freeflow`, and makes its job.
+fn accept_free<D: Desk>(alloc: Global, desk: &mut D, settings: &Settings) -> Result<Job, Stop>
+    requires settings { AreSettings settings.now }
+    requires command { settings.now.command ≡ command.Freeflow }
+    ensures job { IfOk result (λ job. IsJobOf settings.now job (D.left desk.old) (D.left desk.new)) }
+    ensures sound { IfOk result (IsJob settings.now) }
+    ensures stops { let state = state_of D.left D.taken D.read_faults D.put_faults in
+        IfErr result (λ s. StopsIn settings.now s (state desk.old) (state desk.new)) }
+    ensures later { D.read_faults desk.old ≤ D.read_faults desk.new }
+    ensures taken { D.taken desk.new ≡ D.taken desk.old }
+    ensures puts { D.put_faults desk.new ≡ D.put_faults desk.old }
+{
+    let roads = accept_roads(alloc, desk, &settings.units)?;
+    match join_net(alloc, roads.nodes, roads.links, None) {
+        Ok(net) => Ok(Job {
+            net,
+            trips: Vec::new(alloc),
+        }),
+        Err(_) => Err(Stop::Memory),
+    }
+}
+
+// Makes the tables of a demonstration, checks them as any others, and makes their job.
+fn accept_grid(alloc: Global, settings: &Settings, n: u32) -> Result<Job, Stop>
+    requires settings { AreSettings settings.now }
+    requires command { settings.now.command ≡ command.Demo n }
+    ensures job { (left : Left) → IfOk result (λ job. IsAcceptedJob settings.now job left left) }
+    ensures sound { IfOk result (IsJob settings.now) }
+    ensures stops { (before after : DeskState) → after.left ≡ before.left
+        → IfErr result (λ s. Stops settings.now s before after) }
+{
+    match grid(alloc, n) {
+        Ok(texts) => {
+            let mut made = TallyDesk::new(
+                texts.node.into_vec(),
+                texts.link.into_vec(),
+                Vec::new(alloc),
+                texts.demand.into_vec(),
+            );
+            accept_tables(alloc, &mut made, settings)
+        }
+        Err(GridFault::OutOfRange) => unreachable!(),
+        Err(GridFault::Memory) => Err(Stop::Memory),
+    }
+}
+
+/// Reads and checks the tables of a command, one after the other, and makes their job. The first
+/// cause in this order stops the run: a table that can't be read, is too long or has a fault, before
+/// the next is read; the links times the steps; the number of vehicles.
+pub(crate) fn accept<D: Desk>(alloc: Global, desk: &mut D, settings: &Settings) -> Result<Job, Stop>
+    requires settings { AreSettings settings.now }
+    ensures job { IfOk result (λ job. IsAcceptedJob settings.now job (D.left desk.old) (D.left desk.new)) }
+    ensures sound { IfOk result (IsJob settings.now) }
+    ensures stops { let state = state_of D.left D.taken D.read_faults D.put_faults in
+        IfErr result (λ s. Stops settings.now s (state desk.old) (state desk.new)) }
+    ensures later { D.read_faults desk.old ≤ D.read_faults desk.new }
+    ensures taken { D.taken desk.new ≡ D.taken desk.old }
+    ensures puts { D.put_faults desk.new ≡ D.put_faults desk.old }
+{
+    match settings.command {
+        Command::Freeflow => accept_free(alloc, desk, settings),
+        Command::Assign => accept_tables(alloc, desk, settings),
+        Command::Demo(n) => accept_grid(alloc, settings, n),
+    }
+}
