@@ -1,0 +1,54 @@
+#!/bin/sh
+# Measures the cells of nodes: a grid of 3,600 nodes with nobody on it for 1,200 steps, in nanoseconds for each node and step, and
+# 10,000,000 moves of 100,000 vehicles through a row of 100 links, in nanoseconds a move. Both are the loadings of bench/loading, so
+# that the making of the cells and the journeys at the end count as well. The same of a plain Rust program of the same rules,
+# bench/loading.rs, where there is a rustc to build it.
+set -e
+bench=$(dirname "$(readlink -f "$0")")
+folder=$(mktemp -d)
+trap 'rm -rf "$folder"' EXIT
+program=$("$bench/build.sh" loading "$folder/build")
+cd "$folder"
+if command -v rustc >/dev/null; then
+    rustc -O -C target-cpu=x86-64-v2 -o plain "$bench/loading.rs"
+else
+    echo 'no rustc is on the path: the plain Rust program is not measured'
+fi
+mkdir idle row
+
+# A grid without demand.
+(cd idle && "$bench/grid.sh" 60 && echo o_zone_id,d_zone_id,volume >demand.csv)
+
+# A row of links between two zones. Each takes four steps, and lets 200 vehicles in and out in a step; 166 or 167 depart in one.
+(
+    cd row
+    awk 'BEGIN {
+        print "node_id,zone_id"
+        for (k = 1; k <= 101; k++) print k "," (k == 1 ? 1 : k == 101 ? 2 : "")
+    }' >node.csv
+    awk 'BEGIN {
+        print "link_id,from_node_id,to_node_id,length,lanes,free_speed,capacity"
+        for (k = 1; k <= 100; k++) print k "," k "," k + 1 ",240,1,40,120000"
+    }' >link.csv
+    printf 'o_zone_id,d_zone_id,volume\n1,2,100000\n' >demand.csv
+)
+
+# The nanoseconds of a loading for each of so many nodes and steps, or for each entry and arrival, three times.
+measure() {
+    for _ in 1 2 3; do
+        (cd "$2" && "$3") | awk -v name="$1" -v units="$4" '
+            NR == 1 { microseconds = $1 }
+            NR == 2 {
+                count = units ? units : $1 + $7
+                each = 1000 * microseconds / count
+                printf "%s: %d in %.3f seconds, %.1f nanoseconds each\n", name, count, microseconds / 1e6, each
+            }'
+    done
+}
+for name in proved plain; do
+    if [ "$name" = plain ]; then program=$folder/plain; fi
+    if [ -x "$program" ]; then
+        measure "nodes and steps with nobody, $name" idle "$program" $((3600 * 1200))
+        measure "moves, $name" row "$program"
+    fi
+done
