@@ -51,4 +51,16 @@ impl Credit {
         self.carried = parts % PARTS_OF_A_VEHICLE;
         parts / PARTS_OF_A_VEHICLE
     }
+
+    /// Lets so many steps go by whose vehicles nobody uses. What is carried is as after so many grants.
+    pub fn skip(&mut self, rate: u64, delta: u32, steps: u32)
+        requires rate { rate ≤ MOST_RATE }
+        requires step { delta ≤ MOST_STEP }
+        ensures carried { self.new ≡ (self.old + steps * (rate * delta)) % PARTS_OF_A_VEHICLE }
+        ensures stands { (grants : ℕ) → StandsAfter grants rate delta self.old
+            → StandsAfter (grants + steps) rate delta self.new }
+    {
+        let parts = rate * delta as u64 % PARTS_OF_A_VEHICLE;
+        self.carried = (self.carried + parts * steps as u64) % PARTS_OF_A_VEHICLE;
+    }
 }

@@ -3,7 +3,8 @@
 //! A rate gives a link or a turn its vehicles in parts. [`Credit::grant`] answers the whole
 //! vehicles of a step and carries the parts that are left over to the next one. Its promise is the
 //! closed form of the allowance: grant k + 1 with one rate is what the rate allows in step k.
-//! Whole vehicles that a step doesn't use aren't kept for later ones. No call takes memory.
+//! Whole vehicles that a step doesn't use aren't kept for later ones. [`Credit::skip`] lets many
+//! such steps go by at once. No call takes memory.
 #![tactic(auto)]
 
 mod credit;

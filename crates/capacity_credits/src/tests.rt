@@ -13,6 +13,15 @@ fn eight_steps_at_a_rate(rt: HostRuntime) -> Result<(), Fail> {
             let granted = credit.grant(rate, 6);
             assert!(rt; granted == *vehicles, "rate {rate} step {step}");
         }
+        let mut credit = Credit::new();
+        credit.skip(rate, 6, 3);
+        for (step, vehicles) in wanted.iter().enumerate().skip(3) {
+            let granted = credit.grant(rate, 6);
+            assert!(rt;
+                granted == *vehicles,
+                "rate {rate} step {step} after a skip"
+            );
+        }
     }
     Ok(())
 }
