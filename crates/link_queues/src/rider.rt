@@ -10,11 +10,14 @@ use net_core::LinkNo;
 use std::alloc::{AllocError, Global};
 use std::marker::Model;
 
-/// A vehicle on its way along a route.
+/// A vehicle on its way along a route. The last entry and the next link stand beside the lists too,
+/// so that who looks at a head follows no pointer.
 #[derive(Drop)]
 pub struct Rider {
     number: u32,
     departure: u32,
+    last: Option<u32>,
+    next: Option<LinkNo>,
     route: Route,
     entries: Vec<u32>,
     arrival: Option<u32>,
@@ -29,6 +32,13 @@ impl Model for Rider {
     ghost view = { rider_state };
 
     ghost invariant = { IsSoundRider };
+}
+
+// The link at a place of a route.
+fn link_at(route: &Route, place: usize) -> Option<LinkNo>
+    ensures { result ≡ slice_get route.now place }
+{
+    route.as_slice().get(place).copied()
 }
 
 impl Rider {
@@ -48,6 +58,8 @@ impl Rider {
         Ok(Rider {
             number,
             departure,
+            last: None,
+            next: links.first().copied(),
             route: Route::of(links),
             entries,
             arrival: None,
@@ -76,16 +88,16 @@ impl Rider {
         ensures none { IsNone result ↔ (length self.now.entries ≡ length self.now.route) }
         ensures under_way { IsSome result → self.now.arrival ≡ None }
     {
-        self.route.as_slice().get(self.entries.len()).copied()
+        self.next
     }
 
     /// The step of the last entry, and `None` exactly where no link is entered.
-    #[tactic(auto, using(crate::proofs::LastFacts::last_is))]
+    #[tactic(auto, using(crate::proofs::LastFacts::none_last, crate::proofs::LastFacts::no_last))]
     pub fn last_entry(&self) -> Option<u32>
         ensures step { result ≡ last_or None self.now.entries }
         ensures none { IsNone result ↔ (self.now.entries ≡ []) }
     {
-        self.entries.last().copied()
+        self.last
     }
 
     /// The entry steps and the step of arrival, given away.
@@ -104,7 +116,7 @@ impl Rider {
         requires { self.old.arrival ≡ None }
         ensures { self.new ≡ moved self.old step }
     {
-        if self.entries.len() < self.route.as_slice().len() {
+        if self.next.is_some() {
             self.enter(step);
         } else {
             self.arrival = Some(step);
@@ -120,5 +132,7 @@ impl Rider {
             Ok(()) => {}
             Err(_) => unreachable!(),
         }
+        self.last = Some(step);
+        self.next = link_at(&self.route, self.entries.len());
     }
 }
