@@ -21,30 +21,31 @@ use Rattle.node_transfer.specs.declared.mail.Mail.TheVariants.{Room}
 use Rattle.node_transfer.proofs.InPass.{few-on, staying-none}
 
 -- what two lists made of the same numbers agree in, they agree in at each
-map_each : {Y : Type 0} (f g : ℕ → List RiderState) (k : ℕ → List RiderState → Y) (xs : List ℕ) → map f xs ≡ map g xs → map (λ x. k x (f x)) xs ≡ map (λ x. k x (g x)) xs
+pub map_each : {Y : Type 0} (f g : ℕ → List RiderState) (k : ℕ → List RiderState → Y) (xs : List ℕ) → map f xs ≡ map g xs → map (λ x. k x (f x)) xs ≡ map (λ x. k x (g x)) xs
 map_each f g k [] h = refl
 map_each f g k (x ∷ xs) h =
     let here : f x ≡ g x = cc in
     let rest : map f xs ≡ map g xs = cc in
     ap (λ r. k x r ∷ map (λ x. k x (f x)) xs) here ∙ ap (λ ys. k x (g x) ∷ ys) (map_each f g k xs rest)
 
+-- the room that a line leaves
+pub room-same : (p : Plan) (t l : ℕ) → room_after (storage_by p.queue (link_at p l).storage) (line_before p t l) ≡ room_mail p l t
+unfolding room_mail room line_before
+room-same p t l = by_queue p.queue (length-map (queue_of l (trace_after p t)) (rider_at p (trace_after p t)))
+  where
+    by_queue : (q : Queue) → length (riders p (trace_after p t) (queue_of l (trace_after p t))) ≡ length (queue_of l (trace_after p t))
+        → room_after (storage_by q (link_at p l).storage) (riders p (trace_after p t) (queue_of l (trace_after p t))) ≡ room_by q (link_at p l).storage (length (queue_of l (trace_after p t)))
+    by_queue queue.Point e = refl
+    by_queue queue.Spatial e = ap (λ k. Some ((link_at p l).storage - k)) e
+
 module _ (p : Plan) (n t : ℕ) (step : IsStep p n t) where
-  lines-gather : map (line_before p (suc t)) (ins p n) ≡ map (λ l. line_after p n t l ++ batch_mail p l t) (ins p n)
+  pub lines-gather : map (line_before p (suc t)) (ins p n) ≡ map (λ l. line_after p n t l ++ batch_mail p l t) (ins p n)
   unfolding content_before content_after
   lines-gather = ap (λ c. c.lines) (cells_gather p step.sound t n step.node)
 
-  waiting-stays : map (waiting_before p (suc t)) (outs p n) ≡ map (waiting_after p n t) (outs p n)
+  pub waiting-stays : map (waiting_before p (suc t)) (outs p n) ≡ map (waiting_after p n t) (outs p n)
   unfolding content_before content_after
   waiting-stays = ap (λ c. c.waiting) (cells_gather p step.sound t n step.node)
-
-  room-same : (l : ℕ) → room_after (storage_by p.queue (link_at p l).storage) (line_before p (suc t) l) ≡ room_mail p l (suc t)
-  unfolding room_mail room line_before
-  room-same l = by_queue p.queue (length-map (queue_of l (trace_after p (suc t))) (rider_at p (trace_after p (suc t))))
-    where
-      by_queue : (q : Queue) → length (riders p (trace_after p (suc t)) (queue_of l (trace_after p (suc t)))) ≡ length (queue_of l (trace_after p (suc t)))
-          → room_after (storage_by q (link_at p l).storage) (riders p (trace_after p (suc t)) (queue_of l (trace_after p (suc t)))) ≡ room_by q (link_at p l).storage (length (queue_of l (trace_after p (suc t))))
-      by_queue queue.Point e = refl
-      by_queue queue.Spatial e = ap (λ k. Some ((link_at p l).storage - k)) e
 
   -- an in-link with such a line, and the room that the line leaves
   abbrev with_room : ℕ → List RiderState → InLink
@@ -64,7 +65,7 @@ module _ (p : Plan) (n t : ℕ) (step : IsStep p n t) where
   rooms-told : (ls : List ℕ) → map (λ l. with_room l (line_before p (suc t) l)) ls ≡ map (in_link p n (suc t) (line_before p (suc t)) (room_of p (suc t))) ls
   rooms-told [] = refl
   rooms-told (l ∷ ls) =
-      ap (λ r. record (in_link p n (suc t) (line_before p (suc t)) (room_of p (suc t)) l) { mail = Room (suc t) r } ∷ map (λ l. with_room l (line_before p (suc t) l)) ls) (room-same l)
+      ap (λ r. record (in_link p n (suc t) (line_before p (suc t)) (room_of p (suc t)) l) { mail = Room (suc t) r } ∷ map (λ l. with_room l (line_before p (suc t) l)) ls) (room-same p (suc t) l)
       ∙ ap (λ xs. in_link p n (suc t) (line_before p (suc t)) (room_of p (suc t)) l ∷ xs) (rooms-told ls)
 
   pub gather-stage : gathered t (cell_after p n t (batch_of p t) away) ≡ cell_before p n (suc t) (room_of p (suc t)) away

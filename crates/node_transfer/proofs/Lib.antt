@@ -24,3 +24,14 @@ pub mod Counts
 pub mod HandOver
 pub mod MailPlaces
 pub mod NoNodes
+pub mod Quiet
+pub mod Idle
+pub mod Rested
+pub mod Ready
+pub mod Numbers
+pub mod ListPlaces
+pub mod Parts
+pub mod Exchanges
+pub mod Finished
+pub mod Handed
+pub mod Cases

@@ -7,7 +7,7 @@ use Rattle.dta_model.specs.Riders.{RiderState, moved}
 use Rattle.node_transfer.specs.Meter.{MeterState, passed_one}
 use Rattle.node_transfer.specs.Outs.{released, admitted}
 
-not_le : (a b : ℕ) → b < a → nat_le a b ≡ false
+pub not_le : (a b : ℕ) → b < a → nat_le a b ≡ false
 not_le a b h = grind (arith, nat_tests)
 
 is_le : (a b : ℕ) → a ≤ b → nat_le a b ≡ true

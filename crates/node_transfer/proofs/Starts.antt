@@ -14,7 +14,7 @@ use Rattle.dta_model.specs.Riders.{RiderState}
 use Rattle.dta_model.specs.declared.plan.Plan.{Plan}
 use Rattle.node_transfer.specs.Cells.{set_some}
 use Rattle.node_transfer.specs.Contents.{storage_by}
-use Rattle.net_core.specs.Rows.{IsLinkInRange, IsTurnInRange}
+use Rattle.net_core.specs.Rows.{IsBetween, IsLinkInRange, IsTurnInRange}
 use Rattle.net_core.specs.declared.rows.TheConstants.{MOST_RATE}
 use Rattle.net_core.specs.declared.rows.Turn.{Turn as NetTurn}
 use Rattle.net_core.specs.declared.rows.TurnRow.{TurnRow}
@@ -96,6 +96,29 @@ limit_fits p a b way sound h = by_meeting (nat_eq (link_at p b).from.0 (link_at 
     by_meeting : (c : Bool) → cond c (cond (network.is_named p.net (link_at p a).to.0) (network.as_turn (find (λ turn. nat_eq turn.a.0 a && nat_eq turn.b.0 b) p.net.turns)) (Some network.free_turn)) None ≡ Some way → IfSome way.rate (λ r. r ≤ MOST_RATE)
     by_meeting true e = by_name (network.is_named p.net (link_at p a).to.0) e
     by_meeting false e = cc
+
+kept_free : (p : Plan) (a b : ℕ) → network.is_named p.net (link_at p a).to.0 ≡ false → is_kept (turn p a b) ≡ false
+unfolding network.turn network.turn_at
+kept_free p a b e = rw e (by_meeting (nat_eq (link_at p b).from.0 (link_at p a).to.0))
+  where
+    by_meeting : (c : Bool) → is_kept (cond c (Some network.free_turn) None) ≡ false
+    by_meeting true = refl
+    by_meeting false = refl
+
+-- a link of a sound loading ends at a node of the table
+pub ends_there : (p : Plan) (l : ℕ) (row : LinkRow) → IsSound p → slice_get p.net.links l ≡ Some row → row.to.0 < length p.net.nodes
+ends_there p l row sound h = (all_at (IsBetween p.net.nodes) p.net.links l row sound.net.between h).to
+
+-- at a node that lists no turn, a cell keeps none
+pub free_turns : (p : Plan) (l : ℕ) (row : LinkRow) (bs : List ℕ) → slice_get p.net.links l ≡ Some row → network.is_named p.net row.to.0 ≡ false → turns_at_start p l bs ≡ []
+free_turns p l row bs h e = ap (λ ys. map (turn_at_start p l) ys) (none_kept bs)
+  where
+    none_is : (b : ℕ) → is_kept (turn p l b) ≡ false
+    none_is b = kept_free p l b (subst (λ r. network.is_named p.net r.to.0 ≡ false) (sym (got_link p.net.links l row h)) e)
+
+    none_kept : (bs : List ℕ) → filter (λ b. is_kept (turn p l b)) bs ≡ []
+    none_kept [] = refl
+    none_kept (b ∷ bs) = rw (none_is b) (none_kept bs)
 
 -- one more turn, where it is one that a cell keeps
 pub turns_more : (p : Plan) (l : ℕ) (bs : List LinkNo) (i : ℕ) (d : LinkNo) → i < length bs

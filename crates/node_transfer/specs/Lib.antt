@@ -8,5 +8,8 @@ pub mod Start
 pub mod StartInside
 pub mod StartCells
 pub mod Counts
+pub mod Skip
+pub mod Rest
 pub mod Laws
 pub mod Examples
+pub mod ByHand

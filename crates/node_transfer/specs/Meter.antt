@@ -27,3 +27,7 @@ closed m = record m { left = 0 }
 -- not more than a room
 abbrev pub capped : ℕ → MeterState → MeterState
 capped room m = record m { left = min m.left room }
+
+-- so many steps went by whose allowances nobody used
+abbrev pub skipped : ℕ → ℕ → MeterState → MeterState
+skipped delta steps m = record { rate = m.rate; carried = (m.carried + steps * (m.rate * delta)) % PARTS_OF_A_VEHICLE; left = 0 }

@@ -5,17 +5,21 @@ ghost use Rattle.node_transfer.specs.Contents.{IsStep, away, batch_of, cell_afte
 ghost use Rattle.node_transfer.specs.Counts.{counted, counts_at};
 ghost use Rattle.node_transfer.specs.Hand.{Within, handed, riders_in};
 ghost use Rattle.dta_model.specs.Sound.{IsSound};
-ghost use Rattle.std.specs.Prelude.{◌≡◌, ℕ, suc, ◌<◌, ◌≤◌, [], All, length, slice_get, IfSome, Some};
+ghost use Rattle.node_transfer.specs.Rest.{IsQuiet, rested};
+ghost use Rattle.node_transfer.specs.declared.rest.TheConstants.{NO_STEP};
+ghost use Rattle.std.specs.Prelude.{◌≡◌, ℕ, suc, ◌<◌, ◌≤◌, [], All, length, slice_get, IfOk, IfSome, Some};
 
 use crate::hand::hand_parts;
 use crate::in_link::{InLink, gather_links};
 use crate::mail::Mail;
 use crate::out_link::OutLink;
 use crate::places::{count_parts, put_in_mail, put_out_mail, swap_in_mail, swap_out_mail};
+use crate::rest::{first_step, rest_links};
 use crate::step::step_links;
 use dta_model::{Loaded, MOST_HORIZON};
 use fixed_units::MOST_STEP;
 use link_queues::Line;
+use net_core::Memory;
 use std::alloc::Global;
 use std::marker::Model;
 
@@ -27,9 +31,15 @@ pub struct CellCounts {
     pub arrived: u64,
 }
 
-/// One node's links, riders and credits.
+/// One node's links, riders and credits. It is one pointer to move.
 #[derive(Drop)]
 pub struct NodeCell {
+    parts: Box<Parts>,
+}
+
+// What a cell holds.
+#[derive(Drop)]
+struct Parts {
     ins: Vec<InLink>,
     outs: Vec<OutLink>,
     arrived: Line,
@@ -43,23 +53,33 @@ impl Model for NodeCell {
 
     ghost Value = { CellState };
 
-    ghost view = { λ c. record { ins = c.ins.items; outs = c.outs.items; arrived = c.arrived; delta = c.delta } };
+    ghost view = { λ c. record { ins = c.parts.value.ins.items; outs = c.parts.value.outs.items; arrived = c.parts.value.arrived; delta = c.parts.value.delta } };
 
-    ghost invariant = { λ c. c.delta ≤ MOST_STEP };
+    ghost invariant = { λ c. c.parts.value.delta ≤ MOST_STEP };
 }
 
 impl NodeCell {
     // A cell of these links, where nobody has arrived.
-    pub(crate) fn of(alloc: Global, ins: Vec<InLink>, outs: Vec<OutLink>, delta: u32) -> Self
+    pub(crate) fn of(
+        alloc: Global,
+        ins: Vec<InLink>,
+        outs: Vec<OutLink>,
+        delta: u32,
+    ) -> Result<Self, Memory>
         requires { delta ≤ MOST_STEP }
-        ensures { result ≡ record { ins = ins.items; outs = outs.items; arrived = []; delta = delta } }
+        ensures { IfOk result (λ cell. cell ≡ record { ins = ins.items; outs = outs.items; arrived = []; delta = delta }) }
     {
-        NodeCell {
-            ins,
-            outs,
-            arrived: Line::new(alloc),
-            delta,
-        }
+        let arrived = Line::new(alloc);
+        let parts = Box::new(
+            alloc,
+            Parts {
+                ins,
+                outs,
+                arrived,
+                delta,
+            },
+        )?;
+        Ok(NodeCell { parts })
     }
 
     /// Moves the vehicles of a step. The mail of each out-link is the room of that step, and becomes the batch of it.
@@ -81,16 +101,35 @@ impl NodeCell {
         self.join_batches(step);
     }
 
+    /// Lets so many steps go by in which nobody moves: their allowances are granted, and lost.
+    pub fn rest(&mut self, steps: u32)
+        ensures { self.new ≡ rested steps self.old }
+    {
+        let parts = &mut *self.parts;
+        rest_links(&mut parts.ins, &mut parts.outs, parts.delta, steps);
+    }
+
+    /// The first step in which somebody of the cell is ready, unless somebody comes: the head of an in-link has been on it for long
+    /// enough, or one who waits is due. It is [`NO_STEP`] where nobody ever is.
+    pub fn next_step(&self) -> u32
+        ensures quiet { (step : ℕ) → step < result → IsQuiet step self.now }
+        ensures least { result < NO_STEP → IsQuiet result self.now → ⊥ }
+    {
+        let parts = &*self.parts;
+        first_step(&parts.ins, &parts.outs)
+    }
+
     // Moves the vehicles of a step.
     fn pass_vehicles(&mut self, step: u32)
         requires { CanTransfer self.old }
         ensures { self.new ≡ transferred step self.old }
     {
+        let parts = &mut *self.parts;
         step_links(
-            &mut self.ins,
-            &mut self.outs,
-            &mut self.arrived,
-            self.delta,
+            &mut parts.ins,
+            &mut parts.outs,
+            &mut parts.arrived,
+            parts.delta,
             step,
         );
     }
@@ -101,7 +140,7 @@ impl NodeCell {
         requires can { All (CanGather step) self.old.ins }
         ensures { self.new ≡ gathered step self.old }
     {
-        gather_links(&mut self.ins, step);
+        gather_links(&mut self.parts.ins, step);
     }
 
     /// Fills the place of an out-link's mail.
@@ -110,7 +149,7 @@ impl NodeCell {
         requires away { out_mail place self.old ≡ Some Mail.Away }
         ensures { self.new ≡ with_out_mail place mail self.old }
     {
-        put_out_mail(&mut self.outs, place, mail);
+        put_out_mail(&mut self.parts.outs, place, mail);
     }
 
     /// Fills the place of an in-link's mail.
@@ -119,7 +158,7 @@ impl NodeCell {
         requires away { in_mail place self.old ≡ Some Mail.Away }
         ensures { self.new ≡ with_in_mail place mail self.old }
     {
-        put_in_mail(&mut self.ins, place, mail);
+        put_in_mail(&mut self.parts.ins, place, mail);
     }
 
     /// Takes out the mail of an out-link.
@@ -128,7 +167,7 @@ impl NodeCell {
         ensures mail { out_mail place self.old ≡ Some result }
         ensures away { self.new ≡ with_out_mail place Mail.Away self.old }
     {
-        swap_out_mail(&mut self.outs, place)
+        swap_out_mail(&mut self.parts.outs, place)
     }
 
     /// Takes out the mail of an in-link.
@@ -137,7 +176,7 @@ impl NodeCell {
         ensures mail { in_mail place self.old ≡ Some result }
         ensures away { self.new ≡ with_in_mail place Mail.Away self.old }
     {
-        swap_in_mail(&mut self.ins, place)
+        swap_in_mail(&mut self.parts.ins, place)
     }
 
     /// How many vehicles are on the in-link of a place.
@@ -145,7 +184,7 @@ impl NodeCell {
         requires { place < length self.now.ins }
         ensures line { IfSome (slice_get self.now.ins place) (λ link. result ≡ length link.line) }
     {
-        self.ins[place].line.len() as u64
+        self.parts.ins[place].line.len() as u64
     }
 
     /// How many vehicles wait for the out-links and are due, how many are on the in-links, and how many have arrived, where the cell
@@ -161,7 +200,8 @@ impl NodeCell {
     fn count_vehicles(&self) -> CellCounts
         ensures { result ≡ counted self.now.ins self.now.outs self.now.arrived }
     {
-        count_parts(&self.ins, &self.outs, &self.arrived)
+        let parts = &*self.parts;
+        count_parts(&parts.ins, &parts.outs, &parts.arrived)
     }
 
     /// Sets the journey of each rider of the cell; the other journeys stay.
@@ -169,12 +209,12 @@ impl NodeCell {
         requires { All (Within (length loaded.old)) (riders_in self) }
         ensures { loaded.new ≡ handed (riders_in self) loaded.old }
     {
-        let NodeCell {
+        let Parts {
             mut ins,
             mut outs,
             mut arrived,
             ..
-        } = self;
+        } = Box::into_inner(self.parts);
         hand_parts(&mut ins, &mut outs, &mut arrived, loaded);
     }
 }

@@ -1,5 +1,6 @@
 // Laws of the contents of cells. Each is the contract of a function that does nothing.
 ghost use Rattle.node_transfer.specs.Laws.{CellsHandOver, MailGoesByLinks};
+ghost use Rattle.node_transfer.specs.Rest.{QuietNodesStayIdle};
 
 /// A mail that is put into the place of a link is the mail of that link.
 pub fn mail_goes_by_links()
@@ -9,4 +10,9 @@ pub fn mail_goes_by_links()
 /// All cells together, at the horizon, hand over the journeys of the loading.
 pub fn cells_hand_over()
     ensures { CellsHandOver }
+{}
+
+/// At a node where nobody is ready nobody moves, and where nobody comes either, its cell only rests.
+pub fn quiet_nodes_stay_idle()
+    ensures { QuietNodesStayIdle }
 {}

@@ -16,6 +16,7 @@ mod meter;
 mod out_link;
 mod pass;
 mod places;
+mod rest;
 mod start;
 mod start_cells;
 mod start_lines;
@@ -24,11 +25,14 @@ mod threads;
 mod turn;
 
 pub use cell::{CellCounts, NodeCell};
-pub use laws::{cells_hand_over, mail_goes_by_links};
+pub use laws::{cells_hand_over, mail_goes_by_links, quiet_nodes_stay_idle};
 pub use lists::{Cells, Mails, Opening};
 pub use mail::Mail;
+pub use rest::NO_STEP;
 pub use start::opening;
 pub use threads::cells_go_to_threads;
 
+#[cfg(test)]
+mod by_hand;
 #[cfg(test)]
 mod tests;

@@ -1,6 +1,6 @@
 // What a rate still allows in a step.
 ghost use Rattle.std.specs.Prelude.{◌≡◌, ℕ, ◌+◌, ◌-◌, ◌<◌, ◌≤◌};
-ghost use Rattle.node_transfer.specs.Meter.{MeterState, granted, passed_one, closed, capped, unused};
+ghost use Rattle.node_transfer.specs.Meter.{MeterState, granted, passed_one, closed, capped, skipped, unused};
 
 use capacity_credits::Credit;
 use fixed_units::MOST_STEP;
@@ -75,5 +75,14 @@ impl Meter {
         ensures { self.new ≡ capped room self.old }
     {
         self.left = self.left.min(room);
+    }
+
+    /// Lets so many steps go by whose allowances nobody uses.
+    pub fn rest(&mut self, delta: u32, steps: u32)
+        requires { delta ≤ MOST_STEP }
+        ensures { self.new ≡ skipped delta steps self.old }
+    {
+        self.credit.skip(self.rate, delta, steps);
+        self.left = 0;
     }
 }

@@ -59,7 +59,8 @@ fn start_cell(
     let outs = loading.net.outs(node);
     let out_links = start_outs(alloc, loading, outs, lines)?;
     let in_links = start_ins(alloc, loading, loading.net.ins(node), outs)?;
-    Ok(NodeCell::of(alloc, in_links, out_links, loading.delta))
+    let cell = NodeCell::of(alloc, in_links, out_links, loading.delta)?;
+    Ok(cell)
 }
 
 // Out-links before the first step. Their waiting lines are moved into them.
@@ -149,8 +150,8 @@ fn start_in_link(
     })
 }
 
-// The turns of an in-link that have a penalty or a limit.
-#[tactic(auto, using(crate::proofs::Starts::start_steps))]
+// The turns of an in-link that have a penalty or a limit. Where its node lists no turn, each is free.
+#[tactic(auto, using(crate::proofs::Starts::start_steps, crate::proofs::Starts::ends_there))]
 fn start_turns(
     alloc: Global,
     loading: &Loading,
@@ -163,6 +164,10 @@ fn start_turns(
     ensures { IfOk result (λ turns. turns ≡ turns_at_start (plan_of loading.now) link.0 (link_numbers outs.now)) }
 {
     let mut list = Vec::new(alloc);
+    let node = loading.net.link(link).to;
+    if !loading.net.is_named(node) {
+        return Ok(Turns { list });
+    }
     for i in 0..outs.len() {
         if let Some(turn) = start_turn(loading, link, outs[i]) {
             match list.push(turn) {

@@ -2,8 +2,10 @@
 ghost use Rattle.std.specs.Prelude.{◌≡◌, ℕ, ◌+◌, ◌-◌, ◌<◌, ◌≤◌, length, map, slice_get, List, slice_index_or, slice_set, option_copied, Option, Some, None, IfSome, true, take, drop, ◌++◌};
 ghost use Rattle.node_transfer.specs.Meter.{MeterState, granted, passed_one, closed};
 ghost use Rattle.node_transfer.specs.Pass.{place_of, turn_links, opened_turn, closed_turn, used_turn, limit_open, used_at, turn_open};
+ghost use Rattle.node_transfer.specs.Skip.{skipped_turn};
 
 use crate::meter::Meter;
+use crate::rest::rest_turns;
 use fixed_units::MOST_STEP;
 use std::marker::Model;
 
@@ -113,6 +115,14 @@ pub fn use_turn_at(turns: &mut [Turn], place: usize)
 }
 
 impl Turns {
+    /// Lets so many steps go by in which nobody turns.
+    pub fn rest(&mut self, delta: u32, steps: u32)
+        requires { delta ≤ MOST_STEP }
+        ensures { self.new ≡ map (skipped_turn delta steps) self.old }
+    {
+        rest_turns(&mut self.list, delta, steps);
+    }
+
     /// Grants all turns their allowances.
     pub fn open(&mut self, delta: u32)
         requires { delta ≤ MOST_STEP }

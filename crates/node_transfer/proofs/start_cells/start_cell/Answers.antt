@@ -19,7 +19,7 @@ returns-clause-cell c =
     let p = plan_of c.args.loading.now in
     let bs = ap (λ xs. link_numbers xs) c.outs-outs.ensures ∙ numbers_of_links (outs p c.args.node.0) in
     let ls = ap (λ xs. link_numbers xs) c.ins.ensures ∙ numbers_of_links (ins p c.args.node.0) in
-    c.of.ensures
+    c.in_ok-cell.ensures
     ∙ rw (c.in_ok-in_links.ensures, c.in_ok-out_links.ensures.taken, bs, ls) refl
 
 pub returns-clause-left : goal.returns-clause-left

@@ -1,0 +1,5 @@
+use Rattle.std.proofs.Common.{arith}
+use Rattle.node_transfer.proofs.rest.first_step.Goals as goal
+
+pub returns-clause-waits : goal.returns-clause-waits
+returns-clause-waits c step h = c.first_due.ensures.before step (let e = c.min.ensures in omega (arith, e, h))

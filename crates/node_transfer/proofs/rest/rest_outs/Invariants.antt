@@ -1,0 +1,7 @@
+use Rattle.std.proofs.Common.{◌≡◌, map}
+use Rattle.node_transfer.specs.Skip.{skipped_out}
+use Rattle.node_transfer.proofs.Maps.{mapped_from}
+use Rattle.node_transfer.proofs.rest.rest_outs.Given as goal
+
+abbrev pub invariant-loop-i : goal.invariant-loop-i
+invariant-loop-i l = mapped_from (skipped_out l.delta l.steps) l.i l.outs ≡ map (skipped_out l.delta l.steps) l.initial.outs

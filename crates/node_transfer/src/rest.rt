@@ -1,0 +1,138 @@
+// Links at which nobody moves.
+ghost use Rattle.dta_model.specs.Riders.{RiderState};
+ghost use Rattle.node_transfer.specs.Rest.{HeadIsLater, WaitLater, rested};
+ghost use Rattle.node_transfer.specs.declared.rest.TheConstants.{NO_STEP};
+ghost use Rattle.node_transfer.specs.Skip.{skipped_gate, skipped_in, skipped_out, skipped_turn};
+ghost use Rattle.std.specs.Prelude.{◌≡◌, ℕ, ◌<◌, ◌≤◌, All, List, map};
+
+use crate::in_link::InLink;
+use crate::out_link::OutLink;
+use crate::pass::Gate;
+use crate::turn::Turn;
+use fixed_units::MOST_STEP;
+
+/// The answer where nobody is ready in any step.
+pub const NO_STEP: u32 = 4_294_967_295;
+
+/// Lets so many steps go by in which nobody turns.
+pub fn rest_turns(turns: &mut [Turn], delta: u32, steps: u32)
+    requires { delta ≤ MOST_STEP }
+    ensures { turns.new ≡ map (skipped_turn delta steps) turns.old }
+{
+    for i in 0..turns.len() {
+        rest_turn(&mut turns[i], delta, steps);
+    }
+}
+
+// Lets so many steps go by in which nobody takes the turn.
+fn rest_turn(turn: &mut Turn, delta: u32, steps: u32)
+    requires { delta ≤ MOST_STEP }
+    ensures { turn.new ≡ skipped_turn delta steps turn.old }
+{
+    match &mut turn.limit {
+        None => {}
+        Some(meter) => meter.rest(delta, steps),
+    }
+}
+
+// Lets so many steps go by in which nobody leaves by the gate.
+fn rest_gate(gate: &mut Gate, delta: u32, steps: u32)
+    requires { delta ≤ MOST_STEP }
+    ensures { gate.new ≡ skipped_gate delta steps gate.old }
+{
+    gate.outflow.rest(delta, steps);
+    gate.turns.rest(delta, steps);
+}
+
+// Lets so many steps go by in which nobody leaves the in-links.
+fn rest_ins(ins: &mut [InLink], delta: u32, steps: u32)
+    requires { delta ≤ MOST_STEP }
+    ensures { ins.new ≡ map (skipped_in delta steps) ins.old }
+{
+    for i in 0..ins.len() {
+        rest_gate(&mut ins[i].gate, delta, steps);
+    }
+}
+
+// Lets so many steps go by in which nobody enters the out-links.
+fn rest_outs(outs: &mut [OutLink], delta: u32, steps: u32)
+    requires { delta ≤ MOST_STEP }
+    ensures { outs.new ≡ map (skipped_out delta steps) outs.old }
+{
+    for i in 0..outs.len() {
+        outs[i].inflow.rest(delta, steps);
+    }
+}
+
+/// Lets so many steps go by in which nobody moves. It looks at each limit once, however many steps there are.
+pub fn rest_links(ins: &mut [InLink], outs: &mut [OutLink], delta: u32, steps: u32)
+    requires { delta ≤ MOST_STEP }
+    ensures { (arrived : List RiderState) → rested steps (record { ins = ins.old; outs = outs.old; arrived = arrived; delta = delta })
+        ≡ record { ins = ins.new; outs = outs.new; arrived = arrived; delta = delta } }
+{
+    if steps > 0 {
+        rest_ins(ins, delta, steps);
+        rest_outs(outs, delta, steps);
+    }
+}
+
+// The first step in which the head of an in-link is ready.
+fn ready_step(link: &InLink) -> u32
+    ensures before { (step : ℕ) → step < result → HeadIsLater step link.now }
+    ensures least { result < NO_STEP → HeadIsLater result link.now → ⊥ }
+{
+    match link.line.front() {
+        None => NO_STEP,
+        Some(rider) => match rider.last_entry() {
+            None => NO_STEP,
+            Some(entry) => entry.saturating_add(link.gate.free),
+        },
+    }
+}
+
+// The first step in which one who waits for an out-link is due.
+fn due_step(out: &OutLink) -> u32
+    ensures before { (step : ℕ) → step < result → WaitLater step out.now }
+    ensures least { result < NO_STEP → WaitLater result out.now → ⊥ }
+{
+    if out.waiting.due.len() > 0 {
+        return 0;
+    }
+    match out.waiting.later.front() {
+        None => NO_STEP,
+        Some(rider) => rider.departure(),
+    }
+}
+
+// The first step in which a head of the in-links is ready.
+fn first_ready(ins: &[InLink]) -> u32
+    ensures before { (step : ℕ) → step < result → All (HeadIsLater step) ins.now }
+    ensures least { result < NO_STEP → All (HeadIsLater result) ins.now → ⊥ }
+{
+    let mut first = NO_STEP;
+    for link in ins {
+        first = first.min(ready_step(link));
+    }
+    first
+}
+
+// The first step in which one who waits for the out-links is due.
+fn first_due(outs: &[OutLink]) -> u32
+    ensures before { (step : ℕ) → step < result → All (WaitLater step) outs.now }
+    ensures least { result < NO_STEP → All (WaitLater result) outs.now → ⊥ }
+{
+    let mut first = NO_STEP;
+    for out in outs {
+        first = first.min(due_step(out));
+    }
+    first
+}
+
+/// The first step in which a head of the in-links is ready, or one who waits for the out-links is due. It looks at each link once.
+pub fn first_step(ins: &[InLink], outs: &[OutLink]) -> u32
+    ensures heads { (step : ℕ) → step < result → All (HeadIsLater step) ins.now }
+    ensures waits { (step : ℕ) → step < result → All (WaitLater step) outs.now }
+    ensures least { result < NO_STEP → All (HeadIsLater result) ins.now → All (WaitLater result) outs.now → ⊥ }
+{
+    first_ready(ins).min(first_due(outs))
+}
