@@ -1,7 +1,8 @@
-pub mod Numbers
-pub mod Places
-pub mod Parts
+pub mod Sets
+pub mod Clocks
 pub mod Exchanges
-pub mod Finished
-pub mod Handed
+pub mod Mails
+pub mod Passed
+pub mod Steps
+pub mod Ends
 pub mod Cases

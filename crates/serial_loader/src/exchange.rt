@@ -3,55 +3,77 @@ ghost use Rattle.dta_model.specs.Lent.{plan_of};
 ghost use Rattle.dta_model.specs.Plans.{ins as ins_of, outs as outs_of};
 ghost use Rattle.node_transfer.specs.Cells.{in_mail, out_mail, with_in_mail, with_out_mail};
 ghost use Rattle.node_transfer.specs.Contents.{IsStep, away, batch_of, cell_after, cell_before, room_of};
-ghost use Rattle.serial_loader.specs.Phases.{all_mail, mail_in_gather, mail_in_transfer, replaced};
+ghost use Rattle.serial_loader.specs.Exchange.{AllBringBatches, AllHoldBatches, AllTellRooms, AreWoken, ChangesOnly, as_batch, brings, put_batch, told_room, wake_by, woken};
 ghost use Rattle.std.specs.Prelude.{◌≡◌, ◌<◌, suc, length, slice_get, slice_set, IfSome, Some};
 
+use crate::clock::Clock;
 use dta_model::Loading;
+use link_queues::Line;
 use net_core::{LinkNo, NodeNo};
 use node_transfer::{Mail, NodeCell};
+use std::alloc::Global;
 
 /// Fills the places of a node's out-links with the rooms of a step.
-pub fn lend_rooms(
-    loading: &Loading,
-    node: NodeNo,
-    step: u32,
-    cell: &mut NodeCell,
-    mail: &mut [Mail],
-)
+pub fn lend_rooms(loading: &Loading, node: NodeNo, step: u32, cell: &mut NodeCell, mail: &[Mail])
     requires step { IsStep (plan_of loading.now) node.0 step }
+    requires count { length mail.now ≡ length loading.now.net.now.links }
     requires cell { cell.old ≡ cell_before (plan_of loading.now) node.0 step away away }
-    requires mail { mail.old ≡ all_mail (plan_of loading.now) (mail_in_transfer (plan_of loading.now) step node.0) }
-    ensures cell { cell.new ≡ cell_before (plan_of loading.now) node.0 step away (room_of (plan_of loading.now) step) }
-    ensures mail { mail.new ≡ all_mail (plan_of loading.now) (replaced (outs_of (plan_of loading.now) node.0) away (mail_in_transfer (plan_of loading.now) step node.0)) }
+    requires rooms { AllTellRooms (plan_of loading.now) step (outs_of (plan_of loading.now) node.0) mail.now }
+    ensures { cell.new ≡ cell_before (plan_of loading.now) node.0 step away (room_of (plan_of loading.now) step) }
 {
     let outs = loading.net.outs(node);
     for place in 0..outs.len() {
-        lend_out(outs[place], place, cell, mail);
+        let there = &mail[outs[place].0 as usize];
+        cell.take_out(
+            place,
+            Mail::Room {
+                step,
+                room: room_in(there),
+            },
+        );
     }
 }
 
-/// Takes the batches of a step out of the places of a node's out-links.
+// The room that a mail tells.
+fn room_in(mail: &Mail) -> Option<u32>
+    ensures { result ≡ told_room mail.now }
+{
+    match mail {
+        Mail::Room { room, .. } => *room,
+        _ => None,
+    }
+}
+
+/// Takes the batches of a step out of the places of a node's out-links. Those with which somebody comes wake the nodes to which they
+/// go; the others are dropped.
 pub fn collect_batches(
     loading: &Loading,
     node: NodeNo,
     step: u32,
     cell: &mut NodeCell,
+    clocks: &mut [Clock],
     mail: &mut [Mail],
 )
     requires step { IsStep (plan_of loading.now) node.0 step }
+    requires clocks { length clocks.old ≡ length loading.now.net.now.nodes }
+    requires mail { length mail.old ≡ length loading.now.net.now.links }
     requires cell { cell.old ≡ cell_after (plan_of loading.now) node.0 step away (batch_of (plan_of loading.now) step) }
-    requires mail { mail.old ≡ all_mail (plan_of loading.now) (replaced (outs_of (plan_of loading.now) node.0) away (mail_in_transfer (plan_of loading.now) step node.0)) }
+    requires rooms { AllTellRooms (plan_of loading.now) step (outs_of (plan_of loading.now) node.0) mail.old }
     ensures cell { cell.new ≡ cell_after (plan_of loading.now) node.0 step away away }
-    ensures mail { mail.new ≡ all_mail (plan_of loading.now) (mail_in_transfer (plan_of loading.now) step (suc node.0)) }
+    ensures clocks { AreWoken step clocks.old clocks.new }
+    ensures others { ChangesOnly (outs_of (plan_of loading.now) node.0) mail.old mail.new }
+    ensures batches { AllHoldBatches (plan_of loading.now) step clocks.new (outs_of (plan_of loading.now) node.0) mail.new }
 {
     let outs = loading.net.outs(node);
     for place in 0..outs.len() {
-        collect_out(outs[place], place, cell, mail);
+        let to = loading.net.link(outs[place]).to;
+        collect_out(outs[place], to, place, step, cell, clocks, mail);
     }
 }
 
 /// Fills the places of a node's in-links with the batches of a step.
 pub fn lend_batches(
+    alloc: Global,
     loading: &Loading,
     node: NodeNo,
     step: u32,
@@ -59,14 +81,15 @@ pub fn lend_batches(
     mail: &mut [Mail],
 )
     requires step { IsStep (plan_of loading.now) node.0 step }
+    requires count { length mail.old ≡ length loading.now.net.now.links }
     requires cell { cell.old ≡ cell_after (plan_of loading.now) node.0 step away away }
-    requires mail { mail.old ≡ all_mail (plan_of loading.now) (mail_in_gather (plan_of loading.now) step node.0) }
+    requires batches { AllBringBatches (plan_of loading.now) step (ins_of (plan_of loading.now) node.0) mail.old }
     ensures cell { cell.new ≡ cell_after (plan_of loading.now) node.0 step (batch_of (plan_of loading.now) step) away }
-    ensures mail { mail.new ≡ all_mail (plan_of loading.now) (replaced (ins_of (plan_of loading.now) node.0) away (mail_in_gather (plan_of loading.now) step node.0)) }
+    ensures others { ChangesOnly (ins_of (plan_of loading.now) node.0) mail.old mail.new }
 {
     let ins = loading.net.ins(node);
     for place in 0..ins.len() {
-        lend_in(ins[place], place, cell, mail);
+        lend_in(alloc, ins[place], place, step, cell, mail);
     }
 }
 
@@ -79,10 +102,11 @@ pub fn collect_rooms(
     mail: &mut [Mail],
 )
     requires step { IsStep (plan_of loading.now) node.0 step }
+    requires count { length mail.old ≡ length loading.now.net.now.links }
     requires cell { cell.old ≡ cell_before (plan_of loading.now) node.0 (suc step) (room_of (plan_of loading.now) (suc step)) away }
-    requires mail { mail.old ≡ all_mail (plan_of loading.now) (replaced (ins_of (plan_of loading.now) node.0) away (mail_in_gather (plan_of loading.now) step node.0)) }
     ensures cell { cell.new ≡ cell_before (plan_of loading.now) node.0 (suc step) away away }
-    ensures mail { mail.new ≡ all_mail (plan_of loading.now) (mail_in_gather (plan_of loading.now) step (suc node.0)) }
+    ensures others { ChangesOnly (ins_of (plan_of loading.now) node.0) mail.old mail.new }
+    ensures rooms { AllTellRooms (plan_of loading.now) (suc step) (ins_of (plan_of loading.now) node.0) mail.new }
 {
     let ins = loading.net.ins(node);
     for place in 0..ins.len() {
@@ -90,42 +114,77 @@ pub fn collect_rooms(
     }
 }
 
-// Moves the mail of a link into the place of an out-link.
-fn lend_out(link: LinkNo, place: usize, cell: &mut NodeCell, mail: &mut [Mail])
+// Takes the batch out of an out-link's place. Where somebody comes with it, it becomes the mail of its link, and wakes the node.
+fn collect_out(
+    link: LinkNo,
+    to: NodeNo,
+    place: usize,
+    step: u32,
+    cell: &mut NodeCell,
+    clocks: &mut [Clock],
+    mail: &mut [Mail],
+)
     requires link { link.0 < length mail.old }
-    requires there { place < length cell.old.outs }
-    requires away { out_mail place cell.old ≡ Some Mail.Away }
-    ensures mail { mail.new ≡ slice_set mail.old link.0 Mail.Away }
-    ensures cell { IfSome (slice_get mail.old link.0) (λ m. cell.new ≡ with_out_mail place m cell.old) }
-{
-    cell.take_out(
-        place,
-        std::mem::replace(&mut mail[link.0 as usize], Mail::Away),
-    );
-}
-
-// Moves the mail of an out-link's place to its link.
-fn collect_out(link: LinkNo, place: usize, cell: &mut NodeCell, mail: &mut [Mail])
-    requires link { link.0 < length mail.old }
+    requires to { to.0 < length clocks.old }
     requires there { place < length cell.old.outs }
     ensures cell { cell.new ≡ with_out_mail place Mail.Away cell.old }
-    ensures mail { IfSome (out_mail place cell.old) (λ m. mail.new ≡ slice_set mail.old link.0 m) }
+    ensures mail { IfSome (out_mail place cell.old) (λ m. mail.new ≡ put_batch link.0 m mail.old) }
+    ensures clocks { IfSome (out_mail place cell.old) (λ m. clocks.new ≡ wake_by step to.0 m clocks.old) }
 {
-    mail[link.0 as usize] = cell.give_out(place);
+    let batch = cell.give_out(place);
+    if brings_somebody(&batch) {
+        wake(&mut clocks[to.0 as usize], step);
+        mail[link.0 as usize] = batch;
+    }
 }
 
-// Moves the mail of a link into the place of an in-link.
-fn lend_in(link: LinkNo, place: usize, cell: &mut NodeCell, mail: &mut [Mail])
+// Whether somebody comes with a mail.
+fn brings_somebody(mail: &Mail) -> bool
+    ensures { result ≡ brings mail.now }
+{
+    match mail {
+        Mail::Batch { line, .. } => line.len() > 0,
+        _ => false,
+    }
+}
+
+// Wakes a node in a step at the latest.
+fn wake(clock: &mut Clock, step: u32)
+    ensures { clock.new ≡ woken step clock.old }
+{
+    clock.wake = clock.wake.min(step);
+}
+
+// Moves the mail of a link into the place of an in-link, as the batch of a step.
+fn lend_in(
+    alloc: Global,
+    link: LinkNo,
+    place: usize,
+    step: u32,
+    cell: &mut NodeCell,
+    mail: &mut [Mail],
+)
     requires link { link.0 < length mail.old }
     requires there { place < length cell.old.ins }
     requires away { in_mail place cell.old ≡ Some Mail.Away }
     ensures mail { mail.new ≡ slice_set mail.old link.0 Mail.Away }
-    ensures cell { IfSome (slice_get mail.old link.0) (λ m. cell.new ≡ with_in_mail place m cell.old) }
+    ensures cell { IfSome (slice_get mail.old link.0) (λ m. cell.new ≡ with_in_mail place (as_batch step m) cell.old) }
 {
-    cell.take_in(
-        place,
-        std::mem::replace(&mut mail[link.0 as usize], Mail::Away),
-    );
+    let there = std::mem::replace(&mut mail[link.0 as usize], Mail::Away);
+    cell.take_in(place, to_batch(alloc, step, there));
+}
+
+// A mail as the batch of a step.
+fn to_batch(alloc: Global, step: u32, mail: Mail) -> Mail
+    ensures { result ≡ as_batch step mail }
+{
+    match mail {
+        Mail::Batch { step, line } => Mail::Batch { step, line },
+        _ => Mail::Batch {
+            step,
+            line: Line::new(alloc),
+        },
+    }
 }
 
 // Moves the mail of an in-link's place to its link.

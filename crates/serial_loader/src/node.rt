@@ -1,48 +1,72 @@
 // One node's part of a step.
 ghost use Rattle.dta_model.specs.Lent.{plan_of};
-ghost use Rattle.node_transfer.specs.Contents.{IsStep, away, batch_of, cell_after, cell_before, room_of};
-ghost use Rattle.serial_loader.specs.Phases.{all_mail, mail_in_gather, mail_in_transfer};
-ghost use Rattle.std.specs.Prelude.{◌≡◌, suc};
+ghost use Rattle.dta_model.specs.Plans.{ins as ins_of, outs as outs_of};
+ghost use Rattle.node_transfer.specs.Contents.{IsStep, away, cell_after, cell_before};
+ghost use Rattle.serial_loader.specs.Exchange.{AllBringBatches, AllHoldBatches, AllTellRooms, AreLeft, ChangesOnly};
+ghost use Rattle.serial_loader.specs.Phases.{IsBefore, Stands};
+ghost use Rattle.std.specs.Prelude.{◌≡◌, suc, IfSome, length, slice_get};
 
+use crate::clock::Clock;
 use crate::exchange::{collect_batches, collect_rooms, lend_batches, lend_rooms};
 use dta_model::Loading;
 use net_core::NodeNo;
 use node_transfer::{Mail, NodeCell};
+use std::alloc::Global;
 
-/// The transfer of a node: it takes the rooms of its out-links, and leaves batches in their place.
+/// The transfer of a node: it reads the rooms of its out-links, and puts its batches at the links over which somebody goes. It wakes
+/// the nodes to which these lead, and itself, for the gather of the step.
 pub fn transfer_node(
     loading: &Loading,
     node: NodeNo,
     step: u32,
     cell: &mut NodeCell,
+    clocks: &mut [Clock],
     mail: &mut [Mail],
 )
     requires step { IsStep (plan_of loading.now) node.0 step }
-    requires cell { cell.old ≡ cell_before (plan_of loading.now) node.0 step away away }
-    requires mail { mail.old ≡ all_mail (plan_of loading.now) (mail_in_transfer (plan_of loading.now) step node.0) }
+    requires clocks { length clocks.old ≡ length loading.now.net.now.nodes }
+    requires mail { length mail.old ≡ length loading.now.net.now.links }
+    requires cell { IfSome (slice_get clocks.old node.0) (λ w. Stands step w cell.old (cell_before (plan_of loading.now) node.0 step away away)) }
+    requires rooms { AllTellRooms (plan_of loading.now) step (outs_of (plan_of loading.now) node.0) mail.old }
     ensures cell { cell.new ≡ cell_after (plan_of loading.now) node.0 step away away }
-    ensures mail { mail.new ≡ all_mail (plan_of loading.now) (mail_in_transfer (plan_of loading.now) step (suc node.0)) }
+    ensures clocks { AreLeft step node.0 clocks.old clocks.new }
+    ensures others { ChangesOnly (outs_of (plan_of loading.now) node.0) mail.old mail.new }
+    ensures batches { AllHoldBatches (plan_of loading.now) step clocks.new (outs_of (plan_of loading.now) node.0) mail.new }
 {
+    cell.rest(step - clocks[node.0 as usize].since);
     lend_rooms(loading, node, step, cell, mail);
     cell.transfer(step);
-    collect_batches(loading, node, step, cell, mail);
+    collect_batches(loading, node, step, cell, clocks, mail);
+    clocks[node.0 as usize] = Clock {
+        since: step + 1,
+        wake: step,
+    };
 }
 
 /// The gather of a node: it takes the batches of its in-links, and leaves rooms in their place.
 pub fn gather_node(
+    alloc: Global,
     loading: &Loading,
     node: NodeNo,
     step: u32,
     cell: &mut NodeCell,
+    clock: &mut Clock,
     mail: &mut [Mail],
 )
     requires step { IsStep (plan_of loading.now) node.0 step }
-    requires cell { cell.old ≡ cell_after (plan_of loading.now) node.0 step away away }
-    requires mail { mail.old ≡ all_mail (plan_of loading.now) (mail_in_gather (plan_of loading.now) step node.0) }
-    ensures cell { cell.new ≡ cell_before (plan_of loading.now) node.0 (suc step) away away }
-    ensures mail { mail.new ≡ all_mail (plan_of loading.now) (mail_in_gather (plan_of loading.now) step (suc node.0)) }
+    requires count { length mail.old ≡ length loading.now.net.now.links }
+    requires cell { Stands (suc step) clock.old cell.old (cell_after (plan_of loading.now) node.0 step away away) }
+    requires batches { AllBringBatches (plan_of loading.now) step (ins_of (plan_of loading.now) node.0) mail.old }
+    ensures cell { IsBefore (plan_of loading.now) (suc step) node.0 clock.new cell.new }
+    ensures others { ChangesOnly (ins_of (plan_of loading.now) node.0) mail.old mail.new }
+    ensures rooms { AllTellRooms (plan_of loading.now) (suc step) (ins_of (plan_of loading.now) node.0) mail.new }
 {
-    lend_batches(loading, node, step, cell, mail);
+    cell.rest(step + 1 - clock.since);
+    lend_batches(alloc, loading, node, step, cell, mail);
     cell.gather(step);
     collect_rooms(loading, node, step, cell, mail);
+    *clock = Clock {
+        since: step + 1,
+        wake: cell.next_step(),
+    };
 }

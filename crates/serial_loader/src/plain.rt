@@ -3,9 +3,11 @@ ghost use Rattle.dta_model.specs.Lent.{plan_of};
 ghost use Rattle.dta_model.specs.Loading.{journeys_of};
 ghost use Rattle.dta_model.specs.Sound.{IsSound};
 ghost use Rattle.serial_loader.specs.Order.{EndInOrder};
-ghost use Rattle.serial_loader.specs.Phases.{cells_before, rooms};
-ghost use Rattle.std.specs.Prelude.{◌≡◌, ◌<◌, suc, IfOk};
+ghost use Rattle.serial_loader.specs.Phases.{AreBefore, cells_before};
+ghost use Rattle.node_transfer.specs.declared.mail.Mail.{Mail};
+ghost use Rattle.std.specs.Prelude.{◌≡◌, ◌<◌, suc, IfOk, List};
 
+use crate::clock::Clock;
 use crate::hand_over::hand_over_all;
 use crate::phases::{gather_all, transfer_all};
 use dta_model::{Loaded, Loading};
@@ -26,33 +28,38 @@ pub fn load_plain(alloc: Global, loading: &Loading) -> Result<Loaded, Memory>
         mut loaded,
     } = opening(alloc, loading)?;
     let mut cells = cells.into_vec();
+    let mut clocks = Vec::from_elem(alloc, Clock { since: 0, wake: 0 }, cells.len())?;
     let mut mail = mail.into_vec();
-    run_steps(loading, &mut cells, &mut mail);
+    run_steps(alloc, loading, &mut cells, &mut clocks, &mut mail);
     hand_over_all(cells, &mut loaded);
     Ok(loaded)
 }
 
-// All steps of a loading.
-fn run_steps(loading: &Loading, cells: &mut [NodeCell], mail: &mut [Mail])
+// All steps of a loading. At the end the cells of idle nodes are brought to the horizon.
+fn run_steps(
+    alloc: Global,
+    loading: &Loading,
+    cells: &mut [NodeCell],
+    clocks: &mut [Clock],
+    mail: &mut [Mail],
+)
     requires sound { IsSound (plan_of loading.now) }
-    requires cells { cells.old ≡ cells_before (plan_of loading.now) 0 }
-    requires mail { mail.old ≡ rooms (plan_of loading.now) 0 }
+    requires before { AreBefore (plan_of loading.now) 0 cells.old clocks.old mail.old }
     ensures { cells.new ≡ cells_before (plan_of loading.now) loading.now.horizon }
 {
     for step in 0..loading.horizon {
-        run_step(loading, step, cells, mail);
+        transfer_all(loading, step, cells, clocks, mail);
+        gather_all(alloc, loading, step, cells, clocks, mail);
     }
+    rest_all(loading, cells, clocks);
 }
 
-// One step of a loading.
-fn run_step(loading: &Loading, step: u32, cells: &mut [NodeCell], mail: &mut [Mail])
-    requires sound { IsSound (plan_of loading.now) }
-    requires step { step < loading.now.horizon }
-    requires cells { cells.old ≡ cells_before (plan_of loading.now) step }
-    requires mail { mail.old ≡ rooms (plan_of loading.now) step }
-    ensures cells { cells.new ≡ cells_before (plan_of loading.now) (suc step) }
-    ensures mail { mail.new ≡ rooms (plan_of loading.now) (suc step) }
+// Brings all cells to the horizon.
+fn rest_all(loading: &Loading, cells: &mut [NodeCell], clocks: &[Clock])
+    requires { (mail : List Mail) × AreBefore (plan_of loading.now) loading.now.horizon cells.old clocks.now mail }
+    ensures { cells.new ≡ cells_before (plan_of loading.now) loading.now.horizon }
 {
-    transfer_all(loading, step, cells, mail);
-    gather_all(loading, step, cells, mail);
+    for n in 0..cells.len() {
+        cells[n].rest(loading.horizon - clocks[n].since);
+    }
 }

@@ -2,7 +2,8 @@ use Rattle.std.proofs.Common.{◌≡◌, take}
 use Rattle.dta_model.specs.Lent.{plan_of}
 use Rattle.dta_model.specs.Plans.{outs}
 use Rattle.node_transfer.specs.Contents.{away, batch_of, cell_after}
-use Rattle.serial_loader.specs.Phases.{all_mail, mail_in_transfer, replaced}
+use Rattle.serial_loader.specs.Exchange.{AllHoldBatches, AreWoken, ChangesOnly}
+use Rattle.node_transfer.specs.ByHand.{replaced}
 use Rattle.serial_loader.proofs.exchange.collect_batches.Given as goal
 
 abbrev pub invariant-loop-place : goal.invariant-loop-place
@@ -10,4 +11,6 @@ invariant-loop-place l =
     let p = plan_of l.loading in
     let links = outs p l.fn.node.0 in
     (l.cell ≡ cell_after p l.fn.node.0 l.step away (replaced (take l.place links) away (batch_of p l.step)))
-    × (l.mail ≡ all_mail p (replaced (take l.place links) (batch_of p l.step) (replaced links away (mail_in_transfer p l.step l.fn.node.0))))
+    × (AreWoken l.step l.initial.clocks l.clocks
+    × (ChangesOnly (take l.place links) l.initial.mail l.mail
+    × AllHoldBatches p l.step l.clocks (take l.place links) l.mail))

@@ -2,7 +2,8 @@ use Rattle.std.proofs.Common.{◌≡◌, suc, take}
 use Rattle.dta_model.specs.Lent.{plan_of}
 use Rattle.dta_model.specs.Plans.{ins}
 use Rattle.node_transfer.specs.Contents.{away, cell_before, room_of}
-use Rattle.serial_loader.specs.Phases.{all_mail, mail_in_gather, replaced}
+use Rattle.serial_loader.specs.Exchange.{AllTellRooms, ChangesOnly}
+use Rattle.node_transfer.specs.ByHand.{replaced}
 use Rattle.serial_loader.proofs.exchange.collect_rooms.Given as goal
 
 abbrev pub invariant-loop-place : goal.invariant-loop-place
@@ -10,4 +11,5 @@ invariant-loop-place l =
     let p = plan_of l.loading in
     let links = ins p l.fn.node.0 in
     (l.cell ≡ cell_before p l.fn.node.0 (suc l.step) (replaced (take l.place links) away (room_of p (suc l.step))) away)
-    × (l.mail ≡ all_mail p (replaced (take l.place links) (room_of p (suc l.step)) (replaced links away (mail_in_gather p l.step l.fn.node.0))))
+    × (ChangesOnly (take l.place links) l.initial.mail l.mail
+    × AllTellRooms p (suc l.step) (take l.place links) l.mail)

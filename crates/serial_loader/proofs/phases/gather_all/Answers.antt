@@ -1,71 +1,64 @@
-use Rattle.std.proofs.Common.{◌∙◌, suc, ◌<◌, ◌≤◌, length, ap, arith, get_or}
-use Rattle.std.specs.Prelude.{slice_set}
+use Rattle.std.proofs.Common.{◌<◌, ◌≤◌, [], length, arith, get_or, add-one}
+use Rattle.std.proofs.lemmas.Option.{slice_get-get_or}
 use Rattle.dta_model.specs.Lent.{plan_of}
-use Rattle.dta_model.specs.Plans.{link_at}
-use Rattle.node_transfer.specs.Contents.{away, batch_of, cell_after, cell_before, room_of}
-use Rattle.serial_loader.specs.Phases.{cell_in_gather}
-use Rattle.serial_loader.proofs.Finished.{all-done, cell-of-it, cell-one-more, mail-more, none-done, to-below}
-use Rattle.serial_loader.proofs.Numbers.{cell-count}
+use Rattle.node_transfer.specs.Cells.{CellState}
+use Rattle.node_transfer.specs.Contents.{IsStep}
+use Rattle.node_transfer.proofs.Idle.{quiet_nodes_stay_idle}
+use Rattle.serial_loader.specs.declared.clock.Clock.{Clock}
+use Rattle.serial_loader.proofs.Steps.{finds-batches, gather-moves, gather-rests, gathers-end}
 use Rattle.serial_loader.proofs.phases.gather_all.Goals as goal
-
-pub loop-node-init : goal.loop-node-init
-loop-node-init c =
-    let p = plan_of c.args.loading.now in
-    let s = c.args.step in (
-      c.requires.cells ∙ none-done (λ x. x) (λ x. cell_before p x (suc s) away away) (λ x. cell_after p x s away away) (length p.net.nodes),
-      c.requires.mail ∙ none-done (λ l. (link_at p l).to.0) (room_of p (suc s)) (batch_of p s) (length p.net.links),
-    )
-
-pub bounds-cells-node : goal.bounds-cells-node
-bounds-cells-node c =
-    let p = plan_of c.args.loading.now in
-    let s = c.args.step in
-    let n = c.loop-node.node in
-    let count = c.node_count-node-end.ensures.count in
-    let here = c.loop-node-test.true in
-    let below : n < length p.net.nodes = omega (arith, count, here) in
-    let total = ap (λ xs. length xs) c.loop-node.invariant.0 in
-    let size = cell-count p (cell_in_gather p s n) in
-    omega (arith, below, total, size)
+use Rattle.serial_loader.proofs.phases.gather_all.Goals.{then-clocks-here, else-clocks-here}
 
 pub gather_node-requires-clause-cell : goal.gather_node-requires-clause-cell
 gather_node-requires-clause-cell c =
     let p = plan_of c.args.loading.now in
     let s = c.args.step in
     let n = c.loop-node.node in
+    let T = c.loop-node.invariant in
+    let cells = c.loop-node.cells in
+    let clocks = c.loop-node.clocks in
     let count = c.node_count-node-end.ensures.count in
     let here = c.loop-node-test.true in
     let below : n < length p.net.nodes = omega (arith, count, here) in
-    ap (λ xs. get_or xs n c.index-cells-node.result) c.loop-node.invariant.0 ∙ cell-of-it p (λ x. cell_before p x (suc s) away away) (λ x. cell_after p x s away away) n c.index-cells-node.result below
+    let d : Clock = record { since = 0; wake = 0 } in
+    let cell_count = T.there.cell_count in
+    let clock_count = T.there.clock_count in
+    (T.others n (get_or clocks n d) (get_or cells n c.index-cells-here.result)
+    (slice_get-get_or clocks n d (omega (arith, below, clock_count))) (slice_get-get_or cells n c.index-cells-here.result (omega (arith, below, cell_count))) (omega arith)).stands
+
+pub gather_node-requires-clause-batches : goal.gather_node-requires-clause-batches
+gather_node-requires-clause-batches c = finds-batches (plan_of c.args.loading.now) c.args.step c.loop-node.node c.loop-node.cells c.loop-node.clocks c.loop-node.mail c.loop-node.invariant
 
 pub loop-node-preserved : goal.loop-node-preserved
 loop-node-preserved c =
     let p = plan_of c.args.loading.now in
     let s = c.args.step in
     let n = c.loop-node.node in
+    let T = c.loop-node.invariant in
+    let cells = c.loop-node.cells in
+    let clocks = c.loop-node.clocks in
     let count = c.node_count-node-end.ensures.count in
     let here = c.loop-node-test.true in
-    let below : n < length p.net.nodes = omega (arith, count, here) in (
-      ap (λ xs. slice_set xs n c.gather_node.new.cell) c.loop-node.invariant.0 ∙ cell-one-more p (λ x. cell_before p x (suc s) away away) (λ x. cell_after p x s away away) n c.gather_node.new.cell below c.gather_node.ensures.cell,
-      c.gather_node.ensures.mail ∙ mail-more p (λ l. (link_at p l).to.0) (room_of p (suc s)) (batch_of p s) n,
-    )
+    let below : n < length p.net.nodes = omega (arith, count, here) in
+    elim c.if-clocks-here.branch [
+      | then-clocks-here w ↦
+          let done = w.gather_node.ensures in
+          rw (w.cells-is, w.clocks-is, w.mail-is, add-one) (gather-moves p s n cells clocks c.loop-node.mail w.gather_node.new.clock w.gather_node.new.cell w.gather_node.new.mail T
+          done.cell done.others done.rooms)
+      | else-clocks-here w ↦
+          let d : Clock = record { since = 0; wake = 0 } in
+          let none : CellState = record { ins = []; outs = []; arrived = []; delta = 0 } in
+          let cell_count = T.there.cell_count in
+          let clock_count = T.there.clock_count in
+          let step : IsStep p n s = record { sound = c.requires.sound; node = below; step = c.requires.step } in
+          rw (w.cells-is, w.clocks-is, w.mail-is, add-one) (gather-rests p s n cells clocks c.loop-node.mail quiet_nodes_stay_idle step (get_or clocks n d) (get_or cells n none) T
+          (slice_get-get_or clocks n d (omega (arith, below, clock_count))) (slice_get-get_or cells n none (omega (arith, below, cell_count))) w.if-clocks-here.false)
+    ]
 
-pub returns-clause-cells : goal.returns-clause-cells
-returns-clause-cells c =
+pub returns : goal.returns
+returns c =
     let p = plan_of c.args.loading.now in
-    let s = c.args.step in
-    let n = c.loop-node.node in
     let count = c.node_count-node-end.ensures.count in
     let past = c.loop-node-test.false in
-    let over : length p.net.nodes ≤ n = omega (arith, count, past) in
-    c.loop-node.invariant.0 ∙ all-done (λ x. x) (λ x. cell_before p x (suc s) away away) (λ x. cell_after p x s away away) (length p.net.nodes) n (λ x h. omega (arith, h, over))
-
-pub returns-clause-mail : goal.returns-clause-mail
-returns-clause-mail c =
-    let p = plan_of c.args.loading.now in
-    let s = c.args.step in
-    let n = c.loop-node.node in
-    let count = c.node_count-node-end.ensures.count in
-    let past = c.loop-node-test.false in
-    let over : length p.net.nodes ≤ n = omega (arith, count, past) in
-    c.loop-node.invariant.1 ∙ all-done (λ l. (link_at p l).to.0) (room_of p (suc s)) (batch_of p s) (length p.net.links) n (to-below p c.requires.sound n over)
+    let over : length p.net.nodes ≤ c.loop-node.node = omega (arith, count, past) in
+    gathers-end p c.requires.sound c.args.step c.loop-node.node c.loop-node.cells c.loop-node.clocks c.loop-node.mail over c.loop-node.invariant

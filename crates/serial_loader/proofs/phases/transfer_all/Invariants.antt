@@ -1,10 +1,6 @@
-use Rattle.std.proofs.Common.{◌≡◌}
 use Rattle.dta_model.specs.Lent.{plan_of}
-use Rattle.serial_loader.specs.Phases.{all_cells, all_mail, cell_in_transfer, mail_in_transfer}
+use Rattle.serial_loader.specs.Phases.{InTransfer}
 use Rattle.serial_loader.proofs.phases.transfer_all.Given as goal
 
 abbrev pub invariant-loop-n : goal.invariant-loop-n
-invariant-loop-n l =
-    let p = plan_of l.loading in
-    (l.cells ≡ all_cells p (cell_in_transfer p l.step l.n))
-    × (l.mail ≡ all_mail p (mail_in_transfer p l.step l.n))
+invariant-loop-n l = InTransfer (plan_of l.loading) l.step l.n l.cells l.clocks l.mail
