@@ -1,8 +1,10 @@
 #!/bin/sh
-# Measures the cells of nodes: a grid of 3,600 nodes with nobody on it for 1,200 steps, in nanoseconds for each node and step, and
-# 10,000,000 moves of 100,000 vehicles through a row of 100 links, in nanoseconds a move. Both are the loadings of bench/loading, so
-# that the making of the cells and the journeys at the end count as well. The same of a plain Rust program of the same rules,
-# bench/loading.rs, where there is a rustc to build it.
+# Measures the cells of nodes, on a grid of 3,600 nodes for 1,200 steps: with nobody on it, where the plain loading leaves all nodes
+# as they are, in nanoseconds for each node and step; and with one vehicle that waits at each node but one for three quarters of the
+# steps, while no link has capacity, so that each of these nodes makes a transfer and a gather without a move, in nanoseconds for
+# both. Then 10,000,000 moves of 100,000 vehicles through a row of 100 links, in nanoseconds a move. All are the loadings of
+# bench/loading, so that the making of the cells and the journeys at the end count as well. The same of a plain Rust program of the
+# same rules, bench/loading.rs, where there is a rustc to build it.
 set -e
 bench=$(dirname "$(readlink -f "$0")")
 folder=$(mktemp -d)
@@ -14,10 +16,20 @@ if command -v rustc >/dev/null; then
 else
     echo 'no rustc is on the path: the plain Rust program is not measured'
 fi
-mkdir idle row
+mkdir idle held row
 
 # A grid without demand.
 (cd idle && "$bench/grid.sh" 60 && echo o_zone_id,d_zone_id,volume >demand.csv)
+
+# A grid without capacity, of which each node is a zone. From each other node a vehicle would go to the first one; it is due from
+# step 300 on.
+(
+    cd held
+    "$bench/grid.sh" 60
+    sed -i 's/,900$/,0/' link.csv
+    awk 'BEGIN { print "node_id,zone_id"; for (k = 1; k <= 3600; k++) print k "," k }' >node.csv
+    awk 'BEGIN { print "o_zone_id,d_zone_id,volume"; for (k = 2; k <= 3600; k++) print k ",1,1" }' >demand.csv
+)
 
 # A row of links between two zones. Each takes four steps, and lets 200 vehicles in and out in a step; 166 or 167 depart in one.
 (
@@ -49,6 +61,7 @@ for name in proved plain; do
     if [ "$name" = plain ]; then program=$folder/plain; fi
     if [ -x "$program" ]; then
         measure "nodes and steps with nobody, $name" idle "$program" $((3600 * 1200))
+        measure "nodes and steps without a move, $name" held "$program" $((3599 * 900))
         measure "moves, $name" row "$program"
     fi
 done

@@ -4,7 +4,7 @@
 //! Tables have whole numbers in the columns that the script writes, and identifiers of nodes and links that count from 1.
 
 use std::cmp::Reverse;
-use std::collections::BinaryHeap;
+use std::collections::{BinaryHeap, HashMap};
 use std::time::Instant;
 
 const SECONDS_OF_A_STEP: u64 = 6;
@@ -13,7 +13,6 @@ const PERIOD: usize = 600;
 const PARTS_OF_A_VEHICLE: u64 = 3_600_000_000;
 const NOBODY: u32 = u32::MAX;
 const FAR: u32 = u32::MAX;
-const ZONES: usize = 4;
 
 struct Link {
     from: u32,
@@ -159,14 +158,15 @@ struct Routes {
 }
 
 fn routes(net: &Net, trips: &[Trip]) -> Routes {
-    let mut walks = Vec::new();
-    for destination in 1..=ZONES {
-        let left = steps_left(net, destination);
-        walks.push((1..=ZONES).map(|origin| walk(net, &left, origin)).collect::<Vec<Vec<u32>>>());
-    }
+    let mut left: HashMap<usize, Vec<u32>> = HashMap::new();
+    let mut walks: HashMap<(usize, usize), Vec<u32>> = HashMap::new();
     let mut routes = Routes { starts: vec![0], links: Vec::new() };
     for trip in trips {
-        routes.links.extend(&walks[trip.destination - 1][trip.origin - 1]);
+        let links = walks.entry((trip.origin, trip.destination)).or_insert_with(|| {
+            let left = left.entry(trip.destination).or_insert_with(|| steps_left(net, trip.destination));
+            walk(net, left, trip.origin)
+        });
+        routes.links.extend(&*links);
         routes.starts.push(routes.links.len());
     }
     routes
