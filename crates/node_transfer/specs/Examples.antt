@@ -1,11 +1,14 @@
 -- Small worked cases of the definitions.
 use Rattle.std.specs.Prelude.{◌≡◌, ℕ, ◌∷◌, [], None, Some, refl}
 use Rattle.dta_model.specs.Riders.{RiderState}
+use Rattle.node_transfer.specs.Cells.{CellState}
 use Rattle.node_transfer.specs.Contents.{away, waiting_parts}
 use Rattle.node_transfer.specs.Hand.{handed}
 use Rattle.node_transfer.specs.Laws.{put_mail}
 use Rattle.node_transfer.specs.Outs.{released}
+use Rattle.node_transfer.specs.Rest.{rested}
 use Rattle.node_transfer.specs.Start.{no_journey, no_journeys}
+use Rattle.node_transfer.specs.declared.in_link.InLink.{InLink}
 use Rattle.node_transfer.specs.declared.mail.Mail.TheVariants.{Away, Room}
 use Rattle.node_transfer.specs.declared.places.TheConstants.{MOST_COUNT}
 
@@ -37,3 +40,20 @@ at_seven = refl
 
 not_at_six : put_mail 7 (Room 2 None) away 6 ≡ Away
 not_at_six = refl
+
+-- an in-link of 500 vehicles an hour, with what its credit carries, and a cell of it alone
+abbrev link_with : ℕ → InLink
+link_with carried = record {
+  line = waiting 0 3 ∷ [];
+  gate = record { free = 2; outflow = record { rate = 500000000; carried = carried; left = 0 }; turns = [] };
+  storage = None;
+  mail = Away;
+}
+
+abbrev cell_with : ℕ → CellState
+cell_with carried = record { ins = link_with carried ∷ []; outs = []; arrived = []; delta = 6 }
+
+-- in two steps of six seconds ten sixths of a vehicle come: a whole one, which is lost, and four sixths, which are carried
+two_steps_go_by : rested 2 (cell_with 0) ≡ cell_with 2400000000
+unfolding rested
+two_steps_go_by = refl
