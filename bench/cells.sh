@@ -7,15 +7,9 @@
 # same rules, bench/loading.rs, where there is a rustc to build it.
 set -e
 bench=$(dirname "$(readlink -f "$0")")
-folder=$(mktemp -d)
-trap 'rm -rf "$folder"' EXIT
-program=$("$bench/build.sh" loading "$folder/build")
-cd "$folder"
-if command -v rustc >/dev/null; then
-    rustc -O -C target-cpu=x86-64-v2 -o plain "$bench/loading.rs"
-else
-    echo 'no rustc is on the path: the plain Rust program is not measured'
-fi
+. "$bench/begin.sh"
+begin loading
+begin_plain loading
 mkdir idle held row
 
 # A grid without demand.
@@ -58,8 +52,8 @@ measure() {
     done
 }
 for name in proved plain; do
-    if [ "$name" = plain ]; then program=$folder/plain; fi
-    if [ -x "$program" ]; then
+    if [ "$name" = plain ]; then program=$plain; fi
+    if [ -n "$program" ]; then
         measure "nodes and steps with nobody, $name" idle "$program" $((3600 * 1200))
         measure "nodes and steps without a move, $name" held "$program" $((3599 * 900))
         measure "moves, $name" row "$program"

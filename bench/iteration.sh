@@ -6,9 +6,8 @@
 # makes its tables itself, by grid_maker.
 set -e
 bench=$(dirname "$(readlink -f "$0")")
-folder=$(mktemp -d)
-trap 'rm -rf "$folder"' EXIT
-program=$("$bench/build.sh" iteration "$folder/build")
+. "$bench/begin.sh"
+begin iteration
 for _ in 1 2 3; do
     /usr/bin/time -f 'in all %e seconds, peak %M KB' "$program"
 done

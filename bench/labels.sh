@@ -4,10 +4,8 @@
 # bench/labels.rs, where there is a rustc to build it; the first line is the proved program's reading of the network alone.
 set -e
 bench=$(dirname "$(readlink -f "$0")")
-folder=$(mktemp -d)
-trap 'rm -rf "$folder"' EXIT
-program=$("$bench/build.sh" labels "$folder/build")
-cd "$folder"
+. "$bench/begin.sh"
+begin labels
 
 # At 36 km/h a link of 60 metres takes one step of 6 seconds; links take 4 to 12 steps. The corners are zones.
 awk -v n=60 'BEGIN {
@@ -41,9 +39,5 @@ measure() {
 }
 /usr/bin/time -f 'the network read: %e seconds, peak %M KB' "$program"
 measure proved "$program"
-if command -v rustc >/dev/null; then
-    rustc -O -C target-cpu=x86-64-v2 -o labels_plain "$bench/labels.rs"
-    measure plain ./labels_plain
-else
-    echo 'no rustc is on the path: the plain Rust program is not measured'
-fi
+begin_plain labels
+if [ -n "$plain" ]; then measure plain "$plain"; fi

@@ -4,10 +4,8 @@
 # same shape, bench/lines.rs, where there is a rustc to build it.
 set -e
 bench=$(dirname "$(readlink -f "$0")")
-folder=$(mktemp -d)
-trap 'rm -rf "$folder"' EXIT
-program=$("$bench/build.sh" lines "$folder/build")
-cd "$folder"
+. "$bench/begin.sh"
+begin lines
 
 # The seconds of a program, three times.
 measure() {
@@ -17,9 +15,5 @@ measure() {
     echo "$1: $(cat moves) moves"
 }
 measure proved "$program"
-if command -v rustc >/dev/null; then
-    rustc -O -o lines_plain "$bench/lines.rs"
-    measure plain ./lines_plain
-else
-    echo 'no rustc is on the path: the plain Rust program is not measured'
-fi
+begin_plain lines
+if [ -n "$plain" ]; then measure plain "$plain"; fi

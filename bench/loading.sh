@@ -6,14 +6,9 @@
 # program makes the grid of 60 itself, by grid_maker; all other tables come from bench/grid.sh.
 set -e
 bench=$(dirname "$(readlink -f "$0")")
-folder=$(mktemp -d)
-trap 'rm -rf "$folder"' EXIT
-program=$("$bench/build.sh" loading "$folder/build")
-if command -v rustc >/dev/null; then
-    rustc -O -C target-cpu=x86-64-v2 -o "$folder/plain" "$bench/loading.rs"
-else
-    echo 'no rustc is on the path: the plain Rust program is not measured'
-fi
+. "$bench/begin.sh"
+begin loading
+begin_plain loading
 
 # Makes the tables of a grid in a folder of its own, and goes there.
 enter() {
@@ -36,7 +31,7 @@ both() {
     name=$1
     shift
     measure "$name, proved" "$program" "$@"
-    if [ -x "$folder/plain" ]; then measure "$name, plain" "$folder/plain"; fi
+    if [ -n "$plain" ]; then measure "$name, plain" "$plain"; fi
 }
 enter sixty 60
 both 'grid of 60' made

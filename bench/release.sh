@@ -3,9 +3,8 @@
 # vehicles each. Prints the seconds and the peak memory of making the rows alone, and then of making rows and trips.
 set -e
 bench=$(dirname "$(readlink -f "$0")")
-folder=$(mktemp -d)
-trap 'rm -rf "$folder"' EXIT
-program=$("$bench/build.sh" release "$folder/build")
+. "$bench/begin.sh"
+begin release
 
 # Prints what the words make, and what it takes.
 measure() {

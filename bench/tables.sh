@@ -4,10 +4,8 @@
 set -e
 bench=$(dirname "$(readlink -f "$0")")
 nodes=${1:-200000}
-folder=$(mktemp -d)
-trap 'rm -rf "$folder"' EXIT
-program=$("$bench/build.sh" tables "$folder/build")
-cd "$folder"
+. "$bench/begin.sh"
+begin tables
 "$bench/ring.sh" "$nodes" 1 7
 
 # At each node each of the two links that end there may be followed by each of the two that begin there.

@@ -3,10 +3,8 @@
 # and the peak memory of making the vehicles alone, and then of making and putting them.
 set -e
 bench=$(dirname "$(readlink -f "$0")")
-folder=$(mktemp -d)
-trap 'rm -rf "$folder"' EXIT
-program=$("$bench/build.sh" texts "$folder/build")
-cd "$folder"
+. "$bench/begin.sh"
+begin texts
 
 # Prints what a word makes, and what it takes.
 measure() {
