@@ -52,11 +52,22 @@ number l = record { 0 = l }
 
 abbrev pub link : ℕ → ℕ → ℕ → ℕ → ℕ → ℕ → LinkRow
 link id from to free storage rate =
-    record { id = id; from = record { 0 = from }; to = record { 0 = to }; free = free; storage = storage; rate = rate }
+    record {
+      id = id;
+      from = record { 0 = from };
+      to = record { 0 = to };
+      free = free;
+      storage = storage;
+      rate = rate;
+    }
 
 -- a link after another, from zone 1 to zone 3
 abbrev pub in_a_line : LinkRow → LinkRow → List TurnRow → NetRows
-in_a_line a b turns = record { nodes = node 1 ∷ node 2 ∷ node 3 ∷ []; links = a ∷ b ∷ []; turns = turns }
+in_a_line a b turns = record {
+  nodes = node 1 ∷ node 2 ∷ node 3 ∷ [];
+  links = a ∷ b ∷ [];
+  turns = turns;
+}
 
 abbrev pub both : List (Option (List LinkNo))
 both = Some (number 0 ∷ number 1 ∷ []) ∷ []
@@ -80,7 +91,8 @@ unfolding releases_on_literals trip
 three_small_volumes = refl
 
 -- a row from a zone to itself makes none
-a_row_within_a_zone : trips_of (record (row 2 3000) { destination = 1 } ∷ row 3 1000 ∷ []) 30 ≡ trip 0 15 ∷ []
+a_row_within_a_zone :
+    trips_of (record (row 2 3000) { destination = 1 } ∷ row 3 1000 ∷ []) 30 ≡ trip 0 15 ∷ []
 unfolding releases_on_literals trip
 a_row_within_a_zone = refl
 
@@ -95,21 +107,32 @@ two_links_in_a_line = record {
   routes = repeat 3 both;
 }
 
-two_links_in_a_line-entries : journeys 3 (trace_after two_links_in_a_line 46) ≡ (5 ∷ 15 ∷ []) ∷ (15 ∷ 25 ∷ []) ∷ (25 ∷ 35 ∷ []) ∷ []
+two_links_in_a_line-entries :
+    journeys 3 (trace_after two_links_in_a_line 46)
+    ≡ (5 ∷ 15 ∷ []) ∷ (15 ∷ 25 ∷ []) ∷ (25 ∷ 35 ∷ []) ∷ []
 unfolding loadings_on_literals trip two_links_in_a_line
 two_links_in_a_line-entries = refl
 
-two_links_in_a_line-arrivals : arrivals 3 (trace_after two_links_in_a_line 46) ≡ Some 25 ∷ Some 35 ∷ Some 45 ∷ []
+two_links_in_a_line-arrivals :
+    arrivals 3 (trace_after two_links_in_a_line 46) ≡ Some 25 ∷ Some 35 ∷ Some 45 ∷ []
 unfolding loadings_on_literals trip two_links_in_a_line
 two_links_in_a_line-arrivals = refl
 
-two_links_in_a_line-state : eight_after two_links_in_a_line 20 ≡ record { steps = 20; waiting = 0; running = 2; arrived = 0; first = 1 ∷ 1 ∷ 0 ∷ 0 ∷ [] }
+two_links_in_a_line-state :
+    eight_after two_links_in_a_line 20
+    ≡ record { steps = 20; waiting = 0; running = 2; arrived = 0; first = 1 ∷ 1 ∷ 0 ∷ 0 ∷ [] }
 unfolding loadings_on_literals trip two_links_in_a_line
 two_links_in_a_line-state = refl
 
 -- the middle node in step 15, when the first vehicle goes from one link to the other
 abbrev first_rider : List ℕ → RiderState
-first_rider entries = record { number = 0; departure = 5; route = 0 ∷ 1 ∷ []; entries = entries; arrival = None }
+first_rider entries = record {
+  number = 0;
+  departure = 5;
+  route = 0 ∷ 1 ∷ [];
+  entries = entries;
+  arrival = None;
+}
 
 abbrev middle_cell : List RiderState → CellContent
 middle_cell line = record {
@@ -140,23 +163,30 @@ room_of_the_step = refl
 -- ---- the second link has no capacity
 unfoldable a_link_without_capacity : Plan
 a_link_without_capacity =
-    record two_links_in_a_line { net = in_a_line (link 0 0 1 10 125 600000000) (link 1 1 2 10 125 0) [] }
+    record two_links_in_a_line {
+      net = in_a_line (link 0 0 1 10 125 600000000) (link 1 1 2 10 125 0) [];
+    }
 
-a_link_without_capacity-entries : journeys 3 (trace_after a_link_without_capacity 60) ≡ (5 ∷ []) ∷ (15 ∷ []) ∷ (25 ∷ []) ∷ []
+a_link_without_capacity-entries :
+    journeys 3 (trace_after a_link_without_capacity 60) ≡ (5 ∷ []) ∷ (15 ∷ []) ∷ (25 ∷ []) ∷ []
 unfolding loadings_on_literals trip two_links_in_a_line a_link_without_capacity
 a_link_without_capacity-entries = refl
 
-a_link_without_capacity-arrivals : arrivals 3 (trace_after a_link_without_capacity 60) ≡ None ∷ None ∷ None ∷ []
+a_link_without_capacity-arrivals :
+    arrivals 3 (trace_after a_link_without_capacity 60) ≡ None ∷ None ∷ None ∷ []
 unfolding loadings_on_literals trip two_links_in_a_line a_link_without_capacity
 a_link_without_capacity-arrivals = refl
 
 -- ---- a turn of two penalty steps between the links
 unfoldable turn_penalty : Plan
 turn_penalty = record two_links_in_a_line {
-  net = in_a_line (link 0 0 1 10 125 600000000) (link 1 1 2 10 125 600000000) (record { a = number 0; b = number 1; penalty = 2; rate = None } ∷ []);
+  net = in_a_line (link 0 0 1 10 125 600000000) (link 1 1 2 10 125 600000000)
+      (record { a = number 0; b = number 1; penalty = 2; rate = None } ∷ []);
 }
 
-turn_penalty-entries : journeys 3 (trace_after turn_penalty 48) ≡ (5 ∷ 17 ∷ []) ∷ (15 ∷ 27 ∷ []) ∷ (25 ∷ 37 ∷ []) ∷ []
+turn_penalty-entries :
+    journeys 3 (trace_after turn_penalty 48)
+    ≡ (5 ∷ 17 ∷ []) ∷ (15 ∷ 27 ∷ []) ∷ (25 ∷ 37 ∷ []) ∷ []
 unfolding loadings_on_literals trip two_links_in_a_line turn_penalty
 turn_penalty-entries = refl
 
@@ -164,7 +194,8 @@ turn_penalty-arrivals : arrivals 3 (trace_after turn_penalty 48) ≡ Some 27 ∷
 unfolding loadings_on_literals trip two_links_in_a_line turn_penalty
 turn_penalty-arrivals = refl
 
--- ---- the second link stores ten vehicles. Of those on it, six leave in step 11, and make no room in that step
+-- ---- the second link stores ten vehicles. Of those on it, six leave in step 11, and make no room
+-- in that step
 unfoldable room_at_the_start_of_the_step : Plan
 room_at_the_start_of_the_step = record {
   net = in_a_line (link 0 0 1 10 125 3600000000) (link 1 1 2 1 10 3600000000) [];
@@ -175,11 +206,16 @@ room_at_the_start_of_the_step = record {
   routes = repeat 12 both;
 }
 
-room_at_the_start_of_the_step-entries : journeys 12 (trace_after room_at_the_start_of_the_step 14) ≡ repeat 6 ((0 ∷ 10 ∷ []) ∷ []) ++ repeat 4 ((1 ∷ 11 ∷ []) ∷ []) ++ repeat 2 ((1 ∷ 12 ∷ []) ∷ [])
+room_at_the_start_of_the_step-entries :
+    journeys 12 (trace_after room_at_the_start_of_the_step 14)
+    ≡ repeat 6 ((0 ∷ 10 ∷ []) ∷ []) ++ repeat 4 ((1 ∷ 11 ∷ []) ∷ [])
+    ++ repeat 2 ((1 ∷ 12 ∷ []) ∷ [])
 unfolding loadings_on_literals trip room_at_the_start_of_the_step
 room_at_the_start_of_the_step-entries = refl
 
-room_at_the_start_of_the_step-arrivals : arrivals 12 (trace_after room_at_the_start_of_the_step 14) ≡ repeat 6 (Some 11 ∷ []) ++ repeat 4 (Some 12 ∷ []) ++ repeat 2 (Some 13 ∷ [])
+room_at_the_start_of_the_step-arrivals :
+    arrivals 12 (trace_after room_at_the_start_of_the_step 14)
+    ≡ repeat 6 (Some 11 ∷ []) ++ repeat 4 (Some 12 ∷ []) ++ repeat 2 (Some 13 ∷ [])
 unfolding loadings_on_literals trip room_at_the_start_of_the_step
 room_at_the_start_of_the_step-arrivals = refl
 
@@ -191,7 +227,8 @@ storage_of_one = record room_at_the_start_of_the_step {
   routes = repeat 2 both;
 }
 
-storage_of_one-entries : journeys 2 (trace_after storage_of_one 14) ≡ (0 ∷ 10 ∷ []) ∷ (0 ∷ 12 ∷ []) ∷ []
+storage_of_one-entries :
+    journeys 2 (trace_after storage_of_one 14) ≡ (0 ∷ 10 ∷ []) ∷ (0 ∷ 12 ∷ []) ∷ []
 unfolding loadings_on_literals trip room_at_the_start_of_the_step storage_of_one
 storage_of_one-entries = refl
 
@@ -199,25 +236,31 @@ storage_of_one-arrivals : arrivals 2 (trace_after storage_of_one 14) ≡ Some 11
 unfolding loadings_on_literals trip room_at_the_start_of_the_step storage_of_one
 storage_of_one-arrivals = refl
 
--- ---- two links lead to one that takes a vehicle in a step; they take turns, the second of them first
+-- ---- two links lead to one that takes a vehicle in a step; they take turns, the second of them
+-- first
 unfoldable two_links_merge : Plan
 two_links_merge = record {
   net = record {
     nodes = node 1 ∷ node 1 ∷ node 2 ∷ node 3 ∷ [];
-    links = link 0 0 2 1 12 3600000000 ∷ link 1 1 2 1 12 3600000000 ∷ link 2 2 3 1 12 600000000 ∷ [];
+    links = link 0 0 2 1 12 3600000000 ∷ link 1 1 2 1 12 3600000000
+        ∷ link 2 2 3 1 12 600000000 ∷ [];
     turns = [];
   };
   queue = queue.Point;
   delta = 6;
   horizon = 20;
   trips = map (λ v. trip v 0) (numbers_below 4);
-  routes = repeat 2 (Some (number 0 ∷ number 2 ∷ []) ∷ []) ++ repeat 2 (Some (number 1 ∷ number 2 ∷ []) ∷ []);
+  routes = repeat 2 (Some (number 0 ∷ number 2 ∷ []) ∷ [])
+      ++ repeat 2 (Some (number 1 ∷ number 2 ∷ []) ∷ []);
 }
 
-two_links_merge-entries : journeys 4 (trace_after two_links_merge 8) ≡ (0 ∷ 2 ∷ []) ∷ (0 ∷ 4 ∷ []) ∷ (0 ∷ 1 ∷ []) ∷ (0 ∷ 3 ∷ []) ∷ []
+two_links_merge-entries :
+    journeys 4 (trace_after two_links_merge 8)
+    ≡ (0 ∷ 2 ∷ []) ∷ (0 ∷ 4 ∷ []) ∷ (0 ∷ 1 ∷ []) ∷ (0 ∷ 3 ∷ []) ∷ []
 unfolding loadings_on_literals trip two_links_merge
 two_links_merge-entries = refl
 
-two_links_merge-arrivals : arrivals 4 (trace_after two_links_merge 8) ≡ Some 3 ∷ Some 5 ∷ Some 2 ∷ Some 4 ∷ []
+two_links_merge-arrivals :
+    arrivals 4 (trace_after two_links_merge 8) ≡ Some 3 ∷ Some 5 ∷ Some 2 ∷ Some 4 ∷ []
 unfolding loadings_on_literals trip two_links_merge
 two_links_merge-arrivals = refl

@@ -9,14 +9,14 @@ use Rattle.std.proofs.lemmas.Option.{slice_get-map, slice_get_past, none-some, s
 use Rattle.net_core.specs.declared.rows.LinkNo.{LinkNo}
 use Rattle.dta_model.specs.declared.loaded.Journey.{Journey}
 use Rattle.dta_model.specs.declared.plan.Plan.{Plan}
-use Rattle.dta_model.specs.LinkTimes.{penalty_in}
+use Rattle.dta_model.specs.TimedWalks.{penalty_steps}
 use Rattle.dta_model.specs.Loading.{arrival_of, entries_of, is_entry, journey_of, journeys_of, step_in, trace_after}
 use Rattle.dta_model.specs.Plans.{link_at, link_numbers, route_in, route_of, turn, vehicle_count, vehicles_of}
 use Rattle.dta_model.specs.Sound.{IsSound}
 use Rattle.dta_model.specs.State.{is_due, is_routed, waits, some_route}
 use Rattle.dta_model.specs.Trace.{Move, has_moved, is_of, moves_of, target_at}
 use Rattle.dta_model.proofs.Arrivals.{arrival_is_last}
-use Rattle.dta_model.proofs.Conserved.{vehicles_are_conserved}
+use Rattle.dta_model.proofs.Onward.{vehicles_are_conserved}
 use Rattle.dta_model.proofs.Ends.{got_number}
 use Rattle.dta_model.proofs.Gathering.{no-moves}
 use Rattle.dta_model.proofs.Journeys.{routes_are_followed, steps_rise}
@@ -96,7 +96,7 @@ module _ (p : Plan) (sound : IsSound p) (v : ℕ) where
       let apart : Spaced p None (moves_along v route es out) = subst (Spaced p None) moves (moves_are_spaced p p.horizon v) in
       let early : All (λ s. s < p.horizon) es = all_steps p.horizon E (all_filter (λ m. m.step < p.horizon) is_entry ms below) in
       let steady = steady_of p sound in
-      let spaced : (i : ℕ) → suc i < length es → slice_index es i + (link_at p (link_on route i)).free + penalty_in (turn p (link_on route i) (link_on route (suc i))) ≤ slice_index es (suc i) =
+      let spaced : (i : ℕ) → suc i < length es → slice_index es i + (link_at p (link_on route i)).free + penalty_steps (turn p (link_on route i) (link_on route (suc i))) ≤ slice_index es (suc i) =
       λ i h. spaced_at p None (moves_along v route es out) i _ _ apart (along_get v route es out i within (omega (arith, h))) (along_get v route es out (suc i) within h) in
       record {
         moves = moves;
