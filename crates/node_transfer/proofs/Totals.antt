@@ -1,11 +1,12 @@
 -- How many riders a cell holds, and what a transfer asks of them.
 use Rattle.std.specs.List.{flat_map, range_with_len, sum_by}
-use Rattle.std.specs.Prelude.{filter, find, slice_get, nat_eq, nat_le, nat_lt, All, IfSome}
+use Rattle.std.specs.Prelude.{filter, find, slice_get, nat_eq, nat_le, nat_lt, All, IfSome, option_map}
 use Rattle.std.proofs.Common.{◌≡◌, ℕ, zero, suc, ◌+◌, ◌<◌, ◌≤◌, Bool, true, false, cond, List, [], ◌∷◌, ◌++◌, length, length-append, map, refl, ap, sym, ◌∙◌, subst, arith, rules, min, Option, Some, None, ◌⊎◌, inl, inr}
 use Rattle.std.proofs.lemmas.Bool.Decides.{nat_tests, eqb_tells}
 use Rattle.std.proofs.lemmas.List.{length-map}
 use Rattle.std.proofs.lemmas.List.Elements.{All-head, All-tail, All-nil, All-cons}
 use Rattle.std.proofs.lemmas.List.Sums.{sum_by-cons, length-filter}
+use Rattle.std.proofs.lemmas.Option.{slice_get-map}
 use Rattle.std.proofs.Math.Dec.{eqb}
 use Rattle.dta_model.specs.HandOver.{all_riders, riders_of}
 use Rattle.dta_model.specs.Loading.{trace_after, arrival_of}
@@ -18,7 +19,7 @@ use Rattle.dta_model.specs.declared.trip.TheConstants.{MOST_TRIPS}
 use Rattle.dta_model.proofs.Gathering.{no-moves}
 use Rattle.dta_model.proofs.HandOver.{cells_hold_all}
 use Rattle.link_queues.specs.declared.line.TheConstants.{MOST_RIDERS}
-use Rattle.node_transfer.specs.Cells.{CanTransfer, UnderWay, Waits, cell_total, line_length, waiting_length}
+use Rattle.node_transfer.specs.Cells.{CanTransfer, CellState, UnderWay, Waits, cell_total, line_length, waiting_length}
 use Rattle.dta_model.specs.Sound.{IsSound}
 use Rattle.dta_model.specs.State.{count_on}
 use Rattle.link_queues.specs.Lines.{due}
@@ -189,3 +190,14 @@ module _ (p : Plan) (n t : ℕ) where
         let w : min (sum_by waiting_length (map (out_link p t (waiting_before p t) away) (outs p n))) MOST_COUNT ≡ sum_by (λ b. due t (waiting_before p t b)) (outs p n) = omega (arith, few, due_few, a) in
         let r : min (sum_by line_length (map (in_link p n t (line_before p t) away) (ins p n))) MOST_COUNT ≡ sum_by (count_on (trace_after p t)) (ins p n) = omega (arith, few, b) in
         rw (w, r) refl
+
+-- the number of the line of an in-link is that of the vehicles on its link
+pub line-count : (p : Plan) (n t place l k : ℕ) (s : CellState) → IfSome (slice_get s.ins place) (λ link. k ≡ length link.line)
+    → s ≡ cell_before p n t away away → slice_get (ins p n) place ≡ Some l → k ≡ count_on (trace_after p t) l
+unfolding cell_before line_before count_on
+line-count p n t place l k s tells same here =
+    let there : slice_get s.ins place ≡ Some (in_link p n t (line_before p t) away l) =
+    ap (λ c. slice_get c.ins place) same ∙ slice_get-map (in_link p n t (line_before p t) away) (ins p n) place ∙ ap (λ o. option_map (in_link p n t (line_before p t) away) o) here
+    in
+    let told : k ≡ length (line_before p t l) = subst (λ o. IfSome o (λ link. k ≡ length link.line)) there tells in
+    told ∙ length-map (queue_of l (trace_after p t)) (rider_at p (trace_after p t))
