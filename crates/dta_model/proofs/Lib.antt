@@ -12,7 +12,7 @@ pub mod Conserved
 pub mod Totals
 pub mod InTurn
 pub mod Gathering
-pub mod Cells
+pub mod NextLines
 pub mod Blocked
 pub mod OnePass
 pub mod Riders

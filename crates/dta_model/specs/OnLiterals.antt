@@ -9,7 +9,7 @@ use Rattle.dta_model.specs.Plans.{link_allowance, route_of, departure_of, first_
 use Rattle.dta_model.specs.Release.{trips_of, in_order_of_departure, released, released_by, departure, vehicles_of_row, vehicles_before}
 use Rattle.dta_model.specs.Riders.{rider_at}
 use Rattle.dta_model.specs.Room.{room}
-use Rattle.dta_model.specs.Stages.{brought, arriving, waiting_for, line_before, line_after, waiting_before, waiting_after, arrived_before, cell_before, cell_after, room_mail, batch_mail}
+use Rattle.dta_model.specs.Stages.{brought, arriving, waiting_for, line_before, line_after, waiting_before, waiting_after, arrived_before, room_mail, batch_mail}
 use Rattle.dta_model.specs.State.{is_routed, is_due, waits, runs, has_arrived, due_after, waiting_in, running_in, arrived_in, count_on, eight_in, eight_after}
 use Rattle.dta_model.specs.Trace.{moves_of, has_moved, last_moves, last_move, queue_of, moves_made, stands_on, next_target}
 
@@ -25,5 +25,5 @@ traces_on_literals = tt
 
 -- its journeys, states and stages
 unfoldable pub loadings_on_literals : ⊤
-unfolding traces_on_literals entries_of arrival_of journey_of journeys_of is_routed is_due waits runs has_arrived due_after waiting_in running_in arrived_in count_on eight_in eight_after rider_at brought arriving waiting_for line_before line_after waiting_before waiting_after arrived_before cell_before cell_after room_mail batch_mail
+unfolding traces_on_literals entries_of arrival_of journey_of journeys_of is_routed is_due waits runs has_arrived due_after waiting_in running_in arrived_in count_on eight_in eight_after rider_at brought arriving waiting_for line_before line_after waiting_before waiting_after arrived_before room_mail batch_mail
 loadings_on_literals = tt
