@@ -1,23 +1,22 @@
--- All cells together hold the vehicles of a plan.
+-- All nodes together hold the vehicles of a plan.
 use Rattle.net_core.specs.Network as network
 use Rattle.net_core.specs.Network.{numbers_below}
 use Rattle.net_core.specs.declared.rows.LinkNo.{LinkNo}
 use Rattle.std.specs.List.{flat_map}
 use Rattle.std.specs.Prelude.{All, filter, is_some, nat_eq, slice_get}
-use Rattle.std.proofs.Common.{◌≡◌, ℕ, ◌<◌, ◌≤◌, Bool, true, false, cond, not, List, [], ◌∷◌, ◌++◌, length, map, refl, ap, sym, ◌∙◌, subst, arith, Option, Some, None, ◌⊎◌, inl, inr}
+use Rattle.std.proofs.Common.{◌≡◌, ℕ, ◌<◌, ◌≤◌, Bool, true, false, cond, not, List, [], ◌∷◌, ◌++◌, length, refl, ap, sym, ◌∙◌, subst, arith, Option, Some, None, ◌⊎◌, inl, inr}
 use Rattle.std.proofs.lemmas.Bool.{eq-eqb, ne_eqb, and_parts, cases_Bool}
 use Rattle.std.proofs.lemmas.List.Elements.{All-cons, All-nil, All-weaker, filter-append}
-use Rattle.std.proofs.lemmas.List.Folds.{flat_map-map}
 use Rattle.std.proofs.lemmas.Option.{slice_get-get_or, slice_get_within}
 use Rattle.std.proofs.Math.Dec.{eqb}
 use Rattle.dta_model.specs.declared.plan.Plan.{Plan}
-use Rattle.dta_model.specs.HandOver.{CellsHoldAll, all_riders, riders_of}
+use Rattle.dta_model.specs.HandOver.{NodesHoldAll, all_riders, riders_at}
 use Rattle.dta_model.specs.Loading.{is_onto, trace_after}
 use Rattle.dta_model.specs.NodeMoves.{is_first}
 use Rattle.dta_model.specs.Plans.{all_nodes, link_numbers, route_in, first_link, ins, link_at, outs, route_of, vehicle_count, vehicles_of}
 use Rattle.dta_model.specs.Riders.{RiderState, rider_at, riders}
 use Rattle.dta_model.specs.Sound.{IsSound}
-use Rattle.dta_model.specs.Stages.{arrived_before, cell_before, line_before, waiting_before}
+use Rattle.dta_model.specs.Stages.{arrived_before, line_before, waiting_before}
 use Rattle.dta_model.specs.State.{is_due, is_routed, some_route, leads_out}
 use Rattle.dta_model.specs.Trace.{Arrived, Move, Onto, Target, has_moved, last_move}
 use Rattle.dta_model.proofs.Arrived.{arrived_of, arrived_total}
@@ -32,10 +31,9 @@ use Rattle.dta_model.proofs.Totals.{InTable, place_in, trace-in}
 
 -- what one vehicle has on the lines of a node, by the link where it is
 at_node : (ends : ℕ → ℕ) (links n : ℕ) (mine : RiderState → Bool) (line : ℕ → List RiderState) (o : Option ℕ) (R : List RiderState) → ((l : ℕ) → filter mine (line l) ≡ cond (is_first l o) R [])
-    → filter mine (flat_map (λ xs. xs) (map line (filter (λ l. nat_eq (ends l) n) (numbers_below links)))) ≡ flat_map (λ l. cond (nat_eq (ends l) n) (cond (is_first l o) R []) []) (numbers_below links)
+    → filter mine (flat_map line (filter (λ l. nat_eq (ends l) n) (numbers_below links))) ≡ flat_map (λ l. cond (nat_eq (ends l) n) (cond (is_first l o) R []) []) (numbers_below links)
 at_node ends links n mine line o R each =
-    ap (filter mine) (flat_map-map (λ xs. xs) line (filter (λ l. nat_eq (ends l) n) (numbers_below links)))
-    ∙ filter-flat mine line (filter (λ l. nat_eq (ends l) n) (numbers_below links))
+    filter-flat mine line (filter (λ l. nat_eq (ends l) n) (numbers_below links))
     ∙ flat-filter (λ l. nat_eq (ends l) n) (λ l. filter mine (line l)) (numbers_below links)
     ∙ flat_same (λ l. cond (nat_eq (ends l) n) (filter mine (line l)) []) (λ l. cond (nat_eq (ends l) n) (cond (is_first l o) R []) []) (numbers_below links) (λ l. ap (λ L. cond (nat_eq (ends l) n) L []) (each l))
 
@@ -55,10 +53,10 @@ module _ (p : Plan) (sound : IsSound p) (t v : ℕ) where
   T = trace_after p t
 
   abbrev running : ℕ → List RiderState
-  running n = filter mine (flat_map (λ xs. xs) (map (line_before p t) (ins p n)))
+  running n = filter mine (flat_map (line_before p t) (ins p n))
 
   abbrev waiting : ℕ → List RiderState
-  waiting n = filter mine (flat_map (λ xs. xs) (map (waiting_before p t) (outs p n)))
+  waiting n = filter mine (flat_map (waiting_before p t) (outs p n))
 
   abbrev R : List RiderState
   R = rider_at p T v ∷ []
@@ -112,11 +110,11 @@ module _ (p : Plan) (sound : IsSound p) (t v : ℕ) where
       ∙ rw (eq-eqb v v refl) refl
 
   parts : filter mine (all_riders p t) ≡ flat_map (λ n. running n ++ (waiting n ++ arrived_of p t v n)) (all_nodes p)
-  unfolding all_riders cell_before
-  parts = filter-flat mine (λ n. riders_of (cell_before p n t)) (all_nodes p)
+  unfolding all_riders
+  parts = filter-flat mine (riders_at p t) (all_nodes p)
       ∙ flat_same _ (λ n. running n ++ (waiting n ++ arrived_of p t v n)) (all_nodes p)
-      (λ n. filter-append mine (flat_map (λ xs. xs) (map (line_before p t) (ins p n))) (flat_map (λ xs. xs) (map (waiting_before p t) (outs p n)) ++ arrived_before p n t)
-      ∙ ap (λ L. running n ++ L) (filter-append mine (flat_map (λ xs. xs) (map (waiting_before p t) (outs p n))) (arrived_before p n t)))
+      (λ n. filter-append mine (flat_map (line_before p t) (ins p n)) (flat_map (waiting_before p t) (outs p n) ++ arrived_before p n t)
+      ∙ ap (λ L. running n ++ L) (filter-append mine (flat_map (waiting_before p t) (outs p n)) (arrived_before p n t)))
 
   -- who waits has no last move, so is in a waiting line alone
   one_waits : has_moved v T ≡ false → flat_map (λ n. running n ++ (waiting n ++ arrived_of p t v n)) (all_nodes p) ≡ cond (is_routed p v) R []
@@ -182,8 +180,8 @@ module _ (p : Plan) (sound : IsSound p) (t v : ℕ) where
   at_most true = omega arith
   at_most false = omega arith
 
-pub cells_hold_all : CellsHoldAll
-cells_hold_all p sound t =
+pub nodes_hold_all : NodesHoldAll
+nodes_hold_all p sound t =
     let T = trace_after p t in
     let all = all_numbered (λ v r. (r ≡ rider_at p T v) × (v < vehicle_count p)) (all_riders p t) (λ v. held p sound t v) (rider_at p T 0) in
     record {

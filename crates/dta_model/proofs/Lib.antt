@@ -13,7 +13,7 @@ pub mod Start
 pub mod Totals
 pub mod InTurn
 pub mod Gathering
-pub mod Cells
+pub mod NextLines
 pub mod Blocked
 pub mod OnePass
 pub mod Riders

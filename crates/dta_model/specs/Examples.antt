@@ -12,7 +12,7 @@ use Rattle.dta_model.specs.Loading.{trace_after, entries_of, arrival_of}
 use Rattle.dta_model.specs.OnLiterals.{releases_on_literals, loadings_on_literals}
 use Rattle.dta_model.specs.Release.{trips_of}
 use Rattle.dta_model.specs.Riders.{RiderState}
-use Rattle.dta_model.specs.Stages.{CellContent, cell_before, cell_after, room_mail, batch_mail}
+use Rattle.dta_model.specs.Stages.{line_before, line_after, room_mail, batch_mail}
 use Rattle.dta_model.specs.State.{eight_after}
 use Rattle.dta_model.specs.Trace.{Move}
 use Rattle.dta_model.specs.declared.credit.TheConstants.{PARTS_OF_A_VEHICLE}
@@ -125,7 +125,7 @@ unfolding loadings_on_literals trip two_links_in_a_line
 two_links_in_a_line-state = refl
 
 -- the middle node in step 15, when the first vehicle goes from one link to the other
-abbrev first_rider : List ℕ → RiderState
+abbrev pub first_rider : List ℕ → RiderState
 first_rider entries = record {
   number = 0;
   departure = 5;
@@ -134,23 +134,13 @@ first_rider entries = record {
   arrival = None;
 }
 
-abbrev middle_cell : List RiderState → CellContent
-middle_cell line = record {
-  lines = line ∷ [];
-  waiting = [] ∷ [];
-  arrived = [];
-  outflow = 0 ∷ [];
-  inflow = 0 ∷ [];
-  turns = (None ∷ []) ∷ [];
-}
-
-before_the_transfer : cell_before two_links_in_a_line 1 15 ≡ middle_cell (first_rider (5 ∷ []) ∷ [])
+line_before_the_transfer : line_before two_links_in_a_line 15 0 ≡ first_rider (5 ∷ []) ∷ []
 unfolding loadings_on_literals trip two_links_in_a_line
-before_the_transfer = refl
+line_before_the_transfer = refl
 
-after_the_transfer : cell_after two_links_in_a_line 1 15 ≡ middle_cell []
+line_after_the_transfer : line_after two_links_in_a_line 1 15 0 ≡ []
 unfolding loadings_on_literals trip two_links_in_a_line
-after_the_transfer = refl
+line_after_the_transfer = refl
 
 batch_of_the_step : batch_mail two_links_in_a_line 1 15 ≡ first_rider (5 ∷ 15 ∷ []) ∷ []
 unfolding loadings_on_literals trip two_links_in_a_line

@@ -14,8 +14,8 @@ use Rattle.dta_model.specs.Release.{departure, vehicles_of_row, vehicles_before}
 use Rattle.dta_model.specs.Riders.{rider_at}
 use Rattle.dta_model.specs.Room.{room}
 use Rattle.dta_model.specs.Stages.{brought, arriving, waiting_for, line_before, line_after}
-use Rattle.dta_model.specs.Stages.{waiting_before, waiting_after, arrived_before, cell_before}
-use Rattle.dta_model.specs.Stages.{cell_after, room_mail, batch_mail}
+use Rattle.dta_model.specs.Stages.{waiting_before, waiting_after, arrived_before, room_mail}
+use Rattle.dta_model.specs.Stages.{batch_mail}
 use Rattle.dta_model.specs.State.{is_routed, is_due, waits, runs, has_arrived, due_after}
 use Rattle.dta_model.specs.State.{waiting_in, running_in, arrived_in, count_on, eight_in}
 use Rattle.dta_model.specs.State.{eight_after}
@@ -41,5 +41,5 @@ unfoldable pub loadings_on_literals : ⊤
 unfolding traces_on_literals entries_of arrival_of journey_of journeys_of is_routed is_due waits
     runs has_arrived due_after waiting_in running_in arrived_in count_on eight_in eight_after
     rider_at brought arriving waiting_for line_before line_after waiting_before waiting_after
-    arrived_before cell_before cell_after room_mail batch_mail
+    arrived_before room_mail batch_mail
 loadings_on_literals = tt

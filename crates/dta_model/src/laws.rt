@@ -1,6 +1,6 @@
 // Laws of the definitions. Each is the contract of a function that does nothing.
 ghost use Rattle.dta_model.specs.Examples.{two_links_in_a_line};
-ghost use Rattle.dta_model.specs.HandOver.{CellsHoldAll};
+ghost use Rattle.dta_model.specs.HandOver.{NodesHoldAll};
 ghost use Rattle.dta_model.specs.Laws.{ArrivalIsLast, HeadsMove, JourneysEndInOrder, LeftInOrder};
 ghost use Rattle.dta_model.specs.Laws.{NoMoveIsLeft, NoneOutside, NothingAtTheStart, QueuesAddUp};
 ghost use Rattle.dta_model.specs.Laws.{RoutesAreFollowed, StepsRise, VehiclesAreConserved};
@@ -9,9 +9,9 @@ ghost use Rattle.dta_model.specs.OnePass.{OnePassIsEnough};
 ghost use Rattle.dta_model.specs.Orders.{AnyOrder, SameJourneys};
 ghost use Rattle.dta_model.specs.Released.{TripsAreReleased};
 ghost use Rattle.dta_model.specs.Sound.{IsSound};
-ghost use Rattle.dta_model.specs.Transfers.{CellsGather, FirstWaits, HeadsOfLines, LinesGather};
-ghost use Rattle.dta_model.specs.Transfers.{MovesCount, MovesPass, RidersMove, RidersTell};
-ghost use Rattle.dta_model.specs.Transfers.{RoutesLeadOn};
+ghost use Rattle.dta_model.specs.Transfers.{FirstWaits, HeadsOfLines, LinesGather, MovesCount};
+ghost use Rattle.dta_model.specs.Transfers.{MovesPass, RidersMove, RidersTell, RoutesLeadOn};
+ghost use Rattle.dta_model.specs.Transfers.{WaitingLinesStay};
 
 /// The nodes of a step may be taken in any order.
 pub fn nodes_in_any_order()
@@ -59,10 +59,9 @@ pub fn lines_gather()
     ensures { LinesGather }
 {}
 
-/// A cell of the next step is what the transfer left of it, with the batch at the end of each
-/// in-line.
-pub fn cells_gather()
-    ensures { CellsGather }
+/// A waiting line of the next step is what the transfer left of it.
+pub fn waiting_lines_stay()
+    ensures { WaitingLinesStay }
 {}
 
 /// One pass over a node's links makes its moves.
@@ -121,9 +120,9 @@ pub fn journeys_end_in_order()
     ensures { JourneysEndInOrder }
 {}
 
-/// All cells together hold the vehicles that have routes, each once and as the trace makes it.
-pub fn cells_hold_all()
-    ensures { CellsHoldAll }
+/// All nodes together hold the vehicles that have routes, each once and as the trace makes it.
+pub fn nodes_hold_all()
+    ensures { NodesHoldAll }
 {}
 
 /// A table releases as many trips as its volumes make whole vehicles, numbered in order, by

@@ -1,5 +1,5 @@
 -- What the cell of a node and the mail of its links hold at each stage of a loading.
-use Rattle.std.specs.Prelude.{ℕ, suc, ◌<◌, Bool, false, ◌&&◌, not, nat_eq, nat_lt, nat_le, List, [], length, map, filter, Option, None, Some, option_map}
+use Rattle.std.specs.Prelude.{ℕ, suc, ◌<◌, ◌/◌, ◌%◌, Bool, false, ◌&&◌, not, cond, nat_eq, nat_lt, nat_le, List, [], length, map, filter, Option, None, Some, option_map}
 use Rattle.std.specs.Option.{is_none}
 use Rattle.dta_model.specs.Allowance.{carried}
 use Rattle.dta_model.specs.Plans.{link_at, ins, outs, turn}
@@ -108,6 +108,20 @@ cell_after p n t in_mail out_mail = record {
   arrived = arrived_before p n (suc t);
   delta = p.delta;
 }
+
+-- the stages of a cell and of a mail as numbers: stage 2 t is before the transfer of step t, and stage
+-- 2 t + 1 after it
+abbrev pub is_before : ℕ → Bool
+is_before stage = nat_eq (stage % 2) 0
+
+-- the cell of node n at a stage, with its places empty
+unfoldable pub cell_at : Plan → ℕ → ℕ → CellState
+cell_at p n stage =
+    cond (is_before stage) (cell_before p n (stage / 2) away away) (cell_after p n (stage / 2) away away)
+
+-- the mail of link l at a stage: its room, or its batch
+unfoldable pub mail_at : Plan → ℕ → ℕ → Mail
+mail_at p l stage = cond (is_before stage) (room_of p (stage / 2) l) (batch_of p (stage / 2) l)
 
 -- a step of a sound loading at one of its nodes
 pub record IsStep (p : Plan) (n t : ℕ) : Type 0 where

@@ -1,12 +1,13 @@
 -- What callers rely on that fill the places of cells and hand their journeys over.
 use Rattle.std.specs.List.{flat_map}
-use Rattle.std.specs.Prelude.{◌≡◌, ℕ, ◌<◌, cond, nat_eq, length, map, All, Some, slice_get}
+use Rattle.std.specs.Prelude.{◌≡◌, ℕ, suc, ◌<◌, cond, nat_eq, length, map, All, Some, slice_get}
+use Rattle.dta_model.specs.HandOver.{AreVehicles}
 use Rattle.dta_model.specs.Loading.{journeys_of}
 use Rattle.dta_model.specs.Plans.{all_nodes, ins, outs, vehicle_count}
 use Rattle.dta_model.specs.Sound.{IsSound}
 use Rattle.dta_model.specs.declared.plan.Plan.{Plan}
-use Rattle.node_transfer.specs.Cells.{with_in_mail, with_out_mail}
-use Rattle.node_transfer.specs.Contents.{away, cell_after, cell_before}
+use Rattle.node_transfer.specs.Cells.{gathered, with_in_mail, with_out_mail}
+use Rattle.node_transfer.specs.Contents.{away, batch_of, cell_after, cell_before, room_of}
 use Rattle.node_transfer.specs.Hand.{Within, handed, riders_in}
 use Rattle.node_transfer.specs.Start.{no_journeys}
 use Rattle.node_transfer.specs.declared.mail.Mail.{Mail}
@@ -44,3 +45,16 @@ pub record HandOver (p : Plan) : Type 0 where
 
 abbrev pub CellsHandOver : Type 0
 CellsHandOver = (p : Plan) → IsSound p → HandOver p
+
+-- before each step, and after the last one, all cells together hold the vehicles of the plan
+abbrev pub CellsHoldAll : Type 0
+CellsHoldAll =
+    (p : Plan) → IsSound p → (t : ℕ) (f g : ℕ → Mail)
+    → AreVehicles p t (flat_map riders_in (map (λ n. cell_before p n t f g) (all_nodes p)))
+
+-- a cell in the next step is what the transfer left of it, with the batch at the end of the line of
+-- each in-link and the room that is left there told
+abbrev pub CellsGather : Type 0
+CellsGather =
+    (p : Plan) → IsSound p → (t n : ℕ) → n < length p.net.nodes
+    → cell_before p n (suc t) (room_of p (suc t)) away ≡ gathered t (cell_after p n t (batch_of p t) away)

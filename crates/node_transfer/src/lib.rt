@@ -25,7 +25,9 @@ mod threads;
 mod turn;
 
 pub use cell::{CellCounts, NodeCell};
-pub use laws::{cells_hand_over, mail_goes_by_links, quiet_nodes_stay_idle};
+pub use laws::{
+    cells_gather, cells_hand_over, cells_hold_all, mail_goes_by_links, quiet_nodes_stay_idle,
+};
 pub use lists::{Cells, Mails, Opening};
 pub use mail::Mail;
 pub use rest::NO_STEP;

@@ -1,4 +1,4 @@
--- A whole cell after a step.
+-- The lines and waiting lines of a node after a step.
 use Rattle.net_core.specs.Network as network
 use Rattle.net_core.specs.Network.{numbers_below}
 use Rattle.std.specs.List.{range_with_len}
@@ -13,11 +13,13 @@ use Rattle.dta_model.specs.Loading.{after_step, step_moves, trace_after}
 use Rattle.dta_model.specs.NodeMoves.{is_first, node_moves}
 use Rattle.dta_model.specs.Plans.{all_nodes, first_link, ins, link_at, outs, vehicles_of}
 use Rattle.dta_model.specs.Riders.{RiderState, rider_at, riders}
-use Rattle.dta_model.specs.Stages.{batch_mail, cell_after, cell_before, line_after, line_before, staying, waiting_after, waiting_before, waiting_for}
+use Rattle.dta_model.specs.Stages.{batch_mail, line_after, line_before, staying, waiting_after, waiting_before, waiting_for}
 use Rattle.dta_model.specs.Trace.{Move, has_moved, moves_of}
-use Rattle.dta_model.specs.Transfers.{CellsGather}
+use Rattle.dta_model.specs.Sound.{IsSound}
+use Rattle.dta_model.specs.Transfers.{WaitingLinesStay}
 use Rattle.dta_model.proofs.Pushes.{has_moved-append, has_moved_is, moves_of-append}
 use Rattle.dta_model.proofs.Standing.{no-last}
+use Rattle.dta_model.proofs.Steady.{steady_of}
 use Rattle.dta_model.proofs.Riders.{filter_two}
 use Rattle.dta_model.proofs.Places.{node_of, first_at}
 use Rattle.dta_model.proofs.Gathering.{own-at, no-moves, rider-like, lines_gather, map_like, kept_at}
@@ -94,11 +96,16 @@ waiting-line : (p : Plan) (t n b : ℕ) → n < length p.net.nodes → (link_at 
 unfolding waiting_before waiting_after trace_after after_step
 waiting-line p t n b there out = waiting-gathered p t n b (trace_after p t) there out
 
-pub cells_gather : CellsGather
-unfolding cell_before cell_after
-cells_gather p sound t n there =
-    rw (
+pub waiting_lines_stay : WaitingLinesStay
+waiting_lines_stay p sound t b there = waiting-line p t (link_at p b).from.0 b ((steady_of p sound).ends b there).0 refl
+
+-- the lines of a node's in-links and out-links in the next step
+module _ (p : Plan) (sound : IsSound p) (t n : ℕ) (there : n < length p.net.nodes) where
+  pub next-lines : map (line_before p (suc t)) (ins p n) ≡ map (λ l. line_after p n t l ++ batch_mail p l t) (ins p n)
+  next-lines =
       map_all (λ l. (l < length p.net.links) × ((link_at p l).to.0 ≡ n)) (line_before p (suc t)) (λ l. line_after p n t l ++ batch_mail p l t) (ins p n) (in_links p n)
-          (λ l h. subst (λ k. line_before p (suc t) l ≡ line_after p k t l ++ batch_mail p l t) h.1 (lines_gather p sound t l h.0)),
-      map_all (λ b. (link_at p b).from.0 ≡ n) (waiting_before p (suc t)) (waiting_after p n t) (outs p n) (out_links p n) (λ b h. waiting-line p t n b there h),
-    ) refl
+      (λ l h. subst (λ k. line_before p (suc t) l ≡ line_after p k t l ++ batch_mail p l t) h.1 (lines_gather p sound t l h.0))
+
+  pub next-waiting : map (waiting_before p (suc t)) (outs p n) ≡ map (waiting_after p n t) (outs p n)
+  next-waiting =
+      map_all (λ b. (link_at p b).from.0 ≡ n) (waiting_before p (suc t)) (waiting_after p n t) (outs p n) (out_links p n) (λ b h. waiting-line p t n b there h)
