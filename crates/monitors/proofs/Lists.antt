@@ -1,0 +1,54 @@
+-- Lists of posted states: their beginnings, their last, and that steps rise.
+use Rattle.std.proofs.Common.{arith, ◌≡◌, ◌<◌, ◌≤◌, ◌+◌, ◌-◌, ℕ, zero, suc, List, [], ◌∷◌, ◌++◌, length, refl, sym, ap, ◌∙◌, subst, append_assoc}
+use Rattle.std.specs.List.{slice_index_or}
+use Rattle.std.proofs.lemmas.List.Quantifiers.{all_pairs_push}
+use Rattle.dta_model.specs.declared.eight.Eight.{Eight}
+use Rattle.monitors.specs.Words.{words_of, eight_of}
+use Rattle.monitors.specs.Posted.{last_of, zeros, IsPrefix, IsLater, StepsRise}
+
+pub IsPrefix-same : (xs : List Eight) → IsPrefix xs xs
+IsPrefix-same xs = ([], grind (Rattle.std.proofs.Common.arith, Rattle.std.proofs.lemmas.Grind.common_steps))
+
+pub IsPrefix-nothing : (xs : List Eight) → IsPrefix [] xs
+IsPrefix-nothing xs = (xs, refl)
+
+pub IsPrefix-more : (xs ys zs : List Eight) → IsPrefix xs ys → IsPrefix xs (ys ++ zs)
+IsPrefix-more xs ys zs b = (b.0 ++ zs, ap (λ l. l ++ zs) b.1 ∙ append_assoc xs b.0 zs)
+
+pub last_of-push : (xs : List Eight) (x : Eight) → last_of (xs ++ x ∷ []) ≡ x
+last_of-push [] x = refl
+last_of-push (y ∷ []) x = refl
+last_of-push (y ∷ z ∷ xs) x = last_of-push (z ∷ xs) x
+
+pub StepsRise-push : (xs : List Eight) (x : Eight) → StepsRise xs → IsLater x xs → StepsRise (xs ++ x ∷ [])
+StepsRise-push xs x rise later = all_pairs_push (λ before after. before.steps < after.steps) xs x rise later
+
+-- the last of a list that isn't empty is the one at its end
+last_of-cons : (x : Eight) (xs : List Eight) (d : Eight) → last_of (x ∷ xs) ≡ slice_index_or (x ∷ xs) (length xs) d
+last_of-cons x [] d = refl
+last_of-cons x (y ∷ xs) d = last_of-cons y xs d
+
+-- the last of a list has no fewer steps than its first
+last_after_first : (x : Eight) (xs : List Eight) → StepsRise (x ∷ xs) → x.steps ≤ (last_of (x ∷ xs)).steps
+last_after_first x [] rise = omega arith
+last_after_first x (y ∷ xs) rise =
+    let e = last_of-cons x (y ∷ xs) zeros in
+    let h : x.steps < (slice_index_or (x ∷ y ∷ xs) (length (y ∷ xs)) zeros).steps = rise 0 (length (y ∷ xs)) zeros (omega arith) (omega arith) in
+    subst (λ (l : Eight). x.steps ≤ l.steps) (sym e) (omega arith)
+
+StepsRise-tail : (x : Eight) (xs : List Eight) → StepsRise (x ∷ xs) → StepsRise xs
+StepsRise-tail x xs rise i j d below within = rise (suc i) (suc j) d (omega arith) (omega arith)
+
+-- a beginning ends with no more steps than the whole
+pub last_of-append : (xs ys : List Eight) → StepsRise (xs ++ ys) → (last_of xs).steps ≤ (last_of (xs ++ ys)).steps
+last_of-append [] ys rise = omega arith
+last_of-append (x ∷ []) ys rise = last_after_first x ys rise
+last_of-append (x ∷ y ∷ xs) ys rise = last_of-append (y ∷ xs) ys (StepsRise-tail x (y ∷ xs ++ ys) rise)
+
+pub last_of-prefix : (xs ys : List Eight) → IsPrefix xs ys → StepsRise ys → (last_of xs).steps ≤ (last_of ys).steps
+last_of-prefix xs ys b rise =
+    subst (λ (l : List Eight). (last_of xs).steps ≤ (last_of l).steps) (sym b.1) (last_of-append xs b.0 (subst StepsRise b.1 rise))
+
+-- words that say the last of a list have no fewer steps than the last of its beginning
+pub onward : (xs ys : List Eight) (words : List ℕ) → IsPrefix xs ys → StepsRise ys → words ≡ words_of (last_of ys) → (last_of xs).steps ≤ (eight_of words).steps
+onward xs ys words b rise is = subst (λ (w : List ℕ). (last_of xs).steps ≤ (eight_of w).steps) (sym is) (last_of-prefix xs ys b rise)
