@@ -1,7 +1,7 @@
 -- Small worked cases of the definitions. Steps are of six seconds; a rate of 600,000,000 is one
 -- vehicle in such a step.
 use Rattle.std.specs.Prelude.{◌≡◌, ℕ, List, [], ◌∷◌, ◌++◌, Option, Some, None, map, refl}
-use Rattle.std.specs.List.{repeat}
+use Rattle.std.specs.List.{flat_map, repeat}
 use Rattle.net_core.specs.Network.{numbers_below}
 use Rattle.net_core.specs.declared.rows.LinkNo.{LinkNo}
 use Rattle.net_core.specs.declared.rows.LinkRow.{LinkRow}
@@ -9,14 +9,21 @@ use Rattle.net_core.specs.declared.rows.NetRows.{NetRows}
 use Rattle.net_core.specs.declared.rows.NodeRow.{NodeRow}
 use Rattle.net_core.specs.declared.rows.TurnRow.{TurnRow}
 use Rattle.dta_model.specs.Loading.{trace_after, entries_of, arrival_of}
-use Rattle.dta_model.specs.OnLiterals.{releases_on_literals, loadings_on_literals}
+use Rattle.dta_model.specs.Machine.{all_idle, finished, outcomes_of, run_machine}
+use Rattle.dta_model.specs.OnLiterals.{claims_on_literals, loadings_on_literals}
+use Rattle.dta_model.specs.OnLiterals.{releases_on_literals}
 use Rattle.dta_model.specs.Release.{trips_of}
 use Rattle.dta_model.specs.Riders.{RiderState}
 use Rattle.dta_model.specs.Stages.{line_before, line_after, room_mail, batch_mail}
 use Rattle.dta_model.specs.State.{eight_after}
 use Rattle.dta_model.specs.Trace.{Move}
+use Rattle.dta_model.specs.Units.{phase_end, phase_start, places}
 use Rattle.dta_model.specs.declared.credit.TheConstants.{PARTS_OF_A_VEHICLE}
 use Rattle.dta_model.specs.declared.loading.TheConstants.{MOST_HORIZON}
+use Rattle.dta_model.specs.declared.machine.Event.{Event}
+use Rattle.dta_model.specs.declared.machine.Event.TheVariants as event
+use Rattle.dta_model.specs.declared.machine.Outcome.{Outcome}
+use Rattle.dta_model.specs.declared.machine.Outcome.TheVariants as outcomes
 use Rattle.dta_model.specs.declared.plan.Plan.{Plan}
 use Rattle.dta_model.specs.declared.queue.Queue.TheVariants as queue
 use Rattle.dta_model.specs.declared.trip.DemandCell.{DemandCell}
@@ -254,3 +261,60 @@ two_links_merge-arrivals :
     arrivals 4 (trace_after two_links_merge 8) ≡ Some 3 ∷ Some 5 ∷ Some 2 ∷ Some 4 ∷ []
 unfolding loadings_on_literals trip two_links_merge
 two_links_merge-arrivals = refl
+
+-- ---- units of a loading with two nodes: five in a step
+two_nodes-starts : map (phase_start 2) (numbers_below 10) ≡ 0 ∷ 0 ∷ 2 ∷ 2 ∷ 4 ∷ 5 ∷ 5 ∷ 7 ∷ 7 ∷ 9 ∷ []
+unfolding claims_on_literals
+two_nodes-starts = refl
+
+two_nodes-ends : map (phase_end 2) (numbers_below 10) ≡ 2 ∷ 2 ∷ 4 ∷ 4 ∷ 5 ∷ 7 ∷ 7 ∷ 9 ∷ 9 ∷ 10 ∷ []
+unfolding claims_on_literals
+two_nodes-ends = refl
+
+-- three nodes and two links in a line: cells 0 to 2, mail 3 and 4, and 5 posts. A transfer takes the
+-- mail of out-links, a gather that of in-links; the posting counts all cells
+two_links_in_a_line-places :
+    map (places two_links_in_a_line) (numbers_below 7)
+    ≡ (0 ∷ 3 ∷ []) ∷ (1 ∷ 4 ∷ []) ∷ (2 ∷ []) ∷ (0 ∷ []) ∷ (1 ∷ 3 ∷ []) ∷ (2 ∷ 4 ∷ [])
+    ∷ (0 ∷ 1 ∷ 2 ∷ 5 ∷ []) ∷ []
+unfolding claims_on_literals loadings_on_literals two_links_in_a_line
+two_links_in_a_line-places = refl
+
+-- ---- workers that claim the units of one step of two nodes
+unfoldable two_nodes : Plan
+two_nodes = record two_links_in_a_line {
+  net = record {
+    nodes = node 1 ∷ node 3 ∷ [];
+    links = link 0 0 1 10 125 600000000 ∷ [];
+    turns = [];
+  };
+  horizon = 1;
+}
+
+-- two workers: unit 2, of the second phase, may be opened once both units of the first are finished
+two_workers :
+    outcomes_of two_nodes
+    (event.Claim 0 ∷ event.Claim 1 ∷ event.Open 1 ∷ event.Finish 1 ∷ event.Claim 1 ∷ event.Open 1
+    ∷ event.Open 0 ∷ event.Finish 0 ∷ event.Finish 0 ∷ event.Open 1 ∷ [])
+    (all_idle 2)
+    ≡ outcomes.Given 0 ∷ outcomes.Given 1 ∷ outcomes.Done ∷ outcomes.Done ∷ outcomes.Given 2
+    ∷ outcomes.NotYet 1 ∷ outcomes.Done ∷ outcomes.Done ∷ outcomes.Misplaced ∷ outcomes.Done ∷ []
+unfolding claims_on_literals loadings_on_literals two_links_in_a_line two_nodes
+two_workers = refl
+
+-- one worker does all five units one after another, and then has ended
+abbrev one_round : List Event
+one_round = event.Claim 0 ∷ event.Open 0 ∷ event.Finish 0 ∷ []
+
+abbrev one_unit : ℕ → List Outcome
+one_unit number = outcomes.Given number ∷ outcomes.Done ∷ outcomes.Done ∷ []
+
+one_worker :
+    outcomes_of two_nodes (repeat 5 one_round ++ event.Claim 0 ∷ event.Claim 0 ∷ []) (all_idle 1)
+    ≡ flat_map one_unit (numbers_below 5) ++ outcomes.Over 5 ∷ outcomes.Misplaced ∷ []
+unfolding claims_on_literals loadings_on_literals two_links_in_a_line two_nodes
+one_worker = refl
+
+one_worker-finished : finished two_nodes (run_machine two_nodes (repeat 5 one_round) (all_idle 1)) ≡ 5
+unfolding claims_on_literals loadings_on_literals two_links_in_a_line two_nodes
+one_worker-finished = refl

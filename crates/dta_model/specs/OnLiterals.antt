@@ -5,6 +5,7 @@ use Rattle.net_core.specs.Rows.{link_in}
 use Rattle.dta_model.specs.Allowance.{allowance}
 use Rattle.dta_model.specs.Loading.{after_step, trace_after, entries_of, arrival_of, journey_of}
 use Rattle.dta_model.specs.Loading.{journeys_of}
+use Rattle.dta_model.specs.Machine.{is_finished, finished, effect_of, run_machine, outcomes_of}
 use Rattle.dta_model.specs.NodeMoves.{left, entered, turned, may_enter, may_turn, may_move}
 use Rattle.dta_model.specs.NodeMoves.{leave_move, first_move, head_move, waits_for, admit}
 use Rattle.dta_model.specs.NodeMoves.{admission, in_order, next_move, grown, node_moves}
@@ -21,6 +22,7 @@ use Rattle.dta_model.specs.State.{waiting_in, running_in, arrived_in, count_on, 
 use Rattle.dta_model.specs.State.{eight_after}
 use Rattle.dta_model.specs.Trace.{moves_of, has_moved, last_moves, last_move, queue_of, moves_made}
 use Rattle.dta_model.specs.Trace.{stands_on, next_target}
+use Rattle.dta_model.specs.Units.{unit_count, task_of, phase_start, phase_end, moved_by, places}
 
 -- the trips of a table
 unfoldable pub releases_on_literals : ⊤
@@ -43,3 +45,9 @@ unfolding traces_on_literals entries_of arrival_of journey_of journeys_of is_rou
     rider_at brought arriving waiting_for line_before line_after waiting_before waiting_after
     arrived_before room_mail batch_mail
 loadings_on_literals = tt
+
+-- claims of units
+unfoldable pub claims_on_literals : ⊤
+unfolding unit_count task_of phase_start phase_end moved_by places is_finished finished effect_of
+    run_machine outcomes_of
+claims_on_literals = tt
