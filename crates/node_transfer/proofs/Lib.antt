@@ -18,6 +18,7 @@ pub mod Due
 pub mod Transfer
 pub mod Gather
 pub mod Totals
+pub mod AddUp
 pub mod Starts
 pub mod Opened
 pub mod Counts

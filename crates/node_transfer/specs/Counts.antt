@@ -1,10 +1,11 @@
 -- How many vehicles of a cell wait, run and have arrived.
 use Rattle.std.specs.List.{sum_by}
-use Rattle.std.specs.Prelude.{ℕ, List, length, min}
+use Rattle.std.specs.Prelude.{◌≡◌, ℕ, List, length, min}
 use Rattle.dta_model.specs.Loading.{trace_after}
-use Rattle.dta_model.specs.Plans.{ins, outs}
+use Rattle.dta_model.specs.Plans.{all_nodes, ins, outs}
+use Rattle.dta_model.specs.Sound.{IsSound}
 use Rattle.dta_model.specs.Stages.{arrived_before, waiting_before}
-use Rattle.dta_model.specs.State.{count_on}
+use Rattle.dta_model.specs.State.{count_on, eight_after}
 use Rattle.dta_model.specs.declared.plan.Plan.{Plan}
 use Rattle.link_queues.specs.Lines.{due}
 use Rattle.dta_model.specs.Riders.{RiderState}
@@ -21,6 +22,15 @@ counts_at p n t = record {
   running = sum_by (count_on (trace_after p t)) (ins p n);
   arrived = length (arrived_before p n t);
 }
+
+-- the counts of all nodes after t steps add up to those of the loading
+pub record AddUp (p : Plan) (t : ℕ) : Type 0 where
+  pub waiting : sum_by (λ n. (counts_at p n t).waiting) (all_nodes p) ≡ (eight_after p t).waiting
+  pub running : sum_by (λ n. (counts_at p n t).running) (all_nodes p) ≡ (eight_after p t).running
+  pub arrived : sum_by (λ n. (counts_at p n t).arrived) (all_nodes p) ≡ (eight_after p t).arrived
+
+abbrev pub CountsAddUp : Type 0
+CountsAddUp = (p : Plan) → IsSound p → (t : ℕ) → AddUp p t
 
 -- the numbers of riders in the lines of a cell; a sum that no number holds is the greatest one
 abbrev pub counted : List InLink → List OutLink → List RiderState → CellCounts

@@ -1,4 +1,5 @@
 // Laws of the contents of cells. Each is the contract of a function that does nothing.
+ghost use Rattle.node_transfer.specs.Counts.{CountsAddUp};
 ghost use Rattle.node_transfer.specs.Laws.{CellsGather, CellsHandOver, CellsHoldAll, MailGoesByLinks};
 ghost use Rattle.node_transfer.specs.Rest.{QuietNodesStayIdle};
 
@@ -26,4 +27,10 @@ pub fn cells_hand_over()
 /// At a node where nobody is ready nobody moves, and where nobody comes either, its cell only rests.
 pub fn quiet_nodes_stay_idle()
     ensures { QuietNodesStayIdle }
+{}
+
+/// The counts of all cells after a number of steps add up to those of the loading: who waits and is due,
+/// who is on a link, and who has arrived.
+pub fn counts_add_up()
+    ensures { CountsAddUp }
 {}

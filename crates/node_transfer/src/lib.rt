@@ -26,7 +26,8 @@ mod turn;
 
 pub use cell::{CellCounts, NodeCell};
 pub use laws::{
-    cells_gather, cells_hand_over, cells_hold_all, mail_goes_by_links, quiet_nodes_stay_idle,
+    cells_gather, cells_hand_over, cells_hold_all, counts_add_up, mail_goes_by_links,
+    quiet_nodes_stay_idle,
 };
 pub use lists::{Cells, Mails, Opening};
 pub use mail::Mail;
