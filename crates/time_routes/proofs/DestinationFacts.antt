@@ -16,7 +16,7 @@ use Rattle.net_core.specs.declared.rows.ZoneNo.{ZoneNo}
 use Rattle.dta_model.specs.Least.{HaveNoWalk}
 use Rattle.dta_model.specs.Walks.{begins_in, ends_in, is_zone, zone_at}
 use Rattle.dta_model.specs.declared.trip.Trip.{Trip}
-use Rattle.time_routes.specs.Destinations.{asks_least, asks_walk, AreTold, IsRight, LeadsTo, LeadsToFirst, LeastOf, noted, Settles, Stands, StandsBefore, Tells, WalkOf, wanted, wanted_in, wanted_zone}
+use Rattle.time_routes.specs.Destinations.{asks_least, asks_walk, AreTold, IsRight, LeadsTo, LeadsToFirst, LeastOf, noted, Settles, Stands, StandsBefore, Tells, UnaskedAreNone, WalkOf, wanted, wanted_in, wanted_zone}
 use Rattle.time_routes.specs.Named.{zone_named}
 use Rattle.time_routes.specs.Onwards.{zone_or_none}
 use Rattle.time_routes.specs.ToZone.{zone_numbers}
@@ -102,16 +102,28 @@ leads net trips asks zone v trip to there = by (slice_get asks v) (subst (λ t. 
     by (Some ask) h = asked (ask.least || ask.walk) h
 
 -- ---- settling
-module _ {X : Type 0} (Right : ℕ → X → Type 0) where
-  pub settles_none : (Now : ℕ → Type 0) (xs : List X) → ((v : ℕ) → Now v → ⊥) → Settles Right Now xs xs
+set_elsewhere : {X : Type 0} (xs : List X) (v w : ℕ) (x : X) → w ≢ v → slice_get (set xs v x) w ≡ slice_get xs w
+set_elsewhere [] v w x other = refl
+set_elsewhere (z ∷ xs) zero zero x other = absurd (other refl)
+set_elsewhere (z ∷ xs) zero (suc w) x other = refl
+set_elsewhere (z ∷ xs) (suc v) zero x other = refl
+set_elsewhere (z ∷ xs) (suc v) (suc w) x other = set_elsewhere xs v w x (λ e. other (ap suc e))
+
+not_both : (asked : ℕ → Bool) (v w : ℕ) → asked v ≡ true → asked w ≡ false → w ≢ v
+not_both asked v w yes_v no_w same = let e = ap asked same in cc
+
+module _ {X : Type 0} (asked : ℕ → Bool) (Right : ℕ → X → Type 0) where
+  pub settles_none : (Now : ℕ → Type 0) (xs : List X) → ((v : ℕ) → Now v → ⊥) → Settles asked Right Now xs xs
   settles_none Now xs none = record {
+    unasked = λ v other. refl;
     as_many = refl;
     kept = λ v x y a r b. (let same : x ≡ y = some_same x y (sym a ∙ b) in subst (λ z. Right v z) same r);
     made = λ v y n b. absurd (none v n);
   }
 
-  pub settles_same : (v : ℕ) (xs : List X) → ((x : X) → Right v x) → Settles Right (λ w. w ≡ v) xs xs
+  pub settles_same : (v : ℕ) (xs : List X) → ((x : X) → Right v x) → Settles asked Right (λ w. w ≡ v) xs xs
   settles_same v xs all = record {
+    unasked = λ v other. refl;
     as_many = refl;
     kept = λ w x y a r b. (let same : x ≡ y = some_same x y (sym a ∙ b) in subst (λ z. Right w z) same r);
     made = λ w y n b. subst (λ u. Right u y) (sym n) (all y);
@@ -133,8 +145,9 @@ module _ {X : Type 0} (Right : ℕ → X → Type 0) where
   here (z ∷ xs) zero x y h = some_same y x (sym h)
   here (z ∷ xs) (suc v) x y h = here xs v x y h
 
-  pub settles_set : (v : ℕ) (xs : List X) (x : X) → Right v x → Settles Right (λ w. w ≡ v) xs (set xs v x)
-  settles_set v xs x right = record {
+  pub settles_set : (v : ℕ) (xs : List X) (x : X) → asked v ≡ true → Right v x → Settles asked Right (λ w. w ≡ v) xs (set xs v x)
+  settles_set v xs x this right = record {
+    unasked = λ w other. set_elsewhere xs v w x (not_both asked v w this other);
     as_many = length-set xs v x;
     kept = λ w a b h r k. by w a b h r (at_place xs v w x b k);
     made = λ w y n k. (let k1 : slice_get (set xs v x) v ≡ Some y = subst (λ u. slice_get (set xs v x) u ≡ Some y) n k in subst (λ u. Right u y) (sym n) (subst (λ z. Right v z) (sym (here xs v x y k1)) right));
@@ -144,9 +157,10 @@ module _ {X : Type 0} (Right : ℕ → X → Type 0) where
       by w a b h r (inl e) = subst (λ u. Right u b) (sym e.0) (subst (λ z. Right v z) (sym e.1) right)
       by w a b h r (inr e) = subst (λ z. Right w z) (some_same a b (sym h ∙ e)) r
 
-  pub settles_then : (First Second Both : ℕ → Type 0) (old mid new : List X) → Settles Right First old mid → Settles Right Second mid new → ((v : ℕ) → Both v → First v ⊎ Second v) → Settles Right Both old new
+  pub settles_then : (First Second Both : ℕ → Type 0) (old mid new : List X) → Settles asked Right First old mid → Settles asked Right Second mid new → ((v : ℕ) → Both v → First v ⊎ Second v) → Settles asked Right Both old new
   settles_then First Second Both old mid new one two split = record {
     as_many = two.as_many ∙ one.as_many;
+    unasked = λ v other. two.unasked v other ∙ one.unasked v other;
     kept = λ v x y a r b. (let m = between v y b in two.kept v (m.0) y (m.1) (one.kept v x (m.0) a r (m.1)) b);
     made = λ v y n b. by v y b (split v n);
   }
@@ -181,30 +195,30 @@ unasked_walk T asks trips v d h x trip asked there = absurd (differs asks v aske
 -- ---- some vehicles after others
 module _ (at : ℕ → ℕ → ℕ) (net : NetRows) (trips : List Trip) (asks : List Ask) where
   abbrev Leasts : (ℕ → Type 0) → List (Option ℕ) → List (Option ℕ) → Type 0
-  Leasts = Settles (IsRight (LeastOf at net) (asks_least asks) trips)
+  Leasts = Settles (asks_least asks) (IsRight (LeastOf at net) (asks_least asks) trips)
 
   abbrev Walks : (ℕ → Type 0) → List (Option (List LinkNo)) → List (Option (List LinkNo)) → Type 0
-  Walks = Settles (IsRight (WalkOf at net) (asks_walk asks) trips)
+  Walks = Settles (asks_walk asks) (IsRight (WalkOf at net) (asks_walk asks) trips)
 
   pub tells_none : (Now : ℕ → Type 0) (told : Told) → ((v : ℕ) → Now v → ⊥) → Tells at net trips asks Now told told
   tells_none Now told none = record {
-    leasts = settles_none (IsRight (LeastOf at net) (asks_least asks) trips) Now told.leasts.items none;
-    walks = settles_none (IsRight (WalkOf at net) (asks_walk asks) trips) Now told.walks.items none;
+    leasts = settles_none (asks_least asks) (IsRight (LeastOf at net) (asks_least asks) trips) Now told.leasts.items none;
+    walks = settles_none (asks_walk asks) (IsRight (WalkOf at net) (asks_walk asks) trips) Now told.walks.items none;
   }
 
   pub tells_then : (First Second Both : ℕ → Type 0) (old mid new : Told) → Tells at net trips asks First old mid → Leasts Second mid.leasts.items new.leasts.items → Walks Second mid.walks.items new.walks.items → ((v : ℕ) → Both v → First v ⊎ Second v) → Tells at net trips asks Both old new
   tells_then First Second Both old mid new one leasts walks split = record {
-    leasts = settles_then (IsRight (LeastOf at net) (asks_least asks) trips) First Second Both old.leasts.items mid.leasts.items new.leasts.items one.leasts leasts split;
-    walks = settles_then (IsRight (WalkOf at net) (asks_walk asks) trips) First Second Both old.walks.items mid.walks.items new.walks.items one.walks walks split;
+    leasts = settles_then (asks_least asks) (IsRight (LeastOf at net) (asks_least asks) trips) First Second Both old.leasts.items mid.leasts.items new.leasts.items one.leasts leasts split;
+    walks = settles_then (asks_walk asks) (IsRight (WalkOf at net) (asks_walk asks) trips) First Second Both old.walks.items mid.walks.items new.walks.items one.walks walks split;
   }
 
-  fewer : {X : Type 0} (Right : ℕ → X → Type 0) (Many Few : ℕ → Type 0) (old new : List X) → Settles Right Many old new → ((v : ℕ) → Few v → Many v) → Settles Right Few old new
-  fewer Right Many Few old new s h = record { as_many = s.as_many; kept = s.kept; made = λ v y n b. s.made v y (h v n) b }
+  fewer : {X : Type 0} (asked : ℕ → Bool) (Right : ℕ → X → Type 0) (Many Few : ℕ → Type 0) (old new : List X) → Settles asked Right Many old new → ((v : ℕ) → Few v → Many v) → Settles asked Right Few old new
+  fewer asked Right Many Few old new s h = record { as_many = s.as_many; unasked = s.unasked; kept = s.kept; made = λ v y n b. s.made v y (h v n) b }
 
   pub tells_fewer : (Many Few : ℕ → Type 0) (old new : Told) → Tells at net trips asks Many old new → ((v : ℕ) → Few v → Many v) → Tells at net trips asks Few old new
   tells_fewer Many Few old new t h = record {
-    leasts = fewer (IsRight (LeastOf at net) (asks_least asks) trips) Many Few old.leasts.items new.leasts.items t.leasts h;
-    walks = fewer (IsRight (WalkOf at net) (asks_walk asks) trips) Many Few old.walks.items new.walks.items t.walks h;
+    leasts = fewer (asks_least asks) (IsRight (LeastOf at net) (asks_least asks) trips) Many Few old.leasts.items new.leasts.items t.leasts h;
+    walks = fewer (asks_walk asks) (IsRight (WalkOf at net) (asks_walk asks) trips) Many Few old.walks.items new.walks.items t.walks h;
   }
 
 pub before_more : (numbers : List ℕ) (i d v : ℕ) → StandsBefore numbers (i + 1) v → StandsBefore numbers i v ⊎ (v ≡ get_or numbers i d)
@@ -375,7 +389,7 @@ module _ (net : NetRows) (trips : List Trip) (asks : List Ask) (lists : List (Li
 
   pub all_told : {X : Type 0} (T : Trip → Option X → Type 0) (asked : ℕ → Bool) (start new : List (Option X)) → ((trip : Trip) → HaveNoWalk net trip.origin trip.destination → T trip None)
       → ((v : ℕ) → asked v ≡ true → AsksSome asks v) → start ≡ replicate (length trips) None
-      → Settles (IsRight T asked trips) (LeadsToFirst net trips asks found (length found)) start new → AreTold T asked trips new
+      → Settles asked (IsRight T asked trips) (LeadsToFirst net trips asks found (length found)) start new → AreTold T asked trips new
   all_told {X = X} T asked start new nothing some is s = record {
     as_many = s.as_many ∙ ap length is ∙ length-replicate (length trips) None;
     each = λ v x h trip a there. by v x h trip a there (zone_number net trip.destination) refl;
@@ -387,3 +401,19 @@ module _ (net : NetRows) (trips : List Trip) (asks : List Ask) (lists : List (Li
           let begin : slice_get start v ≡ Some None = ap (λ l. slice_get l v) is ∙ one_of None (length trips) v (slice_get_within trips v trip there) in
           s.kept v None x begin (right_of T asked trips v trip None there none) h trip a there
       by v x h trip a there (Some z) to = s.made v x (leads_there v z trip (some v a) there to) h trip a there
+
+pub unasked_none : {X : Type 0} (asked : ℕ → Bool) (Right : ℕ → Option X → Type 0) (Now : ℕ → Type 0) (count : ℕ) (start new : List (Option X)) → start ≡ replicate count None → Settles asked Right Now start new → UnaskedAreNone asked new
+unasked_none asked Right Now count start new is s v x other there =
+    let long : length new ≡ count = s.as_many ∙ ap length is ∙ length-replicate count None in
+    let small = slice_get_within new v x there in
+    some_same x None (sym there ∙ s.unasked v other ∙ ap (λ l. slice_get l v) is ∙ one_of None count v (omega (arith, small, long)))
+
+pub asked_least_at : (asks : List Ask) (v : ℕ) (d : Ask) → (get_or asks v d).least ≡ true → v < length asks → asks_least asks v ≡ true
+asked_least_at [] v d h small = absurd (omega (arith, small))
+asked_least_at (ask ∷ asks) zero d h small = h
+asked_least_at (ask ∷ asks) (suc v) d h small = asked_least_at asks v d h (omega (arith, small))
+
+pub asked_walk_at : (asks : List Ask) (v : ℕ) (d : Ask) → (get_or asks v d).walk ≡ true → v < length asks → asks_walk asks v ≡ true
+asked_walk_at [] v d h small = absurd (omega (arith, small))
+asked_walk_at (ask ∷ asks) zero d h small = h
+asked_walk_at (ask ∷ asks) (suc v) d h small = asked_walk_at asks v d h (omega (arith, small))

@@ -4,7 +4,7 @@ ghost use Rattle.net_core.specs.Grouped.{Grouped};
 ghost use Rattle.net_core.specs.Network.{numbers_below, zone_number, zones as zones_of};
 ghost use Rattle.dta_model.specs.LinkTimes.{time_at};
 ghost use Rattle.dta_model.specs.Sound.{AreTrips};
-ghost use Rattle.time_routes.specs.Destinations.{asks_least, asks_walk, AreAsMany, AreTold, IsRight, LeadsTo, LeadsToFirst, LeastOf, noted, Settles, Stands, Tells, WalkOf, wanted, wanted_zone};
+ghost use Rattle.time_routes.specs.Destinations.{asks_least, asks_walk, AreAsMany, AreTold, IsRight, LeadsTo, LeadsToFirst, LeastOf, noted, Settles, Stands, Tells, UnaskedAreNone, WalkOf, wanted, wanted_zone};
 ghost use Rattle.time_routes.specs.ToZone.{zone_numbers};
 
 use crate::building::{NO_ZONE, or_none};
@@ -149,7 +149,7 @@ fn tell_least(
     requires asks { length asks.now ≡ length trips.now }
     requires leasts { length leasts.old.items ≡ length trips.now }
     requires to { LeadsTo net.now trips.now asks.now (slice_index labels.now.zones place) vehicle }
-    ensures { Settles (IsRight (LeastOf (time_at labels.now.times) net.now) (asks_least asks.now) trips.now) (λ v. v ≡ vehicle) leasts.old.items leasts.new.items }
+    ensures { Settles (asks_least asks.now) (IsRight (LeastOf (time_at labels.now.times) net.now) (asks_least asks.now) trips.now) (λ v. v ≡ vehicle) leasts.old.items leasts.new.items }
 {
     let v = vehicle as usize;
     if asks[v].least {
@@ -174,7 +174,7 @@ fn tell_walk(
     requires asks { length asks.now ≡ length trips.now }
     requires walks { length walks.old.items ≡ length trips.now }
     requires to { LeadsTo net.now trips.now asks.now (slice_index labels.now.zones place) vehicle }
-    ensures { OnOk result (Settles (IsRight (WalkOf (time_at labels.now.times) net.now) (asks_walk asks.now) trips.now) (λ v. v ≡ vehicle) walks.old.items walks.new.items) }
+    ensures { OnOk result (Settles (asks_walk asks.now) (IsRight (WalkOf (time_at labels.now.times) net.now) (asks_walk asks.now) trips.now) (λ v. v ≡ vehicle) walks.old.items walks.new.items) }
 {
     let v = vehicle as usize;
     if asks[v].walk {
@@ -302,6 +302,8 @@ pub fn tell(
     requires each { length asks.now ≡ length trips.now }
     ensures leasts { IfOk result (λ told. AreTold (LeastOf (time_at times.now) net.now) (asks_least asks.now) trips.now told.leasts.items) }
     ensures walks { IfOk result (λ told. AreTold (WalkOf (time_at times.now) net.now) (asks_walk asks.now) trips.now told.walks.items) }
+    ensures unasked_leasts { IfOk result (λ told. UnaskedAreNone (asks_least asks.now) told.leasts.items) }
+    ensures unasked_walks { IfOk result (λ told. UnaskedAreNone (asks_walk asks.now) told.walks.items) }
 {
     let lists = by_destination(alloc, net, trips, asks)?;
     let zones = destinations(alloc, &lists, net.zone_count())?;
