@@ -12,7 +12,7 @@ ghost use Rattle.node_transfer.specs.Rest.{IsQuiet, rested};
 ghost use Rattle.node_transfer.specs.declared.rest.TheConstants.{NO_STEP};
 ghost use Rattle.std.specs.Prelude.{◌≡◌, ℕ, suc, ◌<◌, ◌≤◌, [], All, length, slice_get, IfOk, IfSome, Some};
 
-use crate::hand::hand_parts;
+use crate::hand_over::hand_parts;
 use crate::in_link::{InLink, gather_links};
 use crate::mail::Mail;
 use crate::out_link::OutLink;

@@ -8,11 +8,10 @@ ghost use Rattle.node_transfer.specs.declared.mail.Mail.{Mail};
 ghost use Rattle.std.specs.Prelude.{◌≡◌, ◌<◌, suc, IfOk, List};
 
 use crate::clock::Clock;
-use crate::hand_over::hand_over_all;
 use crate::phases::{gather_all, transfer_all};
 use dta_model::{Loaded, Loading};
 use net_core::Memory;
-use node_transfer::{Mail, NodeCell, Opening, opening};
+use node_transfer::{Mail, NodeCell, Opening, hand_over_all, opening};
 use std::alloc::Global;
 
 /// The journeys of a loading, by its definition: an entry step for each link that a vehicle
