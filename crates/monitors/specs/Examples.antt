@@ -5,7 +5,7 @@ use Rattle.monitors.specs.Posted.{zeros, last_of, IsPrefix}
 use Rattle.monitors.specs.Words.{words_of, eight_of}
 
 -- after so many steps one vehicle runs on the first link
-abbrev running_after : ℕ → Eight
+abbrev pub running_after : ℕ → Eight
 running_after steps = record {
   steps = steps;
   waiting = 0;
