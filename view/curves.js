@@ -71,7 +71,7 @@ const Curves = (() => {
             const steps = Totals.tripSteps(other);
             return steps.length > 0 ? steps[steps.length - 1] : 1;
         })) * minutes;
-        const edges = Chart.marks(0, longest, 30);
+        const edges = Chart.marks(0, longest, 40);
         while (edges.length < 2 || edges[edges.length - 1] <= longest) {
             edges.push(edges.length < 2 ? edges.length : 2 * edges[edges.length - 1] - edges[edges.length - 2]);
         }
@@ -141,11 +141,22 @@ const Curves = (() => {
     function figureOf(kind, chart, runs, place, canvas) {
         const run = runs[place], name = `${kind.id}_${run.name}`;
         const { head, rows } = rowsOf(chart);
-        return Elements.make('figure', {}, canvas, Elements.make('figcaption', {},
+        const mark = chart.xFormat === Chart.clock ? [Elements.make('div', { className: 'mark' })] : [];
+        return Elements.make('figure', {}, canvas, ...mark, Elements.make('figcaption', {},
             runs.length > 1 ? `${run.name} ` : '',
             Elements.button('PNG', () => Elements.saveCanvas(name, canvas), { title: 'Save as a picture' }), ' ',
             Elements.button('CSV', () => Elements.saveRows(name, head, rows), { title: 'Save as a table' })));
     }
 
-    return { show, colours, byBucket };
+    // Moves the upright line of each chart over time to the step that is shown.
+    function markTime(seconds) {
+        for (const mark of document.querySelectorAll('.mark')) {
+            const { plot } = mark.parentElement.querySelector('canvas');
+            if (plot === undefined) continue;
+            const share = Math.min(seconds / plot.xMost, 1);
+            mark.style.transform = `translateX(${plot.left + share * plot.width}px)`;
+        }
+    }
+
+    return { show, colours, byBucket, markTime };
 })();

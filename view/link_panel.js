@@ -44,7 +44,8 @@ class LinkPanel {
         const chart = run.hasLoading ? this.curve(run, link, view.settings) : null;
         canvas.hidden = chart === null;
         const box = Elements.make('figure', {}, isNamed ? Elements.make('h3', {}, run.name) : '',
-            numbers, canvas, vehicles);
+            numbers, Elements.make('div', { className: 'curve' }, canvas, Elements.make('div', { className: 'mark' })),
+            vehicles);
         const most = chart === null ? 0 : Math.max(...chart.series[0].points.map((point) => point[1]));
         return { box, run, link, numbers, canvas, chart, vehicles, most };
     }
@@ -84,7 +85,8 @@ class LinkPanel {
         } else if (run.isFreeflow) facts.push(['free flow', `${run.times.free[link]} steps`]);
         if (run.occupancy !== null) {
             const count = run.occupancy.vehiclesOn(link);
-            facts.push(['on it', `${count.toLocaleString('en')} of ${run.storage[link].toLocaleString('en')} `
+            facts.push(['waiting for it', `${run.occupancy.waiting[link].toLocaleString('en')} at their origin`],
+                ['on it', `${count.toLocaleString('en')} of ${run.storage[link].toLocaleString('en')} `
                 + `that it stores (${Math.round(100 * count / run.storage[link])} %)`]);
         } else facts.push(['stores', `${run.storage[link].toLocaleString('en')} vehicles`]);
         return facts.concat(LinkPanel.turns(run, link, view));

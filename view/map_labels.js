@@ -3,7 +3,18 @@
 class MapLabels {
     constructor(map) {
         this.map = map;
-        this.boxes = [];
+        this.boxes = map.geometry.nodeRadius >= 10 ? MapLabels.nodeBoxes(map) : [];
+    }
+
+    // Nodes that are drawn with their names stay free of labels.
+    static nodeBoxes({ run, geometry, camera, width, height }) {
+        const boxes = [], radius = geometry.nodeRadius;
+        for (let node = 0; node < run.nodes.count; node += 1) {
+            const x = geometry.screenX(node, camera, width), y = geometry.screenY(node, camera, height);
+            if (x < -radius || x > width + radius || y < -radius || y > height + radius) continue;
+            boxes.push({ left: x - radius, top: y - radius, width: 2 * radius, height: 2 * radius });
+        }
+        return boxes;
     }
 
     draw(view) {
@@ -43,7 +54,7 @@ class MapLabels {
         const sideX = -(screen[at + 3] - screen[at + 1]) / length;
         const sideY = (screen[at + 2] - screen[at]) / length;
         const box = { width: pen.measureText(words).width + 12, height: 20 };
-        for (const side of [1, -1, 2, -2]) {
+        for (const side of [1, -1, 2, -2, 3, -3, 4, -4]) {
             const away = Math.sign(side) * (box.width / 2 * Math.abs(sideX) + box.height / 2 * Math.abs(sideY)
                 + geometry.unit * 2 + 8 + (Math.abs(side) - 1) * 30);
             box.left = Math.min(Math.max(middleX + sideX * away - box.width / 2, 4), width - box.width - 4);

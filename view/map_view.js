@@ -19,6 +19,7 @@ class MapView {
         this.order = new Int32Array(run.links.count);
         this.classCounts = new Int32Array(Measures.colours.length);
         this.placed = '';
+        this.content = '';
     }
 
     get width() {
@@ -50,8 +51,7 @@ class MapView {
         this.resize();
         if (!this.camera.isFitted) this.fit();
         this.placeIfMoved();
-        Measures.fill(view.scale, this.run, view.step, view.settings, this.values, this.classes);
-        this.sortByClass();
+        this.fillIfChanged(view);
         this.pen.fillStyle = '#ffffff';
         this.pen.fillRect(0, 0, this.width, this.height);
         this.drawSelected(view);
@@ -70,6 +70,16 @@ class MapView {
         if (place === this.placed) return;
         this.placed = place;
         this.geometry.place(this.camera, this.width, this.height);
+    }
+
+    // What the link table tells changes with the bucket alone, so most pictures of a playing run keep the classes.
+    fillIfChanged({ scale, step, settings }) {
+        const bucket = scale.measure.isLive ? step : this.run.bucketAt(step);
+        const content = [this.placed, bucket, scale.measure.id, scale.bounds, JSON.stringify(settings)].join(' ');
+        if (content === this.content) return;
+        this.content = content;
+        Measures.fill(scale, this.run, step, settings, this.values, this.classes);
+        this.sortByClass();
     }
 
     // Visible links by class, so that each class is one stroke and the worst are drawn last.

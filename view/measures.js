@@ -12,7 +12,7 @@ const Measures = (() => {
             has: (run) => run.hasLoading,
             value: (run, link, bucket) => (run.entered(link, bucket) === 0 ? 0 : run.ratio(link, bucket)),
             bounds: () => [1, 1.1, 1.25, 1.5, 2, 3],
-            format: (value) => `×${value.toFixed(2)}`,
+            format: (value) => `×${value.toFixed(2)}`, formatBound: (value) => `×${value}`,
             first: 'free flow', none: 'nobody entered', least: 1.05,
         },
         {
@@ -27,7 +27,7 @@ const Measures = (() => {
             id: 'on', name: 'Vehicles on the link',
             has: (run) => run.occupancy !== null, isLive: true,
             value: (run, link) => run.occupancy.vehiclesOn(link),
-            most: (run) => run.occupancy.most().reduce((most, count) => Math.max(most, count), 0),
+            most: (run) => run.occupancy.most().on,
             format: (value) => shortNumber(value), none: 'none', least: 0,
         },
         {
@@ -35,6 +35,13 @@ const Measures = (() => {
             has: (run) => run.hasLoading,
             value: (run, link, bucket) => run.entered(link, bucket),
             most: (run) => mostOver(run, (link, bucket) => run.entered(link, bucket)),
+            format: (value) => shortNumber(value), none: 'none', least: 0,
+        },
+        {
+            id: 'waiting', name: 'Vehicles waiting at their origin for the link',
+            has: (run) => run.occupancy !== null, isLive: true,
+            value: (run, link) => run.occupancy.waiting[link],
+            most: (run) => run.occupancy.most().waiting,
             format: (value) => shortNumber(value), none: 'none', least: 0,
         },
         {
@@ -98,11 +105,11 @@ const Measures = (() => {
     }
 
     function classWords(scale, place) {
-        const { measure, bounds } = scale;
+        const { measure, bounds } = scale, format = measure.formatBound || measure.format;
         if (place === 0) return measure.none;
-        if (place === 1) return measure.first || `to ${measure.format(bounds[0])}`;
-        if (place > bounds.length) return `above ${measure.format(bounds[bounds.length - 1])}`;
-        return `to ${measure.format(bounds[place - 1])}`;
+        if (place === 1 && measure.first !== undefined) return measure.first;
+        if (place > bounds.length) return `above ${format(bounds[bounds.length - 1])}`;
+        return `to ${format(bounds[place - 1])}`;
     }
 
     // Values and classes of all links at a step.

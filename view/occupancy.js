@@ -3,34 +3,40 @@
 // that begin and end there, so that playing costs little.
 class Occupancy {
     constructor(run) {
-        this.visits = run.visits;
+        const { visits, waits } = run;
+        this.visits = visits;
+        this.waits = waits;
         this.horizon = run.horizon;
         this.entered = new Int32Array(run.links.count);
         this.left = new Int32Array(run.links.count);
+        this.waiting = new Int32Array(run.links.count);
         this.step = -1;
-        this.mostByLink = null;
+        this.mosts = null;
     }
 
     moveTo(step) {
         const goal = Math.min(step, this.horizon - 1);
         while (this.step < goal) {
             this.step += 1;
-            this.change(this.step, 1);
+            this.change(1);
         }
         while (this.step > goal) {
-            this.change(this.step, -1);
+            this.change(-1);
             this.step -= 1;
         }
     }
 
-    change(step, by) {
-        const visits = this.visits;
-        for (let at = visits.enterStarts[step]; at < visits.enterStarts[step + 1]; at += 1) {
-            this.entered[visits.enterLinks[at]] += by;
-        }
-        for (let at = visits.leaveStarts[step]; at < visits.leaveStarts[step + 1]; at += 1) {
-            this.left[visits.leaveLinks[at]] += by;
-        }
+    // What happens in the step, done or undone.
+    change(by) {
+        const { step, visits, waits } = this;
+        Occupancy.add(this.entered, visits.enterLinks, visits.enterStarts, step, by);
+        Occupancy.add(this.left, visits.leaveLinks, visits.leaveStarts, step, by);
+        Occupancy.add(this.waiting, waits.beginLinks, waits.beginStarts, step, by);
+        Occupancy.add(this.waiting, waits.endLinks, waits.endStarts, step, -by);
+    }
+
+    static add(counts, links, starts, step, by) {
+        for (let at = starts[step]; at < starts[step + 1]; at += 1) counts[links[at]] += by;
     }
 
     vehiclesOn(link) {
@@ -43,32 +49,25 @@ class Occupancy {
         return [start + this.left[link], start + this.entered[link]];
     }
 
-    // The most vehicles that are on each link at once in the whole run.
+    // The most vehicles that are on any link, and that wait for any link, at once in the whole run.
     most() {
-        if (this.mostByLink === null) {
-            const walker = new Occupancy({ visits: this.visits, horizon: this.horizon,
-                links: { count: this.entered.length } });
-            this.mostByLink = new Int32Array(this.entered.length);
-            for (let step = 0; step < this.horizon; step += 1) {
-                walker.moveTo(step);
-                for (let at = this.visits.enterStarts[step]; at < this.visits.enterStarts[step + 1]; at += 1) {
-                    const link = this.visits.enterLinks[at];
-                    this.mostByLink[link] = Math.max(this.mostByLink[link], walker.vehiclesOn(link));
-                }
-            }
+        if (this.mosts !== null) return this.mosts;
+        const walker = new Occupancy({ visits: this.visits, waits: this.waits, horizon: this.horizon,
+            links: { count: this.entered.length } });
+        this.mosts = { on: 0, waiting: 0 };
+        for (let step = 0; step < this.horizon; step += 1) {
+            walker.moveTo(step);
+            this.note(walker, 'on', this.visits.enterLinks, this.visits.enterStarts, step);
+            this.note(walker, 'waiting', this.waits.beginLinks, this.waits.beginStarts, step);
         }
-        return this.mostByLink;
+        return this.mosts;
     }
 
-    // Vehicles on one link after each of the given steps.
-    seriesOf(link, steps) {
-        const visits = this.visits, start = visits.linkStarts[link], end = visits.linkStarts[link + 1];
-        const changes = new Int32Array(this.horizon + 1);
-        for (let visit = start; visit < end; visit += 1) {
-            changes[visits.enter[visit]] += 1;
-            changes[visits.leave[visit]] -= 1;
+    // A count can only be greatest in a step in which it has grown.
+    note(walker, what, links, starts, step) {
+        for (let at = starts[step]; at < starts[step + 1]; at += 1) {
+            const count = what === 'on' ? walker.vehiclesOn(links[at]) : walker.waiting[links[at]];
+            if (count > this.mosts[what]) this.mosts[what] = count;
         }
-        for (let step = 1; step < changes.length; step += 1) changes[step] += changes[step - 1];
-        return steps.map((step) => changes[Math.min(step, this.horizon - 1)]);
     }
 }

@@ -33,6 +33,7 @@ const Page = (() => {
         legend.update(maps);
         panel.show(view(), runs);
         rankings.update(runs, view());
+        Curves.markTime(player.step * settings.stepSeconds);
         find('time').textContent = timeWords();
         pictures += 1;
         document.body.dataset.pictures = pictures;
@@ -239,6 +240,12 @@ const Page = (() => {
         });
     }
 
+    // The middle of a link on the first map, which the test points at.
+    function placeOf(name) {
+        const { run, geometry: { screen } } = maps[0], at = run.linkPlaces.get(name) * 4;
+        return [(screen[at] + screen[at + 2]) / 2, (screen[at + 1] + screen[at + 3]) / 2];
+    }
+
     start();
-    return { timeWords };
+    return { placeOf };
 })();

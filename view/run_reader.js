@@ -106,7 +106,7 @@ function runReader(csv, network, results, agentRows, visitTools, places) {
             nodes: { count: x.length, names: nodes.names.texts(), zones: nodes.zones, x, y },
             links: { count: links.from.length, names: links.names.texts(), from: links.from, to: links.to,
                 length: links.length, lanes: links.lanes, capacity: links.capacity },
-            times: null, agents: null, visits: null, states: null, sums: null,
+            times: null, agents: null, visits: null, waits: null, states: null, sums: null,
             gap: null, skim: null, counts: null, horizon: 0,
         };
     }
@@ -164,6 +164,7 @@ function runReader(csv, network, results, agentRows, visitTools, places) {
                 + `in agent.csv it is ${different.visits}: one of the tables is of another run.`);
         }
         run.visits = visitTools.indexOf(visits, run.links.count, run.horizon);
+        run.waits = visitTools.waitsOf(run.agents, run.links.count, run.horizon);
         run.states = visitTools.statesOf(run.agents, run.horizon);
         const free = run.times === null ? null : run.times.free;
         run.sums = visitTools.sumsOf(run.agents, visits, run.links, free, run.horizon);

@@ -54,6 +54,26 @@ function visitIndex() {
         };
     }
 
+    // Who waits at an origin waits for the first link of the route: from the departure to the entry. Ones that never enter
+    // wait up to the horizon. Those that enter as they depart don't wait.
+    function waitsOf(agents, links, horizon) {
+        const link = [], begin = [], end = [];
+        for (let agent = 0; agent < agents.count; agent += 1) {
+            if (agents.linkStart[agent] === agents.linkStart[agent + 1]) continue;
+            const first = agents.entryStart[agent];
+            const entry = first < agents.entryStart[agent + 1] ? agents.entries[first] : horizon;
+            if (entry === agents.departure[agent]) continue;
+            link.push(agents.links[agents.linkStart[agent]]);
+            begin.push(agents.departure[agent]);
+            end.push(entry);
+        }
+        const begins = sortedBy(begin, horizon + 1, null), ends = sortedBy(end, horizon + 1, null);
+        return {
+            beginStarts: begins.starts, beginLinks: picked(link, begins.sorted),
+            endStarts: ends.starts, endLinks: picked(link, ends.sorted),
+        };
+    }
+
     // How many wait, are on a link and have arrived once each step is done.
     function statesOf(agents, horizon) {
         const states = { departed: new Int32Array(horizon), waiting: new Int32Array(horizon),
@@ -114,5 +134,5 @@ function visitIndex() {
             visits: entered[place], told: times.entered[place] };
     }
 
-    return { visitsOf, indexOf, statesOf, sumsOf, disagreement };
+    return { visitsOf, indexOf, waitsOf, statesOf, sumsOf, disagreement };
 }
