@@ -150,8 +150,7 @@ fn a_table_of_a_loading(rt: HostRuntime) -> Result<(), Fail> {
         trips: &trips,
         routes: &routes,
     };
-    let times = LinkTimes::of(alloc, &loading, &loaded, 50);
-    let times = times?;
+    let times = LinkTimes::of(alloc, &loading, &loaded, 50)?;
     assert_eq!(rt; (times.buckets(), times.horizon()), (2, 60));
     Ok(())
 }
