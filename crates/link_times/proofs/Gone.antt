@@ -69,6 +69,19 @@ step_of : (o : Option Move) (s : ℕ) → step_in o ≡ Some s → (m : Move) ×
 step_of None s e = cc
 step_of (Some m) s e = (m, refl, (let q : m.step ≡ s = cc in q))
 
+-- who has no route doesn't move, and nor does who isn't there
+stays : (p : Plan) (v : ℕ) → is_routed p v ≡ false → has_moved v (trace_after p p.horizon) ≡ false
+unfolding is_due waits
+stays p v r = not_true _ ((vehicles_are_conserved p p.horizon).due v (rw r refl))
+  where
+    not_true : (c : Bool) → not c ≡ true → c ≡ false
+    not_true true e = cc
+    not_true false e = refl
+
+pub absent : (p : Plan) (v : ℕ) → length p.routes ≤ v → has_moved v (trace_after p p.horizon) ≡ false
+unfolding is_routed
+absent p v h = stays p v (ap some_route (slice_get_past p.routes v h))
+
 module _ (p : Plan) (sound : IsSound p) (v : ℕ) where
   below : All (λ m. m.step < p.horizon) (moves_of v (trace_after p p.horizon))
   unfolding moves_of
@@ -112,22 +125,9 @@ module _ (p : Plan) (sound : IsSound p) (v : ℕ) where
             omega (arith, y);
       }
 
-  stays : is_routed p v ≡ false → has_moved v (trace_after p p.horizon) ≡ false
-  unfolding is_due waits
-  stays r = not_true _ ((vehicles_are_conserved p p.horizon).due v (rw r refl))
-    where
-      not_true : (c : Bool) → not c ≡ true → c ≡ false
-      not_true true e = cc
-      not_true false e = refl
-
-  -- who has no route doesn't move, and nor does who isn't there
   pub unrouted : slice_get p.routes v ≡ Some None → moves_of v (trace_after p p.horizon) ≡ []
   unfolding is_routed
-  unrouted e = no-moves v (trace_after p p.horizon) (stays (ap some_route e))
-
-  pub absent : length p.routes ≤ v → has_moved v (trace_after p p.horizon) ≡ false
-  unfolding is_routed
-  absent h = stays (ap some_route (slice_get_past p.routes v h))
+  unrouted e = no-moves v (trace_after p p.horizon) (stays p v (ap some_route e))
 
 map_some : {A B : Type 0} (f : A → B) (o : Option A) (y : B) → option_map f o ≡ Some y → (x : A) × (o ≡ Some x) × (f x ≡ y)
 map_some f None y e = absurd (none-some y e)

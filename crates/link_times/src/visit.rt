@@ -1,5 +1,6 @@
 // The steps that one visit takes.
-ghost use Rattle.std.specs.Prelude.{◌≡◌, ℕ, suc, ◌+◌, ◌<◌, ◌≤◌, List, length, slice_get, slice_index, Option};
+ghost use Rattle.std.specs.Prelude.{◌≡◌, ℕ, suc, ◌+◌, ◌<◌, ◌≤◌, List, length, slice_get};
+ghost use Rattle.std.specs.Prelude.{slice_index, Option};
 ghost use Rattle.dta_model.specs.Lent.{plan_of};
 ghost use Rattle.dta_model.specs.LinkTimes.{visit_time};
 ghost use Rattle.dta_model.specs.Sound.{IsSound};
@@ -34,7 +35,9 @@ pub fn visit_steps(
     requires sound { IsSound (plan_of loading.now) }
     requires gone { HasGone (plan_of loading.now) vehicle route.now entries.now arrival }
     requires place { place < length entries.now }
-    ensures time { result ≡ visit_time (plan_of loading.now) (link_on route.now place) (slice_index entries.now place) (slice_get (moves_along vehicle route.now entries.now arrival) (suc place)) }
+    ensures time { result ≡ visit_time (plan_of loading.now)
+        (link_on route.now place) (slice_index entries.now place)
+        (slice_get (moves_along vehicle route.now entries.now arrival) (suc place)) }
     ensures least { 1 ≤ result }
     ensures most { result ≤ MOST_HORIZON }
 {
