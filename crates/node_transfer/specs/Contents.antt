@@ -36,9 +36,9 @@ kept_turns p n l = filter (λ b. is_kept (turn p l b)) (outs p n)
 
 -- the turn to link b, of which the table tells so much; a limit stands as the meter says
 abbrev pub turn_by : (ℕ → MeterState) → ℕ → Option NetTurn → Turn
-turn_by meter b None = record { to = b; penalty = 0; limit = None }
+turn_by meter b None = record { to = record { 0 = b }; penalty = 0; limit = None }
 turn_by meter b (Some way) =
-    record { to = b; penalty = way.penalty; limit = option_map meter way.rate }
+    record { to = record { 0 = b }; penalty = way.penalty; limit = option_map meter way.rate }
 
 -- the turn from an in-link to an out-link, after so many grants
 abbrev pub turn_after : Plan → ℕ → ℕ → ℕ → Turn
@@ -76,7 +76,7 @@ waiting_parts steps riders = record {
 -- an out-link with its waiting line and its mail
 abbrev pub out_link : Plan → ℕ → (ℕ → List RiderState) → (ℕ → Mail) → ℕ → OutLink
 out_link p grants waiting mail b = record {
-  link = b;
+  link = record { 0 = b };
   inflow = meter_after p grants (link_at p b).rate;
   waiting = waiting_parts grants (waiting b);
   batch = [];

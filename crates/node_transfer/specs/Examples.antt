@@ -102,7 +102,7 @@ middle_cell line = record {
     mail = Away;
   } ∷ [];
   outs = record {
-    link = 1;
+    link = record { 0 = 1 };
     inflow = record { rate = 600000000; carried = 0; left = 0 };
     waiting = record { later = []; due = [] };
     batch = [];

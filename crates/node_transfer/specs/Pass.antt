@@ -18,10 +18,10 @@ place_of b (x ∷ xs) = cond (nat_eq x b) 0 (place_of b xs + 1)
 
 -- the links to which turns lead, those of out-links, and those who wait for them
 abbrev pub turn_links : List Turn → List ℕ
-turn_links ts = map (λ t. t.to) ts
+turn_links ts = map (λ t. t.to.0) ts
 
 abbrev pub out_links : List OutLink → List ℕ
-out_links outs = map (λ o. o.link) outs
+out_links outs = map (λ o. o.link.0) outs
 
 abbrev pub waitings : List OutLink → List Waiting
 waitings outs = map (λ o. o.waiting) outs

@@ -39,7 +39,7 @@ start_in p bs l = record {
 -- link b as an out-link, with its line among these
 abbrev pub start_out : Plan → List (List RiderState) → ℕ → OutLink
 start_out p lines b = record {
-  link = b;
+  link = record { 0 = b };
   inflow = unused (link_at p b).rate;
   waiting = record { later = slice_index_or lines b []; due = [] };
   batch = [];
