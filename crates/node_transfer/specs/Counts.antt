@@ -15,7 +15,8 @@ use Rattle.node_transfer.specs.declared.out_link.OutLink.{OutLink}
 use Rattle.node_transfer.specs.declared.places.TheConstants.{MOST_COUNT}
 use Rattle.node_transfer.specs.declared.cell.CellCounts.{CellCounts}
 
--- of node n after t steps: those who wait for its out-links and are due, those on its in-links, and those who arrived at it
+-- of node n after t steps: those who wait for its out-links and are due, those on its in-links, and
+-- those who arrived at it
 abbrev pub counts_at : Plan → ℕ → ℕ → CellCounts
 counts_at p n t = record {
   waiting = sum_by (λ b. due t (waiting_before p t b)) (outs p n);
@@ -29,6 +30,7 @@ pub record AddUp (p : Plan) (t : ℕ) : Type 0 where
   pub running : sum_by (λ n. (counts_at p n t).running) (all_nodes p) ≡ (eight_after p t).running
   pub arrived : sum_by (λ n. (counts_at p n t).arrived) (all_nodes p) ≡ (eight_after p t).arrived
 
+-- so it is in each sound loading, after each number of steps
 abbrev pub CountsAddUp : Type 0
 CountsAddUp = (p : Plan) → IsSound p → (t : ℕ) → AddUp p t
 

@@ -20,19 +20,23 @@ most_count = refl
 
 -- two riders before their first link, who depart at steps 3 and 4
 abbrev waiting : ℕ → ℕ → RiderState
-waiting number departure = record { number = number; departure = departure; route = 2 ∷ []; entries = []; arrival = None }
+waiting number departure =
+    record { number = number; departure = departure; route = 2 ∷ []; entries = []; arrival = None }
 
 -- after four steps the first of them is due
-one_is_due : waiting_parts 4 (waiting 0 3 ∷ waiting 1 4 ∷ []) ≡ record { later = waiting 1 4 ∷ []; due = waiting 0 3 ∷ [] }
+one_is_due : waiting_parts 4 (waiting 0 3 ∷ waiting 1 4 ∷ [])
+    ≡ record { later = waiting 1 4 ∷ []; due = waiting 0 3 ∷ [] }
 one_is_due = refl
 
 -- step 4 releases the other one, behind the first
-both_are_due : released 4 (waiting 1 4 ∷ []) (waiting 0 3 ∷ []) ≡ record { later = []; due = waiting 0 3 ∷ waiting 1 4 ∷ [] }
+both_are_due : released 4 (waiting 1 4 ∷ []) (waiting 0 3 ∷ [])
+    ≡ record { later = []; due = waiting 0 3 ∷ waiting 1 4 ∷ [] }
 unfolding released
 both_are_due = refl
 
 -- a rider hands its journey over at its number, and the other journeys stay
-second_of_three : handed (record (waiting 1 4) { entries = 4 ∷ []; arrival = Some 9 } ∷ []) (no_journeys 3)
+second_of_three :
+    handed (record (waiting 1 4) { entries = 4 ∷ []; arrival = Some 9 } ∷ []) (no_journeys 3)
     ≡ no_journey ∷ record { entries = 4 ∷ []; arrival = Some 9 } ∷ no_journey ∷ []
 unfolding handed
 second_of_three = refl
@@ -48,7 +52,11 @@ not_at_six = refl
 abbrev link_with : ℕ → InLink
 link_with carried = record {
   line = waiting 0 3 ∷ [];
-  gate = record { free = 2; outflow = record { rate = 500000000; carried = carried; left = 0 }; turns = [] };
+  gate = record {
+    free = 2;
+    outflow = record { rate = 500000000; carried = carried; left = 0 };
+    turns = [];
+  };
   storage = None;
   mail = Away;
 }
@@ -56,7 +64,8 @@ link_with carried = record {
 abbrev cell_with : ℕ → CellState
 cell_with carried = record { ins = link_with carried ∷ []; outs = []; arrived = []; delta = 6 }
 
--- in two steps of six seconds ten sixths of a vehicle come: a whole one, which is lost, and four sixths, which are carried
+-- in two steps of six seconds ten sixths of a vehicle come: a whole one, which is lost, and four
+-- sixths, which are carried
 two_steps_go_by : rested 2 (cell_with 0) ≡ cell_with 2400000000
 unfolding rested
 two_steps_go_by = refl
@@ -78,17 +87,22 @@ batch_of_step_two : (p : Plan) (l : ℕ) → mail_at p l 5 ≡ batch_of p 2 l
 unfolding mail_at
 batch_of_step_two p l = refl
 
--- the middle node of two links in a line in step 15, when the first vehicle goes from one link to the other
+-- the middle node of two links in a line in step 15, when the first vehicle goes from one link to
+-- the other
 abbrev middle_cell : List RiderState → CellState
 middle_cell line = record {
   ins = record {
     line = line;
-    gate = record { free = 10; outflow = record { rate = 600000000; carried = 0; left = 0 }; turns = [] };
+    gate = record {
+      free = 10;
+      outflow = record { rate = 600000000; carried = 0; left = 0 };
+      turns = [];
+    };
     storage = None;
     mail = Away;
   } ∷ [];
   outs = record {
-    link = 1;
+    link = record { 0 = 1 };
     inflow = record { rate = 600000000; carried = 0; left = 0 };
     waiting = record { later = []; due = [] };
     batch = [];
@@ -98,7 +112,8 @@ middle_cell line = record {
   delta = 6;
 }
 
-before_the_transfer : cell_before two_links_in_a_line 1 15 away away ≡ middle_cell (first_rider (5 ∷ []) ∷ [])
+before_the_transfer : cell_before two_links_in_a_line 1 15 away away
+    ≡ middle_cell (first_rider (5 ∷ []) ∷ [])
 unfolding cell_before loadings_on_literals trip two_links_in_a_line
 before_the_transfer = refl
 

@@ -16,7 +16,8 @@ use Rattle.node_transfer.specs.declared.mail.Mail.{Mail}
 abbrev pub put_mail : ℕ → Mail → (ℕ → Mail) → ℕ → Mail
 put_mail b mail mails l = cond (nat_eq l b) mail (mails l)
 
--- a mail that is put into the place of a link is the mail of that link, and only the mail of the node's own links counts
+-- a mail that is put into the place of a link is the mail of that link, and only the mail of the
+-- node's own links counts
 pub record MailIsPut (p : Plan) (n t : ℕ) : Type 0 where
   pub out_before : (i b : ℕ) (mail : Mail) (f g : ℕ → Mail) → slice_get (outs p n) i ≡ Some b
       → with_out_mail i mail (cell_before p n t f g) ≡ cell_before p n t f (put_mail b mail g)
@@ -26,11 +27,14 @@ pub record MailIsPut (p : Plan) (n t : ℕ) : Type 0 where
       → with_in_mail i mail (cell_before p n t f g) ≡ cell_before p n t (put_mail l mail f) g
   pub in_after : (i l : ℕ) (mail : Mail) (f g : ℕ → Mail) → slice_get (ins p n) i ≡ Some l
       → with_in_mail i mail (cell_after p n t f g) ≡ cell_after p n t (put_mail l mail f) g
-  pub same_before : (f f' g g' : ℕ → Mail) → All (λ l. f l ≡ f' l) (ins p n) → All (λ b. g b ≡ g' b) (outs p n)
+  pub same_before : (f f' g g' : ℕ → Mail)
+      → All (λ l. f l ≡ f' l) (ins p n) → All (λ b. g b ≡ g' b) (outs p n)
       → cell_before p n t f g ≡ cell_before p n t f' g'
-  pub same_after : (f f' g g' : ℕ → Mail) → All (λ l. f l ≡ f' l) (ins p n) → All (λ b. g b ≡ g' b) (outs p n)
+  pub same_after : (f f' g g' : ℕ → Mail)
+      → All (λ l. f l ≡ f' l) (ins p n) → All (λ b. g b ≡ g' b) (outs p n)
       → cell_after p n t f g ≡ cell_after p n t f' g'
 
+-- so it is at each node in each step
 abbrev pub MailGoesByLinks : Type 0
 MailGoesByLinks = (p : Plan) (n t : ℕ) → MailIsPut p n t
 
@@ -40,9 +44,12 @@ pub record HandOver (p : Plan) : Type 0 where
   pub within : (n t : ℕ) (f g : ℕ → Mail) → n < length p.net.nodes
       → All (Within (vehicle_count p)) (riders_in (cell_before p n t f g))
   -- the cells at the horizon, one after another, give the journeys of the loading
-  pub journeys : handed (flat_map riders_in (map (λ n. cell_before p n p.horizon away away) (all_nodes p))) (no_journeys (vehicle_count p))
+  pub journeys :
+      handed (flat_map riders_in (map (λ n. cell_before p n p.horizon away away) (all_nodes p)))
+      (no_journeys (vehicle_count p))
       ≡ journeys_of p
 
+-- so it is in each sound loading
 abbrev pub CellsHandOver : Type 0
 CellsHandOver = (p : Plan) → IsSound p → HandOver p
 
@@ -57,4 +64,5 @@ CellsHoldAll =
 abbrev pub CellsGather : Type 0
 CellsGather =
     (p : Plan) → IsSound p → (t n : ℕ) → n < length p.net.nodes
-    → cell_before p n (suc t) (room_of p (suc t)) away ≡ gathered t (cell_after p n t (batch_of p t) away)
+    → cell_before p n (suc t) (room_of p (suc t)) away
+    ≡ gathered t (cell_after p n t (batch_of p t) away)
