@@ -145,3 +145,5 @@ tells by v other u words views h at apart there =
           (record { alone = mine.alone; all = mine.all; seen = mine.seen; told = theirs.seen }) j x e)
           (reader h.writer h.posted other nothing refl (IsPrefix-nothing h.posted) (IsPrefix-nothing h.posted));
     }
+
+pub ruleset keeps = (opens, reads, settles, parts, tells)

@@ -49,6 +49,11 @@ pub last_of-prefix : (xs ys : List Eight) → IsPrefix xs ys → StepsRise ys �
 last_of-prefix xs ys b rise =
     subst (λ (l : List Eight). (last_of xs).steps ≤ (last_of l).steps) (sym b.1) (last_of-append xs b.0 (subst StepsRise b.1 rise))
 
--- words that say the last of a list have no fewer steps than the last of its beginning
-pub onward : (xs ys : List Eight) (words : List ℕ) → IsPrefix xs ys → StepsRise ys → words ≡ words_of (last_of ys) → (last_of xs).steps ≤ (eight_of words).steps
-onward xs ys words b rise is = subst (λ (w : List ℕ). (last_of xs).steps ≤ (eight_of w).steps) (sym is) (last_of-prefix xs ys b rise)
+-- a state that the words of a list's last say has no fewer steps than the last of its beginning
+pub onward : (e : Eight) (xs ys : List Eight) (words : List ℕ)
+    → e ≡ eight_of words → words ≡ words_of (last_of ys) → IsPrefix xs ys → StepsRise ys
+    → (last_of xs).steps ≤ e.steps
+onward e xs ys words says is front rise =
+    subst (λ (k : Eight). (last_of xs).steps ≤ k.steps)
+    (sym (says ∙ ap eight_of is))
+    (last_of-prefix xs ys front rise)

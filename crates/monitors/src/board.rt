@@ -29,6 +29,7 @@ impl Model for Board {
 
 impl Board {
     /// A board with nothing posted, its writer's pass, and a first pass for monitors.
+    #[tactic(auto, using(crate::proofs::Keeps::keeps))]
     pub fn new<R: AllocGlobal + Wait>(
         rt: &R,
     ) -> Result<(Board, WriterPass, MonitorPass), AllocError>
@@ -56,6 +57,7 @@ impl Board {
     }
 
     /// The state that the board shows: one that was posted or, before the first, zeros.
+    #[tactic(auto, using(crate::proofs::Keeps::keeps))]
     pub fn read<R: Wait>(&self, rt: &R, pass: &mut MonitorPass) -> Eight
         requires own { pass.old.board ≡ self.now }
         ensures board { pass.new.board ≡ pass.old.board }
@@ -68,6 +70,7 @@ impl Board {
     }
 
     /// Makes two passes of one. Both know what it knew.
+    #[tactic(auto, using(crate::proofs::Keeps::keeps))]
     pub fn split<R: Wait>(&self, _rt: &R, pass: MonitorPass) -> (MonitorPass, MonitorPass)
         requires own { pass.board ≡ self.now }
         ensures first { result.0 ≡ pass }
@@ -79,6 +82,7 @@ impl Board {
     }
 
     /// A note of what the writer posted.
+    #[tactic(auto, using(crate::proofs::Keeps::keeps))]
     pub fn note<R: Wait>(&self, _rt: &R, pass: WriterPass) -> (WriterPass, Note)
         requires own { pass.board ≡ self.now }
         ensures pass { result.0 ≡ pass }
@@ -90,6 +94,7 @@ impl Board {
     }
 
     /// A note of what a monitor knows.
+    #[tactic(auto, using(crate::proofs::Keeps::keeps))]
     pub fn share<R: Wait>(&self, _rt: &R, pass: MonitorPass) -> (MonitorPass, Note)
         requires own { pass.board ≡ self.now }
         ensures pass { result.0 ≡ pass }
@@ -101,6 +106,7 @@ impl Board {
     }
 
     /// Lets a pass know what a note tells, beside what it knew.
+    #[tactic(auto, using(crate::proofs::Keeps::keeps))]
     pub fn learn<R: Wait>(&self, rt: &R, pass: MonitorPass, note: Note) -> MonitorPass
         requires own { pass.board ≡ self.now }
         requires same { note.board ≡ self.now }
@@ -109,13 +115,15 @@ impl Board {
         ensures learnt { IsPrefix note.list result.list }
     {
         let MonitorPass { mut pass } = pass;
-        self.cell.join_pass::<Tell>(&mut pass, note.pass);
+        let Note { pass: told } = note;
+        self.cell.join_pass::<Tell>(&mut pass, told);
         self.cell.load_as::<Read, R>(rt, &mut pass);
         MonitorPass { pass }
     }
 
     /// The state that the writer posted last, or zeros where it posted none. The pass knows
     /// exactly the writer's states then.
+    #[tactic(auto, using(crate::proofs::Keeps::keeps))]
     pub fn settle<R: Wait>(
         &self,
         rt: &R,
@@ -135,12 +143,12 @@ impl Board {
         // A pass that has made a step can't be told, and a new part of it can.
         let known = self.cell.split_pass::<Part>(&mut pass);
         self.cell.join_pass::<Tell>(&mut writer, known);
-        let words = self.cell.load_as::<Settle, R>(rt, &mut writer);
+        let last = self.cell.load_as::<Settle, R>(rt, &mut writer);
         let settled = self.cell.split_pass::<Part>(&mut writer);
         (
             WriterPass { pass: writer },
             MonitorPass { pass: settled },
-            from_words(words),
+            from_words(last),
         )
     }
 }

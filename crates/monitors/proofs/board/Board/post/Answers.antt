@@ -4,4 +4,8 @@ use Rattle.monitors.proofs.Keeps.{posts}
 use Rattle.monitors.proofs.board.Board.post.Goals as goal
 
 pub swap_as-requires : goal.swap_as-requires
-swap_as-requires g c = (search rules, (search rules, (search rules, posts _ _ _ _ c.pass.invariant c.to_words.ensures (subst (λ (k : Known). IsLater c.args.eight k.list) (sym c.pass.view_is) c.requires.later))))
+swap_as-requires g c =
+    let later =
+    subst (λ (k : Known). IsLater c.args.eight k.list) (sym c.pass.view_is) c.requires.later in
+    let keeps = posts _ _ _ _ c.pass.invariant c.to_words.ensures later in
+    (search rules, (search rules, (search rules, keeps)))
