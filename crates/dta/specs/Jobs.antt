@@ -19,7 +19,7 @@ use Rattle.reports.specs.declared.refusal.TheConstants.{CELL_LIMIT}
 use Rattle.dta_words.specs.declared.command.Command.{Command}
 use Rattle.dta_words.specs.declared.command.Command.TheVariants as command
 use Rattle.dta_words.specs.declared.command.Settings.{Settings}
-use Rattle.dta.specs.Tables.{AreAccepted, Rows, no_rows}
+use Rattle.dta.specs.Tables.{AreAccepted, TableRows, no_rows}
 
 -- the tables of a command, in the order in which they are read; those of a demonstration are made
 abbrev pub tables_of : Command → List Table
@@ -54,24 +54,24 @@ pub record JobRows : Type 0 where
   pub net : NetRows
   pub trips : List Trip
 
-abbrev pub net_of : Rows → NetRows
+abbrev pub net_of : TableRows → NetRows
 net_of rows = record { nodes = rows.nodes; links = rows.links; turns = rows.turns }
 
-abbrev pub job_of : Settings → Rows → JobRows
+abbrev pub job_of : Settings → TableRows → JobRows
 job_of s rows = record { net = net_of rows; trips = trips_of rows.cells s.period }
 
 -- the links of a network times the steps of a run are not too many
-abbrev pub HasRoom : Settings → Rows → Type 0
+abbrev pub HasRoom : Settings → TableRows → Type 0
 HasRoom s rows = length rows.links * s.horizon ≤ CELL_LIMIT
 
 -- rows that are within the limits of a run; `freeflow` has none but those of its tables
-abbrev pub AreWithin : Command → Settings → Rows → Type 0
+abbrev pub AreWithin : Command → Settings → TableRows → Type 0
 AreWithin command.Freeflow s rows = ⊤
 AreWithin c s rows = HasRoom s rows × IsWithin rows.cells
 
 -- the tables were read one after the other and accepted, are within the limits, and make this job
 pub record IsJobOf (s : Settings) (job : JobRows) (before after : Left) : Type 0 where
-  pub rows : Rows
+  pub rows : TableRows
   pub read : AreAccepted s.units (tables_of s.command) no_rows rows before after
   pub within : AreWithin s.command s rows
   pub makes : job ≡ job_of s rows

@@ -13,7 +13,7 @@ ghost use Rattle.vehicle_release.specs.Limits.{IsWithin};
 ghost use Rattle.dta.specs.Jobs.{AreTripsBelow, HasRoom, IsAcceptedJob, IsJob, IsJobOf, job_of as job_of_rows, plan_of};
 ghost use Rattle.dta.specs.Outcome.{DeskState, state_of};
 ghost use Rattle.dta.specs.Stops.{Stops, StopsIn, StopsJob};
-ghost use Rattle.dta.specs.Tables.{Rows, road_rows, rows_of};
+ghost use Rattle.dta.specs.Tables.{TableRows, road_rows, rows_of};
 
 use crate::sizes::sizes;
 use crate::stop::Stop;
@@ -72,7 +72,7 @@ fn trips_within(
     ensures trips { IfOk result (λ trips. trips.items ≡ trips_of cells.now settings.now.period) }
     ensures sound { IfOk result (λ trips. AreTripsBelow settings.now.horizon trips.items) }
     ensures within { OnOk result ((links * settings.now.horizon ≤ CELL_LIMIT) × IsWithin cells.now) }
-    ensures stops { (rows : Rows) → length rows.links ≡ links → rows.cells ≡ cells.now
+    ensures stops { (rows : TableRows) → length rows.links ≡ links → rows.cells ≡ cells.now
         → IfErr result (StopsJob settings.now rows) }
 {
     if sizes(links, settings.horizon).is_err() {

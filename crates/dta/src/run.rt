@@ -167,7 +167,8 @@ pub fn run<R: AllocGlobal + Threads + Wait, D: Desk + Send, G: Gate + Sync>(
     // verdict over words and bytes.
     ensures told { let state = state_of D.left D.taken D.read_faults D.put_faults in
         (texts : Table → List ℕ) → AreToldBy (settings_of words.now) (D.left desk.old) texts
-        → Answers (verdict words.now texts) result (state desk.old) (state desk.new) }
+        → Answers (settings_of words.now) (verdict words.now texts) result
+        (state desk.old) (state desk.new) }
     ensures usage { result ≡ status.Usage → settings_of words.now ≡ None }
 
     // After every step each due vehicle with a route waits, is on one link or has arrived, and links

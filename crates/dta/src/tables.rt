@@ -11,8 +11,8 @@ ghost use Rattle.net_core.specs.Rows.{AreLinks, AreNodes, AreTurns, IsBetween, I
 ghost use Rattle.row_reader.specs.FirstFault.{Tells};
 ghost use Rattle.reports.specs.declared.refusal.TheConstants.{TABLE_LIMIT};
 ghost use Rattle.dta.specs.Outcome.{state_of};
-ghost use Rattle.dta.specs.Stops.{StopsAmong, StopsTurn};
-ghost use Rattle.dta.specs.Tables.{AreAccepted, IsAccepted, Rows, no_rows, road_rows, rows_of, turns_of};
+ghost use Rattle.dta.specs.Stops.{StopsAmong, StopsAt};
+ghost use Rattle.dta.specs.Tables.{AreAccepted, IsAccepted, TableRows, no_rows, road_rows, rows_of, turns_of};
 
 use crate::stop::Stop;
 use demand::read_demand;
@@ -36,8 +36,8 @@ fn bytes_of<D: Desk>(alloc: Global, desk: &mut D, table: Table) -> Result<Vec<u8
         IsRead table bytes.items (D.left desk.old) (D.left desk.new)) }
     ensures short { IfOk result (λ bytes. length bytes.items ≤ TABLE_LIMIT) }
     ensures stops { let state = state_of D.left D.taken D.read_faults D.put_faults in
-        (units : Units) (rows : Rows)
-        → IfErr result (λ s. StopsTurn units table rows s (state desk.old) (state desk.new)) }
+        (units : Units) (rows : TableRows)
+        → IfErr result (λ s. StopsAt units table rows s (state desk.old) (state desk.new)) }
     ensures later { D.read_faults desk.old ≤ D.read_faults desk.new }
     ensures taken { D.taken desk.new ≡ D.taken desk.old }
     ensures puts { D.put_faults desk.new ≡ D.put_faults desk.old }
@@ -57,7 +57,7 @@ fn accept_nodes<D: Desk>(alloc: Global, desk: &mut D) -> Result<NodeRows, Stop>
     ensures sound { IfOk result AreNodes }
     ensures stops { let state = state_of D.left D.taken D.read_faults D.put_faults in
         (units : Units)
-        → IfErr result (λ s. StopsTurn units table.Node no_rows s (state desk.old) (state desk.new)) }
+        → IfErr result (λ s. StopsAt units table.Node no_rows s (state desk.old) (state desk.new)) }
     ensures later { D.read_faults desk.old ≤ D.read_faults desk.new }
     ensures taken { D.taken desk.new ≡ D.taken desk.old }
     ensures puts { D.put_faults desk.new ≡ D.put_faults desk.old }
@@ -82,7 +82,7 @@ fn accept_links<D: Desk>(
     ensures sound { IfOk result AreLinks }
     ensures between { IfOk result (All (IsBetween nodes.now)) }
     ensures stops { let state = state_of D.left D.taken D.read_faults D.put_faults in
-        IfErr result (λ s. StopsTurn units.now table.Link (road_rows nodes.now []) s (state desk.old) (state desk.new)) }
+        IfErr result (λ s. StopsAt units.now table.Link (road_rows nodes.now []) s (state desk.old) (state desk.new)) }
     ensures later { D.read_faults desk.old ≤ D.read_faults desk.new }
     ensures taken { D.taken desk.new ≡ D.taken desk.old }
     ensures puts { D.put_faults desk.new ≡ D.put_faults desk.old }
@@ -153,7 +153,7 @@ fn accept_turns<D: Desk>(
     ensures sound { IfOk result (λ turns. AreTurns (listed_turns turns)) }
     ensures turning { IfOk result (λ turns. All (IsTurning roads.now.links) (listed_turns turns)) }
     ensures stops { let state = state_of D.left D.taken D.read_faults D.put_faults in
-        IfErr result (λ s. StopsTurn units.now table.Movement (road_rows roads.now.nodes roads.now.links) s (state desk.old) (state desk.new)) }
+        IfErr result (λ s. StopsAt units.now table.Movement (road_rows roads.now.nodes roads.now.links) s (state desk.old) (state desk.new)) }
     ensures later { D.read_faults desk.old ≤ D.read_faults desk.new }
     ensures taken { D.taken desk.new ≡ D.taken desk.old }
     ensures puts { D.put_faults desk.new ≡ D.put_faults desk.old }
@@ -167,12 +167,12 @@ fn accept_turns<D: Desk>(
 
 // Reads and checks the demand table.
 fn accept_cells<D: Desk>(alloc: Global, desk: &mut D) -> Result<Vec<DemandCell>, Stop>
-    ensures cells { (units : Units) (rows : Rows) → IfOk result (λ cells. IsAccepted units table.Demand rows
+    ensures cells { (units : Units) (rows : TableRows) → IfOk result (λ cells. IsAccepted units table.Demand rows
         (record rows { cells = cells.items }) (D.left desk.old) (D.left desk.new)) }
     ensures sound { IfOk result (λ cells. AreCells cells.items) }
     ensures stops { let state = state_of D.left D.taken D.read_faults D.put_faults in
-        (units : Units) (rows : Rows)
-        → IfErr result (λ s. StopsTurn units table.Demand rows s (state desk.old) (state desk.new)) }
+        (units : Units) (rows : TableRows)
+        → IfErr result (λ s. StopsAt units table.Demand rows s (state desk.old) (state desk.new)) }
     ensures later { D.read_faults desk.old ≤ D.read_faults desk.new }
     ensures taken { D.taken desk.new ≡ D.taken desk.old }
     ensures puts { D.put_faults desk.new ≡ D.put_faults desk.old }
