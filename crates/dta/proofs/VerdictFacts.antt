@@ -326,21 +326,20 @@ reached-one : (units : Units) (tables : List Table) (t : Table) (Part : TableRow
     (rows : TableRows) (before after : Left) → ReachedAmong units tables t Part rows before after
     → Contains tables t
 reached-one units [] t Part rows before after h = absurd h
-reached-one units (u ∷ tables) t Part rows before after (inl h) = (0, (omega arith, h.0))
+reached-one units (u ∷ tables) t Part rows before after (inl h) = (0, omega arith, h.0)
 reached-one units (u ∷ tables) t Part rows before after (inr h) =
     let c = reached-one units tables t Part h.0 h.1 after h.3 in
     let within : suc c.0 < suc (length tables) = (let w = c.1 in omega (arith, w)) in
-    (suc c.0, (within, c.2))
+    (suc c.0, within, c.2)
 
 unread : (words : List (List ℕ)) (t : Table) (before after : DeskState)
     → IsRefused (refusal.Read t) words before after → ReadsFailed before after
     → IsUnread (settings_of words) before after
 unread words t before after h failed =
     let s = h.settings in
-    let one : IsReadBy (Some s) t =
-    reached-one s.units (read_tables s.command) t (λ _. IsBegun t) no_rows
+    let one : IsReadBy (Some s) t = reached-one s.units (read_tables s.command) t (λ _. IsBegun t) no_rows
     (source s.command before.left) h.cause.rest h.cause.part in
-    (t, (subst (λ (o : Option Settings). IsReadBy o t) (sym h.told) one, (h.report, failed)))
+    (t, subst (λ (o : Option Settings). IsReadBy o t) (sym h.told) one, h.report, failed)
 
 answers-refused : (words : List (List ℕ)) (texts : Table → List ℕ) (r : Refusal) (before after : DeskState) → IsShown r
     → IsRefused r words before after → AreToldBy (settings_of words) before.left texts

@@ -1,8 +1,7 @@
 -- What the settings and the tables come to: the network and the trips of a run.
-use Rattle.std.specs.Prelude.{ℕ, ◌≡◌, ◌<◌, ◌≤◌, ◌*◌, ⊤, List, [], ◌∷◌, length, Option, All}
+use Rattle.std.specs.Prelude.{ℕ, ◌≡◌, ◌<◌, ◌≤◌, ◌*◌, ⊤, List, [], length, Option, All}
 use Rattle.std.specs.List.Sorted.{IsNonDecreasingBy}
 use Rattle.desk_io.specs.declared.desk.Table.{Table}
-use Rattle.desk_io.specs.declared.desk.Table.TheVariants as table
 use Rattle.desk_io.specs.Desk.{Left}
 use Rattle.desk_io.specs.MemDesk.{all_left}
 use Rattle.net_core.specs.Network.{IsNet}
@@ -19,13 +18,13 @@ use Rattle.reports.specs.declared.refusal.TheConstants.{CELL_LIMIT}
 use Rattle.dta_words.specs.declared.command.Command.{Command}
 use Rattle.dta_words.specs.declared.command.Command.TheVariants as command
 use Rattle.dta_words.specs.declared.command.Settings.{Settings}
-use Rattle.dta.specs.Tables.{AreAccepted, TableRows, no_rows}
+use Rattle.dta.specs.Tables.{AreAccepted, TableRows, all_tables, no_rows, road_tables}
 
 -- the tables of a command, in the order in which they are read; those of a demonstration are made
 abbrev pub tables_of : Command → List Table
-tables_of command.Freeflow = table.Node ∷ table.Link ∷ []
-tables_of command.Assign = table.Node ∷ table.Link ∷ table.Movement ∷ table.Demand ∷ []
-tables_of (command.Demo n) = table.Node ∷ table.Link ∷ table.Movement ∷ table.Demand ∷ []
+tables_of command.Freeflow = road_tables
+tables_of command.Assign = all_tables
+tables_of (command.Demo n) = all_tables
 
 -- those that it reads from the desk
 abbrev pub read_tables : Command → List Table

@@ -1,5 +1,6 @@
 -- What a run's answer says of its desk, from before the run to after it.
-use Rattle.std.specs.Prelude.{ℕ, ◌≡◌, ◌≢◌, ◌<◌, ◌*◌, ◌⊎◌, ⊤, List, Contains, length, Option, None, Some}
+use Rattle.std.specs.Prelude.{ℕ, ◌≡◌, ◌≢◌, ◌<◌, ◌*◌, ◌⊎◌, ⊤}
+use Rattle.std.specs.Prelude.{List, Contains, length, Option, None, Some}
 use Rattle.desk_io.specs.declared.desk.Table.{Table}
 use Rattle.desk_io.specs.declared.desk.Output.TheVariants as output
 use Rattle.desk_io.specs.Desk.{Left, Taken}
@@ -50,14 +51,16 @@ ReportsLine r before after =
     IsOut output.Report (refusal_line r) before.taken after.taken before.put_faults after.put_faults
 
 -- all tables of a command were accepted, and this is so of their rows
-pub record AreCounted (s : Settings) (Part : TableRows → Type 0) (before after : Left) : Type 0 where
+pub record AreCounted (s : Settings) (Part : TableRows → Type 0) (before after : Left)
+    : Type 0 where
   pub rows : TableRows
   pub read : AreAccepted s.units (tables_of s.command) no_rows rows before after
   pub part : Part rows
 
 -- a table of the command was reached, and this was so of it
 abbrev pub Reached : Settings → Table → (TableRows → Left → Left → Type 0) → Left → Left → Type 0
-Reached s t Part before after = ReachedAmong s.units (tables_of s.command) t Part no_rows before after
+Reached s t Part before after =
+    ReachedAmong s.units (tables_of s.command) t Part no_rows before after
 
 -- the cause of a refusal, as the reading of the tables until then shows it, where reads of these
 -- tables can fail; `freeflow` has no sizes
@@ -71,7 +74,8 @@ IsCauseAmong tables s (refusal.LongTable t) before after =
     Reached s t (λ _. IsLong t TABLE_LIMIT) before after
 IsCauseAmong tables s (refusal.Cells links steps) before after =
     (s.command ≢ command.Freeflow)
-    × AreCounted s (λ rows. (links ≡ length rows.links) × (steps ≡ s.horizon) × (CELL_LIMIT < links * steps))
+    × AreCounted s (λ rows. (links ≡ length rows.links) × (steps ≡ s.horizon)
+    × (CELL_LIMIT < links * steps))
     before after
 IsCauseAmong tables s (refusal.Vehicles line total) before after =
     (s.command ≢ command.Freeflow)
@@ -135,7 +139,8 @@ pub record IsUnfinished (words : List (List ℕ)) (before after : DeskState) : T
 abbrev pub IsCutIn : Settings → Left → Left → Type 0
 IsCutIn s before after =
     (after ≡ before)
-    ⊎ (((t : Table) × Reached s t (λ _. IsBegun t) before after) ⊎ AreCounted s (λ rows. ⊤) before after)
+    ⊎ (((t : Table) × Reached s t (λ _. IsBegun t) before after)
+    ⊎ AreCounted s (λ rows. ⊤) before after)
 
 abbrev pub IsCutShort : Settings → Left → Left → Type 0
 IsCutShort s before after = Reading s.command (IsCutIn s) before after
@@ -153,7 +158,8 @@ abbrev pub IsStarved : List (List ℕ) → DeskState → DeskState → Type 0
 IsStarved words before after =
     ((after.left ≡ before.left) × (after.taken ≡ before.taken))
     ⊎ ((s : Settings) × (settings_of words ≡ Some s)
-    × ((IsCutShort s before.left after.left × (after.taken ≡ before.taken)) ⊎ IsStopped s before after))
+    × ((IsCutShort s before.left after.left × (after.taken ≡ before.taken))
+    ⊎ IsStopped s before after))
 
 -- what each status says
 abbrev pub Means : List (List ℕ) → Status → DeskState → DeskState → Type 0
@@ -178,7 +184,8 @@ IsReadBy (Some s) t = Contains (read_tables s.command) t
 -- a table that the settings read couldn't be read, and Report names it
 abbrev pub IsUnread : Option Settings → DeskState → DeskState → Type 0
 IsUnread settings before after =
-    (t : Table) × IsReadBy settings t × ReportsLine (refusal.Read t) before after × ReadsFailed before after
+    (t : Table) × IsReadBy settings t × ReportsLine (refusal.Read t) before after
+    × ReadsFailed before after
 
 -- a fault of the outside, or want of memory
 abbrev pub IsHindered : Option Settings → Status → DeskState → DeskState → Type 0
@@ -189,15 +196,18 @@ IsHindered settings answer before after =
 abbrev pub IsPut : Settings → JobRows → Status → DeskState → DeskState → Type 0
 IsPut s job answer before after =
     ((answer ≡ status.Done)
-    × ((texts : List OutText) × AreTexts s.command s job texts × (after.taken ≡ grown_by texts before.taken)))
+    × ((texts : List OutText) × AreTexts s.command s job texts
+    × (after.taken ≡ grown_by texts before.taken)))
     ⊎ ((answer ≡ status.WriteFault)
-    × ((texts : List OutText) × AreTextsSoFar s.command s job texts × IsCutOff texts before.taken after.taken)
+    × ((texts : List OutText) × AreTextsSoFar s.command s job texts
+    × IsCutOff texts before.taken after.taken)
     × PutsFailed before after)
 
 -- what a run answers where the bytes of its tables are told, and so the verdict is known before it
 -- runs
 abbrev pub Answers : Option Settings → Verdict → Status → DeskState → DeskState → Type 0
 Answers settings (Refused r) answer before after =
-    ((answer ≡ refusal_status r) × ReportsLine r before after) ⊎ IsHindered settings answer before after
+    ((answer ≡ refusal_status r) × ReportsLine r before after)
+    ⊎ IsHindered settings answer before after
 Answers settings (Accepted s job) answer before after =
     IsPut s job answer before after ⊎ IsHindered settings answer before after

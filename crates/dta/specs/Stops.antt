@@ -37,7 +37,9 @@ StopsAt units t rows (Refused (refusal.Vehicles line total)) before after = ⊥
 -- the reading of these tables ended in this stop, at one of them
 abbrev pub StopsAmong : Units → List Table → TableRows → Stop → DeskState → DeskState → Type 0
 StopsAmong units tables rows stop before after =
-    (t : Table) × ReachedAmong units tables t (λ rows left rest. StopsAt units t rows stop (record before { left = left }) (record after { left = rest })) rows before.left after.left
+    (t : Table) × ReachedAmong units tables t (λ rows left rest.
+    StopsAt units t rows stop (record before { left = left }) (record after { left = rest }))
+    rows before.left after.left
 
 -- the rows of all tables are past a limit, or memory was wanting for their job
 abbrev pub StopsJob : Settings → TableRows → Stop → Type 0

@@ -18,6 +18,13 @@ use Rattle.gmns_tables.specs.declared.units.Units.{Units}
 use Rattle.demand.specs.Cells.{demand_verdict}
 use Rattle.reports.specs.declared.refusal.TheConstants.{TABLE_LIMIT}
 
+-- the tables of a network's nodes and links, and all tables, in the order in which they are read
+abbrev pub road_tables : List Table
+road_tables = table.Node ∷ table.Link ∷ []
+
+abbrev pub all_tables : List Table
+all_tables = table.Node ∷ table.Link ∷ table.Movement ∷ table.Demand ∷ []
+
 -- the rows of the tables that were accepted so far; those of the others are missing
 pub record TableRows : Type 0 where
   pub nodes : List NodeRow
@@ -34,7 +41,12 @@ road_rows nodes links = record { nodes = nodes; links = links; turns = []; cells
 
 -- the rows of all four tables
 abbrev pub rows_of : List NodeRow → List LinkRow → List TurnRow → List DemandCell → TableRows
-rows_of nodes links turns cells = record { nodes = nodes; links = links; turns = turns; cells = cells }
+rows_of nodes links turns cells = record {
+  nodes = nodes;
+  links = links;
+  turns = turns;
+  cells = cells;
+}
 
 -- a movement table of zero bytes stands for none
 abbrev pub turns_of : Units → TableRows → List ℕ → Result (List TurnRow) TableFault
@@ -47,21 +59,24 @@ abbrev pub with_table : Units → TableRows → Table → List ℕ → Result Ta
 with_table units rows table.Node bytes =
     then_with (node_verdict (records bytes)) (λ nodes. Ok (record rows { nodes = nodes }))
 with_table units rows table.Link bytes =
-    then_with (link_verdict rows.nodes units (records bytes)) (λ links. Ok (record rows { links = links }))
+    then_with (link_verdict rows.nodes units (records bytes))
+    (λ links. Ok (record rows { links = links }))
 with_table units rows table.Movement bytes =
     then_with (turns_of units rows bytes) (λ turns. Ok (record rows { turns = turns }))
 with_table units rows table.Demand bytes =
     then_with (demand_verdict (records bytes)) (λ cells. Ok (record rows { cells = cells }))
 
 -- a table was read to its end and accepted after these rows, which are then those
-pub record IsAccepted (units : Units) (t : Table) (rows more : TableRows) (before after : Left) : Type 0 where
+pub record IsAccepted (units : Units) (t : Table) (rows more : TableRows) (before after : Left)
+    : Type 0 where
   pub bytes : List ℕ
   pub read : IsRead t bytes before after
   pub short : length bytes ≤ TABLE_LIMIT
   pub accepted : with_table units rows t bytes ≡ Ok more
 
 -- a table was read to its end and has this first fault
-pub record IsFaulty (units : Units) (fault : TableFault) (t : Table) (rows : TableRows) (before after : Left) : Type 0 where
+pub record IsFaulty (units : Units) (fault : TableFault) (t : Table) (rows : TableRows)
+    (before after : Left) : Type 0 where
   pub bytes : List ℕ
   pub read : IsRead t bytes before after
   pub short : length bytes ≤ TABLE_LIMIT
@@ -76,7 +91,8 @@ AreAccepted units (t ∷ others) rows more before after =
     × AreAccepted units others next more between after
 
 -- a table was reached, since those before it were accepted, and this was so of it
-abbrev pub ReachedAmong : Units → List Table → Table → (TableRows → Left → Left → Type 0) → TableRows → Left → Left → Type 0
+abbrev pub ReachedAmong :
+    Units → List Table → Table → (TableRows → Left → Left → Type 0) → TableRows → Left → Left → Type 0
 ReachedAmong units [] t Part rows before after = ⊥
 ReachedAmong units (first ∷ others) t Part rows before after =
     ((first ≡ t) × Part rows before after)

@@ -1,5 +1,7 @@
 -- What the words and the bytes of the tables come to, before any work.
-use Rattle.std.specs.Prelude.{ℕ, ◌*◌, ◌+◌, ⊤, nat_le, nat_lt, List, [], ◌∷◌, length, Option, None, Some, Result, Ok, Err, slice_get, find, if◌then◌else◌}
+use Rattle.std.specs.Prelude.{ℕ, ◌*◌, ◌+◌, ⊤, nat_le, nat_lt, if◌then◌else◌}
+use Rattle.std.specs.Prelude.{List, [], ◌∷◌, length, slice_get, find}
+use Rattle.std.specs.Prelude.{Option, None, Some, Result, Ok, Err}
 use Rattle.desk_io.specs.declared.desk.Table.{Table}
 use Rattle.desk_io.specs.declared.desk.Table.TheVariants as table
 use Rattle.desk_io.specs.Desk.{Left}
@@ -43,11 +45,13 @@ after_table (Ok rows) next = next rows
 
 -- the tables one after the other: the first that is too long or has a fault is told, and otherwise
 -- the verdict is that on the rows of all
-abbrev pub verdict_on : Units → List Table → (Table → List ℕ) → TableRows → (TableRows → Verdict) → Verdict
+abbrev pub verdict_on :
+    Units → List Table → (Table → List ℕ) → TableRows → (TableRows → Verdict) → Verdict
 verdict_on units [] texts rows next = next rows
 verdict_on units (t ∷ others) texts rows next =
     if nat_le (length (texts t)) TABLE_LIMIT
-    then after_table (with_table units rows t (texts t)) (λ more. verdict_on units others texts more next)
+    then after_table (with_table units rows t (texts t))
+    (λ more. verdict_on units others texts more next)
     else Refused (refusal.LongTable t)
 
 -- the first row of a demand table with which the vehicles are too many
