@@ -9,6 +9,7 @@ pub mod Congruence
 pub mod AnyOrder
 pub mod Fuel
 pub mod Conserved
+pub mod Start
 pub mod Totals
 pub mod InTurn
 pub mod Gathering

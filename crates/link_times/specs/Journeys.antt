@@ -1,7 +1,7 @@
 -- The moves of one vehicle, as its route and its journey tell them.
 use Rattle.std.specs.Prelude.{◌≡◌, ℕ, suc, ◌+◌, ◌<◌, ◌≤◌, List, [], ◌∷◌, length, All, Option, None, Some, slice_index}
 use Rattle.net_core.specs.declared.rows.LinkNo.{LinkNo}
-use Rattle.dta_model.specs.LinkTimes.{penalty_in}
+use Rattle.dta_model.specs.TimedWalks.{penalty_steps}
 use Rattle.dta_model.specs.Loading.{trace_after}
 use Rattle.dta_model.specs.Plans.{link_at, link_numbers, turn}
 use Rattle.dta_model.specs.Trace.{Move, Onto, Arrived, moves_of}
@@ -30,6 +30,6 @@ pub record HasGone (p : Plan) (v : ℕ) (route : List LinkNo) (entries : List �
   pub arrives : (s : ℕ) → arrival ≡ Some s → s < p.horizon
   -- each link took its free-flow steps at least, and the turn its penalty
   pub spaced : (i : ℕ) → suc i < length entries
-      → slice_index entries i + (link_at p (link_on route i)).free + penalty_in (turn p (link_on route i) (link_on route (suc i))) ≤ slice_index entries (suc i)
+      → slice_index entries i + (link_at p (link_on route i)).free + penalty_steps (turn p (link_on route i) (link_on route (suc i))) ≤ slice_index entries (suc i)
   pub ended : (i s : ℕ) → suc i ≡ length entries → arrival ≡ Some s
       → slice_index entries i + (link_at p (link_on route i)).free ≤ s

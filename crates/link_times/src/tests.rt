@@ -141,14 +141,6 @@ fn a_table_of_a_loading(rt: HostRuntime) -> Result<(), Fail> {
         routes: &routes,
     };
     let times = LinkTimes::of(alloc, &loading, &loaded, 50);
-    let Loading {
-        net: _,
-        queue: _,
-        delta: _,
-        horizon: _,
-        trips: _,
-        routes: _,
-    } = loading;
     let times = times?;
     assert_eq!(rt; (times.buckets(), times.horizon()), (2, 60));
     Ok(())
