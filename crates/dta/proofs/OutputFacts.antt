@@ -182,4 +182,24 @@ module _ (s : Settings) (job : JobRows) (r : VehicleRoutes) (lines : List GapLin
       → IsCutOff (last_texts k s job r lines line) before now
   demo-cut k n before now e part = rw e (cut-one output.Report (report_text (summary_of s job r line)) before now part)
 
-pub ruleset lasts = (tables-reported, report-cut, tables-cut, demo-reported, demo-cut)
+  -- and so of another command
+  pub free-reported : (k : Command) (before now : Taken) → k ≡ command.Freeflow
+      → now ≡ grown output.Report (report_text (summary_of s job r line)) before
+      → now ≡ grown_by (last_texts k s job r lines line) before
+  free-reported k before now e report = rw e report
+
+  pub free-cut : (k : Command) (before now : Taken) → k ≡ command.Freeflow
+      → IsPartOut output.Report (report_text (summary_of s job r line)) before now
+      → IsCutOff (last_texts k s job r lines line) before now
+  free-cut k before now e part =
+      rw e (cut-one output.Report (report_text (summary_of s job r line)) before now part)
+
+pub ruleset lasts = (
+  tables-reported,
+  report-cut,
+  tables-cut,
+  demo-reported,
+  demo-cut,
+  free-reported,
+  free-cut,
+)

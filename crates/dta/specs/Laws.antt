@@ -4,8 +4,8 @@ use Rattle.dta_words.specs.declared.command.Settings.{Settings}
 use Rattle.dta.specs.Jobs.{JobRows}
 use Rattle.dta.specs.Outputs.{AreTexts, OutText, but_watch}
 
--- settings and a job have one list of texts but for Watch, and where the loader is plain one list of
--- all texts
+-- settings and a job have one list of texts but for Watch, and where the loader is plain one list
+-- of all texts
 pub record AreDetermined (s : Settings) (job : JobRows) (a b : List OutText) : Type 0 where
   pub but_watch_lines : but_watch a ≡ but_watch b
   pub plain : s.plain ≡ true → a ≡ b

@@ -1,6 +1,7 @@
 -- The texts of a run, in the order in which they go out.
 use Rattle.std.specs.Prelude.{ℕ, ◌≡◌, ◌+◌, ◌-◌, suc, zero, ◌≤◌, ◌⊎◌, Bool, true, false, not}
-use Rattle.std.specs.Prelude.{List, [], ◌∷◌, ◌++◌, length, map, filter, count_by, is_none, Some, slice_get}
+use Rattle.std.specs.Prelude.{List, [], ◌∷◌, ◌++◌, length, map, filter, count_by, slice_get}
+use Rattle.std.specs.Prelude.{Some, is_none}
 use Rattle.desk_io.specs.declared.desk.Output.{Output}
 use Rattle.desk_io.specs.declared.desk.Output.TheVariants as output
 use Rattle.desk_io.specs.Desk.{Taken, grown}
@@ -10,7 +11,8 @@ use Rattle.dta_model.specs.Loading.{journeys_of}
 use Rattle.dta_model.specs.State.{eight_after}
 use Rattle.dta_model.specs.declared.eight.Eight.{Eight}
 use Rattle.gap.specs.declared.line.GapLine.{GapLine}
-use Rattle.reports.specs.Texts.{agent_text, free_link_time_text, free_report_text, gap_text, link_time_text, report_text, watch_line}
+use Rattle.reports.specs.Texts.{agent_text, free_link_time_text, free_report_text, gap_text}
+use Rattle.reports.specs.Texts.{link_time_text, report_text, watch_line}
 use Rattle.reports.specs.Watch.{AreWatchSteps}
 use Rattle.reports.specs.declared.summary.Summary.{Summary}
 use Rattle.dta_words.specs.declared.command.Command.{Command}
@@ -95,13 +97,15 @@ table_texts s job last lines =
     ∷ text_to output.LinkTime (link_time_text job.net (times_of s job last))
     ∷ text_to output.Gap (gap_text lines) ∷ []
 
--- the texts after the last iteration: `demo` has the report alone
-abbrev pub last_texts : Command → Settings → JobRows → VehicleRoutes → List GapLine → GapLine → List OutText
+-- the texts after the last iteration: `assign` has its tables and the report, and any other command
+-- that comes there the report alone
+abbrev pub last_texts :
+    Command → Settings → JobRows → VehicleRoutes → List GapLine → GapLine → List OutText
 last_texts command.Assign s job last lines line =
-    table_texts s job last lines ++ text_to output.Report (report_text (summary_of s job last line)) ∷ []
-last_texts (command.Demo n) s job last lines line =
+    table_texts s job last lines
+    ++ text_to output.Report (report_text (summary_of s job last line)) ∷ []
+last_texts c s job last lines line =
     text_to output.Report (report_text (summary_of s job last line)) ∷ []
-last_texts command.Freeflow s job last lines line = []
 
 -- the texts of `freeflow`
 abbrev pub free_texts : NetRows → List OutText

@@ -36,7 +36,8 @@ Halts s job halt.Watch start now =
 -- the watch lines of an iteration over these routes went out whole
 abbrev pub IsWatched : Settings → JobRows → ℕ → VehicleRoutes → Taken → Taken → Type 0
 IsWatched s job iteration routes before now =
-    (lines : List OutText) × AreWatchLines s job iteration routes lines × (now ≡ grown_by lines before)
+    (lines : List OutText) × AreWatchLines s job iteration routes lines
+    × (now ≡ grown_by lines before)
 
 -- they were cut off
 abbrev pub IsWatchCut : Settings → JobRows → ℕ → VehicleRoutes → Taken → Taken → Type 0
@@ -63,8 +64,8 @@ pub record IsLast (s : Settings) (job : JobRows) (routes : VehicleRoutes) (loade
 
 -- all iterations are done: these are the last one's routes, journeys, link times, last state and
 -- gap, and the gaps of all
-pub record IsAssigned (s : Settings) (job : JobRows) (routes : VehicleRoutes) (loaded : List Journey)
-    (times : TimeTable) (end : Eight) (lines : List GapLine) (line : GapLine) (start now : Taken)
+pub record IsAssigned (s : Settings) (job : JobRows) (routes : VehicleRoutes)
+    (loaded : List Journey) (times : TimeTable) (end : Eight) (lines : List GapLine) (line : GapLine) (start now : Taken)
     : Type 0 where
   pub done : List VehicleRoutes
   pub as_many : length done + 1 ≡ s.iterations

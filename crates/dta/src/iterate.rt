@@ -1,5 +1,6 @@
 // The iterations of an assignment.
-ghost use Rattle.std.specs.Prelude.{◌≡◌, ◌<◌, ◌≤◌, ◌+◌, ◌++◌, ◌∷◌, [], length, IfOk, IfErr, OnOk, OnErr};
+ghost use Rattle.std.specs.Prelude.{◌≡◌, ◌<◌, ◌≤◌, ◌+◌, ◌++◌, ◌∷◌, [], length};
+ghost use Rattle.std.specs.Prelude.{IfOk, IfErr, OnOk, OnErr};
 ghost use Rattle.desk_io.specs.Desk.{Taken};
 ghost use Rattle.dta_model.specs.Lent.{plan_of as loading_plan};
 ghost use Rattle.dta_model.specs.LinkTimes.{table_of, time_at};
@@ -12,7 +13,8 @@ ghost use Rattle.dta_model.specs.State.{eight_after};
 ghost use Rattle.dta.specs.Assignment.{times_of};
 ghost use Rattle.dta.specs.Jobs.{AreRoutesOf, IsJob};
 ghost use Rattle.dta.specs.Outputs.{IsCutOff, end_lines, grown_by};
-ghost use Rattle.dta.specs.Progress.{Halts, HaltsIn, HasHaltCause, IsAssigned, IsAt, IsLast, IsWatched};
+ghost use Rattle.dta.specs.Progress.{Halts, HaltsIn, HasHaltCause};
+ghost use Rattle.dta.specs.Progress.{IsAssigned, IsAt, IsLast, IsWatched};
 ghost use Rattle.dta.specs.declared.iterate.Halt.TheVariants as halt;
 
 use crate::job::Job;
@@ -61,7 +63,8 @@ fn load_over(alloc: Global, loading: &Loading, bucket: u32) -> Result<Round, Hal
     requires sound { IsSound (loading_plan loading.now) }
     requires bucket { 1 ≤ bucket }
     ensures loaded { IfOk result (λ round. round.loaded ≡ journeys_of (loading_plan loading.now)) }
-    ensures times { IfOk result (λ round. round.times ≡ table_of (loading_plan loading.now) bucket) }
+    ensures times { IfOk result (λ round.
+        round.times ≡ table_of (loading_plan loading.now) bucket) }
     ensures end { IfOk result (λ round.
         round.end ≡ eight_after (loading_plan loading.now) loading.now.horizon) }
     ensures short { IfOk result (λ round. IsShort round.times) }
@@ -189,7 +192,8 @@ fn leave<R: AllocGlobal + Threads>(
     requires number { (1 ≤ iteration) × (iteration < settings.now.iterations) }
     ensures gap { IfOk result (λ r. IsGapLine (time_at (times_of settings.now job.now routes.now))
         job.now.net job.now.trips routes.now r.0) }
-    ensures next { IfOk result (λ r. AreNextRoutes (time_at (times_of settings.now job.now routes.now))
+    ensures next { IfOk result (λ r.
+        AreNextRoutes (time_at (times_of settings.now job.now routes.now))
         job.now.net job.now.trips iteration routes.now r.1) }
     ensures routes { IfOk result (λ r. AreRoutesOf job.now r.1) }
     ensures memory { IfErr result (λ why. why ≡ halt.Memory) }
@@ -278,11 +282,13 @@ fn finish<D: Desk>(
     requires job { IsJob settings.now job.now }
     requires routes { AreRoutesOf job.now routes }
     ensures done { (start : Taken)
-        → IsAt settings.now job.now settings.now.iterations routes lines.items start (D.taken desk.old)
+        → IsAt settings.now job.now settings.now.iterations routes lines.items start
+        (D.taken desk.old)
         → IfOk result (λ a. IsAssigned settings.now job.now
         a.routes a.loaded a.times a.end a.lines.items a.line start (D.taken desk.new)) }
     ensures halts { (start : Taken)
-        → IsAt settings.now job.now settings.now.iterations routes lines.items start (D.taken desk.old)
+        → IsAt settings.now job.now settings.now.iterations routes lines.items start
+        (D.taken desk.old)
         → IfErr result (λ why. Halts settings.now job.now why start (D.taken desk.new)) }
     ensures left { D.left desk.new ≡ D.left desk.old }
     ensures cause { HasHaltCause (D.put_faults desk.old) (D.put_faults desk.new) result }
@@ -325,8 +331,10 @@ pub(crate) fn iterate<R: AllocGlobal + Threads, D: Desk>(
     requires settings { AreSettings settings.now }
     requires job { IsJob settings.now job.now }
     ensures done { IfOk result (λ a. IsAssigned settings.now job.now
-        a.routes a.loaded a.times a.end a.lines.items a.line (D.taken desk.old) (D.taken desk.new)) }
-    ensures halts { IfErr result (λ why. Halts settings.now job.now why (D.taken desk.old) (D.taken desk.new)) }
+        a.routes a.loaded a.times a.end a.lines.items a.line
+        (D.taken desk.old) (D.taken desk.new)) }
+    ensures halts { IfErr result (λ why.
+        Halts settings.now job.now why (D.taken desk.old) (D.taken desk.new)) }
     ensures left { D.left desk.new ≡ D.left desk.old }
     ensures cause { HasHaltCause (D.put_faults desk.old) (D.put_faults desk.new) result }
     ensures reads { D.read_faults desk.new ≡ D.read_faults desk.old }

@@ -1,14 +1,14 @@
 // The outputs of an assignment, in their order.
-ghost use Rattle.std.specs.Prelude.{◌≡◌, ◌≢◌, OnOk, OnErr};
+ghost use Rattle.std.specs.Prelude.{◌≡◌, OnOk, OnErr};
 ghost use Rattle.desk_io.specs.declared.desk.Output.TheVariants as output;
 ghost use Rattle.desk_io.specs.Desk.{grown};
 ghost use Rattle.desk_io.specs.Faults.{HasCause};
 ghost use Rattle.desk_io.specs.Transfers.{IsPartOut};
 ghost use Rattle.dta_words.specs.Ranges.{AreSettings};
-ghost use Rattle.dta_words.specs.declared.command.Command.TheVariants as command;
 ghost use Rattle.reports.specs.Texts.{report_text};
 ghost use Rattle.dta.specs.Jobs.{IsJob};
-ghost use Rattle.dta.specs.Outputs.{IsCutOff, grown_by, last_texts, summary_of as summary_of_routes, table_texts};
+ghost use Rattle.dta.specs.Outputs.{IsCutOff, grown_by, last_texts, table_texts};
+ghost use Rattle.dta.specs.Outputs.{summary_of as summary_of_routes};
 ghost use Rattle.dta.specs.Progress.{IsLast};
 
 use crate::iterate::Assigned;
@@ -24,7 +24,8 @@ fn summary_of(settings: &Settings, job: &Job, assigned: &Assigned) -> Summary
     requires job { IsJob settings.now job.now }
     requires assigned { IsLast settings.now job.now
         assigned.now.routes assigned.now.loaded assigned.now.times assigned.now.end }
-    ensures { result ≡ summary_of_routes settings.now job.now assigned.now.routes assigned.now.line }
+    ensures { result
+        ≡ summary_of_routes settings.now job.now assigned.now.routes assigned.now.line }
 {
     let eight = assigned.end;
     Summary {
@@ -86,10 +87,12 @@ fn put_report<D: Desk>(
         assigned.now.routes assigned.now.loaded assigned.now.times assigned.now.end }
     ensures whole { OnOk result (D.taken desk.new
         ≡ grown output.Report (report_text
-        (summary_of_routes settings.now job.now assigned.now.routes assigned.now.line)) (D.taken desk.old)) }
+        (summary_of_routes settings.now job.now assigned.now.routes assigned.now.line))
+        (D.taken desk.old)) }
     ensures cut { OnErr result (IsPartOut
         output.Report (report_text
-        (summary_of_routes settings.now job.now assigned.now.routes assigned.now.line)) (D.taken desk.old) (D.taken desk.new)) }
+        (summary_of_routes settings.now job.now assigned.now.routes assigned.now.line))
+        (D.taken desk.old) (D.taken desk.new)) }
     ensures left { D.left desk.new ≡ D.left desk.old }
     ensures cause { HasCause (D.put_faults desk.old) (D.put_faults desk.new) result }
     ensures reads { D.read_faults desk.new ≡ D.read_faults desk.old }
@@ -97,7 +100,8 @@ fn put_report<D: Desk>(
     put_summary(desk, &summary_of(settings, job, assigned))
 }
 
-/// Puts the texts after the last iteration: `demo` has the report alone. It takes no memory.
+/// Puts the texts after the last iteration: the tables of `assign`, and the report. It takes no
+/// memory.
 #[tactic(auto, using(crate::proofs::OutputFacts::lasts))]
 pub(crate) fn put_assigned<D: Desk>(
     desk: &mut D,
@@ -109,23 +113,22 @@ pub(crate) fn put_assigned<D: Desk>(
     requires job { IsJob settings.now job.now }
     requires assigned { IsLast settings.now job.now
         assigned.now.routes assigned.now.loaded assigned.now.times assigned.now.end }
-    requires command { settings.now.command ≢ command.Freeflow }
     ensures whole { OnOk result (D.taken desk.new
         ≡ grown_by (last_texts settings.now.command settings.now job.now
         assigned.now.routes assigned.now.lines.items assigned.now.line) (D.taken desk.old)) }
     ensures cut { OnErr result (IsCutOff
         (last_texts settings.now.command settings.now job.now
-        assigned.now.routes assigned.now.lines.items assigned.now.line) (D.taken desk.old) (D.taken desk.new)) }
+        assigned.now.routes assigned.now.lines.items assigned.now.line)
+        (D.taken desk.old) (D.taken desk.new)) }
     ensures left { D.left desk.new ≡ D.left desk.old }
     ensures cause { HasCause (D.put_faults desk.old) (D.put_faults desk.new) result }
     ensures reads { D.read_faults desk.new ≡ D.read_faults desk.old }
 {
     match settings.command {
-        Command::Freeflow => unreachable!(),
         Command::Assign => {
             put_tables(desk, settings, job, assigned)?;
             put_report(desk, settings, job, assigned)
         }
-        Command::Demo(_) => put_report(desk, settings, job, assigned),
+        Command::Freeflow | Command::Demo(_) => put_report(desk, settings, job, assigned),
     }
 }

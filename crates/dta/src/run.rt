@@ -68,7 +68,8 @@ fn assign<R: AllocGlobal + Threads, D: Desk>(
     requires job { IsJob settings.now job.now }
     requires command { settings.now.command ≢ command.Freeflow }
     ensures work { Works settings.now job.now result (D.taken desk.old) (D.taken desk.new) }
-    ensures failed { result ≡ status.WriteFault → Rose (D.put_faults desk.old) (D.put_faults desk.new) }
+    ensures failed { result ≡ status.WriteFault
+        → Rose (D.put_faults desk.old) (D.put_faults desk.new) }
     ensures left { D.left desk.new ≡ D.left desk.old }
     ensures later { D.put_faults desk.old ≤ D.put_faults desk.new }
     ensures reads { D.read_faults desk.new ≡ D.read_faults desk.old }
@@ -93,7 +94,8 @@ fn work<R: AllocGlobal + Threads, D: Desk>(
     requires settings { AreSettings settings.now }
     requires job { IsJob settings.now job.now }
     ensures work { Works settings.now job.now result (D.taken desk.old) (D.taken desk.new) }
-    ensures failed { result ≡ status.WriteFault → Rose (D.put_faults desk.old) (D.put_faults desk.new) }
+    ensures failed { result ≡ status.WriteFault
+        → Rose (D.put_faults desk.old) (D.put_faults desk.new) }
     ensures left { D.left desk.new ≡ D.left desk.old }
     ensures later { D.put_faults desk.old ≤ D.put_faults desk.new }
     ensures reads { D.read_faults desk.new ≡ D.read_faults desk.old }
@@ -167,11 +169,12 @@ pub fn run<R: AllocGlobal + Threads + Wait, D: Desk + Send, G: Gate + Sync>(
     // verdict over words and bytes.
     ensures told { let state = state_of D.left D.taken D.read_faults D.put_faults in
         (texts : Table → List ℕ) → AreToldBy (settings_of words.now) (D.left desk.old) texts
-        → Answers (verdict words.now texts) result (state desk.old) (state desk.new) }
+        → Answers (settings_of words.now) (verdict words.now texts) result
+        (state desk.old) (state desk.new) }
     ensures usage { result ≡ status.Usage → settings_of words.now ≡ None }
 
-    // After every step each due vehicle with a route waits, is on one link or has arrived, and links
-    // are left in the order of entry: in the trace, and so in the journeys.
+    // After every step each due vehicle with a route waits, is on one link or has arrived, and
+    // links are left in the order of entry: in the trace, and so in the journeys.
     ensures conserved { VehiclesAreConserved }
     ensures left_in_order { LeftInOrder }
     ensures ordered { JourneysEndInOrder }

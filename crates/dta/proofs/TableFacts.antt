@@ -1,4 +1,4 @@
--- The first fault of a table stands in that table, and the turn of a table ends in it.
+-- The first fault of a table stands in that table, and reading stops there.
 use Rattle.std.proofs.Common.{◌≡◌, ℕ, ◌+◌, ◌≤◌, List, [], ◌∷◌, ◌++◌, length, refl, sym, ap, subst, true, false}
 use Rattle.std.specs.Prelude.{Result, Ok, Err}
 use Rattle.desk_io.specs.declared.desk.Table.{Table}
@@ -23,8 +23,8 @@ use Rattle.demand.specs.Cells.{cell_of, cell_places, demand_verdict}
 use Rattle.demand.specs.declared.cells.TheConstants.{MOST_CELLS}
 use Rattle.reports.specs.declared.refusal.TheConstants.{TABLE_LIMIT}
 use Rattle.dta.specs.Outcome.{DeskState}
-use Rattle.dta.specs.Stops.{StopsTurn, stop_of}
-use Rattle.dta.specs.Tables.{Rows, turns_of, with_table}
+use Rattle.dta.specs.Stops.{StopsAt, stop_of}
+use Rattle.dta.specs.Tables.{TableRows, turns_of, with_table}
 
 -- of a line, and then of the rest
 then-table : {A B : Type 0} (t : Table) (line : ℕ) (r : Result A Complaint) (next : A → Result B TableFault) (f : TableFault)
@@ -49,62 +49,62 @@ verdict-table t limit places columns (header ∷ rest) f e =
     ] refl
 
 -- what a reader refused over a text that is these bytes
-abbrev IsToldBy : Units → Table → Rows → List ℕ → TableRefusal → Type 0
+abbrev IsToldBy : Units → Table → TableRows → List ℕ → TableRefusal → Type 0
 IsToldBy units t rows bytes (refusal.Fault f) = (with_table units rows t bytes ≡ Err f) × (f.table ≡ t)
 IsToldBy units t rows bytes refusal.Memory = Unit {0}
 
--- the turn of a table ended in what its reader answered over the text that was read
-turn-stop : (units : Units) (t : Table) (rows : Rows) (bytes : List ℕ) (before after : DeskState) (why : TableRefusal)
+-- reading stopped at a table by what its reader answered over the text that was read
+stop-at : (units : Units) (t : Table) (rows : TableRows) (bytes : List ℕ) (before after : DeskState) (why : TableRefusal)
     → IsRead t bytes before.left after.left → length bytes ≤ TABLE_LIMIT → IsToldBy units t rows bytes why
-    → StopsTurn units t rows (stop_of why) before after
-turn-stop units t rows bytes before after (refusal.Fault f) read short told =
+    → StopsAt units t rows (stop_of why) before after
+stop-at units t rows bytes before after (refusal.Fault f) read short told =
     (told.1, record { bytes = bytes; read = read; short = short; first = told.0; its_own = told.1 })
-turn-stop units t rows bytes before after refusal.Memory read short told = record { bytes = bytes; read = read.read }
+stop-at units t rows bytes before after refusal.Memory read short told = record { bytes = bytes; read = read.read }
 
-nodes-told : (units : Units) (rows : Rows) (bytes : List ℕ) (why : TableRefusal) → Tells (node_verdict (records bytes)) (Err why)
+nodes-told : (units : Units) (rows : TableRows) (bytes : List ℕ) (why : TableRefusal) → Tells (node_verdict (records bytes)) (Err why)
     → IsToldBy units table.Node rows bytes why
 nodes-told units rows bytes (refusal.Fault f) told =
     (rw (told) refl, verdict-table table.Node MOST_NODES node_places node_of (records bytes) f told)
 nodes-told units rows bytes refusal.Memory told = tt
 
-links-told : (units : Units) (rows : Rows) (bytes : List ℕ) (why : TableRefusal) → Tells (link_verdict rows.nodes units (records bytes)) (Err why)
+links-told : (units : Units) (rows : TableRows) (bytes : List ℕ) (why : TableRefusal) → Tells (link_verdict rows.nodes units (records bytes)) (Err why)
     → IsToldBy units table.Link rows bytes why
 links-told units rows bytes (refusal.Fault f) told =
     (rw (told) refl, verdict-table table.Link MOST_LINKS link_places (link_of rows.nodes units) (records bytes) f told)
 links-told units rows bytes refusal.Memory told = tt
 
-turns-table : (units : Units) (rows : Rows) (bytes : List ℕ) (f : TableFault) → turns_of units rows bytes ≡ Err f → f.table ≡ table.Movement
+turns-table : (units : Units) (rows : TableRows) (bytes : List ℕ) (f : TableFault) → turns_of units rows bytes ≡ Err f → f.table ≡ table.Movement
 turns-table units rows [] f told = absurd cc
 turns-table units rows (b ∷ bytes) f told =
     verdict-table table.Movement MOST_TURNS turn_places (turn_of rows.nodes rows.links units) (records (b ∷ bytes)) f told
 
-turns-told : (units : Units) (rows : Rows) (bytes : List ℕ) (why : TableRefusal) → Tells (turns_of units rows bytes) (Err why)
+turns-told : (units : Units) (rows : TableRows) (bytes : List ℕ) (why : TableRefusal) → Tells (turns_of units rows bytes) (Err why)
     → IsToldBy units table.Movement rows bytes why
 turns-told units rows bytes (refusal.Fault f) told = (rw (told) refl, turns-table units rows bytes f told)
 turns-told units rows bytes refusal.Memory told = tt
 
-cells-told : (units : Units) (rows : Rows) (bytes : List ℕ) (why : TableRefusal) → Tells (demand_verdict (records bytes)) (Err why)
+cells-told : (units : Units) (rows : TableRows) (bytes : List ℕ) (why : TableRefusal) → Tells (demand_verdict (records bytes)) (Err why)
     → IsToldBy units table.Demand rows bytes why
 cells-told units rows bytes (refusal.Fault f) told =
     (rw (told) refl, verdict-table table.Demand MOST_CELLS cell_places cell_of (records bytes) f told)
 cells-told units rows bytes refusal.Memory told = tt
 
-pub nodes-stop : (units : Units) (rows : Rows) (bytes text : List ℕ) (before after : DeskState) (why : TableRefusal) → IsRead table.Node bytes before.left after.left
-    → length bytes ≤ TABLE_LIMIT → text ≡ bytes → Tells (node_verdict (records text)) (Err why) → StopsTurn units table.Node rows (stop_of why) before after
+pub nodes-stop : (units : Units) (rows : TableRows) (bytes text : List ℕ) (before after : DeskState) (why : TableRefusal) → IsRead table.Node bytes before.left after.left
+    → length bytes ≤ TABLE_LIMIT → text ≡ bytes → Tells (node_verdict (records text)) (Err why) → StopsAt units table.Node rows (stop_of why) before after
 nodes-stop units rows bytes text before after why read short same told =
-    turn-stop units table.Node rows bytes before after why read short (nodes-told units rows bytes why (subst (λ x. Tells (node_verdict (records x)) (Err why)) same told))
+    stop-at units table.Node rows bytes before after why read short (nodes-told units rows bytes why (subst (λ x. Tells (node_verdict (records x)) (Err why)) same told))
 
-pub links-stop : (units : Units) (rows : Rows) (bytes text : List ℕ) (before after : DeskState) (why : TableRefusal) → IsRead table.Link bytes before.left after.left
-    → length bytes ≤ TABLE_LIMIT → text ≡ bytes → Tells (link_verdict rows.nodes units (records text)) (Err why) → StopsTurn units table.Link rows (stop_of why) before after
+pub links-stop : (units : Units) (rows : TableRows) (bytes text : List ℕ) (before after : DeskState) (why : TableRefusal) → IsRead table.Link bytes before.left after.left
+    → length bytes ≤ TABLE_LIMIT → text ≡ bytes → Tells (link_verdict rows.nodes units (records text)) (Err why) → StopsAt units table.Link rows (stop_of why) before after
 links-stop units rows bytes text before after why read short same told =
-    turn-stop units table.Link rows bytes before after why read short (links-told units rows bytes why (subst (λ x. Tells (link_verdict rows.nodes units (records x)) (Err why)) same told))
+    stop-at units table.Link rows bytes before after why read short (links-told units rows bytes why (subst (λ x. Tells (link_verdict rows.nodes units (records x)) (Err why)) same told))
 
-pub turns-stop : (units : Units) (rows : Rows) (bytes text : List ℕ) (before after : DeskState) (why : TableRefusal) → IsRead table.Movement bytes before.left after.left
-    → length bytes ≤ TABLE_LIMIT → text ≡ bytes → Tells (turns_of units rows text) (Err why) → StopsTurn units table.Movement rows (stop_of why) before after
+pub turns-stop : (units : Units) (rows : TableRows) (bytes text : List ℕ) (before after : DeskState) (why : TableRefusal) → IsRead table.Movement bytes before.left after.left
+    → length bytes ≤ TABLE_LIMIT → text ≡ bytes → Tells (turns_of units rows text) (Err why) → StopsAt units table.Movement rows (stop_of why) before after
 turns-stop units rows bytes text before after why read short same told =
-    turn-stop units table.Movement rows bytes before after why read short (turns-told units rows bytes why (subst (λ x. Tells (turns_of units rows x) (Err why)) same told))
+    stop-at units table.Movement rows bytes before after why read short (turns-told units rows bytes why (subst (λ x. Tells (turns_of units rows x) (Err why)) same told))
 
-pub cells-stop : (units : Units) (rows : Rows) (bytes text : List ℕ) (before after : DeskState) (why : TableRefusal) → IsRead table.Demand bytes before.left after.left
-    → length bytes ≤ TABLE_LIMIT → text ≡ bytes → Tells (demand_verdict (records text)) (Err why) → StopsTurn units table.Demand rows (stop_of why) before after
+pub cells-stop : (units : Units) (rows : TableRows) (bytes text : List ℕ) (before after : DeskState) (why : TableRefusal) → IsRead table.Demand bytes before.left after.left
+    → length bytes ≤ TABLE_LIMIT → text ≡ bytes → Tells (demand_verdict (records text)) (Err why) → StopsAt units table.Demand rows (stop_of why) before after
 cells-stop units rows bytes text before after why read short same told =
-    turn-stop units table.Demand rows bytes before after why read short (cells-told units rows bytes why (subst (λ x. Tells (demand_verdict (records x)) (Err why)) same told))
+    stop-at units table.Demand rows bytes before after why read short (cells-told units rows bytes why (subst (λ x. Tells (demand_verdict (records x)) (Err why)) same told))
