@@ -5,11 +5,11 @@ use Rattle.net_core.specs.declared.rows.LinkNo.{LinkNo}
 use Rattle.net_core.specs.declared.rows.NetRows.{NetRows}
 use Rattle.net_core.specs.declared.rows.ZoneNo.{ZoneNo}
 use Rattle.dta_model.specs.declared.trip.Trip.{Trip}
-use Rattle.time_routes.specs.Onwards.{zone_or_none}
+use Rattle.time_routes.specs.States.Onwards.{zone_or_none}
 use Rattle.time_routes.specs.ToZone.{TellsLeast, TellsWalk}
-use Rattle.time_routes.specs.declared.building.TheConstants.{NO_ZONE}
-use Rattle.time_routes.specs.declared.destinations.Ask.{Ask}
-use Rattle.time_routes.specs.declared.destinations.Told.{Told}
+use Rattle.time_routes.specs.declared.states.zone_numbers.TheConstants.{NO_ZONE}
+use Rattle.time_routes.specs.declared.reading.tell.Ask.{Ask}
+use Rattle.time_routes.specs.declared.reading.tell.Told.{Told}
 
 -- whether the least time of a vehicle is asked for, and whether its walk is
 abbrev pub asked_least : Option Ask → Bool
