@@ -16,7 +16,7 @@ use Rattle.dta_model.specs.declared.queue.Queue.TheVariants as queue
 use Rattle.dta_model.proofs.NextLines.{next-lines, next-waiting}
 use Rattle.link_queues.specs.declared.line.TheConstants.{MOST_RIDERS}
 use Rattle.node_transfer.specs.Cells.{CanGather, gathered, gathered_link, room_after}
-use Rattle.node_transfer.specs.Contents.{away, batch_of, cell_after, cell_before, gate_after, in_link, out_link, room_of, storage_by}
+use Rattle.node_transfer.specs.Contents.{away, batch_of, cell_after, cell_before, exit_after, in_link, out_link, room_of, storage_by}
 use Rattle.node_transfer.specs.Laws.{CellsGather}
 use Rattle.node_transfer.specs.declared.in_link.InLink.{InLink}
 use Rattle.node_transfer.specs.declared.mail.Mail.TheVariants.{Room}
@@ -45,7 +45,7 @@ module _ (p : Plan) (n t : ℕ) (sound : IsSound p) (node : n < length p.net.nod
   abbrev with_room : ℕ → List RiderState → InLink
   with_room l line = record {
     line = line;
-    gate = gate_after p n (suc t) l;
+    exit = exit_after p n (suc t) l;
     storage = storage_by p.queue (link_at p l).storage;
     mail = Room (suc t) (room_after (storage_by p.queue (link_at p l).storage) line);
   }

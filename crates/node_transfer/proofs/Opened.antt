@@ -2,7 +2,7 @@
 use Rattle.net_core.specs.Network as network
 use Rattle.net_core.specs.Network.{numbers_below}
 use Rattle.net_core.specs.declared.rows.LinkNo.{LinkNo}
-use Rattle.net_core.specs.declared.rows.Turn.{Turn as NetTurn}
+use Rattle.net_core.specs.declared.rows.Turn.{Turn}
 use Rattle.std.specs.List.{range_with_len}
 use Rattle.std.specs.Prelude.{filter, slice_get, slice_index_or, nat_eq, nat_le, nat_lt, All, option_map, ◌≢◌}
 use Rattle.std.proofs.Common.{◌≡◌, ℕ, zero, suc, ◌+◌, ◌*◌, ◌%◌, ◌<◌, ◌≤◌, Bool, true, false, cond, ◌&&◌, List, [], ◌∷◌, ◌++◌, length, map, refl, ap, sym, ◌∙◌, subst, arith, append-nil, Option, Some, None, get_or, add-one}
@@ -173,7 +173,7 @@ module _ (p : Plan) where
       by_rate None = refl
       by_rate (Some rate) = ap (λ m. Some m) (meter-start rate)
 
-      by_turn : (o : Option NetTurn) → turn_by unused b o ≡ turn_by (meter_after p 0) b o
+      by_turn : (o : Option Turn) → turn_by unused b o ≡ turn_by (meter_after p 0) b o
       by_turn None = refl
       by_turn (Some way) = ap (λ y. record { to = record { 0 = b }; penalty = way.penalty; limit = y }) (by_rate way.rate)
 
@@ -184,8 +184,8 @@ module _ (p : Plan) where
   in-start : (n l : ℕ) → start_in p (outs p n) l ≡ in_link p n 0 (line_before p 0) away l
   unfolding line_before trace_after queue_of last_moves
   in-start n l =
-      ap (λ m. record (start_in p (outs p n) l) { gate = record { free = (link_at p l).free; outflow = m; turns = turns_at_start p l (outs p n) } }) (meter-start (link_at p l).rate)
-      ∙ ap (λ ts. record (in_link p n 0 (line_before p 0) away l) { gate = record { free = (link_at p l).free; outflow = meter_after p 0 (link_at p l).rate; turns = ts } }) (turns-start l (kept_turns p n l))
+      ap (λ m. record (start_in p (outs p n) l) { exit = record { free = (link_at p l).free; outflow = m; turns = turns_at_start p l (outs p n) } }) (meter-start (link_at p l).rate)
+      ∙ ap (λ ts. record (in_link p n 0 (line_before p 0) away l) { exit = record { free = (link_at p l).free; outflow = meter_after p 0 (link_at p l).rate; turns = ts } }) (turns-start l (kept_turns p n l))
 
   ins-start : (n : ℕ) (ls : List ℕ) → map (start_in p (outs p n)) ls ≡ map (in_link p n 0 (line_before p 0) away) ls
   ins-start n [] = refl

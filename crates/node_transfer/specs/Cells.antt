@@ -3,7 +3,7 @@ use Rattle.link_queues.specs.declared.line.TheConstants.{MOST_RIDERS}
 use Rattle.std.specs.Prelude.{◌≡◌, ℕ, ◌+◌, ◌-◌, ◌≤◌, ◌%◌, cond, List, [], ◌∷◌, ◌++◌, length, map, nat_eq, slice_get, slice_set, Option, None, Some, option_map, All, drop, take}
 use Rattle.std.specs.List.{sum_by}
 use Rattle.dta_model.specs.Riders.{RiderState}
-use Rattle.node_transfer.specs.Pass.{Work, passed, Rides, held, out_links, opened_gate, closed_gate}
+use Rattle.node_transfer.specs.Pass.{Work, passed, Rides, held, out_links, opened_exit, closed_exit}
 use Rattle.node_transfer.specs.Outs.{opened_out, closed_out}
 use Rattle.node_transfer.specs.declared.mail.Mail.{Mail}
 use Rattle.node_transfer.specs.declared.mail.Mail.TheVariants.{Away, Room, Batch}
@@ -16,10 +16,10 @@ pub record LinkWork : Type 0 where
   pub outs : List OutLink
   pub arrived : List RiderState
 
--- an in-link once its heads have moved: its line and its gate as they then are
+-- an in-link once its heads have moved: its line and its exit as they then are
 abbrev pub link_after : InLink → Work → LinkWork
 link_after link w = record {
-  link = record link { line = w.line; gate = closed_gate w.gate };
+  link = record link { line = w.line; exit = closed_exit w.exit };
   outs = w.outs;
   arrived = w.arrived;
 }
@@ -27,7 +27,7 @@ link_after link w = record {
 -- the heads of one in-link move
 abbrev pub passed_link : ℕ → ℕ → InLink → List OutLink → List RiderState → LinkWork
 passed_link delta step link outs arrived =
-    link_after link (passed step link.line (opened_gate delta link.gate) outs arrived)
+    link_after link (passed step link.line (opened_exit delta link.exit) outs arrived)
 
 -- the in-links, the out-links and the riders who arrived, while heads move
 pub record CellWork : Type 0 where

@@ -9,7 +9,7 @@ use Rattle.dta_model.specs.Stages.{line_before, line_after, waiting_before, wait
 use Rattle.dta_model.specs.declared.plan.Plan.{Plan}
 use Rattle.dta_model.specs.declared.queue.Queue.{Queue}
 use Rattle.dta_model.specs.declared.queue.Queue.TheVariants as queue
-use Rattle.net_core.specs.declared.rows.Turn.{Turn as NetTurn}
+use Rattle.net_core.specs.declared.rows.Turn.{Turn}
 use Rattle.node_transfer.specs.Cells.{CellState}
 use Rattle.node_transfer.specs.Meter.{MeterState}
 use Rattle.node_transfer.specs.declared.in_link.InLink.{InLink}
@@ -17,8 +17,8 @@ use Rattle.node_transfer.specs.declared.mail.Mail.{Mail}
 use Rattle.node_transfer.specs.declared.mail.Mail.TheVariants.{Away, Room, Batch}
 use Rattle.node_transfer.specs.declared.out_link.OutLink.{OutLink}
 use Rattle.node_transfer.specs.declared.out_link.Waiting.{Waiting}
-use Rattle.node_transfer.specs.declared.pass.Gate.{Gate}
-use Rattle.node_transfer.specs.declared.turn.Turn.{Turn}
+use Rattle.node_transfer.specs.declared.pass.Exit.{Exit}
+use Rattle.node_transfer.specs.declared.turn.LimitedTurn.{LimitedTurn}
 
 -- a rate between two steps, after so many grants: it carries what its credit does, and no vehicle
 -- is left over
@@ -26,7 +26,7 @@ abbrev pub meter_after : Plan → ℕ → ℕ → MeterState
 meter_after p grants rate = record { rate = rate; carried = carried rate p.delta grants; left = 0 }
 
 -- a cell keeps the turns that have a penalty or a limit
-abbrev pub is_kept : Option NetTurn → Bool
+abbrev pub is_kept : Option Turn → Bool
 is_kept None = false
 is_kept (Some way) = not (nat_eq way.penalty 0 && is_none way.rate)
 
@@ -35,18 +35,18 @@ abbrev pub kept_turns : Plan → ℕ → ℕ → List ℕ
 kept_turns p n l = filter (λ b. is_kept (turn p l b)) (outs p n)
 
 -- the turn to link b, of which the table tells so much; a limit stands as the meter says
-abbrev pub turn_by : (ℕ → MeterState) → ℕ → Option NetTurn → Turn
+abbrev pub turn_by : (ℕ → MeterState) → ℕ → Option Turn → LimitedTurn
 turn_by meter b None = record { to = record { 0 = b }; penalty = 0; limit = None }
 turn_by meter b (Some way) =
     record { to = record { 0 = b }; penalty = way.penalty; limit = option_map meter way.rate }
 
 -- the turn from an in-link to an out-link, after so many grants
-abbrev pub turn_after : Plan → ℕ → ℕ → ℕ → Turn
+abbrev pub turn_after : Plan → ℕ → ℕ → ℕ → LimitedTurn
 turn_after p grants l b = turn_by (meter_after p grants) b (turn p l b)
 
--- what lets the vehicles of an in-link go
-abbrev pub gate_after : Plan → ℕ → ℕ → ℕ → Gate
-gate_after p n grants l = record {
+-- how vehicles leave an in-link, after so many grants
+abbrev pub exit_after : Plan → ℕ → ℕ → ℕ → Exit
+exit_after p n grants l = record {
   free = (link_at p l).free;
   outflow = meter_after p grants (link_at p l).rate;
   turns = map (turn_after p grants l) (kept_turns p n l);
@@ -61,7 +61,7 @@ storage_by queue.Spatial storage = Some storage
 abbrev pub in_link : Plan → ℕ → ℕ → (ℕ → List RiderState) → (ℕ → Mail) → ℕ → InLink
 in_link p n grants line mail l = record {
   line = line l;
-  gate = gate_after p n grants l;
+  exit = exit_after p n grants l;
   storage = storage_by p.queue (link_at p l).storage;
   mail = mail l;
 }

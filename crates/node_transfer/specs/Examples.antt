@@ -52,7 +52,7 @@ not_at_six = refl
 abbrev link_with : ℕ → InLink
 link_with carried = record {
   line = waiting 0 3 ∷ [];
-  gate = record {
+  exit = record {
     free = 2;
     outflow = record { rate = 500000000; carried = carried; left = 0 };
     turns = [];
@@ -93,7 +93,7 @@ abbrev middle_cell : List RiderState → CellState
 middle_cell line = record {
   ins = record {
     line = line;
-    gate = record {
+    exit = record {
       free = 10;
       outflow = record { rate = 600000000; carried = 0; left = 0 };
       turns = [];

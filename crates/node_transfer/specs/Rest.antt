@@ -5,7 +5,7 @@ use Rattle.dta_model.specs.declared.plan.Plan.{Plan}
 use Rattle.node_transfer.specs.Cells.{CellState}
 use Rattle.node_transfer.specs.Contents.{IsStep, away, cell_after, cell_before}
 use Rattle.node_transfer.specs.Meter.{closed, granted}
-use Rattle.node_transfer.specs.Pass.{closed_gate, opened_gate}
+use Rattle.node_transfer.specs.Pass.{closed_exit, opened_exit}
 use Rattle.node_transfer.specs.declared.in_link.InLink.{InLink}
 use Rattle.node_transfer.specs.declared.out_link.OutLink.{OutLink}
 use Rattle.std.specs.List.{last_or}
@@ -13,7 +13,7 @@ use Rattle.std.specs.Prelude.{◌≡◌, ℕ, zero, suc, ◌+◌, ◌<◌, [], A
 
 -- a link whose allowances of one step of delta seconds were granted, and are lost
 abbrev pub rested_in : ℕ → InLink → InLink
-rested_in delta link = record link { gate = closed_gate (opened_gate delta link.gate) }
+rested_in delta link = record link { exit = closed_exit (opened_exit delta link.exit) }
 
 abbrev pub rested_out : ℕ → OutLink → OutLink
 rested_out delta o = record o { inflow = closed (granted delta o.inflow) }
@@ -31,7 +31,7 @@ rested (suc steps) s = rested_once (rested steps s)
 abbrev pub HeadIsLater : ℕ → InLink → Type 0
 HeadIsLater step link =
     IfSome (slice_get link.line 0)
-    (λ r. IfSome (last_or None r.entries) (λ entry. step < entry + link.gate.free))
+    (λ r. IfSome (last_or None r.entries) (λ entry. step < entry + link.exit.free))
 
 -- nobody who waits for an out-link departs by a step
 pub record WaitLater (step : ℕ) (o : OutLink) : Type 0 where

@@ -9,25 +9,25 @@ use Rattle.node_transfer.specs.Meter.{unused}
 use Rattle.node_transfer.specs.declared.in_link.InLink.{InLink}
 use Rattle.node_transfer.specs.declared.mail.Mail.TheVariants.{Away}
 use Rattle.node_transfer.specs.declared.out_link.OutLink.{OutLink}
-use Rattle.node_transfer.specs.declared.turn.Turn.{Turn}
+use Rattle.node_transfer.specs.declared.turn.LimitedTurn.{LimitedTurn}
 
 -- the turn from link l to link b
-abbrev pub turn_at_start : Plan → ℕ → ℕ → Turn
+abbrev pub turn_at_start : Plan → ℕ → ℕ → LimitedTurn
 turn_at_start p l b = turn_by unused b (turn p l b)
 
 -- where it is one that a cell keeps
-abbrev pub kept_at_start : Plan → ℕ → ℕ → Option Turn
+abbrev pub kept_at_start : Plan → ℕ → ℕ → Option LimitedTurn
 kept_at_start p l b = cond (is_kept (turn p l b)) (Some (turn_at_start p l b)) None
 
 -- those of the turns of link l to the links bs that a cell keeps
-abbrev pub turns_at_start : Plan → ℕ → List ℕ → List Turn
+abbrev pub turns_at_start : Plan → ℕ → List ℕ → List LimitedTurn
 turns_at_start p l bs = map (turn_at_start p l) (filter (λ b. is_kept (turn p l b)) bs)
 
 -- link l as an in-link of a node with the out-links bs
 abbrev pub start_in : Plan → List ℕ → ℕ → InLink
 start_in p bs l = record {
   line = [];
-  gate = record {
+  exit = record {
     free = (link_at p l).free;
     outflow = unused (link_at p l).rate;
     turns = turns_at_start p l bs;
