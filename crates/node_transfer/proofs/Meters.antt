@@ -73,7 +73,7 @@ module _ (p : Plan) (n t : ℕ) (M : List Move) (l : ℕ) where
 
       by_turn : (b : ℕ) (o : Option NetTurn) → turned p n t (T p n t) M l b ≡ 0 → opened_turn p.delta (turn_by (meter_after p t) b o) ≡ turn_by (λ rate. meter_mid p t rate (turned p n t (T p n t) M l b)) b o
       by_turn b None e = refl
-      by_turn b (Some way) e = ap (λ k. record { to = b; penalty = way.penalty; limit = k }) (by_rate b way.rate e)
+      by_turn b (Some way) e = ap (λ k. record { to = record { 0 = b }; penalty = way.penalty; limit = k }) (by_rate b way.rate e)
 
       turns : (xs : List ℕ) → map (opened_turn p.delta) (map (turn_after p t l) xs) ≡ map (turn_mid p n t M l) xs
       turns [] = refl
@@ -93,7 +93,7 @@ module _ (p : Plan) (n t : ℕ) (M : List Move) (l : ℕ) where
 
       by_turn : (b : ℕ) (o : Option NetTurn) → closed_turn (turn_by (λ rate. meter_mid p t rate (turned p n t (T p n t) M l b)) b o) ≡ turn_by (meter_after p (suc t)) b o
       by_turn b None = refl
-      by_turn b (Some way) = ap (λ k. record { to = b; penalty = way.penalty; limit = k }) (by_rate b way.rate)
+      by_turn b (Some way) = ap (λ k. record { to = record { 0 = b }; penalty = way.penalty; limit = k }) (by_rate b way.rate)
 
       turns : (xs : List ℕ) → map closed_turn (map (turn_mid p n t M l) xs) ≡ map (turn_after p (suc t) l) xs
       turns [] = refl

@@ -60,7 +60,7 @@ module _ (p : Plan) (n t : ℕ) where
 
   abbrev pub out_mid : List Move → ℕ → OutLink
   out_mid M b = record {
-    link = b;
+    link = record { 0 = b };
     inflow = record { rate = (link_at p b).rate; carried = carried (link_at p b).rate p.delta (suc t); left = takes b - entered p n t T M b };
     waiting = waiting_mid M b;
     batch = batch_by p b T M;
@@ -81,7 +81,7 @@ module _ (p : Plan) (n t : ℕ) where
 
   abbrev pub out_done : List Move → ℕ → OutLink
   out_done M b = record {
-    link = b;
+    link = record { 0 = b };
     inflow = meter_after p (suc t) (link_at p b).rate;
     waiting = waiting_mid M b;
     batch = [];

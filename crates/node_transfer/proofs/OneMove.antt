@@ -94,7 +94,7 @@ module _ (p : Plan) (n t : ℕ) (M : List Move) (m : Move) where
         by_turn : (o : Option NetTurn) → turned p n t (T p n t) (M ++ m ∷ []) l b ≡ turned p n t (T p n t) M l b + 1
             → turn_by (λ rate. meter_mid p t rate (turned p n t (T p n t) (M ++ m ∷ []) l b)) b o ≡ used_turn (turn_by (λ rate. meter_mid p t rate (turned p n t (T p n t) M l b)) b o)
         by_turn None c = refl
-        by_turn (Some way) c = ap (λ y. record { to = b; penalty = way.penalty; limit = y }) (by_rate way.rate c)
+        by_turn (Some way) c = ap (λ y. record { to = record { 0 = b }; penalty = way.penalty; limit = y }) (by_rate way.rate c)
 
     module _ (stood : stands_on l (T p n t) m.vehicle ≡ true) where
       left-one : left p n t (T p n t) (M ++ m ∷ []) l ≡ left p n t (T p n t) M l + 1

@@ -175,7 +175,7 @@ module _ (p : Plan) where
 
       by_turn : (o : Option NetTurn) → turn_by unused b o ≡ turn_by (meter_after p 0) b o
       by_turn None = refl
-      by_turn (Some way) = ap (λ y. record { to = b; penalty = way.penalty; limit = y }) (by_rate way.rate)
+      by_turn (Some way) = ap (λ y. record { to = record { 0 = b }; penalty = way.penalty; limit = y }) (by_rate way.rate)
 
   turns-start : (l : ℕ) (bs : List ℕ) → map (turn_at_start p l) bs ≡ map (turn_after p 0 l) bs
   turns-start l [] = refl
@@ -201,7 +201,7 @@ module _ (p : Plan) where
   out-start : (lines : List (List RiderState)) (b : ℕ) → slice_index_or lines b [] ≡ waiting_before p 0 b → start_out p lines b ≡ out_link p 0 (waiting_before p 0) away b
   out-start lines b e =
       ap (λ w. record (start_out p lines b) { waiting = record { later = w; due = [] } }) e
-      ∙ ap (λ w. record { link = b; inflow = unused (link_at p b).rate; waiting = w; batch = []; mail = away b }) (sym (all-later (waiting_before p 0 b)))
+      ∙ ap (λ w. record { link = record { 0 = b }; inflow = unused (link_at p b).rate; waiting = w; batch = []; mail = away b }) (sym (all-later (waiting_before p 0 b)))
       ∙ ap (λ m. record (out_link p 0 (waiting_before p 0) away b) { inflow = m }) (meter-start (link_at p b).rate)
 
   -- a line that is taken leaves the others

@@ -48,8 +48,8 @@ CanPass-arrives (x ∷ line) outs arrived r c h m = record {
 pub entered_links : (o : Option OutLink) (p step : ℕ) (r : RiderState) (outs : List OutLink) → slice_get outs p ≡ o → out_links (entered_in o p step r outs) ≡ out_links outs
 entered_links None p step r outs h = refl
 entered_links (Some o) p step r [] h = refl
-entered_links (Some o) zero step r (x ∷ outs) h = let same : x ≡ o = cc in ap (λ l. l ∷ out_links outs) (sym (ap (λ y. y.link) same))
-entered_links (Some o) (suc p) step r (x ∷ outs) h = ap (λ ls. x.link ∷ ls) (entered_links (Some o) p step r outs h)
+entered_links (Some o) zero step r (x ∷ outs) h = let same : x ≡ o = cc in ap (λ l. l ∷ out_links outs) (sym (ap (λ y. y.link.0) same))
+entered_links (Some o) (suc p) step r (x ∷ outs) h = ap (λ ls. x.link.0 ∷ ls) (entered_links (Some o) p step r outs h)
 
 pub entered_waitings : (o : Option OutLink) (p step : ℕ) (r : RiderState) (outs : List OutLink) → slice_get outs p ≡ o → waitings (entered_in o p step r outs) ≡ waitings outs
 entered_waitings None p step r outs h = refl

@@ -102,7 +102,7 @@ module _ (p : Plan) (n t : ℕ) (M : List Move) where
   turn_links-mid l [] = refl
   turn_links-mid l (x ∷ xs) = rw (turn_links-mid l xs) (ap (λ y. y ∷ xs) (to_same (turn p l x)))
     where
-      to_same : (o : Option NetTurn) → (turn_by (λ rate. meter_mid p t rate (turned p n t (T p n t) M l x)) x o).to ≡ x
+      to_same : (o : Option NetTurn) → (turn_by (λ rate. meter_mid p t rate (turned p n t (T p n t) M l x)) x o).to.0 ≡ x
       to_same None = refl
       to_same (Some way) = refl
 

@@ -16,15 +16,17 @@ unfoldable pub place_of : ℕ → List ℕ → ℕ
 place_of b [] = 0
 place_of b (x ∷ xs) = cond (nat_eq x b) 0 (place_of b xs + 1)
 
+-- the links to which turns lead, those of out-links, and those who wait for them
 abbrev pub turn_links : List Turn → List ℕ
-turn_links ts = map (λ t. t.to) ts
+turn_links ts = map (λ t. t.to.0) ts
 
 abbrev pub out_links : List OutLink → List ℕ
-out_links outs = map (λ o. o.link) outs
+out_links outs = map (λ o. o.link.0) outs
 
 abbrev pub waitings : List OutLink → List Waiting
 waitings outs = map (λ o. o.waiting) outs
 
+-- a turn that is granted its allowance of a step, one whose step is over, and one that is taken
 abbrev pub opened_turn : ℕ → Turn → Turn
 opened_turn delta t = record t { limit = option_map (granted delta) t.limit }
 
@@ -34,6 +36,7 @@ closed_turn t = record t { limit = option_map closed t.limit }
 abbrev pub used_turn : Turn → Turn
 used_turn t = record t { limit = option_map passed_one t.limit }
 
+-- whether a limit allows one more
 abbrev pub limit_open : Option MeterState → Bool
 limit_open None = true
 limit_open (Some m) = nat_lt 0 m.left
@@ -43,10 +46,12 @@ abbrev pub penalty_of : Option Turn → ℕ
 penalty_of None = 0
 penalty_of (Some t) = t.penalty
 
+-- whether a turn may be taken once more
 abbrev pub turn_open : Option Turn → Bool
 turn_open None = true
 turn_open (Some t) = limit_open t.limit
 
+-- turns of which the one at place k, if it is there, is taken
 abbrev pub used_in : Option Turn → ℕ → List Turn → List Turn
 used_in None k ts = ts
 used_in (Some t) k ts = slice_set ts k (used_turn t)
@@ -55,13 +60,17 @@ used_in (Some t) k ts = slice_set ts k (used_turn t)
 abbrev pub used_at : ℕ → List Turn → List Turn
 used_at k ts = used_in (slice_get ts k) k ts
 
+-- whether one more may enter an out-link
 abbrev pub out_open : Option OutLink → Bool
 out_open None = false
 out_open (Some o) = nat_lt 0 o.inflow.left
 
+-- an out-link that a rider enters: it stands last in the batch
 abbrev pub entered_out : ℕ → RiderState → OutLink → OutLink
-entered_out step r o = record o { inflow = passed_one o.inflow; batch = o.batch ++ moved r step ∷ [] }
+entered_out step r o =
+    record o { inflow = passed_one o.inflow; batch = o.batch ++ moved r step ∷ [] }
 
+-- out-links of which a rider enters the one at place p, if it is there
 abbrev pub entered_in : Option OutLink → ℕ → ℕ → RiderState → List OutLink → List OutLink
 entered_in None p step r outs = outs
 entered_in (Some o) p step r outs = slice_set outs p (entered_out step r o)
@@ -72,30 +81,41 @@ entered_at p step r outs = entered_in (slice_get outs p) p step r outs
 
 -- whether one that is ready may take the turn at a place into the out-link at a place
 abbrev pub is_entry : ℕ → ℕ → List Turn → List OutLink → ℕ → ℕ → Bool
-is_entry step ready turns outs p k = nat_le (ready + penalty_of (slice_get turns k)) step && (turn_open (slice_get turns k) && out_open (slice_get outs p))
+is_entry step ready turns outs p k =
+    nat_le (ready + penalty_of (slice_get turns k)) step
+    && (turn_open (slice_get turns k) && out_open (slice_get outs p))
 
+-- one that is ready enters, or stays
 abbrev pub entry_at : ℕ → ℕ → List Turn → List OutLink → ℕ → ℕ → Verdict
 entry_at step ready turns outs p k = cond (is_entry step ready turns outs p k) (Enters p k) Stays
 
+-- what one does that is ready: without a next link it arrives, else it enters that link if it may
 abbrev pub by_target : ℕ → ℕ → List Turn → List OutLink → Option ℕ → Verdict
 by_target step ready turns outs None = cond (nat_le ready step) Arrives Stays
-by_target step ready turns outs (Some b) = entry_at step ready turns outs (place_of b (out_links outs)) (place_of b (turn_links turns))
+by_target step ready turns outs (Some b) =
+    entry_at step ready turns outs (place_of b (out_links outs)) (place_of b (turn_links turns))
 
+-- what one does that entered its link at a step: nobody leaves beyond the link's allowance
 abbrev pub verdict_by : ℕ → Gate → List OutLink → Option ℕ → Option ℕ → Verdict
 verdict_by step gate outs None target = Stays
 verdict_by step gate outs (Some entry) target =
-    cond (nat_lt 0 gate.outflow.left) (by_target step (entry + gate.free) gate.turns outs target) Stays
+    cond (nat_lt 0 gate.outflow.left)
+    (by_target step (entry + gate.free) gate.turns outs target)
+    Stays
 
 -- what the head of the line does
 unfoldable pub verdict : ℕ → Gate → List OutLink → RiderState → Verdict
-verdict step gate outs r = verdict_by step gate outs (last_or None r.entries) (slice_get r.route (length r.entries))
+verdict step gate outs r =
+    verdict_by step gate outs (last_or None r.entries) (slice_get r.route (length r.entries))
 
+-- a line, its gate, the out-links and those who arrived, while heads move
 pub record Work : Type 0 where
   pub line : List RiderState
   pub gate : Gate
   pub outs : List OutLink
   pub arrived : List RiderState
 
+-- a gate through which one vehicle arrived, and one through which one left by turn k
 abbrev pub after_arrival : Gate → Gate
 after_arrival gate = record gate { outflow = passed_one gate.outflow }
 
@@ -111,8 +131,10 @@ passed step (r ∷ line) gate outs arrived = elim (verdict step gate outs r) as 
   | Enters p k ↦ passed step line (after_entry k gate) (entered_at p step r outs) arrived
 ]
 
+-- a gate at the start of a step, with its allowances granted, and one whose step is over
 abbrev pub opened_gate : ℕ → Gate → Gate
-opened_gate delta g = record g { outflow = granted delta g.outflow; turns = map (opened_turn delta) g.turns }
+opened_gate delta g =
+    record g { outflow = granted delta g.outflow; turns = map (opened_turn delta) g.turns }
 
 abbrev pub closed_gate : Gate → Gate
 closed_gate g = record g { outflow = closed g.outflow; turns = map closed_turn g.turns }
@@ -130,9 +152,12 @@ held o = length o.waiting.later + (length o.waiting.due + length o.batch)
 abbrev pub total : List RiderState → List OutLink → List RiderState → ℕ
 total line outs arrived = length line + (length arrived + sum_by held outs)
 
+-- lists hold all riders of a line and behind it
 abbrev pub FitsAll : List RiderState → List OutLink → List RiderState → Type 0
 FitsAll line outs arrived = total line outs arrived ≤ MOST_RIDERS
 
-pub record CanPass (line : List RiderState) (outs : List OutLink) (arrived : List RiderState) : Type 0 where
+-- all who stand in a line ride on to an out-link or arrive, and lists hold all riders
+pub record CanPass (line : List RiderState) (outs : List OutLink) (arrived : List RiderState)
+    : Type 0 where
   pub rides : All (Rides (out_links outs)) line
   pub fits : FitsAll line outs arrived

@@ -6,11 +6,16 @@ use Rattle.node_transfer.specs.declared.pass.Gate.{Gate}
 use Rattle.node_transfer.specs.declared.turn.Turn.{Turn}
 use Rattle.std.specs.Prelude.{ℕ, map, option_map}
 
+-- a turn, a gate, an in-link and an out-link after so many steps of delta seconds
 abbrev pub skipped_turn : ℕ → ℕ → Turn → Turn
 skipped_turn delta steps t = record t { limit = option_map (skipped delta steps) t.limit }
 
 abbrev pub skipped_gate : ℕ → ℕ → Gate → Gate
-skipped_gate delta steps g = record g { outflow = skipped delta steps g.outflow; turns = map (skipped_turn delta steps) g.turns }
+skipped_gate delta steps g =
+    record g {
+      outflow = skipped delta steps g.outflow;
+      turns = map (skipped_turn delta steps) g.turns;
+    }
 
 abbrev pub skipped_in : ℕ → ℕ → InLink → InLink
 skipped_in delta steps link = record link { gate = skipped_gate delta steps link.gate }

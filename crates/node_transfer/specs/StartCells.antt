@@ -11,7 +11,7 @@ use Rattle.node_transfer.specs.declared.mail.Mail.TheVariants.{Away}
 use Rattle.node_transfer.specs.declared.out_link.OutLink.{OutLink}
 use Rattle.node_transfer.specs.declared.turn.Turn.{Turn}
 
--- the turns of link l, among those to the links bs, that have a penalty or a limit
+-- the turn from link l to link b
 abbrev pub turn_at_start : Plan → ℕ → ℕ → Turn
 turn_at_start p l b = turn_by unused b (turn p l b)
 
@@ -19,6 +19,7 @@ turn_at_start p l b = turn_by unused b (turn p l b)
 abbrev pub kept_at_start : Plan → ℕ → ℕ → Option Turn
 kept_at_start p l b = cond (is_kept (turn p l b)) (Some (turn_at_start p l b)) None
 
+-- those of the turns of link l to the links bs that a cell keeps
 abbrev pub turns_at_start : Plan → ℕ → List ℕ → List Turn
 turns_at_start p l bs = map (turn_at_start p l) (filter (λ b. is_kept (turn p l b)) bs)
 
@@ -26,7 +27,11 @@ turns_at_start p l bs = map (turn_at_start p l) (filter (λ b. is_kept (turn p l
 abbrev pub start_in : Plan → List ℕ → ℕ → InLink
 start_in p bs l = record {
   line = [];
-  gate = record { free = (link_at p l).free; outflow = unused (link_at p l).rate; turns = turns_at_start p l bs };
+  gate = record {
+    free = (link_at p l).free;
+    outflow = unused (link_at p l).rate;
+    turns = turns_at_start p l bs;
+  };
   storage = storage_by p.queue (link_at p l).storage;
   mail = Away;
 }
@@ -34,7 +39,7 @@ start_in p bs l = record {
 -- link b as an out-link, with its line among these
 abbrev pub start_out : Plan → List (List RiderState) → ℕ → OutLink
 start_out p lines b = record {
-  link = b;
+  link = record { 0 = b };
   inflow = unused (link_at p b).rate;
   waiting = record { later = slice_index_or lines b []; due = [] };
   batch = [];

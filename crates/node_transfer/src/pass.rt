@@ -92,8 +92,8 @@ pub fn judge(rider: &Rider, gate: &Gate, outs: &[OutLink], step: u32) -> Verdict
                 }
             }
             Some(link) => {
-                let place = place_to(outs, link.0);
-                let turn = gate.turns.place_to(link.0);
+                let place = place_to(outs, link);
+                let turn = gate.turns.place_to(link);
                 if may_enter(&gate.turns, outs, ready, step, place, turn) {
                     Verdict::Enters(place, turn)
                 } else {

@@ -81,7 +81,7 @@ fn start_outs(
     let mut out_links = Vec::new(alloc);
     for i in 0..outs.len() {
         let out = OutLink {
-            link: outs[i].0,
+            link: outs[i],
             inflow: start_meter(loading, outs[i]),
             waiting: Waiting {
                 later: lines[outs[i].0 as usize].take_all(),
@@ -202,7 +202,7 @@ fn start_turn(loading: &Loading, a: LinkNo, b: LinkNo) -> Option<Turn>
         return None;
     }
     Some(Turn {
-        to: b.0,
+        to: b,
         penalty: turn.penalty,
         limit: limit_of(turn.rate),
     })

@@ -7,12 +7,13 @@ ghost use Rattle.node_transfer.specs.Skip.{skipped_turn};
 use crate::meter::Meter;
 use crate::rest::rest_turns;
 use fixed_units::MOST_STEP;
+use net_core::LinkNo;
 use std::marker::Model;
 
 /// A listed turn to a link.
 #[derive(Drop)]
 pub struct Turn {
-    pub to: u32,
+    pub to: LinkNo,
     pub penalty: u32,
     pub limit: Option<Meter>,
 }
@@ -94,11 +95,11 @@ pub fn close_turns(turns: &mut [Turn])
 }
 
 /// The place of the turn to a link; their number where there is none.
-pub fn turn_to(turns: &[Turn], link: u32) -> usize
-    ensures { result ≡ place_of link (turn_links turns.now) }
+pub fn turn_to(turns: &[Turn], link: LinkNo) -> usize
+    ensures { result ≡ place_of link.0 (turn_links turns.now) }
 {
     let mut place = 0;
-    while place < turns.len() && turns[place].to != link {
+    while place < turns.len() && turns[place].to.0 != link.0 {
         place += 1;
     }
     place
@@ -147,8 +148,8 @@ impl Turns {
     }
 
     /// The place of the turn to a link; their number where there is none.
-    pub fn place_to(&self, link: u32) -> usize
-        ensures { result ≡ place_of link (turn_links self.now) }
+    pub fn place_to(&self, link: LinkNo) -> usize
+        ensures { result ≡ place_of link.0 (turn_links self.now) }
     {
         turn_to(&self.list, link)
     }

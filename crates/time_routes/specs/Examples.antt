@@ -10,12 +10,12 @@ use Rattle.net_core.specs.declared.rows.NodeRow.{NodeRow}
 use Rattle.net_core.specs.declared.rows.TurnRow.{TurnRow}
 use Rattle.dta_model.specs.LinkTimes.{TimeTable, time_at}
 use Rattle.dta_model.specs.TimedWalks.{arrival_after, walk_time}
-use Rattle.time_routes.specs.Cells.{most_span}
+use Rattle.time_routes.specs.Filling.Labels.{most_span}
 use Rattle.time_routes.specs.Named.{zone_named}
-use Rattle.time_routes.specs.declared.building.TheConstants.{NO_ZONE}
-use Rattle.time_routes.specs.declared.cells.TheConstants.{FAR, NARROW_FAR}
-use Rattle.time_routes.specs.declared.group.TheConstants.{MOST_GROUP}
-use Rattle.time_routes.specs.declared.states.TheConstants.{NO_STATE}
+use Rattle.time_routes.specs.declared.states.zone_numbers.TheConstants.{NO_ZONE}
+use Rattle.time_routes.specs.declared.filling.no_walk.TheConstants.{FAR, NARROW_FAR}
+use Rattle.time_routes.specs.declared.reading.group_labels.TheConstants.{MOST_GROUP}
+use Rattle.time_routes.specs.declared.states.link_states.TheConstants.{NO_STATE}
 
 abbrev pub node : ℕ → Option ℕ → NodeRow
 node id zone = record { id = id; zone = zone }

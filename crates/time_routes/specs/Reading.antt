@@ -1,0 +1,7 @@
+-- What labels tell: least times and chosen walks.
+pub mod FirstLinks
+pub mod Follows
+pub mod GroupsTo
+pub mod LabelsTo
+pub mod Paths
+pub mod Serves

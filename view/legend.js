@@ -1,0 +1,61 @@
+'use strict';
+// The legend below the maps, with how many links each class has at the moment, and pictures of maps with it.
+class Legend {
+    constructor(box) {
+        this.box = box;
+        this.shown = null;
+        this.counts = [];
+    }
+
+    show(scale, runs) {
+        this.scale = scale;
+        this.runs = runs;
+        this.counts = [];
+        const parts = [];
+        for (let place = 0; place <= scale.bounds.length + 1; place += 1) {
+            const swatch = Elements.make('span', { className: 'swatch' });
+            swatch.style.background = Measures.colours[place];
+            swatch.style.height = `${2 + 4 * Measures.widths[place]}px`;
+            const count = Elements.make('span', { className: 'count' });
+            this.counts.push(count);
+            parts.push(Elements.make('span', { className: 'class' }, swatch,
+                Elements.make('span', { className: 'bound' }, Measures.classWords(scale, place)), count));
+        }
+        this.box.replaceChildren(Elements.make('strong', {}, scale.measure.name), ...parts);
+    }
+
+    update(maps) {
+        this.counts.forEach((box, place) => {
+            const words = maps.map((map) => map.classCounts[place].toLocaleString('en')).join(' | ');
+            if (box.textContent !== words) box.textContent = words;
+        });
+    }
+
+    // A picture of a map with its name, its time and this legend.
+    picture(map, words) {
+        const share = map.canvas.width / map.width, head = 34, foot = 54;
+        const canvas = document.createElement('canvas');
+        canvas.width = map.canvas.width;
+        canvas.height = map.canvas.height + (head + foot) * share;
+        const pen = canvas.getContext('2d');
+        pen.scale(share, share);
+        pen.fillStyle = '#ffffff';
+        pen.fillRect(0, 0, canvas.width, canvas.height);
+        pen.drawImage(map.canvas, 0, head, map.width, map.height);
+        pen.fillStyle = '#1a2228';
+        pen.textBaseline = 'middle';
+        pen.font = '600 14px system-ui, sans-serif';
+        pen.fillText(words, 10, head / 2);
+        pen.font = '12px system-ui, sans-serif';
+        pen.fillText(this.scale.measure.name, 10, head + map.height + 14);
+        const wide = (map.width - 20) / this.counts.length;
+        for (let place = 0; place < this.counts.length; place += 1) {
+            const x = 10 + place * wide;
+            pen.fillStyle = Measures.colours[place];
+            pen.fillRect(x, head + map.height + 28, 16, 2 + 4 * Measures.widths[place]);
+            pen.fillStyle = '#1a2228';
+            pen.fillText(Measures.classWords(this.scale, place), x + 20, head + map.height + 34, wide - 24);
+        }
+        return canvas;
+    }
+}

@@ -1,0 +1,62 @@
+'use strict';
+// Vehicles as dots on the links that are long enough on the screen to show them. A vehicle drives for the link's
+// free-flow steps; then it stands behind those that entered before it, since nobody passes on a link.
+class MapVehicles {
+    constructor(map) {
+        this.map = map;
+        this.words = '';
+    }
+
+    draw(view) {
+        const { run, geometry, pen } = this.map;
+        if (run.occupancy === null || !view.settings.showVehicles) return;
+        if (geometry.middle < 24) {
+            this.words = 'Zoom in to see vehicles.';
+            return;
+        }
+        let dots = 0, crowded = 0;
+        pen.beginPath();
+        for (let link = 0; link < run.links.count; link += 1) {
+            if (!geometry.isVisible[link] || geometry.isLoop(link)) continue;
+            const count = run.occupancy.vehiclesOn(link);
+            if (count === 0) continue;
+            const length = this.lengthOnScreen(link);
+            if (length < 3 * count) {
+                crowded += 1;
+                continue;
+            }
+            this.traceLink(link, view.step, count);
+            dots += count;
+            if (dots > 20000) break;
+        }
+        pen.fillStyle = '#0c1115';
+        pen.strokeStyle = '#ffffff';
+        pen.lineWidth = 1;
+        pen.stroke();
+        pen.fill();
+        this.words = `${dots.toLocaleString('en')} vehicles as dots`
+            + (crowded > 0 ? `; ${crowded} links have too many to show: zoom in` : '') + '.';
+    }
+
+    lengthOnScreen(link) {
+        const screen = this.map.geometry.screen, at = link * 4;
+        return Math.hypot(screen[at + 2] - screen[at], screen[at + 3] - screen[at + 1]);
+    }
+
+    traceLink(link, step, count) {
+        const { run, geometry, pen } = this.map, { visits } = run;
+        const screen = geometry.screen, at = link * 4;
+        const acrossX = screen[at + 2] - screen[at], acrossY = screen[at + 3] - screen[at + 1];
+        const free = run.times === null ? 1 : run.times.free[link];
+        const room = 1 / Math.max(count, run.storage[link]);
+        const radius = Math.min(Math.max(geometry.unit * 0.6, 1.4), 3);
+        const [first, behind] = run.occupancy.rangeOn(link);
+        for (let visit = first; visit < behind; visit += 1) {
+            const driven = (step - visits.enter[visit]) / free;
+            const share = Math.max(Math.min(driven, 1 - (visit - first) * room), 0);
+            const x = screen[at] + acrossX * share, y = screen[at + 1] + acrossY * share;
+            pen.moveTo(x + radius, y);
+            pen.arc(x, y, radius, 0, 2 * Math.PI);
+        }
+    }
+}

@@ -1,0 +1,192 @@
+'use strict';
+// One run's map on one canvas: links by class, nodes, the worst links by name, and vehicles when zoomed in.
+class MapView {
+    constructor(canvas, told) {
+        this.canvas = canvas;
+        this.told = told;
+        this.pen = canvas.getContext('2d');
+        this.run = null;
+        this.hovered = -1;
+        MapMoves.attach(this);
+    }
+
+    show(run, camera) {
+        this.run = run;
+        this.camera = camera;
+        this.geometry = new MapGeometry(run);
+        this.values = new Float32Array(run.links.count);
+        this.classes = new Uint8Array(run.links.count);
+        this.order = new Int32Array(run.links.count);
+        this.classCounts = new Int32Array(Measures.colours.length);
+        this.placed = '';
+        this.content = '';
+    }
+
+    get width() {
+        return this.canvas.clientWidth;
+    }
+
+    get height() {
+        return this.canvas.clientHeight;
+    }
+
+    // Takes over the canvas's size on the page, in the screen's own pixels.
+    resize() {
+        const share = window.devicePixelRatio || 1;
+        const width = Math.round(this.width * share), height = Math.round(this.height * share);
+        if (this.canvas.width !== width || this.canvas.height !== height) {
+            this.canvas.width = width;
+            this.canvas.height = height;
+        }
+        this.pen.setTransform(share, 0, 0, share, 0, 0);
+    }
+
+    fit() {
+        this.geometry.fit(this.camera, this.width, this.height);
+        this.camera.isFitted = true;
+    }
+
+    draw(view) {
+        if (this.run === null || this.width === 0) return;
+        this.resize();
+        if (!this.camera.isFitted) this.fit();
+        this.placeIfMoved();
+        this.fillIfChanged(view);
+        this.pen.fillStyle = '#ffffff';
+        this.pen.fillRect(0, 0, this.width, this.height);
+        this.drawSelected(view);
+        this.drawLinks();
+        this.drawArrows();
+        const vehicles = new MapVehicles(this);
+        vehicles.draw(view);
+        this.drawNodes();
+        new MapLabels(this).draw(view);
+        this.told.drawn(this, vehicles.words);
+    }
+
+    placeIfMoved() {
+        const { x, y, scale } = this.camera;
+        const place = [x, y, scale, this.width, this.height].join(' ');
+        if (place === this.placed) return;
+        this.placed = place;
+        this.geometry.place(this.camera, this.width, this.height);
+    }
+
+    // What the link table tells changes with the bucket alone, so most pictures of a playing run keep the classes.
+    fillIfChanged({ scale, step, settings }) {
+        const bucket = scale.measure.isLive ? step : this.run.bucketAt(step);
+        const content = [this.placed, bucket, scale.measure.id, scale.bounds, JSON.stringify(settings)].join(' ');
+        if (content === this.content) return;
+        this.content = content;
+        Measures.fill(scale, this.run, step, settings, this.values, this.classes);
+        this.sortByClass();
+    }
+
+    // Visible links by class, so that each class is one stroke and the worst are drawn last.
+    sortByClass() {
+        const starts = new Int32Array(Measures.colours.length + 1);
+        this.classCounts.fill(0);
+        for (let link = 0; link < this.run.links.count; link += 1) {
+            this.classCounts[this.classes[link]] += 1;
+            if (this.geometry.isVisible[link]) starts[this.classes[link] + 1] += 1;
+        }
+        for (let place = 0; place < Measures.colours.length; place += 1) starts[place + 1] += starts[place];
+        this.classStarts = starts.slice();
+        for (let link = 0; link < this.run.links.count; link += 1) {
+            if (this.geometry.isVisible[link]) this.order[starts[this.classes[link]]++] = link;
+        }
+    }
+
+    widthOf(place) {
+        return this.geometry.unit * Measures.widths[place];
+    }
+
+    drawLinks() {
+        const { pen, geometry } = this;
+        pen.lineCap = geometry.middle > 24 ? 'round' : 'butt';
+        for (let place = 0; place < Measures.colours.length; place += 1) {
+            pen.beginPath();
+            for (let at = this.classStarts[place]; at < this.classStarts[place + 1]; at += 1) {
+                this.tracePath(this.order[at]);
+            }
+            pen.strokeStyle = Measures.colours[place];
+            pen.lineWidth = this.widthOf(place);
+            pen.stroke();
+        }
+    }
+
+    tracePath(link) {
+        const { pen, geometry } = this, screen = geometry.screen, at = link * 4;
+        if (geometry.isLoop(link)) {
+            const ring = geometry.ring(link);
+            pen.moveTo(ring.x + ring.radius, ring.y);
+            pen.arc(ring.x, ring.y, ring.radius, 0, 2 * Math.PI);
+            return;
+        }
+        pen.moveTo(screen[at], screen[at + 1]);
+        pen.lineTo(screen[at + 2], screen[at + 3]);
+    }
+
+    // Small arrows where links are long enough to show their direction.
+    drawArrows() {
+        const { pen, geometry } = this, screen = geometry.screen;
+        if (geometry.middle < 24) return;
+        for (let place = 0; place < Measures.colours.length; place += 1) {
+            const size = this.widthOf(place) * 0.8 + 3.2;
+            pen.beginPath();
+            for (let at = this.classStarts[place]; at < this.classStarts[place + 1]; at += 1) {
+                const link = this.order[at];
+                const x1 = screen[link * 4], y1 = screen[link * 4 + 1];
+                const acrossX = screen[link * 4 + 2] - x1, acrossY = screen[link * 4 + 3] - y1;
+                const length = Math.hypot(acrossX, acrossY);
+                if (length < 5 * size || geometry.isLoop(link)) continue;
+                const alongX = acrossX / length * size, alongY = acrossY / length * size;
+                const x = x1 + acrossX * 0.62, y = y1 + acrossY * 0.62;
+                pen.moveTo(x + alongX, y + alongY);
+                pen.lineTo(x - alongX * 0.6 - alongY, y - alongY * 0.6 + alongX);
+                pen.lineTo(x - alongX * 0.6 + alongY, y - alongY * 0.6 - alongX);
+                pen.closePath();
+            }
+            pen.fillStyle = Measures.colours[place];
+            pen.fill();
+        }
+    }
+
+    drawSelected(view) {
+        const { pen } = this;
+        const selected = this.run.linkPlaces.get(view.selected);
+        for (const [link, colour] of [[this.hovered, '#7aa7c7'], [selected, '#0b6fc2']]) {
+            if (link === undefined || link < 0) continue;
+            pen.beginPath();
+            this.tracePath(link);
+            pen.lineCap = 'round';
+            pen.strokeStyle = colour;
+            pen.lineWidth = this.widthOf(this.classes[link]) + 7;
+            pen.stroke();
+        }
+    }
+
+    drawNodes() {
+        const { pen, geometry, camera } = this, { nodes } = this.run;
+        if (geometry.nodeRadius === 0) return;
+        pen.lineWidth = 1.2;
+        pen.font = '11px system-ui, sans-serif';
+        pen.textAlign = 'center';
+        pen.textBaseline = 'middle';
+        for (let node = 0; node < nodes.count; node += 1) {
+            const x = geometry.screenX(node, camera, this.width);
+            const y = geometry.screenY(node, camera, this.height);
+            if (x < -20 || x > this.width + 20 || y < -20 || y > this.height + 20) continue;
+            pen.beginPath();
+            pen.arc(x, y, geometry.nodeRadius, 0, 2 * Math.PI);
+            pen.fillStyle = '#ffffff';
+            pen.strokeStyle = '#5a6670';
+            pen.fill();
+            pen.stroke();
+            if (geometry.nodeRadius < 10) continue;
+            const name = nodes.names[node];
+            pen.fillStyle = '#28323a';
+            pen.fillText(name, x, name.length <= 3 ? y + 0.5 : y + 18);
+        }
+    }
+}
