@@ -1,5 +1,5 @@
 -- Lists of posted states, and what a pass or a note of a board is to a contract.
-use Rattle.std.specs.Prelude.{◌≡◌, ◌<◌, List, [], ◌∷◌, ◌++◌, All}
+use Rattle.std.specs.Prelude.{◌≡◌, ◌<◌, ◌⊎◌, List, [], ◌∷◌, ◌++◌, All}
 use Rattle.std.specs.List.{AllPairs}
 use Rattle.atomic_table.specs.Seated.{TableId}
 use Rattle.dta_model.specs.declared.eight.Eight.{Eight}
@@ -17,6 +17,10 @@ last_of (x ∷ y ∷ more) = last_of (y ∷ more)
 -- the second list begins with the first
 abbrev pub IsPrefix : List Eight → List Eight → Type 0
 IsPrefix front list = (rest : List Eight) × (list ≡ front ++ rest)
+
+-- one of two lists begins with the other
+abbrev pub OneIsPrefix : List Eight → List Eight → Type 0
+OneIsPrefix xs ys = IsPrefix xs ys ⊎ IsPrefix ys xs
 
 -- a state has more steps than each of those posted before
 abbrev pub IsLater : Eight → List Eight → Type 0

@@ -1,6 +1,6 @@
 // The board and its calls.
 ghost use Rattle.std.specs.Prelude.{◌≡◌, ◌<◌, ◌≤◌, ◌++◌, [], ◌∷◌, All, IfOk};
-ghost use Rattle.monitors.specs.Posted.{IsPrefix, last_of};
+ghost use Rattle.monitors.specs.Posted.{IsPrefix, OneIsPrefix, last_of};
 
 use crate::rule::{Cell, Part, Post, Read, Settle, Tell};
 use crate::words::{from_words, to_words};
@@ -113,6 +113,7 @@ impl Board {
         ensures board { result.board ≡ pass.board }
         ensures knew { IsPrefix pass.list result.list }
         ensures learnt { IsPrefix note.list result.list }
+        ensures ordered { OneIsPrefix pass.list note.list }
     {
         let MonitorPass { mut pass } = pass;
         let Note { pass: told } = note;
