@@ -2,8 +2,10 @@
 // agent.csv: each vehicle with its zones, steps, status, route and entries, in typed arrays.
 function agentTable(csv, mostSteps) {
     const statuses = ['arrived', 'running', 'waiting', 'unrouted'];
-    const names = ['agent_id', 'o_zone_id', 'd_zone_id', 'departure_step', 'arrival_step', 'status',
-        'link_ids', 'entry_steps'];
+    const names = [
+        'agent_id', 'o_zone_id', 'd_zone_id', 'departure_step', 'arrival_step', 'status',
+        'link_ids', 'entry_steps'
+    ];
 
     // The routes of all vehicles stand in one list, and each vehicle knows where its own begins.
     class Agents {
@@ -11,16 +13,20 @@ function agentTable(csv, mostSteps) {
             this.zones = new csv.Names();
             this.ids = [];
             this.hasPlainIds = true;
-            for (const field of ['origin', 'destination', 'departure', 'arrival', 'status',
-                'linkStart', 'links', 'entryStart', 'entries']) this[field] = new csv.Numbers();
+            for (const field
+                     of ['origin', 'destination', 'departure', 'arrival', 'status', 'linkStart',
+                         'links', 'entryStart', 'entries'])
+                this[field] = new csv.Numbers();
         }
 
         taken() {
-            const agents = { count: this.departure.length, zones: this.zones.texts() };
+            const agents = {count: this.departure.length, zones: this.zones.texts()};
             this.linkStart.push(this.links.length);
             this.entryStart.push(this.entries.length);
-            for (const field of ['origin', 'destination', 'departure', 'arrival', 'status',
-                'linkStart', 'links', 'entryStart', 'entries']) agents[field] = this[field].taken();
+            for (const field
+                     of ['origin', 'destination', 'departure', 'arrival', 'status', 'linkStart',
+                         'links', 'entryStart', 'entries'])
+                agents[field] = this[field].taken();
             // dta numbers its vehicles from 0, so their identifiers needn't be kept.
             agents.ids = this.hasPlainIds ? null : this.ids;
             return agents;
@@ -63,7 +69,8 @@ function agentTable(csv, mostSteps) {
     function step(columns, places, column) {
         const value = columns.whole(places, column);
         if (value < mostSteps) return value;
-        throw places.fault(`${columns.said(places, column)} is no step: they are below ${mostSteps}.`);
+        throw places.fault(
+            `${columns.said(places, column)} is no step: they are below ${mostSteps}.`);
     }
 
     function statusOf(places, column) {
@@ -87,7 +94,8 @@ function agentTable(csv, mostSteps) {
     function takeLinks(into, columns, places, column, links) {
         eachPart(places, column, (start, end) => {
             const key = csv.identifier(places.bytes, start, end);
-            if (key !== key) throw places.fault(`${columns.said(places, column)} isn't a list of links.`);
+            if (key !== key)
+                throw places.fault(`${columns.said(places, column)} isn't a list of links.`);
             const link = links.names.find(key);
             if (link < 0) {
                 throw places.fault(
@@ -100,8 +108,10 @@ function agentTable(csv, mostSteps) {
     function takeSteps(into, columns, places, column) {
         eachPart(places, column, (start, end) => {
             const value = csv.identifier(places.bytes, start, end);
-            if (value < mostSteps) into.push(value);
-            else throw places.fault(`${columns.said(places, column)} isn't a list of steps.`);
+            if (value < mostSteps)
+                into.push(value);
+            else
+                throw places.fault(`${columns.said(places, column)} isn't a list of steps.`);
         });
     }
 
@@ -109,7 +119,8 @@ function agentTable(csv, mostSteps) {
         const firstEntry = agents.entryStart.data[number];
         const entries = agents.entries.length - firstEntry;
         const links = agents.links.length - agents.linkStart.data[number];
-        if (entries > links) throw places.fault(`${entries} entries are more than ${links} links.`);
+        if (entries > links)
+            throw places.fault(`${entries} entries are more than ${links} links.`);
         let before = agents.departure.data[number];
         for (let place = firstEntry; place < agents.entries.length; place += 1) {
             const entry = agents.entries.data[place];
@@ -122,5 +133,5 @@ function agentTable(csv, mostSteps) {
         }
     }
 
-    return { readAgents };
+    return {readAgents};
 }

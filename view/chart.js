@@ -1,10 +1,12 @@
 'use strict';
-// Charts: lines or bars over a number line, with round marks, a legend and a mark at the step that is shown.
+// Charts: lines or bars over a number line, with round marks, a legend and a mark at the step
+// that is shown.
 const Chart = (() => {
     const ink = '#28323a', faint = '#dfe4e8', pale = '#5a6670';
     const left = 58, right = 12, top = 30, bottom = 40;
 
-    // A chart: { title, xName, yName, series: [{ name, colour, dash, points: [[x, y]], isStepped }], bars, xMost, yMost }.
+    // A chart: { title, xName, yName, series: [{ name, colour, dash, points: [[x, y]], isStepped
+    // }], bars, xMost, yMost }.
     function draw(canvas, chart) {
         const share = window.devicePixelRatio || 1;
         const width = canvas.clientWidth, height = canvas.clientHeight;
@@ -14,10 +16,13 @@ const Chart = (() => {
         pen.setTransform(share, 0, 0, share, 0, 0);
         pen.fillStyle = '#ffffff';
         pen.fillRect(0, 0, width, height);
-        const area = { left, top, width: width - left - right, height: height - top - bottom };
+        const area = {left, top, width: width - left - right, height: height - top - bottom};
         const plot = {
-            pen, area,
-            x: (value) => left + (value - chart.xLeast) / Math.max(chart.xMost - chart.xLeast, 1e-9) * area.width,
+            pen,
+            area,
+            x: (value) => left
+                + (value - chart.xLeast) / Math.max(chart.xMost - chart.xLeast, 1e-9)
+                    * area.width,
             y: (value) => top + area.height - value / Math.max(chart.yMost, 1e-9) * area.height,
         };
         drawAxes(plot, chart);
@@ -29,11 +34,11 @@ const Chart = (() => {
         for (const line of chart.series) drawLine(plot, line);
         pen.restore();
         drawLegend(plot, chart);
-        canvas.plot = { xLeast: chart.xLeast, xMost: chart.xMost, left, width: area.width };
+        canvas.plot = {xLeast: chart.xLeast, xMost: chart.xMost, left, width: area.width};
     }
 
     function drawAxes(plot, chart) {
-        const { pen, area } = plot;
+        const {pen, area} = plot;
         pen.font = '11px system-ui, sans-serif';
         pen.lineWidth = 1;
         pen.textAlign = 'right';
@@ -46,13 +51,17 @@ const Chart = (() => {
         }
         pen.textAlign = 'center';
         pen.textBaseline = 'top';
-        const xMarks = (chart.xMarks || marks)(chart.xLeast, chart.xMost, Math.max(area.width / 70, 2));
+        const xMarks =
+            (chart.xMarks || marks)(chart.xLeast, chart.xMost, Math.max(area.width / 70, 2));
         for (const value of xMarks) {
             pen.fillStyle = pale;
-            pen.fillText((chart.xFormat || short)(value), plot.x(value), area.top + area.height + 6);
+            pen.fillText(
+                (chart.xFormat || short)(value), plot.x(value), area.top + area.height + 6);
         }
         pen.strokeStyle = pale;
-        line(pen, area.left, area.top + area.height + 0.5, area.left + area.width, area.top + area.height + 0.5);
+        line(
+            pen, area.left, area.top + area.height + 0.5, area.left + area.width,
+            area.top + area.height + 0.5);
         pen.fillStyle = pale;
         pen.fillText(chart.xName, area.left + area.width / 2, area.top + area.height + 22);
     }
@@ -64,11 +73,12 @@ const Chart = (() => {
         pen.stroke();
     }
 
-    function drawLine({ pen, x, y }, { colour, dash, points, isStepped, hasDots }) {
+    function drawLine({pen, x, y}, {colour, dash, points, isStepped, hasDots}) {
         pen.beginPath();
         let before = null;
         for (const [across, up] of points) {
-            if (before === null) pen.moveTo(x(across), y(up));
+            if (before === null)
+                pen.moveTo(x(across), y(up));
             else {
                 if (isStepped) pen.lineTo(x(across), y(before));
                 pen.lineTo(x(across), y(up));
@@ -90,7 +100,7 @@ const Chart = (() => {
         }
     }
 
-    function drawBars({ pen, x, y }, { colour, edges, values }) {
+    function drawBars({pen, x, y}, {colour, edges, values}) {
         pen.fillStyle = colour;
         values.forEach((value, place) => {
             const from = x(edges[place]), to = x(edges[place + 1]);
@@ -99,7 +109,7 @@ const Chart = (() => {
     }
 
     // The names of the lines above the plot, each beside a piece of its line.
-    function drawLegend({ pen, area }, chart) {
+    function drawLegend({pen, area}, chart) {
         pen.font = '11px system-ui, sans-serif';
         pen.textBaseline = 'middle';
         pen.textAlign = 'left';
@@ -107,7 +117,7 @@ const Chart = (() => {
         let at = 6;
         pen.fillText(chart.yName, at, 12);
         at = Math.max(at + pen.measureText(chart.yName).width + 18, area.left);
-        for (const { name, colour, dash } of chart.series) {
+        for (const {name, colour, dash} of chart.series) {
             if (name === undefined) continue;
             pen.strokeStyle = colour;
             pen.lineWidth = 2.5;
@@ -123,9 +133,11 @@ const Chart = (() => {
     function marks(least, most, count) {
         const span = Math.max(most - least, 1e-9), raw = span / count;
         const power = 10 ** Math.floor(Math.log10(raw));
-        const size = [1, 2, 5, 10].map((digit) => digit * power).find((step) => step >= raw * 0.999);
+        const size =
+            [1, 2, 5, 10].map((digit) => digit * power).find((step) => step >= raw * 0.999);
         const found = [];
-        for (let value = Math.ceil(least / size) * size; value <= most + size * 1e-6; value += size) {
+        for (let value = Math.ceil(least / size) * size; value <= most + size * 1e-6;
+             value += size) {
             found.push(Number(value.toPrecision(10)));
         }
         return found;
@@ -134,10 +146,14 @@ const Chart = (() => {
     // Marks of a time axis in seconds: whole minutes or hours.
     function timeMarks(least, most, count) {
         const raw = Math.max(most - least, 1) / count;
-        const sizes = [1, 2, 5, 10, 15, 30, 60, 120, 300, 600, 900, 1800, 3600, 7200, 14400, 21600, 43200, 86400];
+        const sizes = [
+            1, 2, 5, 10, 15, 30, 60, 120, 300, 600, 900, 1800, 3600, 7200, 14400, 21600, 43200,
+            86400
+        ];
         const size = sizes.find((step) => step >= raw) || Math.ceil(raw / 86400) * 86400;
         const found = [];
-        for (let value = Math.ceil(least / size) * size; value <= most; value += size) found.push(value);
+        for (let value = Math.ceil(least / size) * size; value <= most; value += size)
+            found.push(value);
         return found;
     }
 
@@ -159,9 +175,11 @@ const Chart = (() => {
     function roundAbove(value) {
         if (value <= 0) return 1;
         const power = 10 ** Math.floor(Math.log10(value));
-        return [1, 1.2, 1.5, 2, 2.5, 3, 4, 5, 6, 8, 10].map((digit) => digit * power)
-            .find((round) => round >= value * 1.02) || 12 * power;
+        return [1, 1.2, 1.5, 2, 2.5, 3, 4, 5, 6, 8, 10]
+                   .map((digit) => digit * power)
+                   .find((round) => round >= value * 1.02)
+            || 12 * power;
     }
 
-    return { draw, marks, timeMarks, clock, short, roundAbove };
+    return {draw, marks, timeMarks, clock, short, roundAbove};
 })();

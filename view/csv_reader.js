@@ -1,8 +1,9 @@
 'use strict';
 // Comma-separated text, record by record, straight from a file's bytes.
 //
-// This and the other files of the reading side are each one function, so that page and worker can have the same
-// text: a page that was opened from a folder may not load a worker from a file, but may make one of a text.
+// This and the other files of the reading side are each one function, so that page and worker can
+// have the same text: a page that was opened from a folder may not load a worker from a file, but
+// may make one of a text.
 function csvReader() {
     const pieceOfBytes = 4 * 1024 * 1024;
     const comma = 44, quote = 34, lineFeed = 10, carriageReturn = 13, space = 32, tab = 9;
@@ -78,7 +79,8 @@ function csvReader() {
         return larger;
     }
 
-    // Reads one record from a place on and answers the place behind it, or -1 where the bytes end within it.
+    // Reads one record from a place on and answers the place behind it, or -1 where the bytes end
+    // within it.
     function scanRecord(bytes, from, isLastPiece, places) {
         const end = bytes.length;
         let at = from;
@@ -111,15 +113,18 @@ function csvReader() {
         let at = from;
         while (at < bytes.length) {
             if (bytes[at] === quote) {
-                if (at + 1 < bytes.length && bytes[at + 1] === quote) at += 1;
-                else return at;
+                if (at + 1 < bytes.length && bytes[at + 1] === quote)
+                    at += 1;
+                else
+                    return at;
             }
             at += 1;
         }
         return at;
     }
 
-    // Hands each record of a file to `take`, the header as line 1, and the bytes read so far to `tell`.
+    // Hands each record of a file to `take`, the header as line 1, and the bytes read so far to
+    // `tell`.
     async function readRecords(file, take, tell) {
         const places = new FieldPlaces(file.name);
         let left = new Uint8Array(0);
@@ -133,7 +138,8 @@ function csvReader() {
         if (places.line === 0) throw new TableFault(file.name, 1, 'the file is empty.');
     }
 
-    // A field that isn't closed in a piece begins again with the next one, so this answers what is left.
+    // A field that isn't closed in a piece begins again with the next one, so this answers what
+    // is left.
     function takeRecords(bytes, isLastPiece, places, take) {
         let at = 0;
         while (at < bytes.length) {
@@ -161,7 +167,8 @@ function csvReader() {
         return hasMark ? bytes.subarray(3) : bytes;
     }
 
-    // An identifier by value: a number where that is exact, else its digits. NaN where it is none.
+    // An identifier by value: a number where that is exact, else its digits. NaN where it is
+    // none.
     function identifier(bytes, from, end) {
         let at = from;
         while (at < end - 1 && bytes[at] === zero) at += 1;
@@ -185,7 +192,8 @@ function csvReader() {
         constructor(places) {
             this.width = places.count;
             this.names = [];
-            for (let field = 0; field < places.count; field += 1) this.names.push(places.text(field));
+            for (let field = 0; field < places.count; field += 1)
+                this.names.push(places.text(field));
         }
 
         optional(name) {
@@ -232,8 +240,8 @@ function csvReader() {
         }
     }
 
-    // The place of each identifier. Small identifiers are looked up in an array, which an agent table of
-    // millions of links needs.
+    // The place of each identifier. Small identifiers are looked up in an array, which an agent
+    // table of millions of links needs.
     class Names {
         constructor() {
             this.keys = [];
@@ -291,5 +299,5 @@ function csvReader() {
         }
     }
 
-    return { TableFault, Columns, Names, Numbers, readRecords, identifier, semicolon };
+    return {TableFault, Columns, Names, Numbers, readRecords, identifier, semicolon};
 }

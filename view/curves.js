@@ -1,21 +1,44 @@
 'use strict';
 // The charts of whole runs. Two runs stand beside each other with the same axes.
 const Curves = (() => {
-    const colours = { first: '#0072b2', second: '#d55e00', third: '#009e73', bar: '#6f93ad' };
+    const colours = {first: '#0072b2', second: '#d55e00', third: '#009e73', bar: '#6f93ad'};
 
     // Each kind: what runs have it, its points, and the words of its axes.
     const kinds = [
-        { id: 'states', title: 'Waiting, running and arrived', has: (run) => run.states !== null, make: states },
-        { id: 'flows', title: 'Departures and arrivals', has: (run) => run.states !== null, make: flows },
-        { id: 'lost', title: 'Vehicle-hours lost over time', has: (run) => run.hasLoading, make: lost },
-        { id: 'trips', title: 'How long trips take', has: (run) => run.agents !== null, make: trips },
-        { id: 'gap', title: 'Gap by iteration', has: (run) => run.gap !== null, make: gap },
+        {
+            id: 'states',
+            title: 'Waiting, running and arrived',
+            has: (run) => run.states !== null,
+            make: states
+        },
+        {
+            id: 'flows',
+            title: 'Departures and arrivals',
+            has: (run) => run.states !== null,
+            make: flows
+        },
+        {
+            id: 'lost',
+            title: 'Vehicle-hours lost over time',
+            has: (run) => run.hasLoading,
+            make: lost
+        },
+        {
+            id: 'trips',
+            title: 'How long trips take',
+            has: (run) => run.agents !== null,
+            make: trips
+        },
+        {id: 'gap', title: 'Gap by iteration', has: (run) => run.gap !== null, make: gap},
     ];
 
     function overTime(runs, settings) {
         return {
-            xLeast: 0, xMost: Math.max(...runs.map((run) => run.horizon)) * settings.stepSeconds,
-            xName: 'hours and minutes from the start', xMarks: Chart.timeMarks, xFormat: Chart.clock,
+            xLeast: 0,
+            xMost: Math.max(...runs.map((run) => run.horizon)) * settings.stepSeconds,
+            xName: 'hours and minutes from the start',
+            xMarks: Chart.timeMarks,
+            xFormat: Chart.clock,
         };
     }
 
@@ -25,33 +48,69 @@ const Curves = (() => {
         for (let step = stride - 1; step < list.length; step += stride) {
             points.push([(step + 1) * settings.stepSeconds, list[step]]);
         }
-        if (list.length > 0) points.push([list.length * settings.stepSeconds, list[list.length - 1]]);
+        if (list.length > 0)
+            points.push([list.length * settings.stepSeconds, list[list.length - 1]]);
         return points;
     }
 
     function states(run, runs, settings) {
-        return { ...overTime(runs, settings), yName: 'vehicles', series: [
-            { name: 'waiting', colour: colours.second, dash: [2, 3], points: sampled(run.states.waiting, settings) },
-            { name: 'running', colour: colours.first, points: sampled(run.states.running, settings) },
-            { name: 'arrived', colour: colours.third, dash: [8, 4], points: sampled(run.states.arrived, settings) },
-        ] };
+        return {
+            ...overTime(runs, settings),
+            yName: 'vehicles',
+            series: [
+                {
+                    name: 'waiting',
+                    colour: colours.second,
+                    dash: [2, 3],
+                    points: sampled(run.states.waiting, settings)
+                },
+                {
+                    name: 'running',
+                    colour: colours.first,
+                    points: sampled(run.states.running, settings)
+                },
+                {
+                    name: 'arrived',
+                    colour: colours.third,
+                    dash: [8, 4],
+                    points: sampled(run.states.arrived, settings)
+                },
+            ]
+        };
     }
 
     function byBucket(run, settings, value) {
-        const { from, to } = run.buckets(), points = [];
-        from.forEach((first, bucket) => points.push([first * settings.stepSeconds, value(first, to[bucket], bucket)]));
-        if (points.length > 0) points.push([to[to.length - 1] * settings.stepSeconds, points[points.length - 1][1]]);
+        const {from, to} = run.buckets(), points = [];
+        from.forEach(
+            (first, bucket) =>
+                points.push([first * settings.stepSeconds, value(first, to[bucket], bucket)]));
+        if (points.length > 0)
+            points.push([to[to.length - 1] * settings.stepSeconds, points[points.length - 1][1]]);
         return points;
     }
 
     function flows(run, runs, settings) {
-        const inBucket = (list) => byBucket(run, settings,
-            (from, to) => list[to - 1] - (from > 0 ? list[from - 1] : 0));
-        return { ...overTime(runs, settings), yName: 'vehicles in a bucket', series: [
-            { name: 'departures', colour: colours.second, dash: [4, 3], isStepped: true,
-                points: inBucket(run.states.departed) },
-            { name: 'arrivals', colour: colours.third, isStepped: true, points: inBucket(run.states.arrived) },
-        ] };
+        const inBucket = (list) =>
+            byBucket(run, settings, (from, to) => list[to - 1] - (from > 0 ? list[from - 1] : 0));
+        return {
+            ...overTime(runs, settings),
+            yName: 'vehicles in a bucket',
+            series: [
+                {
+                    name: 'departures',
+                    colour: colours.second,
+                    dash: [4, 3],
+                    isStepped: true,
+                    points: inBucket(run.states.departed)
+                },
+                {
+                    name: 'arrivals',
+                    colour: colours.third,
+                    isStepped: true,
+                    points: inBucket(run.states.arrived)
+                },
+            ]
+        };
     }
 
     function lost(run, runs, settings) {
@@ -60,9 +119,13 @@ const Curves = (() => {
             for (let link = 0; link < run.links.count; link += 1) sum += run.lost(link, bucket);
             return sum * settings.stepSeconds / 3600;
         });
-        return { ...overTime(runs, settings), yName: 'vehicle-hours, by the bucket of entry', series: [
-            { colour: colours.second, isStepped: true, points },
-        ] };
+        return {
+            ...overTime(runs, settings),
+            yName: 'vehicle-hours, by the bucket of entry',
+            series: [
+                {colour: colours.second, isStepped: true, points},
+            ]
+        };
     }
 
     function trips(run, runs, settings) {
@@ -73,25 +136,40 @@ const Curves = (() => {
         })) * minutes;
         const edges = Chart.marks(0, longest, 40);
         while (edges.length < 2 || edges[edges.length - 1] <= longest) {
-            edges.push(edges.length < 2 ? edges.length : 2 * edges[edges.length - 1] - edges[edges.length - 2]);
+            edges.push(
+                edges.length < 2 ? edges.length :
+                                   2 * edges[edges.length - 1] - edges[edges.length - 2]);
         }
         const values = new Array(edges.length - 1).fill(0);
         for (const steps of Totals.tripSteps(run)) {
-            values[Math.min(Math.floor(steps * minutes / edges[1] + 1e-9), values.length - 1)] += 1;
+            values[Math.min(Math.floor(steps * minutes / edges[1] + 1e-9), values.length - 1)] +=
+                1;
         }
         return {
-            xLeast: 0, xMost: edges[edges.length - 1], xName: 'minutes from departure to arrival',
-            yName: 'vehicles that arrived', series: [], bars: { colour: colours.bar, edges, values },
+            xLeast: 0,
+            xMost: edges[edges.length - 1],
+            xName: 'minutes from departure to arrival',
+            yName: 'vehicles that arrived',
+            series: [],
+            bars: {colour: colours.bar, edges, values},
         };
     }
 
     function gap(run, runs) {
         const most = Math.max(2, ...runs.map((other) => other.gap.length));
-        const whole = (least, greatest, count) => Chart.marks(least, greatest, count).filter(Number.isInteger);
+        const whole = (least, greatest, count) =>
+            Chart.marks(least, greatest, count).filter(Number.isInteger);
         return {
-            xLeast: 1, xMost: most, xName: 'iteration', xMarks: whole, yName: 'gap, in millionths',
-            series: [{ colour: colours.first, hasDots: true,
-                points: run.gap.map((line) => [line.iteration, line.ppm]) }],
+            xLeast: 1,
+            xMost: most,
+            xName: 'iteration',
+            xMarks: whole,
+            yName: 'gap, in millionths',
+            series: [{
+                colour: colours.first,
+                hasDots: true,
+                points: run.gap.map((line) => [line.iteration, line.ppm])
+            }],
         };
     }
 
@@ -102,14 +180,19 @@ const Curves = (() => {
 
     function rowsOf(chart) {
         if (chart.bars !== undefined) {
-            const { edges, values } = chart.bars;
-            return { head: ['from_minutes', 'to_minutes', 'vehicles'],
-                rows: values.map((value, place) => [edges[place], edges[place + 1], value]) };
+            const {edges, values} = chart.bars;
+            return {
+                head: ['from_minutes', 'to_minutes', 'vehicles'],
+                rows: values.map((value, place) => [edges[place], edges[place + 1], value])
+            };
         }
         const names = chart.series.map((line) => line.name || chart.yName.split(',')[0]);
-        return { head: [chart.xName.startsWith('hours') ? 'seconds' : chart.xName, ...names],
-            rows: chart.series[0].points.map((point, place) =>
-                [point[0], ...chart.series.map((line) => line.points[place][1])]) };
+        return {
+            head: [chart.xName.startsWith('hours') ? 'seconds' : chart.xName, ...names],
+            rows: chart.series[0].points.map(
+                (point,
+                 place) => [point[0], ...chart.series.map((line) => line.points[place][1])])
+        };
     }
 
     function show(box, runs, settings) {
@@ -120,12 +203,13 @@ const Curves = (() => {
             if (having.length === 0) continue;
             const charts = having.map((run) => kind.make(run, having, settings));
             const yMost = Chart.roundAbove(Math.max(...charts.map(greatest)));
-            const card = Elements.make('section', { className: 'card' }, Elements.make('h3', {}, kind.title));
-            const row = Elements.make('div', { className: 'charts' });
+            const card = Elements.make(
+                'section', {className: 'card'}, Elements.make('h3', {}, kind.title));
+            const row = Elements.make('div', {className: 'charts'});
             charts.forEach((chart, place) => {
                 const canvas = chartCanvas(kind, having[place]);
                 row.append(figureOf(kind, chart, having, place, canvas));
-                waiting.push(() => Chart.draw(canvas, { ...chart, yMost }));
+                waiting.push(() => Chart.draw(canvas, {...chart, yMost}));
             });
             card.append(row);
             box.append(card);
@@ -134,29 +218,39 @@ const Curves = (() => {
     }
 
     function chartCanvas(kind, run) {
-        return Elements.make('canvas', { className: 'chart', role: 'img',
-            'aria-label': `${kind.title}, ${run.name}`, 'data-chart': kind.id });
+        return Elements.make('canvas', {
+            className: 'chart',
+            role: 'img',
+            'aria-label': `${kind.title}, ${run.name}`,
+            'data-chart': kind.id
+        });
     }
 
     function figureOf(kind, chart, runs, place, canvas) {
         const run = runs[place], name = `${kind.id}_${run.name}`;
-        const { head, rows } = rowsOf(chart);
-        const mark = chart.xFormat === Chart.clock ? [Elements.make('div', { className: 'mark' })] : [];
-        return Elements.make('figure', {}, canvas, ...mark, Elements.make('figcaption', {},
-            runs.length > 1 ? `${run.name} ` : '',
-            Elements.button('PNG', () => Elements.saveCanvas(name, canvas), { title: 'Save as a picture' }), ' ',
-            Elements.button('CSV', () => Elements.saveRows(name, head, rows), { title: 'Save as a table' })));
+        const {head, rows} = rowsOf(chart);
+        const mark =
+            chart.xFormat === Chart.clock ? [Elements.make('div', {className: 'mark'})] : [];
+        return Elements.make(
+            'figure', {}, canvas, ...mark,
+            Elements.make(
+                'figcaption', {}, runs.length > 1 ? `${run.name} ` : '',
+                Elements.button(
+                    'PNG', () => Elements.saveCanvas(name, canvas), {title: 'Save as a picture'}),
+                ' ', Elements.button('CSV', () => Elements.saveRows(name, head, rows), {
+                    title: 'Save as a table'
+                })));
     }
 
     // Moves the upright line of each chart over time to the step that is shown.
     function markTime(seconds) {
         for (const mark of document.querySelectorAll('.mark')) {
-            const { plot } = mark.parentElement.querySelector('canvas');
+            const {plot} = mark.parentElement.querySelector('canvas');
             if (plot === undefined) continue;
             const share = Math.min(seconds / plot.xMost, 1);
             mark.style.transform = `translateX(${plot.left + share * plot.width}px)`;
         }
     }
 
-    return { show, colours, byBucket, markTime };
+    return {show, colours, byBucket, markTime};
 })();

@@ -1,5 +1,6 @@
 'use strict';
-// The legend below the maps, with how many links each class has at the moment, and pictures of maps with it.
+// The legend below the maps, with how many links each class has at the moment, and pictures of
+// maps with it.
 class Legend {
     constructor(box) {
         this.box = box;
@@ -13,20 +14,23 @@ class Legend {
         this.counts = [];
         const parts = [];
         for (let place = 0; place <= scale.bounds.length + 1; place += 1) {
-            const swatch = Elements.make('span', { className: 'swatch' });
+            const swatch = Elements.make('span', {className: 'swatch'});
             swatch.style.background = Measures.colours[place];
             swatch.style.height = `${2 + 4 * Measures.widths[place]}px`;
-            const count = Elements.make('span', { className: 'count' });
+            const count = Elements.make('span', {className: 'count'});
             this.counts.push(count);
-            parts.push(Elements.make('span', { className: 'class' }, swatch,
-                Elements.make('span', { className: 'bound' }, Measures.classWords(scale, place)), count));
+            parts.push(Elements.make(
+                'span', {className: 'class'}, swatch,
+                Elements.make('span', {className: 'bound'}, Measures.classWords(scale, place)),
+                count));
         }
         this.box.replaceChildren(Elements.make('strong', {}, scale.measure.name), ...parts);
     }
 
     update(maps) {
         this.counts.forEach((box, place) => {
-            const words = maps.map((map) => map.classCounts[place].toLocaleString('en')).join(' | ');
+            const words =
+                maps.map((map) => map.classCounts[place].toLocaleString('en')).join(' | ');
             if (box.textContent !== words) box.textContent = words;
         });
     }
@@ -54,7 +58,9 @@ class Legend {
             pen.fillStyle = Measures.colours[place];
             pen.fillRect(x, head + map.height + 28, 16, 2 + 4 * Measures.widths[place]);
             pen.fillStyle = '#1a2228';
-            pen.fillText(Measures.classWords(this.scale, place), x + 20, head + map.height + 34, wide - 24);
+            pen.fillText(
+                Measures.classWords(this.scale, place), x + 20, head + map.height + 34,
+                wide - 24);
         }
         return canvas;
     }

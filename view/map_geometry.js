@@ -1,8 +1,9 @@
 'use strict';
-// Where links stand: in the network's own coordinates once, and on the screen again whenever the camera moves.
+// Where links stand: in the network's own coordinates once, and on the screen again whenever the
+// camera moves.
 class MapGeometry {
     constructor(run) {
-        const { nodes, links } = run;
+        const {nodes, links} = run;
         this.run = run;
         this.count = links.count;
         this.side = MapGeometry.sidesOf(links);
@@ -12,7 +13,8 @@ class MapGeometry {
         this.middleLength = MapGeometry.middleLengthOf(run);
     }
 
-    // Links between the same two nodes stand beside each other: the first at side 0, the next one at 1, ..
+    // Links between the same two nodes stand beside each other: the first at side 0, the next one
+    // at 1, ..
     static sidesOf(links) {
         const sides = new Uint8Array(links.count);
         const seen = new Map();
@@ -25,31 +27,35 @@ class MapGeometry {
         return sides;
     }
 
-    static boundsOf({ x, y }) {
-        const bounds = { left: Infinity, right: -Infinity, bottom: Infinity, top: -Infinity };
+    static boundsOf({x, y}) {
+        const bounds = {left: Infinity, right: -Infinity, bottom: Infinity, top: -Infinity};
         for (let node = 0; node < x.length; node += 1) {
             bounds.left = Math.min(bounds.left, x[node]);
             bounds.right = Math.max(bounds.right, x[node]);
             bounds.bottom = Math.min(bounds.bottom, y[node]);
             bounds.top = Math.max(bounds.top, y[node]);
         }
-        return x.length > 0 ? bounds : { left: 0, right: 1, bottom: 0, top: 1 };
+        return x.length > 0 ? bounds : {left: 0, right: 1, bottom: 0, top: 1};
     }
 
-    static middleLengthOf({ nodes, links }) {
-        const lengths = Float64Array.from(links.from, (from, link) => Math.hypot(
-            nodes.x[links.to[link]] - nodes.x[from], nodes.y[links.to[link]] - nodes.y[from]));
+    static middleLengthOf({nodes, links}) {
+        const lengths = Float64Array.from(
+            links.from,
+            (from, link) => Math.hypot(
+                nodes.x[links.to[link]] - nodes.x[from],
+                nodes.y[links.to[link]] - nodes.y[from]));
         lengths.sort();
         return lengths.length > 0 ? lengths[lengths.length >> 1] : 0;
     }
 
     // A camera that shows all nodes.
     fit(camera, width, height) {
-        const { left, right, bottom, top } = this.bounds;
+        const {left, right, bottom, top} = this.bounds;
         const room = 0.86;
         camera.x = (left + right) / 2;
         camera.y = (bottom + top) / 2;
-        camera.scale = Math.min(width * room / Math.max(right - left, 1e-9),
+        camera.scale = Math.min(
+            width * room / Math.max(right - left, 1e-9),
             height * room / Math.max(top - bottom, 1e-9));
         if (right - left < 1e-9 && top - bottom < 1e-9) camera.scale = 1;
     }
@@ -58,7 +64,9 @@ class MapGeometry {
     place(camera, width, height) {
         const middle = this.middleLength * camera.scale;
         this.middle = middle;
-        this.unit = Math.min(Math.max(middle * 0.03, 0.8), 4.5);
+        // Near by, links grow more slowly than the distances between nodes.
+        this.unit = middle < 150 ? Math.max(middle * 0.03, 0.8) :
+                                   Math.min(4.5 + (middle - 150) * 0.01, 9);
         this.offset = this.unit * 1.25 + 0.5;
         this.nodeRadius = middle > 60 ? 10 : middle > 24 ? 3 : 0;
         this.placeLinks(camera, width, height);
@@ -72,16 +80,20 @@ class MapGeometry {
         return height / 2 - (this.run.nodes.y[node] - camera.y) * camera.scale;
     }
 
-    // Each link is moved to the right of its direction, so that the two ways of a road stand side by side.
+    // Each link is moved to the right of its direction, so that the two ways of a road stand side
+    // by side.
     placeLinks(camera, width, height) {
-        const { links } = this.run;
+        const {links} = this.run;
         const screen = this.screen, margin = 60;
         for (let link = 0; link < this.count; link += 1) {
             const from = links.from[link], to = links.to[link];
             let x1 = this.screenX(from, camera, width), y1 = this.screenY(from, camera, height);
             let x2 = this.screenX(to, camera, width), y2 = this.screenY(to, camera, height);
-            this.isVisible[link] = x1 < -margin && x2 < -margin || x1 > width + margin && x2 > width + margin
-                || y1 < -margin && y2 < -margin || y1 > height + margin && y2 > height + margin ? 0 : 1;
+            this.isVisible[link] = x1 < -margin && x2 < -margin
+                    || x1 > width + margin && x2 > width + margin || y1 < -margin && y2 < -margin
+                    || y1 > height + margin && y2 > height + margin ?
+                0 :
+                1;
             const length = Math.hypot(x2 - x1, y2 - y1) || 1;
             const alongX = (x2 - x1) / length, alongY = (y2 - y1) / length;
             const trim = length > 3 * this.nodeRadius ? this.nodeRadius : 0;
@@ -104,7 +116,7 @@ class MapGeometry {
     // A link that begins and ends at one node is a ring beside it.
     ring(link) {
         const radius = Math.max(6, this.nodeRadius) + 3 * this.side[link];
-        return { x: this.screen[link * 4] + radius, y: this.screen[link * 4 + 1] - radius, radius };
+        return {x: this.screen[link * 4] + radius, y: this.screen[link * 4 + 1] - radius, radius};
     }
 
     // The nearest visible link within so many pixels of a point, or -1.
@@ -112,7 +124,8 @@ class MapGeometry {
         let nearest = -1, least = within * within;
         for (let link = 0; link < this.count; link += 1) {
             if (!this.isVisible[link]) continue;
-            const distance = this.isLoop(link) ? this.toRing(link, x, y) : this.toLine(link, x, y);
+            const distance =
+                this.isLoop(link) ? this.toRing(link, x, y) : this.toLine(link, x, y);
             if (distance >= least) continue;
             least = distance;
             nearest = link;

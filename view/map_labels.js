@@ -7,12 +7,14 @@ class MapLabels {
     }
 
     // Nodes that are drawn with their names stay free of labels.
-    static nodeBoxes({ run, geometry, camera, width, height }) {
+    static nodeBoxes({run, geometry, camera, width, height}) {
         const boxes = [], radius = geometry.nodeRadius;
         for (let node = 0; node < run.nodes.count; node += 1) {
-            const x = geometry.screenX(node, camera, width), y = geometry.screenY(node, camera, height);
+            const x = geometry.screenX(node, camera, width),
+                  y = geometry.screenY(node, camera, height);
             if (x < -radius || x > width + radius || y < -radius || y > height + radius) continue;
-            boxes.push({ left: x - radius, top: y - radius, width: 2 * radius, height: 2 * radius });
+            boxes.push(
+                {left: x - radius, top: y - radius, width: 2 * radius, height: 2 * radius});
         }
         return boxes;
     }
@@ -21,7 +23,7 @@ class MapLabels {
         const worst = this.worst(view, 3);
         const selected = this.map.run.linkPlaces.get(view.selected);
         if (selected !== undefined && !worst.includes(selected)) worst.unshift(selected);
-        const { pen } = this.map;
+        const {pen} = this.map;
         pen.font = '600 12px system-ui, sans-serif';
         pen.textAlign = 'left';
         pen.textBaseline = 'middle';
@@ -29,7 +31,7 @@ class MapLabels {
     }
 
     worst(view, most) {
-        const { measure } = view.scale, { values, geometry, run } = this.map;
+        const {measure} = view.scale, {values, geometry, run} = this.map;
         if (!measure.has(run)) return [];
         const found = [];
         for (let link = 0; link < run.links.count; link += 1) {
@@ -45,20 +47,26 @@ class MapLabels {
 
     // To the right of the link's direction, or where that is taken to the left, or nowhere.
     place(view, link) {
-        const { pen, geometry, values, run, width, height } = this.map, { measure } = view.scale;
-        const words = measure.has(run) ? `link ${run.links.names[link]}  ${measure.format(values[link])}`
-            : `link ${run.links.names[link]}`;
+        const {pen, geometry, values, run, width, height} = this.map, {measure} = view.scale;
+        const words = measure.has(run) ?
+            `link ${run.links.names[link]}  ${measure.format(values[link])}` :
+            `link ${run.links.names[link]}`;
         const screen = geometry.screen, at = link * 4;
-        const middleX = (screen[at] + screen[at + 2]) / 2, middleY = (screen[at + 1] + screen[at + 3]) / 2;
-        const length = Math.hypot(screen[at + 2] - screen[at], screen[at + 3] - screen[at + 1]) || 1;
+        const middleX = (screen[at] + screen[at + 2]) / 2,
+              middleY = (screen[at + 1] + screen[at + 3]) / 2;
+        const length =
+            Math.hypot(screen[at + 2] - screen[at], screen[at + 3] - screen[at + 1]) || 1;
         const sideX = -(screen[at + 3] - screen[at + 1]) / length;
         const sideY = (screen[at + 2] - screen[at]) / length;
-        const box = { width: pen.measureText(words).width + 12, height: 20 };
+        const box = {width: pen.measureText(words).width + 12, height: 20};
         for (const side of [1, -1, 2, -2, 3, -3, 4, -4]) {
-            const away = Math.sign(side) * (box.width / 2 * Math.abs(sideX) + box.height / 2 * Math.abs(sideY)
-                + geometry.unit * 2 + 8 + (Math.abs(side) - 1) * 30);
-            box.left = Math.min(Math.max(middleX + sideX * away - box.width / 2, 4), width - box.width - 4);
-            box.top = Math.min(Math.max(middleY + sideY * away - box.height / 2, 4), height - box.height - 4);
+            const away = Math.sign(side)
+                * (box.width / 2 * Math.abs(sideX) + box.height / 2 * Math.abs(sideY)
+                   + geometry.unit * 2 + 8 + (Math.abs(side) - 1) * 30);
+            box.left = Math.min(
+                Math.max(middleX + sideX * away - box.width / 2, 4), width - box.width - 4);
+            box.top = Math.min(
+                Math.max(middleY + sideY * away - box.height / 2, 4), height - box.height - 4);
             if (!this.boxes.every((other) => MapLabels.areApart(box, other))) continue;
             this.boxes.push(box);
             this.drawBox(words, box, middleX, middleY);
@@ -72,12 +80,13 @@ class MapLabels {
     }
 
     drawBox(words, box, middleX, middleY) {
-        const { pen } = this.map;
+        const {pen} = this.map;
         pen.strokeStyle = '#28323a';
         pen.lineWidth = 1;
         pen.beginPath();
         pen.moveTo(middleX, middleY);
-        pen.lineTo(Math.min(Math.max(middleX, box.left), box.left + box.width),
+        pen.lineTo(
+            Math.min(Math.max(middleX, box.left), box.left + box.width),
             Math.min(Math.max(middleY, box.top), box.top + box.height));
         pen.stroke();
         pen.fillStyle = 'rgba(255, 255, 255, 0.94)';

@@ -2,14 +2,14 @@
 // Moving about on a map: drag, wheel, two fingers, and keys while the map has the focus.
 const MapMoves = (() => {
     function attach(map) {
-        const { canvas } = map;
+        const {canvas} = map;
         const fingers = new Map();
         let hasMoved = false;
         canvas.addEventListener('wheel', (event) => {
             event.preventDefault();
             const [x, y] = placeOf(map, event);
             zoom(map, Math.exp(-event.deltaY * 0.0015), x, y);
-        }, { passive: false });
+        }, {passive: false});
         canvas.addEventListener('pointerdown', (event) => {
             canvas.setPointerCapture(event.pointerId);
             fingers.set(event.pointerId, placeOf(map, event));
@@ -54,7 +54,8 @@ const MapMoves = (() => {
             return true;
         }
         const [, other] = [...fingers].find(([id]) => id !== finger);
-        const apart = (first) => Math.max(Math.hypot(first[0] - other[0], first[1] - other[1]), 1);
+        const apart = (first) =>
+            Math.max(Math.hypot(first[0] - other[0], first[1] - other[1]), 1);
         zoom(map, apart(place) / apart(before), other[0], other[1]);
         fingers.set(finger, place);
         return true;
@@ -69,7 +70,7 @@ const MapMoves = (() => {
     // What stands at the point stays there.
     function zoom(map, times, x = map.width / 2, y = map.height / 2) {
         if (map.run === null) return;
-        const { camera } = map;
+        const {camera} = map;
         const aboutX = camera.x + (x - map.width / 2) / camera.scale;
         const aboutY = camera.y - (y - map.height / 2) / camera.scale;
         camera.scale *= times;
@@ -88,7 +89,8 @@ const MapMoves = (() => {
     }
 
     function key(map, event) {
-        const steps = { ArrowLeft: [60, 0], ArrowRight: [-60, 0], ArrowUp: [0, 60], ArrowDown: [0, -60] };
+        const steps =
+            {ArrowLeft: [60, 0], ArrowRight: [-60, 0], ArrowUp: [0, 60], ArrowDown: [0, -60]};
         const step = steps[event.key];
         if (step === undefined || event.shiftKey || event.ctrlKey || event.altKey) return false;
         pan(map, ...step);
@@ -96,5 +98,5 @@ const MapMoves = (() => {
         return true;
     }
 
-    return { attach, zoom };
+    return {attach, zoom};
 })();

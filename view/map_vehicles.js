@@ -1,6 +1,7 @@
 'use strict';
-// Vehicles as dots on the links that are long enough on the screen to show them. A vehicle drives for the link's
-// free-flow steps; then it stands behind those that entered before it, since nobody passes on a link.
+// Vehicles as dots on the links that are long enough on the screen to show them. A vehicle drives
+// for the link's free-flow steps; then it stands behind those that entered before it, since
+// nobody passes on a link.
 class MapVehicles {
     constructor(map) {
         this.map = map;
@@ -8,7 +9,7 @@ class MapVehicles {
     }
 
     draw(view) {
-        const { run, geometry, pen } = this.map;
+        const {run, geometry, pen} = this.map;
         if (run.occupancy === null || !view.settings.showVehicles) return;
         if (geometry.middle < 24) {
             this.words = 'Zoom in to see vehicles.';
@@ -20,12 +21,12 @@ class MapVehicles {
             if (!geometry.isVisible[link] || geometry.isLoop(link)) continue;
             const count = run.occupancy.vehiclesOn(link);
             if (count === 0) continue;
-            const length = this.lengthOnScreen(link);
-            if (length < 3 * count) {
+            const rows = this.rowsOf(link);
+            if (this.lengthOnScreen(link) * rows < 3 * count) {
                 crowded += 1;
                 continue;
             }
-            this.traceLink(link, view.step, count);
+            this.traceLink(link, view.step, count, rows);
             dots += count;
             if (dots > 20000) break;
         }
@@ -43,18 +44,28 @@ class MapVehicles {
         return Math.hypot(screen[at + 2] - screen[at], screen[at + 3] - screen[at + 1]);
     }
 
-    traceLink(link, step, count) {
-        const { run, geometry, pen } = this.map, { visits } = run;
+    // As many rows of dots as the link has lanes and its line has room for.
+    rowsOf(link) {
+        const room = Math.floor(this.map.widthOf(this.map.classes[link]) / 4);
+        return Math.max(Math.min(Math.floor(this.map.run.links.lanes[link]), room), 1);
+    }
+
+    traceLink(link, step, count, rows) {
+        const {run, geometry, pen} = this.map, {visits} = run;
         const screen = geometry.screen, at = link * 4;
         const acrossX = screen[at + 2] - screen[at], acrossY = screen[at + 3] - screen[at + 1];
         const free = run.times === null ? 1 : run.times.free[link];
         const room = 1 / Math.max(count, run.storage[link]);
-        const radius = Math.min(Math.max(geometry.unit * 0.6, 1.4), 3);
+        const radius = rows > 1 ? 1.6 : Math.min(Math.max(geometry.unit * 0.6, 1.4), 3);
+        const length = this.lengthOnScreen(link) || 1;
+        const asideX = -acrossY / length * 4, asideY = acrossX / length * 4;
         const [first, behind] = run.occupancy.rangeOn(link);
         for (let visit = first; visit < behind; visit += 1) {
             const driven = (step - visits.enter[visit]) / free;
             const share = Math.max(Math.min(driven, 1 - (visit - first) * room), 0);
-            const x = screen[at] + acrossX * share, y = screen[at + 1] + acrossY * share;
+            const row = run.visits.agent[visit] % rows - (rows - 1) / 2;
+            const x = screen[at] + acrossX * share + asideX * row;
+            const y = screen[at + 1] + acrossY * share + asideY * row;
             pen.moveTo(x + radius, y);
             pen.arc(x, y, radius, 0, 2 * Math.PI);
         }

@@ -1,10 +1,16 @@
 'use strict';
-// One run's map on one canvas: links by class, nodes, the worst links by name, and vehicles when zoomed in.
+// One run's map on one canvas: links by class, nodes, the worst links by name, and vehicles when
+// zoomed in.
 class MapView {
     constructor(canvas, told) {
         this.canvas = canvas;
         this.told = told;
-        this.pen = canvas.getContext('2d');
+        // Links are drawn on a layer of their own, which is kept from picture to picture while
+        // they don't change.
+        this.layer = document.createElement('canvas');
+        this.layerPen = this.layer.getContext('2d', {alpha: false});
+        this.screenPen = canvas.getContext('2d', {alpha: false});
+        this.pen = this.screenPen;
         this.run = null;
         this.hovered = -1;
         MapMoves.attach(this);
@@ -34,11 +40,13 @@ class MapView {
     resize() {
         const share = window.devicePixelRatio || 1;
         const width = Math.round(this.width * share), height = Math.round(this.height * share);
-        if (this.canvas.width !== width || this.canvas.height !== height) {
-            this.canvas.width = width;
-            this.canvas.height = height;
+        for (const canvas of [this.canvas, this.layer]) {
+            if (canvas.width === width && canvas.height === height) continue;
+            canvas.width = width;
+            canvas.height = height;
         }
-        this.pen.setTransform(share, 0, 0, share, 0, 0);
+        this.screenPen.setTransform(share, 0, 0, share, 0, 0);
+        this.layerPen.setTransform(share, 0, 0, share, 0, 0);
     }
 
     fit() {
@@ -51,12 +59,9 @@ class MapView {
         this.resize();
         if (!this.camera.isFitted) this.fit();
         this.placeIfMoved();
-        this.fillIfChanged(view);
-        this.pen.fillStyle = '#ffffff';
-        this.pen.fillRect(0, 0, this.width, this.height);
-        this.drawSelected(view);
-        this.drawLinks();
-        this.drawArrows();
+        if (this.fillIfChanged(view)) this.drawLayer(view);
+        this.pen = this.screenPen;
+        this.pen.drawImage(this.layer, 0, 0, this.width, this.height);
         const vehicles = new MapVehicles(this);
         vehicles.draw(view);
         this.drawNodes();
@@ -64,22 +69,36 @@ class MapView {
         this.told.drawn(this, vehicles.words);
     }
 
+    drawLayer(view) {
+        this.pen = this.layerPen;
+        this.pen.fillStyle = '#ffffff';
+        this.pen.fillRect(0, 0, this.width, this.height);
+        this.drawSelected(view);
+        this.drawLinks();
+        this.drawArrows();
+    }
+
     placeIfMoved() {
-        const { x, y, scale } = this.camera;
+        const {x, y, scale} = this.camera;
         const place = [x, y, scale, this.width, this.height].join(' ');
         if (place === this.placed) return;
         this.placed = place;
         this.geometry.place(this.camera, this.width, this.height);
     }
 
-    // What the link table tells changes with the bucket alone, so most pictures of a playing run keep the classes.
-    fillIfChanged({ scale, step, settings }) {
+    // What the link table tells changes with the bucket alone, so most pictures of a playing run
+    // keep the links. Answers whether they are to be drawn anew.
+    fillIfChanged({scale, step, settings, selected}) {
         const bucket = scale.measure.isLive ? step : this.run.bucketAt(step);
-        const content = [this.placed, bucket, scale.measure.id, scale.bounds, JSON.stringify(settings)].join(' ');
-        if (content === this.content) return;
+        const content = [
+            this.placed, bucket, scale.measure.id, scale.bounds, JSON.stringify(settings),
+            selected, this.hovered
+        ].join(' ');
+        if (content === this.content) return false;
         this.content = content;
         Measures.fill(scale, this.run, step, settings, this.values, this.classes);
         this.sortByClass();
+        return true;
     }
 
     // Visible links by class, so that each class is one stroke and the worst are drawn last.
@@ -90,7 +109,8 @@ class MapView {
             this.classCounts[this.classes[link]] += 1;
             if (this.geometry.isVisible[link]) starts[this.classes[link] + 1] += 1;
         }
-        for (let place = 0; place < Measures.colours.length; place += 1) starts[place + 1] += starts[place];
+        for (let place = 0; place < Measures.colours.length; place += 1)
+            starts[place + 1] += starts[place];
         this.classStarts = starts.slice();
         for (let link = 0; link < this.run.links.count; link += 1) {
             if (this.geometry.isVisible[link]) this.order[starts[this.classes[link]]++] = link;
@@ -102,21 +122,26 @@ class MapView {
     }
 
     drawLinks() {
-        const { pen, geometry } = this;
+        const {pen, geometry} = this;
         pen.lineCap = geometry.middle > 24 ? 'round' : 'butt';
         for (let place = 0; place < Measures.colours.length; place += 1) {
-            pen.beginPath();
-            for (let at = this.classStarts[place]; at < this.classStarts[place + 1]; at += 1) {
-                this.tracePath(this.order[at]);
-            }
             pen.strokeStyle = Measures.colours[place];
             pen.lineWidth = this.widthOf(place);
-            pen.stroke();
+            const behind = this.classStarts[place + 1];
+            for (let first = this.classStarts[place]; first < behind;
+                 first += MapView.linksOfStroke) {
+                pen.beginPath();
+                for (let at = first; at < Math.min(first + MapView.linksOfStroke, behind);
+                     at += 1) {
+                    this.tracePath(this.order[at]);
+                }
+                pen.stroke();
+            }
         }
     }
 
     tracePath(link) {
-        const { pen, geometry } = this, screen = geometry.screen, at = link * 4;
+        const {pen, geometry} = this, screen = geometry.screen, at = link * 4;
         if (geometry.isLoop(link)) {
             const ring = geometry.ring(link);
             pen.moveTo(ring.x + ring.radius, ring.y);
@@ -129,7 +154,7 @@ class MapView {
 
     // Small arrows where links are long enough to show their direction.
     drawArrows() {
-        const { pen, geometry } = this, screen = geometry.screen;
+        const {pen, geometry} = this, screen = geometry.screen;
         if (geometry.middle < 24) return;
         for (let place = 0; place < Measures.colours.length; place += 1) {
             const size = this.widthOf(place) * 0.8 + 3.2;
@@ -153,7 +178,7 @@ class MapView {
     }
 
     drawSelected(view) {
-        const { pen } = this;
+        const {pen} = this;
         const selected = this.run.linkPlaces.get(view.selected);
         for (const [link, colour] of [[this.hovered, '#7aa7c7'], [selected, '#0b6fc2']]) {
             if (link === undefined || link < 0) continue;
@@ -167,7 +192,7 @@ class MapView {
     }
 
     drawNodes() {
-        const { pen, geometry, camera } = this, { nodes } = this.run;
+        const {pen, geometry, camera} = this, {nodes} = this.run;
         if (geometry.nodeRadius === 0) return;
         pen.lineWidth = 1.2;
         pen.font = '11px system-ui, sans-serif';
@@ -190,3 +215,6 @@ class MapView {
         }
     }
 }
+
+// A browser draws many short paths faster than one of tens of thousands of links.
+MapView.linksOfStroke = 2000;

@@ -1,62 +1,91 @@
 'use strict';
-// What links can be coloured by. Both runs have one scale. Each measure is cut into classes, which differ by colour and
-// by width; the colours fall steadily from light to dark, so that they are told apart without seeing hues.
+// What links can be coloured by. Both runs have one scale. Each measure is cut into classes,
+// which differ by colour and by width; the colours fall steadily from light to dark, so that they
+// are told apart without seeing hues.
 const Measures = (() => {
     const none = '#c9d0d6';
-    const colours = [none, '#8fabbd', '#f2cf3d', '#fb9b06', '#e8602d', '#b73557', '#7a1d6d', '#250b4e'];
+    const colours =
+        [none, '#8fabbd', '#f2cf3d', '#fb9b06', '#e8602d', '#b73557', '#7a1d6d', '#250b4e'];
     const widths = [0.55, 0.75, 1.1, 1.35, 1.6, 1.85, 2.1, 2.4];
 
     const list = [
         {
-            id: 'delay', name: 'Delay: travel over free-flow time',
+            id: 'delay',
+            name: 'Delay: travel over free-flow time',
             has: (run) => run.hasLoading,
-            value: (run, link, bucket) => (run.entered(link, bucket) === 0 ? 0 : run.ratio(link, bucket)),
+            value: (run, link, bucket) =>
+                (run.entered(link, bucket) === 0 ? 0 : run.ratio(link, bucket)),
             bounds: () => [1, 1.1, 1.25, 1.5, 2, 3],
-            format: (value) => `×${value.toFixed(2)}`, formatBound: (value) => `×${value}`,
-            first: 'free flow', none: 'nobody entered', least: 1.05,
+            format: (value) => `×${value.toFixed(2)}`,
+            formatBound: (value) => `×${value}`,
+            first: 'free flow',
+            none: 'nobody entered',
+            least: 1.05,
         },
         {
-            id: 'lost', name: 'Vehicle-hours lost in the bucket',
+            id: 'lost',
+            name: 'Vehicle-hours lost in the bucket',
             has: (run) => run.hasLoading,
-            value: (run, link, bucket, settings) => run.lost(link, bucket) * settings.stepSeconds / 3600,
+            value: (run, link, bucket, settings) =>
+                run.lost(link, bucket) * settings.stepSeconds / 3600,
             most: (run, settings) => mostOver(run, (link, bucket) => run.lost(link, bucket))
                 * settings.stepSeconds / 3600,
-            format: (value) => shortNumber(value), none: 'none', least: 0,
+            format: (value) => shortNumber(value),
+            none: 'none',
+            least: 0,
         },
         {
-            id: 'on', name: 'Vehicles on the link',
-            has: (run) => run.occupancy !== null, isLive: true,
+            id: 'on',
+            name: 'Vehicles on the link',
+            has: (run) => run.occupancy !== null,
+            isLive: true,
             value: (run, link) => run.occupancy.vehiclesOn(link),
             most: (run) => run.occupancy.most().on,
-            format: (value) => shortNumber(value), none: 'none', least: 0,
+            format: (value) => shortNumber(value),
+            none: 'none',
+            least: 0,
         },
         {
-            id: 'entered', name: 'Vehicles that entered in the bucket',
+            id: 'entered',
+            name: 'Vehicles that entered in the bucket',
             has: (run) => run.hasLoading,
             value: (run, link, bucket) => run.entered(link, bucket),
             most: (run) => mostOver(run, (link, bucket) => run.entered(link, bucket)),
-            format: (value) => shortNumber(value), none: 'none', least: 0,
+            format: (value) => shortNumber(value),
+            none: 'none',
+            least: 0,
         },
         {
-            id: 'waiting', name: 'Vehicles waiting at their origin for the link',
-            has: (run) => run.occupancy !== null, isLive: true,
+            id: 'waiting',
+            name: 'Vehicles waiting at origins for it',
+            has: (run) => run.occupancy !== null,
+            isLive: true,
             value: (run, link) => run.occupancy.waiting[link],
             most: (run) => run.occupancy.most().waiting,
-            format: (value) => shortNumber(value), none: 'none', least: 0,
+            format: (value) => shortNumber(value),
+            none: 'none',
+            least: 0,
         },
         {
-            id: 'storage', name: 'Storage used',
-            has: (run) => run.occupancy !== null, isLive: true,
+            id: 'storage',
+            name: 'Storage used',
+            has: (run) => run.occupancy !== null,
+            isLive: true,
             value: (run, link) => run.occupancy.vehiclesOn(link) / run.storage[link],
             bounds: () => [0.05, 0.1, 0.25, 0.5, 0.75, 0.95],
-            format: (value) => `${Math.round(value * 100)} %`, none: 'empty', least: 0,
+            format: (value) => `${Math.round(value * 100)} %`,
+            none: 'empty',
+            least: 0,
         },
         {
-            id: 'free', name: 'Free-flow steps',
+            id: 'free',
+            name: 'Free-flow steps',
             has: (run) => run.times !== null,
             value: (run, link) => run.times.free[link],
             most: (run) => run.times.free.reduce((most, steps) => Math.max(most, steps), 0),
-            format: (value) => shortNumber(value), none: 'none', least: Infinity,
+            format: (value) => shortNumber(value),
+            none: 'none',
+            least: Infinity,
         },
     ];
 
@@ -71,7 +100,8 @@ const Measures = (() => {
     }
 
     function shortNumber(value) {
-        if (value >= 100 || Number.isInteger(value)) return Math.round(value).toLocaleString('en');
+        if (value >= 100 || Number.isInteger(value))
+            return Math.round(value).toLocaleString('en');
         return Number(value.toPrecision(2)).toLocaleString('en');
     }
 
@@ -85,13 +115,14 @@ const Measures = (() => {
         return below.length < 6 ? series.slice(0, 6) : below.slice(-6);
     }
 
-    // The scale of a measure over the runs that have it. The greatest values don't change with time, so that colours keep
-    // their meaning while the runs are played.
+    // The scale of a measure over the runs that have it. The greatest values don't change with
+    // time, so that colours keep their meaning while the runs are played.
     function scaleOf(measure, runs, settings) {
         const shown = runs.filter((run) => measure.has(run));
-        const bounds = measure.bounds !== undefined ? measure.bounds()
-            : roundBounds(Math.max(0, ...shown.map((run) => measure.most(run, settings))));
-        return { measure, bounds };
+        const bounds = measure.bounds !== undefined ?
+            measure.bounds() :
+            roundBounds(Math.max(0, ...shown.map((run) => measure.most(run, settings))));
+        return {measure, bounds};
     }
 
     function classOf(scale, value) {
@@ -105,7 +136,7 @@ const Measures = (() => {
     }
 
     function classWords(scale, place) {
-        const { measure, bounds } = scale, format = measure.formatBound || measure.format;
+        const {measure, bounds} = scale, format = measure.formatBound || measure.format;
         if (place === 0) return measure.none;
         if (place === 1 && measure.first !== undefined) return measure.first;
         if (place > bounds.length) return `above ${format(bounds[bounds.length - 1])}`;
@@ -126,5 +157,5 @@ const Measures = (() => {
         }
     }
 
-    return { list, colours, widths, scaleOf, classOf, classWords, fill, shortNumber };
+    return {list, colours, widths, scaleOf, classOf, classWords, fill, shortNumber};
 })();

@@ -9,7 +9,8 @@ function networkTables(csv) {
             if (columns === null) {
                 columns = new csv.Columns(places);
                 id = columns.required('node_id', places);
-                [x, y, zone] = ['x_coord', 'y_coord', 'zone_id'].map((name) => columns.optional(name));
+                [x, y, zone] =
+                    ['x_coord', 'y_coord', 'zone_id'].map((name) => columns.optional(name));
                 return;
             }
             columns.check(places);
@@ -18,10 +19,11 @@ function networkTables(csv) {
             ys.push(coordinate(places, y));
             zones.push(zoneText(places.text(zone)));
         }, tell);
-        return { names, xs, ys, zones };
+        return {names, xs, ys, zones};
     }
 
-    // Where no number stands there is no coordinate, which is no fault: the program doesn't read them.
+    // Where no number stands there is no coordinate, which is no fault: the program doesn't read
+    // them.
     function coordinate(places, column) {
         if (places.isEmpty(column)) return NaN;
         const value = Number(places.text(column));
@@ -68,8 +70,12 @@ function networkTables(csv) {
             speed.push(columns.quantity(places, at.speed, NaN));
         }, tell);
         return {
-            names, from: from.taken(), to: to.taken(), length: Float64Array.from(length),
-            lanes: Float64Array.from(lanes), capacity: Float64Array.from(capacity),
+            names,
+            from: from.taken(),
+            to: to.taken(),
+            length: Float64Array.from(length),
+            lanes: Float64Array.from(lanes),
+            capacity: Float64Array.from(capacity),
             speed: Float64Array.from(speed),
         };
     }
@@ -86,5 +92,5 @@ function networkTables(csv) {
         };
     }
 
-    return { readNodes, readLinks };
+    return {readNodes, readLinks};
 }

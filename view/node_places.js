@@ -1,5 +1,6 @@
 'use strict';
-// Where nodes stand on the map: by their coordinates, or where these are missing by a place that the page makes up.
+// Where nodes stand on the map: by their coordinates, or where these are missing by a place that
+// the page makes up.
 function nodePlaces() {
     const mostInSprings = 400, rounds = 300;
 
@@ -11,14 +12,20 @@ function nodePlaces() {
         y.set(nodes.ys);
         let known = 0;
         for (let node = 0; node < count; node += 1) {
-            if (Number.isNaN(x[node]) || Number.isNaN(y[node])) x[node] = y[node] = NaN;
-            else known += 1;
+            if (Number.isNaN(x[node]) || Number.isNaN(y[node]))
+                x[node] = y[node] = NaN;
+            else
+                known += 1;
         }
         if (known < 2 && count > 1 || isOnePoint(x, y)) return madeUp(count, links);
-        if (known === count) return { x: flattened(x, y), y, words: '' };
+        if (known === count) return {x: flattened(x, y), y, words: ''};
         putBetween(x, y, links);
-        return { x: flattened(x, y), y, words: `${count - known} nodes without coordinates in node.csv `
-            + 'stand between their neighbours.' };
+        return {
+            x: flattened(x, y),
+            y,
+            words: `${count - known} nodes without coordinates in node.csv ` +
+                'stand between their neighbours.'
+        };
     }
 
     function isOnePoint(x, y) {
@@ -28,7 +35,8 @@ function nodePlaces() {
         return x.length > 1;
     }
 
-    // Degrees of longitude are shorter than those of latitude, so that a map of them would be too wide.
+    // Degrees of longitude are shorter than those of latitude, so that a map of them would be too
+    // wide.
     function flattened(x, y) {
         const isDegrees = x.every((value) => Math.abs(value) <= 180)
             && y.every((value) => Math.abs(value) <= 90);
@@ -73,7 +81,7 @@ function nodePlaces() {
 
     function note(sums, node, neighbour, x, y) {
         if (isKnown(x[node]) || !isKnown(x[neighbour])) return;
-        const sum = sums.get(node) || { x: 0, y: 0, count: 0 };
+        const sum = sums.get(node) || {x: 0, y: 0, count: 0};
         sum.x += x[neighbour];
         sum.y += y[neighbour];
         sum.count += 1;
@@ -82,11 +90,17 @@ function nodePlaces() {
 
     function madeUp(count, links) {
         if (count <= mostInSprings) {
-            return { ...springs(count, links), words: 'node.csv has no coordinates: the page has drawn the '
-                + 'nodes so that neighbours stand near each other. Places and distances mean nothing.' };
+            return {
+                ...springs(count, links),
+                words: 'node.csv has no coordinates: the page has drawn the nodes so that ' +
+                    'neighbours stand near each other. Places and distances mean nothing.',
+            };
         }
-        return { ...grid(count), words: 'node.csv has no coordinates: the nodes stand on a grid in the order '
-            + 'of the table. Places and distances mean nothing.' };
+        return {
+            ...grid(count),
+            words: 'node.csv has no coordinates: the nodes stand on a grid in the order ' +
+                'of the table. Places and distances mean nothing.'
+        };
     }
 
     function grid(count) {
@@ -96,11 +110,11 @@ function nodePlaces() {
             x[node] = node % columns;
             y[node] = -Math.floor(node / columns);
         }
-        return { x, y };
+        return {x, y};
     }
 
-    // Fruchterman and Reingold's layout: all nodes push each other away, and links pull their ends together. It begins
-    // on a circle, so equal tables give equal maps.
+    // Fruchterman and Reingold's layout: all nodes push each other away, and links pull their
+    // ends together. It begins on a circle, so equal tables give equal maps.
     function springs(count, links) {
         const x = new Float64Array(count), y = new Float64Array(count);
         const moveX = new Float64Array(count), moveY = new Float64Array(count);
@@ -128,7 +142,7 @@ function nodePlaces() {
                 y[node] += moveY[node] / size * Math.min(size, most);
             }
         }
-        return { x, y };
+        return {x, y};
 
         function pull(first, second, force) {
             const acrossX = x[second] - x[first], acrossY = y[second] - y[first];
@@ -141,5 +155,5 @@ function nodePlaces() {
         }
     }
 
-    return { placesOf };
+    return {placesOf};
 }

@@ -1,9 +1,9 @@
 'use strict';
-// How many vehicles have entered and left each link once a step is done. It moves from step to step by the visits
-// that begin and end there, so that playing costs little.
+// How many vehicles have entered and left each link once a step is done. It moves from step to
+// step by the visits that begin and end there, so that playing costs little.
 class Occupancy {
     constructor(run) {
-        const { visits, waits } = run;
+        const {visits, waits} = run;
         this.visits = visits;
         this.waits = waits;
         this.horizon = run.horizon;
@@ -28,7 +28,7 @@ class Occupancy {
 
     // What happens in the step, done or undone.
     change(by) {
-        const { step, visits, waits } = this;
+        const {step, visits, waits} = this;
         Occupancy.add(this.entered, visits.enterLinks, visits.enterStarts, step, by);
         Occupancy.add(this.left, visits.leaveLinks, visits.leaveStarts, step, by);
         Occupancy.add(this.waiting, waits.beginLinks, waits.beginStarts, step, by);
@@ -49,12 +49,17 @@ class Occupancy {
         return [start + this.left[link], start + this.entered[link]];
     }
 
-    // The most vehicles that are on any link, and that wait for any link, at once in the whole run.
+    // The most vehicles that are on any link, and that wait for any link, at once in the whole
+    // run.
     most() {
         if (this.mosts !== null) return this.mosts;
-        const walker = new Occupancy({ visits: this.visits, waits: this.waits, horizon: this.horizon,
-            links: { count: this.entered.length } });
-        this.mosts = { on: 0, waiting: 0 };
+        const walker = new Occupancy({
+            visits: this.visits,
+            waits: this.waits,
+            horizon: this.horizon,
+            links: {count: this.entered.length}
+        });
+        this.mosts = {on: 0, waiting: 0};
         for (let step = 0; step < this.horizon; step += 1) {
             walker.moveTo(step);
             this.note(walker, 'on', this.visits.enterLinks, this.visits.enterStarts, step);
@@ -66,7 +71,8 @@ class Occupancy {
     // A count can only be greatest in a step in which it has grown.
     note(walker, what, links, starts, step) {
         for (let at = starts[step]; at < starts[step + 1]; at += 1) {
-            const count = what === 'on' ? walker.vehiclesOn(links[at]) : walker.waiting[links[at]];
+            const count =
+                what === 'on' ? walker.vehiclesOn(links[at]) : walker.waiting[links[at]];
             if (count > this.mosts[what]) this.mosts[what] = count;
         }
     }

@@ -2,19 +2,20 @@
 // The page: what is chosen, and who is told when it changes.
 const Page = (() => {
     const find = (name) => document.getElementById(name);
-    const settings = { stepSeconds: 6, unit: 'm', jam: 125, showVehicles: true };
+    const settings = {stepSeconds: 6, unit: 'm', jam: 125, showVehicles: true};
     let runs = [], maps = [], measure = Measures.list[0], scale = null, selected = null;
     let isDrawAsked = false, pictures = 0;
 
-    const player = new Player({ slider: find('slider'), play: find('play'), speed: find('speed') },
-        { moved: askDraw });
+    const player = new Player(
+        {slider: find('slider'), play: find('play'), speed: find('speed')}, {moved: askDraw});
     const legend = new Legend(find('legend'));
     const panel = new LinkPanel(find('link'), pick);
-    const rankings = new Rankings({ totals: find('totals'), tables: find('tables') }, { pick: pickAt });
-    const told = { drawn: mapDrawn, picked: mapPicked, hovered: mapHovered, moved: askDraw };
+    const rankings =
+        new Rankings({totals: find('totals'), tables: find('tables')}, {pick: pickAt});
+    const told = {drawn: mapDrawn, picked: mapPicked, hovered: mapHovered, moved: askDraw};
 
     function view() {
-        return { scale, step: player.step, settings, selected };
+        return {scale, step: player.step, settings, selected};
     }
 
     // Draws once in the screen's next picture, however often it is asked.
@@ -41,11 +42,12 @@ const Page = (() => {
 
     function timeWords() {
         const first = runs.find((run) => run.hasLoading);
-        const clock = Chart.clock(player.step * settings.stepSeconds);
-        if (first === undefined) return `step ${player.step}, ${clock}`;
-        const bucket = first.bucketAt(player.step), from = first.times.from[bucket], to = first.times.to[bucket];
-        return `step ${player.step}, ${clock}  (bucket of steps ${from} to ${to}, `
-            + `${Chart.clock(from * settings.stepSeconds)} to ${Chart.clock(to * settings.stepSeconds)})`;
+        const clock = (step) => Chart.clock(step * settings.stepSeconds);
+        const now = `step ${player.step}, ${clock(player.step)}`;
+        if (first === undefined) return now;
+        const bucket = first.bucketAt(player.step);
+        const from = first.times.from[bucket], to = first.times.to[bucket];
+        return `${now} (bucket of steps ${from} to ${to}, ${clock(from)} to ${clock(to)})`;
     }
 
     function runsChanged(newRuns) {
@@ -70,14 +72,18 @@ const Page = (() => {
         maps = runs.map((run, place) => {
             const camera = place > 0 && isOneNetwork(runs[0], run) ? cameras[0] : {};
             cameras.push(camera);
-            const canvas = Elements.make('canvas', { tabIndex: 0, role: 'img', 'aria-label': `Map of ${run.name}` });
-            const words = Elements.make('span', { className: 'words' });
+            const canvas = Elements.make(
+                'canvas', {tabIndex: 0, role: 'img', 'aria-label': `Map of ${run.name}`});
+            const words = Elements.make('span', {className: 'words'});
             const map = new MapView(canvas, told);
-            const save = () => Elements.saveCanvas(`map_${run.name}`,
-                legend.picture(map, `${run.name}, ${timeWords()}`));
-            find('maps').append(Elements.make('figure', { className: 'map' }, Elements.make('figcaption', {},
-                Elements.make('strong', {}, run.name), words,
-                Elements.button('PNG', save, { title: 'Save this map as a picture' })), canvas));
+            const save = () => Elements.saveCanvas(
+                `map_${run.name}`, legend.picture(map, `${run.name}, ${timeWords()}`));
+            find('maps').append(Elements.make(
+                'figure', {className: 'map'},
+                Elements.make(
+                    'figcaption', {}, Elements.make('strong', {}, run.name), words,
+                    Elements.button('PNG', save, {title: 'Save this map as a picture'})),
+                canvas));
             map.words = words;
             map.show(run, camera);
             return map;
@@ -98,8 +104,11 @@ const Page = (() => {
     function offerMeasures() {
         const possible = Measures.list.filter((one) => runs.some((run) => one.has(run)));
         if (!possible.includes(measure)) measure = possible[0] || Measures.list[0];
-        find('measure').replaceChildren(...Measures.list.map((one) => Elements.make('option',
-            { value: one.id, disabled: !possible.includes(one), selected: one === measure }, one.name)));
+        find('measure').replaceChildren(...Measures.list.map(
+            (one) => Elements.make(
+                'option',
+                {value: one.id, disabled: !possible.includes(one), selected: one === measure},
+                one.name)));
     }
 
     function showAll() {
@@ -131,7 +140,7 @@ const Page = (() => {
     function pickAt(name, step) {
         player.goTo(step);
         pick(name);
-        find('bar').scrollIntoView({ block: 'start' });
+        find('bar').scrollIntoView({block: 'start'});
     }
 
     function mapDrawn(map, words) {
@@ -147,12 +156,14 @@ const Page = (() => {
         hint.hidden = link < 0;
         if (link < 0) return;
         const facts = LinkPanel.facts(map.run, link, view());
-        hint.replaceChildren(Elements.make('strong', {}, `Link ${map.run.links.names[link]}`),
+        hint.replaceChildren(
+            Elements.make('strong', {}, `Link ${map.run.links.names[link]}`),
             ...facts.map(([name, value]) => Elements.make('div', {}, `${name}: ${value}`)));
         const box = map.canvas.getBoundingClientRect();
         const x = box.left + place[0] + 16, y = box.top + place[1] + 16;
         hint.style.left = `${Math.min(x, innerWidth - hint.offsetWidth - 8)}px`;
-        hint.style.top = `${y + hint.offsetHeight > innerHeight ? y - hint.offsetHeight - 32 : y}px`;
+        hint.style.top =
+            `${y + hint.offsetHeight > innerHeight ? y - hint.offsetHeight - 32 : y}px`;
     }
 
     function worstTime() {
@@ -164,7 +175,8 @@ const Page = (() => {
         const run = runs.find((one) => one.hasLoading);
         if (run === undefined) return;
         const [link] = Totals.rankings.lost.links(run);
-        if (link !== undefined) pickAt(run.links.names[link], run.times.from[run.worstBucket(link)]);
+        if (link !== undefined)
+            pickAt(run.links.names[link], run.times.from[run.worstBucket(link)]);
     }
 
     function showWhole() {
@@ -181,19 +193,36 @@ const Page = (() => {
     }
 
     function isInField(target) {
-        return target.closest('input:not([type=range]):not([type=checkbox]), select, textarea') !== null;
+        return target.closest('input:not([type=range]):not([type=checkbox]), select, textarea')
+            !== null;
+    }
+
+    // With the map in focus the arrows move it.
+    function isForMap(event) {
+        return event.key.startsWith('Arrow') && !event.shiftKey
+            && maps.some((map) => map.canvas === event.target);
     }
 
     function key(event) {
         if (runs.length === 0 || event.ctrlKey || event.altKey || event.metaKey) return;
-        if (isInField(event.target)) return;
+        if (isInField(event.target) || isForMap(event)) return;
         if (event.key === ' ' && event.target.closest('button, summary, label') !== null) return;
-        const actions = { t: worstTime, w: worstLink, 0: showWhole, '+': () => zoomAll(1.5), '=': () => zoomAll(1.5),
-            '-': () => zoomAll(1 / 1.5), Escape: () => pick(null) };
+        const actions = {
+            t: worstTime,
+            w: worstLink,
+            0: showWhole,
+            '+': () => zoomAll(1.5),
+            '=': () => zoomAll(1.5),
+            '-': () => zoomAll(1 / 1.5),
+            Escape: () => pick(null)
+        };
         const chosen = Measures.list[Number(event.key) - 1];
-        if (actions[event.key] !== undefined) actions[event.key]();
-        else if (chosen !== undefined && event.key !== ' ') setMeasure(chosen.id);
-        else if (!player.key(event)) return;
+        if (actions[event.key] !== undefined)
+            actions[event.key]();
+        else if (chosen !== undefined && event.key !== ' ')
+            setMeasure(chosen.id);
+        else if (!player.key(event))
+            return;
         event.preventDefault();
     }
 
@@ -229,7 +258,8 @@ const Page = (() => {
             settings.showVehicles = find('vehicles').checked;
             askDraw();
         });
-        for (const name of ['step-seconds', 'unit', 'jam']) find(name).addEventListener('change', settingsChanged);
+        for (const name of ['step-seconds', 'unit', 'jam'])
+            find(name).addEventListener('change', settingsChanged);
         document.addEventListener('keydown', key, true);
         let later = 0;
         window.addEventListener('resize', () => {
@@ -242,10 +272,10 @@ const Page = (() => {
 
     // The middle of a link on the first map, which the test points at.
     function placeOf(name) {
-        const { run, geometry: { screen } } = maps[0], at = run.linkPlaces.get(name) * 4;
+        const {run, geometry: {screen}} = maps[0], at = run.linkPlaces.get(name) * 4;
         return [(screen[at] + screen[at + 2]) / 2, (screen[at + 1] + screen[at + 3]) / 2];
     }
 
     start();
-    return { placeOf };
+    return {placeOf};
 })();

@@ -63,14 +63,21 @@ class Player {
 
     // Answers whether the key was one of the player's.
     key(event) {
-        const by = { ArrowRight: 1, ArrowLeft: -1 }[event.key];
-        if (event.key === ' ') this.toggle();
-        else if (by !== undefined && event.shiftKey) this.goTo(this.step + by);
-        else if (by === 1) this.nextBucket();
-        else if (by === -1) this.bucketBefore();
-        else if (event.key === 'Home') this.goTo(0);
-        else if (event.key === 'End') this.goTo(this.end - 1);
-        else return false;
+        const by = {ArrowRight: 1, ArrowLeft: -1}[event.key];
+        if (event.key === ' ')
+            this.toggle();
+        else if (by !== undefined && event.shiftKey)
+            this.goTo(this.step + by);
+        else if (by === 1)
+            this.nextBucket();
+        else if (by === -1)
+            this.bucketBefore();
+        else if (event.key === 'Home')
+            this.goTo(0);
+        else if (event.key === 'End')
+            this.goTo(this.end - 1);
+        else
+            return false;
         return true;
     }
 }

@@ -10,8 +10,8 @@ function resultTables(csv) {
             if (columns === null) {
                 columns = new csv.Columns(places);
                 const isOfLoading = columns.optional('storage') < 0;
-                rows = isOfLoading ? new TimeRows(columns, places, links)
-                    : new FreeRows(columns, places, links);
+                rows = isOfLoading ? new TimeRows(columns, places, links) :
+                                     new FreeRows(columns, places, links);
                 return;
             }
             columns.check(places);
@@ -32,7 +32,8 @@ function resultTables(csv) {
         constructor(columns, places, links) {
             this.columns = columns;
             this.links = links;
-            this.at = ['link_id', 'free_steps', 'storage'].map((name) => columns.required(name, places));
+            this.at = ['link_id', 'free_steps', 'storage'].map(
+                (name) => columns.required(name, places));
             this.free = new Int32Array(links.names.keys.length);
             this.storage = new Int32Array(links.names.keys.length);
             this.rows = 0;
@@ -48,14 +49,16 @@ function resultTables(csv) {
 
         done(name) {
             needRows(name, this.rows, this.links.names.keys.length, '');
-            return { kind: 'freeflow', free: this.free, storage: this.storage };
+            return {kind: 'freeflow', free: this.free, storage: this.storage};
         }
     }
 
     function needRows(name, have, need, words) {
         if (have === need) return;
-        throw new csv.TableFault(name, have + 1, `the table ends after ${have} rows, but the links of `
-            + `link.csv need ${need}${words}. It seems to be one of another run, or to be cut off.`);
+        throw new csv.TableFault(
+            name, have + 1,
+            `the table ends after ${have} rows, but the links of link.csv need ${need}${words}. ` +
+                'It seems to be one of another run, or to be cut off.');
     }
 
     // The first link's rows tell the buckets; every other link must have the same.
@@ -64,8 +67,9 @@ function resultTables(csv) {
             this.columns = columns;
             this.links = links;
             this.count = links.names.keys.length;
-            this.at = ['link_id', 'from_step', 'to_step', 'entered', 'travel_steps', 'free_steps']
-                .map((name) => columns.required(name, places));
+            this.at = [
+                'link_id', 'from_step', 'to_step', 'entered', 'travel_steps', 'free_steps'
+            ].map((name) => columns.required(name, places));
             this.firstRows = [];
             this.firstLink = -1;
             this.buckets = 0;
@@ -85,7 +89,7 @@ function resultTables(csv) {
             }
             if (this.buckets === 0 && link !== this.firstLink) this.settle();
             if (this.buckets === 0) {
-                this.firstRows.push({ from, to, entered, travel, free });
+                this.firstRows.push({from, to, entered, travel, free});
             } else {
                 this.put(places, link, from, to, entered, travel);
             }
@@ -110,13 +114,16 @@ function resultTables(csv) {
         put(places, link, from, to, entered, travel) {
             const bucket = this.rows % this.buckets;
             if (bucket === 0) {
-                if (this.seen[link]) throw places.fault(`link ${this.name(link)} comes a second time.`);
+                if (this.seen[link])
+                    throw places.fault(`link ${this.name(link)} comes a second time.`);
                 this.seen[link] = 1;
                 this.link = link;
             }
             if (link !== this.link || from !== this.from[bucket] || to !== this.to[bucket]) {
-                throw places.fault(`link ${this.name(link)}, steps ${from} to ${to}, stands where link `
-                    + `${this.name(this.link)}, steps ${this.from[bucket]} to ${this.to[bucket]}, should.`);
+                throw places.fault(
+                    `link ${this.name(link)}, steps ${from} to ${to}, stands where link ` +
+                    `${this.name(this.link)}, ` +
+                    `steps ${this.from[bucket]} to ${this.to[bucket]}, should.`);
             }
             this.entered[link * this.buckets + bucket] = entered;
             this.travel[link * this.buckets + bucket] = travel;
@@ -128,10 +135,16 @@ function resultTables(csv) {
 
         done(name) {
             if (this.buckets === 0) this.settle();
-            needRows(name, this.rows, this.count * this.buckets, ` (${this.buckets} buckets each)`);
+            needRows(
+                name, this.rows, this.count * this.buckets, ` (${this.buckets} buckets each)`);
             return {
-                kind: 'loading', buckets: this.buckets, from: this.from, to: this.to,
-                entered: this.entered, travel: this.travel, free: this.free,
+                kind: 'loading',
+                buckets: this.buckets,
+                from: this.from,
+                to: this.to,
+                entered: this.entered,
+                travel: this.travel,
+                free: this.free,
             };
         }
     }
@@ -157,38 +170,42 @@ function resultTables(csv) {
         return readRows(file, names, tell, (columns, places, at) => {
             const [iteration, route, least, gap, ppm] =
                 at.map((column) => columns.whole(places, column));
-            return { iteration, route, least, gap, ppm };
+            return {iteration, route, least, gap, ppm};
         });
     }
 
     function readSkim(file, tell) {
         const names = ['o_zone_id', 'd_zone_id', 'start_step', 'least_steps'];
-        return readRows(file, names, tell, (columns, places, [origin, destination, start, least]) => ({
-            origin: String(columns.identifier(places, origin)),
-            destination: String(columns.identifier(places, destination)),
-            start: columns.whole(places, start),
-            least: places.isEmpty(least) ? -1 : columns.whole(places, least),
-        }));
+        return readRows(
+            file, names, tell,
+            (columns, places, [origin, destination, start, least]) => ({
+                origin: String(columns.identifier(places, origin)),
+                destination: String(columns.identifier(places, destination)),
+                start: columns.whole(places, start),
+                least: places.isEmpty(least) ? -1 : columns.whole(places, least),
+            }));
     }
 
     function readCounts(file, links, tell) {
         const names = ['kind', 'first', 'second', 'from_step', 'to_step', 'vehicles'];
-        return readRows(file, names, tell, (columns, places, [kind, first, second, from, to, vehicles]) => {
-            const word = places.text(kind);
-            if (word !== 'turn' && word !== 'through') {
-                throw places.fault(`kind "${word}" is neither turn nor through.`);
-            }
-            if (word === 'turn') [first, second].map((column) => linkOf(columns, places, column, links));
-            return {
-                kind: word,
-                first: String(columns.identifier(places, first)),
-                second: String(columns.identifier(places, second)),
-                from: columns.whole(places, from),
-                to: columns.whole(places, to),
-                vehicles: columns.whole(places, vehicles),
-            };
-        });
+        return readRows(
+            file, names, tell, (columns, places, [kind, first, second, from, to, vehicles]) => {
+                const word = places.text(kind);
+                if (word !== 'turn' && word !== 'through') {
+                    throw places.fault(`kind "${word}" is neither turn nor through.`);
+                }
+                if (word === 'turn')
+                    [first, second].map((column) => linkOf(columns, places, column, links));
+                return {
+                    kind: word,
+                    first: String(columns.identifier(places, first)),
+                    second: String(columns.identifier(places, second)),
+                    from: columns.whole(places, from),
+                    to: columns.whole(places, to),
+                    vehicles: columns.whole(places, vehicles),
+                };
+            });
     }
 
-    return { readTimes, readGap, readSkim, readCounts, mostSteps };
+    return {readTimes, readGap, readSkim, readCounts, mostSteps};
 }

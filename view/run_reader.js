@@ -1,17 +1,20 @@
 'use strict';
-// Reads the files of one run, checks that they belong together, and makes of them what the page shows.
+// Reads the files of one run, checks that they belong together, and makes of them what the page
+// shows.
 function runReader(csv, network, results, agentRows, visitTools, places) {
     const kinds = ['node', 'link', 'link_performance', 'agent', 'gap', 'skim', 'counts'];
     // Tables of a run that the page has no use for.
     const others = ['movement', 'demand', 'start', 'times'];
 
-    // A file is known by its name or, where a browser or a person has changed that, by its columns.
+    // A file is known by its name or, where a browser or a person has changed that, by its
+    // columns.
     async function kindOf(file) {
         const base = file.name.toLowerCase().replace(/\.csv$/, '');
         if (kinds.includes(base)) return base;
         if (others.includes(base)) return 'other';
         const head = new TextDecoder().decode(await file.slice(0, 4096).arrayBuffer());
-        const columns = head.split(/[\r\n]/)[0].replace(/^\uFEFF/, '').replace(/["\s]/g, '').split(',');
+        const columns =
+            head.split(/[\r\n]/)[0].replace(/^\uFEFF/, '').replace(/["\s]/g, '').split(',');
         const has = (name) => columns.includes(name);
         if (has('entry_steps')) return 'agent';
         if (has('ib_link_id') || has('volume')) return 'other';
@@ -30,11 +33,13 @@ function runReader(csv, network, results, agentRows, visitTools, places) {
             const kind = await kindOf(file);
             if (kind === 'other') continue;
             if (kind === 'unknown') {
-                notes.push(`${file.name}, line 1: these are the columns of none of the tables that this page `
-                    + 'reads (node, link, link_performance, agent, gap, skim, counts). It is passed over.');
+                notes.push(
+                    `${file.name}, line 1: these are the columns of none of the tables that ` +
+                    `this page reads (${kinds.join(', ')}). The file is passed over.`);
             } else if (chosen.has(kind)) {
-                notes.push(`${file.name}: there is a second table of this kind, `
-                    + `${chosen.get(kind).name}. The first one is shown.`);
+                notes.push(
+                    `${file.name}: there is a second table of this kind, ` +
+                    `${chosen.get(kind).name}. The first one is shown.`);
             } else {
                 chosen.set(kind, file);
             }
@@ -56,11 +61,12 @@ function runReader(csv, network, results, agentRows, visitTools, places) {
         };
     }
 
-    // A result table that can't be read is left out, with its fault; without the link table there is no run.
+    // A result table that can't be read is left out, with its fault; without the link table there
+    // is no run.
     async function readRun(files, tell) {
         const notes = [], faults = [];
         const chosen = await sorted(files, notes);
-        if (!chosen.has('link')) return { run: null, notes, faults: [withoutLinks(chosen)] };
+        if (!chosen.has('link')) return {run: null, notes, faults: [withoutLinks(chosen)]};
         const withProgress = teller(chosen, tell);
         try {
             const tables = await readNetwork(chosen, withProgress);
@@ -68,15 +74,16 @@ function runReader(csv, network, results, agentRows, visitTools, places) {
             await readResults(run, tables.links, chosen, withProgress, faults);
             tell('Sorting the vehicles', 1);
             finish(run, notes, faults);
-            return { run, notes, faults };
+            return {run, notes, faults};
         } catch (fault) {
-            return { run: null, notes, faults: [...faults, sentenceOf(fault)] };
+            return {run: null, notes, faults: [...faults, sentenceOf(fault)]};
         }
     }
 
     function withoutLinks(chosen) {
         const have = [...chosen.values()].map((file) => file.name).join(', ');
-        return (have === '' ? 'None of these files is a table of a run. ' : `There is ${have}, but no link.csv. `)
+        return (have === '' ? 'None of these files is a table of a run. ' :
+                              `There is ${have}, but no link.csv. `)
             + 'Choose the folder of a run, or at least its node.csv and link.csv.';
     }
 
@@ -87,27 +94,43 @@ function runReader(csv, network, results, agentRows, visitTools, places) {
     }
 
     async function readNetwork(chosen, withProgress) {
-        const nodes = chosen.has('node') ? await withProgress('node', network.readNodes)
-            : { names: new csv.Names(), xs: [], ys: [], zones: [] };
+        const nodes = chosen.has('node') ? await withProgress('node', network.readNodes) :
+                                           {names: new csv.Names(), xs: [], ys: [], zones: []};
         nodes.isRead = chosen.has('node');
         nodes.names.settle();
-        const links = await withProgress('link',
-            (file, tell) => network.readLinks(file, nodes, tell));
+        const links =
+            await withProgress('link', (file, tell) => network.readLinks(file, nodes, tell));
         links.names.settle();
-        return { nodes, links };
+        return {nodes, links};
     }
 
-    function networkOf({ nodes, links }, notes) {
-        const { x, y, words } = places.placesOf(nodes, links);
+    function networkOf({nodes, links}, notes) {
+        const {x, y, words} = places.placesOf(nodes, links);
         if (words !== '') notes.push(words);
-        if (!nodes.isRead) notes.push('There is no node.csv: the nodes are those that link.csv names.');
+        if (!nodes.isRead)
+            notes.push('There is no node.csv: the nodes are those that link.csv names.');
         if (links.from.length === 0) notes.push('link.csv has no links.');
         return {
-            nodes: { count: x.length, names: nodes.names.texts(), zones: nodes.zones, x, y },
-            links: { count: links.from.length, names: links.names.texts(), from: links.from, to: links.to,
-                length: links.length, lanes: links.lanes, capacity: links.capacity },
-            times: null, agents: null, visits: null, waits: null, states: null, sums: null,
-            gap: null, skim: null, counts: null, horizon: 0,
+            nodes: {count: x.length, names: nodes.names.texts(), zones: nodes.zones, x, y},
+            links: {
+                count: links.from.length,
+                names: links.names.texts(),
+                from: links.from,
+                to: links.to,
+                length: links.length,
+                lanes: links.lanes,
+                capacity: links.capacity
+            },
+            times: null,
+            agents: null,
+            visits: null,
+            waits: null,
+            states: null,
+            sums: null,
+            gap: null,
+            skim: null,
+            counts: null,
+            horizon: 0,
         };
     }
 
@@ -135,21 +158,26 @@ function runReader(csv, network, results, agentRows, visitTools, places) {
         if (run.agents !== null) {
             const last = lastStep(run.agents) + 1;
             if (hasBuckets && last > run.horizon) {
-                faults.push(`agent.csv has a step ${last - 1}, but link_performance.csv ends at step `
-                    + `${run.horizon}: one of them is of another run. The vehicles are left out.`);
+                faults.push(
+                    `agent.csv has a step ${last - 1}, but link_performance.csv ends at step ` +
+                    `${run.horizon}: one of them is of another run. The vehicles are left out.`);
                 run.agents = null;
             }
             run.horizon = Math.max(run.horizon, last);
         }
-        if (run.agents !== null) addVisits(run, hasBuckets, faults);
-        else if (!hasBuckets) notes.push('There are no link times of a loading and no vehicles: the network alone '
-            + 'is shown. `dta assign` writes link_performance.csv and agent.csv.');
+        if (run.agents !== null)
+            addVisits(run, hasBuckets, faults);
+        else if (!hasBuckets)
+            notes.push(
+                'There are no link times of a loading and no vehicles: the network alone ' +
+                'is shown. `dta assign` writes link_performance.csv and agent.csv.');
     }
 
     function lastStep(agents) {
         let last = 0;
         for (const list of [agents.departure, agents.arrival, agents.entries]) {
-            for (let place = 0; place < list.length; place += 1) last = Math.max(last, list[place]);
+            for (let place = 0; place < list.length; place += 1)
+                last = Math.max(last, list[place]);
         }
         return last;
     }
@@ -160,8 +188,10 @@ function runReader(csv, network, results, agentRows, visitTools, places) {
         if (different !== null) {
             const name = run.links.names[different.link];
             const line = 2 + different.link * run.times.buckets + different.bucket;
-            faults.push(`link_performance.csv, line ${line}: ${different.told} vehicles entered link ${name}, but `
-                + `in agent.csv it is ${different.visits}: one of the tables is of another run.`);
+            faults.push(
+                `link_performance.csv, line ${line}: ${different.told} vehicles entered link ` +
+                `${name}, but in agent.csv it is ${different.visits}: ` +
+                'one of the tables is of another run.');
         }
         run.visits = visitTools.indexOf(visits, run.links.count, run.horizon);
         run.waits = visitTools.waitsOf(run.agents, run.links.count, run.horizon);
@@ -170,5 +200,5 @@ function runReader(csv, network, results, agentRows, visitTools, places) {
         run.sums = visitTools.sumsOf(run.agents, visits, run.links, free, run.horizon);
     }
 
-    return { readRun };
+    return {readRun};
 }

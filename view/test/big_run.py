@@ -1,7 +1,8 @@
-"""Tables of a made run as large as a country's: 40,000 links, 200,000 vehicles, an agent table of about 60 MB.
+"""Tables of a made run as large as a country's: 40,000 links, 200,000 vehicles, 60 MB of agents.
 
-Nodes stand on a grid, and every vehicle goes along a row and then a column. A link's time grows and falls again over
-the run, slowly enough that links are left in the order of entry, as in the program's own runs.
+Nodes stand on a grid, and every vehicle goes along a row and then a column. A link's time grows
+and falls again over the run, slowly enough that links are left in the order of entry, as in the
+program's own runs.
 """
 import os
 import random
@@ -20,7 +21,12 @@ def make_links():
     ends = []
     for row in range(ROWS):
         for column in range(COLUMNS):
-            for to_row, to_column in ((row, column + 1), (row + 1, column), (row, column - 1), (row - 1, column)):
+            for to_row, to_column in (
+                (row, column + 1),
+                (row + 1, column),
+                (row, column - 1),
+                (row - 1, column),
+            ):
                 if 0 <= to_row < ROWS and 0 <= to_column < COLUMNS:
                     ends.append((node(row, column), node(to_row, to_column)))
     # Two links beside others, so that there are 40,000.
@@ -28,7 +34,7 @@ def make_links():
 
 
 def delay(severity, step):
-    """Steps above the free-flow time of a vehicle that enters in a step: up to the severity, and down again."""
+    """Steps above the free-flow time of who enters in a step: up to the severity and down."""
     share = 1 - abs(step - 600) / 600
     return int(severity * max(share, 0))
 
@@ -46,7 +52,9 @@ def write_network(folder, ends):
         out.write('node_id,x_coord,y_coord,zone_id\n')
         for row in range(ROWS):
             for column in range(COLUMNS):
-                x, y = column * 300 + source.randrange(-80, 80), row * 300 + source.randrange(-80, 80)
+                x, y = column * 300 + source.randrange(-80, 80), row * 300 + source.randrange(
+                    -80, 80
+                )
                 number = node(row, column)
                 out.write(f'{number},{x},{y},{number}\n')
     with open(os.path.join(folder, 'link.csv'), 'w') as out:
@@ -68,7 +76,11 @@ def walk(source, worst):
     to_row, to_column = elsewhere(source, row, ROWS), elsewhere(source, column, COLUMNS)
     across = range(column, to_column, 1 if to_column > column else -1)
     along = range(row, to_row, 1 if to_row > row else -1)
-    return [node(row, c) for c in across] + [node(r, to_column) for r in along] + [node(to_row, to_column)]
+    return (
+        [node(row, c) for c in across]
+        + [node(r, to_column) for r in along]
+        + [node(to_row, to_column)]
+    )
 
 
 def write_agents(folder, ends, entered, spent):
@@ -76,7 +88,10 @@ def write_agents(folder, ends, entered, spent):
     numbers = {pair: number for number, pair in reversed(list(enumerate(ends, 1)))}
     hard = severities(len(ends))
     with open(os.path.join(folder, 'agent.csv'), 'w') as out:
-        out.write('agent_id,o_zone_id,d_zone_id,departure_step,arrival_step,status,link_ids,entry_steps\n')
+        out.write(
+            'agent_id,o_zone_id,d_zone_id,departure_step,arrival_step,status,'
+            'link_ids,entry_steps\n'
+        )
         for agent in range(VEHICLES):
             nodes = walk(source, ends[WORST_LINK - 1])
             departure = agent * 600 // VEHICLES
@@ -93,9 +108,11 @@ def write_agents(folder, ends, entered, spent):
                 step += time
             links = [numbers[pair] for pair in zip(nodes, nodes[1:])]
             arrival = step if step < HORIZON else ''
-            out.write(f'{agent},{nodes[0]},{nodes[-1]},{departure},{arrival},'
-                      f'{"running" if arrival == "" else "arrived"},'
-                      f'{";".join(map(str, links))},{";".join(map(str, entries))}\n')
+            out.write(
+                f'{agent},{nodes[0]},{nodes[-1]},{departure},{arrival},'
+                f'{"running" if arrival == "" else "arrived"},'
+                f'{";".join(map(str, links))},{";".join(map(str, entries))}\n'
+            )
 
 
 def write_times(folder, links, entered, spent):
@@ -106,7 +123,9 @@ def write_times(folder, links, entered, spent):
             for bucket in range(buckets):
                 count = entered[link * buckets + bucket]
                 time = -(-spent[link * buckets + bucket] // count) if count > 0 else FREE
-                out.write(f'{link + 1},{bucket * BUCKET},{(bucket + 1) * BUCKET},{count},{time},{FREE}\n')
+                out.write(
+                    f'{link + 1},{bucket * BUCKET},{(bucket + 1) * BUCKET},{count},{time},{FREE}\n'
+                )
 
 
 def make(folder):
@@ -123,4 +142,5 @@ def make(folder):
 
 if __name__ == '__main__':
     import sys
+
     make(sys.argv[1])

@@ -4,44 +4,98 @@ import shutil
 
 NODES = 'node_id,zone_id\n1,1\n2,\n3,3\n'
 LINKS = 'link_id,from_node_id,to_node_id,length\n20,1,2,1000\n30,2,3,1000\n'
-TIMES = ('link_id,from_step,to_step,entered,travel_steps,free_steps\n'
-         '20,0,50,1,10,10\n20,50,60,0,10,10\n30,0,50,1,10,10\n30,50,60,0,10,10\n')
-AGENTS = ('agent_id,o_zone_id,d_zone_id,departure_step,arrival_step,status,link_ids,entry_steps\n'
-          '0,1,3,0,20,arrived,20;30,0;10\n')
+TIMES = (
+    'link_id,from_step,to_step,entered,travel_steps,free_steps\n'
+    '20,0,50,1,10,10\n20,50,60,0,10,10\n30,0,50,1,10,10\n30,50,60,0,10,10\n'
+)
+AGENTS = (
+    'agent_id,o_zone_id,d_zone_id,departure_step,arrival_step,status,link_ids,entry_steps\n'
+    '0,1,3,0,20,arrived,20;30,0;10\n'
+)
+
+SKIM = 'o_zone_id,d_zone_id,start_step,least_steps\n1,3,0,20\n3,1,0,\n'
+COUNTS = (
+    'kind,first,second,from_step,to_step,vehicles\n' 'turn,20,30,0,50,7\n' 'through,1,3,0,60,7\n'
+)
 
 # Name, the files that differ from a good run (None: not there), and what must be said.
 CASES = [
-    ('a_missing_column', {'link.csv': LINKS.replace('length', 'miles')},
-     'link.csv, line 1: the column length is missing.'),
-    ('an_unknown_node', {'link.csv': LINKS.replace('30,2,3', '30,2,99')},
-     'link.csv, line 3: to_node_id 99 isn\'t in node.csv.'),
-    ('agents_of_another_network', {'agent.csv': AGENTS.replace('20;30', '20;77')},
-     'agent.csv, line 2: link 77 isn\'t in link.csv. The table seems to be one of another run.'),
-    ('agents_of_another_run', {'agent.csv': AGENTS.replace('20;30,0;10', '30,0')},
-     'link_performance.csv, line 2: 1 vehicles entered link 20, but in agent.csv it is 0: '
-     'one of the tables is of another run.'),
-    ('agents_of_a_longer_run', {'agent.csv': AGENTS.replace('0,20,arrived', '0,70,arrived')},
-     'agent.csv has a step 70, but link_performance.csv ends at step 60'),
-    ('times_of_another_network', {'link_performance.csv': TIMES.replace('30,', '31,')},
-     'link_performance.csv, line 4: link 31 isn\'t in link.csv. The table seems to be one of another run.'),
-    ('times_cut_off', {'link_performance.csv': TIMES[:-len('30,50,60,0,10,10\n')]},
-     'link_performance.csv, line 4: the table ends after 3 rows, but the links of link.csv need 4'),
+    (
+        'a_missing_column',
+        {'link.csv': LINKS.replace('length', 'miles')},
+        'link.csv, line 1: the column length is missing.',
+    ),
+    (
+        'an_unknown_node',
+        {'link.csv': LINKS.replace('30,2,3', '30,2,99')},
+        'link.csv, line 3: to_node_id 99 isn\'t in node.csv.',
+    ),
+    (
+        'agents_of_another_network',
+        {'agent.csv': AGENTS.replace('20;30', '20;77')},
+        'agent.csv, line 2: link 77 isn\'t in link.csv. The table seems to be one of another run.',
+    ),
+    (
+        'agents_of_another_run',
+        {'agent.csv': AGENTS.replace('20;30,0;10', '30,0')},
+        'link_performance.csv, line 2: 1 vehicles entered link 20, but in agent.csv it is 0: '
+        'one of the tables is of another run.',
+    ),
+    (
+        'agents_of_a_longer_run',
+        {'agent.csv': AGENTS.replace('0,20,arrived', '0,70,arrived')},
+        'agent.csv has a step 70, but link_performance.csv ends at step 60',
+    ),
+    (
+        'times_of_another_network',
+        {'link_performance.csv': TIMES.replace('30,', '31,')},
+        'link_performance.csv, line 4: link 31 isn\'t in link.csv. '
+        'The table seems to be one of another run.',
+    ),
+    (
+        'times_cut_off',
+        {'link_performance.csv': TIMES[: -len('30,50,60,0,10,10\n')]},
+        'link_performance.csv, line 4: the table ends after 3 rows, '
+        'but the links of link.csv need 4',
+    ),
     ('an_empty_table', {'link.csv': ''}, 'link.csv, line 1: the file is empty.'),
-    ('a_short_record', {'node.csv': 'node_id,zone_id\n1,1\n2\n'},
-     'node.csv, line 3: there are 1 fields, but the header has 2.'),
-    ('a_word_for_a_number', {'link.csv': LINKS.replace('30,2,3,1000', '30,2,3,long')},
-     'link.csv, line 3: length "long" isn\'t a number of 0 or more.'),
-    ('a_wrong_status', {'agent.csv': AGENTS.replace('arrived,', 'flying,')},
-     'agent.csv, line 2: status "flying" is none of arrived, running, waiting, unrouted.'),
+    (
+        'a_short_record',
+        {'node.csv': 'node_id,zone_id\n1,1\n2\n'},
+        'node.csv, line 3: there are 1 fields, but the header has 2.',
+    ),
+    (
+        'a_word_for_a_number',
+        {'link.csv': LINKS.replace('30,2,3,1000', '30,2,3,long')},
+        'link.csv, line 3: length "long" isn\'t a number of 0 or more.',
+    ),
+    (
+        'a_wrong_status',
+        {'agent.csv': AGENTS.replace('arrived,', 'flying,')},
+        'agent.csv, line 2: status "flying" is none of arrived, running, waiting, unrouted.',
+    ),
     ('no_links', {'link.csv': None}, 'but no link.csv. Choose the folder of a run'),
-    ('a_foreign_table', {'weather.csv': 'day,rain\n1,2\n'},
-     'weather.csv, line 1: these are the columns of none of the tables that this page reads'),
+    (
+        'a_foreign_table',
+        {'weather.csv': 'day,rain\n1,2\n'},
+        'weather.csv, line 1: these are the columns of none of the tables that this page reads',
+    ),
     ('no_coordinates', {}, 'node.csv has no coordinates'),
-    ('no_node_table', {'node.csv': None}, 'There is no node.csv: the nodes are those that link.csv names.'),
-    ('a_network_alone', {'agent.csv': None, 'link_performance.csv': None},
-     'There are no link times of a loading and no vehicles'),
-    ('no_tables_at_all', {'node.csv': None, 'link.csv': None, 'agent.csv': None, 'link_performance.csv': None},
-     'The folder no_tables_at_all has no tables'),
+    (
+        'no_node_table',
+        {'node.csv': None},
+        'There is no node.csv: the nodes are those that link.csv names.',
+    ),
+    (
+        'a_network_alone',
+        {'agent.csv': None, 'link_performance.csv': None},
+        'There are no link times of a loading and no vehicles',
+    ),
+    (
+        'no_tables_at_all',
+        {'node.csv': None, 'link.csv': None, 'agent.csv': None, 'link_performance.csv': None},
+        'The folder no_tables_at_all has no tables',
+    ),
 ]
 
 
@@ -50,7 +104,13 @@ def make(folder, name, changes):
     path = os.path.join(folder, name)
     shutil.rmtree(path, ignore_errors=True)
     os.makedirs(path)
-    files = {'node.csv': NODES, 'link.csv': LINKS, 'link_performance.csv': TIMES, 'agent.csv': AGENTS, **changes}
+    files = {
+        'node.csv': NODES,
+        'link.csv': LINKS,
+        'link_performance.csv': TIMES,
+        'agent.csv': AGENTS,
+        **changes,
+    }
     for file, text in files.items():
         if text is not None:
             with open(os.path.join(path, file), 'w', encoding='utf-8') as out:

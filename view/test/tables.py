@@ -1,4 +1,4 @@
-"""What the tables of a run tell, read by Python's own csv reader: the numbers that the page must show."""
+"""What the tables of a run tell, read by Python's own csv reader: what the page must show."""
 import csv
 import os
 
@@ -26,7 +26,9 @@ class Told:
         self.free, self.lost, self.worst, self.by_bucket, self.horizon = {}, {}, {}, {}, 0
         for row in rows(self.folder, 'link_performance.csv'):
             link, start = row['link_id'], int(row['from_step'])
-            entered, travel, free = (int(row[name]) for name in ('entered', 'travel_steps', 'free_steps'))
+            entered, travel, free = (
+                int(row[name]) for name in ('entered', 'travel_steps', 'free_steps')
+            )
             self.free[link] = free
             self.lost[link] = self.lost.get(link, 0) + entered * (travel - free)
             self.by_bucket[start] = self.by_bucket.get(start, 0) + entered * (travel - free)
@@ -36,7 +38,10 @@ class Told:
 
     def read_agents(self):
         self.statuses = {'arrived': 0, 'running': 0, 'waiting': 0, 'unrouted': 0}
-        self.on_links = self.waited = self.lost_by_visits = self.metres = self.vehicles = self.longest = 0
+        self.waits = {}
+        self.on_links = (
+            self.waited
+        ) = self.lost_by_visits = self.metres = self.vehicles = self.longest = 0
         for row in rows(self.folder, 'agent.csv'):
             self.vehicles += 1
             self.statuses[row['status']] += 1
@@ -46,7 +51,10 @@ class Told:
     def add(self, row):
         departure, entries = int(row['departure_step']), steps(row['entry_steps'])
         arrival = int(row['arrival_step']) if row['arrival_step'] != '' else self.horizon
-        self.waited += (entries[0] if entries else self.horizon) - departure
+        waited = (entries[0] if entries else self.horizon) - departure
+        self.waited += waited
+        first = row['link_ids'].split(';')[0]
+        self.waits[first] = self.waits.get(first, 0) + waited
         self.longest = max(self.longest, arrival - departure)
         ends = entries[1:] + [arrival]
         for link, entry, end in zip(row['link_ids'].split(';'), entries, ends):
@@ -68,6 +76,8 @@ class Told:
         for row in rows(self.folder, 'agent.csv'):
             entries = steps(row['entry_steps'])
             arrival = int(row['arrival_step']) if row['arrival_step'] != '' else self.horizon
-            for name, entry, end in zip(row['link_ids'].split(';'), entries, entries[1:] + [arrival]):
+            for name, entry, end in zip(
+                row['link_ids'].split(';'), entries, entries[1:] + [arrival]
+            ):
                 count += name == link and entry <= step < end
         return count

@@ -1,12 +1,16 @@
 #!/usr/bin/python3
-"""test_view.py [--program PATH] [--pictures FOLDER] [--without-big]: tries the page view/index.html in a browser.
+"""test_view.py [--program PATH] [--pictures FOLDER] [--only TEST] [--without-large]
 
-It runs the examples by the program (the script `dta` of this repository, or PATH), makes the tables of a large run,
-drops the folders on the page in a headless Chromium, and compares what the page shows with the tables. It writes the
-pictures of docs/pictures to FOLDER. It ends with 1 at the first number that differs and at any error of the page.
+Tries the page view/index.html in a browser. It runs the examples by the program (this
+repository's script `dta`, or PATH), makes the tables of a large run, drops the folders on the page
+in a headless Chromium, and compares what the page shows with the tables. The pictures of
+docs/pictures go to FOLDER. It ends with 1 where a number differs, a fault isn't told, or the page
+has an error.
 
-It needs Debian's packages chromium, chromium-driver and python3-selenium, for Debian's own python3:
+It needs Debian's packages, and Debian's own python3, which has selenium by them:
+
     apt-get update && apt-get install -y chromium chromium-driver python3-selenium
+    view/test/test_view.py
 """
 import argparse
 import os
@@ -22,64 +26,8 @@ import big_run
 import faults
 import run_examples
 from browser import Page
+from checks import check, check_rankings, check_totals, check_worst, equal, number
 from tables import Told
-
-STEP_SECONDS = 6
-
-
-def check(is_true, words):
-    if not is_true:
-        raise AssertionError(words)
-
-
-def equal(shown, told, words):
-    check(shown == told, f'{words}: the page shows {shown}, the tables tell {told}')
-
-
-def number(text):
-    return float(text.replace(',', ''))
-
-
-def near(shown, told, words):
-    """The page rounds to a tenth."""
-    check(abs(number(shown) - told) <= 0.0501, f'{words}: the page shows {shown}, the tables tell {told}')
-
-
-def check_totals(page, told, column=1):
-    shown = {row[0]: row[column] for row in page.rows('#totals')}
-    hours = STEP_SECONDS / 3600
-    for name, value in (('Links', len(told.links)), ('Nodes', told.nodes), ('Vehicles', told.vehicles),
-                        ('arrived', told.statuses['arrived']), ('running at the end', told.statuses['running']),
-                        ('waiting at the end', told.statuses['waiting']),
-                        ('without a route', told.statuses['unrouted'])):
-        equal(int(number(shown[name])), value, name)
-    near(shown['Vehicle-hours on links'], told.on_links * hours, 'vehicle-hours')
-    near(shown['Vehicle-hours waiting at origins'], told.waited * hours, 'vehicle-hours of waiting')
-    near(shown['Vehicle-hours lost on links'], told.lost_by_visits * hours, 'vehicle-hours lost')
-    near(shown['Vehicle-kilometres, of links that were left'], told.metres / 1000, 'vehicle-kilometres')
-
-
-def check_rankings(page, told):
-    worst = told.most_delayed()
-    first = page.rows('[data-table=links]')[0]
-    equal(first[0], worst, 'the most delayed link')
-    near(first[2], told.lost[worst] * STEP_SECONDS / 3600, 'what it loses')
-    near(first[3], told.worst[worst][0] / told.free[worst], 'its greatest delay')
-    near(page.rows('[data-table=trips]')[0][3], told.longest * STEP_SECONDS / 60, 'the longest trip')
-
-
-def check_worst(page, told):
-    """The buttons lead to the worst bucket and to the worst link, and the link's panel tells its vehicles."""
-    page.click('#worst-time')
-    equal(page.step(), told.worst_time(), 'the worst time')
-    page.click('#worst-link')
-    worst = told.most_delayed()
-    equal(page.text('#link h2'), f'Link {worst}', 'the picked link')
-    equal(page.step(), told.worst[worst][1], 'its worst time')
-    on_it = page.text('#link dl').split('on it')[1].split()[0]
-    equal(int(number(on_it)), told.on_link(worst, page.step()), 'the vehicles on it')
-    page.keys(Keys.ESCAPE)
-    check(not page.find('#link').is_displayed(), 'Escape closes the link')
 
 
 class Test:
@@ -101,7 +49,9 @@ class Test:
         self.page.wait_for_runs([name])
 
     def the_page_begins_with_a_word(self):
-        check('Drop the folder of a run here' in self.page.text('#welcome'), 'there is no welcome')
+        check(
+            'Drop the folder of a run here' in self.page.text('#welcome'), 'there is no welcome'
+        )
 
     def a_run_is_shown(self):
         page, told = self.page, Told(self.path('sioux_falls'))
@@ -110,7 +60,11 @@ class Test:
         check_totals(page, told)
         report = self.runs['sioux_falls'][1]
         shown = {row[0]: row[1] for row in page.rows('#totals')}
-        equal(int(number(shown['Gap of the last iteration, in millionths'])), int(report['gap_ppm']), 'the gap')
+        equal(
+            int(number(shown['Gap of the last iteration, in millionths'])),
+            int(report['gap_ppm']),
+            'the gap',
+        )
         equal(int(number(shown['arrived'])), int(report['arrived']), 'who arrived')
         check_rankings(page, told)
         check_worst(page, told)
@@ -142,11 +96,18 @@ class Test:
     def keys_lead_through_a_run(self):
         page = self.page
         self.open_run('sioux_falls')
-        for keys, step in ((Keys.ARROW_RIGHT, 50), (Keys.ARROW_RIGHT, 100), (Keys.ARROW_LEFT, 50),
-                           (Keys.END, 1199), (Keys.HOME, 0)):
+        for keys, step in (
+            (Keys.ARROW_RIGHT, 50),
+            (Keys.ARROW_RIGHT, 100),
+            (Keys.ARROW_LEFT, 50),
+            (Keys.END, 1199),
+            (Keys.HOME, 0),
+        ):
             page.keys(keys)
             equal(page.step(), step, f'the step after {keys!r}')
-        ActionChains(page.driver).key_down(Keys.SHIFT).send_keys(Keys.ARROW_RIGHT).key_up(Keys.SHIFT).perform()
+        ActionChains(page.driver).key_down(Keys.SHIFT).send_keys(Keys.ARROW_RIGHT).key_up(
+            Keys.SHIFT
+        ).perform()
         equal(page.step(), 1, 'the step after shift and right')
         page.keys(' ')
         time.sleep(1)
@@ -156,6 +117,15 @@ class Test:
         equal(page.find('#measure').get_attribute('value'), 'on', 'what key 3 chooses')
         page.keys('w')
         check(page.find('#link').is_displayed(), 'w picks the worst link')
+        page.keys(Keys.HOME)
+        page.run('document.querySelector(".map canvas").focus()')
+        before = page.run('return Page.placeOf("52")')
+        page.keys(Keys.ARROW_LEFT)
+        equal(page.step(), 0, 'the step after an arrow on the map')
+        check(
+            page.run('return Page.placeOf("52")')[0] > before[0] + 50,
+            'an arrow moves the map in focus',
+        )
         self.every_control_is_reached()
 
     def every_control_is_reached(self):
@@ -165,9 +135,24 @@ class Test:
         reached = set()
         for _ in range(60):
             page.keys_fast(Keys.TAB)
-            reached.add(page.run('const one = document.activeElement; return one.id || one.className'))
-        for name in ('play', 'slider', 'measure', 'worst-time', 'worst-link', 'find', 'nearer', 'speed', 'vehicles',
-                     'folder', 'files', 'close', 'pick'):
+            reached.add(
+                page.run('const one = document.activeElement; return one.id || one.className')
+            )
+        for name in (
+            'play',
+            'slider',
+            'measure',
+            'worst-time',
+            'worst-link',
+            'find',
+            'nearer',
+            'speed',
+            'vehicles',
+            'folder',
+            'files',
+            'close',
+            'pick',
+        ):
             check(name in reached, f'the tabulator doesn\'t reach {name}')
 
     def the_map_answers_the_mouse(self):
@@ -177,7 +162,8 @@ class Test:
         canvas = page.find('.map canvas')
         x, y = page.run('return Page.placeOf("30")')
         move = ActionChains(page.driver).move_to_element_with_offset(
-            canvas, x - canvas.size['width'] // 2, y - canvas.size['height'] // 2)
+            canvas, x - canvas.size['width'] // 2, y - canvas.size['height'] // 2
+        )
         move.perform()
         page.wait(lambda: 'Link 30' in page.text('#hint'), 'the hint of link 30')
         ActionChains(page.driver).click().perform()
@@ -187,11 +173,19 @@ class Test:
         page, folder = self.page, self.path('two_routes')
         page.open()
         page.find('.slot[data-slot="0"] .files').send_keys(
-            '\n'.join(os.path.join(folder, name) for name in ('node.csv', 'link.csv')))
+            '\n'.join(os.path.join(folder, name) for name in ('node.csv', 'link.csv'))
+        )
         page.wait_for_runs(['chosen files'])
         check('the network alone' in page.text('#messages'), 'what is missing is told')
-        page.drop([os.path.join(folder, name) for name in ('agent.csv', 'link_performance.csv', 'gap.csv')])
-        page.wait(lambda: 'Vehicle-hours lost on links' in page.text('#totals'), 'the added files')
+        page.drop(
+            [
+                os.path.join(folder, name)
+                for name in ('agent.csv', 'link_performance.csv', 'gap.csv')
+            ]
+        )
+        page.wait(
+            lambda: 'Vehicle-hours lost on links' in page.text('#totals'), 'the added files'
+        )
         check_totals(page, Told(folder))
 
     def a_small_window_holds_all(self):
@@ -211,7 +205,10 @@ class Test:
         page.click('.map figcaption button')
         for name in ('links_sioux_falls.csv', 'map_sioux_falls.png'):
             path = os.path.join(self.folder, name)
-            page.wait(lambda path=path: os.path.exists(path) and os.path.getsize(path) > 0, f'the file {name}')
+            page.wait(
+                lambda path=path: os.path.exists(path) and os.path.getsize(path) > 0,
+                f'the file {name}',
+            )
         with open(os.path.join(self.folder, 'links_sioux_falls.csv'), encoding='utf-8') as table:
             lines = table.read().splitlines()
         equal(len(lines), 11, 'the lines of the saved table')
@@ -222,15 +219,29 @@ class Test:
         for name, changes, words in faults.CASES:
             page.open()
             page.drop([faults.make(self.folder, name, changes)])
-            page.wait(lambda words=words: words in page.text('#messages'), f'{name}: "{words}"', 10)
-            check(page.find('#welcome').is_displayed() or page.find('#shown').is_displayed(), f'{name}: a blank page')
+            page.wait(
+                lambda words=words: words in page.text('#messages'), f'{name}: "{words}"', 10
+            )
+            check(
+                page.find('#welcome').is_displayed() or page.find('#shown').is_displayed(),
+                f'{name}: a blank page',
+            )
 
     def skims_and_counts_are_shown(self):
         page = self.page
         page.open()
-        page.drop([faults.make(self.folder, 'skims_and_counts', {
-            'skim.csv': 'o_zone_id,d_zone_id,start_step,least_steps\n1,3,0,20\n3,1,0,\n',
-            'counts.csv': 'kind,first,second,from_step,to_step,vehicles\nturn,20,30,0,50,7\nthrough,1,3,0,60,7\n'})])
+        page.drop(
+            [
+                faults.make(
+                    self.folder,
+                    'skims_and_counts',
+                    {
+                        'skim.csv': faults.SKIM,
+                        'counts.csv': faults.COUNTS,
+                    },
+                )
+            ]
+        )
         page.wait_for_runs(['skims_and_counts'])
         equal(page.rows('[data-table=skim]'), [['1 → 3', '0', '20', '2']], 'the skim')
         equal(page.rows('[data-table=turn]'), [['20', '30', '0 to 50', '7']], 'the turns')
@@ -247,8 +258,11 @@ class Test:
         opened = time.time() - begin
         speeds = {measure: self.speed_of(measure) for measure in ('delay', 'on', 'storage')}
         size = os.path.getsize(os.path.join(folder, 'agent.csv')) / 1e6
-        print(f'    an agent table of {size:.0f} MB: open after {opened:.1f} s; pictures a second: '
-              + ', '.join(f'{speed:.0f} by {measure}' for measure, speed in speeds.items()), flush=True)
+        print(
+            f'    an agent table of {size:.0f} MB: open after {opened:.1f} s; pictures a second: '
+            + ', '.join(f'{speed:.0f} by {measure}' for measure, speed in speeds.items()),
+            flush=True,
+        )
         check(opened < 15, 'it takes more than 15 s to open')
         check(min(speeds.values()) >= 15, 'it plays fewer than 15 pictures a second')
         told = Told(folder)
@@ -269,18 +283,30 @@ class Test:
         return speed
 
 
-TESTS = ['the_page_begins_with_a_word', 'a_run_is_shown', 'pictures_are_taken', 'two_runs_are_compared',
-         'keys_lead_through_a_run', 'the_map_answers_the_mouse', 'files_are_chosen_one_by_one',
-         'a_small_window_holds_all', 'tables_are_saved', 'faults_are_told', 'skims_and_counts_are_shown',
-         'a_large_run_is_fast']
+TESTS = [
+    'the_page_begins_with_a_word',
+    'a_run_is_shown',
+    'pictures_are_taken',
+    'two_runs_are_compared',
+    'keys_lead_through_a_run',
+    'the_map_answers_the_mouse',
+    'files_are_chosen_one_by_one',
+    'a_small_window_holds_all',
+    'tables_are_saved',
+    'faults_are_told',
+    'skims_and_counts_are_shown',
+    'a_large_run_is_fast',
+]
 
 
 def main():
-    words = argparse.ArgumentParser(description=__doc__, formatter_class=argparse.RawDescriptionHelpFormatter)
+    words = argparse.ArgumentParser(
+        description=__doc__, formatter_class=argparse.RawDescriptionHelpFormatter
+    )
     words.add_argument('--program', default=os.path.join(run_examples.TOP, 'dta'))
     words.add_argument('--pictures')
     words.add_argument('--only')
-    words.add_argument('--without-big', action='store_true')
+    words.add_argument('--without-large', action='store_true')
     chosen = words.parse_args()
     folder = tempfile.mkdtemp(prefix='view_test_')
     pictures = chosen.pictures or folder
@@ -289,7 +315,11 @@ def main():
     page = Page(folder)
     failed = 0
     for name in TESTS:
-        if chosen.only not in (None, name) or chosen.without_big and name == 'a_large_run_is_fast':
+        if (
+            chosen.only not in (None, name)
+            or chosen.without_large
+            and name == 'a_large_run_is_fast'
+        ):
             continue
         begin = time.time()
         try:
