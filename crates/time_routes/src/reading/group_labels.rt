@@ -67,7 +67,8 @@ impl<'a> GroupLabels<'a> {
         requires few { length zones.now ≤ MOST_GROUP }
         requires table { length times.now.free ≡ length net.now.links }
         requires zones { All (λ z. z.0 < length (zones_of net.now.nodes)) zones.now }
-        ensures { IfOk result (λ labels. labels ≡ record { net = net.now; times = times.now; zones = zone_numbers zones.now }) }
+        ensures { IfOk result (λ labels. labels ≡ record
+            { net = net.now; times = times.now; zones = zone_numbers zones.now }) }
     {
         let router = router_of(alloc, net)?;
         let firsts = links_by_zone(alloc, net)?;
@@ -89,7 +90,8 @@ impl<'a> GroupLabels<'a> {
         requires place { place < length self.now.zones }
         requires origin { origin.0 < length (zones_of self.now.net.nodes) }
         requires other { origin.0 ≢ slice_index self.now.zones place }
-        ensures { TellsLeast (time_at self.now.times) self.now.net (zone_named self.now.net origin.0) (destination self.now place) step result }
+        ensures { TellsLeast (time_at self.now.times) self.now.net
+            (zone_named self.now.net origin.0) (destination self.now place) step result }
     {
         let firsts = self.firsts.get(origin.0);
         least_label(
@@ -114,7 +116,8 @@ impl<'a> GroupLabels<'a> {
         requires place { place < length self.now.zones }
         requires origin { origin.0 < length (zones_of self.now.net.nodes) }
         requires other { origin.0 ≢ slice_index self.now.zones place }
-        ensures { IfOk result (λ route. TellsWalk (time_at self.now.times) self.now.net (zone_named self.now.net origin.0) (destination self.now place) step route) }
+        ensures { IfOk result (λ route. TellsWalk (time_at self.now.times) self.now.net
+            (zone_named self.now.net origin.0) (destination self.now place) step route) }
     {
         let firsts = self.firsts.get(origin.0);
         walk_of(

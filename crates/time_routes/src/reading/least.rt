@@ -56,7 +56,8 @@ pub(crate) fn least_label(
     requires fit { Fit labels.now place router.now times.now }
     requires firsts { All (λ l. l < length times.now.free) firsts.now }
     requires step { step < 2 ^ 63 }
-    ensures { LeastSoFar (λ l. label_in (time_at times.now) (rests labels.now place) router.now l step) firsts.now (length firsts.now) result }
+    ensures { LeastSoFar (λ l. label_in (time_at times.now) (rests labels.now place) router.now l
+        step) firsts.now (length firsts.now) result }
 {
     let mut least = None;
     for link in firsts {

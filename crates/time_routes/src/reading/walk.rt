@@ -1,5 +1,6 @@
 // Chosen walks by what is left.
-ghost use Rattle.std.specs.Prelude.{◌≡◌, ◌≢◌, ℕ, ◌+◌, ◌<◌, ◌≤◌, ◌^◌, List, length, All, Option, None, Some, IfOk, MatchOption, slice_get, true, false, Bool};
+ghost use Rattle.std.specs.Prelude.{◌≡◌, ◌≢◌, ℕ, ◌+◌, ◌<◌, ◌≤◌, ◌^◌, List, length, All, Option};
+ghost use Rattle.std.specs.Prelude.{None, Some, IfOk, MatchOption, slice_get, true, false, Bool};
 ghost use Rattle.net_core.specs.declared.rows.NetRows.{NetRows};
 ghost use Rattle.dta_model.specs.LinkTimes.{time_at};
 ghost use Rattle.dta_model.specs.Plans.{link_numbers};
@@ -9,7 +10,9 @@ ghost use Rattle.time_routes.specs.Reading.Paths.{path_time, IsChosenPath};
 ghost use Rattle.time_routes.specs.Reading.FirstLinks.{AreFirsts};
 ghost use Rattle.time_routes.specs.Filling.Rests.{over, least_over, IsPick};
 ghost use Rattle.time_routes.specs.States.Routers.{ways_to};
-ghost use Rattle.time_routes.specs.Reading.Serves.{Fit, Serves, state_of, label_in, FirstOver, FirstWith, IsFollowed};
+ghost use Rattle.time_routes.specs.Reading.Serves.{Fit, Serves, label_in, FirstOver, FirstWith};
+ghost use Rattle.time_routes.specs.Reading.Serves.{IsFollowed};
+ghost use Rattle.time_routes.specs.States.RouterWays.{state_of};
 ghost use Rattle.time_routes.specs.Filling.Tables.{places, rests, states_in};
 
 use crate::filling::label_table::LabelTable;
@@ -50,7 +53,8 @@ fn pick(
     requires sound { IsTimeTable times.now }
     requires link { All (λ w. w.link < length times.now.free) ways.now }
     requires step { step < 2 ^ 63 }
-    ensures { FirstOver (over (time_at times.now) far (rests labels.now place) step) ways.now left result }
+    ensures { FirstOver (over (time_at times.now) far (rests labels.now place) step) ways.now left
+        result }
 {
     for way in ways {
         if over_at(labels, place, times, way, step) == left {
@@ -74,7 +78,8 @@ fn next_way(
     requires sound { IsTimeTable times.now }
     requires link { All (λ w. w.link < length times.now.free) ways.now }
     requires step { step < 2 ^ 63 }
-    requires left { (left < far) × (left ≡ least_over (time_at times.now) far (rests labels.now place) step ways.now) }
+    requires left { (left < far) × (left ≡ least_over (time_at times.now) far
+        (rests labels.now place) step ways.now) }
     ensures { IsPick (time_at times.now) far (rests labels.now place) ways.now step left result }
 {
     match pick(labels, place, times, ways, step, left) {
@@ -100,8 +105,11 @@ fn follow(
     requires serves { Serves net.now zone (time_at times.now) (rests labels.now place) router.now }
     requires first { first < length times.now.free }
     requires step { step < 2 ^ 40 }
-    requires near { rests labels.now place (state_of router.now first) (step + time_at times.now first step) < far }
-    ensures { IfOk result (λ v. IsFollowed (ways_to (time_at times.now) net.now zone) (label_in (time_at times.now) (rests labels.now place) router.now) first step (link_numbers v.items)) }
+    requires near { rests labels.now place (state_of router.now first)
+        (step + time_at times.now first step) < far }
+    ensures { IfOk result (λ v. IsFollowed (ways_to (time_at times.now) net.now zone)
+        (label_in (time_at times.now) (rests labels.now place) router.now) first step
+        (link_numbers v.items)) }
 {
     let mut route = Vec::new(alloc);
     route.push(LinkNo(first))?;
@@ -139,7 +147,8 @@ fn first_with(
     requires fit { Fit labels.now place router.now times.now }
     requires firsts { All (λ l. l < length times.now.free) firsts.now }
     requires step { step < 2 ^ 40 }
-    ensures { FirstWith (λ l. label_in (time_at times.now) (rests labels.now place) router.now l step) firsts.now least result }
+    ensures { FirstWith (λ l. label_in (time_at times.now) (rests labels.now place) router.now l
+        step) firsts.now least result }
 {
     for link in firsts {
         if has_time(label_at(labels, place, router, times, *link, step), least) {
@@ -176,9 +185,14 @@ pub(crate) fn walk_of(
     requires fit { Fit labels.now place router.now times.now }
     requires serves { Serves net.now zone (time_at times.now) (rests labels.now place) router.now }
     requires firsts { All (λ l. l < length times.now.free) firsts.now }
-    requires rising { (i k a b : ℕ) → i < k → slice_get firsts.now i ≡ Some a → slice_get firsts.now k ≡ Some b → a < b }
+    requires rising { (i k a b : ℕ) → i < k → slice_get firsts.now i ≡ Some a
+        → slice_get firsts.now k ≡ Some b → a < b }
     requires step { step < 2 ^ 40 }
-    ensures { (begins : ℕ → Bool) → AreFirsts begins firsts.now → IfOk result (λ o. MatchOption o ((w : List ℕ) → path_time (ways_to (time_at times.now) net.now zone) begins step w ≡ None) (λ links. IsChosenPath (ways_to (time_at times.now) net.now zone) begins step (link_numbers links))) }
+    ensures { (begins : ℕ → Bool) → AreFirsts begins firsts.now
+        → IfOk result (λ o. MatchOption o ((w : List ℕ)
+        → path_time (ways_to (time_at times.now) net.now zone) begins step w ≡ None)
+        (λ links. IsChosenPath (ways_to (time_at times.now) net.now zone) begins step
+        (link_numbers links))) }
 {
     match least_label(labels, place, router, times, firsts, step) {
         None => Ok(None),

@@ -29,7 +29,8 @@ struct Leads {
 impl Leads {
     // No state yet, for so many nodes.
     fn new(alloc: Global, nodes: u32) -> Result<Self, Memory>
-        ensures { IfOk result (λ leads. (leads.links.items ≡ []) × (leads.at_node.items ≡ replicate nodes NO_STATE)) }
+        ensures { IfOk result (λ leads. (leads.links.items ≡ [])
+            × (leads.at_node.items ≡ replicate nodes NO_STATE)) }
     {
         let at_node = Vec::from_elem(alloc, NO_STATE, nodes as usize)?;
         Ok(Leads {

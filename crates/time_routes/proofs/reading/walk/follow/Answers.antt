@@ -2,7 +2,7 @@ use Rattle.std.proofs.Common.{◌≡◌, ◌+◌, ◌<◌, [], ◌∷◌, ◌++�
 use Rattle.dta_model.specs.LinkTimes.{time_at}
 use Rattle.dta_model.specs.Plans.{link_numbers}
 use Rattle.time_routes.specs.Filling.Labels.{far}
-use Rattle.time_routes.specs.Reading.Serves.{state_of, is_own}
+use Rattle.time_routes.specs.States.RouterWays.{state_of, is_own}
 use Rattle.time_routes.specs.Filling.Tables.{rests}
 use Rattle.time_routes.proofs.OfReading.Walks.{least_here, ends_here, step_of, append_nil, numbers_more, own_of, left_of}
 use Rattle.time_routes.proofs.reading.walk.follow.Goals as goal

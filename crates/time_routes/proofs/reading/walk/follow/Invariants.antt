@@ -4,7 +4,8 @@ use Rattle.dta_model.specs.Plans.{link_numbers}
 use Rattle.time_routes.specs.Filling.Labels.{far}
 use Rattle.time_routes.specs.Reading.Follows.{Follows}
 use Rattle.time_routes.specs.States.Routers.{ways_to}
-use Rattle.time_routes.specs.Reading.Serves.{state_of, label_in, IsFollowed}
+use Rattle.time_routes.specs.Reading.Serves.{label_in, IsFollowed}
+use Rattle.time_routes.specs.States.RouterWays.{state_of}
 use Rattle.time_routes.specs.Filling.Tables.{rests}
 use Rattle.time_routes.proofs.reading.walk.follow.Given as goal
 
