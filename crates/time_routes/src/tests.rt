@@ -18,8 +18,7 @@ fn link(id: u64, from: u32, to: u32) -> LinkRow
       id = id;
       from = record { 0 = from };
       to = record { 0 = to };
-      free =
-          10;
+      free = 10;
       storage = 125;
       rate = 600000000;
     } }

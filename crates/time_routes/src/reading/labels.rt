@@ -39,8 +39,11 @@ impl<'a> Labels<'a> {
     ) -> Result<Self, Memory>
         requires table { length times.now.free ≡ length net.now.links }
         requires zone { zone.0 < length (zones net.now.nodes) }
-        ensures { IfOk result (λ labels. labels ≡ record
-            { net = net.now; times = times.now; zone = zone.0 }) }
+        ensures { IfOk result (λ labels. labels ≡ record {
+          net = net.now;
+          times = times.now;
+          zone = zone.0;
+        }) }
     {
         let group = GroupLabels::to_zones(alloc, net, times, &[zone])?;
         Ok(Labels { group })

@@ -48,7 +48,8 @@ impl ByZone {
     #[tactic(auto, using(net_core::proofs::BucketsFacts::pushed))]
     fn push(&mut self, zone: u32, link: u32) -> Result<(), Memory>
         requires { zone < length self.old }
-        ensures { OnOk result (self.new ≡ set self.old zone (get_or self.old zone [] ++ link ∷ [])) }
+        ensures { OnOk result (self.new ≡ set self.old zone
+            (get_or self.old zone [] ++ link ∷ [])) }
     {
         self.lists[zone as usize].push(link)?;
         Ok(())

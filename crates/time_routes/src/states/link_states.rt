@@ -61,7 +61,8 @@ impl Leads {
         requires nodes { AreAtNodes net.now self.old.links.items self.old.at_node.items }
         ensures led { IfOk result (λ state. IsLed net.now self.new.links.items link.0 state) }
         ensures grown { OnOk result (Grows self.old.links.items link.0 self.new.links.items) }
-        ensures nodes { OnOk result (AreAtNodes net.now self.new.links.items self.new.at_node.items) }
+        ensures nodes { OnOk result (AreAtNodes net.now self.new.links.items
+            self.new.at_node.items) }
     {
         let node = end_of(net, link);
         if net.is_named(node) {
