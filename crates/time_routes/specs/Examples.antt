@@ -1,5 +1,6 @@
 -- Small worked cases of walks over a table, and the numbers that stand for nothing.
-use Rattle.std.specs.Prelude.{◌≡◌, ℕ, ◌-◌, ◌^◌, List, [], ◌∷◌, Option, None, Some, true, false, refl}
+use Rattle.std.specs.Prelude.{◌≡◌, ℕ, ◌-◌, ◌^◌, List, [], ◌∷◌, Option, None, Some, true, false}
+use Rattle.std.specs.Prelude.{refl}
 use Rattle.std.specs.Cmp.Lexicographic.{slice_cmp}
 use Rattle.std.specs.Ordering.{is_le, nat_cmp}
 use Rattle.net_core.specs.Network.{zones, turn, turn_at, is_named}
@@ -21,7 +22,14 @@ abbrev pub node : ℕ → Option ℕ → NodeRow
 node id zone = record { id = id; zone = zone }
 
 abbrev pub link : ℕ → ℕ → ℕ → LinkRow
-link id from to = record { id = id; from = record { 0 = from }; to = record { 0 = to }; free = 10; storage = 125; rate = 600000000 }
+link id from to = record {
+  id = id;
+  from = record { 0 = from };
+  to = record { 0 = to };
+  free = 10;
+  storage = 125;
+  rate = 600000000;
+}
 
 -- ---- a loop that pays: link 1 takes 300 steps in the first bucket of fifty, and link 2 leads back
 -- to its begin

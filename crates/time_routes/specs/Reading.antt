@@ -3,5 +3,6 @@ pub mod FirstLinks
 pub mod Follows
 pub mod GroupsTo
 pub mod LabelsTo
+pub mod OfZone
 pub mod Paths
 pub mod Serves

@@ -1,4 +1,5 @@
-// Tables of what is left to a few zones, from each state at each step, filled from the horizon down.
+// Tables of what is left to a few zones, from each state at each step, filled from the horizon
+// down.
 pub(crate) mod fill_table;
 pub(crate) mod free_flow;
 pub(crate) mod label_table;

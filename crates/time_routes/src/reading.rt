@@ -4,3 +4,4 @@ pub(crate) mod labels;
 pub(crate) mod least;
 pub(crate) mod tell;
 pub(crate) mod walk;
+pub(crate) mod zone_labels;

@@ -13,8 +13,11 @@ use Rattle.std.proofs.lemmas.Option.{get_or_from_slice_get, slice_get_cases}
 use Rattle.time_routes.specs.declared.states.onward.Onward.{Onward}
 use Rattle.time_routes.specs.Filling.Rests.{over, least_over}
 use Rattle.time_routes.proofs.OfFilling.LeastOver.{least_over_le, least_some}
-use Rattle.time_routes.specs.Filling.FreeFlow.{still, still_least, ways_of, value, AreAbove, AreShort, is_known, known}
+use Rattle.time_routes.specs.Filling.FreeFlow.{still, still_least, value, AreAbove, AreShort, is_known, known}
+use Rattle.time_routes.specs.States.Routers.{ways_of}
 use Rattle.time_routes.specs.Filling.Labels.{most_span, far}
+use Rattle.time_routes.specs.declared.states.router.Router.{Router}
+use Rattle.time_routes.specs.States.RouterWays.{is_own, onwards}
 
 pub All_range : {X : Type 0} (P : X → Type 0) (xs : List X) (a b : ℕ) → a ≤ b → b ≤ length xs → All P xs → All P (slice_range xs a b)
 All_range P xs a b h k all i d within =
@@ -27,8 +30,8 @@ unfolding least_over over
 least_lower a b free low [] = omega arith
 least_lower a b free low (w ∷ ws) = let here = low w.to in let rest = least_lower a b free low ws in omega arith
 
-value_lower : (free starts : List ℕ) (ways : List Onward) (zones : List ℕ) (zone : ℕ) (a b : List ℕ) → ((k : ℕ) → get_or a k 0 ≤ get_or b k 0) → (s : ℕ) → value free starts ways zones zone a s ≤ value free starts ways zones zone b s
-value_lower free starts ways zones zone a b low s = both (nat_eq (get_or zones s 0) zone) _ _ (least_lower a b free low (ways_of starts ways s))
+value_lower : (free : List ℕ) (r : Router) (zone : ℕ) (a b : List ℕ) → ((k : ℕ) → get_or a k 0 ≤ get_or b k 0) → (s : ℕ) → value free r zone a s ≤ value free r zone b s
+value_lower free r zone a b low s = both (is_own r zone s) _ _ (least_lower a b free low (onwards r s))
   where
     both : (c : Bool) (x y : ℕ) → x ≤ y → cond c 0 x ≤ cond c 0 y
     both true x y h = omega arith
@@ -41,19 +44,19 @@ set_lower (x ∷ tail) zero v g (suc k) = omega arith
 set_lower (x ∷ tail) (suc i) v g zero = omega arith
 set_lower (x ∷ tail) (suc i) v g (suc k) = set_lower tail i v g k
 
-pub AreAbove_set : (free starts : List ℕ) (ways : List Onward) (zones : List ℕ) (zone : ℕ) (tail : List ℕ) (i v : ℕ) → v ≡ value free starts ways zones zone tail i → i < length tail → v < get_or tail i 0 → AreAbove free starts ways zones zone tail → AreAbove free starts ways zones zone (slice_set tail i v)
-AreAbove_set free starts ways zones zone tail i v e h g above l within =
-    let lower = value_lower free starts ways zones zone (slice_set tail i v) tail (set_lower tail i v g) l in
+pub AreAbove_set : (free : List ℕ) (r : Router) (zone : ℕ) (tail : List ℕ) (i v : ℕ) → v ≡ value free r zone tail i → i < length tail → v < get_or tail i 0 → AreAbove free r zone tail → AreAbove free r zone (slice_set tail i v)
+AreAbove_set free r zone tail i v e h g above l within =
+    let lower = value_lower free r zone (slice_set tail i v) tail (set_lower tail i v g) l in
     at_place (eqb_tells l i) lower
   where
-    at_place : ((eqb l i ≡ true) × (l ≡ i)) ⊎ ((eqb l i ≡ false) × (l ≢ i)) → value free starts ways zones zone (slice_set tail i v) l ≤ value free starts ways zones zone tail l → value free starts ways zones zone (slice_set tail i v) l ≤ get_or (slice_set tail i v) l 0
+    at_place : ((eqb l i ≡ true) × (l ≡ i)) ⊎ ((eqb l i ≡ false) × (l ≢ i)) → value free r zone (slice_set tail i v) l ≤ value free r zone tail l → value free r zone (slice_set tail i v) l ≤ get_or (slice_set tail i v) l 0
     at_place (inl (t, same)) lower =
         let here : get_or (slice_set tail i v) l 0 ≡ v = get_or-set_at tail i l v 0 same h in
-        let own : value free starts ways zones zone tail l ≡ v = ap (λ k. value free starts ways zones zone tail k) same ∙ sym e in
+        let own : value free r zone tail l ≡ v = ap (λ k. value free r zone tail k) same ∙ sym e in
         omega arith
     at_place (inr (t, other)) lower =
         let here : get_or (slice_set tail i v) l 0 ≡ get_or tail l 0 = get_or-set_other tail i l v 0 other in
-        let was : value free starts ways zones zone tail l ≤ get_or tail l 0 = above l (grind (arith, common_steps)) in
+        let was : value free r zone tail l ≤ get_or tail l 0 = above l (grind (arith, common_steps)) in
         omega arith
 
 pub sum_set_less : (tail : List ℕ) (i v : ℕ) → i < length tail → v < get_or tail i 0 → sum (slice_set tail i v) + 1 ≤ sum tail
@@ -110,10 +113,10 @@ start_low n k d h = let e = get_or-replicate n k far d (let m = length-replicate
 pub start_short : (n : ℕ) → AreShort (replicate n far)
 start_short n k d h below = let e = get_or-replicate n k far d (let m = length-replicate n far in omega (arith, m, h)) in absurd (omega (arith, e, below))
 
-pub start_above : (free starts : List ℕ) (ways : List Onward) (zones : List ℕ) (zone n : ℕ) → AreAbove free starts ways zones zone (replicate n far)
-start_above free starts ways zones zone n s h =
+pub start_above : (free : List ℕ) (r : Router) (zone n : ℕ) → AreAbove free r zone (replicate n far)
+start_above free r zone n s h =
     let e = get_or-replicate n s far 0 (let m = length-replicate n far in omega (arith, m, h)) in
-    by (nat_eq (get_or zones s 0) zone) (still_least (replicate n far) free (ways_of starts ways s)) (least_over_le (still free) far (still (replicate n far)) 0 (ways_of starts ways s)) e
+    by (is_own r zone s) (still_least (replicate n far) free (onwards r s)) (least_over_le (still free) far (still (replicate n far)) 0 (onwards r s)) e
   where
     by : (b : Bool) (x : ℕ) → x ≤ far → get_or (replicate n far) s 0 ≡ far → cond b 0 x ≤ get_or (replicate n far) s 0
     by true x low e = omega (arith, e)

@@ -11,8 +11,10 @@ use Rattle.net_core.specs.declared.rows.TheConstants.{MOST_LINKS, MOST_PENALTY_S
 use Rattle.time_routes.specs.Filling.Labels.{most_left, most_span, far, rest_in}
 use Rattle.time_routes.specs.Filling.Rests.{span, over, least_over}
 use Rattle.time_routes.specs.Filling.WideRows.{AreRows}
-use Rattle.time_routes.specs.Reading.Serves.{AreLeft, is_own, onwards}
-use Rattle.time_routes.specs.Filling.FreeFlow.{still_least, ways_of, known, AreSettled, AreShort}
+use Rattle.time_routes.specs.Reading.Serves.{AreLeft}
+use Rattle.time_routes.specs.States.RouterWays.{is_own, onwards}
+use Rattle.time_routes.specs.Filling.FreeFlow.{still_least, known, AreSettled, AreShort}
+use Rattle.time_routes.specs.States.Routers.{ways_of}
 use Rattle.time_routes.specs.declared.states.onward.Onward.{Onward}
 use Rattle.time_routes.specs.declared.states.router.Router.{Router}
 use Rattle.time_routes.proofs.OfReading.Joined.{near}
@@ -43,26 +45,26 @@ cond_same : (b : Bool) (x n y m : ℕ) → n ≡ cond b 0 y → x ≡ n → m �
 cond_same true x n y m a h k = omega (arith, a, h)
 cond_same false x n y m a h k = omega (arith, a, h, k)
 
-module _ (t : TimeTable) (free old labels zones : List ℕ) (zone : ℕ) (tail starts : List ℕ) (ways : List Onward)
+module _ (t : TimeTable) (free old labels : List ℕ) (r : Router) (zone : ℕ) (tail : List ℕ)
     (frees : (l : ℕ) → get_or t.free l 0 ≡ get_or free l 0)
-    (narrow : (s : ℕ) → s < length zones → get_or labels s 0 ≡ get_or tail s 0)
-    (as_many : length tail ≡ length zones)
-    (inside : (s : ℕ) → s < length zones → All (λ w. w.to < length zones) (ways_of starts ways s))
-    (rows : AreRows (time_at t) (length zones) t.horizon old labels zones zone starts ways 0)
-    (settled : AreSettled free starts ways zones zone tail) where
-  pub late_rest : (s e : ℕ) → s < length zones → t.horizon ≤ e → rest_in (length zones) t.horizon labels s e ≡ get_or tail s 0
+    (narrow : (s : ℕ) → s < length r.zones.items → get_or labels s 0 ≡ get_or tail s 0)
+    (as_many : length tail ≡ length r.zones.items)
+    (inside : (s : ℕ) → s < length r.zones.items → All (λ w. w.to < length r.zones.items) (onwards r s))
+    (rows : AreRows (time_at t) (length r.zones.items) t.horizon old labels r zone 0)
+    (settled : AreSettled free r zone tail) where
+  pub late_rest : (s e : ℕ) → s < length r.zones.items → t.horizon ≤ e → rest_in (length r.zones.items) t.horizon labels s e ≡ get_or tail s 0
   unfolding rest_in
-  late_rest s e small late = let zero_back : t.horizon - e ≡ 0 = omega arith in let place : (t.horizon - e) * length zones + s ≡ s = rw zero_back (omega arith) in rw place (narrow s small)
+  late_rest s e small late = let zero_back : t.horizon - e ≡ 0 = omega arith in let place : (t.horizon - e) * length r.zones.items + s ≡ s = rw zero_back (omega arith) in rw place (narrow s small)
 
-  pub rests_of : (s e : ℕ) → s < length zones → cond (nat_eq (get_or zones s 0) zone) (rest_in (length zones) t.horizon labels s e ≡ 0) (rest_in (length zones) t.horizon labels s e ≡ least_over (time_at t) far (rest_in (length zones) t.horizon labels) e (ways_of starts ways s))
+  pub rests_of : (s e : ℕ) → s < length r.zones.items → cond (is_own r zone s) (rest_in (length r.zones.items) t.horizon labels s e ≡ 0) (rest_in (length r.zones.items) t.horizon labels s e ≡ least_over (time_at t) far (rest_in (length r.zones.items) t.horizon labels) e (onwards r s))
   unfolding rest_in
-  rests_of s e small = either (nat_eq (get_or zones s 0) zone) _ _ (by (cases_lt e t.horizon))
+  rests_of s e small = either (is_own r zone s) _ _ (by (cases_lt e t.horizon))
     where
-      by : (e < t.horizon) ⊎ (t.horizon ≤ e) → rest_in (length zones) t.horizon labels s e ≡ cond (nat_eq (get_or zones s 0) zone) 0 (least_over (time_at t) far (rest_in (length zones) t.horizon labels) e (ways_of starts ways s))
+      by : (e < t.horizon) ⊎ (t.horizon ≤ e) → rest_in (length r.zones.items) t.horizon labels s e ≡ cond (is_own r zone s) 0 (least_over (time_at t) far (rest_in (length r.zones.items) t.horizon labels) e (onwards r s))
       by (inl early) = rows.each s e small (omega arith) early
       by (inr late) =
-          cond_same (nat_eq (get_or zones s 0) zone) _ _ _ _ (settled s (omega (arith, as_many, small))) (late_rest s e small late)
-          (least_stands (time_at t) (rest_in (length zones) t.horizon labels) free tail t.horizon (length zones) e late (λ l f x. free_late t l f x ∙ frees l) (λ s f x. late_rest s f x) (ways_of starts ways s) (inside s small))
+          cond_same (is_own r zone s) _ _ _ _ (settled s (omega (arith, as_many, small))) (late_rest s e small late)
+          (least_stands (time_at t) (rest_in (length r.zones.items) t.horizon labels) free tail t.horizon (length r.zones.items) e late (λ l f x. free_late t l f x ∙ frees l) (λ s f x. late_rest s f x) (onwards r s) (inside s small))
 
 pub in_all : {X : Type 0} (P : X → Type 0) (xs : List X) (k : ℕ) (x : X) → slice_get xs k ≡ Some x → All P xs → P x
 in_all P xs k x h all = subst P (get_or_from_slice_get xs k x x h) (all k x (slice_get_within xs k x h))
@@ -79,9 +81,9 @@ frees_same xs ys many same l = by (cases_lt l (length xs))
 pub left_is : (t : TimeTable) (r : Router) (zone : ℕ) (free old new tail : List ℕ)
     → IsTimeTable t → length r.states.items ≡ length t.free → length r.zones.items ≤ MOST_LINKS
     → length free ≡ length t.free → ((l : ℕ) → l < length t.free → get_or free l 0 ≡ get_or t.free l 0)
-    → length tail ≡ length r.zones.items → AreSettled free r.starts.items r.ways.items r.zones.items zone tail → AreShort tail
+    → length tail ≡ length r.zones.items → AreSettled free r zone tail → AreShort tail
     → ((s : ℕ) → s < length tail → get_or old s 0 ≡ get_or tail s 0)
-    → AreRows (time_at t) (length r.zones.items) t.horizon old new r.zones.items zone r.starts.items r.ways.items 0
+    → AreRows (time_at t) (length r.zones.items) t.horizon old new r zone 0
     → AreLeft (time_at t) (rest_in (length r.zones.items) t.horizon new) r zone
 left_is t r zone free old new tail sound links few many same as_many settled short copied rows = record { left = left; near = near_all }
   where
@@ -95,7 +97,7 @@ left_is t r zone free old new tail sound links few many same as_many settled sho
     of_range P s h all = let o = r.inside.order s h in All_range P r.ways.items (get_or r.starts.items s 0) (get_or r.starts.items (s + 1) 0) (o.0) (o.1) all
 
     left : (s e : ℕ) → s < length r.zones.items → cond (is_own r zone s) (rest_in (length r.zones.items) t.horizon new s e ≡ 0) (rest_in (length r.zones.items) t.horizon new s e ≡ least_over (time_at t) far (rest_in (length r.zones.items) t.horizon new) e (onwards r s))
-    left = rests_of t free old new r.zones.items zone tail r.starts.items r.ways.items frees narrow as_many (λ s h. of_range (λ w. w.to < length r.zones.items) s h r.inside.to) rows settled
+    left = rests_of t free old new r zone tail frees narrow as_many (λ s h. of_range (λ w. w.to < length r.zones.items) s h r.inside.to) rows settled
 
     spans : (s k e : ℕ) (w : Onward) → s < length r.zones.items → slice_get (onwards r s) k ≡ Some w → (w.to < length r.zones.items) × (0 < span (time_at t) e w) × (span (time_at t) e w ≤ most_span)
     spans s k e w h g =
@@ -108,7 +110,7 @@ left_is t r zone free old new tail sound links few many same as_many settled sho
 
     late : (s e : ℕ) → s < length r.zones.items → t.horizon ≤ e → rest_in (length r.zones.items) t.horizon new s e < far → rest_in (length r.zones.items) t.horizon new s e ≤ known tail * most_span
     late s e h after below =
-        let is = late_rest t free old new r.zones.items zone tail r.starts.items r.ways.items frees narrow as_many (λ x y. of_range (λ w. w.to < length r.zones.items) x y r.inside.to) rows settled s e h after in
+        let is = late_rest t free old new r zone tail frees narrow as_many (λ x y. of_range (λ w. w.to < length r.zones.items) x y r.inside.to) rows settled s e h after in
         let low = short s 0 (omega (arith, h, as_many)) (omega (arith, is, below)) in
         omega (arith, is, low)
 

@@ -10,7 +10,8 @@ use Rattle.time_routes.specs.Filling.SlotRows.{slot, slot_rest, narrow_far, AreS
 use Rattle.time_routes.specs.Filling.SlotsLeft.{AreBegun, AreFilledOver, AreSlotsLeft}
 use Rattle.time_routes.specs.Filling.Narrow.{widened, AreWithin, FitNarrow, IsSlotTail}
 use Rattle.time_routes.specs.Filling.Rests.{span, over, least_over}
-use Rattle.time_routes.specs.Reading.Serves.{AreLeft, is_own, onwards}
+use Rattle.time_routes.specs.Reading.Serves.{AreLeft}
+use Rattle.time_routes.specs.States.RouterWays.{is_own, onwards}
 use Rattle.time_routes.specs.States.Spans.{AreShortAt}
 use Rattle.time_routes.specs.Filling.FreeFlow.{still_least}
 use Rattle.time_routes.specs.declared.filling.slot_fill.Four.{Four}
@@ -76,7 +77,7 @@ widen_least at rest e (w ∷ ws) fits = by (widen_least at rest e ws (λ k d h. 
 module _ (t : TimeTable) (r : Router) (zone most longest j : ℕ) (free old new tail : List ℕ) (wanted : Four)
     (sound : IsTimeTable t) (links : length r.states.items ≡ length t.free) (frees : (l : ℕ) → get_or t.free l 0 ≡ get_or free l 0)
     (begun : IsSlotTail free r zone most old j tail) (in_slot : j < 4) (wants : slot wanted j ≡ zone)
-    (rows : AreSlotRows (time_at t) (length r.zones.items * 4) t.horizon old new r.zones.items wanted r.starts.items r.ways.items 0)
+    (rows : AreSlotRows (time_at t) (length r.zones.items * 4) t.horizon old new r wanted 0)
     (within : AreWithin t r longest) (fits : FitNarrow t.horizon longest most) where
   abbrev rest : ℕ → ℕ → ℕ
   rest = slot_rest (length r.zones.items * 4) t.horizon new j

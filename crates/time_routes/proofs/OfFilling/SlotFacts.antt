@@ -8,10 +8,12 @@ use Rattle.time_routes.specs.declared.states.onward.Onward.{Onward}
 use Rattle.time_routes.specs.Filling.Rests.{span, over, least_over}
 use Rattle.time_routes.specs.declared.filling.slot_fill.Four.{Four}
 use Rattle.time_routes.specs.Filling.SlotRows.{narrow_far, slot_rest, slot_value, write_four, slot, IsSlotRowTo}
-use Rattle.time_routes.specs.Filling.FreeFlow.{ways_of}
+use Rattle.time_routes.specs.States.Routers.{ways_of}
+use Rattle.time_routes.specs.declared.states.router.Router.{Router}
+use Rattle.time_routes.specs.States.RouterWays.{is_own, onwards}
 
-pub IsSlotRowTo_none : (at : ℕ → ℕ → ℕ) (wide horizon : ℕ) (labels : List ℕ) (back step : ℕ) (zones : List ℕ) (wanted : Four) (starts : List ℕ) (ways : List Onward) → All (λ x. x ≤ narrow_far) labels → IsSlotRowTo at wide horizon labels labels back step zones wanted starts ways 0
-IsSlotRowTo_none at wide horizon labels back step zones wanted starts ways low = record { as_many = refl; before = λ k h. refl; each = λ s j h b. absurd (omega arith); low = low }
+pub IsSlotRowTo_none : (at : ℕ → ℕ → ℕ) (wide horizon : ℕ) (labels : List ℕ) (back step : ℕ) (r : Router) (wanted : Four) → All (λ x. x ≤ narrow_far) labels → IsSlotRowTo at wide horizon labels labels back step r wanted 0
+IsSlotRowTo_none at wide horizon labels back step r wanted low = record { as_many = refl; before = λ k h. refl; each = λ s j h b. absurd (omega arith); low = low }
 
 -- four writes from a place on
 pub four_length : (labels : List ℕ) (p : ℕ) (v : ℕ → ℕ) → length (write_four labels p v) ≡ length labels
@@ -46,43 +48,43 @@ module _ (at : ℕ → ℕ → ℕ) (wide horizon : ℕ) (old new : List ℕ) (b
       rw (here, rest) refl
 
 -- one more state
-pub IsSlotRowTo_more : (at : ℕ → ℕ → ℕ) (wide horizon : ℕ) (old now new : List ℕ) (back step : ℕ) (zones : List ℕ) (wanted : Four) (starts : List ℕ) (ways : List Onward) (count : ℕ)
+pub IsSlotRowTo_more : (at : ℕ → ℕ → ℕ) (wide horizon : ℕ) (old now new : List ℕ) (back step : ℕ) (r : Router) (wanted : Four) (count : ℕ)
     → back + step ≡ horizon → 0 < back → count * 4 + 3 < wide → back * wide + wide ≤ length old
-    → All (λ w. w.to * 4 + 3 < wide) (ways_of starts ways count) → All (λ w. (0 < span at step w) × (span at step w < narrow_far)) (ways_of starts ways count)
+    → All (λ w. w.to * 4 + 3 < wide) (onwards r count) → All (λ w. (0 < span at step w) × (span at step w < narrow_far)) (onwards r count)
     → All (λ x. x ≤ narrow_far) new
-    → new ≡ write_four now (back * wide + count * 4) (λ j. slot_value at wide horizon now j (nat_eq (get_or zones count 0) (slot wanted j)) (ways_of starts ways count) step)
-    → IsSlotRowTo at wide horizon old now back step zones wanted starts ways count → IsSlotRowTo at wide horizon old new back step zones wanted starts ways (count + 1)
-IsSlotRowTo_more at wide horizon old now new back step zones wanted starts ways count sum some inside rows to goes low written r = record {
-  as_many = ap (λ xs. length xs) written ∙ four_length now (back * wide + count * 4) v ∙ r.as_many;
-  before = λ k h. ap (λ xs. get_or xs k 0) written ∙ four_other now (back * wide + count * 4) v k (inl (omega arith)) ∙ r.before k h;
+    → new ≡ write_four now (back * wide + count * 4) (λ j. slot_value at wide horizon now j (is_own r (slot wanted j) count) (onwards r count) step)
+    → IsSlotRowTo at wide horizon old now back step r wanted count → IsSlotRowTo at wide horizon old new back step r wanted (count + 1)
+IsSlotRowTo_more at wide horizon old now new back step r wanted count sum some inside rows to goes low written row = record {
+  as_many = ap (λ xs. length xs) written ∙ four_length now (back * wide + count * 4) v ∙ row.as_many;
+  before = λ k h. ap (λ xs. get_or xs k 0) written ∙ four_other now (back * wide + count * 4) v k (inl (omega arith)) ∙ row.before k h;
   each = λ s j h b. at_state s j h b (cases_lt s count);
   low = low;
 }
   where
     v : ℕ → ℕ
-    v j = slot_value at wide horizon now j (nat_eq (get_or zones count 0) (slot wanted j)) (ways_of starts ways count) step
+    v j = slot_value at wide horizon now j (is_own r (slot wanted j) count) (onwards r count) step
 
-    at_state : (s j : ℕ) → s < count + 1 → j < 4 → (s < count) ⊎ (count ≤ s) → get_or new (back * wide + (s * 4 + j)) 0 ≡ slot_value at wide horizon old j (nat_eq (get_or zones s 0) (slot wanted j)) (ways_of starts ways s) step
-    at_state s j h b (inl less) = ap (λ xs. get_or xs (back * wide + (s * 4 + j)) 0) written ∙ four_other now (back * wide + count * 4) v (back * wide + (s * 4 + j)) (inl (omega arith)) ∙ r.each s j less b
+    at_state : (s j : ℕ) → s < count + 1 → j < 4 → (s < count) ⊎ (count ≤ s) → get_or new (back * wide + (s * 4 + j)) 0 ≡ slot_value at wide horizon old j (is_own r (slot wanted j) s) (onwards r s) step
+    at_state s j h b (inl less) = ap (λ xs. get_or xs (back * wide + (s * 4 + j)) 0) written ∙ four_other now (back * wide + count * 4) v (back * wide + (s * 4 + j)) (inl (omega arith)) ∙ row.each s j less b
     at_state s j h b (inr more) =
         let here : s ≡ count = omega arith in
         let place : back * wide + (s * 4 + j) ≡ back * wide + count * 4 + j = omega arith in
-        let stands : get_or new (back * wide + count * 4 + j) 0 ≡ v j = ap (λ xs. get_or xs (back * wide + count * 4 + j) 0) written ∙ four_at now (back * wide + count * 4) v j b (omega (arith, r.as_many)) in
-        let same : least_over at narrow_far (slot_rest wide horizon now j) step (ways_of starts ways count) ≡ least_over at narrow_far (slot_rest wide horizon old j) step (ways_of starts ways count) = least_same at wide horizon old now back step j sum some b r.before (ways_of starts ways count) to goes in
-        rw (place, here) (stands ∙ ap (λ x. cond (nat_eq (get_or zones count 0) (slot wanted j)) 0 x) same)
+        let stands : get_or new (back * wide + count * 4 + j) 0 ≡ v j = ap (λ xs. get_or xs (back * wide + count * 4 + j) 0) written ∙ four_at now (back * wide + count * 4) v j b (omega (arith, row.as_many)) in
+        let same : least_over at narrow_far (slot_rest wide horizon now j) step (onwards r count) ≡ least_over at narrow_far (slot_rest wide horizon old j) step (onwards r count) = least_same at wide horizon old now back step j sum some b row.before (onwards r count) to goes in
+        rw (place, here) (stands ∙ ap (λ x. cond (is_own r (slot wanted j) count) 0 x) same)
 
 -- one more state, by its zone and its ways on
-pub IsSlotRowTo_next : (at : ℕ → ℕ → ℕ) (wide horizon : ℕ) (old now new : List ℕ) (back step : ℕ) (zones : List ℕ) (wanted : Four) (starts : List ℕ) (ways : List Onward) (count zone : ℕ) (on : List Onward)
-    → zone ≡ get_or zones count 0 → on ≡ ways_of starts ways count
+pub IsSlotRowTo_next : (at : ℕ → ℕ → ℕ) (wide horizon : ℕ) (old now new : List ℕ) (back step : ℕ) (r : Router) (wanted : Four) (count zone : ℕ) (on : List Onward)
+    → zone ≡ get_or r.zones.items count 0 → on ≡ onwards r count
     → back + step ≡ horizon → 0 < back → count * 4 + 3 < wide → back * wide + wide ≤ length old
-    → All (λ w. w.to * 4 + 3 < wide) (ways_of starts ways count) → All (λ w. (0 < span at step w) × (span at step w < narrow_far)) (ways_of starts ways count)
+    → All (λ w. w.to * 4 + 3 < wide) (onwards r count) → All (λ w. (0 < span at step w) × (span at step w < narrow_far)) (onwards r count)
     → All (λ x. x ≤ narrow_far) new
     → new ≡ write_four now (back * wide + count * 4) (λ j. slot_value at wide horizon now j (nat_eq zone (slot wanted j)) on step)
-    → IsSlotRowTo at wide horizon old now back step zones wanted starts ways count → IsSlotRowTo at wide horizon old new back step zones wanted starts ways (count + 1)
-IsSlotRowTo_next at wide horizon old now new back step zones wanted starts ways count zone on zoned are sum some inside rows to goes low written r =
-    let with_zone : new ≡ write_four now (back * wide + count * 4) (λ j. slot_value at wide horizon now j (nat_eq (get_or zones count 0) (slot wanted j)) on step) = subst (λ z. new ≡ write_four now (back * wide + count * 4) (λ j. slot_value at wide horizon now j (nat_eq z (slot wanted j)) on step)) zoned written in
-    let with_ways : new ≡ write_four now (back * wide + count * 4) (λ j. slot_value at wide horizon now j (nat_eq (get_or zones count 0) (slot wanted j)) (ways_of starts ways count) step) = subst (λ ws. new ≡ write_four now (back * wide + count * 4) (λ j. slot_value at wide horizon now j (nat_eq (get_or zones count 0) (slot wanted j)) ws step)) are with_zone in
-    IsSlotRowTo_more at wide horizon old now new back step zones wanted starts ways count sum some inside rows to goes low with_ways r
+    → IsSlotRowTo at wide horizon old now back step r wanted count → IsSlotRowTo at wide horizon old new back step r wanted (count + 1)
+IsSlotRowTo_next at wide horizon old now new back step r wanted count zone on zoned are sum some inside rows to goes low written row =
+    let with_zone : new ≡ write_four now (back * wide + count * 4) (λ j. slot_value at wide horizon now j (is_own r (slot wanted j) count) on step) = subst (λ z. new ≡ write_four now (back * wide + count * 4) (λ j. slot_value at wide horizon now j (nat_eq z (slot wanted j)) on step)) zoned written in
+    let with_ways : new ≡ write_four now (back * wide + count * 4) (λ j. slot_value at wide horizon now j (is_own r (slot wanted j) count) (onwards r count) step) = subst (λ ws. new ≡ write_four now (back * wide + count * 4) (λ j. slot_value at wide horizon now j (is_own r (slot wanted j) count) ws step)) are with_zone in
+    IsSlotRowTo_more at wide horizon old now new back step r wanted count sum some inside rows to goes low with_ways row
 
 -- the time over a way on stands at its place
 pub slot_place : (at : ℕ → ℕ → ℕ) (wide horizon : ℕ) (labels : List ℕ) (j e back p sp : ℕ) (w : Onward) → back + e ≡ horizon → sp ≡ span at e w → p ≡ (back - sp) * wide + w.to * 4 + j → get_or labels p 0 + sp ≡ over at narrow_far (slot_rest wide horizon labels j) e w

@@ -14,7 +14,7 @@ use Rattle.time_routes.specs.declared.states.router.Router.{Router}
 
 -- one more slot
 pub AreSlotTails_more : (free : List ℕ) (r : Router) (most one both : ℕ) (old new zones : List ℕ) (n : ℕ) (tail : List ℕ) → n < 4 → most ≤ both → one ≤ both
-    → length tail ≡ length r.zones.items → AreSettled free r.starts.items r.ways.items r.zones.items (get_or zones n 0) tail
+    → length tail ≡ length r.zones.items → AreSettled free r (get_or zones n 0) tail
     → ((s : ℕ) → s < length tail → get_or tail s 0 < far → get_or tail s 0 ≤ one)
     → ((s : ℕ) → s < length tail → get_or new (s * 4 + n) 0 ≡ min (get_or tail s 0) narrow_far)
     → ((s j : ℕ) → j < 4 → j ≢ n → get_or new (s * 4 + j) 0 ≡ get_or old (s * 4 + j) 0)

@@ -8,22 +8,24 @@ use Rattle.dta_model.specs.LinkTimes.{TimeTable, free_table}
 use Rattle.time_routes.specs.Filling.Labels.{far, rest_in, value}
 use Rattle.time_routes.specs.Filling.Rests.{span, least_over}
 use Rattle.time_routes.specs.Filling.WideRows.{IsRowTo, AreRows}
-use Rattle.time_routes.specs.Filling.FreeFlow.{ways_of}
+use Rattle.time_routes.specs.States.Routers.{ways_of}
 use Rattle.time_routes.specs.declared.states.onward.Onward.{Onward}
 use Rattle.time_routes.proofs.OfFilling.WideRowFacts.{least_same, All_range}
+use Rattle.time_routes.specs.declared.states.router.Router.{Router}
+use Rattle.time_routes.specs.States.RouterWays.{is_own, onwards}
 
-pub AreRows_none : (at : ℕ → ℕ → ℕ) (states horizon : ℕ) (labels zones : List ℕ) (zone : ℕ) (starts : List ℕ) (ways : List Onward) (first : ℕ) → horizon ≤ first → All (λ x. x ≤ far) labels → AreRows at states horizon labels labels zones zone starts ways first
-AreRows_none at states horizon labels zones zone starts ways first none low = record { as_many = refl; tail = λ k h. refl; each = λ s e h l m. absurd (omega arith); low = low }
+pub AreRows_none : (at : ℕ → ℕ → ℕ) (states horizon : ℕ) (labels : List ℕ) (r : Router) (zone : ℕ) (first : ℕ) → horizon ≤ first → All (λ x. x ≤ far) labels → AreRows at states horizon labels labels r zone first
+AreRows_none at states horizon labels r zone first none low = record { as_many = refl; tail = λ k h. refl; each = λ s e h l m. absurd (omega arith); low = low }
 
 -- one more row, for the step before
-pub AreRows_more : (at : ℕ → ℕ → ℕ) (states horizon : ℕ) (old now new zones : List ℕ) (zone : ℕ) (starts : List ℕ) (ways : List Onward) (step back : ℕ)
-    → back + step ≡ horizon → 0 < back → length zones ≡ states
-    → ((s : ℕ) → s < length zones → (get_or starts s 0 ≤ get_or starts (s + 1) 0) × (get_or starts (s + 1) 0 ≤ length ways))
-    → All (λ w. w.to < states) ways → ((e : ℕ) → All (λ w. 0 < span at e w) ways)
-    → AreRows at states horizon old now zones zone starts ways (step + 1)
-    → IsRowTo at states horizon now new back step zones zone starts ways (length zones)
-    → AreRows at states horizon old new zones zone starts ways step
-AreRows_more at states horizon old now new zones zone starts ways step back sum some many ordered to goes rows row = record {
+pub AreRows_more : (at : ℕ → ℕ → ℕ) (states horizon : ℕ) (old now new : List ℕ) (r : Router) (zone : ℕ) (step back : ℕ)
+    → back + step ≡ horizon → 0 < back → length r.zones.items ≡ states
+    → ((s : ℕ) → s < length r.zones.items → (get_or r.starts.items s 0 ≤ get_or r.starts.items (s + 1) 0) × (get_or r.starts.items (s + 1) 0 ≤ length r.ways.items))
+    → All (λ w. w.to < states) r.ways.items → ((e : ℕ) → All (λ w. 0 < span at e w) r.ways.items)
+    → AreRows at states horizon old now r zone (step + 1)
+    → IsRowTo at states horizon now new back step r zone (length r.zones.items)
+    → AreRows at states horizon old new r zone step
+AreRows_more at states horizon old now new r zone step back sum some many ordered to goes rows row = record {
   as_many = row.as_many ∙ rows.as_many;
   tail = λ k h. row.before k (in_tail k h) ∙ rows.tail k h;
   each = λ s e h l m. at_step s e h l m (cases_lt step e);
@@ -33,30 +35,30 @@ AreRows_more at states horizon old now new zones zone starts ways step back sum 
     in_tail : (k : ℕ) → k < states → k < back * states
     in_tail k h = let m : 1 * states ≤ back * states = mul-le-mul_right states (omega arith) in omega arith
 
-    inside : (s : ℕ) → s < states → All (λ w. w.to < states) (ways_of starts ways s)
-    inside s h = let o = ordered s (omega arith) in All_range (λ w. w.to < states) ways (get_or starts s 0) (get_or starts (s + 1) 0) (o.0) (o.1) to
+    inside : (s : ℕ) → s < states → All (λ w. w.to < states) (onwards r s)
+    inside s h = let o = ordered s (omega arith) in All_range (λ w. w.to < states) r.ways.items (get_or r.starts.items s 0) (get_or r.starts.items (s + 1) 0) (o.0) (o.1) to
 
-    going : (s e : ℕ) → s < states → All (λ w. 0 < span at e w) (ways_of starts ways s)
-    going s e h = let o = ordered s (omega arith) in All_range (λ w. 0 < span at e w) ways (get_or starts s 0) (get_or starts (s + 1) 0) (o.0) (o.1) (goes e)
+    going : (s e : ℕ) → s < states → All (λ w. 0 < span at e w) (onwards r s)
+    going s e h = let o = ordered s (omega arith) in All_range (λ w. 0 < span at e w) r.ways.items (get_or r.starts.items s 0) (get_or r.starts.items (s + 1) 0) (o.0) (o.1) (goes e)
 
-    at_step : (s e : ℕ) → s < states → step ≤ e → e < horizon → (step < e) ⊎ (e ≤ step) → get_or new ((horizon - e) * states + s) 0 ≡ value at states horizon new (nat_eq (get_or zones s 0) zone) (ways_of starts ways s) e
+    at_step : (s e : ℕ) → s < states → step ≤ e → e < horizon → (step < e) ⊎ (e ≤ step) → get_or new ((horizon - e) * states + s) 0 ≡ value at states horizon new (is_own r zone s) (onwards r s) e
     at_step s e h l m (inl later) =
         let fewer : horizon - e + 1 ≤ back = omega arith in
         let below : (horizon - e + 1) * states ≤ back * states = mul-le-mul_right states fewer in
-        let own : Bool = nat_eq (get_or zones s 0) zone in
-        let same : least_over at far (rest_in states horizon new) e (ways_of starts ways s) ≡ least_over at far (rest_in states horizon now) e (ways_of starts ways s)
-        = least_same at states horizon now new (horizon - e) e (omega arith) (omega arith) (λ k q. row.before k (omega arith)) (ways_of starts ways s) (inside s h) (going s e h) in
+        let own : Bool = is_own r zone s in
+        let same : least_over at far (rest_in states horizon new) e (onwards r s) ≡ least_over at far (rest_in states horizon now) e (onwards r s)
+        = least_same at states horizon now new (horizon - e) e (omega arith) (omega arith) (λ k q. row.before k (omega arith)) (onwards r s) (inside s h) (going s e h) in
         row.before ((horizon - e) * states + s) (omega arith) ∙ rows.each s e h (omega arith) m ∙ ap (λ x. cond own 0 x) (sym same)
     at_step s e h l m (inr here) =
         let now_step : e ≡ step = omega arith in
         let at_back : horizon - e ≡ back = omega arith in
-        let own : Bool = nat_eq (get_or zones s 0) zone in
-        let same : least_over at far (rest_in states horizon new) step (ways_of starts ways s) ≡ least_over at far (rest_in states horizon now) step (ways_of starts ways s)
-        = least_same at states horizon now new back step sum some row.before (ways_of starts ways s) (inside s h) (going s step h) in
+        let own : Bool = is_own r zone s in
+        let same : least_over at far (rest_in states horizon new) step (onwards r s) ≡ least_over at far (rest_in states horizon now) step (onwards r s)
+        = least_same at states horizon now new back step sum some row.before (onwards r s) (inside s h) (going s step h) in
         rw (at_back, now_step) (row.each s (omega arith) ∙ ap (λ x. cond own 0 x) (sym same))
 
-pub AreRows_self : (at : ℕ → ℕ → ℕ) (states horizon : ℕ) (old new zones : List ℕ) (zone : ℕ) (starts : List ℕ) (ways : List Onward) (first : ℕ) → AreRows at states horizon old new zones zone starts ways first → AreRows at states horizon new new zones zone starts ways first
-AreRows_self at states horizon old new zones zone starts ways first rows = record { as_many = refl; tail = λ k h. refl; each = rows.each; low = rows.low }
+pub AreRows_self : (at : ℕ → ℕ → ℕ) (states horizon : ℕ) (old new : List ℕ) (r : Router) (zone : ℕ) (first : ℕ) → AreRows at states horizon old new r zone first → AreRows at states horizon new new r zone first
+AreRows_self at states horizon old new r zone first rows = record { as_many = refl; tail = λ k h. refl; each = rows.each; low = rows.low }
 
 -- a place in a row stands in the table
 pub place_inside : (n wide back k : ℕ) → back ≤ n → k < wide → back * wide + k < (n + 1) * wide

@@ -9,7 +9,8 @@ use Rattle.time_routes.specs.Filling.Labels.{far}
 use Rattle.time_routes.specs.Reading.FirstLinks.{AreFirsts}
 use Rattle.time_routes.specs.Reading.Paths.{path_time, IsLeastPath}
 use Rattle.time_routes.specs.States.Routers.{ways_to}
-use Rattle.time_routes.specs.Reading.Serves.{is_own, onwards, state_of, label_in, Serves, lesser, LeastSoFar}
+use Rattle.time_routes.specs.Reading.Serves.{label_in, Serves, lesser, LeastSoFar}
+use Rattle.time_routes.specs.States.RouterWays.{is_own, onwards, state_of}
 use Rattle.time_routes.specs.declared.states.router.Router.{Router}
 use Rattle.time_routes.proofs.OfReading.LabelFacts.{AreLabels}
 use Rattle.time_routes.proofs.OfFilling.LeastOver.{are_labels, some_label}

@@ -9,7 +9,8 @@ use Rattle.time_routes.specs.Filling.Labels.{far}
 use Rattle.time_routes.specs.Reading.Follows.{Follows}
 use Rattle.time_routes.specs.Filling.Rests.{over, least_over, IsPick}
 use Rattle.time_routes.specs.States.Routers.{ways_to, ends_to}
-use Rattle.time_routes.specs.Reading.Serves.{is_own, onwards, state_of, label_in, Serves}
+use Rattle.time_routes.specs.Reading.Serves.{label_in, Serves}
+use Rattle.time_routes.specs.States.RouterWays.{is_own, onwards, state_of}
 use Rattle.time_routes.specs.declared.states.onward.Onward.{Onward}
 use Rattle.time_routes.specs.declared.states.router.Router.{Router}
 use Rattle.time_routes.proofs.OfFilling.LeastOver.{choice_of, far_rest}

@@ -20,8 +20,9 @@ use Rattle.time_routes.specs.Named.{zone_named}
 use Rattle.time_routes.specs.States.Onwards.{ways_from, zone_or_none, end_zone, AreStates, AreOnwards}
 use Rattle.time_routes.specs.Filling.Rests.{AreTurns, AreOrdered}
 use Rattle.time_routes.specs.States.Routers.{wait_of, wait_between, ends_to, ways_to}
-use Rattle.time_routes.specs.Reading.Serves.{IsRouter, is_own, onwards, state_of}
-use Rattle.time_routes.specs.Filling.FreeFlow.{ways_of}
+use Rattle.time_routes.specs.Reading.Serves.{IsRouter}
+use Rattle.time_routes.specs.States.RouterWays.{is_own, onwards, state_of}
+use Rattle.time_routes.specs.States.Routers.{ways_of}
 use Rattle.time_routes.specs.declared.states.onward.Onward.{Onward}
 use Rattle.time_routes.specs.declared.states.router.Router.{Router}
 use Rattle.time_routes.proofs.OfStates.ZoneFacts.{zone_same, is_less, and_true}

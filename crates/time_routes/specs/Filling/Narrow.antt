@@ -1,5 +1,6 @@
 -- What is left to a zone, kept in 32 bits.
-use Rattle.std.specs.Prelude.{◌≡◌, ℕ, ◌+◌, ◌*◌, ◌<◌, ◌≤◌, min, cond, nat_lt, List, length, slice_index, slice_index_or, All}
+use Rattle.std.specs.Prelude.{◌≡◌, ℕ, ◌+◌, ◌*◌, ◌<◌, ◌≤◌, min, cond, nat_lt, List, length}
+use Rattle.std.specs.Prelude.{slice_index, slice_index_or, All}
 use Rattle.dta_model.specs.LinkTimes.{TimeTable, time_at}
 use Rattle.time_routes.specs.Filling.Labels.{far}
 use Rattle.time_routes.specs.Filling.SlotRows.{narrow_far}
@@ -12,11 +13,13 @@ abbrev pub widened : ℕ → ℕ
 widened x = cond (nat_lt x narrow_far) x far
 
 -- the first labels of a slot are the least free-flow times to its zone
-pub record IsSlotTail (free : List ℕ) (r : Router) (zone most : ℕ) (labels : List ℕ) (j : ℕ) (tail : List ℕ) : Type 0 where
+pub record IsSlotTail (free : List ℕ) (r : Router) (zone most : ℕ) (labels : List ℕ) (j : ℕ)
+    (tail : List ℕ) : Type 0 where
   pub as_many : length tail ≡ length r.zones.items
-  pub settled : AreSettled free r.starts.items r.ways.items r.zones.items zone tail
+  pub settled : AreSettled free r zone tail
   pub near : (s : ℕ) → s < length tail → slice_index tail s < far → slice_index tail s ≤ most
-  pub put : (s : ℕ) → s < length tail → slice_index_or labels (s * 4 + j) 0 ≡ min (slice_index tail s) narrow_far
+  pub put : (s : ℕ) → s < length tail → slice_index_or labels (s * 4 + j) 0
+      ≡ min (slice_index tail s) narrow_far
 
 -- no way on takes longer
 abbrev pub AreWithin : TimeTable → Router → ℕ → Type 0

@@ -1,11 +1,13 @@
 -- What is left to four zones side by side, row by row: the static tail first, then each step before
 -- the row of the next.
-use Rattle.std.specs.Prelude.{◌≡◌, ℕ, zero, suc, ◌+◌, ◌-◌, ◌*◌, ◌<◌, ◌≤◌, Bool, cond, nat_eq, List, length, slice_index, slice_index_or, slice_set, All}
+use Rattle.std.specs.Prelude.{◌≡◌, ℕ, zero, suc, ◌+◌, ◌-◌, ◌*◌, ◌<◌, ◌≤◌, Bool, cond, List, length}
+use Rattle.std.specs.Prelude.{slice_index_or, slice_set, All}
 use Rattle.time_routes.specs.Filling.Rests.{least_over}
-use Rattle.time_routes.specs.Filling.FreeFlow.{ways_of}
+use Rattle.time_routes.specs.States.RouterWays.{is_own, onwards}
 use Rattle.time_routes.specs.declared.filling.slot_fill.Four.{Four}
 use Rattle.time_routes.specs.declared.filling.no_walk.TheConstants.{NARROW_FAR}
 use Rattle.time_routes.specs.declared.states.onward.Onward.{Onward}
+use Rattle.time_routes.specs.declared.states.router.Router.{Router}
 
 -- what stands for no walk in 32 bits
 abbrev pub narrow_far : ℕ
@@ -22,7 +24,8 @@ slot_value at wide horizon labels j own ways e =
 
 -- four labels from a place on are written
 abbrev pub write_four : List ℕ → ℕ → (ℕ → ℕ) → List ℕ
-write_four labels p v = slice_set (slice_set (slice_set (slice_set labels p (v 0)) (p + 1) (v 1)) (p + 2) (v 2)) (p + 3) (v 3)
+write_four labels p v = slice_set (slice_set (slice_set (slice_set labels p (v 0)) (p + 1) (v 1))
+    (p + 2) (v 2)) (p + 3) (v 3)
 
 -- the number of a slot
 abbrev pub slot : Four → ℕ → ℕ
@@ -32,15 +35,20 @@ slot f (suc (suc zero)) = f.c
 slot f (suc (suc (suc j))) = f.d
 
 -- the first states of a row are what they ought to be, and the rows before stay
-pub record IsSlotRowTo (at : ℕ → ℕ → ℕ) (wide horizon : ℕ) (old new : List ℕ) (back step : ℕ) (zones : List ℕ) (wanted : Four) (starts : List ℕ) (ways : List Onward) (count : ℕ) : Type 0 where
+pub record IsSlotRowTo (at : ℕ → ℕ → ℕ) (wide horizon : ℕ) (old new : List ℕ) (back step : ℕ)
+    (r : Router) (wanted : Four) (count : ℕ) : Type 0 where
   pub as_many : length new ≡ length old
   pub before : (k : ℕ) → k < back * wide → slice_index_or new k 0 ≡ slice_index_or old k 0
-  pub each : (s j : ℕ) → s < count → j < 4 → slice_index_or new (back * wide + (s * 4 + j)) 0 ≡ slot_value at wide horizon old j (nat_eq (slice_index zones s) (slot wanted j)) (ways_of starts ways s) step
+  pub each : (s j : ℕ) → s < count → j < 4 → slice_index_or new (back * wide + (s * 4 + j)) 0
+      ≡ slot_value at wide horizon old j (is_own r (slot wanted j) s) (onwards r s) step
   pub low : All (λ x. x ≤ narrow_far) new
 
 -- from a step on to the horizon each number is what it ought to be, and the tail stands
-pub record AreSlotRows (at : ℕ → ℕ → ℕ) (wide horizon : ℕ) (old new : List ℕ) (zones : List ℕ) (wanted : Four) (starts : List ℕ) (ways : List Onward) (first : ℕ) : Type 0 where
+pub record AreSlotRows (at : ℕ → ℕ → ℕ) (wide horizon : ℕ) (old new : List ℕ) (r : Router)
+    (wanted : Four) (first : ℕ) : Type 0 where
   pub as_many : length new ≡ length old
   pub tail : (k : ℕ) → k < wide → slice_index_or new k 0 ≡ slice_index_or old k 0
-  pub each : (s j e : ℕ) → s * 4 + 3 < wide → j < 4 → first ≤ e → e < horizon → slice_index_or new ((horizon - e) * wide + (s * 4 + j)) 0 ≡ slot_value at wide horizon new j (nat_eq (slice_index zones s) (slot wanted j)) (ways_of starts ways s) e
+  pub each : (s j e : ℕ) → s * 4 + 3 < wide → j < 4 → first ≤ e → e < horizon
+      → slice_index_or new ((horizon - e) * wide + (s * 4 + j)) 0
+      ≡ slot_value at wide horizon new j (is_own r (slot wanted j) s) (onwards r s) e
   pub low : All (λ x. x ≤ narrow_far) new

@@ -18,5 +18,7 @@ places (table.Wide rows) = length rows.zones.items
 
 -- what is left from a state at a step to the zone at a place
 abbrev pub rests : LabelTable → ℕ → ℕ → ℕ → ℕ
-rests (table.Narrow slots) place s e = widened (slot_rest (slots.states * 4) slots.horizon slots.labels.items place s e)
-rests (table.Wide rows) place s e = rest_in rows.states rows.horizon (get_or (map (λ row. row.items) rows.zones.items) place []) s e
+rests (table.Narrow slots) place s e = widened
+    (slot_rest (slots.states * 4) slots.horizon slots.labels.items place s e)
+rests (table.Wide rows) place s e = rest_in rows.states rows.horizon
+    (get_or (map (λ row. row.items) rows.zones.items) place []) s e

@@ -11,7 +11,8 @@ module _ (g : Ways) (label : ℕ → ℕ → Option ℕ) where
     pub way : g.turn l b ≡ Some wait
     pub next : label b (e + (g.at l e + wait)) ≡ Some rest
     pub gives : label l e ≡ Some (g.at l e + wait + rest)
-    pub first : (c w k : ℕ) → c < b → g.turn l c ≡ Some w → label c (e + (g.at l e + w)) ≡ Some k → g.at l e + wait + rest < g.at l e + w + k
+    pub first : (c w k : ℕ) → c < b → g.turn l c ≡ Some w → label c (e + (g.at l e + w)) ≡ Some k
+        → g.at l e + wait + rest < g.at l e + w + k
 
   -- a walk that follows the labels by the least link at each choice
   abbrev pub Follows : ℕ → ℕ → List ℕ → Type 0

@@ -18,5 +18,6 @@ pub record AreFilled (l : Inside) : Type 0 where
   pub table : length l.times.now.free ≡ length l.net.now.links
   pub inside : All (λ z. z.0 < length (zones l.net.now.nodes)) l.zones.items
   pub router : IsRouter l.net.now l.router
-  pub firsts : Grouped l.firsts (length (zones l.net.now.nodes)) (begin_zone l.net.now) (numbers_below (length l.net.now.links))
+  pub firsts : Grouped l.firsts (length (zones l.net.now.nodes)) (begin_zone l.net.now)
+      (numbers_below (length l.net.now.links))
   pub left : AreAllLeft (time_at l.times.now) l.router l.labels (zone_numbers l.zones.items)

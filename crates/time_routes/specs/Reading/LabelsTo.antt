@@ -4,7 +4,11 @@ use Rattle.time_routes.specs.ToZone.{ToZone}
 use Rattle.time_routes.specs.declared.reading.labels.Labels.TheInside.{Inside}
 
 abbrev pub labels_of : Inside → ToZone
-labels_of l = record { net = l.group.net; times = l.group.times; zone = slice_index l.group.zones 0 }
+labels_of l = record {
+  net = l.group.net;
+  times = l.group.times;
+  zone = slice_index l.group.zones 0;
+}
 
 abbrev pub IsAlone : Inside → Type 0
 IsAlone l = length l.group.zones ≡ 1

@@ -1,7 +1,9 @@
 -- Timed walks to a zone by what a walk reads, and the least of them.
-use Rattle.std.specs.Prelude.{◌≡◌, ℕ, ◌+◌, ◌≤◌, Bool, true, false, cond, ◌&&◌, ◌||◌, nat_eq, nat_lt, List, [], ◌∷◌, Option, None, Some}
+use Rattle.std.specs.Prelude.{◌≡◌, ℕ, ◌+◌, ◌≤◌, Bool, true, false, cond, ◌&&◌, ◌||◌, nat_eq, nat_lt}
+use Rattle.std.specs.Prelude.{List, [], ◌∷◌, Option, None, Some}
 
--- what a walk reads: the time of a link by the step of its entry, the penalty of a turn that is allowed, and
+-- what a walk reads: the time of a link by the step of its entry, the penalty of a turn that is
+-- allowed, and
 -- which links end at the zone
 pub record Ways : Type 0 where
   pub at : ℕ → ℕ → ℕ
@@ -13,10 +15,15 @@ abbrev pub later : ℕ → Option ℕ → Option ℕ
 later more None = None
 later more (Some time) = Some (more + time)
 
--- the time of the links that follow link l, which was entered at step e, where they go on to the zone
+-- the time of the links that follow link l, which was entered at step e, where they go on to the
+-- zone
 unfoldable pub path_after : Ways → ℕ → ℕ → List ℕ → Option ℕ
 path_after g l e [] = cond (g.ends l) (Some (g.at l e)) None
-path_after g l e (b ∷ rest) = cond (g.ends l) None (elim (g.turn l b) as (λ _. Option ℕ) [ None ↦ None | Some wait ↦ later (g.at l e + wait) (path_after g b (e + (g.at l e + wait)) rest) ])
+path_after g l e (b ∷ rest) = cond (g.ends l) None
+    (elim (g.turn l b) as (λ _. Option ℕ) [
+      | None ↦ None
+      | Some wait ↦ later (g.at l e + wait) (path_after g b (e + (g.at l e + wait)) rest)
+    ])
 
 -- the time of a list of links as a walk that starts at a step, where it is one
 unfoldable pub path_time : Ways → (ℕ → Bool) → ℕ → List ℕ → Option ℕ

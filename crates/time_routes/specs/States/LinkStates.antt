@@ -1,5 +1,6 @@
 -- States of links, as they are given one link after another.
-use Rattle.std.specs.Prelude.{◌≡◌, ◌≢◌, ◌⊎◌, ℕ, ◌<◌, ◌≤◌, ◌++◌, ◌∷◌, [], List, length, slice_index, All}
+use Rattle.std.specs.Prelude.{◌≡◌, ◌≢◌, ◌⊎◌, ℕ, ◌<◌, ◌≤◌, ◌++◌, ◌∷◌, [], List, length, slice_index}
+use Rattle.std.specs.Prelude.{All}
 use Rattle.net_core.specs.Network.{link_at}
 use Rattle.net_core.specs.declared.rows.NetRows.{NetRows}
 use Rattle.time_routes.specs.States.Routers.{wait_between}
@@ -22,8 +23,10 @@ pub record AreLed (net : NetRows) (states leads : List ℕ) (count : ℕ) : Type
 pub record AreAtNodes (net : NetRows) (leads at_node : List ℕ) : Type 0 where
   pub many : length at_node ≡ length net.nodes
   pub leading : All (λ a. a < length net.links) leads
-  pub inside : (n : ℕ) → slice_index at_node n ≢ NO_STATE → n < length at_node → slice_index at_node n < length leads
-  pub ends : (n : ℕ) → slice_index at_node n ≢ NO_STATE → n < length at_node → (link_at net (slice_index leads (slice_index at_node n))).to.0 ≡ n
+  pub inside : (n : ℕ) → slice_index at_node n ≢ NO_STATE → n < length at_node
+      → slice_index at_node n < length leads
+  pub ends : (n : ℕ) → slice_index at_node n ≢ NO_STATE → n < length at_node
+      → (link_at net (slice_index leads (slice_index at_node n))).to.0 ≡ n
 
 -- no state is new, or one is, led by a link
 abbrev pub Grows : List ℕ → ℕ → List ℕ → Type 0

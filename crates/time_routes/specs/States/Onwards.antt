@@ -1,12 +1,13 @@
 -- The ways on from links of a network, one state after another.
-use Rattle.std.specs.Prelude.{◌≡◌, ℕ, ◌+◌, ◌<◌, ◌≤◌, List, [], ◌∷◌, length, slice_index, All, Option, None, Some}
+use Rattle.std.specs.Prelude.{◌≡◌, ℕ, ◌+◌, ◌<◌, ◌≤◌, List, [], ◌∷◌, length, slice_index, All}
+use Rattle.std.specs.Prelude.{Option, None, Some}
 use Rattle.net_core.specs.Network.{as_links, link_at, outs, turn, zone_of}
 use Rattle.net_core.specs.declared.rows.LinkNo.{LinkNo}
 use Rattle.net_core.specs.declared.rows.NetRows.{NetRows}
 use Rattle.net_core.specs.declared.rows.TheConstants.{MOST_PENALTY_STEPS}
 use Rattle.net_core.specs.declared.rows.Turn.{Turn}
 use Rattle.time_routes.specs.States.Routers.{wait_between}
-use Rattle.time_routes.specs.Filling.FreeFlow.{ways_of}
+use Rattle.time_routes.specs.States.Routers.{ways_of}
 use Rattle.time_routes.specs.declared.states.zone_numbers.TheConstants.{NO_ZONE}
 use Rattle.time_routes.specs.declared.states.onward.Onward.{Onward}
 
@@ -41,19 +42,23 @@ pub record AreStates (net : NetRows) (states leads : List ℕ) : Type 0 where
   pub inside : All (λ s. s < length leads) states
   pub few : length leads ≤ length net.links
   pub leading : All (λ a. a < length net.links) leads
-  pub ends : (l : ℕ) → l < length states → (link_at net (slice_index leads (slice_index states l))).to ≡ (link_at net l).to
-  pub turns : (l b : ℕ) → l < length states → wait_between net (slice_index leads (slice_index states l)) b ≡ wait_between net l b
+  pub ends : (l : ℕ) → l < length states → (link_at net
+      (slice_index leads (slice_index states l))).to ≡ (link_at net l).to
+  pub turns : (l b : ℕ) → l < length states → wait_between net
+      (slice_index leads (slice_index states l)) b ≡ wait_between net l b
 
 -- the number of the zone in which a link begins
 abbrev pub begin_zone : NetRows → ℕ → ℕ
 begin_zone net a = zone_or_none (zone_of net (link_at net a).from.0)
 
 -- the ways on from the first states stand one after another
-pub record AreOnwards (net : NetRows) (states leads starts : List ℕ) (ways : List Onward) (zones : List ℕ) (count : ℕ) : Type 0 where
+pub record AreOnwards (net : NetRows) (states leads starts : List ℕ) (ways : List Onward)
+    (zones : List ℕ) (count : ℕ) : Type 0 where
   pub zoned : length zones ≡ count
   pub started : length starts ≡ count + 1
   pub last : slice_index starts count ≡ length ways
-  pub order : (s : ℕ) → s < count → (slice_index starts s ≤ slice_index starts (s + 1)) × (slice_index starts (s + 1) ≤ length ways)
+  pub order : (s : ℕ) → s < count → (slice_index starts s ≤ slice_index starts (s + 1))
+      × (slice_index starts (s + 1) ≤ length ways)
   pub are : (s : ℕ) → s < count → ways_of starts ways s ≡ ways_from net states (slice_index leads s)
   pub zone : (s : ℕ) → s < count → slice_index zones s ≡ end_zone net (slice_index leads s)
   pub to : All (λ w. w.to < length leads) ways

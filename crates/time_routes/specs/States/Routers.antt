@@ -1,5 +1,7 @@
 -- Where links end, and the ways on from there.
-use Rattle.std.specs.Prelude.{◌≡◌, ℕ, ◌+◌, ◌<◌, ◌≤◌, ◌&&◌, Bool, cond, nat_lt, List, length, slice_index, All, Option, None, Some}
+use Rattle.std.specs.Prelude.{◌≡◌, ℕ, ◌+◌, ◌<◌, ◌≤◌, ◌&&◌, Bool, cond, nat_lt, List, length}
+use Rattle.std.specs.Prelude.{slice_index, All, Option, None, Some}
+use Rattle.std.specs.List.{slice_range}
 use Rattle.net_core.specs.Network.{turn}
 use Rattle.net_core.specs.declared.rows.NetRows.{NetRows}
 use Rattle.net_core.specs.declared.rows.TheConstants.{MOST_PENALTY_STEPS}
@@ -16,7 +18,12 @@ pub record AreWays (states starts : List ℕ) (ways : List Onward) (zones : List
   pub link : All (λ w. w.link < length states) ways
   pub wait : All (λ w. w.wait ≤ MOST_PENALTY_STEPS) ways
   pub started : length starts ≡ length zones + 1
-  pub order : (s : ℕ) → s < length zones → (slice_index starts s ≤ slice_index starts (s + 1)) × (slice_index starts (s + 1) ≤ length ways)
+  pub order : (s : ℕ) → s < length zones → (slice_index starts s ≤ slice_index starts (s + 1))
+      × (slice_index starts (s + 1) ≤ length ways)
+
+-- the ways on from a state
+abbrev pub ways_of : List ℕ → List Onward → ℕ → List Onward
+ways_of starts ways s = slice_range ways (slice_index starts s) (slice_index starts (s + 1))
 
 -- the penalty of a turn that is allowed
 abbrev pub wait_of : Option Turn → Option ℕ

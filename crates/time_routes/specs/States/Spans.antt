@@ -10,9 +10,11 @@ abbrev pub IsSpan : (ℕ → ℕ → ℕ) → ℕ → ℕ → Onward → Span �
 IsSpan at e wide w s = (s.time ≡ span at e w) × (s.ahead ≡ s.time * wide) × (s.to ≡ w.to * 4)
 
 -- the first spans are those of the ways on
-pub record IsSpansTo (at : ℕ → ℕ → ℕ) (e wide : ℕ) (ways : List Onward) (spans : List Span) (count : ℕ) : Type 0 where
+pub record IsSpansTo (at : ℕ → ℕ → ℕ) (e wide : ℕ) (ways : List Onward) (spans : List Span)
+    (count : ℕ) : Type 0 where
   pub as_many : length spans ≡ length ways
-  pub each : (k : ℕ) (d : Onward) (c : Span) → k < count → IsSpan at e wide (slice_index_or ways k d) (slice_index_or spans k c)
+  pub each : (k : ℕ) (d : Onward) (c : Span) → k < count
+      → IsSpan at e wide (slice_index_or ways k d) (slice_index_or spans k c)
 
 abbrev pub IsSpans : (ℕ → ℕ → ℕ) → ℕ → ℕ → List Onward → List Span → Type 0
 IsSpans at e wide ways spans = IsSpansTo at e wide ways spans (length ways)
@@ -23,4 +25,5 @@ AreShortAt at e ways = All (λ w. (0 < span at e w) × (span at e w < narrow_far
 
 -- spans stay inside a table of so many labels a row
 abbrev pub AreNarrow : ℕ → List Span → Type 0
-AreNarrow wide spans = All (λ s. (0 < s.time) × (s.time < narrow_far) × (s.ahead ≡ s.time * wide) × (s.to + 3 < wide)) spans
+AreNarrow wide spans = All (λ s. (0 < s.time) × (s.time < narrow_far) × (s.ahead ≡ s.time * wide)
+    × (s.to + 3 < wide)) spans

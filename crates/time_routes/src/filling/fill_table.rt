@@ -30,7 +30,8 @@ pub(crate) fn table_of(
     requires few_states { length router.now.zones.items ≤ MOST_LINKS }
     requires few { length zones.now ≤ MOST_GROUP }
     requires zones { All (λ z. z.0 < NO_ZONE) zones.now }
-    ensures left { IfOk result (λ table. AreAllLeft (time_at times.now) router.now table (zone_numbers zones.now)) }
+    ensures left { IfOk result (λ table. AreAllLeft (time_at times.now) router.now table
+        (zone_numbers zones.now)) }
     ensures sound { IsTimeTable times.now }
 {
     let states = router.state_count();

@@ -1,9 +1,12 @@
 // Least free-flow times from each state to a zone.
-ghost use Rattle.std.specs.Prelude.{◌≡◌, ℕ, ◌+◌, ◌*◌, ◌<◌, ◌≤◌, length, slice_index, slice_index_or, All, sum, cond, false, true, nat_eq, slice_set, IfOk};
+ghost use Rattle.std.specs.Prelude.{◌≡◌, ℕ, ◌+◌, ◌*◌, ◌<◌, ◌≤◌, length, slice_index};
+ghost use Rattle.std.specs.Prelude.{slice_index_or, All, sum, cond, false, true, nat_eq, slice_set};
+ghost use Rattle.std.specs.Prelude.{IfOk};
 ghost use Rattle.std.specs.List.{slice_range};
 ghost use Rattle.net_core.specs.declared.rows.TheConstants.{MOST_PENALTY_STEPS};
 ghost use Rattle.time_routes.specs.Filling.Labels.{most_span, far};
-ghost use Rattle.time_routes.specs.Filling.FreeFlow.{still_least, value, AreAbove, AreSettled, AreShort, known};
+ghost use Rattle.time_routes.specs.Filling.FreeFlow.{still_least, value, AreAbove, AreSettled};
+ghost use Rattle.time_routes.specs.Filling.FreeFlow.{AreShort, known};
 
 use crate::filling::no_walk::FAR;
 use crate::states::onward::Onward;
@@ -37,9 +40,10 @@ fn value_of(tail: &[u64], free: &[u32], router: &Router, zone: u32, state: usize
     requires short { All (λ x. x ≤ 4294967295) free.now }
     requires state { state < length tail.now }
     requires low { All (λ x. x ≤ far) tail.now }
-    ensures is { result ≡ value free.now router.now.starts.items router.now.ways.items router.now.zones.items zone tail.now state }
+    ensures is { result ≡ value free.now router.now zone tail.now state }
     ensures low { result ≤ far }
-    ensures short { AreShort tail.now → result < far → result ≤ known tail.now * most_span + most_span }
+    ensures short { AreShort tail.now → result < far
+        → result ≤ known tail.now * most_span + most_span }
 {
     if router.is_in(state, zone) {
         0
@@ -56,10 +60,12 @@ fn relax(tail: &mut [u64], free: &[u32], router: &Router, zone: u32, state: usiz
     requires short { All (λ x. x ≤ 4294967295) free.now }
     requires state { state < length tail.old }
     requires low { All (λ x. x ≤ far) tail.old }
-    ensures above { AreAbove free.now router.now.starts.items router.now.ways.items router.now.zones.items zone tail.old → AreAbove free.now router.now.starts.items router.now.ways.items router.now.zones.items zone tail.new }
+    ensures above { AreAbove free.now router.now zone tail.old
+        → AreAbove free.now router.now zone tail.new }
     ensures short { AreShort tail.old → AreShort tail.new }
     ensures same { result ≡ false → tail.new ≡ tail.old }
-    ensures settled { result ≡ false → slice_index_or tail.new state 0 ≤ value free.now router.now.starts.items router.now.ways.items router.now.zones.items zone tail.new state }
+    ensures settled { result ≡ false → slice_index_or tail.new state 0
+        ≤ value free.now router.now zone tail.new state }
     ensures less { sum tail.new + (cond result 1 0) ≤ sum tail.old }
     ensures low { All (λ x. x ≤ far) tail.new }
     ensures many { length tail.new ≡ length tail.old }
@@ -71,8 +77,10 @@ fn relax(tail: &mut [u64], free: &[u32], router: &Router, zone: u32, state: usiz
 // Lowers a number, and says whether that changed it.
 fn lower(tail: &mut [u64], state: usize, value: u64) -> bool
     requires { state < length tail.old }
-    ensures same { result ≡ false → (tail.new ≡ tail.old) × (slice_index_or tail.old state 0 ≤ value) }
-    ensures set { result ≡ true → (tail.new ≡ slice_set tail.old state value) × (value < slice_index_or tail.old state 0) }
+    ensures same { result ≡ false → (tail.new ≡ tail.old)
+        × (slice_index_or tail.old state 0 ≤ value) }
+    ensures set { result ≡ true → (tail.new ≡ slice_set tail.old state value)
+        × (value < slice_index_or tail.old state 0) }
 {
     if value < tail[state] {
         tail[state] = value;
@@ -88,9 +96,11 @@ fn sweep(tail: &mut [u64], free: &[u32], router: &Router, zone: u32) -> bool
     requires links { length router.now.states.items ≡ length free.now }
     requires short { All (λ x. x ≤ 4294967295) free.now }
     requires low { All (λ x. x ≤ far) tail.old }
-    ensures above { AreAbove free.now router.now.starts.items router.now.ways.items router.now.zones.items zone tail.old → AreAbove free.now router.now.starts.items router.now.ways.items router.now.zones.items zone tail.new }
+    ensures above { AreAbove free.now router.now zone tail.old
+        → AreAbove free.now router.now zone tail.new }
     ensures short { AreShort tail.old → AreShort tail.new }
-    ensures settled { result ≡ false → (s : ℕ) → s < length tail.new → slice_index_or tail.new s 0 ≤ value free.now router.now.starts.items router.now.ways.items router.now.zones.items zone tail.new s }
+    ensures settled { result ≡ false → (s : ℕ) → s < length tail.new
+        → slice_index_or tail.new s 0 ≤ value free.now router.now zone tail.new s }
     ensures less { sum tail.new + (cond result 1 0) ≤ sum tail.old }
     ensures low { All (λ x. x ≤ far) tail.new }
     ensures many { length tail.new ≡ length tail.old }
@@ -110,9 +120,9 @@ fn settle(tail: &mut [u64], free: &[u32], router: &Router, zone: u32)
     requires links { length router.now.states.items ≡ length free.now }
     requires short { All (λ x. x ≤ 4294967295) free.now }
     requires low { All (λ x. x ≤ far) tail.old }
-    requires above { AreAbove free.now router.now.starts.items router.now.ways.items router.now.zones.items zone tail.old }
+    requires above { AreAbove free.now router.now zone tail.old }
     requires known { AreShort tail.old }
-    ensures settled { AreSettled free.now router.now.starts.items router.now.ways.items router.now.zones.items zone tail.new }
+    ensures settled { AreSettled free.now router.now zone tail.new }
     ensures short { AreShort tail.new }
     ensures low { All (λ x. x ≤ far) tail.new }
     ensures many { length tail.new ≡ length tail.old }
@@ -125,7 +135,8 @@ fn settle(tail: &mut [u64], free: &[u32], router: &Router, zone: u32)
 pub(crate) fn free_steps(alloc: Global, times: &LinkTimes, links: u32) -> Result<Vec<u32>, Memory>
     requires { links ≡ length times.now.free }
     ensures many { IfOk result (λ free. length free.items ≡ links) }
-    ensures each { IfOk result (λ free. (l : ℕ) → l < links → slice_index free.items l ≡ slice_index times.now.free l) }
+    ensures each { IfOk result (λ free. (l : ℕ) → l < links
+        → slice_index free.items l ≡ slice_index times.now.free l) }
 {
     let horizon = times.horizon() as u64;
     let mut free = Vec::new(alloc);
@@ -145,7 +156,7 @@ pub(crate) fn tail_of(
 ) -> Result<Vec<u64>, Memory>
     requires { length router.now.states.items ≡ length free.now }
     ensures many { IfOk result (λ tail. length tail.items ≡ length router.now.zones.items) }
-    ensures settled { IfOk result (λ tail. AreSettled free.now router.now.starts.items router.now.ways.items router.now.zones.items zone tail.items) }
+    ensures settled { IfOk result (λ tail. AreSettled free.now router.now zone tail.items) }
     ensures short { IfOk result (λ tail. AreShort tail.items) }
     ensures low { IfOk result (λ tail. All (λ x. x ≤ far) tail.items) }
 {

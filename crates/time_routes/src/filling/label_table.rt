@@ -27,7 +27,8 @@ fn rows_back(horizon: u32, step: u64) -> usize
 fn slot_at(slots: &NarrowTable, slot: usize, state: u32, step: u64) -> u64
     requires slot { slot < 4 }
     requires state { state < slots.now.states }
-    ensures is { result ≡ widened (slot_rest (slots.now.states * 4) slots.now.horizon slots.now.labels.items slot state step) }
+    ensures is { result ≡ widened (slot_rest (slots.now.states * 4) slots.now.horizon
+        slots.now.labels.items slot state step) }
     ensures low { result ≤ far }
 {
     let back = rows_back(slots.horizon, step);
@@ -51,7 +52,8 @@ fn row_at(row: &[u64], states: usize, horizon: u32, state: u32, step: u64) -> u6
 fn place_at(rows: &WideTable, place: usize, state: u32, step: u64) -> u64
     requires place { place < length rows.now.zones.items }
     requires state { state < rows.now.states }
-    ensures is { result ≡ rest_in rows.now.states rows.now.horizon (get_or (map (λ row. row.items) rows.now.zones.items) place []) state step }
+    ensures is { result ≡ rest_in rows.now.states rows.now.horizon
+        (get_or (map (λ row. row.items) rows.now.zones.items) place []) state step }
     ensures low { result ≤ far }
 {
     row_at(

@@ -1,11 +1,13 @@
 // What is left to each zone of a group, in 32 bits.
-ghost use Rattle.std.specs.Prelude.{◌≡◌, ◌≢◌, ℕ, ◌+◌, ◌*◌, ◌<◌, ◌≤◌, length, min, slice_index, slice_index_or, All, IfOk, IfSome};
+ghost use Rattle.std.specs.Prelude.{◌≡◌, ◌≢◌, ℕ, ◌+◌, ◌*◌, ◌<◌, ◌≤◌, length, min, slice_index};
+ghost use Rattle.std.specs.Prelude.{slice_index_or, All, IfOk, IfSome};
 ghost use Rattle.net_core.specs.declared.rows.TheConstants.{MOST_LINKS};
 ghost use Rattle.dta_model.specs.LinkTimes.{time_at};
 ghost use Rattle.link_times.specs.TimeTables.{IsTimeTable};
 ghost use Rattle.time_routes.specs.Filling.Labels.{far};
 ghost use Rattle.time_routes.specs.Filling.SlotRows.{slot, narrow_far};
-ghost use Rattle.time_routes.specs.Filling.SlotsLeft.{AreBegun, AreFilledOver, AreSlotsLeft, AreSlotTails};
+ghost use Rattle.time_routes.specs.Filling.SlotsLeft.{AreBegun, AreFilledOver, AreSlotsLeft};
+ghost use Rattle.time_routes.specs.Filling.SlotsLeft.{AreSlotTails};
 ghost use Rattle.time_routes.specs.States.Spans.{AreShortAt};
 ghost use Rattle.time_routes.specs.ToZone.{zone_numbers};
 ghost use Rattle.time_routes.specs.declared.states.zone_numbers.TheConstants.{NO_ZONE};
@@ -46,9 +48,12 @@ fn put_tail(labels: &mut [u32], tail: &[u64], slot: usize) -> u64
     requires low { All (λ x. x ≤ narrow_far) labels.old }
     ensures many { length labels.new ≡ length labels.old }
     ensures low { All (λ x. x ≤ narrow_far) labels.new }
-    ensures put { (s : ℕ) → s < length tail.now → slice_index_or labels.new (s * 4 + slot) 0 ≡ min (slice_index tail.now s) narrow_far }
-    ensures other { (s j : ℕ) → j < 4 → j ≢ slot → slice_index_or labels.new (s * 4 + j) 0 ≡ slice_index_or labels.old (s * 4 + j) 0 }
-    ensures near { (s : ℕ) → s < length tail.now → slice_index tail.now s < far → slice_index tail.now s ≤ result }
+    ensures put { (s : ℕ) → s < length tail.now
+        → slice_index_or labels.new (s * 4 + slot) 0 ≡ min (slice_index tail.now s) narrow_far }
+    ensures other { (s j : ℕ) → j < 4 → j ≢ slot
+        → slice_index_or labels.new (s * 4 + j) 0 ≡ slice_index_or labels.old (s * 4 + j) 0 }
+    ensures near { (s : ℕ) → s < length tail.now → slice_index tail.now s < far
+        → slice_index tail.now s ≤ result }
     ensures walks { result < far }
 {
     let mut most = 0u64;
@@ -74,7 +79,8 @@ fn put_tails(
     requires low { All (λ x. x ≤ narrow_far) labels.old }
     ensures many { length labels.new ≡ length labels.old }
     ensures low { All (λ x. x ≤ narrow_far) labels.new }
-    ensures tails { IfOk result (λ most. AreSlotTails free.now router.now most labels.new (zone_numbers zones.now) (length zones.now)) }
+    ensures tails { IfOk result (λ most. AreSlotTails free.now router.now most labels.new
+        (zone_numbers zones.now) (length zones.now)) }
     ensures walks { IfOk result (λ most. most < far) }
 {
     let mut most = 0u64;
@@ -102,8 +108,10 @@ fn zone_at(zones: &[ZoneNo], slot: usize) -> u32
 fn zones_of_slots(zones: &[ZoneNo]) -> Four
     requires few { length zones.now ≤ MOST_GROUP }
     requires zones { All (λ z. z.0 < NO_ZONE) zones.now }
-    ensures are { (j : ℕ) → j < length zones.now → slot result j ≡ slice_index (zone_numbers zones.now) j }
-    ensures below { (result.a < NO_ZONE) × (result.b < NO_ZONE) × (result.c < NO_ZONE) × (result.d < NO_ZONE) }
+    ensures are { (j : ℕ) → j < length zones.now
+        → slot result j ≡ slice_index (zone_numbers zones.now) j }
+    ensures below { (result.a < NO_ZONE) × (result.b < NO_ZONE) × (result.c < NO_ZONE)
+        × (result.d < NO_ZONE) }
 {
     Four {
         a: zone_at(zones, 0),
@@ -132,9 +140,11 @@ fn begun_of(
     requires states { length router.now.states.items ≡ length times.now.free }
     requires few_states { length router.now.zones.items ≤ MOST_LINKS }
     requires few { length zones.now ≤ MOST_GROUP }
-    ensures rows { IfOk result (λ begun. length begun.labels.items ≡ (times.now.horizon + 1) * (length router.now.zones.items * 4)) }
+    ensures rows { IfOk result (λ begun. length begun.labels.items
+        ≡ (times.now.horizon + 1) * (length router.now.zones.items * 4)) }
     ensures low { IfOk result (λ begun. All (λ x. x ≤ narrow_far) begun.labels.items) }
-    ensures tails { IfOk result (λ begun. AreBegun times.now.free router.now begun.most begun.labels.items (zone_numbers zones.now)) }
+    ensures tails { IfOk result (λ begun. AreBegun times.now.free router.now begun.most
+        begun.labels.items (zone_numbers zones.now)) }
     ensures walks { IfOk result (λ begun. begun.most < far) }
 {
     let free = free_steps(alloc, times, links)?;
@@ -159,9 +169,11 @@ fn filled_over(
     requires wait { All (λ w. w.wait ≤ wait) router.now.ways.items }
     requires few { length zones.now ≤ MOST_GROUP }
     requires zones { All (λ z. z.0 < NO_ZONE) zones.now }
-    requires rows { length labels.items ≡ (times.now.horizon + 1) * (length router.now.zones.items * 4) }
+    requires rows { length labels.items ≡ (times.now.horizon + 1) *
+        (length router.now.zones.items * 4) }
     requires low { All (λ x. x ≤ narrow_far) labels.items }
-    ensures rows { IfOk result (λ filled. AreFilledOver (time_at times.now) router.now times.now.horizon (zone_numbers zones.now) labels.items filled.items) }
+    ensures rows { IfOk result (λ filled. AreFilledOver (time_at times.now) router.now
+        times.now.horizon (zone_numbers zones.now) labels.items filled.items) }
 {
     let mut spans = Vec::from_elem(alloc, NO_SPAN, router.ways.len())?;
     let wide = router.state_count() * 4;
@@ -192,9 +204,14 @@ pub(crate) fn narrow_rows(
     requires few_states { length router.now.zones.items ≤ MOST_LINKS }
     requires few { length zones.now ≤ MOST_GROUP }
     requires zones { All (λ z. z.0 < NO_ZONE) zones.now }
-    ensures many { IfOk result (λ told. IfSome told (λ labels. length labels.items ≡ (times.now.horizon + 1) * (length router.now.zones.items * 4))) }
-    ensures low { IfOk result (λ told. IfSome told (λ labels. All (λ x. x ≤ narrow_far) labels.items)) }
-    ensures left { IfOk result (λ told. IfSome told (λ labels. AreSlotsLeft (time_at times.now) router.now times.now.horizon labels.items (zone_numbers zones.now))) }
+    ensures many { IfOk result (λ told. IfSome told
+        (λ labels. length labels.items ≡ (times.now.horizon + 1) *
+        (length router.now.zones.items * 4))) }
+    ensures low { IfOk result (λ told. IfSome told
+        (λ labels. All (λ x. x ≤ narrow_far) labels.items)) }
+    ensures left { IfOk result (λ told. IfSome told
+        (λ labels. AreSlotsLeft (time_at times.now) router.now times.now.horizon labels.items
+        (zone_numbers zones.now))) }
 {
     let horizon = times.horizon();
     let wait = most_wait(router);

@@ -1,8 +1,10 @@
 // What is left to four zones side by side, step by step from the horizon down.
-ghost use Rattle.std.specs.Prelude.{◌≡◌, ℕ, ◌+◌, ◌-◌, ◌*◌, ◌<◌, ◌≤◌, ◌^◌, length, slice_index, All, cond, nat_eq, false};
+ghost use Rattle.std.specs.Prelude.{◌≡◌, ℕ, ◌+◌, ◌-◌, ◌*◌, ◌<◌, ◌≤◌, ◌^◌, length, slice_index, All};
+ghost use Rattle.std.specs.Prelude.{cond, nat_eq, false};
 ghost use Rattle.std.specs.List.{slice_range};
 ghost use Rattle.dta_model.specs.LinkTimes.{time_at};
-ghost use Rattle.time_routes.specs.Filling.SlotRows.{narrow_far, slot, slot_rest, slot_value, write_four, IsSlotRowTo, AreSlotRows};
+ghost use Rattle.time_routes.specs.Filling.SlotRows.{narrow_far, slot, slot_rest, slot_value};
+ghost use Rattle.time_routes.specs.Filling.SlotRows.{write_four, IsSlotRowTo, AreSlotRows};
 ghost use Rattle.time_routes.specs.Filling.Rests.{span, least_over};
 ghost use Rattle.time_routes.specs.States.Spans.{AreNarrow, AreShortAt, IsSpans};
 ghost use Rattle.time_routes.specs.declared.states.zone_numbers.TheConstants.{NO_ZONE};
@@ -23,6 +25,18 @@ pub(crate) struct Four {
     pub(crate) d: u32,
 }
 
+/// The row of a step: how many labels a row has, how many rows it stands from the horizon's, and
+/// where it begins; its step and the link times; and the zones of the slots.
+#[derive(Clone, Copy, Drop)]
+struct SlotRow<'a> {
+    wide: usize,
+    back: usize,
+    base: usize,
+    step: u32,
+    times: &'a LinkTimes,
+    wanted: &'a Four,
+}
+
 // The place of what is left after a span.
 #[tactic(auto, using(crate::proofs::OfStates::SpanFacts::place_is))]
 fn place_after(wide: usize, back: usize, base: usize, span: &Span) -> usize
@@ -39,33 +53,31 @@ fn place_after(wide: usize, back: usize, base: usize, span: &Span) -> usize
 
 // The least over the ways on, in four slots.
 #[tactic(auto, unfolding(crate::specs::Filling::Rests::least_over), using(crate::proofs::OfFilling::LeastOver::least_over_le))]
-fn least_four(
-    labels: &[u32],
-    wide: usize,
-    back: usize,
-    base: usize,
-    times: &LinkTimes,
-    spans: &[Span],
-    step: u32,
-    ways: &[Onward],
-) -> Four
-    requires spans { IsSpans (time_at times.now) step wide ways.now spans.now }
-    requires short { AreNarrow wide spans.now }
-    requires rows { back * wide ≤ length labels.now }
-    requires back { (0 < back) × (back + step ≡ times.now.horizon) × (base ≡ back * wide) }
+fn least_four(labels: &[u32], row: &SlotRow, spans: &[Span], ways: &[Onward]) -> Four
+    requires spans { IsSpans (time_at row.now.times.now) row.now.step row.now.wide ways.now
+        spans.now }
+    requires short { AreNarrow row.now.wide spans.now }
+    requires rows { row.now.back * row.now.wide ≤ length labels.now }
+    requires back { (0 < row.now.back) × (row.now.back + row.now.step ≡ row.now.times.now.horizon)
+        × (row.now.base ≡ row.now.back * row.now.wide) }
     requires low { All (λ x. x ≤ narrow_far) labels.now }
-    ensures a { result.a ≡ least_over (time_at times.now) narrow_far (slot_rest wide times.now.horizon labels.now 0) step ways.now }
-    ensures b { result.b ≡ least_over (time_at times.now) narrow_far (slot_rest wide times.now.horizon labels.now 1) step ways.now }
-    ensures c { result.c ≡ least_over (time_at times.now) narrow_far (slot_rest wide times.now.horizon labels.now 2) step ways.now }
-    ensures d { result.d ≡ least_over (time_at times.now) narrow_far (slot_rest wide times.now.horizon labels.now 3) step ways.now }
-    ensures low { (result.a ≤ narrow_far) × (result.b ≤ narrow_far) × (result.c ≤ narrow_far) × (result.d ≤ narrow_far) }
+    ensures a { result.a ≡ least_over (time_at row.now.times.now) narrow_far
+        (slot_rest row.now.wide row.now.times.now.horizon labels.now 0) row.now.step ways.now }
+    ensures b { result.b ≡ least_over (time_at row.now.times.now) narrow_far
+        (slot_rest row.now.wide row.now.times.now.horizon labels.now 1) row.now.step ways.now }
+    ensures c { result.c ≡ least_over (time_at row.now.times.now) narrow_far
+        (slot_rest row.now.wide row.now.times.now.horizon labels.now 2) row.now.step ways.now }
+    ensures d { result.d ≡ least_over (time_at row.now.times.now) narrow_far
+        (slot_rest row.now.wide row.now.times.now.horizon labels.now 3) row.now.step ways.now }
+    ensures low { (result.a ≤ narrow_far) × (result.b ≤ narrow_far) × (result.c ≤ narrow_far)
+        × (result.d ≤ narrow_far) }
 {
     let mut a = NARROW_FAR;
     let mut b = NARROW_FAR;
     let mut c = NARROW_FAR;
     let mut d = NARROW_FAR;
     for span in spans {
-        let place = place_after(wide, back, base, span);
+        let place = place_after(row.wide, row.back, row.base, span);
         a = a.min(labels[place] + span.time);
         b = b.min(labels[place + 1] + span.time);
         c = c.min(labels[place + 2] + span.time);
@@ -85,11 +97,14 @@ fn unless_own(zone: u32, wanted: u32, least: u32) -> u32
 // Writes four labels: nothing in the slots of the state's zone, else the least.
 fn put_four(labels: &mut [u32], place: usize, zone: u32, wanted: &Four, least: &Four)
     requires place { place + 3 < length labels.old }
-    requires wanted { (wanted.now.a < NO_ZONE) × (wanted.now.b < NO_ZONE) × (wanted.now.c < NO_ZONE) × (wanted.now.d < NO_ZONE) }
-    requires low { (least.now.a ≤ narrow_far) × (least.now.b ≤ narrow_far) × (least.now.c ≤ narrow_far) × (least.now.d ≤ narrow_far) }
+    requires wanted { (wanted.now.a < NO_ZONE) × (wanted.now.b < NO_ZONE) × (wanted.now.c < NO_ZONE)
+        × (wanted.now.d < NO_ZONE) }
+    requires low { (least.now.a ≤ narrow_far) × (least.now.b ≤ narrow_far)
+        × (least.now.c ≤ narrow_far) × (least.now.d ≤ narrow_far) }
     requires labels { All (λ x. x ≤ narrow_far) labels.old }
     ensures low { All (λ x. x ≤ narrow_far) labels.new }
-    ensures written { labels.new ≡ write_four labels.old place (λ j. cond (nat_eq zone (slot wanted.now j)) 0 (slot least.now j)) }
+    ensures written { labels.new ≡ write_four labels.old place
+        (λ j. cond (nat_eq zone (slot wanted.now j)) 0 (slot least.now j)) }
 {
     if zone == NO_ZONE {
         put_all(labels, place, least);
@@ -107,7 +122,8 @@ fn put_four(labels: &mut [u32], place: usize, zone: u32, wanted: &Four, least: &
 // Writes four labels.
 fn put_all(labels: &mut [u32], place: usize, values: &Four)
     requires place { place + 3 < length labels.old }
-    requires low { (values.now.a ≤ narrow_far) × (values.now.b ≤ narrow_far) × (values.now.c ≤ narrow_far) × (values.now.d ≤ narrow_far) }
+    requires low { (values.now.a ≤ narrow_far) × (values.now.b ≤ narrow_far)
+        × (values.now.c ≤ narrow_far) × (values.now.d ≤ narrow_far) }
     requires labels { All (λ x. x ≤ narrow_far) labels.old }
     ensures low { All (λ x. x ≤ narrow_far) labels.new }
     ensures written { labels.new ≡ write_four labels.old place (slot values.now) }
@@ -121,36 +137,37 @@ fn put_all(labels: &mut [u32], place: usize, values: &Four)
 // Writes what is left from a state, in four slots.
 fn fill_state(
     labels: &mut [u32],
-    wide: usize,
-    back: usize,
-    base: usize,
-    times: &LinkTimes,
+    row: &SlotRow,
     spans: &[Span],
-    step: u32,
     state: usize,
     zone: u32,
-    wanted: &Four,
     ways: &[Onward],
 )
-    requires spans { IsSpans (time_at times.now) step wide ways.now spans.now }
-    requires short { AreNarrow wide spans.now }
-    requires rows { back * wide + wide ≤ length labels.old }
-    requires state { state * 4 + 3 < wide }
-    requires back { (0 < back) × (back + step ≡ times.now.horizon) × (base ≡ back * wide) }
-    requires wanted { (wanted.now.a < NO_ZONE) × (wanted.now.b < NO_ZONE) × (wanted.now.c < NO_ZONE) × (wanted.now.d < NO_ZONE) }
+    requires spans { IsSpans (time_at row.now.times.now) row.now.step row.now.wide ways.now
+        spans.now }
+    requires short { AreNarrow row.now.wide spans.now }
+    requires rows { row.now.back * row.now.wide + row.now.wide ≤ length labels.old }
+    requires state { state * 4 + 3 < row.now.wide }
+    requires back { (0 < row.now.back) × (row.now.back + row.now.step ≡ row.now.times.now.horizon)
+        × (row.now.base ≡ row.now.back * row.now.wide) }
+    requires wanted { (row.now.wanted.now.a < NO_ZONE) × (row.now.wanted.now.b < NO_ZONE)
+        × (row.now.wanted.now.c < NO_ZONE) × (row.now.wanted.now.d < NO_ZONE) }
     requires low { All (λ x. x ≤ narrow_far) labels.old }
     ensures low { All (λ x. x ≤ narrow_far) labels.new }
-    ensures written { labels.new ≡ write_four labels.old (back * wide + state * 4) (λ j. slot_value (time_at times.now) wide times.now.horizon labels.old j (nat_eq zone (slot wanted.now j)) ways.now step) }
+    ensures written { labels.new ≡ write_four labels.old (row.now.back * row.now.wide + state * 4)
+        (λ j. slot_value (time_at row.now.times.now) row.now.wide row.now.times.now.horizon
+        labels.old j (nat_eq zone (slot row.now.wanted.now j)) ways.now row.now.step) }
 {
-    let least = least_four(labels, wide, back, base, times, spans, step, ways);
-    put_four(labels, base + state * 4, zone, wanted, &least);
+    let least = least_four(labels, row, spans, ways);
+    put_four(labels, row.base + state * 4, zone, row.wanted, &least);
 }
 
 // The spans of the ways on from a state.
 fn spans_on<'s>(router: &Router, spans: &'s [Span], state: usize) -> &'s [Span]
     requires many { length spans.now ≡ length router.now.ways.items }
     requires state { state < length router.now.zones.items }
-    ensures { result.now ≡ slice_range spans.now (slice_index router.now.starts.items state) (slice_index router.now.starts.items (state + 1)) }
+    ensures { result.now ≡ slice_range spans.now (slice_index router.now.starts.items state)
+        (slice_index router.now.starts.items (state + 1)) }
 {
     let from = router.starts[state];
     let to = router.starts[state + 1];
@@ -174,23 +191,27 @@ fn fill_row(
     requires rows { back * wide + wide ≤ length labels.old }
     requires states { length router.now.zones.items * 4 ≡ wide }
     requires back { (0 < back) × (back + step ≡ times.now.horizon) }
-    requires wanted { (wanted.now.a < NO_ZONE) × (wanted.now.b < NO_ZONE) × (wanted.now.c < NO_ZONE) × (wanted.now.d < NO_ZONE) }
+    requires wanted { (wanted.now.a < NO_ZONE) × (wanted.now.b < NO_ZONE) × (wanted.now.c < NO_ZONE)
+        × (wanted.now.d < NO_ZONE) }
     requires low { All (λ x. x ≤ narrow_far) labels.old }
-    ensures { IsSlotRowTo (time_at times.now) wide times.now.horizon labels.old labels.new back step router.now.zones.items wanted.now router.now.starts.items router.now.ways.items (length router.now.zones.items) }
+    ensures { IsSlotRowTo (time_at times.now) wide times.now.horizon labels.old labels.new back step
+        router.now wanted.now (length router.now.zones.items) }
 {
-    let base = back * wide;
+    let row = SlotRow {
+        wide,
+        back,
+        base: back * wide,
+        step,
+        times,
+        wanted,
+    };
     for state in 0..router.state_count() {
         fill_state(
             labels,
-            wide,
-            back,
-            base,
-            times,
+            &row,
             spans_on(router, spans, state),
-            step,
             state,
             router.zone(state),
-            wanted,
             router.ways_on(state),
         );
     }
@@ -214,9 +235,11 @@ pub(crate) fn fill_slots(
     requires rows { length labels.old ≡ (times.now.horizon + 1) * wide }
     requires wide { wide < 2 ^ 31 }
     requires states { length router.now.zones.items * 4 ≡ wide }
-    requires wanted { (wanted.now.a < NO_ZONE) × (wanted.now.b < NO_ZONE) × (wanted.now.c < NO_ZONE) × (wanted.now.d < NO_ZONE) }
+    requires wanted { (wanted.now.a < NO_ZONE) × (wanted.now.b < NO_ZONE) × (wanted.now.c < NO_ZONE)
+        × (wanted.now.d < NO_ZONE) }
     requires low { All (λ x. x ≤ narrow_far) labels.old }
-    ensures { AreSlotRows (time_at times.now) wide times.now.horizon labels.old labels.new router.now.zones.items wanted.now router.now.starts.items router.now.ways.items 0 }
+    ensures { AreSlotRows (time_at times.now) wide times.now.horizon labels.old labels.new
+        router.now wanted.now 0 }
 {
     let horizon = times.horizon();
     let mut step = horizon;

@@ -1,5 +1,6 @@
 // What is left from every state, step by step from the horizon down.
-ghost use Rattle.std.specs.Prelude.{◌≡◌, ℕ, ◌+◌, ◌-◌, ◌*◌, ◌<◌, ◌≤◌, ◌^◌, length, slice_index_or, All, cond, nat_eq, slice_set};
+ghost use Rattle.std.specs.Prelude.{◌≡◌, ℕ, ◌+◌, ◌-◌, ◌*◌, ◌<◌, ◌≤◌, ◌^◌, length, slice_index_or};
+ghost use Rattle.std.specs.Prelude.{All, cond, nat_eq, slice_set};
 ghost use Rattle.dta_model.specs.LinkTimes.{time_at};
 ghost use Rattle.link_times.specs.TimeTables.{IsTimeTable};
 ghost use Rattle.time_routes.specs.Filling.Labels.{far, rest_in, value};
@@ -41,7 +42,8 @@ fn least_way(
     requires rows { back * states ≤ length labels.now }
     requires back { (0 < back) × (back + step ≡ times.now.horizon) }
     requires low { All (λ x. x ≤ far) labels.now }
-    ensures is { result ≡ least_over (time_at times.now) far (rest_in states times.now.horizon labels.now) step ways.now }
+    ensures is { result ≡ least_over (time_at times.now) far
+        (rest_in states times.now.horizon labels.now) step ways.now }
     ensures low { result ≤ far }
 {
     let mut least = FAR;
@@ -84,7 +86,8 @@ fn fill_state(
     requires back { (0 < back) × (back + step ≡ times.now.horizon) }
     requires low { All (λ x. x ≤ far) labels.old }
     ensures low { All (λ x. x ≤ far) labels.new }
-    ensures written { labels.new ≡ slice_set labels.old (back * states + state) (value (time_at times.now) states times.now.horizon labels.old own ways.now step) }
+    ensures written { labels.new ≡ slice_set labels.old (back * states + state)
+        (value (time_at times.now) states times.now.horizon labels.old own ways.now step) }
 {
     let least = if own {
         0
@@ -106,10 +109,12 @@ fn fill_row(
 )
     requires sound { IsTimeTable times.now }
     requires links { length router.now.states.items ≡ length times.now.free }
-    requires rows { back * length router.now.zones.items + length router.now.zones.items ≤ length labels.old }
+    requires rows { back * length router.now.zones.items + length router.now.zones.items
+        ≤ length labels.old }
     requires back { (0 < back) × (back + step ≡ times.now.horizon) }
     requires low { All (λ x. x ≤ far) labels.old }
-    ensures { IsRowTo (time_at times.now) (length router.now.zones.items) times.now.horizon labels.old labels.new back step router.now.zones.items zone router.now.starts.items router.now.ways.items (length router.now.zones.items) }
+    ensures { IsRowTo (time_at times.now) (length router.now.zones.items) times.now.horizon
+        labels.old labels.new back step router.now zone (length router.now.zones.items) }
 {
     let states = router.state_count();
     for state in 0..states {
@@ -133,7 +138,8 @@ pub(crate) fn fill(labels: &mut [u64], times: &LinkTimes, router: &Router, zone:
     requires links { length router.now.states.items ≡ length times.now.free }
     requires rows { length labels.old ≡ (times.now.horizon + 1) * length router.now.zones.items }
     requires low { All (λ x. x ≤ far) labels.old }
-    ensures { AreRows (time_at times.now) (length router.now.zones.items) times.now.horizon labels.old labels.new router.now.zones.items zone router.now.starts.items router.now.ways.items 0 }
+    ensures { AreRows (time_at times.now) (length router.now.zones.items) times.now.horizon
+        labels.old labels.new router.now zone 0 }
 {
     let horizon = times.horizon();
     let mut step = horizon;

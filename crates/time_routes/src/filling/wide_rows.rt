@@ -1,5 +1,7 @@
-// What is left to each zone of a group, in 64 bits: rows for each zone, filled from the horizon down.
-ghost use Rattle.std.specs.Prelude.{◌≡◌, ◌+◌, ◌*◌, ◌<◌, ◌≤◌, ℕ, length, map, slice_index, All, IfOk};
+// What is left to each zone of a group, in 64 bits: rows for each zone, filled from the horizon
+// down.
+ghost use Rattle.std.specs.Prelude.{◌≡◌, ◌+◌, ◌*◌, ◌<◌, ◌≤◌, ℕ, length, map, slice_index, All};
+ghost use Rattle.std.specs.Prelude.{IfOk};
 ghost use Rattle.net_core.specs.declared.rows.TheConstants.{MOST_LINKS};
 ghost use Rattle.dta_model.specs.LinkTimes.{time_at};
 ghost use Rattle.link_times.specs.TimeTables.{IsTimeTable};
@@ -23,7 +25,8 @@ fn put_tail(labels: &mut [u64], tail: &[u64])
     requires labels { All (λ x. x ≤ far) labels.old }
     ensures many { length labels.new ≡ length labels.old }
     ensures low { All (λ x. x ≤ far) labels.new }
-    ensures tail { (s : ℕ) → s < length tail.now → slice_index labels.new s ≡ slice_index tail.now s }
+    ensures tail { (s : ℕ) → s < length tail.now
+        → slice_index labels.new s ≡ slice_index tail.now s }
 {
     for state in 0..tail.len() {
         labels[state] = tail[state];
@@ -38,8 +41,10 @@ fn fill_over(labels: &mut [u64], tail: &[u64], times: &LinkTimes, router: &Route
     requires rows { length labels.old ≡ (times.now.horizon + 1) * length router.now.zones.items }
     requires tail_low { All (λ x. x ≤ far) tail.now }
     requires low { All (λ x. x ≤ far) labels.old }
-    ensures tail { (s : ℕ) → s < length tail.now → slice_index labels.new s ≡ slice_index tail.now s }
-    ensures rows { AreRows (time_at times.now) (length router.now.zones.items) times.now.horizon labels.new labels.new router.now.zones.items zone router.now.starts.items router.now.ways.items 0 }
+    ensures tail { (s : ℕ) → s < length tail.now
+        → slice_index labels.new s ≡ slice_index tail.now s }
+    ensures rows { AreRows (time_at times.now) (length router.now.zones.items) times.now.horizon
+        labels.new labels.new router.now zone 0 }
     ensures many { length labels.new ≡ length labels.old }
 {
     put_tail(labels, tail);
@@ -58,9 +63,12 @@ fn rows_over(
     requires few { length router.now.zones.items ≤ MOST_LINKS }
     requires tail { length tail.now ≡ length router.now.zones.items }
     requires low { All (λ x. x ≤ far) tail.now }
-    ensures tail { IfOk result (λ rows. (s : ℕ) → s < length tail.now → slice_index rows.items s ≡ slice_index tail.now s) }
-    ensures rows { IfOk result (λ rows. AreRows (time_at times.now) (length router.now.zones.items) times.now.horizon rows.items rows.items router.now.zones.items zone router.now.starts.items router.now.ways.items 0) }
-    ensures many { IfOk result (λ rows. length rows.items ≡ (times.now.horizon + 1) * length router.now.zones.items) }
+    ensures tail { IfOk result (λ rows. (s : ℕ) → s < length tail.now
+        → slice_index rows.items s ≡ slice_index tail.now s) }
+    ensures rows { IfOk result (λ rows. AreRows (time_at times.now) (length router.now.zones.items)
+        times.now.horizon rows.items rows.items router.now zone 0) }
+    ensures many { IfOk result (λ rows. length rows.items
+        ≡ (times.now.horizon + 1) * length router.now.zones.items) }
     ensures low { IfOk result (λ rows. All (λ x. x ≤ far) rows.items) }
 {
     let states = router.state_count();
@@ -80,8 +88,10 @@ fn row_of(
     requires links { links ≡ length times.now.free }
     requires states { length router.now.states.items ≡ length times.now.free }
     requires few { length router.now.zones.items ≤ MOST_LINKS }
-    ensures left { IfOk result (λ row. AreLeft (time_at times.now) (rest_in (length router.now.zones.items) times.now.horizon row.items) router.now zone) }
-    ensures many { IfOk result (λ row. length row.items ≡ (times.now.horizon + 1) * length router.now.zones.items) }
+    ensures left { IfOk result (λ row. AreLeft (time_at times.now)
+        (rest_in (length router.now.zones.items) times.now.horizon row.items) router.now zone) }
+    ensures many { IfOk result (λ row. length row.items
+        ≡ (times.now.horizon + 1) * length router.now.zones.items) }
     ensures low { IfOk result (λ row. All (λ x. x ≤ far) row.items) }
 {
     let _sound = times.horizon();
@@ -103,9 +113,11 @@ pub(crate) fn wide_rows(
     requires states { length router.now.states.items ≡ length times.now.free }
     requires few { length router.now.zones.items ≤ MOST_LINKS }
     ensures many { IfOk result (λ rows. length rows.items ≡ length zones.now) }
-    ensures sizes { IfOk result (λ rows. All (λ row. length row.items ≡ (times.now.horizon + 1) * length router.now.zones.items) rows.items) }
+    ensures sizes { IfOk result (λ rows. All (λ row. length row.items
+        ≡ (times.now.horizon + 1) * length router.now.zones.items) rows.items) }
     ensures low { IfOk result (λ rows. All (λ row. All (λ x. x ≤ far) row.items) rows.items) }
-    ensures left { IfOk result (λ rows. AreRowsLeft (time_at times.now) router.now times.now.horizon (map (λ row. row.items) rows.items) (zone_numbers zones.now)) }
+    ensures left { IfOk result (λ rows. AreRowsLeft (time_at times.now) router.now times.now.horizon
+        (map (λ row. row.items) rows.items) (zone_numbers zones.now)) }
 {
     let mut rows = Vec::new(alloc);
     for zone in zones {

@@ -9,6 +9,7 @@ use crate::filling::fill_table::table_of;
 use crate::filling::label_table::LabelTable;
 use crate::reading::least::least_label;
 use crate::reading::walk::walk_of;
+use crate::reading::zone_labels::ZoneLabels;
 use crate::states::by_zone::{ByZone, links_by_zone};
 use crate::states::network_router::router_of;
 use crate::states::router::Router;
@@ -67,7 +68,11 @@ impl<'a> GroupLabels<'a> {
         requires few { length zones.now ≤ MOST_GROUP }
         requires table { length times.now.free ≡ length net.now.links }
         requires zones { All (λ z. z.0 < length (zones_of net.now.nodes)) zones.now }
-        ensures { IfOk result (λ labels. labels ≡ record { net = net.now; times = times.now; zones = zone_numbers zones.now }) }
+        ensures { IfOk result (λ labels. labels ≡ record {
+          net = net.now;
+          times = times.now;
+          zones = zone_numbers zones.now;
+        }) }
     {
         let router = router_of(alloc, net)?;
         let firsts = links_by_zone(alloc, net)?;
@@ -89,17 +94,17 @@ impl<'a> GroupLabels<'a> {
         requires place { place < length self.now.zones }
         requires origin { origin.0 < length (zones_of self.now.net.nodes) }
         requires other { origin.0 ≢ slice_index self.now.zones place }
-        ensures { TellsLeast (time_at self.now.times) self.now.net (zone_named self.now.net origin.0) (destination self.now place) step result }
+        ensures { TellsLeast (time_at self.now.times) self.now.net
+            (zone_named self.now.net origin.0) (destination self.now place) step result }
     {
         let firsts = self.firsts.get(origin.0);
-        least_label(
-            &self.labels,
+        let labels = ZoneLabels {
+            table: &self.labels,
             place,
-            &self.router,
-            self.times,
-            firsts,
-            step as u64,
-        )
+            router: &self.router,
+            times: self.times,
+        };
+        least_label(&labels, firsts, step as u64)
     }
 
     /// The chosen walk from a zone to the zone at a place of the group, started in a step: of the
@@ -114,15 +119,19 @@ impl<'a> GroupLabels<'a> {
         requires place { place < length self.now.zones }
         requires origin { origin.0 < length (zones_of self.now.net.nodes) }
         requires other { origin.0 ≢ slice_index self.now.zones place }
-        ensures { IfOk result (λ route. TellsWalk (time_at self.now.times) self.now.net (zone_named self.now.net origin.0) (destination self.now place) step route) }
+        ensures { IfOk result (λ route. TellsWalk (time_at self.now.times) self.now.net
+            (zone_named self.now.net origin.0) (destination self.now place) step route) }
     {
         let firsts = self.firsts.get(origin.0);
+        let labels = ZoneLabels {
+            table: &self.labels,
+            place,
+            router: &self.router,
+            times: self.times,
+        };
         walk_of(
             alloc,
-            &self.labels,
-            place,
-            &self.router,
-            self.times,
+            &labels,
             self.net,
             self.zones[place].0,
             firsts,

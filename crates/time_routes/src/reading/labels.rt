@@ -39,7 +39,11 @@ impl<'a> Labels<'a> {
     ) -> Result<Self, Memory>
         requires table { length times.now.free ≡ length net.now.links }
         requires zone { zone.0 < length (zones net.now.nodes) }
-        ensures { IfOk result (λ labels. labels ≡ record { net = net.now; times = times.now; zone = zone.0 }) }
+        ensures { IfOk result (λ labels. labels ≡ record {
+          net = net.now;
+          times = times.now;
+          zone = zone.0;
+        }) }
     {
         let group = GroupLabels::to_zones(alloc, net, times, &[zone])?;
         Ok(Labels { group })
@@ -50,17 +54,20 @@ impl<'a> Labels<'a> {
     pub fn least(&self, origin: ZoneNo, step: u32) -> Option<u64>
         requires origin { origin.0 < length (zones self.now.net.nodes) }
         requires other { origin.0 ≢ self.now.zone }
-        ensures { TellsLeast (time_at self.now.times) self.now.net (zone_named self.now.net origin.0) (zone_named self.now.net self.now.zone) step result }
+        ensures { TellsLeast (time_at self.now.times) self.now.net
+            (zone_named self.now.net origin.0) (zone_named self.now.net self.now.zone) step result }
     {
         self.group.least(0, origin, step)
     }
 
-    /// The chosen walk from a zone to the labels' zone, started in a step: of the walks of the least
+    /// The chosen walk from a zone to the labels' zone, started in a step: of the walks of the
+    /// least
     /// time the first in the order of link numbers. None where there is no walk.
     pub fn walk(&self, alloc: Global, origin: ZoneNo, step: u32) -> Result<Option<Route>, Memory>
         requires origin { origin.0 < length (zones self.now.net.nodes) }
         requires other { origin.0 ≢ self.now.zone }
-        ensures { IfOk result (λ route. TellsWalk (time_at self.now.times) self.now.net (zone_named self.now.net origin.0) (zone_named self.now.net self.now.zone) step route) }
+        ensures { IfOk result (λ route. TellsWalk (time_at self.now.times) self.now.net
+            (zone_named self.now.net origin.0) (zone_named self.now.net self.now.zone) step route) }
     {
         self.group.walk(alloc, 0, origin, step)
     }

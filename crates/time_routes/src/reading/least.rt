@@ -2,31 +2,25 @@
 ghost use Rattle.std.specs.Prelude.{◌≡◌, ◌<◌, ◌^◌, length, All};
 ghost use Rattle.dta_model.specs.LinkTimes.{time_at};
 ghost use Rattle.time_routes.specs.Reading.Serves.{Fit, label_in, lesser, LeastSoFar};
+ghost use Rattle.time_routes.specs.Reading.OfZone.{AreFit, label_to};
 ghost use Rattle.time_routes.specs.Filling.Tables.{rests};
 
-use crate::filling::label_table::LabelTable;
 use crate::filling::no_walk::FAR;
-use crate::states::router::Router;
-use link_times::LinkTimes;
+use crate::reading::zone_labels::ZoneLabels;
 use net_core::LinkNo;
 
 // The time from the entry of a link at a step, where there is a walk.
 #[tactic(auto, unfolding(crate::specs::Filling::Rests::label_of), using(crate::proofs::OfReading::Leasts::label_some))]
-pub(crate) fn label_at(
-    labels: &LabelTable,
-    place: usize,
-    router: &Router,
-    times: &LinkTimes,
-    link: u32,
-    step: u64,
-) -> Option<u64>
-    requires fit { Fit labels.now place router.now times.now }
-    requires link { link < length times.now.free }
+pub(crate) fn label_at(labels: &ZoneLabels, link: u32, step: u64) -> Option<u64>
+    requires fit { AreFit labels.now }
+    requires link { link < length labels.now.times.now.free }
     requires step { step < 2 ^ 63 }
-    ensures { result ≡ label_in (time_at times.now) (rests labels.now place) router.now link step }
+    ensures { result ≡ label_to labels.now link step }
 {
-    let time = times.at(LinkNo(link), step) as u64;
-    let rest = labels.rest_at(place, router.state(link), step + time);
+    let time = labels.times.at(LinkNo(link), step) as u64;
+    let rest = labels
+        .table
+        .rest_at(labels.place, labels.router.state(link), step + time);
     if rest < FAR { Some(time + rest) } else { None }
 }
 
@@ -45,22 +39,15 @@ fn smaller(a: Option<u64>, b: Option<u64>) -> Option<u64>
 
 /// The least label of some links.
 #[tactic(auto, using(crate::proofs::OfReading::Leasts::LeastSoFar_none, crate::proofs::OfReading::Leasts::LeastSoFar_more))]
-pub(crate) fn least_label(
-    labels: &LabelTable,
-    place: usize,
-    router: &Router,
-    times: &LinkTimes,
-    firsts: &[u32],
-    step: u64,
-) -> Option<u64>
-    requires fit { Fit labels.now place router.now times.now }
-    requires firsts { All (λ l. l < length times.now.free) firsts.now }
+pub(crate) fn least_label(labels: &ZoneLabels, firsts: &[u32], step: u64) -> Option<u64>
+    requires fit { AreFit labels.now }
+    requires firsts { All (λ l. l < length labels.now.times.now.free) firsts.now }
     requires step { step < 2 ^ 63 }
-    ensures { LeastSoFar (λ l. label_in (time_at times.now) (rests labels.now place) router.now l step) firsts.now (length firsts.now) result }
+    ensures { LeastSoFar (λ l. label_to labels.now l step) firsts.now (length firsts.now) result }
 {
     let mut least = None;
     for link in firsts {
-        least = smaller(least, label_at(labels, place, router, times, *link, step));
+        least = smaller(least, label_at(labels, *link, step));
     }
     least
 }

@@ -1,10 +1,14 @@
 // Vehicles by their destinations, and what is told of them: least times and chosen walks.
-ghost use Rattle.std.specs.Prelude.{◌≡◌, ◌≢◌, ◌+◌, ◌<◌, ◌≤◌, ℕ, List, [], length, slice_index, slice_get, get_or, replicate, All, Some, None, IfOk, OnOk};
+ghost use Rattle.std.specs.Prelude.{◌≡◌, ◌≢◌, ◌+◌, ◌<◌, ◌≤◌, ℕ, List, [], length, slice_index};
+ghost use Rattle.std.specs.Prelude.{slice_get, get_or, replicate, All, Some, None, IfOk, OnOk};
 ghost use Rattle.net_core.specs.Grouped.{Grouped};
 ghost use Rattle.net_core.specs.Network.{numbers_below, zone_number, zones as zones_of};
 ghost use Rattle.dta_model.specs.LinkTimes.{time_at};
 ghost use Rattle.dta_model.specs.Sound.{AreTrips};
-ghost use Rattle.time_routes.specs.Destinations.{asks_least, asks_walk, AreAsMany, AreTold, IsRight, LeadsTo, LeadsToFirst, LeastOf, noted, Settles, Stands, Tells, UnaskedAreNone, WalkOf, wanted, wanted_zone};
+ghost use Rattle.time_routes.specs.Destinations.{asks_least, asks_walk, AreAsMany, AreTold};
+ghost use Rattle.time_routes.specs.Destinations.{IsRight, LeadsTo, LeadsToFirst, LeastOf, noted};
+ghost use Rattle.time_routes.specs.Destinations.{Settles, Stands, Tells, UnaskedAreNone, WalkOf};
+ghost use Rattle.time_routes.specs.Destinations.{wanted, wanted_zone};
 ghost use Rattle.time_routes.specs.ToZone.{zone_numbers};
 
 use crate::reading::group_labels::{GroupLabels, MOST_GROUP};
@@ -63,7 +67,8 @@ fn zone_wanted(net: &Net, trip: &Trip, ask: Ask) -> u32
 fn by_destination(alloc: Global, net: &Net, trips: &[Trip], asks: &[Ask]) -> Result<ByZone, Memory>
     requires few { length trips.now ≤ MOST_TRIPS }
     requires each { length asks.now ≡ length trips.now }
-    ensures { IfOk result (λ lists. Grouped lists (length (zones_of net.now.nodes)) (wanted_zone net.now trips.now asks.now) (numbers_below (length trips.now))) }
+    ensures { IfOk result (λ lists. Grouped lists (length (zones_of net.now.nodes))
+        (wanted_zone net.now trips.now asks.now) (numbers_below (length trips.now))) }
 {
     let _sound = net.node_count();
     let mut lists = ByZone::new(alloc, net.zone_count())?;
@@ -87,7 +92,8 @@ fn note(found: &mut Vec<ZoneNo>, zone: ZoneNo, vehicles: &[u32]) -> Result<(), M
 fn destinations(alloc: Global, lists: &ByZone, zones: u32) -> Result<Vec<ZoneNo>, Memory>
     requires { length lists.now ≡ zones }
     ensures inside { IfOk result (λ found. All (λ zone. zone.0 < zones) found.items) }
-    ensures each { IfOk result (λ found. (z : ℕ) → z < zones → get_or lists.now z [] ≢ [] → Stands (zone_numbers found.items) z) }
+    ensures each { IfOk result (λ found. (z : ℕ) → z < zones → get_or lists.now z [] ≢ []
+        → Stands (zone_numbers found.items) z) }
 {
     let mut found = Vec::new(alloc);
     for zone in 0..zones {
@@ -100,7 +106,8 @@ fn destinations(alloc: Global, lists: &ByZone, zones: u32) -> Result<Vec<ZoneNo>
 fn least_told(net: &Net, labels: &GroupLabels, place: usize, trip: &Trip) -> Option<u64>
     requires net { labels.now.net ≡ net.now }
     requires place { place < length labels.now.zones }
-    requires to { zone_number net.now trip.now.destination ≡ Some (slice_index labels.now.zones place) }
+    requires to { zone_number net.now trip.now.destination
+        ≡ Some (slice_index labels.now.zones place) }
     requires apart { trip.now.origin ≢ trip.now.destination }
     ensures { LeastOf (time_at labels.now.times) net.now trip.now result }
 {
@@ -120,7 +127,8 @@ fn walk_told(
 ) -> Result<Option<Route>, Memory>
     requires net { labels.now.net ≡ net.now }
     requires place { place < length labels.now.zones }
-    requires to { zone_number net.now trip.now.destination ≡ Some (slice_index labels.now.zones place) }
+    requires to { zone_number net.now trip.now.destination
+        ≡ Some (slice_index labels.now.zones place) }
     requires apart { trip.now.origin ≢ trip.now.destination }
     ensures { IfOk result (λ walk. WalkOf (time_at labels.now.times) net.now trip.now walk) }
 {
@@ -146,7 +154,8 @@ fn tell_least(
     requires asks { length asks.now ≡ length trips.now }
     requires leasts { length leasts.old.items ≡ length trips.now }
     requires to { LeadsTo net.now trips.now asks.now (slice_index labels.now.zones place) vehicle }
-    ensures { Settles (asks_least asks.now) (IsRight (LeastOf (time_at labels.now.times) net.now) (asks_least asks.now) trips.now) (λ v. v ≡ vehicle) leasts.old.items leasts.new.items }
+    ensures { Settles (asks_least asks.now) (IsRight (LeastOf (time_at labels.now.times) net.now)
+        (asks_least asks.now) trips.now) (λ v. v ≡ vehicle) leasts.old.items leasts.new.items }
 {
     let v = vehicle as usize;
     if asks[v].least {
@@ -171,7 +180,9 @@ fn tell_walk(
     requires asks { length asks.now ≡ length trips.now }
     requires walks { length walks.old.items ≡ length trips.now }
     requires to { LeadsTo net.now trips.now asks.now (slice_index labels.now.zones place) vehicle }
-    ensures { OnOk result (Settles (asks_walk asks.now) (IsRight (WalkOf (time_at labels.now.times) net.now) (asks_walk asks.now) trips.now) (λ v. v ≡ vehicle) walks.old.items walks.new.items) }
+    ensures { OnOk result (Settles (asks_walk asks.now)
+        (IsRight (WalkOf (time_at labels.now.times) net.now) (asks_walk asks.now) trips.now)
+        (λ v. v ≡ vehicle) walks.old.items walks.new.items) }
 {
     let v = vehicle as usize;
     if asks[v].walk {
@@ -196,8 +207,10 @@ fn tell_vehicles(
     requires apart { All (λ trip. trip.origin ≢ trip.destination) trips.now }
     requires asks { length asks.now ≡ length trips.now }
     requires told { AreAsMany told.old (length trips.now) }
-    requires to { All (LeadsTo net.now trips.now asks.now (slice_index labels.now.zones place)) vehicles.now }
-    ensures { OnOk result (Tells (time_at labels.now.times) net.now trips.now asks.now (Stands vehicles.now) told.old told.new) }
+    requires to { All (LeadsTo net.now trips.now asks.now (slice_index labels.now.zones place))
+        vehicles.now }
+    ensures { OnOk result (Tells (time_at labels.now.times) net.now trips.now asks.now
+        (Stands vehicles.now) told.old told.new) }
 {
     for vehicle in vehicles {
         tell_least(net, labels, place, trips, asks, *vehicle, &mut told.leasts);
@@ -229,13 +242,15 @@ fn tell_group(
     requires table { length times.now.free ≡ length net.now.links }
     requires apart { All (λ trip. trip.origin ≢ trip.destination) trips.now }
     requires asks { length asks.now ≡ length trips.now }
-    requires lists { Grouped lists.now (length (zones_of net.now.nodes)) (wanted_zone net.now trips.now asks.now) (numbers_below (length trips.now)) }
+    requires lists { Grouped lists.now (length (zones_of net.now.nodes))
+        (wanted_zone net.now trips.now asks.now) (numbers_below (length trips.now)) }
     requires some { 1 ≤ length zones.now }
     requires few { length zones.now ≤ MOST_GROUP }
     requires numbers { length (zones_of net.now.nodes) ≤ NO_ZONE }
     requires zones { All (λ zone. zone.0 < length (zones_of net.now.nodes)) zones.now }
     requires told { AreAsMany told.old (length trips.now) }
-    ensures { OnOk result (Tells (time_at times.now) net.now trips.now asks.now (LeadsToFirst net.now trips.now asks.now zones.now (length zones.now)) told.old told.new) }
+    ensures { OnOk result (Tells (time_at times.now) net.now trips.now asks.now
+        (LeadsToFirst net.now trips.now asks.now zones.now (length zones.now)) told.old told.new) }
 {
     let labels = GroupLabels::to_zones(alloc, net, times, zones)?;
     for place in 0..zones.len() {
@@ -260,11 +275,13 @@ fn tell_groups(
     requires table { length times.now.free ≡ length net.now.links }
     requires apart { All (λ trip. trip.origin ≢ trip.destination) trips.now }
     requires asks { length asks.now ≡ length trips.now }
-    requires lists { Grouped lists.now (length (zones_of net.now.nodes)) (wanted_zone net.now trips.now asks.now) (numbers_below (length trips.now)) }
+    requires lists { Grouped lists.now (length (zones_of net.now.nodes))
+        (wanted_zone net.now trips.now asks.now) (numbers_below (length trips.now)) }
     requires numbers { length (zones_of net.now.nodes) ≤ NO_ZONE }
     requires zones { All (λ zone. zone.0 < length (zones_of net.now.nodes)) zones.now }
     requires told { AreAsMany told.old (length trips.now) }
-    ensures { OnOk result (Tells (time_at times.now) net.now trips.now asks.now (LeadsToFirst net.now trips.now asks.now zones.now (length zones.now)) told.old told.new) }
+    ensures { OnOk result (Tells (time_at times.now) net.now trips.now asks.now
+        (LeadsToFirst net.now trips.now asks.now zones.now (length zones.now)) told.old told.new) }
 {
     let mut first = 0;
     while first < zones.len() {
@@ -297,10 +314,14 @@ pub fn tell(
     requires table { length times.now.free ≡ length net.now.links }
     requires trips { AreTrips trips.now }
     requires each { length asks.now ≡ length trips.now }
-    ensures leasts { IfOk result (λ told. AreTold (LeastOf (time_at times.now) net.now) (asks_least asks.now) trips.now told.leasts.items) }
-    ensures walks { IfOk result (λ told. AreTold (WalkOf (time_at times.now) net.now) (asks_walk asks.now) trips.now told.walks.items) }
-    ensures unasked_leasts { IfOk result (λ told. UnaskedAreNone (asks_least asks.now) told.leasts.items) }
-    ensures unasked_walks { IfOk result (λ told. UnaskedAreNone (asks_walk asks.now) told.walks.items) }
+    ensures leasts { IfOk result (λ told. AreTold (LeastOf (time_at times.now) net.now)
+        (asks_least asks.now) trips.now told.leasts.items) }
+    ensures walks { IfOk result (λ told. AreTold (WalkOf (time_at times.now) net.now)
+        (asks_walk asks.now) trips.now told.walks.items) }
+    ensures unasked_leasts { IfOk result (λ told. UnaskedAreNone (asks_least asks.now)
+        told.leasts.items) }
+    ensures unasked_walks { IfOk result (λ told. UnaskedAreNone (asks_walk asks.now)
+        told.walks.items) }
 {
     let lists = by_destination(alloc, net, trips, asks)?;
     let zones = destinations(alloc, &lists, net.zone_count())?;

@@ -1,5 +1,6 @@
 // The links that begin in each zone.
-ghost use Rattle.std.specs.Prelude.{◌≡◌, ◌≢◌, ◌+◌, ◌<◌, ◌++◌, ◌∷◌, ℕ, List, [], length, replicate, set, get_or, All, IfOk, OnOk};
+ghost use Rattle.std.specs.Prelude.{◌≡◌, ◌≢◌, ◌+◌, ◌<◌, ◌++◌, ◌∷◌, ℕ, List, [], length, replicate};
+ghost use Rattle.std.specs.Prelude.{set, get_or, All, IfOk, OnOk};
 ghost use Rattle.net_core.specs.Grouped.{Grouped};
 ghost use Rattle.net_core.specs.Network.{link_at, IsNet, numbers_below, zones};
 ghost use Rattle.time_routes.specs.States.Onwards.{begin_zone};
@@ -47,7 +48,8 @@ impl ByZone {
     #[tactic(auto, using(net_core::proofs::BucketsFacts::pushed))]
     fn push(&mut self, zone: u32, link: u32) -> Result<(), Memory>
         requires { zone < length self.old }
-        ensures { OnOk result (self.new ≡ set self.old zone (get_or self.old zone [] ++ link ∷ [])) }
+        ensures { OnOk result (self.new ≡ set self.old zone
+            (get_or self.old zone [] ++ link ∷ [])) }
     {
         self.lists[zone as usize].push(link)?;
         Ok(())
@@ -57,7 +59,9 @@ impl ByZone {
     pub(crate) fn note(&mut self, zone: u32, link: u32) -> Result<(), Memory>
         requires zone { zone ≢ NO_ZONE → zone < length self.old }
         requires short { length self.old < NO_ZONE }
-        ensures { OnOk result ((number : ℕ → ℕ) (items : List ℕ) → number link ≡ zone → Grouped self.old (length self.old) number items → Grouped self.new (length self.old) number (items ++ link ∷ [])) }
+        ensures { OnOk result ((number : ℕ → ℕ) (items : List ℕ) → number link ≡ zone
+            → Grouped self.old (length self.old) number items
+            → Grouped self.new (length self.old) number (items ++ link ∷ [])) }
     {
         if zone == NO_ZONE {
             Ok(())
@@ -92,7 +96,8 @@ fn zone_of_begin(net: &Net, link: LinkNo) -> u32
 /// The links that begin in each zone of a network.
 #[tactic(auto, using(crate::proofs::OfStates::ByZoneFacts::grouped_more))]
 pub(crate) fn links_by_zone(alloc: Global, net: &Net) -> Result<ByZone, Memory>
-    ensures { IfOk result (λ firsts. Grouped firsts (length (zones net.now.nodes)) (begin_zone net.now) (numbers_below (length net.now.links))) }
+    ensures { IfOk result (λ firsts. Grouped firsts (length (zones net.now.nodes))
+        (begin_zone net.now) (numbers_below (length net.now.links))) }
 {
     let links = net.link_count();
     let mut firsts = ByZone::new(alloc, net.zone_count())?;

@@ -29,7 +29,8 @@ struct Leads {
 impl Leads {
     // No state yet, for so many nodes.
     fn new(alloc: Global, nodes: u32) -> Result<Self, Memory>
-        ensures { IfOk result (λ leads. (leads.links.items ≡ []) × (leads.at_node.items ≡ replicate nodes NO_STATE)) }
+        ensures { IfOk result (λ leads. (leads.links.items ≡ [])
+            × (leads.at_node.items ≡ replicate nodes NO_STATE)) }
     {
         let at_node = Vec::from_elem(alloc, NO_STATE, nodes as usize)?;
         Ok(Leads {
@@ -60,7 +61,8 @@ impl Leads {
         requires nodes { AreAtNodes net.now self.old.links.items self.old.at_node.items }
         ensures led { IfOk result (λ state. IsLed net.now self.new.links.items link.0 state) }
         ensures grown { OnOk result (Grows self.old.links.items link.0 self.new.links.items) }
-        ensures nodes { OnOk result (AreAtNodes net.now self.new.links.items self.new.at_node.items) }
+        ensures nodes { OnOk result (AreAtNodes net.now self.new.links.items
+            self.new.at_node.items) }
     {
         let node = end_of(net, link);
         if net.is_named(node) {

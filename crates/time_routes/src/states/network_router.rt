@@ -23,7 +23,8 @@ fn zone_of_end(net: &Net, link: LinkNo) -> u32
 
 // Adds the way on by a turn, where it is allowed.
 fn add_way(ways: &mut Vec<Onward>, turn: Option<Turn>, link: LinkNo, to: u32) -> Result<(), Memory>
-    ensures { OnOk result ((others : List Onward) → ways.new.items ++ others ≡ ways.old.items ++ with_turn turn link.0 to others) }
+    ensures { OnOk result ((others : List Onward)
+        → ways.new.items ++ others ≡ ways.old.items ++ with_turn turn link.0 to others) }
 {
     if let Some(turn) = turn {
         ways.push(Onward {

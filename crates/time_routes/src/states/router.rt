@@ -2,7 +2,7 @@
 ghost use Rattle.std.specs.Prelude.{◌≡◌, ◌<◌, ◌≤◌, length, slice_index, All, nat_eq};
 ghost use Rattle.net_core.specs.declared.rows.TheConstants.{MOST_PENALTY_STEPS};
 ghost use Rattle.time_routes.specs.States.Routers.{AreWays};
-ghost use Rattle.time_routes.specs.Filling.FreeFlow.{ways_of};
+ghost use Rattle.time_routes.specs.States.Routers.{ways_of};
 
 use crate::states::onward::Onward;
 

@@ -80,7 +80,8 @@ pub(crate) fn keep(
     requires short { AreShortAt (time_at times.now) step router.now.ways.items }
     requires many { length spans.old ≡ length router.now.ways.items }
     requires waits { waits ≡ false → All (λ w. w.wait ≡ 0) router.now.ways.items }
-    requires next { step + 1 < times.now.horizon → IsSpans (time_at times.now) (step + 1) wide router.now.ways.items spans.old }
+    requires next { step + 1 < times.now.horizon
+        → IsSpans (time_at times.now) (step + 1) wide router.now.ways.items spans.old }
     ensures { IsSpans (time_at times.now) step wide router.now.ways.items spans.new }
 {
     if waits || is_last(times, step) {

@@ -6,9 +6,9 @@ use Rattle.time_routes.proofs.filling.free_flow.sweep.Given as goal
 
 abbrev pub invariant-loop-state : goal.invariant-loop-state
 invariant-loop-state l =
-    (AreAbove l.free l.router.starts.items l.router.ways.items l.router.zones.items l.zone l.initial.tail → AreAbove l.free l.router.starts.items l.router.ways.items l.router.zones.items l.zone l.tail)
+    (AreAbove l.free l.router l.zone l.initial.tail → AreAbove l.free l.router l.zone l.tail)
     × (AreShort l.initial.tail → AreShort l.tail)
-    × (l.changed ≡ false → (k : ℕ) → k < l.state → get_or l.tail k 0 ≤ value l.free l.router.starts.items l.router.ways.items l.router.zones.items l.zone l.tail k)
+    × (l.changed ≡ false → (k : ℕ) → k < l.state → get_or l.tail k 0 ≤ value l.free l.router l.zone l.tail k)
     × (sum l.tail + cond l.changed 1 0 ≤ sum l.initial.tail)
     × (All (λ x. x ≤ far) l.tail)
     × (length l.tail ≡ length l.initial.tail)

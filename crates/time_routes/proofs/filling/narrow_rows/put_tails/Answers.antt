@@ -26,7 +26,7 @@ loop-slot-preserved c =
       omega (arith, c.max-most.ensures, i.2, put.walks),
       AreSlotTails_more free r c.loop-slot.most c.put_tail.result c.max-most.result c.loop-slot.labels c.put_tail.new.labels (zone_numbers zones) slot tail
           (omega (arith, small, c.requires.few)) (omega (arith, c.max-most.ensures)) (omega (arith, c.max-most.ensures)) c.in_ok-tail.ensures.many
-          (subst (λ z. AreSettled free r.starts.items r.ways.items r.zones.items z tail) zone c.in_ok-tail.ensures.settled)
+          (subst (λ z. AreSettled free r z tail) zone c.in_ok-tail.ensures.settled)
           (subst (λ xs. (s : ℕ) → s < length xs → get_or xs s 0 < far → get_or xs s 0 ≤ c.put_tail.result) same put.near)
           (subst (λ xs. (s : ℕ) → s < length xs → get_or c.put_tail.new.labels (s * 4 + slot) 0 ≡ min (get_or xs s 0) narrow_far) same put.put)
           put.other (i.3),

@@ -4,7 +4,7 @@ use Rattle.dta_model.specs.LinkTimes.{time_at}
 use Rattle.time_routes.specs.Filling.SlotRows.{narrow_far}
 use Rattle.time_routes.specs.Filling.Rests.{span}
 use Rattle.time_routes.specs.States.Spans.{AreNarrow, IsSpans}
-use Rattle.time_routes.specs.Filling.FreeFlow.{ways_of}
+use Rattle.time_routes.specs.States.Routers.{ways_of}
 use Rattle.time_routes.proofs.OfFilling.SlotFacts.{IsSlotRowTo_next}
 use Rattle.time_routes.proofs.OfFilling.WideRowFacts.{All_range}
 use Rattle.time_routes.proofs.OfStates.SpanFacts.{IsSpans_range, spans_short, wide_inside}
@@ -23,7 +23,7 @@ loop-state-preserved c =
     let o = r.inside.order s small in
     let inside = All_range (λ w. w.to * 4 + 3 < wide) ways (get_or starts s 0) (get_or starts (s + 1) 0) (o.0) (o.1) (wide_inside (length r.zones.items) wide ways c.requires.states r.inside.to) in
     let goes = All_range (λ w. (0 < span at step w) × (span at step w < narrow_far)) ways (get_or starts s 0) (get_or starts (s + 1) 0) (o.0) (o.1) c.requires.short in
-    IsSlotRowTo_next at wide c.args.times.now.horizon c.args.labels.now c.loop-state.labels c.fill_state.new.labels c.args.back step r.zones.items c.args.wanted.now starts ways s c.zone.result c.ways_on.result.now c.zone.ensures c.ways_on.ensures.are
+    IsSlotRowTo_next at wide c.args.times.now.horizon c.args.labels.now c.loop-state.labels c.fill_state.new.labels c.args.back step r c.args.wanted.now s c.zone.result c.ways_on.result.now c.zone.ensures c.ways_on.ensures.are
     (c.requires.back.1) (c.requires.back.0) (omega (arith, c.requires.states, small)) c.requires.rows inside goes c.fill_state.ensures.low c.fill_state.ensures.written c.loop-state.invariant
 
 pub fill_state-requires-clause-spans : goal.fill_state-requires-clause-spans

@@ -9,8 +9,8 @@ use Rattle.time_routes.proofs.filling.slot_fill.least_four.Goals as goal
 
 pub loop-span-preserved : goal.loop-span-preserved
 loop-span-preserved c =
-    let at = time_at c.args.times.now in
-    let h = c.args.times.now.horizon in
+    let at = time_at c.args.row.now.times.now in
+    let h = c.args.row.now.times.now.horizon in
     let labels = c.args.labels.now in
     let ws = c.args.ways.now in
     let i = c.loop-span.span-index in
@@ -22,14 +22,14 @@ loop-span-preserved c =
     let is = c.requires.spans.each i w0 s0 w in
     let p = c.place_after-place.result in
     let sp : ℕ = span.time in
-    let back = c.args.back in
+    let back = c.args.row.now.back in
     let hs = is.0 in
     let hp = c.place_after-place.ensures.is in
     let inv = c.loop-span.invariant in (
-      slot_step at (slot_rest c.args.wide h labels 0) c.args.step ws i _ _ _ _ _ w (slot_place at c.args.wide h labels 0 c.args.step back p sp _ (c.requires.back.1) hs (omega (arith, hp, is.2))) c.min-a.ensures (inv.0),
-      slot_step at (slot_rest c.args.wide h labels 1) c.args.step ws i _ _ _ _ _ w (slot_place at c.args.wide h labels 1 c.args.step back (p + 1) sp _ (c.requires.back.1) hs (omega (arith, hp, is.2))) c.min-b.ensures (inv.1),
-      slot_step at (slot_rest c.args.wide h labels 2) c.args.step ws i _ _ _ _ _ w (slot_place at c.args.wide h labels 2 c.args.step back (p + 2) sp _ (c.requires.back.1) hs (omega (arith, hp, is.2))) c.min-c.ensures (inv.2),
-      slot_step at (slot_rest c.args.wide h labels 3) c.args.step ws i _ _ _ _ _ w (slot_place at c.args.wide h labels 3 c.args.step back (p + 3) sp _ (c.requires.back.1) hs (omega (arith, hp, is.2))) c.min-d.ensures (inv.3),
+      slot_step at (slot_rest c.args.row.now.wide h labels 0) c.args.row.now.step ws i _ _ _ _ _ w (slot_place at c.args.row.now.wide h labels 0 c.args.row.now.step back p sp _ (c.requires.back.1) hs (omega (arith, hp, is.2))) c.min-a.ensures (inv.0),
+      slot_step at (slot_rest c.args.row.now.wide h labels 1) c.args.row.now.step ws i _ _ _ _ _ w (slot_place at c.args.row.now.wide h labels 1 c.args.row.now.step back (p + 1) sp _ (c.requires.back.1) hs (omega (arith, hp, is.2))) c.min-b.ensures (inv.1),
+      slot_step at (slot_rest c.args.row.now.wide h labels 2) c.args.row.now.step ws i _ _ _ _ _ w (slot_place at c.args.row.now.wide h labels 2 c.args.row.now.step back (p + 2) sp _ (c.requires.back.1) hs (omega (arith, hp, is.2))) c.min-c.ensures (inv.2),
+      slot_step at (slot_rest c.args.row.now.wide h labels 3) c.args.row.now.step ws i _ _ _ _ _ w (slot_place at c.args.row.now.wide h labels 3 c.args.row.now.step back (p + 3) sp _ (c.requires.back.1) hs (omega (arith, hp, is.2))) c.min-d.ensures (inv.3),
       omega (arith, c.min-a.ensures, inv.4),
       omega (arith, c.min-b.ensures, inv.5),
       omega (arith, c.min-c.ensures, inv.6),

@@ -14,10 +14,10 @@ loop-step-preserved c =
     let step = c.loop-step.step in
     let test = c.loop-step-test.true in
     let back : step ≡ step - 1 + 1 = omega (arith, test) in
-    let rows = subst (λ n. AreRows (time_at t) (length r.zones.items) h c.args.labels.now c.loop-step.labels r.zones.items c.args.zone r.starts.items r.ways.items n) back (c.loop-step.invariant.1) in
+    let rows = subst (λ n. AreRows (time_at t) (length r.zones.items) h c.args.labels.now c.loop-step.labels r c.args.zone n) back (c.loop-step.invariant.1) in
     let links = subst (λ n. All (λ w. w.link < n) r.ways.items) c.requires.links r.inside.link in (
       omega (arith, c.loop-step.invariant.0),
-      AreRows_more (time_at t) (length r.zones.items) h c.args.labels.now c.loop-step.labels c.fill_row.new.labels r.zones.items c.args.zone r.starts.items r.ways.items (step - 1) (h - (step - 1))
+      AreRows_more (time_at t) (length r.zones.items) h c.args.labels.now c.loop-step.labels c.fill_row.new.labels r c.args.zone (step - 1) (h - (step - 1))
           (omega (arith, test, c.loop-step.invariant.0)) (omega (arith, test, c.loop-step.invariant.0)) refl r.inside.order r.inside.to (λ e. spans_some t e r.ways.items c.horizon-horizon.ensures.sound links) rows
-          (subst (λ n. IsRowTo (time_at t) (length r.zones.items) h c.loop-step.labels c.fill_row.new.labels (n - (step - 1)) (step - 1) r.zones.items c.args.zone r.starts.items r.ways.items (length r.zones.items)) c.horizon-horizon.ensures.is c.fill_row.ensures),
+          (subst (λ n. IsRowTo (time_at t) (length r.zones.items) h c.loop-step.labels c.fill_row.new.labels (n - (step - 1)) (step - 1) r c.args.zone (length r.zones.items)) c.horizon-horizon.ensures.is c.fill_row.ensures),
     )

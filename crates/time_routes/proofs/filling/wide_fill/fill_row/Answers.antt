@@ -2,7 +2,7 @@ use Rattle.std.proofs.Common.{◌≡◌, ◌+◌, ◌*◌, ◌<◌, arith, lengt
 use Rattle.std.specs.Prelude.{All, nat_eq, slice_set, slice_index}
 use Rattle.dta_model.specs.LinkTimes.{time_at}
 use Rattle.time_routes.specs.Filling.Labels.{value}
-use Rattle.time_routes.specs.Filling.FreeFlow.{ways_of}
+use Rattle.time_routes.specs.States.Routers.{ways_of}
 use Rattle.time_routes.proofs.OfFilling.WideRowFacts.{IsRowTo_more, spans_some}
 use Rattle.time_routes.proofs.filling.wide_fill.fill_row.Goals as goal
 
@@ -19,7 +19,7 @@ loop-state-preserved c =
     subst (λ ws. c.fill_state.new.labels ≡ slice_set c.loop-state.labels (c.args.back * length r.zones.items + s) (value (time_at t) (length r.zones.items) t.horizon c.loop-state.labels (nat_eq (slice_index r.zones.items s) c.args.zone) ws c.args.step)) are
     (subst (λ b. c.fill_state.new.labels ≡ slice_set c.loop-state.labels (c.args.back * length r.zones.items + s) (value (time_at t) (length r.zones.items) t.horizon c.loop-state.labels b c.ways_on.result.now c.args.step)) c.is_in-own.ensures
     (subst (λ n. c.fill_state.new.labels ≡ slice_set c.loop-state.labels (c.args.back * n + s) (value (time_at t) n t.horizon c.loop-state.labels c.is_in-own.result c.ways_on.result.now c.args.step)) many c.fill_state.ensures.written)) in
-    IsRowTo_more (time_at t) (length r.zones.items) t.horizon c.args.labels.now c.loop-state.labels c.fill_state.new.labels c.args.back c.args.step r.zones.items c.args.zone r.starts.items r.ways.items s
+    IsRowTo_more (time_at t) (length r.zones.items) t.horizon c.args.labels.now c.loop-state.labels c.fill_state.new.labels c.args.back c.args.step r c.args.zone s
     (c.requires.back.1) (c.requires.back.0) here c.requires.rows
     (subst (λ ws. All (λ w. w.to < length r.zones.items) ws) are c.ways_on.ensures.to)
     (spans_some t c.args.step (ways_of r.starts.items r.ways.items s) c.requires.sound (subst (λ ws. All (λ w. w.link < length t.free) ws) are links))

@@ -4,4 +4,4 @@ use Rattle.time_routes.specs.Filling.Tables.{rests}
 use Rattle.time_routes.proofs.reading.least.least_label.Given as goal
 
 abbrev pub invariant-loop-link : goal.invariant-loop-link
-invariant-loop-link l = LeastSoFar (λ k. label_in (time_at l.times) (rests l.labels l.place) l.router k l.step) l.firsts l.link-index l.least
+invariant-loop-link l = LeastSoFar (λ k. label_in (time_at l.labels.times.now) (rests l.labels.table.now l.labels.place) l.labels.router.now k l.step) l.firsts l.link-index l.least

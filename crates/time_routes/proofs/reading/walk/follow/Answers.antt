@@ -2,14 +2,14 @@ use Rattle.std.proofs.Common.{◌≡◌, ◌+◌, ◌<◌, [], ◌∷◌, ◌++�
 use Rattle.dta_model.specs.LinkTimes.{time_at}
 use Rattle.dta_model.specs.Plans.{link_numbers}
 use Rattle.time_routes.specs.Filling.Labels.{far}
-use Rattle.time_routes.specs.Reading.Serves.{state_of, is_own}
+use Rattle.time_routes.specs.States.RouterWays.{state_of, is_own}
 use Rattle.time_routes.specs.Filling.Tables.{rests}
 use Rattle.time_routes.proofs.OfReading.Walks.{least_here, ends_here, step_of, append_nil, numbers_more, own_of, left_of}
 use Rattle.time_routes.proofs.reading.walk.follow.Goals as goal
 
 pub loop-state-init : goal.loop-state-init
 loop-state-init c =
-    let t = c.args.times.now in
+    let t = c.args.labels.now.times.now in
     let at = time_at t in
     let first = c.args.first in
     let most = c.requires.sound.most first c.args.step c.requires.first in
@@ -22,9 +22,9 @@ loop-state-init c =
 
 pub next_way-way-requires-clause-left : goal.next_way-way-requires-clause-left
 next_way-way-requires-clause-left c =
-    let at = time_at c.args.times.now in
-    let rest = rests c.args.labels.now c.args.place in
-    let r = c.args.router.now in
+    let at = time_at c.args.labels.now.times.now in
+    let rest = rests c.args.labels.now.table.now c.args.labels.now.place in
+    let r = c.args.labels.now.router.now in
     let i = c.loop-state.invariant in
     let own : is_own r c.args.zone (state_of r c.loop-state.link) ≡ false = own_of r c.args.zone c.loop-state.link c.state.result c.is_in.result false c.state.ensures.is c.is_in.ensures c.loop-state-test.true in
     let least = least_here c.args.net.now c.args.zone at rest r c.requires.serves c.loop-state.link (c.loop-state.entry + c.at.result) (i.0) own in
@@ -33,9 +33,9 @@ next_way-way-requires-clause-left c =
 
 pub loop-state-smaller : goal.loop-state-smaller
 loop-state-smaller c =
-    let at = time_at c.args.times.now in
-    let rest = rests c.args.labels.now c.args.place in
-    let r = c.args.router.now in
+    let at = time_at c.args.labels.now.times.now in
+    let rest = rests c.args.labels.now.table.now c.args.labels.now.place in
+    let r = c.args.labels.now.router.now in
     let i = c.loop-state.invariant in
     let own : is_own r c.args.zone (state_of r c.loop-state.link) ≡ false = own_of r c.args.zone c.loop-state.link c.state.result c.is_in.result false c.state.ensures.is c.is_in.ensures c.loop-state-test.true in
     let st = step_of c.args.net.now c.args.zone at rest r c.requires.serves c.loop-state.link c.loop-state.entry c.state-state.result c.at.result c.rest_at-left.result c.ways_on.result.now (i.0) own (i.1) c.next_way-way.result c.state-state.ensures.is c.at.ensures.time c.rest_at-left.ensures.is c.ways_on.ensures.are c.next_way-way.ensures in
@@ -43,9 +43,9 @@ loop-state-smaller c =
 
 pub loop-state-preserved : goal.loop-state-preserved
 loop-state-preserved c =
-    let at = time_at c.args.times.now in
-    let rest = rests c.args.labels.now c.args.place in
-    let r = c.args.router.now in
+    let at = time_at c.args.labels.now.times.now in
+    let rest = rests c.args.labels.now.table.now c.args.labels.now.place in
+    let r = c.args.labels.now.router.now in
     let i = c.loop-state.invariant in
     let own : is_own r c.args.zone (state_of r c.loop-state.link) ≡ false = own_of r c.args.zone c.loop-state.link c.state.result c.is_in.result false c.state.ensures.is c.is_in.ensures c.loop-state-test.true in
     let st = step_of c.args.net.now c.args.zone at rest r c.requires.serves c.loop-state.link c.loop-state.entry c.state-state.result c.at.result c.rest_at-left.result c.ways_on.result.now (i.0) own (i.1) c.next_way-way.result c.state-state.ensures.is c.at.ensures.time c.rest_at-left.ensures.is c.ways_on.ensures.are c.next_way-way.ensures in (
@@ -59,8 +59,8 @@ loop-state-preserved c =
 
 pub returns : goal.returns
 returns c =
-    let r = c.args.router.now in
+    let r = c.args.labels.now.router.now in
     let i = c.loop-state.invariant in
     let own : is_own r c.args.zone (state_of r c.loop-state.link) ≡ true = own_of r c.args.zone c.loop-state.link c.state.result c.is_in.result true c.state.ensures.is c.is_in.ensures c.loop-state-test.false in
-    let done = i.3 [] (ends_here c.args.net.now c.args.zone (time_at c.args.times.now) (rests c.args.labels.now c.args.place) r c.requires.serves c.loop-state.link c.loop-state.entry (i.0) own) in
+    let done = i.3 [] (ends_here c.args.net.now c.args.zone (time_at c.args.labels.now.times.now) (rests c.args.labels.now.table.now c.args.labels.now.place) r c.requires.serves c.loop-state.link c.loop-state.entry (i.0) own) in
     (done.0, sym (append_nil (link_numbers c.loop-state.route.items)) ∙ done.1, done.2)

@@ -4,16 +4,17 @@ use Rattle.dta_model.specs.Plans.{link_numbers}
 use Rattle.time_routes.specs.Filling.Labels.{far}
 use Rattle.time_routes.specs.Reading.Follows.{Follows}
 use Rattle.time_routes.specs.States.Routers.{ways_to}
-use Rattle.time_routes.specs.Reading.Serves.{state_of, label_in, IsFollowed}
+use Rattle.time_routes.specs.Reading.Serves.{label_in, IsFollowed}
+use Rattle.time_routes.specs.States.RouterWays.{state_of}
 use Rattle.time_routes.specs.Filling.Tables.{rests}
 use Rattle.time_routes.proofs.reading.walk.follow.Given as goal
 
 abbrev pub invariant-loop-state : goal.invariant-loop-state
 invariant-loop-state l =
-    (l.link < length l.router.states.items)
-    × (rests l.labels l.place (state_of l.router l.link) (l.entry + time_at l.times l.link l.entry) < far)
-    × (l.entry + time_at l.times l.link l.entry + rests l.labels l.place (state_of l.router l.link) (l.entry + time_at l.times l.link l.entry) < 2 ^ 63)
-    × ((others : List ℕ) → Follows (ways_to (time_at l.times) l.net l.zone) (label_in (time_at l.times) (rests l.labels l.place) l.router) l.link l.entry others → IsFollowed (ways_to (time_at l.times) l.net l.zone) (label_in (time_at l.times) (rests l.labels l.place) l.router) l.fn.first l.fn.step (link_numbers l.route.items ++ others))
+    (l.link < length l.labels.router.now.states.items)
+    × (rests l.labels.table.now l.labels.place (state_of l.labels.router.now l.link) (l.entry + time_at l.labels.times.now l.link l.entry) < far)
+    × (l.entry + time_at l.labels.times.now l.link l.entry + rests l.labels.table.now l.labels.place (state_of l.labels.router.now l.link) (l.entry + time_at l.labels.times.now l.link l.entry) < 2 ^ 63)
+    × ((others : List ℕ) → Follows (ways_to (time_at l.labels.times.now) l.net l.zone) (label_in (time_at l.labels.times.now) (rests l.labels.table.now l.labels.place) l.labels.router.now) l.link l.entry others → IsFollowed (ways_to (time_at l.labels.times.now) l.net l.zone) (label_in (time_at l.labels.times.now) (rests l.labels.table.now l.labels.place) l.labels.router.now) l.fn.first l.fn.step (link_numbers l.route.items ++ others))
 
 abbrev pub decreases-loop-state : goal.decreases-loop-state
-decreases-loop-state l = rests l.labels l.place (state_of l.router l.link) (l.entry + time_at l.times l.link l.entry)
+decreases-loop-state l = rests l.labels.table.now l.labels.place (state_of l.labels.router.now l.link) (l.entry + time_at l.labels.times.now l.link l.entry)

@@ -8,4 +8,4 @@ use Rattle.time_routes.specs.declared.states.onward.Onward.{Onward}
 use Rattle.time_routes.proofs.reading.walk.pick.Given as goal
 
 abbrev pub invariant-loop-way : goal.invariant-loop-way
-invariant-loop-way l = (k : ℕ) (d : Onward) → k < l.way-index → over (time_at l.times) far (rests l.labels l.place) l.step (get_or l.ways k d) ≢ l.left
+invariant-loop-way l = (k : ℕ) (d : Onward) → k < l.way-index → over (time_at l.labels.times.now) far (rests l.labels.table.now l.labels.place) l.step (get_or l.ways k d) ≢ l.left
