@@ -29,13 +29,14 @@ pub fn cells_hand_over()
     ensures { CellsHandOver }
 {}
 
-/// At a node where nobody is ready nobody moves, and where nobody comes either, its cell only rests.
+/// At a node where nobody is ready nobody moves, and where nobody comes either, its cell only
+/// rests.
 pub fn quiet_nodes_stay_idle()
     ensures { QuietNodesStayIdle }
 {}
 
-/// The counts of all cells after a number of steps add up to those of the loading: who waits and is due,
-/// who is on a link, and who has arrived.
+/// The counts of all cells after a number of steps add up to those of the loading: who waits and is
+/// due, who is on a link, and who has arrived.
 pub fn counts_add_up()
     ensures { CountsAddUp }
 {}

@@ -1,8 +1,10 @@
-//! One node's step: its moves by the definition of a node's moves, in O(1) a move and without memory.
+//! One node's step: its moves by the definition of a node's moves, in O(1) a move and without
+//! memory.
 //!
-//! A [`NodeCell`] holds what a node needs of a loading, and a place for the [`Mail`] of each of its links. In each step it first
-//! transfers, which makes the node's moves and writes the batch of each out-link; then it gathers the batches of its in-links. The
-//! promise of each call is the content of the cell at the next stage, for every loading of which it has the content before.
+//! A [`NodeCell`] holds what a node needs of a loading, and a place for the [`Mail`] of each of its
+//! links. In each step it first transfers, which makes the node's moves and writes the batch of each
+//! out-link; then it gathers the batches of its in-links. The promise of each call is the content of
+//! the cell at the next stage, for every loading of which it has the content before.
 //! [`opening`] alone takes memory. A cell can go to another thread and come back.
 #![tactic(auto)]
 
