@@ -10,8 +10,8 @@ use crate::turn::{LimitedTurns, has_pass};
 use fixed_units::MOST_STEP;
 use link_queues::{Line, MOST_RIDERS, Rider};
 
-/// How vehicles leave an in-link: after how many steps, at which rate, and by which turns that have a
-/// penalty or a limit.
+/// How vehicles leave an in-link: after how many steps, at which rate, and by which turns that have
+/// a penalty or a limit.
 #[derive(Drop)]
 pub struct Exit {
     pub free: u32,
@@ -77,7 +77,9 @@ pub fn judge(rider: &Rider, exit: &Exit, outs: &[OutLink], step: u32) -> Verdict
     requires { Rides (out_links outs.now) rider.now }
     ensures value { result ≡ verdict step exit.now outs.now rider.now }
     ensures arrives { result ≡ Verdict.Arrives → 0 < exit.now.outflow.left }
-    ensures enters { (p k : ℕ) → result ≡ Verdict.Enters p k → (0 < exit.now.outflow.left) × (out_open (slice_get outs.now p) ≡ true) × (turn_open (slice_get exit.now.turns k) ≡ true) }
+    ensures enters { (p k : ℕ) → result ≡ Verdict.Enters p k
+        → (0 < exit.now.outflow.left) × (out_open (slice_get outs.now p) ≡ true)
+        × (turn_open (slice_get exit.now.turns k) ≡ true) }
 {
     let ready = match rider.last_entry() {
         Some(entry) => entry as u64 + exit.free as u64,
