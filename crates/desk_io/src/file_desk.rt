@@ -4,6 +4,7 @@ ghost use Rattle.std.specs.Prelude.{◌≡◌, ◌≤◌, IfOk, length};
 use crate::{Desk, Failed, Output, Table};
 use std::fs::File;
 use std::io::{ErrorKind, Read, Write};
+use std::rt::{Stderr, Stdout};
 use std::{fs, io};
 
 /// A file that is read, from its first read on.
@@ -14,13 +15,13 @@ enum TableFile {
     Opened(File),
 }
 
-/// A desk over the current folder. It reads `node.csv`, `link.csv`, `movement.csv` and `demand.csv`, and puts to `agent.csv`,
-/// `link_performance.csv`, `gap.csv`, standard output (Report) and standard error (Watch). A `movement.csv` that doesn't exist
-/// reads as zero bytes; another missing file fails. A file is made, and an older one emptied, at its first put of
-/// a piece that isn't empty. It tells
-/// nothing of contents, and counts each failure.
+/// A desk over the current folder. It reads `node.csv`, `link.csv`, `movement.csv` and
+/// `demand.csv`, and puts to `agent.csv`, `link_performance.csv`, `gap.csv`, a stream for Report and
+/// one for Watch: standard output and standard error. A `movement.csv` that doesn't exist reads as
+/// zero bytes; another missing file fails. A file is made, and an older one emptied, at its first
+/// put of a piece that isn't empty. It tells nothing of contents, and counts each failure.
 #[derive(Drop)]
-pub struct FileDesk {
+pub struct FileDesk<R, W> {
     rt: HostRuntime,
     node: TableFile,
     link: TableFile,
@@ -29,13 +30,25 @@ pub struct FileDesk {
     agent: Option<File>,
     link_time: Option<File>,
     gap: Option<File>,
+    pub(crate) report: R,
+    pub(crate) watch: W,
     read_faults: u64,
     put_faults: u64,
 }
 
-impl FileDesk {
-    /// A desk over the current folder, of which nothing is opened yet.
+impl FileDesk<Stdout, Stderr> {
+    /// A desk over the current folder, of which nothing is opened yet. Its report goes to standard
+    /// output and its watch lines to standard error.
     pub fn here(rt: HostRuntime) -> Self
+        ensures { (result.read_faults ≡ 0) × (result.put_faults ≡ 0) }
+    {
+        FileDesk::over(rt, rt.stdout(), rt.stderr())
+    }
+}
+
+impl<R, W> FileDesk<R, W> {
+    /// A desk over the current folder and two streams.
+    pub(crate) fn over(rt: HostRuntime, report: R, watch: W) -> Self
         ensures { (result.read_faults ≡ 0) × (result.put_faults ≡ 0) }
     {
         FileDesk {
@@ -47,6 +60,8 @@ impl FileDesk {
             agent: None,
             link_time: None,
             gap: None,
+            report,
+            watch,
             read_faults: 0,
             put_faults: 0,
         }
@@ -81,25 +96,37 @@ fn read_file(
     }
 }
 
-// Puts to a file, which the first put makes.
-fn put_file(
-    rt: &HostRuntime,
-    file: &mut Option<File>,
-    path: &str,
-    piece: &[u8],
-) -> io::Result<usize>
-    ensures { IfOk result (λ n. n ≤ length piece.now) }
-{
+// The file of an output, which its first put makes.
+fn made<'a>(rt: &HostRuntime, file: &'a mut Option<File>, path: &str) -> io::Result<&'a mut File> {
     if file.is_none() {
         *file = Some(fs::create(rt, path)?);
     }
     match file {
-        Some(file) => file.write(piece),
-        None => Ok(0),
+        Some(file) => Ok(file),
+        None => unreachable!(),
     }
 }
 
-impl Desk for FileDesk {
+impl<R: Write, W: Write> FileDesk<R, W> {
+    // Writes a first part of the piece, and answers what the file or the stream says of its length.
+    fn write(&mut self, output: Output, piece: &[u8]) -> io::Result<usize>
+        ensures count { IfOk result (λ n. n ≤ length piece.now) }
+        ensures reads { self.new.read_faults ≡ self.old.read_faults }
+        ensures puts { self.new.put_faults ≡ self.old.put_faults }
+    {
+        match output {
+            Output::Agent => made(&self.rt, &mut self.agent, "agent.csv")?.write(piece),
+            Output::LinkTime => {
+                made(&self.rt, &mut self.link_time, "link_performance.csv")?.write(piece)
+            }
+            Output::Gap => made(&self.rt, &mut self.gap, "gap.csv")?.write(piece),
+            Output::Report => self.report.write(piece),
+            Output::Watch => self.watch.write(piece),
+        }
+    }
+}
+
+impl<R: Write, W: Write> Desk for FileDesk<R, W> {
     ghost use Rattle.desk_io.specs.FileDesk.{untold_left, untold_taken, failed_reads, failed_puts};
 
     ghost left = { untold_left };
@@ -131,16 +158,7 @@ impl Desk for FileDesk {
         if piece.is_empty() {
             return Ok(0);
         }
-        let put = match output {
-            Output::Agent => put_file(&self.rt, &mut self.agent, "agent.csv", piece),
-            Output::LinkTime => {
-                put_file(&self.rt, &mut self.link_time, "link_performance.csv", piece)
-            }
-            Output::Gap => put_file(&self.rt, &mut self.gap, "gap.csv", piece),
-            Output::Report => self.rt.stdout().write(piece),
-            Output::Watch => self.rt.stderr().write(piece),
-        };
-        match put {
+        match self.write(output, piece) {
             // A file that takes nothing of a piece has failed: the caller would put the piece for ever.
             Ok(count) if count > 0 => Ok(count),
             _ => {

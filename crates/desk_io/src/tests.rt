@@ -2,8 +2,9 @@ use crate::{
     Desk, Failed, FileDesk, MemDesk, Output, ReadRefusal, Table, TallyDesk, put_all, read_table,
 };
 use std::alloc::Global;
-use std::fs;
+use std::io::Write;
 use std::test::Fail;
+use std::{fs, io};
 
 // A desk whose node table is these bytes and whose other tables are empty.
 fn desk_of(alloc: Global, node: &[u8]) -> Result<MemDesk, Fail> {
@@ -105,5 +106,48 @@ fn files_of_the_folder(rt: HostRuntime) -> Result<(), Fail> {
         let text = fs::read_to_string(&rt, path)?;
         assert!(rt; text.as_str() == "two puts", "{path}");
     }
+    Ok(())
+}
+
+// A stream that takes at most so many bytes of a piece.
+#[derive(Drop)]
+struct Narrow {
+    most: usize,
+    bytes: Vec<u8>,
+}
+
+impl Write for Narrow {
+    fn write(&mut self, buf: &[u8]) -> io::Result<usize> {
+        let count = buf.len().min(self.most);
+        self.bytes.extend_from_slice(&buf[..count])?;
+        Ok(count)
+    }
+
+    fn flush(&mut self) -> io::Result<()> {
+        Ok(())
+    }
+}
+
+fn stream_of(alloc: Global, most: usize) -> Narrow {
+    Narrow {
+        most,
+        bytes: Vec::new(alloc),
+    }
+}
+
+// Report and Watch go each to its own stream, whole also where a stream takes little at a time; one
+// that takes nothing fails.
+#[test]
+fn streams_that_take_little(rt: HostRuntime) -> Result<(), Fail> {
+    let mut desk = FileDesk::over(rt, stream_of(rt.alloc(), 3), stream_of(rt.alloc(), 2));
+    assert!(rt; desk.put(Output::Report, b"nodes") == Ok(3));
+    assert!(rt; put_all(&mut desk, Output::Report, b"es 3\n") == Ok(()));
+    assert!(rt; put_all(&mut desk, Output::Watch, b"1,60,0\n") == Ok(()));
+    assert!(rt; put_all(&mut desk, Output::Report, b"links 2\n") == Ok(()));
+    assert!(rt; desk.report.bytes.as_slice() == b"nodes 3\nlinks 2\n".as_slice());
+    assert!(rt; desk.watch.bytes.as_slice() == b"1,60,0\n".as_slice());
+    let mut stuck = FileDesk::over(rt, stream_of(rt.alloc(), 0), stream_of(rt.alloc(), 1));
+    assert!(rt; put_all(&mut stuck, Output::Report, b"nodes 3\n") == Err(Failed));
+    assert!(rt; put_all(&mut stuck, Output::Watch, b"1\n") == Ok(()));
     Ok(())
 }

@@ -1,6 +1,8 @@
--- Settings and a job have one list of texts.
-use Rattle.std.proofs.Common.{◌≡◌, ℕ, zero, suc, ◌+◌, ◌-◌, List, [], ◌++◌, length, sym, ap, subst, arith, ◌∙◌}
-use Rattle.std.specs.Prelude.{Some, get_or, slice_get}
+-- Settings and a job have one list of texts but for Watch, and with the plain loader of all texts.
+use Rattle.std.proofs.Common.{◌≡◌, ℕ, zero, suc, ◌+◌, ◌-◌, Bool, true, List, [], ◌∷◌, ◌++◌, length, map}
+use Rattle.std.proofs.Common.{refl, sym, ap, subst, arith, ◌∙◌}
+use Rattle.std.specs.Prelude.{Some, get_or, not, slice_get}
+use Rattle.std.proofs.lemmas.List.Elements.{filter-append}
 use Rattle.std.proofs.lemmas.List.{ext_get_or}
 use Rattle.std.proofs.lemmas.Option.{slice_get-get_or, slice_get_within}
 use Rattle.dta_model.specs.LinkTimes.{time_at}
@@ -8,11 +10,14 @@ use Rattle.gap.specs.declared.line.GapLine.{GapLine}
 use Rattle.gap.proofs.Determined.{lines_are_determined}
 use Rattle.route_flows.specs.Averages.{free_time}
 use Rattle.route_flows.proofs.Determined.{chosen_are_determined, next_are_determined}
+use Rattle.dta_words.specs.declared.command.Command.{Command}
+use Rattle.dta_words.specs.declared.command.Command.TheVariants as command
 use Rattle.dta_words.specs.declared.command.Settings.{Settings}
 use Rattle.dta.specs.Assignment.{AreIterations, VehicleRoutes, times_of}
 use Rattle.dta.specs.Jobs.{JobRows}
-use Rattle.dta.specs.Laws.{TextsAreDetermined}
-use Rattle.dta.specs.Outputs.{last_texts, watch_texts}
+use Rattle.dta.specs.Laws.{AreDetermined, TextsAreDetermined}
+use Rattle.dta.specs.Outputs.{AreAssigned, AreTexts, AreToldSteps, AreWatchLines, AreWatchTexts, OutText}
+use Rattle.dta.specs.Outputs.{but_watch, is_watch, last_texts, watch_text}
 
 some-is : {A : Type 0} (x y : A) → Some x ≡ Some y → x ≡ y
 some-is x y e = cc
@@ -54,15 +59,105 @@ module _ (s : Settings) (job : JobRows) (ra rb : List VehicleRoutes) (la lb : Li
       (a.gaps i r (get_or la i no_line) there (slice_get-get_or la i no_line h))
       (b.gaps i r (get_or lb i no_line) here (slice_get-get_or lb i no_line (omega (arith, h, e)))))
 
+-- ---- watch lines
+
+-- no watch line is left among the other texts
+module _ (s : Settings) (job : JobRows) where
+  no-line-left : (number : ℕ) (r : VehicleRoutes) (steps : List ℕ)
+      → but_watch (map (watch_text s job number r) steps) ≡ []
+  no-line-left number r [] = refl
+  no-line-left number r (t ∷ steps) = no-line-left number r steps
+
+  none-left : (number : ℕ) (routes : List VehicleRoutes) (texts : List OutText)
+      → AreWatchTexts s job number routes texts → but_watch texts ≡ []
+  none-left number [] texts told = rw told refl
+  none-left number (r ∷ routes) texts told =
+      let lines : but_watch told.0 ≡ [] =
+      ap but_watch told.2.lines_are ∙ no-line-left number r told.2.steps in
+      let more : but_watch told.1 ≡ [] = none-left (number + 1) routes told.1 told.3 in
+      ap but_watch told.4 ∙ filter-append (λ t. not (is_watch t.to)) told.0 told.1
+      ∙ ap (λ (xs : List OutText). xs ++ but_watch told.1) lines ∙ more
+
+  -- with the plain loader an iteration has one list of lines
+  same-steps : (every horizon : ℕ) (xs ys : List ℕ) → AreToldSteps every true horizon xs
+      → AreToldSteps every true horizon ys → xs ≡ ys
+  same-steps zero horizon xs ys a b = a ∙ sym b
+  same-steps (suc every) horizon xs ys a b = a ∙ sym b
+
+  plain-by : (steps : List ℕ) → s.plain ≡ true → AreToldSteps s.watch s.plain s.horizon steps
+      → AreToldSteps s.watch true s.horizon steps
+  plain-by steps plain by = subst (λ (b : Bool). AreToldSteps s.watch b s.horizon steps) plain by
+
+  lines-same : (number : ℕ) (r : VehicleRoutes) (xs ys : List OutText) → s.plain ≡ true
+      → AreWatchLines s job number r xs → AreWatchLines s job number r ys → xs ≡ ys
+  lines-same number r xs ys plain a b =
+      let steps : a.steps ≡ b.steps = same-steps s.watch s.horizon a.steps b.steps
+      (plain-by a.steps plain a.by_rule) (plain-by b.steps plain b.by_rule) in
+      a.lines_are ∙ ap (map (watch_text s job number r)) steps ∙ sym b.lines_are
+
+  watched-same : (number : ℕ) (routes : List VehicleRoutes) (xs ys : List OutText) → s.plain ≡ true
+      → AreWatchTexts s job number routes xs → AreWatchTexts s job number routes ys → xs ≡ ys
+  watched-same number [] xs ys plain a b = a ∙ sym b
+  watched-same number (r ∷ routes) xs ys plain a b =
+      let lines : a.0 ≡ b.0 = lines-same number r a.0 b.0 plain a.2 b.2 in
+      let more : a.1 ≡ b.1 = watched-same (number + 1) routes a.1 b.1 plain a.3 b.3 in
+      a.4 ∙ ap (λ (x : List OutText). x ++ a.1) lines
+      ∙ ap (λ (x : List OutText). b.0 ++ x) more ∙ sym b.4
+
+-- ---- all texts
+
+module _ (s : Settings) (job : JobRows) (xs ys : List OutText) (a : AreAssigned s job xs)
+    (b : AreAssigned s job ys) where
+  routes-same : a.routes ≡ b.routes
+  routes-same = same-routes s job a.routes b.routes a.lines b.lines a.iterations b.iterations
+      (a.as_many ∙ sym b.as_many)
+
+  lasts-same : last_texts s.command s job a.last a.lines a.line
+      ≡ last_texts s.command s job b.last b.lines b.line
+  lasts-same =
+      let lines : a.lines ≡ b.lines = same-lines s job a.routes b.routes a.lines b.lines a.iterations
+      b.iterations routes-same (a.with_gaps ∙ sym a.as_many) (a.with_gaps ∙ sym b.with_gaps) in
+      let last : a.last ≡ b.last = some-is a.last b.last (sym a.last_routes
+      ∙ ap (λ (rs : List VehicleRoutes). slice_get rs (s.iterations - 1)) routes-same
+      ∙ b.last_routes) in
+      let line : a.line ≡ b.line = some-is a.line b.line (sym a.last_line
+      ∙ ap (λ (ls : List GapLine). slice_get ls (s.iterations - 1)) lines ∙ b.last_line) in
+      ap (λ (r : VehicleRoutes). last_texts s.command s job r a.lines a.line) last
+      ∙ ap (λ (ls : List GapLine). last_texts s.command s job b.last ls a.line) lines
+      ∙ ap (λ (l : GapLine). last_texts s.command s job b.last b.lines l) line
+
+  -- the texts but for Watch are those after the last iteration
+  but-watch-is : (texts watched last : List OutText) → texts ≡ watched ++ last
+      → but_watch watched ≡ [] → but_watch texts ≡ but_watch last
+  but-watch-is texts watched last are none =
+      ap but_watch are ∙ filter-append (λ t. not (is_watch t.to)) watched last
+      ∙ ap (λ (xs : List OutText). xs ++ but_watch last) none
+
+  both-assigned : AreDetermined s job xs ys
+  both-assigned = record {
+    but_watch_lines =
+        but-watch-is xs a.watched (last_texts s.command s job a.last a.lines a.line) a.texts_are
+        (none-left s job 1 a.routes a.watched a.watch_lines)
+        ∙ ap but_watch lasts-same
+        ∙ sym (but-watch-is ys b.watched (last_texts s.command s job b.last b.lines b.line) b.texts_are
+        (none-left s job 1 b.routes b.watched b.watch_lines));
+    plain = λ plain.
+        let watched : a.watched ≡ b.watched = watched-same s job 1 b.routes a.watched b.watched plain
+        (subst (λ (rs : List VehicleRoutes). AreWatchTexts s job 1 rs a.watched) routes-same
+        a.watch_lines) b.watch_lines in
+        a.texts_are
+        ∙ ap (λ (w : List OutText). w ++ last_texts s.command s job a.last a.lines a.line) watched
+        ∙ ap (λ (l : List OutText). b.watched ++ l) lasts-same ∙ sym b.texts_are;
+  }
+
+both-free : (s : Settings) (job : JobRows) (xs ys : List OutText) → xs ≡ ys → AreDetermined s job xs ys
+both-free s job xs ys same = record { but_watch_lines = ap but_watch same; plain = λ plain. same }
+
+determined-by : (c : Command) (s : Settings) (job : JobRows) (xs ys : List OutText) → AreTexts c s job xs
+    → AreTexts c s job ys → AreDetermined s job xs ys
+determined-by command.Freeflow s job xs ys a b = both-free s job xs ys (a ∙ sym b)
+determined-by command.Assign s job xs ys a b = both-assigned s job xs ys a b
+determined-by (command.Demo n) s job xs ys a b = both-assigned s job xs ys a b
+
 pub texts_are_determined : TextsAreDetermined
-texts_are_determined s job xs ys a b =
-    let routes : a.routes ≡ b.routes = same-routes s job a.routes b.routes a.lines b.lines a.iterations b.iterations (a.as_many ∙ sym b.as_many) in
-    let lines : a.lines ≡ b.lines = same-lines s job a.routes b.routes a.lines b.lines a.iterations b.iterations routes (a.with_gaps ∙ sym a.as_many) (a.with_gaps ∙ sym b.with_gaps) in
-    let last : a.last ≡ b.last = some-is a.last b.last (sym a.last_routes ∙ ap (λ (rs : List VehicleRoutes). slice_get rs (s.iterations - 1)) routes ∙ b.last_routes) in
-    let line : a.line ≡ b.line = some-is a.line b.line (sym a.last_line ∙ ap (λ (ls : List GapLine). slice_get ls (s.iterations - 1)) lines ∙ b.last_line) in
-    a.texts_are
-    ∙ ap (λ (rs : List VehicleRoutes). watch_texts s job rs ++ last_texts s.command s job a.last a.lines a.line) routes
-    ∙ ap (λ (r : VehicleRoutes). watch_texts s job b.routes ++ last_texts s.command s job r a.lines a.line) last
-    ∙ ap (λ (ls : List GapLine). watch_texts s job b.routes ++ last_texts s.command s job b.last ls a.line) lines
-    ∙ ap (λ (l : GapLine). watch_texts s job b.routes ++ last_texts s.command s job b.last b.lines l) line
-    ∙ sym b.texts_are
+texts_are_determined s job xs ys a b = determined-by s.command s job xs ys a b

@@ -13,6 +13,7 @@ use Rattle.net_core.specs.declared.rows.NetRows.{NetRows}
 use Rattle.dta_model.specs.LinkTimes.{TimeTable, free_steps, table_in, table_of, time_at}
 use Rattle.dta_model.specs.Loading.{journey_of, journeys_of}
 use Rattle.dta_model.specs.Sound.{IsSound}
+use Rattle.dta_model.specs.declared.eight.Eight.{Eight}
 use Rattle.dta_model.specs.declared.loaded.Journey.{Journey}
 use Rattle.dta_model.specs.declared.loading.TheConstants.{MOST_HORIZON}
 use Rattle.dta_model.specs.declared.plan.Plan.{Plan}
@@ -24,13 +25,13 @@ use Rattle.gap.specs.declared.line.GapLine.{GapLine}
 use Rattle.route_flows.specs.Averages.{AreFirstRoutes, AreNextRoutes}
 use Rattle.dta_words.specs.Ranges.{AreSettings}
 use Rattle.dta_words.specs.declared.command.Settings.{Settings}
-use Rattle.dta.specs.Assignment.{AreIterations, VehicleRoutes, times_of}
+use Rattle.dta.specs.Assignment.{AreIterations, VehicleRoutes, end_of, times_of}
 use Rattle.dta.specs.Jobs.{AreRoutesOf, IsJob, JobRows, plan_of}
-use Rattle.dta.specs.Outputs.{grown_by, watch_every, watch_from, watch_texts}
-use Rattle.dta.specs.Progress.{Halts, HaltsIn, IsAssigned, IsAt, IsLast}
+use Rattle.dta.specs.Progress.{Halts, HaltsIn, IsAssigned, IsAt, IsLast, IsWatched}
 use Rattle.dta.specs.declared.iterate.Halt.{Halt}
 use Rattle.dta.specs.declared.iterate.Halt.TheVariants as halt
-use Rattle.dta.proofs.OutputFacts.{cut-more, grown-more, no-lines}
+use Rattle.dta.specs.Outputs.{IsCutOff, end_lines}
+use Rattle.dta.proofs.OutputFacts.{cut-more, end-lines, grown-more, watch-more}
 
 -- a job, settings and routes make a sound loading
 pub sound-plan : (s : Settings) (job : JobRows) (routes : VehicleRoutes) → AreSettings s → IsJob s job → AreRoutesOf job routes → IsSound (plan_of s job routes)
@@ -141,6 +142,13 @@ free-of s job net trips routes times e is =
     ap (λ (x : TimeTable). x.free) is ∙ table-free (plan_of s job routes) s.bucket
     ∙ ap (λ (j : JobRows). free_steps j.net) (sym e)
 
+-- the line of the last state was cut off
+pub watch-halts : (s : Settings) (job : JobRows) (iteration : ℕ) (r : VehicleRoutes) (end : Eight)
+    (why : Halt) (before now : Taken) → AreSettings s → end ≡ end_of s job r → why ≡ halt.Watch
+    → IsCutOff (end_lines s.watch iteration end) before now → HaltsIn s job iteration r why before now
+watch-halts s job iteration r end why before now settings is watch cut =
+    rw watch (end_lines s.watch iteration end, end-lines s job iteration r end settings is, cut)
+
 -- the iterations of a job
 module _ (s : Settings) (job : JobRows) where
   -- the first routes alone
@@ -157,7 +165,9 @@ module _ (s : Settings) (job : JobRows) where
     as_many = refl;
     with_gaps = refl;
     iterations = only-first r are;
-    watched = rw (no-lines s.watch) refl;
+    texts = [];
+    watch_lines = refl;
+    watched = refl;
   }
 
   -- the iterations before one of them
@@ -218,7 +228,7 @@ module _ (s : Settings) (job : JobRows) where
   -- an iteration that isn't the last is done
   pub ahead : (number : ℕ) (r next : VehicleRoutes) (lines more : List GapLine) (line : GapLine) (start before now : Taken)
       → IsAt s job number r lines start before
-      → now ≡ grown_by (watch_every s.watch (watch_from s job number (r ∷ []))) before
+      → IsWatched s job number r before now
       → more ≡ lines ++ line ∷ []
       → IsGapLine (time_at (times_of s job r)) job.net job.trips r line
       → AreNextRoutes (time_at (times_of s job r)) job.net job.trips number r next
@@ -234,84 +244,88 @@ module _ (s : Settings) (job : JobRows) where
         iterations = with-next at.done r next (lines ++ line ∷ []) (omega (arith, gaps, length-append lines (line ∷ [])))
             (subst (λ (n : ℕ). AreNextRoutes (time_at (times_of s job r)) job.net job.trips n r next) (sym many) are)
             (with-gap at.done r lines line gaps gap at.iterations);
-        watched = grown-more s job at.done number r start before now many at.watched put;
+        texts = at.texts ++ put.0;
+        watch_lines = watch-more s job 1 number at.done r at.texts put.0 many at.watch_lines put.1;
+        watched = grown-more at.texts put.0 start before now at.watched put.2;
       }
 
   -- memory was wanting before the watch line of an iteration, or the line was cut off
   pub halts-in : (why : Halt) (number : ℕ) (r : VehicleRoutes) (lines : List GapLine) (start before now : Taken)
       → IsAt s job number r lines start before → number ≤ s.iterations
-      → HaltsIn why (watch_every s.watch (watch_from s job number (r ∷ []))) before now
+      → HaltsIn s job number r why before now
       → Halts s job why start now
   halts-in halt.Memory number r lines start before now at few same =
       let many = at.as_many in (
-        watch_texts s job at.done,
+        at.texts,
         record {
           routes = at.done;
           lines = lines;
           iterations = but-last at.done r lines at.iterations;
           few = omega (arith, many, few);
-          texts_are = refl;
+          watch_lines = at.watch_lines;
         },
         same ∙ at.watched,
       )
   halts-in halt.Watch number r lines start before now at few cut =
       let many = at.as_many in
       let long = length-append at.done (r ∷ []) in (
-        watch_texts s job (at.done ++ r ∷ []),
+        at.texts ++ cut.0,
         record {
           routes = at.done ++ r ∷ [];
           lines = lines;
           iterations = at.iterations;
           few = omega (arith, many, few, long);
-          texts_are = refl;
+          watch_lines = watch-more s job 1 number at.done r at.texts cut.0 many at.watch_lines cut.1;
         },
-        cut-more s job at.done number r start before now many at.watched cut,
+        cut-more at.texts cut.0 start before now at.watched cut.2,
       )
 
   -- memory was wanting after the watch line
   pub halts-after : (why : Halt) (number : ℕ) (r : VehicleRoutes) (lines : List GapLine) (start before now : Taken)
       → IsAt s job number r lines start before → number ≤ s.iterations
-      → now ≡ grown_by (watch_every s.watch (watch_from s job number (r ∷ []))) before
+      → IsWatched s job number r before now
       → why ≡ halt.Memory
       → Halts s job why start now
   halts-after why number r lines start before now at few put memory =
       let many = at.as_many in
       let long = length-append at.done (r ∷ []) in
       rw memory (
-        watch_texts s job (at.done ++ r ∷ []),
+        at.texts ++ put.0,
         record {
           routes = at.done ++ r ∷ [];
           lines = lines;
           iterations = at.iterations;
           few = omega (arith, many, few, long);
-          texts_are = refl;
+          watch_lines = watch-more s job 1 number at.done r at.texts put.0 many at.watch_lines put.1;
         },
-        grown-more s job at.done number r start before now many at.watched put,
+        grown-more at.texts put.0 start before now at.watched put.2,
       )
 
   -- the last iteration is done
-  pub assigned : (r : VehicleRoutes) (loaded : List Journey) (times : TimeTable) (lines more : List GapLine) (line : GapLine) (start before now : Taken)
+  pub assigned : (r : VehicleRoutes) (loaded : List Journey) (times : TimeTable) (end : Eight) (lines more : List GapLine) (line : GapLine) (start before now : Taken)
       → IsAt s job s.iterations r lines start before
-      → now ≡ grown_by (watch_every s.watch (watch_from s job s.iterations (r ∷ []))) before
+      → IsWatched s job s.iterations r before now
       → more ≡ lines ++ line ∷ []
       → IsGapLine (time_at (times_of s job r)) job.net job.trips r line
-      → IsLast s job r loaded times
-      → IsAssigned s job r loaded times more line start now
-  assigned r loaded times lines more line start before now at put pushed gap last = record {
+      → IsLast s job r loaded times end
+      → IsAssigned s job r loaded times end more line start now
+  assigned r loaded times end lines more line start before now at put pushed gap last = record {
     done = at.done;
     as_many = at.as_many;
     before = lines;
     with_gaps = at.with_gaps;
     lines_are = pushed;
     iterations = rw pushed (with-gap at.done r lines line at.with_gaps gap at.iterations);
-    watched = grown-more s job at.done s.iterations r start before now at.as_many at.watched put;
+    texts = at.texts ++ put.0;
+    watch_lines = watch-more s job 1 s.iterations at.done r at.texts put.0 at.as_many at.watch_lines put.1;
+    watched = grown-more at.texts put.0 start before now at.watched put.2;
     last = last;
   }
 
   -- memory was wanting for the first routes
   pub halts-first : (start : Taken) → Halts s job halt.Memory start start
   halts-first start = (
-    watch_texts s job [],
+    [],
     record {
       routes = [];
       lines = [];
@@ -321,9 +335,9 @@ module _ (s : Settings) (job : JobRows) where
         gaps = λ i r line e f. let h = slice_get_within {A = VehicleRoutes} [] i r e in absurd (omega (arith, h));
       };
       few = omega arith;
-      texts_are = refl;
+      watch_lines = refl;
     },
-    rw (no-lines s.watch) refl,
+    refl,
   )
 
 pub ruleset routings = (table-links, on-net)

@@ -22,10 +22,10 @@ use Rattle.reports.specs.declared.refusal.TheConstants.{TABLE_LIMIT}
 use Rattle.dta_words.specs.declared.command.Command.{Command}
 use Rattle.dta_words.specs.declared.command.Command.TheVariants as command
 use Rattle.dta_words.specs.declared.command.Settings.{Settings}
-use Rattle.dta.specs.Jobs.{AreWithin, HasRoom, IsJobOf, JobRows, LeavesOf, Reading, job_of, source, tables_of}
-use Rattle.dta.specs.Outcome.{AreCounted, DeskState, IsCauseIn, IsCutIn, ReadsFailed}
-use Rattle.dta.specs.Stops.{HasFault, Stops, StopsAmong, StopsIn, StopsJob, StopsTurn}
-use Rattle.dta.specs.Tables.{AreAccepted, InTurn, IsFaulty, Rows, no_rows, road_rows}
+use Rattle.dta.specs.Jobs.{AreWithin, HasRoom, IsJobOf, JobRows, LeavesOf, Reading, job_of, read_tables, source, tables_of}
+use Rattle.dta.specs.Outcome.{AreCounted, DeskState, IsCauseAmong, IsCauseIn, IsCutIn, ReadsFailed}
+use Rattle.dta.specs.Stops.{HasFault, Stops, StopsAmong, StopsIn, StopsJob, StopsAt}
+use Rattle.dta.specs.Tables.{AreAccepted, ReachedAmong, IsFaulty, TableRows, no_rows, road_rows}
 use Rattle.dta.specs.declared.stop.Stop.{Stop}
 use Rattle.dta.specs.declared.stop.Stop.TheVariants.{Refused, Memory}
 
@@ -39,51 +39,51 @@ pub trips_of-none : (period : ℕ) → trips_of [] period ≡ []
 unfolding trips_of released in_order_of_departure
 trips_of-none period = rw (none-in-any-step (numbers_below period)) refl
 
--- ---- turns
+-- ---- tables that were reached
 
 module _ (units : Units) where
-  turn-map : (t : Table) (Turn Other : Rows → Left → Left → Type 0) (tables : List Table) (rows : Rows) (left rest : Left)
-      → ((r : Rows) (a b : Left) → Turn r a b → Other r a b) → InTurn units tables t Turn rows left rest → InTurn units tables t Other rows left rest
-  turn-map t Turn Other [] rows left rest f h = absurd h
-  turn-map t Turn Other (u ∷ tables) rows left rest f (inl h) = inl (h.0, f rows left rest h.1)
-  turn-map t Turn Other (u ∷ tables) rows left rest f (inr h) = inr (h.0, h.1, h.2, turn-map t Turn Other tables h.0 h.1 rest f h.3)
+  reached-map : (t : Table) (Part Other : TableRows → Left → Left → Type 0) (tables : List Table) (rows : TableRows) (left rest : Left)
+      → ((r : TableRows) (a b : Left) → Part r a b → Other r a b) → ReachedAmong units tables t Part rows left rest → ReachedAmong units tables t Other rows left rest
+  reached-map t Part Other [] rows left rest f h = absurd h
+  reached-map t Part Other (u ∷ tables) rows left rest f (inl h) = inl (h.0, f rows left rest h.1)
+  reached-map t Part Other (u ∷ tables) rows left rest f (inr h) = inr (h.0, h.1, h.2, reached-map t Part Other tables h.0 h.1 rest f h.3)
 
-  -- what is so of the turn whatever the rows are
-  turn-holds : (t : Table) (Turn : Rows → Left → Left → Type 0) (P : Type 0) (tables : List Table) (rows : Rows) (left rest : Left)
-      → ((r : Rows) (a b : Left) → Turn r a b → P) → InTurn units tables t Turn rows left rest → P
-  turn-holds t Turn P [] rows left rest f h = absurd h
-  turn-holds t Turn P (u ∷ tables) rows left rest f (inl h) = f rows left rest h.1
-  turn-holds t Turn P (u ∷ tables) rows left rest f (inr h) = turn-holds t Turn P tables h.0 h.1 rest f h.3
+  -- what is so at that table whatever the rows are
+  reached-holds : (t : Table) (Part : TableRows → Left → Left → Type 0) (P : Type 0) (tables : List Table) (rows : TableRows) (left rest : Left)
+      → ((r : TableRows) (a b : Left) → Part r a b → P) → ReachedAmong units tables t Part rows left rest → P
+  reached-holds t Part P [] rows left rest f h = absurd h
+  reached-holds t Part P (u ∷ tables) rows left rest f (inl h) = f rows left rest h.1
+  reached-holds t Part P (u ∷ tables) rows left rest f (inr h) = reached-holds t Part P tables h.0 h.1 rest f h.3
 
--- the turn in which reading stopped, as the cause of the stop
+-- the table at which reading stopped, as the cause of the stop
 module _ (s : Settings) (before after : DeskState) where
-  abbrev Turn : Table → Stop → Rows → Left → Left → Type 0
-  Turn t stop rows left rest = StopsTurn s.units t rows stop (record before { left = left }) (record after { left = rest })
+  abbrev Ends : Table → Stop → TableRows → Left → Left → Type 0
+  Ends t stop rows left rest = StopsAt s.units t rows stop (record before { left = left }) (record after { left = rest })
 
   pub among-in : (stop : Stop) → StopsAmong s.units (tables_of s.command) no_rows stop before after → StopsIn s stop before after
   among-in Memory h = inr (inl h)
   among-in (Refused refusal.Usage) h =
-      absurd (turn-holds s.units h.0 (Turn h.0 (Refused refusal.Usage)) ⊥ (tables_of s.command) no_rows before.left after.left (λ r a b k. k) h.1)
+      absurd (reached-holds s.units h.0 (Ends h.0 (Refused refusal.Usage)) ⊥ (tables_of s.command) no_rows before.left after.left (λ r a b k. k) h.1)
   among-in (Refused (refusal.Table fault)) h =
-      let same : fault.table ≡ h.0 = turn-holds s.units h.0 (Turn h.0 (Refused (refusal.Table fault))) (fault.table ≡ h.0) (tables_of s.command) no_rows before.left after.left (λ r a b k. k.0) h.1 in
-      let faulty = turn-map s.units h.0 (Turn h.0 (Refused (refusal.Table fault))) (IsFaulty s.units fault h.0) (tables_of s.command) no_rows before.left after.left (λ r a b k. k.1) h.1 in
-      (subst (λ (t : Table). InTurn s.units (tables_of s.command) t (IsFaulty s.units fault t) no_rows before.left after.left) (sym same) faulty, tt)
+      let same : fault.table ≡ h.0 = reached-holds s.units h.0 (Ends h.0 (Refused (refusal.Table fault))) (fault.table ≡ h.0) (tables_of s.command) no_rows before.left after.left (λ r a b k. k.0) h.1 in
+      let faulty = reached-map s.units h.0 (Ends h.0 (Refused (refusal.Table fault))) (IsFaulty s.units fault h.0) (tables_of s.command) no_rows before.left after.left (λ r a b k. k.1) h.1 in
+      (subst (λ (t : Table). ReachedAmong s.units (tables_of s.command) t (IsFaulty s.units fault t) no_rows before.left after.left) (sym same) faulty, tt)
   among-in (Refused (refusal.Read u)) h =
-      let same : u ≡ h.0 = turn-holds s.units h.0 (Turn h.0 (Refused (refusal.Read u))) (u ≡ h.0) (tables_of s.command) no_rows before.left after.left (λ r a b k. k.0) h.1 in
-      let failed : ReadsFailed before after = turn-holds s.units h.0 (Turn h.0 (Refused (refusal.Read u))) (ReadsFailed before after) (tables_of s.command) no_rows before.left after.left (λ r a b k. k.2) h.1 in
-      let begun = turn-map s.units h.0 (Turn h.0 (Refused (refusal.Read u))) (λ _. IsBegun h.0) (tables_of s.command) no_rows before.left after.left (λ r a b k. k.1) h.1 in
-      (subst (λ (t : Table). InTurn s.units (tables_of s.command) t (λ _. IsBegun t) no_rows before.left after.left) (sym same) begun, failed)
+      let same : u ≡ h.0 = reached-holds s.units h.0 (Ends h.0 (Refused (refusal.Read u))) (u ≡ h.0) (tables_of s.command) no_rows before.left after.left (λ r a b k. k.0) h.1 in
+      let failed : ReadsFailed before after = reached-holds s.units h.0 (Ends h.0 (Refused (refusal.Read u))) (ReadsFailed before after) (tables_of s.command) no_rows before.left after.left (λ r a b k. k.2) h.1 in
+      let begun = reached-map s.units h.0 (Ends h.0 (Refused (refusal.Read u))) (λ _. IsBegun h.0) (tables_of s.command) no_rows before.left after.left (λ r a b k. k.1) h.1 in
+      (subst (λ (t : Table). ReachedAmong s.units (tables_of s.command) t (λ _. IsBegun t) no_rows before.left after.left) (sym same) begun, failed)
   among-in (Refused (refusal.LongTable u)) h =
-      let same : u ≡ h.0 = turn-holds s.units h.0 (Turn h.0 (Refused (refusal.LongTable u))) (u ≡ h.0) (tables_of s.command) no_rows before.left after.left (λ r a b k. k.0) h.1 in
-      let long = turn-map s.units h.0 (Turn h.0 (Refused (refusal.LongTable u))) (λ _. IsLong h.0 TABLE_LIMIT) (tables_of s.command) no_rows before.left after.left (λ r a b k. k.1) h.1 in
-      (subst (λ (t : Table). InTurn s.units (tables_of s.command) t (λ _. IsLong t TABLE_LIMIT) no_rows before.left after.left) (sym same) long, tt)
+      let same : u ≡ h.0 = reached-holds s.units h.0 (Ends h.0 (Refused (refusal.LongTable u))) (u ≡ h.0) (tables_of s.command) no_rows before.left after.left (λ r a b k. k.0) h.1 in
+      let long = reached-map s.units h.0 (Ends h.0 (Refused (refusal.LongTable u))) (λ _. IsLong h.0 TABLE_LIMIT) (tables_of s.command) no_rows before.left after.left (λ r a b k. k.1) h.1 in
+      (subst (λ (t : Table). ReachedAmong s.units (tables_of s.command) t (λ _. IsLong t TABLE_LIMIT) no_rows before.left after.left) (sym same) long, tt)
   among-in (Refused (refusal.Cells links steps)) h =
-      absurd (turn-holds s.units h.0 (Turn h.0 (Refused (refusal.Cells links steps))) ⊥ (tables_of s.command) no_rows before.left after.left (λ r a b k. k) h.1)
+      absurd (reached-holds s.units h.0 (Ends h.0 (Refused (refusal.Cells links steps))) ⊥ (tables_of s.command) no_rows before.left after.left (λ r a b k. k) h.1)
   among-in (Refused (refusal.Vehicles line total)) h =
-      absurd (turn-holds s.units h.0 (Turn h.0 (Refused (refusal.Vehicles line total))) ⊥ (tables_of s.command) no_rows before.left after.left (λ r a b k. k) h.1)
+      absurd (reached-holds s.units h.0 (Ends h.0 (Refused (refusal.Vehicles line total))) ⊥ (tables_of s.command) no_rows before.left after.left (λ r a b k. k) h.1)
 
   -- the sizes of accepted tables, as the cause of the stop
-  pub job-in : (rows : Rows) (stop : Stop) → s.command ≢ command.Freeflow → AreAccepted s.units (tables_of s.command) no_rows rows before.left after.left
+  pub job-in : (rows : TableRows) (stop : Stop) → s.command ≢ command.Freeflow → AreAccepted s.units (tables_of s.command) no_rows rows before.left after.left
       → StopsJob s rows stop → StopsIn s stop before after
   job-in rows Memory loads read h = inr (inr (record { rows = rows; read = read; part = tt }))
   job-in rows (Refused refusal.Usage) loads read h = absurd h
@@ -94,21 +94,28 @@ module _ (s : Settings) (before after : DeskState) where
   job-in rows (Refused (refusal.Vehicles line total)) loads read h = ((loads, record { rows = rows; read = read; part = h }), tt)
 
 -- the same at a desk that is the source itself
-pub own-stops : (s : Settings) (stop : Stop) (before after : DeskState) → source s.command before.left ≡ before.left
+pub own-stops : (s : Settings) (stop : Stop) (before after : DeskState)
+    → read_tables s.command ≡ tables_of s.command → source s.command before.left ≡ before.left
     → LeavesOf s.command after.left before.left after.left → StopsIn s stop before after → Stops s stop before after
-own-stops s Memory before after from leaves h = record { rest = after.left; leaves = leaves; part = subst (λ l. IsCutIn s l after.left) (sym from) h }
-own-stops s (Refused r) before after from leaves h =
-    (record { rest = after.left; leaves = leaves; part = subst (λ l. IsCauseIn s r l after.left) (sym from) h.0 }, h.1)
+own-stops s Memory before after all from leaves h = record { rest = after.left; leaves = leaves; part = subst (λ l. IsCutIn s l after.left) (sym from) h }
+own-stops s (Refused r) before after all from leaves h =
+    let own : IsCauseIn s r before.left after.left =
+    subst (λ (tables : List Table). IsCauseAmong tables s r before.left after.left) (sym all) h.0 in
+    (record { rest = after.left; leaves = leaves; part = subst (λ l. IsCauseIn s r l after.left) (sym from) own }, h.1)
 
 module _ {T : Type 0} (s : Settings) (r : Result T Stop) (before after : DeskState) where
   pub free-stop : s.command ≡ command.Freeflow → IfErr r (λ stop. StopsIn s stop before after) → IfErr r (λ stop. Stops s stop before after)
   free-stop asks h = IfErr-weaker r (λ stop. StopsIn s stop before after) (λ stop. Stops s stop before after)
-      (λ stop k. own-stops s stop before after (ap (λ (c : Command). source c before.left) asks)
+      (λ stop k. own-stops s stop before after
+      (subst (λ (c : Command). read_tables c ≡ tables_of c) (sym asks) refl)
+      (ap (λ (c : Command). source c before.left) asks)
       (subst (λ (c : Command). LeavesOf c after.left before.left after.left) (sym asks) refl) k) h
 
   pub assign-stop : s.command ≡ command.Assign → IfErr r (λ stop. StopsIn s stop before after) → IfErr r (λ stop. Stops s stop before after)
   assign-stop asks h = IfErr-weaker r (λ stop. StopsIn s stop before after) (λ stop. Stops s stop before after)
-      (λ stop k. own-stops s stop before after (ap (λ (c : Command). source c before.left) asks)
+      (λ stop k. own-stops s stop before after
+      (subst (λ (c : Command). read_tables c ≡ tables_of c) (sym asks) refl)
+      (ap (λ (c : Command). source c before.left) asks)
       (subst (λ (c : Command). LeavesOf c after.left before.left after.left) (sym asks) refl) k) h
 
 never-rose : Rose 0 0 → ⊥
@@ -121,6 +128,18 @@ no-fault (refusal.Read u) made later before after m l h = absurd (never-rose (su
 no-fault (refusal.LongTable u) made later before after m l h = tt
 no-fault (refusal.Cells links steps) made later before after m l h = tt
 no-fault (refusal.Vehicles line total) made later before after m l h = tt
+
+-- where no read failed, it is no matter of which tables reads could fail
+any-tables : (s : Settings) (r : Refusal) (tables others : List Table) (before after : Left)
+    (made later : DeskState) → made.read_faults ≡ 0 → later.read_faults ≡ 0 → HasFault r made later
+    → IsCauseAmong tables s r before after → IsCauseAmong others s r before after
+any-tables s refusal.Usage tables others before after made later m l f h = h
+any-tables s (refusal.Table fault) tables others before after made later m l f h = h
+any-tables s (refusal.Read u) tables others before after made later m l f h =
+    absurd (never-rose (subst (λ x. Rose x 0) m (subst (λ x. Rose made.read_faults x) l f)))
+any-tables s (refusal.LongTable u) tables others before after made later m l f h = h
+any-tables s (refusal.Cells links steps) tables others before after made later m l f h = h
+any-tables s (refusal.Vehicles line total) tables others before after made later m l f h = h
 
 -- and at a desk that was made for the source
 module _ (s : Settings) (n : ℕ) (asks : s.command ≡ command.Demo n) where
@@ -145,7 +164,9 @@ module _ (s : Settings) (n : ℕ) (asks : s.command ≡ command.Demo n) where
   grid-stops Memory made later before after from m l same h =
       grid-reading (IsCutIn s) later.left before.left after.left same (subst (λ x. IsCutIn s x later.left) from h)
   grid-stops (Refused r) made later before after from m l same h =
-      (grid-reading (IsCauseIn s r) later.left before.left after.left same (subst (λ x. IsCauseIn s r x later.left) from h.0), no-fault r made later before after m l h.1)
+      let made_for = subst (λ x. IsCauseAmong (tables_of s.command) s r x later.left) from h.0 in
+      let own = any-tables s r (tables_of s.command) (read_tables s.command) grid_left later.left made later m l h.1 made_for in
+      (grid-reading (IsCauseIn s r) later.left before.left after.left same own, no-fault r made later before after m l h.1)
 
 -- ---- jobs
 
@@ -154,13 +175,13 @@ full-tables command.Freeflow loads = absurd (loads refl)
 full-tables command.Assign loads = refl
 full-tables (command.Demo n) loads = refl
 
-within-of : (s : Settings) (rows : Rows) (c : Command) → c ≢ command.Freeflow → HasRoom s rows × IsWithin rows.cells → AreWithin c s rows
+within-of : (s : Settings) (rows : TableRows) (c : Command) → c ≢ command.Freeflow → HasRoom s rows × IsWithin rows.cells → AreWithin c s rows
 within-of s rows command.Freeflow loads w = absurd (loads refl)
 within-of s rows command.Assign loads w = w
 within-of s rows (command.Demo n) loads w = w
 
 -- the job of all four tables
-pub full-job : (s : Settings) (rows : Rows) (job : JobRows) (left rest : Left) → s.command ≢ command.Freeflow
+pub full-job : (s : Settings) (rows : TableRows) (job : JobRows) (left rest : Left) → s.command ≢ command.Freeflow
     → AreAccepted s.units (table.Node ∷ table.Link ∷ table.Movement ∷ table.Demand ∷ []) no_rows rows left rest
     → HasRoom s rows × IsWithin rows.cells → job ≡ job_of s rows → IsJobOf s job left rest
 full-job s rows job left rest loads read within makes = record {
@@ -174,7 +195,7 @@ full-made : {T E : Type 0} (r : Result T E) (P Q : T → Type 0) (K : Type 0) �
 full-made (Ok x) P Q K f k p = f x k p
 full-made (Err e) P Q K f k p = tt
 
-pub full-jobs : {E : Type 0} (s : Settings) (rows : Rows) (r : Result JobRows E) (left rest : Left) → s.command ≢ command.Freeflow
+pub full-jobs : {E : Type 0} (s : Settings) (rows : TableRows) (r : Result JobRows E) (left rest : Left) → s.command ≢ command.Freeflow
     → AreAccepted s.units (table.Node ∷ table.Link ∷ table.Movement ∷ table.Demand ∷ []) no_rows rows left rest
     → OnOk r (HasRoom s rows × IsWithin rows.cells) → IfOk r (λ job. job ≡ job_of s rows) → IfOk r (λ job. IsJobOf s job left rest)
 full-jobs s rows r left rest loads read within makes =
@@ -186,7 +207,7 @@ module _ (s : Settings) (loads : s.command ≢ command.Freeflow) (before after :
   pub among-full : (stop : Stop) → StopsAmong s.units (table.Node ∷ table.Link ∷ table.Movement ∷ table.Demand ∷ []) no_rows stop before after → StopsIn s stop before after
   among-full stop h = among-in s before after stop (subst (λ (ts : List Table). StopsAmong s.units ts no_rows stop before after) (sym (full-tables s.command loads)) h)
 
-  pub sized : {T : Type 0} (rows : Rows) (r : Result T Stop)
+  pub sized : {T : Type 0} (rows : TableRows) (r : Result T Stop)
       → AreAccepted s.units (table.Node ∷ table.Link ∷ table.Movement ∷ table.Demand ∷ []) no_rows rows before.left after.left
       → IfErr r (StopsJob s rows) → IfErr r (λ stop. StopsIn s stop before after)
   sized rows r read h = IfErr-weaker r (StopsJob s rows) (λ stop. StopsIn s stop before after)

@@ -1,4 +1,4 @@
-pub mod TurnFacts
+pub mod TableFacts
 pub mod ChainFacts
 pub mod JobFacts
 pub mod VerdictFacts

@@ -1,17 +1,28 @@
 -- Texts that go out one after another.
-use Rattle.std.proofs.Common.{◌≡◌, ℕ, zero, suc, ◌+◌, List, [], ◌∷◌, ◌++◌, length, refl, ap, sym, ◌∙◌, arith, inl, inr}
+use Rattle.std.proofs.Common.{◌≡◌, ℕ, zero, suc, ◌+◌, ◌≤◌, Bool, true, false, List, [], ◌∷◌, ◌++◌, length}
+use Rattle.std.proofs.Common.{refl, ap, sym, subst, ◌∙◌, arith, rules, inl, inr}
+use Rattle.std.specs.Prelude.{count_by, nat_lt}
+use Rattle.std.proofs.lemmas.List.FromFn.{length-range_with_len}
+use Rattle.std.proofs.lemmas.List.Sums.{count_by-le-length}
+use Rattle.net_core.specs.Network.{numbers_below}
+use Rattle.dta_model.specs.State.{arrived_in, eight_after, eight_in, running_in, waiting_in}
+use Rattle.std.proofs.lemmas.List.{append_assoc, append-nil}
 use Rattle.desk_io.specs.declared.desk.Output.{Output}
 use Rattle.desk_io.specs.declared.desk.Output.TheVariants as output
 use Rattle.desk_io.specs.Desk.{Taken, grown}
 use Rattle.desk_io.specs.Transfers.{IsPartOut}
+use Rattle.dta_model.specs.declared.eight.Eight.{Eight}
 use Rattle.gap.specs.declared.line.GapLine.{GapLine}
-use Rattle.reports.specs.Texts.{report_text}
+use Rattle.reports.specs.Texts.{report_text, watch_line}
+use Rattle.reports.specs.Watch.{AreWatchSteps}
+use Rattle.dta_words.specs.Ranges.{AreSettings}
 use Rattle.dta_words.specs.declared.command.Command.{Command}
 use Rattle.dta_words.specs.declared.command.Command.TheVariants as command
 use Rattle.dta_words.specs.declared.command.Settings.{Settings}
-use Rattle.dta.specs.Assignment.{VehicleRoutes}
+use Rattle.dta.specs.Assignment.{VehicleRoutes, end_of}
 use Rattle.dta.specs.Jobs.{JobRows}
-use Rattle.dta.specs.Outputs.{IsCutOff, OutText, grown_by, last_texts, summary_of, table_texts, text_to, watch_every, watch_from, watch_texts}
+use Rattle.dta.specs.Outputs.{AreToldSteps, AreWatchLines, AreWatchTexts, IsCutOff, OutText, end_lines}
+use Rattle.dta.specs.Outputs.{grown_by, last_texts, summary_of, table_texts, text_to}
 
 -- some texts went out, and then others
 pub grown-append : (xs ys : List OutText) (t : Taken) → grown_by (xs ++ ys) t ≡ grown_by ys (grown_by xs t)
@@ -29,51 +40,100 @@ cut-sooner [] ys t after cut = absurd cut
 cut-sooner (x ∷ xs) ys t after (inl part) = inl part
 cut-sooner (x ∷ xs) ys t after (inr cut) = inr (cut-sooner xs ys (grown x.to x.text t) after cut)
 
--- the watch lines of some iterations, and then of others
-watch-append : (s : Settings) (job : JobRows) (number : ℕ) (xs ys : List VehicleRoutes) → watch_from s job number (xs ++ ys) ≡ watch_from s job number xs ++ watch_from s job (length xs + number) ys
-watch-append s job number [] ys = ap (λ n. watch_from s job n ys) (omega arith)
-watch-append s job number (x ∷ xs) ys =
-    let k : length xs + (number + 1) ≡ length (x ∷ xs) + number = omega arith in
-    ap (λ lines. watch_from s job number (x ∷ []) ++ lines) (watch-append s job (number + 1) xs ys
-    ∙ ap (λ n. watch_from s job (number + 1) xs ++ watch_from s job n ys) k)
+-- ---- watch lines
 
-every-append : (every : ℕ) (xs ys : List OutText) → watch_every every (xs ++ ys) ≡ watch_every every xs ++ watch_every every ys
-every-append zero xs ys = refl
-every-append (suc every) xs ys = refl
-
--- without an iteration there is no line
-pub no-lines : (every : ℕ) → watch_every every [] ≡ []
-no-lines zero = refl
-no-lines (suc every) = refl
+zero-and : (number last : ℕ) → 0 + number ≡ last → last ≡ number
+zero-and number last e = omega (arith, e)
 
 -- the watch lines of iterations, and of one more
-pub texts-more : (s : Settings) (job : JobRows) (done : List VehicleRoutes) (number : ℕ) (r : VehicleRoutes) → length done + 1 ≡ number
-    → watch_texts s job (done ++ r ∷ []) ≡ watch_texts s job done ++ watch_every s.watch (watch_from s job number (r ∷ []))
-texts-more s job done number r e =
-    ap (watch_every s.watch) (watch-append s job 1 done (r ∷ [])
-    ∙ ap (λ n. watch_from s job 1 done ++ watch_from s job n (r ∷ [])) e)
-    ∙ every-append s.watch (watch_from s job 1 done) (watch_from s job number (r ∷ []))
+pub watch-more : (s : Settings) (job : JobRows) (number last : ℕ) (done : List VehicleRoutes)
+    (r : VehicleRoutes) (texts lines : List OutText) → length done + number ≡ last
+    → AreWatchTexts s job number done texts → AreWatchLines s job last r lines
+    → AreWatchTexts s job number (done ++ r ∷ []) (texts ++ lines)
+watch-more s job number last [] r texts lines e told own = (
+  lines,
+  [],
+  subst (λ (n : ℕ). AreWatchLines s job n r lines) (zero-and number last e) own,
+  refl,
+  ap (λ (t : List OutText). t ++ lines) told ∙ sym (append-nil lines),
+)
+watch-more s job number last (x ∷ done) r texts lines e told own =
+    let k : length done + (number + 1) ≡ last = omega (arith, e) in (
+      told.0,
+      told.1 ++ lines,
+      told.2,
+      watch-more s job (number + 1) last done r told.1 lines k told.3 own,
+      ap (λ (t : List OutText). t ++ lines) told.4 ∙ append_assoc told.0 told.1 lines,
+    )
 
--- what the outputs have taken after the line of one more iteration
-pub grown-more : (s : Settings) (job : JobRows) (done : List VehicleRoutes) (number : ℕ) (r : VehicleRoutes) (start before now : Taken) → length done + 1 ≡ number
-    → before ≡ grown_by (watch_texts s job done) start
-    → now ≡ grown_by (watch_every s.watch (watch_from s job number (r ∷ []))) before
-    → now ≡ grown_by (watch_texts s job (done ++ r ∷ [])) start
-grown-more s job done number r start before now e old new =
-    let line = watch_every s.watch (watch_from s job number (r ∷ [])) in
-    new ∙ ap (grown_by line) old
-    ∙ sym (grown-append (watch_texts s job done) line start)
-    ∙ ap (λ texts. grown_by texts start) (sym (texts-more s job done number r e))
+-- what the outputs have taken after the lines of one more iteration
+pub grown-more : (texts lines : List OutText) (start before now : Taken) → before ≡ grown_by texts start
+    → now ≡ grown_by lines before → now ≡ grown_by (texts ++ lines) start
+grown-more texts lines start before now old new =
+    new ∙ ap (grown_by lines) old ∙ sym (grown-append texts lines start)
 
--- the line of one more iteration was cut off
-pub cut-more : (s : Settings) (job : JobRows) (done : List VehicleRoutes) (number : ℕ) (r : VehicleRoutes) (start before now : Taken) → length done + 1 ≡ number
-    → before ≡ grown_by (watch_texts s job done) start
-    → IsCutOff (watch_every s.watch (watch_from s job number (r ∷ []))) before now
-    → IsCutOff (watch_texts s job (done ++ r ∷ [])) start now
-cut-more s job done number r start before now e old cut =
-    rw (texts-more s job done number r e) (
-    cut-later (watch_texts s job done) (watch_every s.watch (watch_from s job number (r ∷ []))) start now
-    (rw (← old) cut))
+-- the lines of one more iteration were cut off
+pub cut-more : (texts lines : List OutText) (start before now : Taken) → before ≡ grown_by texts start
+    → IsCutOff lines before now → IsCutOff (texts ++ lines) start now
+cut-more texts lines start before now old cut =
+    cut-later texts lines start now (subst (λ (t : Taken). IsCutOff lines t now) old cut)
+
+-- the line of the state at the horizon alone meets the rule
+last-alone : (every horizon : ℕ) → 1 ≤ horizon → AreWatchSteps every horizon (horizon ∷ [])
+last-alone every horizon h =
+    let above : nat_lt 0 horizon ≡ true = search rules in
+    record { before = []; ends = refl; rising = rw above refl; apart = refl }
+
+-- and is what the plain loader tells
+end-told : (every : ℕ) (plain : Bool) (horizon : ℕ) → 1 ≤ horizon
+    → AreToldSteps (suc every) plain horizon (horizon ∷ [])
+end-told every true horizon h = refl
+end-told every false horizon h = last-alone (suc every) horizon h
+
+-- the line that is put after the last step is what the rule asks of an iteration
+end-by : (s : Settings) (job : JobRows) (iteration : ℕ) (r : VehicleRoutes) (end : Eight) (every : ℕ)
+    → s.watch ≡ every → 1 ≤ s.horizon → end ≡ end_of s job r
+    → AreWatchLines s job iteration r (end_lines every iteration end)
+end-by s job iteration r end zero e h is = record {
+  steps = [];
+  by_rule = rw e refl;
+  lines_are = refl;
+}
+end-by s job iteration r end (suc every) e h is = record {
+  steps = s.horizon ∷ [];
+  by_rule = rw e (end-told every s.plain s.horizon h);
+  lines_are = ap (λ (x : Eight). text_to output.Watch (watch_line iteration x) ∷ []) is;
+}
+
+pub end-lines : (s : Settings) (job : JobRows) (iteration : ℕ) (r : VehicleRoutes) (end : Eight)
+    → AreSettings s → end ≡ end_of s job r
+    → AreWatchLines s job iteration r (end_lines s.watch iteration end)
+end-lines s job iteration r end settings is =
+    end-by s job iteration r end s.watch refl settings.horizon.0 is
+
+-- ---- the last state
+
+count_few : (p : ℕ → Bool) (n : ℕ) → count_by p (numbers_below n) ≤ n
+count_few p n =
+    let a = count_by-le-length p (numbers_below n) in
+    let b = length-range_with_len 0 n in
+    omega (arith, a, b)
+
+-- no more vehicles wait, run or have arrived than there are
+pub few-waiting : (s : Settings) (job : JobRows) (r : VehicleRoutes) (end : Eight)
+    → end ≡ end_of s job r → end.waiting ≤ length job.trips
+unfolding eight_after eight_in waiting_in
+few-waiting s job r end is = rw is (count_few _ (length job.trips))
+
+pub few-running : (s : Settings) (job : JobRows) (r : VehicleRoutes) (end : Eight)
+    → end ≡ end_of s job r → end.running ≤ length job.trips
+unfolding eight_after eight_in running_in
+few-running s job r end is = rw is (count_few _ (length job.trips))
+
+pub few-arrived : (s : Settings) (job : JobRows) (r : VehicleRoutes) (end : Eight)
+    → end ≡ end_of s job r → end.arrived ≤ length job.trips
+unfolding eight_after eight_in arrived_in
+few-arrived s job r end is = rw is (count_few _ (length job.trips))
 
 -- one text went out, or was cut off
 pub grown-one : (o : Output) (text : List ℕ) (before now : Taken) → now ≡ grown o text before → now ≡ grown_by (text_to o text ∷ []) before
@@ -122,4 +182,24 @@ module _ (s : Settings) (job : JobRows) (r : VehicleRoutes) (lines : List GapLin
       → IsCutOff (last_texts k s job r lines line) before now
   demo-cut k n before now e part = rw e (cut-one output.Report (report_text (summary_of s job r line)) before now part)
 
-pub ruleset lasts = (tables-reported, report-cut, tables-cut, demo-reported, demo-cut)
+  -- and so of another command
+  pub free-reported : (k : Command) (before now : Taken) → k ≡ command.Freeflow
+      → now ≡ grown output.Report (report_text (summary_of s job r line)) before
+      → now ≡ grown_by (last_texts k s job r lines line) before
+  free-reported k before now e report = rw e report
+
+  pub free-cut : (k : Command) (before now : Taken) → k ≡ command.Freeflow
+      → IsPartOut output.Report (report_text (summary_of s job r line)) before now
+      → IsCutOff (last_texts k s job r lines line) before now
+  free-cut k before now e part =
+      rw e (cut-one output.Report (report_text (summary_of s job r line)) before now part)
+
+pub ruleset lasts = (
+  tables-reported,
+  report-cut,
+  tables-cut,
+  demo-reported,
+  demo-cut,
+  free-reported,
+  free-cut,
+)

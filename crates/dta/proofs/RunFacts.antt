@@ -6,6 +6,7 @@ use Rattle.desk_io.specs.Desk.{Taken}
 use Rattle.desk_io.specs.Faults.{Rose}
 use Rattle.desk_io.specs.Transfers.{IsOut}
 use Rattle.dta_model.specs.LinkTimes.{TimeTable}
+use Rattle.dta_model.specs.declared.eight.Eight.{Eight}
 use Rattle.dta_model.specs.declared.loaded.Journey.{Journey}
 use Rattle.gap.specs.declared.line.GapLine.{GapLine}
 use Rattle.reports.specs.Texts.{IsCutShort as IsFreeCut, IsFreeOut, refusal_line}
@@ -18,7 +19,7 @@ use Rattle.dta_words.specs.declared.command.Settings.{Settings}
 use Rattle.dta.specs.Assignment.{VehicleRoutes}
 use Rattle.dta.specs.Jobs.{IsAcceptedJob, JobRows}
 use Rattle.dta.specs.Outcome.{DeskState, IsCause, IsCutShort, IsRefused, Means, ReportsLine, Works}
-use Rattle.dta.specs.Outputs.{AreAssigned, AreTexts, AreTextsSoFar, AreWatched, IsCutOff, OutText, free_texts, grown_by, last_texts, watch_texts}
+use Rattle.dta.specs.Outputs.{AreAssigned, AreTexts, AreTextsSoFar, AreWatched, IsCutOff, OutText, free_texts, grown_by, last_texts}
 use Rattle.dta.specs.Progress.{Halts, IsAssigned}
 use Rattle.dta.specs.Status.{refusal_status}
 use Rattle.dta.specs.Stops.{HasFault}
@@ -51,15 +52,12 @@ so-far-watched (command.Demo n) s job texts loads a = inr a
 
 module _ (s : Settings) (job : JobRows) (loads : s.command ≢ command.Freeflow) where
   -- all texts of an assignment whose iterations are done
-  module _ (routes : VehicleRoutes) (loaded : List Journey) (times : TimeTable) (lines : List GapLine) (line : GapLine) (start now : Taken)
-      (a : IsAssigned s job routes loaded times lines line start now) where
-    abbrev watched : List OutText
-    watched = watch_texts s job (a.done ++ routes ∷ [])
-
+  module _ (routes : VehicleRoutes) (loaded : List Journey) (times : TimeTable) (end : Eight) (lines : List GapLine)
+      (line : GapLine) (start now : Taken) (a : IsAssigned s job routes loaded times end lines line start now) where
     abbrev last : List OutText
     last = last_texts s.command s job routes lines line
 
-    assigned-texts : AreAssigned s job (watched ++ last)
+    assigned-texts : AreAssigned s job (a.texts ++ last)
     assigned-texts = record {
       routes = a.done ++ routes ∷ [];
       lines = lines;
@@ -70,21 +68,23 @@ module _ (s : Settings) (job : JobRows) (loads : s.command ≢ command.Freeflow)
       with_gaps = ap length a.lines_are ∙ length-append a.before (line ∷ []) ∙ ap (λ n. n + 1) a.with_gaps ∙ a.as_many;
       last_routes = ap (λ n. slice_get (a.done ++ routes ∷ []) n) (omega (arith, a.as_many)) ∙ get-seam a.done routes;
       last_line = ap (λ xs. slice_get xs (s.iterations - 1)) a.lines_are ∙ ap (λ n. slice_get (a.before ++ line ∷ []) n) (omega (arith, a.as_many, a.with_gaps)) ∙ get-seam a.before line;
+      watched = a.texts;
+      watch_lines = a.watch_lines;
       texts_are = refl;
     }
 
     pub assigned-done : (after : Taken) → after ≡ grown_by last now → Works s job status.Done start after
     assigned-done after out = (
-      watched ++ last,
-      texts-are s.command s job (watched ++ last) loads assigned-texts,
-      out ∙ ap (grown_by last) a.watched ∙ sym (grown-append watched last start),
+      a.texts ++ last,
+      texts-are s.command s job (a.texts ++ last) loads assigned-texts,
+      out ∙ ap (grown_by last) a.watched ∙ sym (grown-append a.texts last start),
     )
 
     pub assigned-cut : (after : Taken) → IsCutOff last now after → Works s job status.WriteFault start after
     assigned-cut after cut = (
-      watched ++ last,
-      so-far-assigned s.command s job (watched ++ last) loads assigned-texts,
-      cut-later watched last start after (subst (λ t. IsCutOff last t after) a.watched cut),
+      a.texts ++ last,
+      so-far-assigned s.command s job (a.texts ++ last) loads assigned-texts,
+      cut-later a.texts last start after (subst (λ t. IsCutOff last t after) a.watched cut),
     )
 
   pub halted-watch : (start now : Taken) → Halts s job halt.Watch start now → Works s job status.WriteFault start now

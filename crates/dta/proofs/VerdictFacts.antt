@@ -1,13 +1,13 @@
 -- Where the bytes of the tables are told, what was read is what is told, and so the answer is that of the verdict.
 use Rattle.std.proofs.Common.{◌≡◌, ◌≢◌, ℕ, ◌+◌, ◌*◌, ◌<◌, ◌≤◌, suc, zero, List, [], ◌∷◌, ◌++◌, length, refl, sym, ap, ◌∙◌, arith, rules, inl, inr, length-append, subst, Bool, true, false, cond}
-use Rattle.std.specs.Prelude.{⊤, Option, None, Some, Ok, Err, nat_le, nat_lt, find, slice_get}
+use Rattle.std.specs.Prelude.{⊤, Option, None, Some, Ok, Err, Contains, nat_le, nat_lt, find, slice_get}
 use Rattle.std.specs.List.{range_with_len}
 use Rattle.std.proofs.lemmas.List.{append-nil}
 use Rattle.std.specs.Io.KnownBytes.{prepend_known, IsAtEnd}
 use Rattle.desk_io.specs.declared.desk.Table.{Table}
 use Rattle.desk_io.specs.declared.desk.Table.TheVariants.{Node, Link, Movement, Demand}
 use Rattle.desk_io.specs.Desk.{Left, left_of, before_left}
-use Rattle.desk_io.specs.Transfers.{IsRead, IsLong}
+use Rattle.desk_io.specs.Transfers.{IsBegun, IsRead, IsLong}
 use Rattle.row_reader.specs.declared.faults.TableFault.{TableFault}
 use Rattle.dta_model.specs.Release.{vehicles_before}
 use Rattle.dta_model.specs.declared.trip.DemandCell.{DemandCell}
@@ -24,9 +24,9 @@ use Rattle.dta_words.specs.declared.command.Settings.{Settings}
 use Rattle.dta.specs.declared.status.Status.{Status}
 use Rattle.dta.specs.declared.status.Status.TheVariants as status
 use Rattle.dta.specs.Jobs.{AreWithin, HasRoom, IsAcceptedJob, JobRows, job_of, read_tables, source, tables_of}
-use Rattle.dta.specs.Outcome.{AreCounted, Answers, DeskState, IsCause, IsHindered, IsRefused, Means}
+use Rattle.dta.specs.Outcome.{AreCounted, Answers, DeskState, IsCause, IsHindered, IsReadBy, IsRefused, IsUnread, Means, ReadsFailed}
 use Rattle.dta.specs.Status.{refusal_status}
-use Rattle.dta.specs.Tables.{AreAccepted, AreTold, InTurn, IsAccepted, IsFaulty, Rows, no_rows, with_table}
+use Rattle.dta.specs.Tables.{AreAccepted, AreTold, ReachedAmong, IsAccepted, IsFaulty, TableRows, no_rows, with_table}
 use Rattle.dta.specs.Verdict.{Verdict, Refused, Accepted, AreToldBy, first_above, texts_of, verdict, verdict_by, verdict_on, verdict_on_rows, verdict_on_sizes}
 
 -- ---- what was read is what is told
@@ -85,12 +85,12 @@ others-told t [] texts bytes after o h = tt
 others-told t (u ∷ others) texts bytes after o h =
     (sym (another t u bytes after o.0) ∙ h.0, others-told t others texts bytes after o.1 h.1)
 
-still-told : (units : Units) (t : Table) (others : List Table) (texts : Table → List ℕ) (rows next : Rows) (before after : Left)
+still-told : (units : Units) (t : Table) (others : List Table) (texts : Table → List ℕ) (rows next : TableRows) (before after : Left)
     → AreOthers t others → IsAccepted units t rows next before after → AreTold others before texts → AreTold others after texts
 still-told units t others texts rows next before after o h told =
     others-told t others texts h.bytes after o (subst (λ (l : Left). AreTold others l texts) h.read.read told)
 
--- ---- the verdict, turn by turn
+-- ---- the verdict, table by table
 
 short-is : (n limit : ℕ) → n ≤ limit → nat_le n limit ≡ true
 short-is n limit h = search rules
@@ -105,7 +105,7 @@ within-is : (n limit : ℕ) → n ≤ limit → nat_lt limit n ≡ false
 within-is n limit h = search rules
 
 -- a table that was accepted
-on-accepted : (units : Units) (t : Table) (others : List Table) (texts : Table → List ℕ) (rows next : Rows) (before after : Left) (then : Rows → Verdict)
+on-accepted : (units : Units) (t : Table) (others : List Table) (texts : Table → List ℕ) (rows next : TableRows) (before after : Left) (then : TableRows → Verdict)
     → IsAccepted units t rows next before after → left_of t before ≡ Some (texts t)
     → verdict_on units (t ∷ others) texts rows then ≡ verdict_on units others texts next then
 on-accepted units t others texts rows next before after then h e =
@@ -115,7 +115,7 @@ on-accepted units t others texts rows next before after then h e =
     rw (s, p) refl
 
 -- a table with a first fault
-on-faulty : (units : Units) (fault : TableFault) (t : Table) (others : List Table) (texts : Table → List ℕ) (rows : Rows) (before after : Left) (then : Rows → Verdict)
+on-faulty : (units : Units) (fault : TableFault) (t : Table) (others : List Table) (texts : Table → List ℕ) (rows : TableRows) (before after : Left) (then : TableRows → Verdict)
     → IsFaulty units fault t rows before after → left_of t before ≡ Some (texts t)
     → verdict_on units (t ∷ others) texts rows then ≡ Refused (refusal.Table fault)
 on-faulty units fault t others texts rows before after then h e =
@@ -125,7 +125,7 @@ on-faulty units fault t others texts rows before after then h e =
     rw (s, p) refl
 
 -- a table that is too long
-on-long : (units : Units) (t : Table) (others : List Table) (texts : Table → List ℕ) (rows : Rows) (before after : Left) (then : Rows → Verdict)
+on-long : (units : Units) (t : Table) (others : List Table) (texts : Table → List ℕ) (rows : TableRows) (before after : Left) (then : TableRows → Verdict)
     → IsLong t TABLE_LIMIT before after → left_of t before ≡ Some (texts t)
     → verdict_on units (t ∷ others) texts rows then ≡ Refused (refusal.LongTable t)
 on-long units t others texts rows before after then h e =
@@ -133,7 +133,7 @@ on-long units t others texts rows before after then h e =
     rw s refl
 
 -- all tables were accepted
-on-all : (units : Units) (tables : List Table) (texts : Table → List ℕ) (rows more : Rows) (before after : Left) (then : Rows → Verdict)
+on-all : (units : Units) (tables : List Table) (texts : Table → List ℕ) (rows more : TableRows) (before after : Left) (then : TableRows → Verdict)
     → AreDistinct tables → AreTold tables before texts → AreAccepted units tables rows more before after
     → verdict_on units tables texts rows then ≡ then more
 on-all units [] texts rows more before after then d told h = ap then (sym h.0)
@@ -141,20 +141,20 @@ on-all units (t ∷ others) texts rows more before after then d told h =
     on-accepted units t others texts rows h.0 before h.1 then h.2 told.0
     ∙ on-all units others texts h.0 more h.1 after then d.1 (still-told units t others texts rows h.0 before h.1 d.0 h.2 told.1) h.3
 
--- the turn of a table came
-on-turn : (units : Units) (tables : List Table) (t : Table) (Turn : Rows → Left → Left → Type 0) (texts : Table → List ℕ) (rows : Rows)
-    (before after : Left) (then : Rows → Verdict) (v : Verdict)
-    → AreDistinct tables → AreTold tables before texts → InTurn units tables t Turn rows before after
-    → ((others : List Table) (so_far : Rows) (left : Left) → Turn so_far left after → left_of t left ≡ Some (texts t)
+-- a table was reached
+on-reached : (units : Units) (tables : List Table) (t : Table) (Part : TableRows → Left → Left → Type 0) (texts : Table → List ℕ) (rows : TableRows)
+    (before after : Left) (then : TableRows → Verdict) (v : Verdict)
+    → AreDistinct tables → AreTold tables before texts → ReachedAmong units tables t Part rows before after
+    → ((others : List Table) (so_far : TableRows) (left : Left) → Part so_far left after → left_of t left ≡ Some (texts t)
     → verdict_on units (t ∷ others) texts so_far then ≡ v)
     → verdict_on units tables texts rows then ≡ v
-on-turn units [] t Turn texts rows before after then v d told h step = absurd h
-on-turn units (first ∷ others) t Turn texts rows before after then v d told (inl h) step =
+on-reached units [] t Part texts rows before after then v d told h step = absurd h
+on-reached units (first ∷ others) t Part texts rows before after then v d told (inl h) step =
     subst (λ (u : Table). left_of u before ≡ Some (texts u) → verdict_on units (u ∷ others) texts rows then ≡ v) (sym h.0)
     (λ e. step others rows before h.1 e) told.0
-on-turn units (first ∷ others) t Turn texts rows before after then v d told (inr h) step =
+on-reached units (first ∷ others) t Part texts rows before after then v d told (inr h) step =
     on-accepted units first others texts rows h.0 before h.1 then h.2 told.0
-    ∙ on-turn units others t Turn texts h.0 h.1 after then v d.1
+    ∙ on-reached units others t Part texts h.0 h.1 after then v d.1
     (still-told units first others texts rows h.0 before h.1 d.0 h.2 told.1) h.3 step
 
 -- ---- the sizes of a loading
@@ -199,30 +199,30 @@ row-above cells line total h =
     (λ row below. within-is (vehicles_before cells (row + 1)) MOST_TRIPS (h.first row below))
 
 -- a command but `freeflow` has sizes
-has-sizes : (c : Command) (s : Settings) (rows : Rows) → c ≢ command.Freeflow → verdict_on_rows c s rows ≡ verdict_on_sizes s rows
+has-sizes : (c : Command) (s : Settings) (rows : TableRows) → c ≢ command.Freeflow → verdict_on_rows c s rows ≡ verdict_on_sizes s rows
 has-sizes command.Freeflow s rows n = absurd (n refl)
 has-sizes command.Assign s rows n = refl
 has-sizes (command.Demo size) s rows n = refl
 
-on-sizes : (s : Settings) (rows : Rows) → HasRoom s rows → IsWithin rows.cells → verdict_on_sizes s rows ≡ Accepted s (job_of s rows)
+on-sizes : (s : Settings) (rows : TableRows) → HasRoom s rows → IsWithin rows.cells → verdict_on_sizes s rows ≡ Accepted s (job_of s rows)
 on-sizes s rows room w =
     let r : nat_le (length rows.links * s.horizon) CELL_LIMIT ≡ true = short-is (length rows.links * s.horizon) CELL_LIMIT room in
     let n : first_above rows.cells ≡ None = no-row-above rows.cells w in
     rw (r, n) refl
 
-on-within : (c : Command) (s : Settings) (rows : Rows) → AreWithin c s rows → verdict_on_rows c s rows ≡ Accepted s (job_of s rows)
+on-within : (c : Command) (s : Settings) (rows : TableRows) → AreWithin c s rows → verdict_on_rows c s rows ≡ Accepted s (job_of s rows)
 on-within command.Freeflow s rows w = refl
 on-within command.Assign s rows w = on-sizes s rows w.0 w.1
 on-within (command.Demo size) s rows w = on-sizes s rows w.0 w.1
 
-on-many-cells : (s : Settings) (rows : Rows) (links steps : ℕ) → links ≡ length rows.links → steps ≡ s.horizon → CELL_LIMIT < links * steps
+on-many-cells : (s : Settings) (rows : TableRows) (links steps : ℕ) → links ≡ length rows.links → steps ≡ s.horizon → CELL_LIMIT < links * steps
     → verdict_on_sizes s rows ≡ Refused (refusal.Cells links steps)
 on-many-cells s rows links steps l t m =
     let n : CELL_LIMIT < length rows.links * s.horizon = rw (l, t) at m in
     let r : nat_le (length rows.links * s.horizon) CELL_LIMIT ≡ false = long-is (length rows.links * s.horizon) CELL_LIMIT n in
     rw (l, t, r) refl
 
-on-many-vehicles : (s : Settings) (rows : Rows) (line total : ℕ) → HasRoom s rows → IsFirstAbove rows.cells line total
+on-many-vehicles : (s : Settings) (rows : TableRows) (line total : ℕ) → HasRoom s rows → IsFirstAbove rows.cells line total
     → verdict_on_sizes s rows ≡ Refused (refusal.Vehicles line total)
 on-many-vehicles s rows line total room h =
     let r : nat_le (length rows.links * s.horizon) CELL_LIMIT ≡ true = short-is (length rows.links * s.horizon) CELL_LIMIT room in
@@ -258,8 +258,8 @@ verdict-job s job texts before after told h =
     (verdict_on_rows s.command s) (distinct s.command) told h.part.read
     ∙ on-within s.command s h.part.rows h.part.within ∙ ap (Accepted s) (sym h.part.makes)
 
-verdict-counted : (s : Settings) (Part : Rows → Type 0) (texts : Table → List ℕ) (before after : Left) (v : Verdict) → AreTold (tables_of s.command) before (texts_of s.command texts)
-    → s.command ≢ command.Freeflow → AreCounted s Part before after → ((rows : Rows) → Part rows → verdict_on_sizes s rows ≡ v)
+verdict-counted : (s : Settings) (Part : TableRows → Type 0) (texts : Table → List ℕ) (before after : Left) (v : Verdict) → AreTold (tables_of s.command) before (texts_of s.command texts)
+    → s.command ≢ command.Freeflow → AreCounted s Part before after → ((rows : TableRows) → Part rows → verdict_on_sizes s rows ≡ v)
     → verdict_by (Some s) texts ≡ v
 verdict-counted s Part texts before after v told n h step =
     on-all s.units (tables_of s.command) (texts_of s.command texts) no_rows h.rows before after
@@ -280,11 +280,11 @@ verdict-refused : (s : Settings) (r : Refusal) (texts : Table → List ℕ) (bef
 verdict-refused s refusal.Usage texts before after i told h = absurd i
 verdict-refused s (refusal.Read t) texts before after i told h = absurd i
 verdict-refused s (refusal.Table fault) texts before after i told h =
-    on-turn s.units (tables_of s.command) fault.table (IsFaulty s.units fault fault.table) (texts_of s.command texts) no_rows
+    on-reached s.units (tables_of s.command) fault.table (IsFaulty s.units fault fault.table) (texts_of s.command texts) no_rows
     (source s.command before) h.rest (verdict_on_rows s.command s) (Refused (refusal.Table fault)) (distinct s.command) told h.part
     (λ others rows left turn e. on-faulty s.units fault fault.table others (texts_of s.command texts) rows left h.rest (verdict_on_rows s.command s) turn e)
 verdict-refused s (refusal.LongTable t) texts before after i told h =
-    on-turn s.units (tables_of s.command) t (λ _. IsLong t TABLE_LIMIT) (texts_of s.command texts) no_rows
+    on-reached s.units (tables_of s.command) t (λ _. IsLong t TABLE_LIMIT) (texts_of s.command texts) no_rows
     (source s.command before) h.rest (verdict_on_rows s.command s) (Refused (refusal.LongTable t)) (distinct s.command) told h.part
     (λ others rows left turn e. on-long s.units t others (texts_of s.command texts) rows left h.rest (verdict_on_rows s.command s) turn e)
 verdict-refused s (refusal.Cells links steps) texts before after i told h =
@@ -304,17 +304,46 @@ all-told words s left texts e told =
     source-told s.command left texts (subst (λ (o : Option Settings). AreToldBy o left texts) e told)
 
 -- a run that was hindered may have any verdict
-hindered : (v : Verdict) (answer : Status) (before after : DeskState) → IsHindered answer before after → Answers v answer before after
-hindered (Refused r) answer before after h = inr h
-hindered (Accepted s job) answer before after h = inr h
+hindered : (o : Option Settings) (v : Verdict) (answer : Status) (before after : DeskState)
+    → IsHindered o answer before after → Answers o v answer before after
+hindered o (Refused r) answer before after h = inr h
+hindered o (Accepted s job) answer before after h = inr h
+
+-- what a run answers by its words and the texts of its tables
+abbrev AnswersTo : List (List ℕ) → (Table → List ℕ) → Status → DeskState → DeskState → Type 0
+AnswersTo words texts answer before after =
+    Answers (settings_of words) (verdict words texts) answer before after
 
 answers-by : (words : List (List ℕ)) (texts : Table → List ℕ) (o : Option Settings) (v : Verdict) (answer : Status) (before after : DeskState)
-    → settings_of words ≡ o → verdict_by o texts ≡ v → Answers v answer before after → Answers (verdict words texts) answer before after
+    → settings_of words ≡ o → verdict_by o texts ≡ v → Answers (settings_of words) v answer before after
+    → AnswersTo words texts answer before after
 answers-by words texts o v answer before after e f h =
-    subst (λ (x : Verdict). Answers x answer before after) (sym (ap (λ (p : Option Settings). verdict_by p texts) e ∙ f)) h
+    subst (λ (x : Verdict). Answers (settings_of words) x answer before after)
+    (sym (ap (λ (p : Option Settings). verdict_by p texts) e ∙ f)) h
+
+-- a table that was reached is one of the list
+reached-one : (units : Units) (tables : List Table) (t : Table) (Part : TableRows → Left → Left → Type 0)
+    (rows : TableRows) (before after : Left) → ReachedAmong units tables t Part rows before after
+    → Contains tables t
+reached-one units [] t Part rows before after h = absurd h
+reached-one units (u ∷ tables) t Part rows before after (inl h) = (0, omega arith, h.0)
+reached-one units (u ∷ tables) t Part rows before after (inr h) =
+    let c = reached-one units tables t Part h.0 h.1 after h.3 in
+    let within : suc c.0 < suc (length tables) = (let w = c.1 in omega (arith, w)) in
+    (suc c.0, within, c.2)
+
+unread : (words : List (List ℕ)) (t : Table) (before after : DeskState)
+    → IsRefused (refusal.Read t) words before after → ReadsFailed before after
+    → IsUnread (settings_of words) before after
+unread words t before after h failed =
+    let s = h.settings in
+    let one : IsReadBy (Some s) t = reached-one s.units (read_tables s.command) t (λ _. IsBegun t) no_rows
+    (source s.command before.left) h.cause.rest h.cause.part in
+    (t, subst (λ (o : Option Settings). IsReadBy o t) (sym h.told) one, h.report, failed)
 
 answers-refused : (words : List (List ℕ)) (texts : Table → List ℕ) (r : Refusal) (before after : DeskState) → IsShown r
-    → IsRefused r words before after → AreToldBy (settings_of words) before.left texts → Answers (verdict words texts) (refusal_status r) before after
+    → IsRefused r words before after → AreToldBy (settings_of words) before.left texts
+    → AnswersTo words texts (refusal_status r) before after
 answers-refused words texts r before after i h told =
     answers-by words texts (Some h.settings) (Refused r) (refusal_status r) before after h.told
     (verdict-refused h.settings r texts before.left after.left i (all-told words h.settings before.left texts h.told told) h.cause)
@@ -324,7 +353,7 @@ answers-refused words texts r before after i h told =
 pub told : (words : List (List ℕ)) (texts : Table → List ℕ) (answer : Status) (before after : DeskState)
     → Means words answer before after
     → AreToldBy (settings_of words) before.left texts
-    → Answers (verdict words texts) answer before after
+    → Answers (settings_of words) (verdict words texts) answer before after
 told words texts status.Usage before after m t = answers-by words texts None (Refused refusal.Usage) status.Usage before after m.told refl (inl (refl, m.report))
 told words texts status.Done before after m t =
     answers-by words texts (Some m.settings) (Accepted m.settings m.job) status.Done before after m.told
@@ -338,5 +367,8 @@ told words texts status.Table before after m t = answers-refused words texts (re
 told words texts status.Size before after (inl m) t = answers-refused words texts (refusal.LongTable m.0) before after tt m.1 t
 told words texts status.Size before after (inr (inl m)) t = answers-refused words texts (refusal.Cells m.0 m.1) before after tt m.2 t
 told words texts status.Size before after (inr (inr m)) t = answers-refused words texts (refusal.Vehicles m.0 m.1) before after tt m.2 t
-told words texts status.ReadFault before after m t = hindered (verdict words texts) status.ReadFault before after (inl (refl, m.2))
-told words texts status.Memory before after m t = hindered (verdict words texts) status.Memory before after (inr refl)
+told words texts status.ReadFault before after m t =
+    hindered (settings_of words) (verdict words texts) status.ReadFault before after
+    (inl (refl, unread words m.0 before after m.1 m.2))
+told words texts status.Memory before after m t =
+    hindered (settings_of words) (verdict words texts) status.Memory before after (inr refl)

@@ -24,14 +24,17 @@ abbrev pub end_of : Settings → JobRows → VehicleRoutes → Eight
 end_of s job routes = eight_after (plan_of s job routes) s.horizon
 
 -- the routes of iterations one after another, and their gaps
-pub record AreIterations (s : Settings) (job : JobRows) (routes : List VehicleRoutes) (lines : List GapLine) : Type 0 where
+pub record AreIterations (s : Settings) (job : JobRows) (routes : List VehicleRoutes)
+    (lines : List GapLine) : Type 0 where
   -- the first routes are the chosen walks by free-flow steps
   pub first : (r : VehicleRoutes) → slice_get routes 0 ≡ Some r → AreFirstRoutes job.net job.trips r
   -- after iteration i some vehicles take their chosen walks in its table, and the others stay
   pub next :
-      (i : ℕ) (old new : VehicleRoutes) → slice_get routes i ≡ Some old → slice_get routes (i + 1) ≡ Some new
+      (i : ℕ) (old new : VehicleRoutes) → slice_get routes i ≡ Some old
+      → slice_get routes (i + 1) ≡ Some new
       → AreNextRoutes (time_at (times_of s job old)) job.net job.trips (i + 1) old new
   -- each gap is that of an iteration's routes in its own table
   pub gaps :
-      (i : ℕ) (r : VehicleRoutes) (line : GapLine) → slice_get routes i ≡ Some r → slice_get lines i ≡ Some line
+      (i : ℕ) (r : VehicleRoutes) (line : GapLine) → slice_get routes i ≡ Some r
+      → slice_get lines i ≡ Some line
       → IsGapLine (time_at (times_of s job r)) job.net job.trips r line

@@ -28,7 +28,8 @@ two_links =
 
 -- the number of each status
 the-numbers : map number_of
-    (status.Done ∷ status.Usage ∷ status.Table ∷ status.ReadFault ∷ status.WriteFault ∷ status.Memory ∷ status.Size ∷ [])
+    (status.Done ∷ status.Usage ∷ status.Table ∷ status.ReadFault ∷ status.WriteFault ∷ status.Memory
+    ∷ status.Size ∷ [])
     ≡ 0 ∷ 2 ∷ 3 ∷ 4 ∷ 5 ∷ 6 ∷ 7 ∷ []
 the-numbers = refl
 
@@ -36,22 +37,39 @@ the-numbers = refl
 no-words : verdict [] (tables [] [] [] []) ≡ Refused refusal.Usage
 no-words = refl
 
-an-option-of-another-command : verdict (codes "freeflow" ∷ codes "--horizon" ∷ codes "5" ∷ []) (tables [] [] [] []) ≡ Refused refusal.Usage
+an-option-of-another-command :
+    verdict (codes "freeflow" ∷ codes "--horizon" ∷ codes "5" ∷ []) (tables [] [] [] [])
+    ≡ Refused refusal.Usage
 an-option-of-another-command = refl
 
 -- a fault of the node table is told before one of the link table
-nodes-first : verdict (codes "freeflow" ∷ []) (tables (codes "node_id\n1\n1\n") (codes "link_id\n") [] [])
-    ≡ Refused (refusal.Table (record { table = table.Node; line = 3; code = code.E6; column = column.NodeId }))
+nodes-first :
+    verdict (codes "freeflow" ∷ []) (tables (codes "node_id\n1\n1\n") (codes "link_id\n") [] [])
+    ≡ Refused (refusal.Table (record {
+      table = table.Node;
+      line = 3;
+      code = code.E6;
+      column = column.NodeId;
+    }))
 unfolding networks_on_literals
 nodes-first = refl
 
 -- and one of the movement table before one of the demand table
-movements-third : verdict (codes "assign" ∷ []) (tables three_nodes two_links (codes "mvmt_id,node_id,ib_link_id,ob_link_id\n1,2,20,20\n") [])
-    ≡ Refused (refusal.Table (record { table = table.Movement; line = 2; code = code.E9; column = column.IbLinkId }))
+movements-third :
+    verdict (codes "assign" ∷ []) (tables three_nodes two_links
+    (codes "mvmt_id,node_id,ib_link_id,ob_link_id\n1,2,20,20\n") [])
+    ≡ Refused (refusal.Table (record {
+      table = table.Movement;
+      line = 2;
+      code = code.E9;
+      column = column.IbLinkId;
+    }))
 unfolding networks_on_literals
 movements-third = refl
 
 -- texts go out one after the other
-two-texts : grown_by (text_to output.Gap (codes "a") ∷ text_to output.Report (codes "b") ∷ []) (all_taken [] [] [] [] [])
+two-texts :
+    grown_by (text_to output.Gap (codes "a") ∷ text_to output.Report (codes "b") ∷ [])
+    (all_taken [] [] [] [] [])
     ≡ all_taken [] [] (codes "a") (codes "b") []
 two-texts = refl

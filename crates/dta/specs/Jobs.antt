@@ -1,8 +1,7 @@
 -- What the settings and the tables come to: the network and the trips of a run.
-use Rattle.std.specs.Prelude.{ℕ, ◌≡◌, ◌<◌, ◌≤◌, ◌*◌, ⊤, List, [], ◌∷◌, length, Option, All}
+use Rattle.std.specs.Prelude.{ℕ, ◌≡◌, ◌<◌, ◌≤◌, ◌*◌, ⊤, List, [], length, Option, All}
 use Rattle.std.specs.List.Sorted.{IsNonDecreasingBy}
 use Rattle.desk_io.specs.declared.desk.Table.{Table}
-use Rattle.desk_io.specs.declared.desk.Table.TheVariants as table
 use Rattle.desk_io.specs.Desk.{Left}
 use Rattle.desk_io.specs.MemDesk.{all_left}
 use Rattle.net_core.specs.Network.{IsNet}
@@ -19,13 +18,13 @@ use Rattle.reports.specs.declared.refusal.TheConstants.{CELL_LIMIT}
 use Rattle.dta_words.specs.declared.command.Command.{Command}
 use Rattle.dta_words.specs.declared.command.Command.TheVariants as command
 use Rattle.dta_words.specs.declared.command.Settings.{Settings}
-use Rattle.dta.specs.Tables.{AreAccepted, Rows, no_rows}
+use Rattle.dta.specs.Tables.{AreAccepted, TableRows, all_tables, no_rows, road_tables}
 
 -- the tables of a command, in the order in which they are read; those of a demonstration are made
 abbrev pub tables_of : Command → List Table
-tables_of command.Freeflow = table.Node ∷ table.Link ∷ []
-tables_of command.Assign = table.Node ∷ table.Link ∷ table.Movement ∷ table.Demand ∷ []
-tables_of (command.Demo n) = table.Node ∷ table.Link ∷ table.Movement ∷ table.Demand ∷ []
+tables_of command.Freeflow = road_tables
+tables_of command.Assign = all_tables
+tables_of (command.Demo n) = all_tables
 
 -- those that it reads from the desk
 abbrev pub read_tables : Command → List Table
@@ -54,24 +53,24 @@ pub record JobRows : Type 0 where
   pub net : NetRows
   pub trips : List Trip
 
-abbrev pub net_of : Rows → NetRows
+abbrev pub net_of : TableRows → NetRows
 net_of rows = record { nodes = rows.nodes; links = rows.links; turns = rows.turns }
 
-abbrev pub job_of : Settings → Rows → JobRows
+abbrev pub job_of : Settings → TableRows → JobRows
 job_of s rows = record { net = net_of rows; trips = trips_of rows.cells s.period }
 
 -- the links of a network times the steps of a run are not too many
-abbrev pub HasRoom : Settings → Rows → Type 0
+abbrev pub HasRoom : Settings → TableRows → Type 0
 HasRoom s rows = length rows.links * s.horizon ≤ CELL_LIMIT
 
 -- rows that are within the limits of a run; `freeflow` has none but those of its tables
-abbrev pub AreWithin : Command → Settings → Rows → Type 0
+abbrev pub AreWithin : Command → Settings → TableRows → Type 0
 AreWithin command.Freeflow s rows = ⊤
 AreWithin c s rows = HasRoom s rows × IsWithin rows.cells
 
 -- the tables were read one after the other and accepted, are within the limits, and make this job
 pub record IsJobOf (s : Settings) (job : JobRows) (before after : Left) : Type 0 where
-  pub rows : Rows
+  pub rows : TableRows
   pub read : AreAccepted s.units (tables_of s.command) no_rows rows before after
   pub within : AreWithin s.command s rows
   pub makes : job ≡ job_of s rows

@@ -1,5 +1,6 @@
 -- What a run's answer says of its desk, from before the run to after it.
-use Rattle.std.specs.Prelude.{ℕ, ◌≡◌, ◌≢◌, ◌<◌, ◌*◌, ◌⊎◌, ⊤, List, length, None, Some}
+use Rattle.std.specs.Prelude.{ℕ, ◌≡◌, ◌≢◌, ◌<◌, ◌*◌, ◌⊎◌, ⊤}
+use Rattle.std.specs.Prelude.{List, Contains, length, Option, None, Some}
 use Rattle.desk_io.specs.declared.desk.Table.{Table}
 use Rattle.desk_io.specs.declared.desk.Output.TheVariants as output
 use Rattle.desk_io.specs.Desk.{Left, Taken}
@@ -16,10 +17,10 @@ use Rattle.dta_words.specs.declared.command.Command.TheVariants as command
 use Rattle.dta_words.specs.declared.command.Settings.{Settings}
 use Rattle.dta.specs.declared.status.Status.{Status}
 use Rattle.dta.specs.declared.status.Status.TheVariants as status
-use Rattle.dta.specs.Jobs.{HasRoom, IsAcceptedJob, JobRows, Reading, tables_of}
+use Rattle.dta.specs.Jobs.{HasRoom, IsAcceptedJob, JobRows, Reading, read_tables, tables_of}
 use Rattle.dta.specs.Outputs.{AreTexts, AreTextsSoFar, AreWatched, IsCutOff, OutText, grown_by}
 use Rattle.dta.specs.Status.{refusal_status}
-use Rattle.dta.specs.Tables.{AreAccepted, InTurn, IsFaulty, Rows, no_rows}
+use Rattle.dta.specs.Tables.{AreAccepted, ReachedAmong, IsFaulty, TableRows, no_rows}
 use Rattle.dta.specs.Verdict.{Verdict, Refused, Accepted}
 
 -- all that a clause sees of a desk
@@ -50,30 +51,40 @@ ReportsLine r before after =
     IsOut output.Report (refusal_line r) before.taken after.taken before.put_faults after.put_faults
 
 -- all tables of a command were accepted, and this is so of their rows
-pub record AreCounted (s : Settings) (Part : Rows → Type 0) (before after : Left) : Type 0 where
-  pub rows : Rows
+pub record AreCounted (s : Settings) (Part : TableRows → Type 0) (before after : Left)
+    : Type 0 where
+  pub rows : TableRows
   pub read : AreAccepted s.units (tables_of s.command) no_rows rows before after
   pub part : Part rows
 
--- the turn of a table came, and this was so of it
-abbrev pub Turned : Settings → Table → (Rows → Left → Left → Type 0) → Left → Left → Type 0
-Turned s t Turn before after = InTurn s.units (tables_of s.command) t Turn no_rows before after
+-- a table of the command was reached, and this was so of it
+abbrev pub Reached : Settings → Table → (TableRows → Left → Left → Type 0) → Left → Left → Type 0
+Reached s t Part before after =
+    ReachedAmong s.units (tables_of s.command) t Part no_rows before after
 
--- the cause of a refusal, as the reading of the tables until then shows it; `freeflow` has no sizes
-abbrev pub IsCauseIn : Settings → Refusal → Left → Left → Type 0
-IsCauseIn s refusal.Usage before after = ⊥
-IsCauseIn s (refusal.Table fault) before after =
-    Turned s fault.table (IsFaulty s.units fault fault.table) before after
-IsCauseIn s (refusal.Read t) before after = Turned s t (λ _. IsBegun t) before after
-IsCauseIn s (refusal.LongTable t) before after = Turned s t (λ _. IsLong t TABLE_LIMIT) before after
-IsCauseIn s (refusal.Cells links steps) before after =
+-- the cause of a refusal, as the reading of the tables until then shows it, where reads of these
+-- tables can fail; `freeflow` has no sizes
+abbrev pub IsCauseAmong : List Table → Settings → Refusal → Left → Left → Type 0
+IsCauseAmong tables s refusal.Usage before after = ⊥
+IsCauseAmong tables s (refusal.Table fault) before after =
+    Reached s fault.table (IsFaulty s.units fault fault.table) before after
+IsCauseAmong tables s (refusal.Read t) before after =
+    ReachedAmong s.units tables t (λ _. IsBegun t) no_rows before after
+IsCauseAmong tables s (refusal.LongTable t) before after =
+    Reached s t (λ _. IsLong t TABLE_LIMIT) before after
+IsCauseAmong tables s (refusal.Cells links steps) before after =
     (s.command ≢ command.Freeflow)
-    × AreCounted s (λ rows. (links ≡ length rows.links) × (steps ≡ s.horizon) × (CELL_LIMIT < links * steps))
+    × AreCounted s (λ rows. (links ≡ length rows.links) × (steps ≡ s.horizon)
+    × (CELL_LIMIT < links * steps))
     before after
-IsCauseIn s (refusal.Vehicles line total) before after =
+IsCauseAmong tables s (refusal.Vehicles line total) before after =
     (s.command ≢ command.Freeflow)
     × AreCounted s (λ rows. HasRoom s rows × IsFirstAbove rows.cells line total)
     before after
+
+-- the same where only reads of the desk can fail: `demo` reads nothing of it
+abbrev pub IsCauseIn : Settings → Refusal → Left → Left → Type 0
+IsCauseIn s r before after = IsCauseAmong (read_tables s.command) s r before after
 
 -- the same of the desk of a run
 abbrev pub IsCause : Settings → Refusal → Left → Left → Type 0
@@ -124,11 +135,12 @@ pub record IsUnfinished (words : List (List ℕ)) (before after : DeskState) : T
   pub out : IsCutOff texts before.taken after.taken
   pub failed : PutsFailed before after
 
--- memory was wanting before a table was read, in the turn of one, or after all were accepted
+-- memory was wanting before a table was read, at one of them, or after all were accepted
 abbrev pub IsCutIn : Settings → Left → Left → Type 0
 IsCutIn s before after =
     (after ≡ before)
-    ⊎ (((t : Table) × Turned s t (λ _. IsBegun t) before after) ⊎ AreCounted s (λ rows. ⊤) before after)
+    ⊎ (((t : Table) × Reached s t (λ _. IsBegun t) before after)
+    ⊎ AreCounted s (λ rows. ⊤) before after)
 
 abbrev pub IsCutShort : Settings → Left → Left → Type 0
 IsCutShort s before after = Reading s.command (IsCutIn s) before after
@@ -146,7 +158,8 @@ abbrev pub IsStarved : List (List ℕ) → DeskState → DeskState → Type 0
 IsStarved words before after =
     ((after.left ≡ before.left) × (after.taken ≡ before.taken))
     ⊎ ((s : Settings) × (settings_of words ≡ Some s)
-    × ((IsCutShort s before.left after.left × (after.taken ≡ before.taken)) ⊎ IsStopped s before after))
+    × ((IsCutShort s before.left after.left × (after.taken ≡ before.taken))
+    ⊎ IsStopped s before after))
 
 -- what each status says
 abbrev pub Means : List (List ℕ) → Status → DeskState → DeskState → Type 0
@@ -163,24 +176,38 @@ Means words status.Size before after =
 Means words status.WriteFault before after = IsUnfinished words before after
 Means words status.Memory before after = IsStarved words before after
 
+-- these settings read this table of the desk
+abbrev pub IsReadBy : Option Settings → Table → Type 0
+IsReadBy None t = ⊥
+IsReadBy (Some s) t = Contains (read_tables s.command) t
+
+-- a table that the settings read couldn't be read, and Report names it
+abbrev pub IsUnread : Option Settings → DeskState → DeskState → Type 0
+IsUnread settings before after =
+    (t : Table) × IsReadBy settings t × ReportsLine (refusal.Read t) before after
+    × ReadsFailed before after
+
 -- a fault of the outside, or want of memory
-abbrev pub IsHindered : Status → DeskState → DeskState → Type 0
-IsHindered answer before after =
-    ((answer ≡ status.ReadFault) × ReadsFailed before after) ⊎ (answer ≡ status.Memory)
+abbrev pub IsHindered : Option Settings → Status → DeskState → DeskState → Type 0
+IsHindered settings answer before after =
+    ((answer ≡ status.ReadFault) × IsUnread settings before after) ⊎ (answer ≡ status.Memory)
 
 -- all texts of the work went out whole, or puts failed and they were cut off
 abbrev pub IsPut : Settings → JobRows → Status → DeskState → DeskState → Type 0
 IsPut s job answer before after =
     ((answer ≡ status.Done)
-    × ((texts : List OutText) × AreTexts s.command s job texts × (after.taken ≡ grown_by texts before.taken)))
+    × ((texts : List OutText) × AreTexts s.command s job texts
+    × (after.taken ≡ grown_by texts before.taken)))
     ⊎ ((answer ≡ status.WriteFault)
-    × ((texts : List OutText) × AreTextsSoFar s.command s job texts × IsCutOff texts before.taken after.taken)
+    × ((texts : List OutText) × AreTextsSoFar s.command s job texts
+    × IsCutOff texts before.taken after.taken)
     × PutsFailed before after)
 
 -- what a run answers where the bytes of its tables are told, and so the verdict is known before it
 -- runs
-abbrev pub Answers : Verdict → Status → DeskState → DeskState → Type 0
-Answers (Refused r) answer before after =
-    ((answer ≡ refusal_status r) × ReportsLine r before after) ⊎ IsHindered answer before after
-Answers (Accepted s job) answer before after =
-    IsPut s job answer before after ⊎ IsHindered answer before after
+abbrev pub Answers : Option Settings → Verdict → Status → DeskState → DeskState → Type 0
+Answers settings (Refused r) answer before after =
+    ((answer ≡ refusal_status r) × ReportsLine r before after)
+    ⊎ IsHindered settings answer before after
+Answers settings (Accepted s job) answer before after =
+    IsPut s job answer before after ⊎ IsHindered settings answer before after

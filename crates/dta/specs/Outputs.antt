@@ -1,13 +1,19 @@
 -- The texts of a run, in the order in which they go out.
-use Rattle.std.specs.Prelude.{ℕ, ◌≡◌, ◌+◌, ◌-◌, suc, zero, ◌≤◌, ◌⊎◌, List, [], ◌∷◌, ◌++◌, length, count_by, is_none, Some, slice_get}
+use Rattle.std.specs.Prelude.{ℕ, ◌≡◌, ◌+◌, ◌-◌, suc, zero, ◌≤◌, ◌⊎◌, Bool, true, false, not}
+use Rattle.std.specs.Prelude.{List, [], ◌∷◌, ◌++◌, length, map, filter, count_by, slice_get}
+use Rattle.std.specs.Prelude.{Some, is_none}
 use Rattle.desk_io.specs.declared.desk.Output.{Output}
 use Rattle.desk_io.specs.declared.desk.Output.TheVariants as output
 use Rattle.desk_io.specs.Desk.{Taken, grown}
 use Rattle.desk_io.specs.Transfers.{IsPartOut}
 use Rattle.net_core.specs.declared.rows.NetRows.{NetRows}
 use Rattle.dta_model.specs.Loading.{journeys_of}
+use Rattle.dta_model.specs.State.{eight_after}
+use Rattle.dta_model.specs.declared.eight.Eight.{Eight}
 use Rattle.gap.specs.declared.line.GapLine.{GapLine}
-use Rattle.reports.specs.Texts.{agent_text, free_link_time_text, free_report_text, gap_text, link_time_text, report_text, watch_line}
+use Rattle.reports.specs.Texts.{agent_text, free_link_time_text, free_report_text, gap_text}
+use Rattle.reports.specs.Texts.{link_time_text, report_text, watch_line}
+use Rattle.reports.specs.Watch.{AreWatchSteps}
 use Rattle.reports.specs.declared.summary.Summary.{Summary}
 use Rattle.dta_words.specs.declared.command.Command.{Command}
 use Rattle.dta_words.specs.declared.command.Command.TheVariants as command
@@ -34,19 +40,37 @@ IsCutOff [] before after = ⊥
 IsCutOff (t ∷ others) before after =
     IsPartOut t.to t.text before after ⊎ IsCutOff others (grown t.to t.text before) after
 
--- the watch lines of iterations, the first of which has this number: the state after the last step
--- of each, where there is a watch
-abbrev pub watch_from : Settings → JobRows → ℕ → List VehicleRoutes → List OutText
-watch_from s job number [] = []
-watch_from s job number (r ∷ others) =
-    text_to output.Watch (watch_line number (end_of s job r)) ∷ watch_from s job (number + 1) others
+-- the steps of a loading whose states go out: none without a watch, the last alone where the loader
+-- is plain, and else some by the rule of watch lines
+abbrev pub AreToldSteps : (every : ℕ) (plain : Bool) (horizon : ℕ) → List ℕ → Type 0
+AreToldSteps zero plain horizon steps = steps ≡ []
+AreToldSteps (suc every) true horizon steps = steps ≡ horizon ∷ []
+AreToldSteps (suc every) false horizon steps = AreWatchSteps (suc every) horizon steps
 
-abbrev pub watch_every : ℕ → List OutText → List OutText
-watch_every zero lines = []
-watch_every (suc every) lines = lines
+-- the watch line of an iteration after so many steps of its loading
+abbrev pub watch_text : Settings → JobRows → (iteration : ℕ) → VehicleRoutes → (steps : ℕ) → OutText
+watch_text s job iteration routes steps =
+    text_to output.Watch (watch_line iteration (eight_after (plan_of s job routes) steps))
 
-abbrev pub watch_texts : Settings → JobRows → List VehicleRoutes → List OutText
-watch_texts s job routes = watch_every s.watch (watch_from s job 1 routes)
+-- the watch lines of an iteration over these routes
+pub record AreWatchLines (s : Settings) (job : JobRows) (iteration : ℕ) (routes : VehicleRoutes)
+    (lines : List OutText) : Type 0 where
+  pub steps : List ℕ
+  pub by_rule : AreToldSteps s.watch s.plain s.horizon steps
+  pub lines_are : lines ≡ map (watch_text s job iteration routes) steps
+
+-- the watch lines of an iteration that a loader puts after the last step: that of its state there,
+-- where there is a watch
+abbrev pub end_lines : (every : ℕ) → (iteration : ℕ) → Eight → List OutText
+end_lines zero iteration end = []
+end_lines (suc every) iteration end = text_to output.Watch (watch_line iteration end) ∷ []
+
+-- the watch lines of iterations one after another, the first of which has this number
+abbrev pub AreWatchTexts : Settings → JobRows → ℕ → List VehicleRoutes → List OutText → Type 0
+AreWatchTexts s job number [] texts = texts ≡ []
+AreWatchTexts s job number (routes ∷ others) texts =
+    (lines : List OutText) × (more : List OutText) × AreWatchLines s job number routes lines
+    × AreWatchTexts s job (number + 1) others more × (texts ≡ lines ++ more)
 
 -- how many vehicles have no route
 abbrev pub unrouted : VehicleRoutes → ℕ
@@ -73,13 +97,15 @@ table_texts s job last lines =
     ∷ text_to output.LinkTime (link_time_text job.net (times_of s job last))
     ∷ text_to output.Gap (gap_text lines) ∷ []
 
--- the texts after the last iteration: `demo` has the report alone
-abbrev pub last_texts : Command → Settings → JobRows → VehicleRoutes → List GapLine → GapLine → List OutText
+-- the texts after the last iteration: `assign` has its tables and the report, and any other command
+-- that comes there the report alone
+abbrev pub last_texts :
+    Command → Settings → JobRows → VehicleRoutes → List GapLine → GapLine → List OutText
 last_texts command.Assign s job last lines line =
-    table_texts s job last lines ++ text_to output.Report (report_text (summary_of s job last line)) ∷ []
-last_texts (command.Demo n) s job last lines line =
+    table_texts s job last lines
+    ++ text_to output.Report (report_text (summary_of s job last line)) ∷ []
+last_texts c s job last lines line =
     text_to output.Report (report_text (summary_of s job last line)) ∷ []
-last_texts command.Freeflow s job last lines line = []
 
 -- the texts of `freeflow`
 abbrev pub free_texts : NetRows → List OutText
@@ -87,7 +113,20 @@ free_texts net =
     text_to output.LinkTime (free_link_time_text net.links)
     ∷ text_to output.Report (free_report_text (length net.nodes) (length net.links)) ∷ []
 
--- the texts of a whole assignment, which are the watch lines and then those after its last iteration
+-- whether a text is for Watch
+abbrev pub is_watch : Output → Bool
+is_watch output.Watch = true
+is_watch output.Agent = false
+is_watch output.LinkTime = false
+is_watch output.Gap = false
+is_watch output.Report = false
+
+-- the texts but those for Watch
+abbrev pub but_watch : List OutText → List OutText
+but_watch texts = filter (λ t. not (is_watch t.to)) texts
+
+-- the texts of a whole assignment, which are the watch lines of its iterations and then those after
+-- the last
 pub record AreAssigned (s : Settings) (job : JobRows) (texts : List OutText) : Type 0 where
   pub routes : List VehicleRoutes
   pub lines : List GapLine
@@ -98,7 +137,9 @@ pub record AreAssigned (s : Settings) (job : JobRows) (texts : List OutText) : T
   pub with_gaps : length lines ≡ s.iterations
   pub last_routes : slice_get routes (s.iterations - 1) ≡ Some last
   pub last_line : slice_get lines (s.iterations - 1) ≡ Some line
-  pub texts_are : texts ≡ watch_texts s job routes ++ last_texts s.command s job last lines line
+  pub watched : List OutText
+  pub watch_lines : AreWatchTexts s job 1 routes watched
+  pub texts_are : texts ≡ watched ++ last_texts s.command s job last lines line
 
 -- the watch lines of the first iterations
 pub record AreWatched (s : Settings) (job : JobRows) (texts : List OutText) : Type 0 where
@@ -106,7 +147,7 @@ pub record AreWatched (s : Settings) (job : JobRows) (texts : List OutText) : Ty
   pub lines : List GapLine
   pub iterations : AreIterations s job routes lines
   pub few : length routes ≤ s.iterations
-  pub texts_are : texts ≡ watch_texts s job routes
+  pub watch_lines : AreWatchTexts s job 1 routes texts
 
 -- the texts of a run's whole work
 abbrev pub AreTexts : Command → Settings → JobRows → List OutText → Type 0

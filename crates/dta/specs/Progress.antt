@@ -4,22 +4,26 @@ use Rattle.desk_io.specs.Desk.{Taken}
 use Rattle.desk_io.specs.Faults.{Rose}
 use Rattle.dta_model.specs.LinkTimes.{TimeTable}
 use Rattle.dta_model.specs.Loading.{journeys_of}
+use Rattle.dta_model.specs.declared.eight.Eight.{Eight}
 use Rattle.dta_model.specs.declared.loaded.Journey.{Journey}
 use Rattle.gap.specs.declared.line.GapLine.{GapLine}
 use Rattle.dta_words.specs.declared.command.Settings.{Settings}
-use Rattle.dta.specs.Assignment.{AreIterations, VehicleRoutes, times_of}
+use Rattle.dta.specs.Assignment.{AreIterations, VehicleRoutes, end_of, times_of}
 use Rattle.dta.specs.Jobs.{AreRoutesOf, JobRows, plan_of}
-use Rattle.dta.specs.Outputs.{AreWatched, IsCutOff, OutText, grown_by, watch_texts}
+use Rattle.dta.specs.Outputs.{AreWatchLines, AreWatchTexts, AreWatched, IsCutOff, OutText, grown_by}
 use Rattle.dta.specs.declared.iterate.Halt.{Halt}
 use Rattle.dta.specs.declared.iterate.Halt.TheVariants as halt
 
 -- an iteration is about to be loaded over these routes, and those before it are done
-pub record IsAt (s : Settings) (job : JobRows) (number : ℕ) (routes : VehicleRoutes) (lines : List GapLine) (start now : Taken) : Type 0 where
+pub record IsAt (s : Settings) (job : JobRows) (number : ℕ) (routes : VehicleRoutes)
+    (lines : List GapLine) (start now : Taken) : Type 0 where
   pub done : List VehicleRoutes
   pub as_many : length done + 1 ≡ number
   pub with_gaps : length lines ≡ length done
   pub iterations : AreIterations s job (done ++ routes ∷ []) lines
-  pub watched : now ≡ grown_by (watch_texts s job done) start
+  pub texts : List OutText
+  pub watch_lines : AreWatchTexts s job 1 done texts
+  pub watched : now ≡ grown_by texts start
 
 -- an assignment ended before its last iteration was done: memory was wanting, or a watch line
 -- couldn't be put
@@ -29,30 +33,47 @@ Halts s job halt.Memory start now =
 Halts s job halt.Watch start now =
     (texts : List OutText) × AreWatched s job texts × IsCutOff texts start now
 
--- the same in the midst of an iteration, whose watch lines are these
-abbrev pub HaltsIn : Halt → List OutText → Taken → Taken → Type 0
-HaltsIn halt.Memory lines before now = now ≡ before
-HaltsIn halt.Watch lines before now = IsCutOff lines before now
+-- the watch lines of an iteration over these routes went out whole
+abbrev pub IsWatched : Settings → JobRows → ℕ → VehicleRoutes → Taken → Taken → Type 0
+IsWatched s job iteration routes before now =
+    (lines : List OutText) × AreWatchLines s job iteration routes lines
+    × (now ≡ grown_by lines before)
+
+-- they were cut off
+abbrev pub IsWatchCut : Settings → JobRows → ℕ → VehicleRoutes → Taken → Taken → Type 0
+IsWatchCut s job iteration routes before now =
+    (lines : List OutText) × AreWatchLines s job iteration routes lines × IsCutOff lines before now
+
+-- an assignment ended in the midst of an iteration over these routes
+abbrev pub HaltsIn : Settings → JobRows → ℕ → VehicleRoutes → Halt → Taken → Taken → Type 0
+HaltsIn s job iteration routes halt.Memory before now = now ≡ before
+HaltsIn s job iteration routes halt.Watch before now = IsWatchCut s job iteration routes before now
 
 -- the count of failed puts doesn't fall, and a watch line is missing only where it rose
 pub record HasHaltCause {T : Type 0} (before now : ℕ) (result : Result T Halt) : Type 0 where
   pub later : before ≤ now
   pub failed : IfErr result (λ why. why ≡ halt.Watch → Rose before now)
 
--- the routes, the journeys and the link times of an iteration belong together
-pub record IsLast (s : Settings) (job : JobRows) (routes : VehicleRoutes) (loaded : List Journey) (times : TimeTable) : Type 0 where
+-- the routes, the journeys, the link times and the last state of an iteration belong together
+pub record IsLast (s : Settings) (job : JobRows) (routes : VehicleRoutes) (loaded : List Journey)
+    (times : TimeTable) (end : Eight) : Type 0 where
   pub routed : AreRoutesOf job routes
   pub journeys : loaded ≡ journeys_of (plan_of s job routes)
   pub times_are : times ≡ times_of s job routes
+  pub end_is : end ≡ end_of s job routes
 
--- all iterations are done: these are the last one's routes, journeys, link times and gap, and the
--- gaps of all
-pub record IsAssigned (s : Settings) (job : JobRows) (routes : VehicleRoutes) (loaded : List Journey) (times : TimeTable) (lines : List GapLine) (line : GapLine) (start now : Taken) : Type 0 where
+-- all iterations are done: these are the last one's routes, journeys, link times, last state and
+-- gap, and the gaps of all
+pub record IsAssigned (s : Settings) (job : JobRows) (routes : VehicleRoutes)
+    (loaded : List Journey) (times : TimeTable) (end : Eight) (lines : List GapLine) (line : GapLine) (start now : Taken)
+    : Type 0 where
   pub done : List VehicleRoutes
   pub as_many : length done + 1 ≡ s.iterations
   pub before : List GapLine
   pub with_gaps : length before ≡ length done
   pub lines_are : lines ≡ before ++ line ∷ []
   pub iterations : AreIterations s job (done ++ routes ∷ []) lines
-  pub watched : now ≡ grown_by (watch_texts s job (done ++ routes ∷ [])) start
-  pub last : IsLast s job routes loaded times
+  pub texts : List OutText
+  pub watch_lines : AreWatchTexts s job 1 (done ++ routes ∷ []) texts
+  pub watched : now ≡ grown_by texts start
+  pub last : IsLast s job routes loaded times end

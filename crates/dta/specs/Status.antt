@@ -3,7 +3,8 @@ use Rattle.std.specs.Prelude.{ℕ}
 use Rattle.reports.specs.declared.refusal.Refusal.{Refusal}
 use Rattle.reports.specs.declared.refusal.Refusal.TheVariants as refusal
 use Rattle.dta.specs.declared.status.Status.{Status}
-use Rattle.dta.specs.declared.status.Status.TheVariants.{Done, Usage, Table, ReadFault, WriteFault, Memory, Size}
+use Rattle.dta.specs.declared.status.Status.TheVariants.{Done, Usage, Table, ReadFault}
+use Rattle.dta.specs.declared.status.Status.TheVariants.{WriteFault, Memory, Size}
 
 abbrev pub number_of : Status → ℕ
 number_of Done = 0

@@ -12,35 +12,37 @@ use Rattle.dta_words.specs.declared.command.Settings.{Settings}
 use Rattle.dta.specs.declared.stop.Stop.{Stop}
 use Rattle.dta.specs.declared.stop.Stop.TheVariants.{Refused, Memory}
 use Rattle.vehicle_release.specs.Limits.{IsFirstAbove}
-use Rattle.dta.specs.Jobs.{HasRoom}
-use Rattle.dta.specs.Outcome.{DeskState, ReadsFailed, IsCause, IsCauseIn, IsCutIn, IsCutShort}
-use Rattle.dta.specs.Tables.{InTurn, IsFaulty, Rows}
+use Rattle.dta.specs.Jobs.{HasRoom, tables_of}
+use Rattle.dta.specs.Outcome.{DeskState, ReadsFailed, IsCause, IsCauseAmong, IsCutIn, IsCutShort}
+use Rattle.dta.specs.Tables.{ReachedAmong, IsFaulty, TableRows}
 
 -- what a refused table stops
 abbrev pub stop_of : TableRefusal → Stop
 stop_of (table_refusal.Fault fault) = Refused (refusal.Table fault)
 stop_of table_refusal.Memory = Memory
 
--- the turn of a table ended in this stop, where these rows were accepted before
-abbrev pub StopsTurn : Units → Table → Rows → Stop → DeskState → DeskState → Type 0
-StopsTurn units t rows Memory before after = IsBegun t before.left after.left
-StopsTurn units t rows (Refused refusal.Usage) before after = ⊥
-StopsTurn units t rows (Refused (refusal.Table fault)) before after =
+-- the reading stopped at a table, where these rows were accepted before
+abbrev pub StopsAt : Units → Table → TableRows → Stop → DeskState → DeskState → Type 0
+StopsAt units t rows Memory before after = IsBegun t before.left after.left
+StopsAt units t rows (Refused refusal.Usage) before after = ⊥
+StopsAt units t rows (Refused (refusal.Table fault)) before after =
     (fault.table ≡ t) × IsFaulty units fault t rows before.left after.left
-StopsTurn units t rows (Refused (refusal.Read u)) before after =
+StopsAt units t rows (Refused (refusal.Read u)) before after =
     (u ≡ t) × IsBegun t before.left after.left × ReadsFailed before after
-StopsTurn units t rows (Refused (refusal.LongTable u)) before after =
+StopsAt units t rows (Refused (refusal.LongTable u)) before after =
     (u ≡ t) × IsLong t TABLE_LIMIT before.left after.left
-StopsTurn units t rows (Refused (refusal.Cells links steps)) before after = ⊥
-StopsTurn units t rows (Refused (refusal.Vehicles line total)) before after = ⊥
+StopsAt units t rows (Refused (refusal.Cells links steps)) before after = ⊥
+StopsAt units t rows (Refused (refusal.Vehicles line total)) before after = ⊥
 
--- the reading of these tables ended in this stop, in the turn of one of them
-abbrev pub StopsAmong : Units → List Table → Rows → Stop → DeskState → DeskState → Type 0
+-- the reading of these tables ended in this stop, at one of them
+abbrev pub StopsAmong : Units → List Table → TableRows → Stop → DeskState → DeskState → Type 0
 StopsAmong units tables rows stop before after =
-    (t : Table) × InTurn units tables t (λ rows left rest. StopsTurn units t rows stop (record before { left = left }) (record after { left = rest })) rows before.left after.left
+    (t : Table) × ReachedAmong units tables t (λ rows left rest.
+    StopsAt units t rows stop (record before { left = left }) (record after { left = rest }))
+    rows before.left after.left
 
 -- the rows of all tables are past a limit, or memory was wanting for their job
-abbrev pub StopsJob : Settings → Rows → Stop → Type 0
+abbrev pub StopsJob : Settings → TableRows → Stop → Type 0
 StopsJob s rows Memory = ⊤
 StopsJob s rows (Refused (refusal.Cells links steps)) =
     (links ≡ length rows.links) × (steps ≡ s.horizon) × (CELL_LIMIT < links * steps)
@@ -53,10 +55,11 @@ abbrev pub HasFault : Refusal → DeskState → DeskState → Type 0
 HasFault (refusal.Read t) before after = ReadsFailed before after
 HasFault _ before after = ⊤
 
--- the reading of a command's tables ended in this stop
+-- the reading of a command's tables ended in this stop, where each of them can fail to be read
 abbrev pub StopsIn : Settings → Stop → DeskState → DeskState → Type 0
 StopsIn s Memory before after = IsCutIn s before.left after.left
-StopsIn s (Refused r) before after = IsCauseIn s r before.left after.left × HasFault r before after
+StopsIn s (Refused r) before after =
+    IsCauseAmong (tables_of s.command) s r before.left after.left × HasFault r before after
 
 -- a run of these settings ended in this stop
 abbrev pub Stops : Settings → Stop → DeskState → DeskState → Type 0

@@ -18,50 +18,65 @@ use Rattle.gmns_tables.specs.declared.units.Units.{Units}
 use Rattle.demand.specs.Cells.{demand_verdict}
 use Rattle.reports.specs.declared.refusal.TheConstants.{TABLE_LIMIT}
 
+-- the tables of a network's nodes and links, and all tables, in the order in which they are read
+abbrev pub road_tables : List Table
+road_tables = table.Node ∷ table.Link ∷ []
+
+abbrev pub all_tables : List Table
+all_tables = table.Node ∷ table.Link ∷ table.Movement ∷ table.Demand ∷ []
+
 -- the rows of the tables that were accepted so far; those of the others are missing
-pub record Rows : Type 0 where
+pub record TableRows : Type 0 where
   pub nodes : List NodeRow
   pub links : List LinkRow
   pub turns : List TurnRow
   pub cells : List DemandCell
 
-abbrev pub no_rows : Rows
+abbrev pub no_rows : TableRows
 no_rows = record { nodes = []; links = []; turns = []; cells = [] }
 
 -- the rows of a node and a link table
-abbrev pub road_rows : List NodeRow → List LinkRow → Rows
+abbrev pub road_rows : List NodeRow → List LinkRow → TableRows
 road_rows nodes links = record { nodes = nodes; links = links; turns = []; cells = [] }
 
 -- the rows of all four tables
-abbrev pub rows_of : List NodeRow → List LinkRow → List TurnRow → List DemandCell → Rows
-rows_of nodes links turns cells = record { nodes = nodes; links = links; turns = turns; cells = cells }
+abbrev pub rows_of : List NodeRow → List LinkRow → List TurnRow → List DemandCell → TableRows
+rows_of nodes links turns cells = record {
+  nodes = nodes;
+  links = links;
+  turns = turns;
+  cells = cells;
+}
 
 -- a movement table of zero bytes stands for none
-abbrev pub turns_of : Units → Rows → List ℕ → Result (List TurnRow) TableFault
+abbrev pub turns_of : Units → TableRows → List ℕ → Result (List TurnRow) TableFault
 turns_of units rows [] = Ok []
 turns_of units rows (byte ∷ bytes) =
     turn_verdict rows.nodes rows.links units (records (byte ∷ bytes))
 
 -- the rows with those of one more table, or that table's first fault
-abbrev pub with_table : Units → Rows → Table → List ℕ → Result Rows TableFault
+abbrev pub with_table : Units → TableRows → Table → List ℕ → Result TableRows TableFault
 with_table units rows table.Node bytes =
     then_with (node_verdict (records bytes)) (λ nodes. Ok (record rows { nodes = nodes }))
 with_table units rows table.Link bytes =
-    then_with (link_verdict rows.nodes units (records bytes)) (λ links. Ok (record rows { links = links }))
+    then_with (link_verdict rows.nodes units (records bytes))
+    (λ links. Ok (record rows { links = links }))
 with_table units rows table.Movement bytes =
     then_with (turns_of units rows bytes) (λ turns. Ok (record rows { turns = turns }))
 with_table units rows table.Demand bytes =
     then_with (demand_verdict (records bytes)) (λ cells. Ok (record rows { cells = cells }))
 
 -- a table was read to its end and accepted after these rows, which are then those
-pub record IsAccepted (units : Units) (t : Table) (rows more : Rows) (before after : Left) : Type 0 where
+pub record IsAccepted (units : Units) (t : Table) (rows more : TableRows) (before after : Left)
+    : Type 0 where
   pub bytes : List ℕ
   pub read : IsRead t bytes before after
   pub short : length bytes ≤ TABLE_LIMIT
   pub accepted : with_table units rows t bytes ≡ Ok more
 
 -- a table was read to its end and has this first fault
-pub record IsFaulty (units : Units) (fault : TableFault) (t : Table) (rows : Rows) (before after : Left) : Type 0 where
+pub record IsFaulty (units : Units) (fault : TableFault) (t : Table) (rows : TableRows)
+    (before after : Left) : Type 0 where
   pub bytes : List ℕ
   pub read : IsRead t bytes before after
   pub short : length bytes ≤ TABLE_LIMIT
@@ -69,19 +84,20 @@ pub record IsFaulty (units : Units) (fault : TableFault) (t : Table) (rows : Row
   pub its_own : fault.table ≡ t
 
 -- these tables were read and accepted one after the other
-abbrev pub AreAccepted : Units → List Table → Rows → Rows → Left → Left → Type 0
+abbrev pub AreAccepted : Units → List Table → TableRows → TableRows → Left → Left → Type 0
 AreAccepted units [] rows more before after = (more ≡ rows) × (after ≡ before)
 AreAccepted units (t ∷ others) rows more before after =
-    (next : Rows) × (between : Left) × IsAccepted units t rows next before between
+    (next : TableRows) × (between : Left) × IsAccepted units t rows next before between
     × AreAccepted units others next more between after
 
--- the turn of a table came, since those before it were accepted, and this was so of it
-abbrev pub InTurn : Units → List Table → Table → (Rows → Left → Left → Type 0) → Rows → Left → Left → Type 0
-InTurn units [] t Turn rows before after = ⊥
-InTurn units (first ∷ others) t Turn rows before after =
-    ((first ≡ t) × Turn rows before after)
-    ⊎ ((next : Rows) × (between : Left) × IsAccepted units first rows next before between
-    × InTurn units others t Turn next between after)
+-- a table was reached, since those before it were accepted, and this was so of it
+abbrev pub ReachedAmong :
+    Units → List Table → Table → (TableRows → Left → Left → Type 0) → TableRows → Left → Left → Type 0
+ReachedAmong units [] t Part rows before after = ⊥
+ReachedAmong units (first ∷ others) t Part rows before after =
+    ((first ≡ t) × Part rows before after)
+    ⊎ ((next : TableRows) × (between : Left) × IsAccepted units first rows next before between
+    × ReachedAmong units others t Part next between after)
 
 -- the bytes of these tables are told
 abbrev pub AreTold : List Table → Left → (Table → List ℕ) → Type 0

@@ -1,5 +1,7 @@
 -- What the words and the bytes of the tables come to, before any work.
-use Rattle.std.specs.Prelude.{ℕ, ◌*◌, ◌+◌, ⊤, nat_le, nat_lt, List, [], ◌∷◌, length, Option, None, Some, Result, Ok, Err, slice_get, find, if◌then◌else◌}
+use Rattle.std.specs.Prelude.{ℕ, ◌*◌, ◌+◌, ⊤, nat_le, nat_lt, if◌then◌else◌}
+use Rattle.std.specs.Prelude.{List, [], ◌∷◌, length, slice_get, find}
+use Rattle.std.specs.Prelude.{Option, None, Some, Result, Ok, Err}
 use Rattle.desk_io.specs.declared.desk.Table.{Table}
 use Rattle.desk_io.specs.declared.desk.Table.TheVariants as table
 use Rattle.desk_io.specs.Desk.{Left}
@@ -18,7 +20,7 @@ use Rattle.dta_words.specs.declared.command.Command.{Command}
 use Rattle.dta_words.specs.declared.command.Command.TheVariants as command
 use Rattle.dta_words.specs.declared.command.Settings.{Settings}
 use Rattle.dta.specs.Jobs.{JobRows, job_of, tables_of, read_tables}
-use Rattle.dta.specs.Tables.{AreTold, Rows, no_rows, with_table}
+use Rattle.dta.specs.Tables.{AreTold, TableRows, no_rows, with_table}
 
 -- a run is refused, or its tables are accepted and make this job
 pub data Verdict : Type 0 where
@@ -37,17 +39,19 @@ texts_of (command.Demo n) texts t = grid_texts n t
 texts_of c texts t = texts t
 
 -- one table, and then what is next
-abbrev pub after_table : Result Rows TableFault → (Rows → Verdict) → Verdict
+abbrev pub after_table : Result TableRows TableFault → (TableRows → Verdict) → Verdict
 after_table (Err fault) next = Refused (refusal.Table fault)
 after_table (Ok rows) next = next rows
 
 -- the tables one after the other: the first that is too long or has a fault is told, and otherwise
 -- the verdict is that on the rows of all
-abbrev pub verdict_on : Units → List Table → (Table → List ℕ) → Rows → (Rows → Verdict) → Verdict
+abbrev pub verdict_on :
+    Units → List Table → (Table → List ℕ) → TableRows → (TableRows → Verdict) → Verdict
 verdict_on units [] texts rows next = next rows
 verdict_on units (t ∷ others) texts rows next =
     if nat_le (length (texts t)) TABLE_LIMIT
-    then after_table (with_table units rows t (texts t)) (λ more. verdict_on units others texts more next)
+    then after_table (with_table units rows t (texts t))
+    (λ more. verdict_on units others texts more next)
     else Refused (refusal.LongTable t)
 
 -- the first row of a demand table with which the vehicles are too many
@@ -59,20 +63,20 @@ abbrev pub line_in : Option DemandCell → ℕ
 line_in None = 0
 line_in (Some cell) = cell.line
 
-abbrev pub verdict_on_trips : Settings → Rows → Option ℕ → Verdict
+abbrev pub verdict_on_trips : Settings → TableRows → Option ℕ → Verdict
 verdict_on_trips s rows None = Accepted s (job_of s rows)
 verdict_on_trips s rows (Some row) = Refused (refusal.Vehicles
     (line_in (slice_get rows.cells row))
     (vehicles_before rows.cells (row + 1)))
 
 -- the sizes of a loading: its links times its steps, and then its vehicles
-abbrev pub verdict_on_sizes : Settings → Rows → Verdict
+abbrev pub verdict_on_sizes : Settings → TableRows → Verdict
 verdict_on_sizes s rows =
     if nat_le (length rows.links * s.horizon) CELL_LIMIT
     then verdict_on_trips s rows (first_above rows.cells)
     else Refused (refusal.Cells (length rows.links) s.horizon)
 
-abbrev pub verdict_on_rows : Command → Settings → Rows → Verdict
+abbrev pub verdict_on_rows : Command → Settings → TableRows → Verdict
 verdict_on_rows command.Freeflow s rows = Accepted s (job_of s rows)
 verdict_on_rows c s rows = verdict_on_sizes s rows
 

@@ -1,5 +1,6 @@
 // The iterations of an assignment.
-ghost use Rattle.std.specs.Prelude.{◌≡◌, ◌<◌, ◌≤◌, ◌+◌, ◌++◌, ◌∷◌, [], length, IfOk, IfErr, OnOk, OnErr};
+ghost use Rattle.std.specs.Prelude.{◌≡◌, ◌<◌, ◌≤◌, ◌+◌, ◌++◌, ◌∷◌, [], length};
+ghost use Rattle.std.specs.Prelude.{IfOk, IfErr, OnOk, OnErr};
 ghost use Rattle.desk_io.specs.Desk.{Taken};
 ghost use Rattle.dta_model.specs.Lent.{plan_of as loading_plan};
 ghost use Rattle.dta_model.specs.LinkTimes.{table_of, time_at};
@@ -8,10 +9,12 @@ ghost use Rattle.dta_model.specs.Sound.{IsSound};
 ghost use Rattle.dta_words.specs.Ranges.{AreSettings};
 ghost use Rattle.gap.specs.Gap.{IsGapLine, IsShort};
 ghost use Rattle.route_flows.specs.Averages.{AreFirstRoutes, AreNextRoutes};
-ghost use Rattle.dta.specs.Assignment.{end_of as end_of_loading, times_of};
-ghost use Rattle.dta.specs.Jobs.{AreRoutesOf, IsJob, plan_of};
-ghost use Rattle.dta.specs.Outputs.{IsCutOff, grown_by, watch_every, watch_from};
-ghost use Rattle.dta.specs.Progress.{Halts, HaltsIn, HasHaltCause, IsAssigned, IsAt};
+ghost use Rattle.dta_model.specs.State.{eight_after};
+ghost use Rattle.dta.specs.Assignment.{times_of};
+ghost use Rattle.dta.specs.Jobs.{AreRoutesOf, IsJob};
+ghost use Rattle.dta.specs.Outputs.{IsCutOff, end_lines, grown_by};
+ghost use Rattle.dta.specs.Progress.{Halts, HaltsIn, HasHaltCause};
+ghost use Rattle.dta.specs.Progress.{IsAssigned, IsAt, IsLast, IsWatched};
 ghost use Rattle.dta.specs.declared.iterate.Halt.TheVariants as halt;
 
 use crate::job::Job;
@@ -42,29 +45,37 @@ pub(crate) struct Assigned {
     pub(crate) routes: Routes,
     pub(crate) loaded: Loaded,
     pub(crate) times: LinkTimes,
+    pub(crate) end: Eight,
     pub(crate) lines: Vec<GapLine>,
     pub(crate) line: GapLine,
 }
 
-// The loading of an iteration and its link times.
+// The loading of an iteration, its link times, and the state after its last step.
 #[derive(Drop)]
 struct Round {
     loaded: Loaded,
     times: LinkTimes,
+    end: Eight,
 }
 
-// Loads the vehicles of a loading, and makes its link times.
+// Loads the vehicles of a loading, makes its link times and counts its last state.
 fn load_over(alloc: Global, loading: &Loading, bucket: u32) -> Result<Round, Halt>
     requires sound { IsSound (loading_plan loading.now) }
     requires bucket { 1 ≤ bucket }
     ensures loaded { IfOk result (λ round. round.loaded ≡ journeys_of (loading_plan loading.now)) }
-    ensures times { IfOk result (λ round. round.times ≡ table_of (loading_plan loading.now) bucket) }
+    ensures times { IfOk result (λ round.
+        round.times ≡ table_of (loading_plan loading.now) bucket) }
+    ensures end { IfOk result (λ round.
+        round.end ≡ eight_after (loading_plan loading.now) loading.now.horizon) }
     ensures short { IfOk result (λ round. IsShort round.times) }
     ensures memory { IfErr result (λ why. why ≡ halt.Memory) }
 {
     match load_plain(alloc, loading) {
         Ok(loaded) => match LinkTimes::of(alloc, loading, &loaded, bucket) {
-            Ok(times) => Ok(Round { loaded, times }),
+            Ok(times) => {
+                let end = final_state(loading, &loaded);
+                Ok(Round { loaded, times, end })
+            }
             Err(_) => Err(Halt::Memory),
         },
         Err(_) => Err(Halt::Memory),
@@ -76,8 +87,8 @@ fn load(alloc: Global, settings: &Settings, job: &Job, routes: &Routes) -> Resul
     requires settings { AreSettings settings.now }
     requires job { IsJob settings.now job.now }
     requires routes { AreRoutesOf job.now routes.now }
-    ensures loaded { IfOk result (λ round. round.loaded ≡ journeys_of (plan_of settings.now job.now routes.now)) }
-    ensures times { IfOk result (λ round. round.times ≡ times_of settings.now job.now routes.now) }
+    ensures last { IfOk result (λ round.
+        IsLast settings.now job.now routes.now round.loaded round.times round.end) }
     ensures short { IfOk result (λ round. IsShort round.times) }
     ensures memory { IfErr result (λ why. why ≡ halt.Memory) }
 {
@@ -94,46 +105,18 @@ fn load(alloc: Global, settings: &Settings, job: &Job, routes: &Routes) -> Resul
     round
 }
 
-// The state of a job's loading after its last step.
-pub(crate) fn end_of(settings: &Settings, job: &Job, routes: &Routes, loaded: &Loaded) -> Eight
-    requires settings { AreSettings settings.now }
-    requires job { IsJob settings.now job.now }
-    requires routes { AreRoutesOf job.now routes.now }
-    requires loaded { loaded.now ≡ journeys_of (plan_of settings.now job.now routes.now) }
-    ensures is { result ≡ end_of_loading settings.now job.now routes.now }
-    ensures few { result.waiting + result.running + result.arrived ≤ length job.now.trips }
-{
-    let loading = job.loading(settings, routes);
-    let eight = final_state(&loading, loaded);
-    let Loading {
-        net: _,
-        queue: _,
-        delta: _,
-        horizon: _,
-        trips: _,
-        routes: _,
-    } = loading;
-    eight
-}
-
-// Puts the watch line of an iteration, where there is a watch: the state after the last step.
+// Puts the watch line of an iteration, where there is a watch: the state after its last step.
 #[tactic(auto, using(crate::proofs::OutputFacts::parts))]
 fn watch<D: Desk>(
     settings: &Settings,
-    job: &Job,
-    routes: &Routes,
-    loaded: &Loaded,
     iteration: u32,
+    end: &Eight,
     desk: &mut D,
 ) -> Result<(), Halt>
-    requires settings { AreSettings settings.now }
-    requires job { IsJob settings.now job.now }
-    requires routes { AreRoutesOf job.now routes.now }
-    requires loaded { loaded.now ≡ journeys_of (plan_of settings.now job.now routes.now) }
     ensures whole { OnOk result (D.taken desk.new
-        ≡ grown_by (watch_every settings.now.watch (watch_from settings.now job.now iteration (routes.now ∷ []))) (D.taken desk.old)) }
+        ≡ grown_by (end_lines settings.now.watch iteration end.now) (D.taken desk.old)) }
     ensures cut { OnErr result (IsCutOff
-        (watch_every settings.now.watch (watch_from settings.now job.now iteration (routes.now ∷ []))) (D.taken desk.old) (D.taken desk.new)) }
+        (end_lines settings.now.watch iteration end.now) (D.taken desk.old) (D.taken desk.new)) }
     ensures why { IfErr result (λ why. why ≡ halt.Watch) }
     ensures left { D.left desk.new ≡ D.left desk.old }
     ensures cause { HasHaltCause (D.put_faults desk.old) (D.put_faults desk.new) result }
@@ -142,8 +125,7 @@ fn watch<D: Desk>(
     if settings.watch == 0 {
         return Ok(());
     }
-    let eight = end_of(settings, job, routes, loaded);
-    match put_watch(desk, iteration, &eight) {
+    match put_watch(desk, iteration, end) {
         Ok(()) => Ok(()),
         Err(_) => Err(Halt::Watch),
     }
@@ -161,19 +143,19 @@ fn load_watched<D: Desk>(
     requires settings { AreSettings settings.now }
     requires job { IsJob settings.now job.now }
     requires routes { AreRoutesOf job.now routes.now }
-    ensures loaded { IfOk result (λ round. round.loaded ≡ journeys_of (plan_of settings.now job.now routes.now)) }
-    ensures times { IfOk result (λ round. round.times ≡ times_of settings.now job.now routes.now) }
+    ensures last { IfOk result (λ round.
+        IsLast settings.now job.now routes.now round.loaded round.times round.end) }
     ensures short { IfOk result (λ round. IsShort round.times) }
-    ensures whole { OnOk result (D.taken desk.new
-        ≡ grown_by (watch_every settings.now.watch (watch_from settings.now job.now iteration (routes.now ∷ []))) (D.taken desk.old)) }
-    ensures halts { IfErr result (λ why. HaltsIn why
-        (watch_every settings.now.watch (watch_from settings.now job.now iteration (routes.now ∷ []))) (D.taken desk.old) (D.taken desk.new)) }
+    ensures watched { OnOk result (IsWatched settings.now job.now iteration routes.now
+        (D.taken desk.old) (D.taken desk.new)) }
+    ensures halts { IfErr result (λ why. HaltsIn settings.now job.now iteration routes.now why
+        (D.taken desk.old) (D.taken desk.new)) }
     ensures left { D.left desk.new ≡ D.left desk.old }
     ensures cause { HasHaltCause (D.put_faults desk.old) (D.put_faults desk.new) result }
     ensures reads { D.read_faults desk.new ≡ D.read_faults desk.old }
 {
     let round = load(alloc, settings, job, routes)?;
-    watch(settings, job, routes, &round.loaded, iteration, desk)?;
+    watch(settings, iteration, &round.end, desk)?;
     Ok(round)
 }
 
@@ -208,8 +190,11 @@ fn leave<R: AllocGlobal + Threads>(
     requires times { times.now ≡ times_of settings.now job.now routes.now }
     requires short { IsShort times.now }
     requires number { (1 ≤ iteration) × (iteration < settings.now.iterations) }
-    ensures gap { IfOk result (λ r. IsGapLine (time_at (times_of settings.now job.now routes.now)) job.now.net job.now.trips routes.now r.0) }
-    ensures next { IfOk result (λ r. AreNextRoutes (time_at (times_of settings.now job.now routes.now)) job.now.net job.now.trips iteration routes.now r.1) }
+    ensures gap { IfOk result (λ r. IsGapLine (time_at (times_of settings.now job.now routes.now))
+        job.now.net job.now.trips routes.now r.0) }
+    ensures next { IfOk result (λ r.
+        AreNextRoutes (time_at (times_of settings.now job.now routes.now))
+        job.now.net job.now.trips iteration routes.now r.1) }
     ensures routes { IfOk result (λ r. AreRoutesOf job.now r.1) }
     ensures memory { IfErr result (λ why. why ≡ halt.Memory) }
 {
@@ -241,7 +226,8 @@ fn gap_of(
     requires routes { AreRoutesOf job.now routes.now }
     requires times { times.now ≡ times_of settings.now job.now routes.now }
     requires short { IsShort times.now }
-    ensures gap { IfOk result (IsGapLine (time_at (times_of settings.now job.now routes.now)) job.now.net job.now.trips routes.now) }
+    ensures gap { IfOk result (IsGapLine (time_at (times_of settings.now job.now routes.now))
+        job.now.net job.now.trips routes.now) }
     ensures memory { IfErr result (λ why. why ≡ halt.Memory) }
 {
     match gap(alloc, &job.net, times, &job.trips, routes) {
@@ -265,9 +251,12 @@ fn advance<R: AllocGlobal + Threads, D: Desk>(
     requires routes { AreRoutesOf job.now routes.old }
     requires number { (1 ≤ iteration) × (iteration < settings.now.iterations) }
     ensures routes { OnOk result (AreRoutesOf job.now routes.new) }
-    ensures forward { (start : Taken) → IsAt settings.now job.now iteration routes.old lines.old.items start (D.taken desk.old)
-        → OnOk result (IsAt settings.now job.now (iteration + 1) routes.new lines.new.items start (D.taken desk.new)) }
-    ensures halts { (start : Taken) → IsAt settings.now job.now iteration routes.old lines.old.items start (D.taken desk.old)
+    ensures forward { (start : Taken)
+        → IsAt settings.now job.now iteration routes.old lines.old.items start (D.taken desk.old)
+        → OnOk result (IsAt settings.now job.now (iteration + 1) routes.new lines.new.items
+        start (D.taken desk.new)) }
+    ensures halts { (start : Taken)
+        → IsAt settings.now job.now iteration routes.old lines.old.items start (D.taken desk.old)
         → IfErr result (λ why. Halts settings.now job.now why start (D.taken desk.new)) }
     ensures left { D.left desk.new ≡ D.left desk.old }
     ensures cause { HasHaltCause (D.put_faults desk.old) (D.put_faults desk.new) result }
@@ -292,9 +281,14 @@ fn finish<D: Desk>(
     requires settings { AreSettings settings.now }
     requires job { IsJob settings.now job.now }
     requires routes { AreRoutesOf job.now routes }
-    ensures done { (start : Taken) → IsAt settings.now job.now settings.now.iterations routes lines.items start (D.taken desk.old)
-        → IfOk result (λ a. IsAssigned settings.now job.now a.routes a.loaded a.times a.lines.items a.line start (D.taken desk.new)) }
-    ensures halts { (start : Taken) → IsAt settings.now job.now settings.now.iterations routes lines.items start (D.taken desk.old)
+    ensures done { (start : Taken)
+        → IsAt settings.now job.now settings.now.iterations routes lines.items start
+        (D.taken desk.old)
+        → IfOk result (λ a. IsAssigned settings.now job.now
+        a.routes a.loaded a.times a.end a.lines.items a.line start (D.taken desk.new)) }
+    ensures halts { (start : Taken)
+        → IsAt settings.now job.now settings.now.iterations routes lines.items start
+        (D.taken desk.old)
         → IfErr result (λ why. Halts settings.now job.now why start (D.taken desk.new)) }
     ensures left { D.left desk.new ≡ D.left desk.old }
     ensures cause { HasHaltCause (D.put_faults desk.old) (D.put_faults desk.new) result }
@@ -304,11 +298,12 @@ fn finish<D: Desk>(
     let line = gap_of(alloc, settings, job, &routes, &round.times)?;
     let mut lines = lines;
     push(&mut lines, line)?;
-    let Round { loaded, times } = round;
+    let Round { loaded, times, end } = round;
     Ok(Assigned {
         routes,
         loaded,
         times,
+        end,
         lines,
         line,
     })
@@ -335,8 +330,11 @@ pub(crate) fn iterate<R: AllocGlobal + Threads, D: Desk>(
 ) -> Result<Assigned, Halt>
     requires settings { AreSettings settings.now }
     requires job { IsJob settings.now job.now }
-    ensures done { IfOk result (λ a. IsAssigned settings.now job.now a.routes a.loaded a.times a.lines.items a.line (D.taken desk.old) (D.taken desk.new)) }
-    ensures halts { IfErr result (λ why. Halts settings.now job.now why (D.taken desk.old) (D.taken desk.new)) }
+    ensures done { IfOk result (λ a. IsAssigned settings.now job.now
+        a.routes a.loaded a.times a.end a.lines.items a.line
+        (D.taken desk.old) (D.taken desk.new)) }
+    ensures halts { IfErr result (λ why.
+        Halts settings.now job.now why (D.taken desk.old) (D.taken desk.new)) }
     ensures left { D.left desk.new ≡ D.left desk.old }
     ensures cause { HasHaltCause (D.put_faults desk.old) (D.put_faults desk.new) result }
     ensures reads { D.read_faults desk.new ≡ D.read_faults desk.old }

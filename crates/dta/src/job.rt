@@ -10,10 +10,11 @@ ghost use Rattle.gmns_tables.specs.Net.{listed_turns, net_of as joined};
 ghost use Rattle.net_core.specs.Network.{IsNet};
 ghost use Rattle.reports.specs.declared.refusal.TheConstants.{CELL_LIMIT};
 ghost use Rattle.vehicle_release.specs.Limits.{IsWithin};
-ghost use Rattle.dta.specs.Jobs.{AreTripsBelow, HasRoom, IsAcceptedJob, IsJob, IsJobOf, job_of as job_of_rows, plan_of};
+ghost use Rattle.dta.specs.Jobs.{AreTripsBelow, HasRoom, IsAcceptedJob, IsJob, IsJobOf};
+ghost use Rattle.dta.specs.Jobs.{job_of as job_of_rows, plan_of};
 ghost use Rattle.dta.specs.Outcome.{DeskState, state_of};
 ghost use Rattle.dta.specs.Stops.{Stops, StopsIn, StopsJob};
-ghost use Rattle.dta.specs.Tables.{Rows, road_rows, rows_of};
+ghost use Rattle.dta.specs.Tables.{TableRows, road_rows, rows_of};
 
 use crate::sizes::sizes;
 use crate::stop::Stop;
@@ -71,8 +72,9 @@ fn trips_within(
     requires cells { AreCells cells.now }
     ensures trips { IfOk result (λ trips. trips.items ≡ trips_of cells.now settings.now.period) }
     ensures sound { IfOk result (λ trips. AreTripsBelow settings.now.horizon trips.items) }
-    ensures within { OnOk result ((links * settings.now.horizon ≤ CELL_LIMIT) × IsWithin cells.now) }
-    ensures stops { (rows : Rows) → length rows.links ≡ links → rows.cells ≡ cells.now
+    ensures within { OnOk result (
+        (links * settings.now.horizon ≤ CELL_LIMIT) × IsWithin cells.now) }
+    ensures stops { (rows : TableRows) → length rows.links ≡ links → rows.cells ≡ cells.now
         → IfErr result (StopsJob settings.now rows) }
 {
     if sizes(links, settings.horizon).is_err() {
@@ -96,11 +98,15 @@ fn job_of(alloc: Global, tables: Tables, settings: &Settings) -> Result<Job, Sto
     requires net { IsNet (joined tables.roads.nodes tables.roads.links tables.turns) }
     requires cells { AreCells tables.cells.items }
     ensures makes { IfOk result (λ job. job ≡ job_of_rows settings.now
-        (rows_of tables.roads.nodes tables.roads.links (listed_turns tables.turns) tables.cells.items)) }
+        (rows_of tables.roads.nodes tables.roads.links
+        (listed_turns tables.turns) tables.cells.items)) }
     ensures sound { IfOk result (IsJob settings.now) }
-    ensures within { OnOk result (HasRoom settings.now (road_rows tables.roads.nodes tables.roads.links) × IsWithin tables.cells.items) }
+    ensures within { OnOk result (
+        HasRoom settings.now (road_rows tables.roads.nodes tables.roads.links)
+        × IsWithin tables.cells.items) }
     ensures stops { IfErr result (StopsJob settings.now
-        (rows_of tables.roads.nodes tables.roads.links (listed_turns tables.turns) tables.cells.items)) }
+        (rows_of tables.roads.nodes tables.roads.links
+        (listed_turns tables.turns) tables.cells.items)) }
 {
     let Tables {
         roads,
@@ -119,7 +125,8 @@ fn job_of(alloc: Global, tables: Tables, settings: &Settings) -> Result<Job, Sto
 fn accept_tables<D: Desk>(alloc: Global, desk: &mut D, settings: &Settings) -> Result<Job, Stop>
     requires settings { AreSettings settings.now }
     requires command { settings.now.command ≢ command.Freeflow }
-    ensures job { IfOk result (λ job. IsJobOf settings.now job (D.left desk.old) (D.left desk.new)) }
+    ensures job { IfOk result (λ job.
+        IsJobOf settings.now job (D.left desk.old) (D.left desk.new)) }
     ensures sound { IfOk result (IsJob settings.now) }
     ensures stops { let state = state_of D.left D.taken D.read_faults D.put_faults in
         IfErr result (λ s. StopsIn settings.now s (state desk.old) (state desk.new)) }
@@ -135,7 +142,8 @@ fn accept_tables<D: Desk>(alloc: Global, desk: &mut D, settings: &Settings) -> R
 fn accept_free<D: Desk>(alloc: Global, desk: &mut D, settings: &Settings) -> Result<Job, Stop>
     requires settings { AreSettings settings.now }
     requires command { settings.now.command ≡ command.Freeflow }
-    ensures job { IfOk result (λ job. IsJobOf settings.now job (D.left desk.old) (D.left desk.new)) }
+    ensures job { IfOk result (λ job.
+        IsJobOf settings.now job (D.left desk.old) (D.left desk.new)) }
     ensures sound { IfOk result (IsJob settings.now) }
     ensures stops { let state = state_of D.left D.taken D.read_faults D.put_faults in
         IfErr result (λ s. StopsIn settings.now s (state desk.old) (state desk.new)) }
@@ -178,11 +186,12 @@ fn accept_grid(alloc: Global, settings: &Settings, n: u32) -> Result<Job, Stop>
 }
 
 /// Reads and checks the tables of a command, one after the other, and makes their job. The first
-/// cause in this order stops the run: a table that can't be read, is too long or has a fault, before
-/// the next is read; the links times the steps; the number of vehicles.
+/// cause in this order stops the run: a table that can't be read, is too long or has a fault,
+/// before the next is read; the links times the steps; the number of vehicles.
 pub(crate) fn accept<D: Desk>(alloc: Global, desk: &mut D, settings: &Settings) -> Result<Job, Stop>
     requires settings { AreSettings settings.now }
-    ensures job { IfOk result (λ job. IsAcceptedJob settings.now job (D.left desk.old) (D.left desk.new)) }
+    ensures job { IfOk result (λ job.
+        IsAcceptedJob settings.now job (D.left desk.old) (D.left desk.new)) }
     ensures sound { IfOk result (IsJob settings.now) }
     ensures stops { let state = state_of D.left D.taken D.read_faults D.put_faults in
         IfErr result (λ s. Stops settings.now s (state desk.old) (state desk.new)) }

@@ -1,17 +1,17 @@
 // The outputs of an assignment, in their order.
-ghost use Rattle.std.specs.Prelude.{◌≡◌, ◌≢◌, OnOk, OnErr};
+ghost use Rattle.std.specs.Prelude.{◌≡◌, OnOk, OnErr};
 ghost use Rattle.desk_io.specs.declared.desk.Output.TheVariants as output;
 ghost use Rattle.desk_io.specs.Desk.{grown};
 ghost use Rattle.desk_io.specs.Faults.{HasCause};
 ghost use Rattle.desk_io.specs.Transfers.{IsPartOut};
 ghost use Rattle.dta_words.specs.Ranges.{AreSettings};
-ghost use Rattle.dta_words.specs.declared.command.Command.TheVariants as command;
 ghost use Rattle.reports.specs.Texts.{report_text};
 ghost use Rattle.dta.specs.Jobs.{IsJob};
-ghost use Rattle.dta.specs.Outputs.{IsCutOff, grown_by, last_texts, summary_of as summary_of_routes, table_texts};
+ghost use Rattle.dta.specs.Outputs.{IsCutOff, grown_by, last_texts, table_texts};
+ghost use Rattle.dta.specs.Outputs.{summary_of as summary_of_routes};
 ghost use Rattle.dta.specs.Progress.{IsLast};
 
-use crate::iterate::{Assigned, end_of};
+use crate::iterate::Assigned;
 use crate::job::Job;
 use desk_io::{Desk, Failed};
 use dta_words::{Command, Settings};
@@ -22,10 +22,12 @@ use reports::{Summary, put_agents, put_gaps, put_link_times, put_summary};
 fn summary_of(settings: &Settings, job: &Job, assigned: &Assigned) -> Summary
     requires settings { AreSettings settings.now }
     requires job { IsJob settings.now job.now }
-    requires assigned { IsLast settings.now job.now assigned.now.routes assigned.now.loaded assigned.now.times }
-    ensures { result ≡ summary_of_routes settings.now job.now assigned.now.routes assigned.now.line }
+    requires assigned { IsLast settings.now job.now
+        assigned.now.routes assigned.now.loaded assigned.now.times assigned.now.end }
+    ensures { result
+        ≡ summary_of_routes settings.now job.now assigned.now.routes assigned.now.line }
 {
-    let eight = end_of(settings, job, &assigned.routes, &assigned.loaded);
+    let eight = assigned.end;
     Summary {
         nodes: job.net.node_count(),
         links: job.net.link_count(),
@@ -49,11 +51,14 @@ fn put_tables<D: Desk>(
 ) -> Result<(), Failed>
     requires settings { AreSettings settings.now }
     requires job { IsJob settings.now job.now }
-    requires assigned { IsLast settings.now job.now assigned.now.routes assigned.now.loaded assigned.now.times }
+    requires assigned { IsLast settings.now job.now
+        assigned.now.routes assigned.now.loaded assigned.now.times assigned.now.end }
     ensures whole { OnOk result (D.taken desk.new
-        ≡ grown_by (table_texts settings.now job.now assigned.now.routes assigned.now.lines.items) (D.taken desk.old)) }
+        ≡ grown_by (table_texts settings.now job.now assigned.now.routes assigned.now.lines.items)
+        (D.taken desk.old)) }
     ensures cut { OnErr result (IsCutOff
-        (table_texts settings.now job.now assigned.now.routes assigned.now.lines.items) (D.taken desk.old) (D.taken desk.new)) }
+        (table_texts settings.now job.now assigned.now.routes assigned.now.lines.items)
+        (D.taken desk.old) (D.taken desk.new)) }
     ensures left { D.left desk.new ≡ D.left desk.old }
     ensures cause { HasCause (D.put_faults desk.old) (D.put_faults desk.new) result }
     ensures reads { D.read_faults desk.new ≡ D.read_faults desk.old }
@@ -78,11 +83,16 @@ fn put_report<D: Desk>(
 ) -> Result<(), Failed>
     requires settings { AreSettings settings.now }
     requires job { IsJob settings.now job.now }
-    requires assigned { IsLast settings.now job.now assigned.now.routes assigned.now.loaded assigned.now.times }
+    requires assigned { IsLast settings.now job.now
+        assigned.now.routes assigned.now.loaded assigned.now.times assigned.now.end }
     ensures whole { OnOk result (D.taken desk.new
-        ≡ grown output.Report (report_text (summary_of_routes settings.now job.now assigned.now.routes assigned.now.line)) (D.taken desk.old)) }
+        ≡ grown output.Report (report_text
+        (summary_of_routes settings.now job.now assigned.now.routes assigned.now.line))
+        (D.taken desk.old)) }
     ensures cut { OnErr result (IsPartOut
-        output.Report (report_text (summary_of_routes settings.now job.now assigned.now.routes assigned.now.line)) (D.taken desk.old) (D.taken desk.new)) }
+        output.Report (report_text
+        (summary_of_routes settings.now job.now assigned.now.routes assigned.now.line))
+        (D.taken desk.old) (D.taken desk.new)) }
     ensures left { D.left desk.new ≡ D.left desk.old }
     ensures cause { HasCause (D.put_faults desk.old) (D.put_faults desk.new) result }
     ensures reads { D.read_faults desk.new ≡ D.read_faults desk.old }
@@ -90,7 +100,8 @@ fn put_report<D: Desk>(
     put_summary(desk, &summary_of(settings, job, assigned))
 }
 
-/// Puts the texts after the last iteration: `demo` has the report alone. It takes no memory.
+/// Puts the texts after the last iteration: the tables of `assign`, and the report. It takes no
+/// memory.
 #[tactic(auto, using(crate::proofs::OutputFacts::lasts))]
 pub(crate) fn put_assigned<D: Desk>(
     desk: &mut D,
@@ -100,22 +111,24 @@ pub(crate) fn put_assigned<D: Desk>(
 ) -> Result<(), Failed>
     requires settings { AreSettings settings.now }
     requires job { IsJob settings.now job.now }
-    requires assigned { IsLast settings.now job.now assigned.now.routes assigned.now.loaded assigned.now.times }
-    requires command { settings.now.command ≢ command.Freeflow }
+    requires assigned { IsLast settings.now job.now
+        assigned.now.routes assigned.now.loaded assigned.now.times assigned.now.end }
     ensures whole { OnOk result (D.taken desk.new
-        ≡ grown_by (last_texts settings.now.command settings.now job.now assigned.now.routes assigned.now.lines.items assigned.now.line) (D.taken desk.old)) }
+        ≡ grown_by (last_texts settings.now.command settings.now job.now
+        assigned.now.routes assigned.now.lines.items assigned.now.line) (D.taken desk.old)) }
     ensures cut { OnErr result (IsCutOff
-        (last_texts settings.now.command settings.now job.now assigned.now.routes assigned.now.lines.items assigned.now.line) (D.taken desk.old) (D.taken desk.new)) }
+        (last_texts settings.now.command settings.now job.now
+        assigned.now.routes assigned.now.lines.items assigned.now.line)
+        (D.taken desk.old) (D.taken desk.new)) }
     ensures left { D.left desk.new ≡ D.left desk.old }
     ensures cause { HasCause (D.put_faults desk.old) (D.put_faults desk.new) result }
     ensures reads { D.read_faults desk.new ≡ D.read_faults desk.old }
 {
     match settings.command {
-        Command::Freeflow => unreachable!(),
         Command::Assign => {
             put_tables(desk, settings, job, assigned)?;
             put_report(desk, settings, job, assigned)
         }
-        Command::Demo(_) => put_report(desk, settings, job, assigned),
+        Command::Freeflow | Command::Demo(_) => put_report(desk, settings, job, assigned),
     }
 }

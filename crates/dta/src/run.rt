@@ -8,7 +8,7 @@ ghost use Rattle.dta.specs.Outcome.{Works};
 ghost use Rattle.desk_io.specs.declared.desk.Table.{Table};
 ghost use Rattle.desk_io.specs.declared.desk.Output.TheVariants as output;
 ghost use Rattle.desk_io.specs.Transfers.{IsOut};
-ghost use Rattle.dta_model.specs.Laws.{JourneysEndInOrder, VehiclesAreConserved};
+ghost use Rattle.dta_model.specs.Laws.{JourneysEndInOrder, LeftInOrder, VehiclesAreConserved};
 ghost use Rattle.dta_words.specs.Grammar.{settings_of};
 ghost use Rattle.reports.specs.Texts.{refusal_line};
 ghost use Rattle.dta.specs.Status.{refusal_status as status_of_refusal};
@@ -25,7 +25,7 @@ use crate::outputs::put_assigned;
 use crate::status::Status;
 use crate::stop::Stop;
 use desk_io::{Desk, Failed};
-use dta_model::{journeys_end_in_order, vehicles_are_conserved};
+use dta_model::{journeys_end_in_order, links_are_left_in_order, vehicles_are_conserved};
 use dta_words::{Command, Settings, Words, WordsRefusal, settings};
 use reports::{Refusal, put_free, put_refusal};
 use std::sync::Wait;
@@ -68,7 +68,8 @@ fn assign<R: AllocGlobal + Threads, D: Desk>(
     requires job { IsJob settings.now job.now }
     requires command { settings.now.command ≢ command.Freeflow }
     ensures work { Works settings.now job.now result (D.taken desk.old) (D.taken desk.new) }
-    ensures failed { result ≡ status.WriteFault → Rose (D.put_faults desk.old) (D.put_faults desk.new) }
+    ensures failed { result ≡ status.WriteFault
+        → Rose (D.put_faults desk.old) (D.put_faults desk.new) }
     ensures left { D.left desk.new ≡ D.left desk.old }
     ensures later { D.put_faults desk.old ≤ D.put_faults desk.new }
     ensures reads { D.read_faults desk.new ≡ D.read_faults desk.old }
@@ -93,7 +94,8 @@ fn work<R: AllocGlobal + Threads, D: Desk>(
     requires settings { AreSettings settings.now }
     requires job { IsJob settings.now job.now }
     ensures work { Works settings.now job.now result (D.taken desk.old) (D.taken desk.new) }
-    ensures failed { result ≡ status.WriteFault → Rose (D.put_faults desk.old) (D.put_faults desk.new) }
+    ensures failed { result ≡ status.WriteFault
+        → Rose (D.put_faults desk.old) (D.put_faults desk.new) }
     ensures left { D.left desk.new ≡ D.left desk.old }
     ensures later { D.put_faults desk.old ≤ D.put_faults desk.new }
     ensures reads { D.read_faults desk.new ≡ D.read_faults desk.old }
@@ -148,7 +150,7 @@ fn answer<R: AllocGlobal + Threads, D: Desk>(rt: &R, words: &Words, desk: &mut D
 /// tables, iterates routes, loadings, link times and gaps (successive averages over a queue-based
 /// simulator, Zhou and Taylor 2014), and puts Agent, LinkTime, Gap and Report, in this order.
 /// `demo` does the same over a made grid, and puts the report alone. With a watch, each iteration
-/// puts a line to Watch once it is loaded.
+/// puts lines of counts to Watch, the last one once it is loaded.
 ///
 /// A table is checked before the next is read. No memory is taken after the first byte of LinkTime
 /// in `freeflow`, or of Agent in `assign`.
@@ -167,20 +169,24 @@ pub fn run<R: AllocGlobal + Threads + Wait, D: Desk + Send, G: Gate + Sync>(
     // verdict over words and bytes.
     ensures told { let state = state_of D.left D.taken D.read_faults D.put_faults in
         (texts : Table → List ℕ) → AreToldBy (settings_of words.now) (D.left desk.old) texts
-        → Answers (verdict words.now texts) result (state desk.old) (state desk.new) }
+        → Answers (settings_of words.now) (verdict words.now texts) result
+        (state desk.old) (state desk.new) }
     ensures usage { result ≡ status.Usage → settings_of words.now ≡ None }
 
-    // After every step each due vehicle with a route waits, is on one link or has arrived, and links
-    // are left in the order of entry.
+    // After every step each due vehicle with a route waits, is on one link or has arrived, and
+    // links are left in the order of entry: in the trace, and so in the journeys.
     ensures conserved { VehiclesAreConserved }
+    ensures left_in_order { LeftInOrder }
     ensures ordered { JourneysEndInOrder }
 
-    // Settings and a job, which are made of words and tables alone, have one list of texts.
+    // Settings and a job, which are made of words and tables alone, have one list of texts but for
+    // Watch, and where the loader is plain one list of all texts.
     ensures determined { TextsAreDetermined }
     ensures reads { D.read_faults desk.old ≤ D.read_faults desk.new }
     ensures puts { D.put_faults desk.old ≤ D.put_faults desk.new }
 {
     vehicles_are_conserved();
+    links_are_left_in_order();
     journeys_end_in_order();
     texts_are_determined();
     answer(rt, words, desk)

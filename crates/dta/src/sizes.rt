@@ -8,8 +8,8 @@ use reports::CELL_LIMIT;
 #[derive(Clone, Copy, Debug, PartialEq, Eq)]
 pub struct TooBig;
 
-/// Checks that the links of a network times the steps of a run are not above 67,108,864. It takes no
-/// memory.
+/// Checks that the links of a network times the steps of a run are not above 67,108,864. It takes
+/// no memory.
 pub fn sizes(links: u32, horizon: u32) -> Result<(), TooBig>
     ensures { IsTrue (is_err result) ↔ (CELL_LIMIT < links * horizon) }
 {

@@ -1,5 +1,5 @@
 // The tables of a run, read and checked one after the other.
-ghost use Rattle.std.specs.Prelude.{◌≡◌, ◌≤◌, ◌∷◌, [], All, length, Ok, Err, IfOk, IfErr};
+ghost use Rattle.std.specs.Prelude.{◌≡◌, ◌≤◌, [], All, length, Ok, Err, IfOk, IfErr};
 ghost use Rattle.desk_io.specs.declared.desk.Table.TheVariants as table;
 ghost use Rattle.desk_io.specs.Transfers.{IsRead};
 ghost use Rattle.demand.specs.Cells.{AreCells};
@@ -11,8 +11,9 @@ ghost use Rattle.net_core.specs.Rows.{AreLinks, AreNodes, AreTurns, IsBetween, I
 ghost use Rattle.row_reader.specs.FirstFault.{Tells};
 ghost use Rattle.reports.specs.declared.refusal.TheConstants.{TABLE_LIMIT};
 ghost use Rattle.dta.specs.Outcome.{state_of};
-ghost use Rattle.dta.specs.Stops.{StopsAmong, StopsTurn};
-ghost use Rattle.dta.specs.Tables.{AreAccepted, IsAccepted, Rows, no_rows, road_rows, rows_of, turns_of};
+ghost use Rattle.dta.specs.Stops.{StopsAmong, StopsAt};
+ghost use Rattle.dta.specs.Tables.{AreAccepted, IsAccepted, TableRows, all_tables, no_rows};
+ghost use Rattle.dta.specs.Tables.{road_rows, road_tables, rows_of, turns_of};
 
 use crate::stop::Stop;
 use demand::read_demand;
@@ -36,8 +37,8 @@ fn bytes_of<D: Desk>(alloc: Global, desk: &mut D, table: Table) -> Result<Vec<u8
         IsRead table bytes.items (D.left desk.old) (D.left desk.new)) }
     ensures short { IfOk result (λ bytes. length bytes.items ≤ TABLE_LIMIT) }
     ensures stops { let state = state_of D.left D.taken D.read_faults D.put_faults in
-        (units : Units) (rows : Rows)
-        → IfErr result (λ s. StopsTurn units table rows s (state desk.old) (state desk.new)) }
+        (units : Units) (rows : TableRows)
+        → IfErr result (λ s. StopsAt units table rows s (state desk.old) (state desk.new)) }
     ensures later { D.read_faults desk.old ≤ D.read_faults desk.new }
     ensures taken { D.taken desk.new ≡ D.taken desk.old }
     ensures puts { D.put_faults desk.new ≡ D.put_faults desk.old }
@@ -57,7 +58,7 @@ fn accept_nodes<D: Desk>(alloc: Global, desk: &mut D) -> Result<NodeRows, Stop>
     ensures sound { IfOk result AreNodes }
     ensures stops { let state = state_of D.left D.taken D.read_faults D.put_faults in
         (units : Units)
-        → IfErr result (λ s. StopsTurn units table.Node no_rows s (state desk.old) (state desk.new)) }
+        → IfErr result (λ s. StopsAt units table.Node no_rows s (state desk.old) (state desk.new)) }
     ensures later { D.read_faults desk.old ≤ D.read_faults desk.new }
     ensures taken { D.taken desk.new ≡ D.taken desk.old }
     ensures puts { D.put_faults desk.new ≡ D.put_faults desk.old }
@@ -82,7 +83,8 @@ fn accept_links<D: Desk>(
     ensures sound { IfOk result AreLinks }
     ensures between { IfOk result (All (IsBetween nodes.now)) }
     ensures stops { let state = state_of D.left D.taken D.read_faults D.put_faults in
-        IfErr result (λ s. StopsTurn units.now table.Link (road_rows nodes.now []) s (state desk.old) (state desk.new)) }
+        IfErr result (λ s. StopsAt units.now table.Link (road_rows nodes.now []) s
+        (state desk.old) (state desk.new)) }
     ensures later { D.read_faults desk.old ≤ D.read_faults desk.new }
     ensures taken { D.taken desk.new ≡ D.taken desk.old }
     ensures puts { D.put_faults desk.new ≡ D.put_faults desk.old }
@@ -101,13 +103,14 @@ pub(crate) fn accept_roads<D: Desk>(
     units: &Units,
 ) -> Result<Roads, Stop>
     requires units { IsUnits units.now }
-    ensures roads { IfOk result (λ roads. AreAccepted units.now (table.Node ∷ table.Link ∷ []) no_rows
+    ensures roads { IfOk result (λ roads. AreAccepted units.now road_tables no_rows
         (road_rows roads.nodes roads.links) (D.left desk.old) (D.left desk.new)) }
     ensures nodes { IfOk result (λ roads. AreNodes roads.nodes) }
     ensures links { IfOk result (λ roads. AreLinks roads.links) }
     ensures between { IfOk result (λ roads. All (IsBetween roads.nodes) roads.links) }
     ensures stops { let state = state_of D.left D.taken D.read_faults D.put_faults in
-        IfErr result (λ s. StopsAmong units.now (table.Node ∷ table.Link ∷ []) no_rows s (state desk.old) (state desk.new)) }
+        IfErr result (λ s. StopsAmong units.now road_tables no_rows s
+        (state desk.old) (state desk.new)) }
     ensures later { D.read_faults desk.old ≤ D.read_faults desk.new }
     ensures taken { D.taken desk.new ≡ D.taken desk.old }
     ensures puts { D.put_faults desk.new ≡ D.put_faults desk.old }
@@ -126,9 +129,11 @@ fn turns_in(
 ) -> Result<Option<TurnRows>, TableRefusal>
     requires units { IsUnits units.now }
     ensures turns { IfOk result (λ turns.
-        turns_of units.now (road_rows roads.now.nodes roads.now.links) bytes.now ≡ Ok (listed_turns turns)) }
+        turns_of units.now (road_rows roads.now.nodes roads.now.links) bytes.now
+        ≡ Ok (listed_turns turns)) }
     ensures refused { IfErr result (λ why.
-        Tells (turns_of units.now (road_rows roads.now.nodes roads.now.links) bytes.now) (Err why)) }
+        Tells (turns_of units.now (road_rows roads.now.nodes roads.now.links) bytes.now)
+        (Err why)) }
     ensures sound { IfOk result (λ turns. AreTurns (listed_turns turns)) }
     ensures turning { IfOk result (λ turns. All (IsTurning roads.now.links) (listed_turns turns)) }
 {
@@ -148,12 +153,15 @@ fn accept_turns<D: Desk>(
     roads: &Roads,
 ) -> Result<Option<TurnRows>, Stop>
     requires units { IsUnits units.now }
-    ensures turns { IfOk result (λ turns. IsAccepted units.now table.Movement (road_rows roads.now.nodes roads.now.links)
-        (rows_of roads.now.nodes roads.now.links (listed_turns turns) []) (D.left desk.old) (D.left desk.new)) }
+    ensures turns { IfOk result (λ turns. IsAccepted units.now table.Movement
+        (road_rows roads.now.nodes roads.now.links)
+        (rows_of roads.now.nodes roads.now.links (listed_turns turns) [])
+        (D.left desk.old) (D.left desk.new)) }
     ensures sound { IfOk result (λ turns. AreTurns (listed_turns turns)) }
     ensures turning { IfOk result (λ turns. All (IsTurning roads.now.links) (listed_turns turns)) }
     ensures stops { let state = state_of D.left D.taken D.read_faults D.put_faults in
-        IfErr result (λ s. StopsTurn units.now table.Movement (road_rows roads.now.nodes roads.now.links) s (state desk.old) (state desk.new)) }
+        IfErr result (λ s. StopsAt units.now table.Movement
+        (road_rows roads.now.nodes roads.now.links) s (state desk.old) (state desk.new)) }
     ensures later { D.read_faults desk.old ≤ D.read_faults desk.new }
     ensures taken { D.taken desk.new ≡ D.taken desk.old }
     ensures puts { D.put_faults desk.new ≡ D.put_faults desk.old }
@@ -167,12 +175,13 @@ fn accept_turns<D: Desk>(
 
 // Reads and checks the demand table.
 fn accept_cells<D: Desk>(alloc: Global, desk: &mut D) -> Result<Vec<DemandCell>, Stop>
-    ensures cells { (units : Units) (rows : Rows) → IfOk result (λ cells. IsAccepted units table.Demand rows
+    ensures cells { (units : Units) (rows : TableRows)
+        → IfOk result (λ cells. IsAccepted units table.Demand rows
         (record rows { cells = cells.items }) (D.left desk.old) (D.left desk.new)) }
     ensures sound { IfOk result (λ cells. AreCells cells.items) }
     ensures stops { let state = state_of D.left D.taken D.read_faults D.put_faults in
-        (units : Units) (rows : Rows)
-        → IfErr result (λ s. StopsTurn units table.Demand rows s (state desk.old) (state desk.new)) }
+        (units : Units) (rows : TableRows)
+        → IfErr result (λ s. StopsAt units table.Demand rows s (state desk.old) (state desk.new)) }
     ensures later { D.read_faults desk.old ≤ D.read_faults desk.new }
     ensures taken { D.taken desk.new ≡ D.taken desk.old }
     ensures puts { D.put_faults desk.new ≡ D.put_faults desk.old }
@@ -199,12 +208,14 @@ pub(crate) fn accept_all<D: Desk>(
     units: &Units,
 ) -> Result<Tables, Stop>
     requires units { IsUnits units.now }
-    ensures tables { IfOk result (λ t. AreAccepted units.now (table.Node ∷ table.Link ∷ table.Movement ∷ table.Demand ∷ []) no_rows
-        (rows_of t.roads.nodes t.roads.links (listed_turns t.turns) t.cells.items) (D.left desk.old) (D.left desk.new)) }
+    ensures tables { IfOk result (λ t. AreAccepted units.now all_tables no_rows
+        (rows_of t.roads.nodes t.roads.links (listed_turns t.turns) t.cells.items)
+        (D.left desk.old) (D.left desk.new)) }
     ensures net { IfOk result (λ t. IsNet (net_of t.roads.nodes t.roads.links t.turns)) }
     ensures cells { IfOk result (λ t. AreCells t.cells.items) }
     ensures stops { let state = state_of D.left D.taken D.read_faults D.put_faults in
-        IfErr result (λ s. StopsAmong units.now (table.Node ∷ table.Link ∷ table.Movement ∷ table.Demand ∷ []) no_rows s (state desk.old) (state desk.new)) }
+        IfErr result (λ s. StopsAmong units.now all_tables no_rows s
+        (state desk.old) (state desk.new)) }
     ensures later { D.read_faults desk.old ≤ D.read_faults desk.new }
     ensures taken { D.taken desk.new ≡ D.taken desk.old }
     ensures puts { D.put_faults desk.new ≡ D.put_faults desk.old }

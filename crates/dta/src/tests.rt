@@ -1,6 +1,7 @@
 // Worked cases, and what no clause says.
 use crate::gate::NoGate;
 use crate::run::run;
+use crate::sizes::sizes;
 use crate::status::Status;
 use desk_io::{FileDesk, MemDesk, Output, TallyDesk};
 use dta_words::Words;
@@ -10,8 +11,8 @@ use std::test::Fail;
 
 const NODES: &[u8] = b"node_id,zone_id\n1,1\n2,\n3,3\n";
 
-const LINKS: &[u8] =
-    b"link_id,from_node_id,to_node_id,length,lanes,free_speed,capacity\n10,1,2,1000,1,60,600\n20,2,3,1000,1,60,600\n";
+const LINKS: &[u8] = b"link_id,from_node_id,to_node_id,length,lanes,free_speed,capacity\n\
+10,1,2,1000,1,60,600\n20,2,3,1000,1,60,600\n";
 
 // Further columns, quoted fields, empty optional fields, identifiers such as `1.0`, and a byte
 // order mark.
@@ -137,32 +138,38 @@ const BAD_TABLES: [(&[u8], &[u8], &[u8]); 22] = [
     ),
     (
         NODES,
-        b"link_id,from_node_id,to_node_id,lanes,free_speed,capacity\n10,1,2,1,60,600\n20,2,3,1,60,600\n",
+        b"link_id,from_node_id,to_node_id,lanes,free_speed,capacity\n\
+10,1,2,1,60,600\n20,2,3,1,60,600\n",
         b"link line 1: E1 MissingColumn length\n",
     ),
     (
         NODES,
-        b"link_id,from_node_id,to_node_id,length,lanes,free_speed,capacity\n10,1,2,-1,1,60,600\n20,2,3,1000,1,60,600\n",
+        b"link_id,from_node_id,to_node_id,length,lanes,free_speed,capacity\n\
+10,1,2,-1,1,60,600\n20,2,3,1000,1,60,600\n",
         b"link line 2: E5 OutOfRange length\n",
     ),
     (
         NODES,
-        b"link_id,from_node_id,to_node_id,length,lanes,free_speed,capacity\n10,1,2,1000,1,0,600\n20,2,3,1000,1,60,600\n",
+        b"link_id,from_node_id,to_node_id,length,lanes,free_speed,capacity\n\
+10,1,2,1000,1,0,600\n20,2,3,1000,1,60,600\n",
         b"link line 2: E5 OutOfRange free_speed\n",
     ),
     (
         NODES,
-        b"link_id,from_node_id,to_node_id,length,lanes,free_speed,capacity\n10,1,2,1000,1,0.05,600\n20,2,3,1000,1,60,600\n",
+        b"link_id,from_node_id,to_node_id,length,lanes,free_speed,capacity\n\
+10,1,2,1000,1,0.05,600\n20,2,3,1000,1,60,600\n",
         b"link line 2: E11 TooSlow free_speed\n",
     ),
     (
         NODES,
-        b"link_id,from_node_id,to_node_id,directed,length,lanes,free_speed,capacity\n10,1,2,FALSE,1000,1,60,600\n20,2,3,,1000,1,60,600\n",
+        b"link_id,from_node_id,to_node_id,directed,length,lanes,free_speed,capacity\n\
+10,1,2,FALSE,1000,1,60,600\n20,2,3,,1000,1,60,600\n",
         b"link line 2: E10 Undirected directed\n",
     ),
     (
         NODES,
-        b"link_id,from_node_id,to_node_id,length,lanes,free_speed,capacity\n10,1,2,1000,1,60,600\n20,9,3,1000,1,60,600\n",
+        b"link_id,from_node_id,to_node_id,length,lanes,free_speed,capacity\n\
+10,1,2,1000,1,60,600\n20,9,3,1000,1,60,600\n",
         b"link line 3: E7 UnknownNode from_node_id\n",
     ),
     // The end stands inside a quoted field.
@@ -191,7 +198,7 @@ const BAD_TABLES: [(&[u8], &[u8], &[u8]); 22] = [
 ];
 
 // A desk with these four tables.
-fn desk_of(
+pub(crate) fn desk_of(
     alloc: Global,
     node: &[u8],
     link: &[u8],
@@ -243,46 +250,6 @@ fn two_links_in_memory(rt: HostRuntime) -> Result<(), Fail> {
         );
         assert!(rt; status == Status::Table);
     }
-    Ok(())
-}
-
-// The whole of an assignment, by every number of workers.
-#[test]
-fn an_assignment(rt: HostRuntime) -> Result<(), Fail> {
-    for further in [
-        &["--workers", "1"],
-        &["--workers", "16"],
-        &["--bucket", "50"],
-    ] {
-        let mut words = words_of(rt.alloc(), ASSIGN)?;
-        for word in further {
-            words.push(word)?;
-        }
-        let mut desk = two_links(rt.alloc())?;
-        let status = run(&rt, &words, &mut desk, &mut NoGate);
-        assert!(rt; status == Status::Done);
-        assert!(rt; desk.taken(Output::Agent) == AGENTS);
-        assert!(rt; desk.taken(Output::LinkTime) == LINK_TIMES);
-        assert!(rt; desk.taken(Output::Gap) == GAPS);
-        assert!(rt; desk.taken(Output::Report) == SUMMARY);
-        assert!(rt; desk.taken(Output::Watch).is_empty());
-    }
-    Ok(())
-}
-
-// Each iteration puts its watch line.
-#[test]
-fn watch_lines(rt: HostRuntime) -> Result<(), Fail> {
-    let mut words = words_of(rt.alloc(), ASSIGN)?;
-    for word in ["--watch", "10", "--iterations", "2"] {
-        words.push(word)?;
-    }
-    let mut desk = two_links(rt.alloc())?;
-    let status = run(&rt, &words, &mut desk, &mut NoGate);
-    assert!(rt; status == Status::Done);
-    assert!(rt;
-        desk.taken(Output::Watch) == b"1,60,0,0,3,0,0,0,0\n2,60,0,0,3,0,0,0,0\n".as_slice()
-    );
     Ok(())
 }
 
@@ -441,24 +408,30 @@ fn a_link_table_cut_short(rt: HostRuntime) -> Result<(), Fail> {
 // Each read fails in turn, until a run meets no fault.
 #[test]
 fn failing_reads(rt: HostRuntime) -> Result<(), Fail> {
-    let words = words_of(rt.alloc(), ASSIGN)?;
-    for call in 1..1000 {
-        let mut desk = two_links(rt.alloc())?;
-        desk.set_most(16);
-        desk.fail_read(call)?;
-        let status = run(&rt, &words, &mut desk, &mut NoGate);
-        if status == Status::Done {
-            assert!(rt; call > 4 && desk.read_faults() == 0);
-            return Ok(());
+    for (given, tables) in [(&["freeflow"].as_slice(), 2), (&ASSIGN, 4)] {
+        let words = words_of(rt.alloc(), given)?;
+        let mut done = false;
+        for call in 1..1000 {
+            let mut desk = two_links(rt.alloc())?;
+            desk.set_most(16);
+            desk.fail_read(call)?;
+            let status = run(&rt, &words, &mut desk, &mut NoGate);
+            if status == Status::Done {
+                assert!(rt; call > tables && desk.read_faults() == 0);
+                done = true;
+                break;
+            }
+            assert!(rt; status == Status::ReadFault, "read {call}");
+            assert!(rt; desk.read_faults() == 1 && desk.put_faults() == 0);
+            assert!(rt; desk.taken(Output::Agent).is_empty());
+            assert!(rt; desk.taken(Output::LinkTime).is_empty());
+            let report = desk.taken(Output::Report);
+            assert!(rt; report.starts_with(b"read fault in "), "read {call}");
+            assert!(rt; call > 1 || report == b"read fault in node\n".as_slice());
         }
-        assert!(rt; status == Status::ReadFault, "read {call}");
-        assert!(rt; desk.read_faults() == 1 && desk.put_faults() == 0);
-        assert!(rt; desk.taken(Output::Agent).is_empty());
-        let report = desk.taken(Output::Report);
-        assert!(rt; report.starts_with(b"read fault in "), "read {call}");
-        assert!(rt; call > 1 || report == b"read fault in node\n".as_slice());
+        assert!(rt; done, "no run of {tables} tables was without a fault");
     }
-    panic!(rt; "no run was without a fault")
+    Ok(())
 }
 
 // Each put fails in turn, until a run meets no fault.
@@ -497,6 +470,23 @@ fn failing_puts(rt: HostRuntime) -> Result<(), Fail> {
         assert!(rt; call != 2 || agents.len() <= 16);
     }
     panic!(rt; "no run was without a fault")
+}
+
+// Both sides of the limit on links times steps.
+#[test]
+fn sizes_at_the_limit(rt: HostRuntime) {
+    for (links, horizon, fits) in [
+        (65_536, 1_024, true),
+        (65_537, 1_024, false),
+        (65_536, 1_025, false),
+        (776, 86_400, true),
+        (777, 86_400, false),
+    ] {
+        assert!(rt;
+            sizes(links, horizon).is_ok() == fits,
+            "{links} links, {horizon} steps"
+        );
+    }
 }
 
 // One byte past the limit: no clause tells this apart from want of memory. (`rt try` is too slow

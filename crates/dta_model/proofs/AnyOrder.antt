@@ -2,16 +2,16 @@
 use Rattle.std.proofs.lemmas.Bool.{false_from_ne_true}
 use Rattle.std.specs.List.{flat_map}
 use Rattle.std.specs.List.Sorted.{IsPermutation}
-use Rattle.std.specs.Prelude.{All, ◌≢◌, swap, length}
+use Rattle.std.specs.Prelude.{All, ◌≢◌, swap, length, map}
 use Rattle.std.proofs.Common.{◌≡◌, ℕ, zero, suc, ◌<◌, true, false, ◌&&◌, not, List, [], ◌∷◌, ◌++◌, refl, ap, sym, ◌∙◌, subst, arith, append_assoc, ◌⊎◌, inl, inr, get_or, set}
 use Rattle.std.proofs.lemmas.Bool.Decides.{eqb_tells}
 use Rattle.std.proofs.lemmas.List.Sorted.{IsPermutation-keeps}
 use Rattle.std.proofs.lemmas.List.Elements.{All-weaker}
 use Rattle.std.proofs.Math.Dec.{eqb}
 use Rattle.dta_model.specs.declared.plan.Plan.{Plan}
-use Rattle.dta_model.specs.Loading.{after_step, step_moves, trace_after}
+use Rattle.dta_model.specs.Loading.{after_step, arrival_of, entries_of, journey_in, journey_of, journeys_in, journeys_of, step_moves, trace_after}
 use Rattle.dta_model.specs.NodeMoves.{node_moves}
-use Rattle.dta_model.specs.Orders.{AnyOrder, trace_in}
+use Rattle.dta_model.specs.Orders.{AnyOrder, SameJourneys, trace_in}
 use Rattle.dta_model.specs.Plans.{all_nodes, vehicles_of}
 use Rattle.dta_model.specs.State.{arrived_in, count_on, eight_in, has_arrived, is_due, leads_onto, leads_out, running_in, runs, waiting_in, waits}
 use Rattle.dta_model.specs.Trace.{Move, has_moved, last_move, leads_to}
@@ -118,3 +118,16 @@ pub any_order : AnyOrder
 any_order p order any t =
     let s = orders-same p order any t in
     record { queues = s.queues; moves = s.moves; eight = eight-same p t (trace_in p order t) (trace_after p t) s }
+
+-- the journeys in them
+journeys-same : (p : Plan) (T U : List Move) → Same T U → journeys_in p T ≡ journeys_in p U
+unfolding journeys_in entries_of arrival_of
+journeys-same p T U s = each (vehicles_of p)
+  where
+    each : (vs : List ℕ) → map (journey_in T) vs ≡ map (journey_in U) vs
+    each [] = refl
+    each (v ∷ vs) = rw (s.moves v, each vs) refl
+
+pub same_journeys : SameJourneys
+unfolding journeys_of journey_of journeys_in
+same_journeys p order any = journeys-same p (trace_in p order p.horizon) (trace_after p p.horizon) (orders-same p order any p.horizon)

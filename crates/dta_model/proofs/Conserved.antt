@@ -1,21 +1,22 @@
 -- Each vehicle is at one place, and the places add up.
 use Rattle.std.specs.Prelude.{filter, find, slice_get, All, ◌≢◌, count_by}
-use Rattle.std.proofs.Common.{◌≡◌, ℕ, zero, suc, ◌+◌, Bool, true, false, cond, ◌&&◌, not, List, [], ◌∷◌, refl, ap, sym, ◌∙◌, subst, arith, Option, Some, None, ◌⊎◌, inl, inr}
+use Rattle.std.proofs.Common.{◌≡◌, ℕ, zero, suc, ◌+◌, ◌<◌, length, Bool, true, false, cond, ◌&&◌, not, List, [], ◌∷◌, refl, ap, sym, ◌∙◌, subst, arith, Option, Some, None, ◌⊎◌, inl, inr}
 use Rattle.std.proofs.lemmas.Bool.{eqb-true, eq-eqb, and_parts, cases_Bool}
 use Rattle.std.proofs.lemmas.Bool.Decides.{eqb_tells}
 use Rattle.std.proofs.lemmas.List.Sums.{sum_by-cons}
 use Rattle.std.proofs.lemmas.List.Elements.{All-weaker}
 use Rattle.std.proofs.Math.Dec.{eqb}
 use Rattle.dta_model.specs.declared.plan.Plan.{Plan}
-use Rattle.dta_model.specs.Laws.{IsConserved, VehiclesAreConserved}
-use Rattle.dta_model.specs.Loading.{is_onto, trace_after}
+use Rattle.dta_model.specs.Laws.{IsConserved}
+use Rattle.dta_model.specs.Loading.{is_onto}
 use Rattle.dta_model.specs.Plans.{vehicles_of}
+use Rattle.dta_model.specs.Sound.{IsSound}
 use Rattle.dta_model.specs.State.{arrived_in, due_after, has_arrived, is_due, leads_onto, leads_out, running_in, runs, waiting_in, waits}
 use Rattle.dta_model.specs.Trace.{Arrived, Move, Onto, Target, has_moved, is_link, is_of, last_move, last_moves, leads_to, queue_of}
 use Rattle.dta_model.proofs.Queues.{vehicles, absent, distinct, queue-distinct}
 use Rattle.dta_model.proofs.Standing.{in-queue, no-last, present}
 use Rattle.dta_model.proofs.Places.{of_mover}
-use Rattle.dta_model.proofs.Fuel.{Lawful, trace-lawful, last_in, has_moved-if}
+use Rattle.dta_model.proofs.Fuel.{Lawful, last_in, has_moved-if}
 
 clash : (b : Bool) → b ≡ true → b ≡ false → ⊥
 clash b e f = let g : true ≡ false = sym e ∙ f in cc
@@ -134,8 +135,12 @@ module _ (p : Plan) (t : ℕ) (T : List Move) (law : All (Lawful p t) T) where
       due_step (inl e) = absurd (clash (is_due p t v) (mover_due v e) h)
       due_step (inr e) = rw e refl
 
-  pub conserved : IsConserved p t T
-  conserved = record { due = due_of; totals = totals_of; stands = stands_of; once = once_of; moving = moving_of }
-
-pub vehicles_are_conserved : VehiclesAreConserved
-vehicles_are_conserved p t = conserved p t (trace_after p t) (trace-lawful p t)
+  pub conserved : (IsSound p → (l i v : ℕ) → slice_get (queue_of l T) i ≡ Some v → l < length p.net.links) → IsConserved p t T
+  conserved within = record {
+    due = due_of;
+    totals = totals_of;
+    stands = stands_of;
+    once = once_of;
+    moving = moving_of;
+    within = within;
+  }

@@ -9,10 +9,11 @@ pub mod Congruence
 pub mod AnyOrder
 pub mod Fuel
 pub mod Conserved
+pub mod Start
 pub mod Totals
 pub mod InTurn
 pub mod Gathering
-pub mod Cells
+pub mod NextLines
 pub mod Blocked
 pub mod OnePass
 pub mod Riders

@@ -1,20 +1,22 @@
--- Where vehicles on links may go, and where none are.
+-- Where vehicles on links may go, and where none are; with it, that vehicles are conserved.
 use Rattle.net_core.specs.Network.{turn, turn_at}
 use Rattle.net_core.specs.declared.rows.LinkNo.{LinkNo}
 use Rattle.net_core.specs.declared.rows.Turn.{Turn}
 use Rattle.std.specs.List.{last_or}
-use Rattle.std.specs.Prelude.{IsSome, cond, nat_eq, slice_get}
-use Rattle.std.proofs.Common.{◌≡◌, ℕ, suc, ◌<◌, Bool, true, false, List, [], ◌∷◌, length, refl, ap, sym, ◌∙◌, arith, Option, Some, None}
-use Rattle.std.proofs.lemmas.Bool.{eqb-true, false_from_ne_true}
+use Rattle.std.specs.Prelude.{IsSome, cond, nat_eq, slice_get, ◌≤◌}
+use Rattle.std.proofs.Common.{◌≡◌, ℕ, suc, ◌<◌, ◌⊎◌, inl, inr, Bool, true, false, List, [], ◌∷◌, length, refl, ap, sym, ◌∙◌, arith, Option, Some, None}
+use Rattle.std.proofs.lemmas.Bool.{cases_lt, eqb-true, false_from_ne_true}
 use Rattle.std.proofs.lemmas.List.Elements.{All-weaker}
 use Rattle.std.proofs.lemmas.Option.{none-some, slice_get-get_or, slice_get_within}
 use Rattle.dta_model.specs.declared.plan.Plan.{Plan}
-use Rattle.dta_model.specs.Laws.{NoneOutside}
+use Rattle.dta_model.specs.Laws.{NoneOutside, VehiclesAreConserved}
 use Rattle.dta_model.specs.Loading.{trace_after}
 use Rattle.dta_model.specs.Plans.{link_at, route_in, route_of}
 use Rattle.dta_model.specs.Sound.{IsSound}
-use Rattle.dta_model.specs.Trace.{Arrived, Onto, Target, is_link, leads_to, moves_made, moves_of, next_target, target_at}
+use Rattle.dta_model.specs.Trace.{Arrived, Onto, Target, is_link, leads_to, moves_made, moves_of, next_target, queue_of, target_at}
 use Rattle.dta_model.specs.Transfers.{LeadsOn, RoutesLeadOn}
+use Rattle.dta_model.proofs.Conserved.{conserved}
+use Rattle.dta_model.proofs.Fuel.{trace-lawful}
 use Rattle.dta_model.proofs.Gathering.{nobody-on}
 use Rattle.dta_model.proofs.Journeys.{routes_are_followed}
 use Rattle.dta_model.proofs.Pushes.{moves_made_is}
@@ -80,3 +82,14 @@ none_outside p sound t l past =
   where
     too_far : l < length p.net.links → ⊥
     too_far below = omega (arith, past, below)
+
+-- a link that somebody is on is in the table
+in_table : (p : Plan) (t : ℕ) → IsSound p → (l i v : ℕ) → slice_get (queue_of l (trace_after p t)) i ≡ Some v → l < length p.net.links
+in_table p t sound l i v h = by (cases_lt l (length p.net.links))
+  where
+    by : (l < length p.net.links) ⊎ (length p.net.links ≤ l) → l < length p.net.links
+    by (inl below) = below
+    by (inr past) = absurd (none-some v (sym (ap (λ Q. slice_get Q i) (none_outside p sound t l past)) ∙ h))
+
+pub vehicles_are_conserved : VehiclesAreConserved
+vehicles_are_conserved p t = conserved p t (trace_after p t) (trace-lawful p t) (in_table p t)

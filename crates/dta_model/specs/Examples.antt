@@ -1,7 +1,7 @@
 -- Small worked cases of the definitions. Steps are of six seconds; a rate of 600,000,000 is one
 -- vehicle in such a step.
 use Rattle.std.specs.Prelude.{◌≡◌, ℕ, List, [], ◌∷◌, ◌++◌, Option, Some, None, map, refl}
-use Rattle.std.specs.List.{repeat}
+use Rattle.std.specs.List.{flat_map, repeat}
 use Rattle.net_core.specs.Network.{numbers_below}
 use Rattle.net_core.specs.declared.rows.LinkNo.{LinkNo}
 use Rattle.net_core.specs.declared.rows.LinkRow.{LinkRow}
@@ -9,14 +9,21 @@ use Rattle.net_core.specs.declared.rows.NetRows.{NetRows}
 use Rattle.net_core.specs.declared.rows.NodeRow.{NodeRow}
 use Rattle.net_core.specs.declared.rows.TurnRow.{TurnRow}
 use Rattle.dta_model.specs.Loading.{trace_after, entries_of, arrival_of}
-use Rattle.dta_model.specs.OnLiterals.{releases_on_literals, loadings_on_literals}
+use Rattle.dta_model.specs.Machine.{all_idle, finished, outcomes_of, run_machine}
+use Rattle.dta_model.specs.OnLiterals.{claims_on_literals, loadings_on_literals}
+use Rattle.dta_model.specs.OnLiterals.{releases_on_literals}
 use Rattle.dta_model.specs.Release.{trips_of}
 use Rattle.dta_model.specs.Riders.{RiderState}
-use Rattle.dta_model.specs.Stages.{CellContent, cell_before, cell_after, room_mail, batch_mail}
+use Rattle.dta_model.specs.Stages.{line_before, line_after, room_mail, batch_mail}
 use Rattle.dta_model.specs.State.{eight_after}
 use Rattle.dta_model.specs.Trace.{Move}
+use Rattle.dta_model.specs.Units.{phase_end, phase_start, places}
 use Rattle.dta_model.specs.declared.credit.TheConstants.{PARTS_OF_A_VEHICLE}
 use Rattle.dta_model.specs.declared.loading.TheConstants.{MOST_HORIZON}
+use Rattle.dta_model.specs.declared.machine.Event.{Event}
+use Rattle.dta_model.specs.declared.machine.Event.TheVariants as event
+use Rattle.dta_model.specs.declared.machine.Outcome.{Outcome}
+use Rattle.dta_model.specs.declared.machine.Outcome.TheVariants as outcomes
 use Rattle.dta_model.specs.declared.plan.Plan.{Plan}
 use Rattle.dta_model.specs.declared.queue.Queue.TheVariants as queue
 use Rattle.dta_model.specs.declared.trip.DemandCell.{DemandCell}
@@ -52,11 +59,22 @@ number l = record { 0 = l }
 
 abbrev pub link : ℕ → ℕ → ℕ → ℕ → ℕ → ℕ → LinkRow
 link id from to free storage rate =
-    record { id = id; from = record { 0 = from }; to = record { 0 = to }; free = free; storage = storage; rate = rate }
+    record {
+      id = id;
+      from = record { 0 = from };
+      to = record { 0 = to };
+      free = free;
+      storage = storage;
+      rate = rate;
+    }
 
 -- a link after another, from zone 1 to zone 3
 abbrev pub in_a_line : LinkRow → LinkRow → List TurnRow → NetRows
-in_a_line a b turns = record { nodes = node 1 ∷ node 2 ∷ node 3 ∷ []; links = a ∷ b ∷ []; turns = turns }
+in_a_line a b turns = record {
+  nodes = node 1 ∷ node 2 ∷ node 3 ∷ [];
+  links = a ∷ b ∷ [];
+  turns = turns;
+}
 
 abbrev pub both : List (Option (List LinkNo))
 both = Some (number 0 ∷ number 1 ∷ []) ∷ []
@@ -80,7 +98,8 @@ unfolding releases_on_literals trip
 three_small_volumes = refl
 
 -- a row from a zone to itself makes none
-a_row_within_a_zone : trips_of (record (row 2 3000) { destination = 1 } ∷ row 3 1000 ∷ []) 30 ≡ trip 0 15 ∷ []
+a_row_within_a_zone :
+    trips_of (record (row 2 3000) { destination = 1 } ∷ row 3 1000 ∷ []) 30 ≡ trip 0 15 ∷ []
 unfolding releases_on_literals trip
 a_row_within_a_zone = refl
 
@@ -95,39 +114,40 @@ two_links_in_a_line = record {
   routes = repeat 3 both;
 }
 
-two_links_in_a_line-entries : journeys 3 (trace_after two_links_in_a_line 46) ≡ (5 ∷ 15 ∷ []) ∷ (15 ∷ 25 ∷ []) ∷ (25 ∷ 35 ∷ []) ∷ []
+two_links_in_a_line-entries :
+    journeys 3 (trace_after two_links_in_a_line 46)
+    ≡ (5 ∷ 15 ∷ []) ∷ (15 ∷ 25 ∷ []) ∷ (25 ∷ 35 ∷ []) ∷ []
 unfolding loadings_on_literals trip two_links_in_a_line
 two_links_in_a_line-entries = refl
 
-two_links_in_a_line-arrivals : arrivals 3 (trace_after two_links_in_a_line 46) ≡ Some 25 ∷ Some 35 ∷ Some 45 ∷ []
+two_links_in_a_line-arrivals :
+    arrivals 3 (trace_after two_links_in_a_line 46) ≡ Some 25 ∷ Some 35 ∷ Some 45 ∷ []
 unfolding loadings_on_literals trip two_links_in_a_line
 two_links_in_a_line-arrivals = refl
 
-two_links_in_a_line-state : eight_after two_links_in_a_line 20 ≡ record { steps = 20; waiting = 0; running = 2; arrived = 0; first = 1 ∷ 1 ∷ 0 ∷ 0 ∷ [] }
+two_links_in_a_line-state :
+    eight_after two_links_in_a_line 20
+    ≡ record { steps = 20; waiting = 0; running = 2; arrived = 0; first = 1 ∷ 1 ∷ 0 ∷ 0 ∷ [] }
 unfolding loadings_on_literals trip two_links_in_a_line
 two_links_in_a_line-state = refl
 
 -- the middle node in step 15, when the first vehicle goes from one link to the other
-abbrev first_rider : List ℕ → RiderState
-first_rider entries = record { number = 0; departure = 5; route = 0 ∷ 1 ∷ []; entries = entries; arrival = None }
-
-abbrev middle_cell : List RiderState → CellContent
-middle_cell line = record {
-  lines = line ∷ [];
-  waiting = [] ∷ [];
-  arrived = [];
-  outflow = 0 ∷ [];
-  inflow = 0 ∷ [];
-  turns = (None ∷ []) ∷ [];
+abbrev pub first_rider : List ℕ → RiderState
+first_rider entries = record {
+  number = 0;
+  departure = 5;
+  route = 0 ∷ 1 ∷ [];
+  entries = entries;
+  arrival = None;
 }
 
-before_the_transfer : cell_before two_links_in_a_line 1 15 ≡ middle_cell (first_rider (5 ∷ []) ∷ [])
+line_before_the_transfer : line_before two_links_in_a_line 15 0 ≡ first_rider (5 ∷ []) ∷ []
 unfolding loadings_on_literals trip two_links_in_a_line
-before_the_transfer = refl
+line_before_the_transfer = refl
 
-after_the_transfer : cell_after two_links_in_a_line 1 15 ≡ middle_cell []
+line_after_the_transfer : line_after two_links_in_a_line 1 15 0 ≡ []
 unfolding loadings_on_literals trip two_links_in_a_line
-after_the_transfer = refl
+line_after_the_transfer = refl
 
 batch_of_the_step : batch_mail two_links_in_a_line 1 15 ≡ first_rider (5 ∷ 15 ∷ []) ∷ []
 unfolding loadings_on_literals trip two_links_in_a_line
@@ -140,23 +160,30 @@ room_of_the_step = refl
 -- ---- the second link has no capacity
 unfoldable a_link_without_capacity : Plan
 a_link_without_capacity =
-    record two_links_in_a_line { net = in_a_line (link 0 0 1 10 125 600000000) (link 1 1 2 10 125 0) [] }
+    record two_links_in_a_line {
+      net = in_a_line (link 0 0 1 10 125 600000000) (link 1 1 2 10 125 0) [];
+    }
 
-a_link_without_capacity-entries : journeys 3 (trace_after a_link_without_capacity 60) ≡ (5 ∷ []) ∷ (15 ∷ []) ∷ (25 ∷ []) ∷ []
+a_link_without_capacity-entries :
+    journeys 3 (trace_after a_link_without_capacity 60) ≡ (5 ∷ []) ∷ (15 ∷ []) ∷ (25 ∷ []) ∷ []
 unfolding loadings_on_literals trip two_links_in_a_line a_link_without_capacity
 a_link_without_capacity-entries = refl
 
-a_link_without_capacity-arrivals : arrivals 3 (trace_after a_link_without_capacity 60) ≡ None ∷ None ∷ None ∷ []
+a_link_without_capacity-arrivals :
+    arrivals 3 (trace_after a_link_without_capacity 60) ≡ None ∷ None ∷ None ∷ []
 unfolding loadings_on_literals trip two_links_in_a_line a_link_without_capacity
 a_link_without_capacity-arrivals = refl
 
 -- ---- a turn of two penalty steps between the links
 unfoldable turn_penalty : Plan
 turn_penalty = record two_links_in_a_line {
-  net = in_a_line (link 0 0 1 10 125 600000000) (link 1 1 2 10 125 600000000) (record { a = number 0; b = number 1; penalty = 2; rate = None } ∷ []);
+  net = in_a_line (link 0 0 1 10 125 600000000) (link 1 1 2 10 125 600000000)
+      (record { a = number 0; b = number 1; penalty = 2; rate = None } ∷ []);
 }
 
-turn_penalty-entries : journeys 3 (trace_after turn_penalty 48) ≡ (5 ∷ 17 ∷ []) ∷ (15 ∷ 27 ∷ []) ∷ (25 ∷ 37 ∷ []) ∷ []
+turn_penalty-entries :
+    journeys 3 (trace_after turn_penalty 48)
+    ≡ (5 ∷ 17 ∷ []) ∷ (15 ∷ 27 ∷ []) ∷ (25 ∷ 37 ∷ []) ∷ []
 unfolding loadings_on_literals trip two_links_in_a_line turn_penalty
 turn_penalty-entries = refl
 
@@ -164,7 +191,8 @@ turn_penalty-arrivals : arrivals 3 (trace_after turn_penalty 48) ≡ Some 27 ∷
 unfolding loadings_on_literals trip two_links_in_a_line turn_penalty
 turn_penalty-arrivals = refl
 
--- ---- the second link stores ten vehicles. Of those on it, six leave in step 11, and make no room in that step
+-- ---- the second link stores ten vehicles. Of those on it, six leave in step 11, and make no room
+-- in that step
 unfoldable room_at_the_start_of_the_step : Plan
 room_at_the_start_of_the_step = record {
   net = in_a_line (link 0 0 1 10 125 3600000000) (link 1 1 2 1 10 3600000000) [];
@@ -175,11 +203,16 @@ room_at_the_start_of_the_step = record {
   routes = repeat 12 both;
 }
 
-room_at_the_start_of_the_step-entries : journeys 12 (trace_after room_at_the_start_of_the_step 14) ≡ repeat 6 ((0 ∷ 10 ∷ []) ∷ []) ++ repeat 4 ((1 ∷ 11 ∷ []) ∷ []) ++ repeat 2 ((1 ∷ 12 ∷ []) ∷ [])
+room_at_the_start_of_the_step-entries :
+    journeys 12 (trace_after room_at_the_start_of_the_step 14)
+    ≡ repeat 6 ((0 ∷ 10 ∷ []) ∷ []) ++ repeat 4 ((1 ∷ 11 ∷ []) ∷ [])
+    ++ repeat 2 ((1 ∷ 12 ∷ []) ∷ [])
 unfolding loadings_on_literals trip room_at_the_start_of_the_step
 room_at_the_start_of_the_step-entries = refl
 
-room_at_the_start_of_the_step-arrivals : arrivals 12 (trace_after room_at_the_start_of_the_step 14) ≡ repeat 6 (Some 11 ∷ []) ++ repeat 4 (Some 12 ∷ []) ++ repeat 2 (Some 13 ∷ [])
+room_at_the_start_of_the_step-arrivals :
+    arrivals 12 (trace_after room_at_the_start_of_the_step 14)
+    ≡ repeat 6 (Some 11 ∷ []) ++ repeat 4 (Some 12 ∷ []) ++ repeat 2 (Some 13 ∷ [])
 unfolding loadings_on_literals trip room_at_the_start_of_the_step
 room_at_the_start_of_the_step-arrivals = refl
 
@@ -191,7 +224,8 @@ storage_of_one = record room_at_the_start_of_the_step {
   routes = repeat 2 both;
 }
 
-storage_of_one-entries : journeys 2 (trace_after storage_of_one 14) ≡ (0 ∷ 10 ∷ []) ∷ (0 ∷ 12 ∷ []) ∷ []
+storage_of_one-entries :
+    journeys 2 (trace_after storage_of_one 14) ≡ (0 ∷ 10 ∷ []) ∷ (0 ∷ 12 ∷ []) ∷ []
 unfolding loadings_on_literals trip room_at_the_start_of_the_step storage_of_one
 storage_of_one-entries = refl
 
@@ -199,25 +233,88 @@ storage_of_one-arrivals : arrivals 2 (trace_after storage_of_one 14) ≡ Some 11
 unfolding loadings_on_literals trip room_at_the_start_of_the_step storage_of_one
 storage_of_one-arrivals = refl
 
--- ---- two links lead to one that takes a vehicle in a step; they take turns, the second of them first
+-- ---- two links lead to one that takes a vehicle in a step; they take turns, the second of them
+-- first
 unfoldable two_links_merge : Plan
 two_links_merge = record {
   net = record {
     nodes = node 1 ∷ node 1 ∷ node 2 ∷ node 3 ∷ [];
-    links = link 0 0 2 1 12 3600000000 ∷ link 1 1 2 1 12 3600000000 ∷ link 2 2 3 1 12 600000000 ∷ [];
+    links = link 0 0 2 1 12 3600000000 ∷ link 1 1 2 1 12 3600000000
+        ∷ link 2 2 3 1 12 600000000 ∷ [];
     turns = [];
   };
   queue = queue.Point;
   delta = 6;
   horizon = 20;
   trips = map (λ v. trip v 0) (numbers_below 4);
-  routes = repeat 2 (Some (number 0 ∷ number 2 ∷ []) ∷ []) ++ repeat 2 (Some (number 1 ∷ number 2 ∷ []) ∷ []);
+  routes = repeat 2 (Some (number 0 ∷ number 2 ∷ []) ∷ [])
+      ++ repeat 2 (Some (number 1 ∷ number 2 ∷ []) ∷ []);
 }
 
-two_links_merge-entries : journeys 4 (trace_after two_links_merge 8) ≡ (0 ∷ 2 ∷ []) ∷ (0 ∷ 4 ∷ []) ∷ (0 ∷ 1 ∷ []) ∷ (0 ∷ 3 ∷ []) ∷ []
+two_links_merge-entries :
+    journeys 4 (trace_after two_links_merge 8)
+    ≡ (0 ∷ 2 ∷ []) ∷ (0 ∷ 4 ∷ []) ∷ (0 ∷ 1 ∷ []) ∷ (0 ∷ 3 ∷ []) ∷ []
 unfolding loadings_on_literals trip two_links_merge
 two_links_merge-entries = refl
 
-two_links_merge-arrivals : arrivals 4 (trace_after two_links_merge 8) ≡ Some 3 ∷ Some 5 ∷ Some 2 ∷ Some 4 ∷ []
+two_links_merge-arrivals :
+    arrivals 4 (trace_after two_links_merge 8) ≡ Some 3 ∷ Some 5 ∷ Some 2 ∷ Some 4 ∷ []
 unfolding loadings_on_literals trip two_links_merge
 two_links_merge-arrivals = refl
+
+-- ---- units of a loading with two nodes: five in a step
+two_nodes-starts : map (phase_start 2) (numbers_below 10) ≡ 0 ∷ 0 ∷ 2 ∷ 2 ∷ 4 ∷ 5 ∷ 5 ∷ 7 ∷ 7 ∷ 9 ∷ []
+unfolding claims_on_literals
+two_nodes-starts = refl
+
+two_nodes-ends : map (phase_end 2) (numbers_below 10) ≡ 2 ∷ 2 ∷ 4 ∷ 4 ∷ 5 ∷ 7 ∷ 7 ∷ 9 ∷ 9 ∷ 10 ∷ []
+unfolding claims_on_literals
+two_nodes-ends = refl
+
+-- three nodes and two links in a line: cells 0 to 2, mail 3 and 4, and 5 posts. A transfer takes the
+-- mail of out-links, a gather that of in-links; the posting counts all cells
+two_links_in_a_line-places :
+    map (places two_links_in_a_line) (numbers_below 7)
+    ≡ (0 ∷ 3 ∷ []) ∷ (1 ∷ 4 ∷ []) ∷ (2 ∷ []) ∷ (0 ∷ []) ∷ (1 ∷ 3 ∷ []) ∷ (2 ∷ 4 ∷ [])
+    ∷ (0 ∷ 1 ∷ 2 ∷ 5 ∷ []) ∷ []
+unfolding claims_on_literals loadings_on_literals two_links_in_a_line
+two_links_in_a_line-places = refl
+
+-- ---- workers that claim the units of one step of two nodes
+unfoldable two_nodes : Plan
+two_nodes = record two_links_in_a_line {
+  net = record {
+    nodes = node 1 ∷ node 3 ∷ [];
+    links = link 0 0 1 10 125 600000000 ∷ [];
+    turns = [];
+  };
+  horizon = 1;
+}
+
+-- two workers: unit 2, of the second phase, may be opened once both units of the first are finished
+two_workers :
+    outcomes_of two_nodes
+    (event.Claim 0 ∷ event.Claim 1 ∷ event.Open 1 ∷ event.Finish 1 ∷ event.Claim 1 ∷ event.Open 1
+    ∷ event.Open 0 ∷ event.Finish 0 ∷ event.Finish 0 ∷ event.Open 1 ∷ [])
+    (all_idle 2)
+    ≡ outcomes.Given 0 ∷ outcomes.Given 1 ∷ outcomes.Done ∷ outcomes.Done ∷ outcomes.Given 2
+    ∷ outcomes.NotYet 1 ∷ outcomes.Done ∷ outcomes.Done ∷ outcomes.Misplaced ∷ outcomes.Done ∷ []
+unfolding claims_on_literals loadings_on_literals two_links_in_a_line two_nodes
+two_workers = refl
+
+-- one worker does all five units one after another, and then has ended
+abbrev one_round : List Event
+one_round = event.Claim 0 ∷ event.Open 0 ∷ event.Finish 0 ∷ []
+
+abbrev one_unit : ℕ → List Outcome
+one_unit number = outcomes.Given number ∷ outcomes.Done ∷ outcomes.Done ∷ []
+
+one_worker :
+    outcomes_of two_nodes (repeat 5 one_round ++ event.Claim 0 ∷ event.Claim 0 ∷ []) (all_idle 1)
+    ≡ flat_map one_unit (numbers_below 5) ++ outcomes.Over 5 ∷ outcomes.Misplaced ∷ []
+unfolding claims_on_literals loadings_on_literals two_links_in_a_line two_nodes
+one_worker = refl
+
+one_worker-finished : finished two_nodes (run_machine two_nodes (repeat 5 one_round) (all_idle 1)) ≡ 5
+unfolding claims_on_literals loadings_on_literals two_links_in_a_line two_nodes
+one_worker-finished = refl

@@ -1,21 +1,23 @@
--- The riders of all cells together, as a loading hands them over.
+-- The riders of all nodes together, as a loading hands them over.
 use Rattle.std.specs.Prelude.{◌≡◌, ℕ, ◌≤◌, cond, nat_eq, List, [], ◌∷◌, ◌++◌, length, filter, All}
 use Rattle.std.specs.List.{flat_map}
 use Rattle.dta_model.specs.Loading.{trace_after}
-use Rattle.dta_model.specs.Plans.{all_nodes, vehicle_count}
+use Rattle.dta_model.specs.Plans.{all_nodes, ins, outs, vehicle_count}
 use Rattle.dta_model.specs.Riders.{RiderState, rider_at}
 use Rattle.dta_model.specs.Sound.{IsSound}
-use Rattle.dta_model.specs.Stages.{CellContent, cell_before}
+use Rattle.dta_model.specs.Stages.{arrived_before, line_before, waiting_before}
 use Rattle.dta_model.specs.State.{is_routed}
 use Rattle.dta_model.specs.declared.plan.Plan.{Plan}
 
--- the riders of a cell: on its in-lines, in its waiting lines, and arrived
-abbrev pub riders_of : CellContent → List RiderState
-riders_of cell = flat_map (λ line. line) cell.lines ++ (flat_map (λ line. line) cell.waiting ++ cell.arrived)
+-- the riders of a node before the transfer of step t: on its in-links, waiting for its out-links,
+-- and arrived at it
+abbrev pub riders_at : Plan → ℕ → ℕ → List RiderState
+riders_at p t n =
+    flat_map (line_before p t) (ins p n) ++ (flat_map (waiting_before p t) (outs p n) ++ arrived_before p n t)
 
--- the riders of all cells before the transfer of step t
+-- the riders of all nodes before the transfer of step t
 unfoldable pub all_riders : Plan → ℕ → List RiderState
-all_riders p t = flat_map (λ n. riders_of (cell_before p n t)) (all_nodes p)
+all_riders p t = flat_map (riders_at p t) (all_nodes p)
 
 -- riders that are the vehicles of a plan after t steps
 pub record AreVehicles (p : Plan) (t : ℕ) (all : List RiderState) : Type 0 where
@@ -28,6 +30,6 @@ pub record AreVehicles (p : Plan) (t : ℕ) (all : List RiderState) : Type 0 whe
   -- and there are no more riders than vehicles
   pub few : length all ≤ vehicle_count p
 
--- before each step, and after the last one, all cells together hold the vehicles of the plan
-abbrev pub CellsHoldAll : Type 0
-CellsHoldAll = (p : Plan) → IsSound p → (t : ℕ) → AreVehicles p t (all_riders p t)
+-- before each step, and after the last one, all nodes together hold the vehicles of the plan
+abbrev pub NodesHoldAll : Type 0
+NodesHoldAll = (p : Plan) → IsSound p → (t : ℕ) → AreVehicles p t (all_riders p t)

@@ -20,5 +20,7 @@ pub mod HandOver
 pub mod LinkTimes
 pub mod TimedWalks
 pub mod Least
+pub mod Units
+pub mod Machine
 pub mod OnLiterals
 pub mod Examples

@@ -1,5 +1,6 @@
 -- The trace of a loading, step by step, and the journeys that it gives.
-use Rattle.std.specs.Prelude.{ℕ, zero, suc, Bool, true, false, not, List, [], ◌++◌, map, filter, find, Option, None, Some}
+use Rattle.std.specs.Prelude.{ℕ, zero, suc, Bool, true, false, not, List, [], ◌++◌, map, filter}
+use Rattle.std.specs.Prelude.{find, Option, None, Some}
 use Rattle.std.specs.List.{flat_map}
 use Rattle.dta_model.specs.NodeMoves.{node_moves}
 use Rattle.dta_model.specs.Plans.{all_nodes, vehicles_of}
@@ -39,12 +40,19 @@ entries_of T v = map (λ m. m.step) (filter is_entry (moves_of v T))
 unfoldable pub arrival_of : List Move → ℕ → Option ℕ
 arrival_of T v = step_in (find (λ m. not (is_entry m)) (moves_of v T))
 
--- the journey of a vehicle, and those of all vehicles in order
-unfoldable pub journey_of : Plan → ℕ → Journey
-journey_of p v = record {
-  entries = entries_of (trace_after p p.horizon) v;
-  arrival = arrival_of (trace_after p p.horizon) v;
+-- the journey of a vehicle in a trace, and those of all vehicles in order
+abbrev pub journey_in : List Move → ℕ → Journey
+journey_in T v = record {
+  entries = entries_of T v;
+  arrival = arrival_of T v;
 }
+
+unfoldable pub journeys_in : Plan → List Move → List Journey
+journeys_in p T = map (journey_in T) (vehicles_of p)
+
+-- the same of a loading: in its whole trace
+unfoldable pub journey_of : Plan → ℕ → Journey
+journey_of p v = journey_in (trace_after p p.horizon) v
 
 unfoldable pub journeys_of : Plan → List Journey
 journeys_of p = map (journey_of p) (vehicles_of p)

@@ -1,9 +1,13 @@
 -- The moves that a node makes in a step.
-use Rattle.std.specs.Prelude.{ℕ, zero, suc, ◌+◌, ◌%◌, Bool, false, cond, ◌&&◌, not, nat_eq, nat_lt, nat_le, List, [], ◌∷◌, ◌++◌, length, Option, None, Some, slice_get, find, count_by, take, drop}
+use Rattle.std.specs.Prelude.{ℕ, zero, suc, ◌+◌, ◌%◌, Bool, false, cond, ◌&&◌, not, nat_eq, nat_lt}
+use Rattle.std.specs.Prelude.{nat_le, List, [], ◌∷◌, ◌++◌, length, Option, None, Some, slice_get}
+use Rattle.std.specs.Prelude.{find, count_by, take, drop}
 use Rattle.net_core.specs.declared.rows.Turn.{Turn}
-use Rattle.dta_model.specs.Plans.{link_at, ins, outs, turn, link_allowance, has_pass, vehicle_count, vehicles_of, departure_of, first_link}
+use Rattle.dta_model.specs.Plans.{link_at, ins, outs, turn, link_allowance, has_pass, vehicle_count}
+use Rattle.dta_model.specs.Plans.{vehicles_of, departure_of, first_link}
 use Rattle.dta_model.specs.Room.{room, has_room}
-use Rattle.dta_model.specs.Trace.{Move, Target, Onto, Arrived, leads_to, has_moved, last_move, queue_of, stands_on, next_target}
+use Rattle.dta_model.specs.Trace.{Move, Target, Onto, Arrived, leads_to, has_moved, last_move}
+use Rattle.dta_model.specs.Trace.{queue_of, stands_on, next_target}
 use Rattle.dta_model.specs.declared.plan.Plan.{Plan}
 
 abbrev pub either : Option Move → Option Move → Option Move
@@ -48,7 +52,8 @@ module _ (p : Plan) (n t : ℕ) (T0 : List Move) where
 
   -- whether link b lets one more in: by its allowance, and by its room at the start of the step
   unfoldable pub may_enter : List Move → ℕ → Bool
-  may_enter M b = nat_lt (entered M b) (link_allowance p b t) && has_room (room p b t T0) (entered M b)
+  may_enter M b =
+      nat_lt (entered M b) (link_allowance p b t) && has_room (room p b t T0) (entered M b)
 
   abbrev pub turn_test : List Move → ℕ → ℕ → ℕ → Option Turn → Bool
   turn_test M ready l b None = false
@@ -70,7 +75,8 @@ module _ (p : Plan) (n t : ℕ) (T0 : List Move) where
   unfoldable pub leave_move : List Move → ℕ → ℕ → Option Move → Target → Option Move
   leave_move M l v None x = None
   leave_move M l v (Some entry) x =
-      where_true (may_move M l (entry.step + (link_at p l).free) x) (record { step = t; vehicle = v; target = x })
+      where_true (may_move M l (entry.step + (link_at p l).free) x)
+      (record { step = t; vehicle = v; target = x })
 
   unfoldable pub first_move : List Move → ℕ → Option ℕ → Option Move
   first_move M l None = None
@@ -83,11 +89,13 @@ module _ (p : Plan) (n t : ℕ) (T0 : List Move) where
   -- whether a vehicle waits for link b: its route begins there, it is to depart by now, and it
   -- hasn't moved
   unfoldable pub waits_for : List Move → ℕ → ℕ → Bool
-  waits_for M b v = is_first b (first_link p v) && nat_le (departure_of p v) t && not (has_moved v (T0 ++ M))
+  waits_for M b v =
+      is_first b (first_link p v) && nat_le (departure_of p v) t && not (has_moved v (T0 ++ M))
 
   unfoldable pub admit : List Move → ℕ → Option ℕ → Option Move
   admit M b None = None
-  admit M b (Some v) = where_true (may_enter M b) (record { step = t; vehicle = v; target = Onto b })
+  admit M b (Some v) =
+      where_true (may_enter M b) (record { step = t; vehicle = v; target = Onto b })
 
   -- the move of the first vehicle that waits for out-link b, if it may move
   unfoldable pub admission : List Move → ℕ → Option Move

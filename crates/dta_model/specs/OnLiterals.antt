@@ -3,27 +3,51 @@ use Rattle.std.specs.Prelude.{⊤}
 use Rattle.net_core.specs.Network.{ins, outs, is_named, turn_at, turn}
 use Rattle.net_core.specs.Rows.{link_in}
 use Rattle.dta_model.specs.Allowance.{allowance}
-use Rattle.dta_model.specs.Loading.{after_step, trace_after, entries_of, arrival_of, journey_of, journeys_of}
-use Rattle.dta_model.specs.NodeMoves.{left, entered, turned, may_enter, may_turn, may_move, leave_move, first_move, head_move, waits_for, admit, admission, in_order, next_move, grown, node_moves}
+use Rattle.dta_model.specs.Loading.{after_step, trace_after, entries_of, arrival_of, journey_of}
+use Rattle.dta_model.specs.Loading.{journeys_of}
+use Rattle.dta_model.specs.Machine.{is_finished, finished, effect_of, run_machine, outcomes_of}
+use Rattle.dta_model.specs.NodeMoves.{left, entered, turned, may_enter, may_turn, may_move}
+use Rattle.dta_model.specs.NodeMoves.{leave_move, first_move, head_move, waits_for, admit}
+use Rattle.dta_model.specs.NodeMoves.{admission, in_order, next_move, grown, node_moves}
 use Rattle.dta_model.specs.Plans.{link_allowance, route_of, departure_of, first_link}
-use Rattle.dta_model.specs.Release.{trips_of, in_order_of_departure, released, released_by, departure, vehicles_of_row, vehicles_before}
+use Rattle.dta_model.specs.Release.{trips_of, in_order_of_departure, released, released_by}
+use Rattle.dta_model.specs.Release.{departure, vehicles_of_row, vehicles_before}
 use Rattle.dta_model.specs.Riders.{rider_at}
 use Rattle.dta_model.specs.Room.{room}
-use Rattle.dta_model.specs.Stages.{brought, arriving, waiting_for, line_before, line_after, waiting_before, waiting_after, arrived_before, cell_before, cell_after, room_mail, batch_mail}
-use Rattle.dta_model.specs.State.{is_routed, is_due, waits, runs, has_arrived, due_after, waiting_in, running_in, arrived_in, count_on, eight_in, eight_after}
-use Rattle.dta_model.specs.Trace.{moves_of, has_moved, last_moves, last_move, queue_of, moves_made, stands_on, next_target}
+use Rattle.dta_model.specs.Stages.{brought, arriving, waiting_for, line_before, line_after}
+use Rattle.dta_model.specs.Stages.{waiting_before, waiting_after, arrived_before, room_mail}
+use Rattle.dta_model.specs.Stages.{batch_mail}
+use Rattle.dta_model.specs.State.{is_routed, is_due, waits, runs, has_arrived, due_after}
+use Rattle.dta_model.specs.State.{waiting_in, running_in, arrived_in, count_on, eight_in}
+use Rattle.dta_model.specs.State.{eight_after}
+use Rattle.dta_model.specs.Trace.{moves_of, has_moved, last_moves, last_move, queue_of, moves_made}
+use Rattle.dta_model.specs.Trace.{stands_on, next_target}
+use Rattle.dta_model.specs.Units.{unit_count, task_of, phase_start, phase_end, moved_by, places}
 
 -- the trips of a table
 unfoldable pub releases_on_literals : ⊤
-unfolding trips_of in_order_of_departure released released_by departure vehicles_of_row vehicles_before
+unfolding trips_of in_order_of_departure released released_by departure vehicles_of_row
+    vehicles_before
 releases_on_literals = tt
 
 -- the trace of a plan
 unfoldable pub traces_on_literals : ⊤
-unfolding link_in ins outs is_named turn_at turn allowance link_allowance route_of departure_of first_link moves_of has_moved last_moves last_move queue_of moves_made stands_on next_target room left entered turned may_enter may_turn may_move leave_move first_move head_move waits_for admit admission in_order next_move grown node_moves after_step trace_after
+unfolding link_in ins outs is_named turn_at turn allowance link_allowance route_of departure_of
+    first_link moves_of has_moved last_moves last_move queue_of moves_made stands_on next_target
+    room left entered turned may_enter may_turn may_move leave_move first_move head_move
+    waits_for admit admission in_order next_move grown node_moves after_step trace_after
 traces_on_literals = tt
 
 -- its journeys, states and stages
 unfoldable pub loadings_on_literals : ⊤
-unfolding traces_on_literals entries_of arrival_of journey_of journeys_of is_routed is_due waits runs has_arrived due_after waiting_in running_in arrived_in count_on eight_in eight_after rider_at brought arriving waiting_for line_before line_after waiting_before waiting_after arrived_before cell_before cell_after room_mail batch_mail
+unfolding traces_on_literals entries_of arrival_of journey_of journeys_of is_routed is_due waits
+    runs has_arrived due_after waiting_in running_in arrived_in count_on eight_in eight_after
+    rider_at brought arriving waiting_for line_before line_after waiting_before waiting_after
+    arrived_before room_mail batch_mail
 loadings_on_literals = tt
+
+-- claims of units
+unfoldable pub claims_on_literals : ⊤
+unfolding unit_count task_of phase_start phase_end moved_by places is_finished finished effect_of
+    run_machine outcomes_of
+claims_on_literals = tt

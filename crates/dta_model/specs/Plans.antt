@@ -1,6 +1,7 @@
 -- What a plan says of its links, turns and vehicles. Nodes, links and vehicles are positions from
 -- 0.
-use Rattle.std.specs.Prelude.{ℕ, Bool, true, nat_lt, List, [], length, Option, None, Some, slice_get, map}
+use Rattle.std.specs.Prelude.{ℕ, Bool, true, nat_lt, List, [], length, Option, None, Some}
+use Rattle.std.specs.Prelude.{slice_get, map}
 use Rattle.net_core.specs.Network as network
 use Rattle.net_core.specs.Rows.{link_in}
 use Rattle.net_core.specs.declared.rows.LinkNo.{LinkNo}

@@ -1,5 +1,6 @@
 -- The trips that the rows of a demand table release, over a period of so many steps.
-use Rattle.std.specs.Prelude.{ℕ, ◌+◌, ◌*◌, ◌/◌, ◌-◌, cond, nat_eq, List, [], ◌∷◌, length, map, filter, sum_by, take, Option, None, Some, slice_get}
+use Rattle.std.specs.Prelude.{ℕ, ◌+◌, ◌*◌, ◌/◌, ◌-◌, cond, nat_eq, List, [], ◌∷◌, length, map}
+use Rattle.std.specs.Prelude.{filter, sum_by, take, Option, None, Some, slice_get}
 use Rattle.std.specs.List.{flat_map}
 use Rattle.net_core.specs.Network.{numbers_below}
 use Rattle.dta_model.specs.declared.trip.DemandCell.{DemandCell}
@@ -47,8 +48,14 @@ in_order_of_departure period all =
     flat_map (λ step. filter (λ r. nat_eq r.departs step) all) (numbers_below period)
 
 abbrev pub trip_by : Option DemandCell → ℕ → ℕ → Trip
-trip_by None number departs = record { number = number; origin = 0; destination = 0; departure = departs }
-trip_by (Some cell) number departs = record { number = number; origin = cell.origin; destination = cell.destination; departure = departs }
+trip_by None number departs =
+    record { number = number; origin = 0; destination = 0; departure = departs }
+trip_by (Some cell) number departs = record {
+  number = number;
+  origin = cell.origin;
+  destination = cell.destination;
+  departure = departs;
+}
 
 -- the trips of vehicles, numbered from one on
 abbrev pub numbered : List DemandCell → ℕ → List Released → List Trip

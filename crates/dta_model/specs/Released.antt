@@ -19,4 +19,5 @@ pub record IsRelease (cells : List DemandCell) (period : ℕ) (trips : List Trip
 -- the trips of a table in a period are such
 abbrev pub TripsAreReleased : Type 0
 TripsAreReleased =
-    (cells : List DemandCell) (period : ℕ) → 1 ≤ period → IsRelease cells period (trips_of cells period)
+    (cells : List DemandCell) (period : ℕ) → 1 ≤ period
+    → IsRelease cells period (trips_of cells period)

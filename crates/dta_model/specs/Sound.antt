@@ -20,7 +20,8 @@ pub record AreTrips (trips : List Trip) : Type 0 where
 -- a route, where a vehicle has one, is a walk between the zones of its trip
 abbrev pub AreRoutes : Plan → Type 0
 AreRoutes p =
-    (v : ℕ) (trip : Trip) (route : List LinkNo) → slice_get p.trips v ≡ Some trip → slice_get p.routes v ≡ Some (Some route)
+    (v : ℕ) (trip : Trip) (route : List LinkNo)
+    → slice_get p.trips v ≡ Some trip → slice_get p.routes v ≡ Some (Some route)
     → IsWalk p.net trip.origin trip.destination (link_numbers route)
 
 -- a plan of a sound loading

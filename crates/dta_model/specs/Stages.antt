@@ -1,12 +1,10 @@
--- What each node's cell and each link's mail hold at each stage of a loading. In step t a node
--- first transfers, which makes its moves and leaves batches in the mail of its out-links; then it
--- gathers the batches of its in-links.
-use Rattle.std.specs.Prelude.{ℕ, zero, suc, ◌&&◌, not, List, [], ◌++◌, map, filter, Option, None, Some, option_map}
-use Rattle.net_core.specs.declared.rows.Turn.{Turn}
-use Rattle.dta_model.specs.Allowance.{carried}
+-- What nodes and links hold at each stage of a loading: lines, waiting lines, riders that arrived,
+-- rooms and batches. In step t a node first transfers, which makes its moves and leaves batches in
+-- the mail of its out-links; then it gathers the batches of its in-links.
+use Rattle.std.specs.Prelude.{ℕ, zero, suc, ◌&&◌, not, List, [], ◌++◌, map, filter, Option}
 use Rattle.dta_model.specs.Loading.{trace_after, is_onto}
 use Rattle.dta_model.specs.NodeMoves.{node_moves, is_first}
-use Rattle.dta_model.specs.Plans.{link_at, ins, outs, turn, first_link, vehicles_of}
+use Rattle.dta_model.specs.Plans.{link_at, first_link, vehicles_of}
 use Rattle.dta_model.specs.Riders.{RiderState, riders}
 use Rattle.dta_model.specs.Room.{room}
 use Rattle.dta_model.specs.Trace.{Move, leads_to, has_moved, queue_of}
@@ -27,40 +25,6 @@ arriving M = map (λ m. m.vehicle) (filter (λ m. not (is_onto m.target)) M)
 -- the vehicles whose routes begin on a link and that haven't moved
 unfoldable pub waiting_for : Plan → ℕ → List Move → List ℕ
 waiting_for p b T = filter (λ v. is_first b (first_link p v) && not (has_moved v T)) (vehicles_of p)
-
--- what the credits of a node carry after so many grants: of its in-links to leave them, of its
--- out-links to enter them, and of each turn with a limit
-abbrev pub link_credit : Plan → ℕ → ℕ → ℕ
-link_credit p grants l = carried (link_at p l).rate p.delta grants
-
-abbrev pub turn_rate : Option Turn → Option ℕ
-turn_rate None = None
-turn_rate (Some way) = way.rate
-
-abbrev pub turn_credit : Plan → ℕ → ℕ → ℕ → Option ℕ
-turn_credit p grants l b = option_map (λ rate. carried rate p.delta grants) (turn_rate (turn p l b))
-
--- what a node's cell holds: for each in-link its line, its credit and those of its turns to each
--- out-link; for each out-link its waiting line and its credit; and the riders that arrived at the
--- node
-pub record CellContent : Type 0 where
-  pub lines : List (List RiderState)
-  pub waiting : List (List RiderState)
-  pub arrived : List RiderState
-  pub outflow : List ℕ
-  pub inflow : List ℕ
-  pub turns : List (List (Option ℕ))
-
--- a cell with these lines, waiting lines and riders, after so many grants of each credit
-abbrev pub cell_of : Plan → ℕ → ℕ → (ℕ → List RiderState) → (ℕ → List RiderState) → List RiderState → CellContent
-cell_of p n grants line waiting arrived = record {
-  lines = map line (ins p n);
-  waiting = map waiting (outs p n);
-  arrived = arrived;
-  outflow = map (link_credit p grants) (ins p n);
-  inflow = map (link_credit p grants) (outs p n);
-  turns = map (λ l. map (turn_credit p grants l) (outs p n)) (ins p n);
-}
 
 -- the line of an in-link before the transfer of step t, and after it
 unfoldable pub line_before : Plan → ℕ → ℕ → List RiderState
@@ -87,13 +51,6 @@ unfoldable pub arrived_before : Plan → ℕ → ℕ → List RiderState
 arrived_before p n zero = []
 arrived_before p n (suc t) =
     arrived_before p n t ++ arrive_by p (trace_after p t) (node_moves p n t (trace_after p t))
-
--- the cell of node n before the transfer of step t, and after it
-unfoldable pub cell_before : Plan → ℕ → ℕ → CellContent
-cell_before p n t = cell_of p n t (line_before p t) (waiting_before p t) (arrived_before p n t)
-
-unfoldable pub cell_after : Plan → ℕ → ℕ → CellContent
-cell_after p n t = cell_of p n (suc t) (line_after p n t) (waiting_after p n t) (arrived_before p n (suc t))
 
 -- the mail of link l before the transfer of step t: its room
 unfoldable pub room_mail : Plan → ℕ → ℕ → Option ℕ

@@ -1,5 +1,6 @@
 -- The state after a number of steps, and its eight numbers.
-use Rattle.std.specs.Prelude.{ℕ, Bool, true, false, ◌&&◌, not, nat_lt, List, [], ◌∷◌, length, Option, None, Some, slice_get, count_by}
+use Rattle.std.specs.Prelude.{ℕ, Bool, true, false, ◌&&◌, not, nat_lt, List, [], ◌∷◌, length}
+use Rattle.std.specs.Prelude.{Option, None, Some, slice_get, count_by}
 use Rattle.net_core.specs.declared.rows.LinkNo.{LinkNo}
 use Rattle.dta_model.specs.Loading.{trace_after, is_onto}
 use Rattle.dta_model.specs.Plans.{vehicles_of, departure_of}
@@ -69,3 +70,13 @@ eight_in p t T = record {
 -- the eight numbers after t steps
 unfoldable pub eight_after : Plan → ℕ → Eight
 eight_after p t = eight_in p t (trace_after p t)
+
+-- the eight numbers where no step is finished: nothing is due
+unfoldable pub no_vehicles : Eight
+no_vehicles = record {
+  steps = 0;
+  waiting = 0;
+  running = 0;
+  arrived = 0;
+  first = 0 ∷ 0 ∷ 0 ∷ 0 ∷ [];
+}

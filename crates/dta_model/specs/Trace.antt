@@ -1,7 +1,8 @@
 -- A loading as one growing list of moves, its trace. Where each vehicle is follows from its moves
 -- alone.
 use Rattle.std.specs.List.{list_any}
-use Rattle.std.specs.Prelude.{ℕ, Bool, false, cond, nat_eq, List, [], ◌∷◌, Option, None, Some, slice_get, map, filter, find, count_by}
+use Rattle.std.specs.Prelude.{ℕ, Bool, false, cond, nat_eq, List, [], ◌∷◌, Option, None, Some}
+use Rattle.std.specs.Prelude.{slice_get, map, filter, find, count_by}
 use Rattle.dta_model.specs.declared.plan.Plan.{Plan}
 use Rattle.dta_model.specs.Plans.{route_of}
 

@@ -1,14 +1,14 @@
 -- What a program relies on that makes a node's moves on lines of riders: of the line of an in-link
 -- at the start of the step, of a waiting line, of riders that move, and of lines that gather
 -- batches.
-use Rattle.std.specs.Prelude.{All, IsSome, List, None, Option, Some, [], cond, drop, false, filter, find, length, map, nat_eq, nat_le, option_map, slice_get, suc, ℕ, ◌&&◌, ◌++◌, ◌+◌, ◌<◌, ◌∷◌, ◌≡◌, ◌≢◌}
+use Rattle.std.specs.Prelude.{All, IsSome, List, None, Option, Some, [], cond, drop, false, filter, find, length, nat_eq, nat_le, option_map, slice_get, suc, ℕ, ◌&&◌, ◌++◌, ◌+◌, ◌<◌, ◌∷◌, ◌≡◌, ◌≢◌}
 use Rattle.std.specs.List.{last_or}
 use Rattle.dta_model.specs.Loading.{trace_after, is_entry}
 use Rattle.dta_model.specs.NodeMoves.{left, entered, turned, waits_for, leave_move, head_move}
-use Rattle.dta_model.specs.Plans.{link_at, ins, turn, vehicles_of, departure_of}
+use Rattle.dta_model.specs.Plans.{link_at, turn, vehicles_of, departure_of}
 use Rattle.dta_model.specs.Riders.{moved, rider_at, riders}
 use Rattle.dta_model.specs.Sound.{IsSound}
-use Rattle.dta_model.specs.Stages.{CellContent, staying, brought, waiting_for, line_before, line_after, cell_before, cell_after, batch_mail}
+use Rattle.dta_model.specs.Stages.{staying, brought, waiting_for, line_before, line_after, waiting_before, waiting_after, batch_mail}
 use Rattle.dta_model.specs.Trace.{Move, moves_of, has_moved, last_move, leads_to, next_target, stands_on, Onto, queue_of, target_at}
 use Rattle.dta_model.specs.declared.plan.Plan.{Plan}
 
@@ -122,13 +122,8 @@ LinesGather =
     (p : Plan) → IsSound p → (t l : ℕ) → l < length p.net.links
     → line_before p (suc t) l ≡ line_after p (link_at p l).to.0 t l ++ batch_mail p l t
 
--- a cell in the next step is what the transfer left of it, with the batch at the end of each
--- in-line
-abbrev pub gathered_cell : Plan → ℕ → ℕ → CellContent
-gathered_cell p n t =
-    record (cell_after p n t) { lines = map (λ l. line_after p n t l ++ batch_mail p l t) (ins p n) }
-
-abbrev pub CellsGather : Type 0
-CellsGather =
-    (p : Plan) → IsSound p → (t n : ℕ) → n < length p.net.nodes
-    → cell_before p n (suc t) ≡ gathered_cell p n t
+-- a waiting line in the next step is what the transfer left of it
+abbrev pub WaitingLinesStay : Type 0
+WaitingLinesStay =
+    (p : Plan) → IsSound p → (t b : ℕ) → b < length p.net.links
+    → waiting_before p (suc t) b ≡ waiting_after p (link_at p b).from.0 t b

@@ -1,6 +1,7 @@
 -- Walks from zone to zone over the links of a network. Zones are identifiers, nodes and links
 -- positions from 0.
-use Rattle.std.specs.Prelude.{◌≡◌, ℕ, suc, ◌<◌, ◌≤◌, Bool, true, false, nat_eq, List, length, All, Option, None, Some, IsSome, IfSome, option_and_then, slice_get}
+use Rattle.std.specs.Prelude.{◌≡◌, ℕ, suc, ◌<◌, ◌≤◌, Bool, true, false, nat_eq, List, length, All}
+use Rattle.std.specs.Prelude.{Option, None, Some, IsSome, IfSome, option_and_then, slice_get}
 use Rattle.net_core.specs.Network.{link_at, turn}
 use Rattle.net_core.specs.declared.rows.NetRows.{NetRows}
 
@@ -28,6 +29,8 @@ pub record IsWalk (net : NetRows) (origin destination : ℕ) (walk : List ℕ) :
   -- the first begins in the origin
   pub begins : IfSome (slice_get walk 0) (λ l. begins_in net origin l ≡ true)
   -- from each to the next there is a turn
-  pub turns : (i a b : ℕ) → slice_get walk i ≡ Some a → slice_get walk (suc i) ≡ Some b → IsSome (turn net a b)
+  pub turns : (i a b : ℕ) → slice_get walk i ≡ Some a → slice_get walk (suc i) ≡ Some b
+      → IsSome (turn net a b)
   -- the last ends in the destination, and none before it does
-  pub ends : (i l : ℕ) → slice_get walk i ≡ Some l → ends_in net destination l ≡ nat_eq (suc i) (length walk)
+  pub ends : (i l : ℕ) → slice_get walk i ≡ Some l
+      → ends_in net destination l ≡ nat_eq (suc i) (length walk)

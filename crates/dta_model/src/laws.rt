@@ -1,16 +1,31 @@
 // Laws of the definitions. Each is the contract of a function that does nothing.
 ghost use Rattle.dta_model.specs.Examples.{two_links_in_a_line};
-ghost use Rattle.dta_model.specs.HandOver.{CellsHoldAll};
-ghost use Rattle.dta_model.specs.Laws.{ArrivalIsLast, HeadsMove, JourneysEndInOrder, LeftInOrder, NoMoveIsLeft, NoneOutside, QueuesAddUp, RoutesAreFollowed, StepsRise, VehiclesAreConserved, VisitsEndInOrder};
+ghost use Rattle.dta_model.specs.HandOver.{NodesHoldAll};
+ghost use Rattle.dta_model.specs.Laws.{ArrivalIsLast, HeadsMove, JourneysEndInOrder, LeftInOrder};
+ghost use Rattle.dta_model.specs.Laws.{NoMoveIsLeft, NoneOutside, NothingAtTheStart, QueuesAddUp};
+ghost use Rattle.dta_model.specs.Laws.{RoutesAreFollowed, StepsRise, VehiclesAreConserved};
+ghost use Rattle.dta_model.specs.Laws.{VisitsEndInOrder};
 ghost use Rattle.dta_model.specs.OnePass.{OnePassIsEnough};
-ghost use Rattle.dta_model.specs.Orders.{AnyOrder};
+ghost use Rattle.dta_model.specs.Orders.{AnyOrder, SameJourneys};
 ghost use Rattle.dta_model.specs.Released.{TripsAreReleased};
 ghost use Rattle.dta_model.specs.Sound.{IsSound};
-ghost use Rattle.dta_model.specs.Transfers.{CellsGather, FirstWaits, HeadsOfLines, LinesGather, MovesCount, MovesPass, RidersMove, RidersTell, RoutesLeadOn};
+ghost use Rattle.dta_model.specs.Transfers.{FirstWaits, HeadsOfLines, LinesGather, MovesCount};
+ghost use Rattle.dta_model.specs.Transfers.{MovesPass, RidersMove, RidersTell, RoutesLeadOn};
+ghost use Rattle.dta_model.specs.Transfers.{WaitingLinesStay};
 
 /// The nodes of a step may be taken in any order.
 pub fn nodes_in_any_order()
     ensures { AnyOrder }
+{}
+
+/// They give the same journeys.
+pub fn journeys_in_any_order()
+    ensures { SameJourneys }
+{}
+
+/// Before the first step no vehicle is due, and none is on a link.
+pub fn nothing_at_the_start()
+    ensures { NothingAtTheStart }
 {}
 
 /// A node's moves in a step end only where it has no next move.
@@ -18,7 +33,7 @@ pub fn no_move_is_left()
     ensures { NoMoveIsLeft }
 {}
 
-/// A due vehicle waits, is on one link or has arrived, and the three counts add up.
+/// A due vehicle waits, is on one link of the table or has arrived, and the three counts add up.
 pub fn vehicles_are_conserved()
     ensures { VehiclesAreConserved }
 {}
@@ -33,7 +48,8 @@ pub fn heads_move()
     ensures { HeadsMove }
 {}
 
-/// Links are left in the order of entry.
+/// Links are left in the order of entry: of two visits to one link the one that comes earlier in
+/// the trace ends earlier in the trace, or the other hasn't ended.
 pub fn links_are_left_in_order()
     ensures { LeftInOrder }
 {}
@@ -43,10 +59,9 @@ pub fn lines_gather()
     ensures { LinesGather }
 {}
 
-/// A cell of the next step is what the transfer left of it, with the batch at the end of each
-/// in-line.
-pub fn cells_gather()
-    ensures { CellsGather }
+/// A waiting line of the next step is what the transfer left of it.
+pub fn waiting_lines_stay()
+    ensures { WaitingLinesStay }
 {}
 
 /// One pass over a node's links makes its moves.
@@ -105,9 +120,9 @@ pub fn journeys_end_in_order()
     ensures { JourneysEndInOrder }
 {}
 
-/// All cells together hold the vehicles that have routes, each once and as the trace makes it.
-pub fn cells_hold_all()
-    ensures { CellsHoldAll }
+/// All nodes together hold the vehicles that have routes, each once and as the trace makes it.
+pub fn nodes_hold_all()
+    ensures { NodesHoldAll }
 {}
 
 /// A table releases as many trips as its volumes make whole vehicles, numbered in order, by

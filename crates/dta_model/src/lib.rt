@@ -10,6 +10,7 @@ mod eight;
 mod laws;
 mod loaded;
 mod loading;
+mod machine;
 mod plan;
 mod queue;
 mod routes;
@@ -19,14 +20,16 @@ mod trip;
 pub use credit::PARTS_OF_A_VEHICLE;
 pub use eight::Eight;
 pub use laws::{
-    arrival_is_last, cells_gather, cells_hold_all, heads_move, heads_of_lines,
-    journeys_end_in_order, lines_gather, links_are_left_in_order, moves_count, moves_pass,
-    no_move_is_left, nodes_in_any_order, none_outside, one_pass_is_enough, queues_add_up,
-    riders_move, riders_tell, routes_are_followed, routes_lead_on, steps_rise, the_first_waits,
-    trips_are_released, two_links_are_sound, vehicles_are_conserved, visits_end_in_order,
+    arrival_is_last, heads_move, heads_of_lines, journeys_end_in_order, journeys_in_any_order,
+    lines_gather, links_are_left_in_order, moves_count, moves_pass, no_move_is_left,
+    nodes_hold_all, nodes_in_any_order, none_outside, nothing_at_the_start, one_pass_is_enough,
+    queues_add_up, riders_move, riders_tell, routes_are_followed, routes_lead_on, steps_rise,
+    the_first_waits, trips_are_released, two_links_are_sound, vehicles_are_conserved,
+    visits_end_in_order, waiting_lines_stay,
 };
 pub use loaded::{Journey, Loaded};
 pub use loading::{Loading, MOST_HORIZON};
+pub use machine::{Event, Outcome, Stage};
 pub use plan::Plan;
 pub use queue::Queue;
 pub use routes::{Route, Routes};

@@ -11,6 +11,7 @@ pub const MOST_HORIZON: u32 = 86_400;
 /// `delta` is the length of a step in seconds, `horizon` the number of steps. Trips and routes are
 /// in the order of vehicles. It is sound where `IsSound` holds of its plan; each call that takes a
 /// loading has this as its condition.
+#[derive(Clone, Copy, Drop)]
 pub struct Loading<'a> {
     pub net: &'a Net,
     pub queue: Queue,

@@ -1,5 +1,8 @@
 // What no clause says.
-use crate::{DemandCell, Eight, Journey, Loaded, Loading, Plan, Queue, Route, Routes, Steps, Trip};
+use crate::{
+    DemandCell, Eight, Event, Journey, Loaded, Loading, Outcome, Plan, Queue, Route, Routes, Stage,
+    Steps, Trip,
+};
 
 // Workers share a loading, and hand trips, routes and journeys to each other.
 fn goes_to_threads<T: Send>() {}
@@ -19,6 +22,9 @@ fn data_goes_to_threads() {
     goes_to_threads::<Eight>();
     goes_to_threads::<Queue>();
     goes_to_threads::<Plan>();
+    goes_to_threads::<Stage>();
+    goes_to_threads::<Event>();
+    goes_to_threads::<Outcome>();
 }
 
 #[test]

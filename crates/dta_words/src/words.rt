@@ -1,9 +1,11 @@
 // The words of a command line.
-ghost use Rattle.std.specs.Prelude.{◌≡◌, ◌<◌, ◌++◌, ◌∷◌, [], length, OnOk, OnErr, Some};
-ghost use Rattle.std.specs.Prelude.{map, slice_get, string_bytes};
+ghost use Rattle.std.specs.Prelude.{◌≡◌, ◌<◌, ◌++◌, ◌∷◌, [], length, IfOk, OnOk, OnErr, Some};
+ghost use Rattle.std.specs.Prelude.{drop, map, slice_get, string_bytes};
+ghost use Rattle.std.specs.Vec.Iter.{into_iter_items};
 
 use desk_io::Memory;
 use std::alloc::Global;
+use std::env::Args;
 use std::marker::Model;
 
 /// The words of a command line, after the program's name. A clause sees the list of their bytes.
@@ -32,6 +34,22 @@ impl Words {
             alloc,
             items: Vec::new(alloc),
         }
+    }
+
+    /// The words behind the program's name, which is the first of its arguments.
+    pub fn after_name(alloc: Global, arguments: Args) -> Result<Self, Memory>
+        ensures { IfOk result (λ words.
+            words ≡ drop 1 (map string_bytes (into_iter_items arguments))) }
+    {
+        let mut words = Words::new(alloc);
+        let mut rest = arguments;
+        if rest.next().is_none() {
+            return Ok(words);
+        }
+        while let Some(word) = rest.next() {
+            words.push(word.as_str())?;
+        }
+        Ok(words)
     }
 
     /// Adds a word last. Where there is no memory nothing changes.

@@ -13,7 +13,8 @@ use Rattle.dta_model.specs.Sound.{IsSound}
 use Rattle.dta_model.specs.State.{arrived_in, count_on, due_after, eight_after, eight_in, has_arrived, is_due, is_routed, leads_onto, leads_out, running_in, runs, some_route, waiting_in, waits}
 use Rattle.dta_model.specs.Trace.{Arrived, Move, Onto, Target, has_moved, last_move, leads_there}
 use Rattle.dta_model.proofs.Congruence.{count_same}
-use Rattle.dta_model.proofs.Conserved.{mover_due, vehicles_are_conserved}
+use Rattle.dta_model.proofs.Conserved.{mover_due}
+use Rattle.dta_model.proofs.Onward.{vehicles_are_conserved}
 use Rattle.dta_model.proofs.Fuel.{Lawful, last_in, trace-lawful}
 use Rattle.dta_model.proofs.Standing.{no-last}
 use Rattle.dta_model.proofs.Steady.{some_trip}

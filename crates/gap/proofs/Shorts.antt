@@ -13,7 +13,7 @@ use Rattle.dta_model.specs.Plans.{link_numbers}
 use Rattle.dta_model.specs.TimedWalks.{arrival_after, penalty_steps}
 use Rattle.dta_model.specs.declared.loading.TheConstants.{MOST_HORIZON}
 use Rattle.gap.specs.Gap.{IsShort}
-use Rattle.time_routes.proofs.RouterFacts.{penalty-in}
+use Rattle.time_routes.proofs.OfStates.RouterFacts.{penalty-in}
 
 either : (P : ℕ → Type 0) (t : Bool) (x y : ℕ) → P x → P y → P (cond t x y)
 either P true x y p q = p

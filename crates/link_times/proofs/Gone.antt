@@ -9,14 +9,14 @@ use Rattle.std.proofs.lemmas.Option.{slice_get-map, slice_get_past, none-some, s
 use Rattle.net_core.specs.declared.rows.LinkNo.{LinkNo}
 use Rattle.dta_model.specs.declared.loaded.Journey.{Journey}
 use Rattle.dta_model.specs.declared.plan.Plan.{Plan}
-use Rattle.dta_model.specs.LinkTimes.{penalty_in}
+use Rattle.dta_model.specs.TimedWalks.{penalty_steps}
 use Rattle.dta_model.specs.Loading.{arrival_of, entries_of, is_entry, journey_of, journeys_of, step_in, trace_after}
 use Rattle.dta_model.specs.Plans.{link_at, link_numbers, route_in, route_of, turn, vehicle_count, vehicles_of}
 use Rattle.dta_model.specs.Sound.{IsSound}
 use Rattle.dta_model.specs.State.{is_due, is_routed, waits, some_route}
 use Rattle.dta_model.specs.Trace.{Move, has_moved, is_of, moves_of, target_at}
 use Rattle.dta_model.proofs.Arrivals.{arrival_is_last}
-use Rattle.dta_model.proofs.Conserved.{vehicles_are_conserved}
+use Rattle.dta_model.proofs.Onward.{vehicles_are_conserved}
 use Rattle.dta_model.proofs.Ends.{got_number}
 use Rattle.dta_model.proofs.Gathering.{no-moves}
 use Rattle.dta_model.proofs.Journeys.{routes_are_followed, steps_rise}
@@ -69,6 +69,19 @@ step_of : (o : Option Move) (s : ℕ) → step_in o ≡ Some s → (m : Move) ×
 step_of None s e = cc
 step_of (Some m) s e = (m, refl, (let q : m.step ≡ s = cc in q))
 
+-- who has no route doesn't move, and nor does who isn't there
+stays : (p : Plan) (v : ℕ) → is_routed p v ≡ false → has_moved v (trace_after p p.horizon) ≡ false
+unfolding is_due waits
+stays p v r = not_true _ ((vehicles_are_conserved p p.horizon).due v (rw r refl))
+  where
+    not_true : (c : Bool) → not c ≡ true → c ≡ false
+    not_true true e = cc
+    not_true false e = refl
+
+pub absent : (p : Plan) (v : ℕ) → length p.routes ≤ v → has_moved v (trace_after p p.horizon) ≡ false
+unfolding is_routed
+absent p v h = stays p v (ap some_route (slice_get_past p.routes v h))
+
 module _ (p : Plan) (sound : IsSound p) (v : ℕ) where
   below : All (λ m. m.step < p.horizon) (moves_of v (trace_after p p.horizon))
   unfolding moves_of
@@ -96,7 +109,7 @@ module _ (p : Plan) (sound : IsSound p) (v : ℕ) where
       let apart : Spaced p None (moves_along v route es out) = subst (Spaced p None) moves (moves_are_spaced p p.horizon v) in
       let early : All (λ s. s < p.horizon) es = all_steps p.horizon E (all_filter (λ m. m.step < p.horizon) is_entry ms below) in
       let steady = steady_of p sound in
-      let spaced : (i : ℕ) → suc i < length es → slice_index es i + (link_at p (link_on route i)).free + penalty_in (turn p (link_on route i) (link_on route (suc i))) ≤ slice_index es (suc i) =
+      let spaced : (i : ℕ) → suc i < length es → slice_index es i + (link_at p (link_on route i)).free + penalty_steps (turn p (link_on route i) (link_on route (suc i))) ≤ slice_index es (suc i) =
       λ i h. spaced_at p None (moves_along v route es out) i _ _ apart (along_get v route es out i within (omega (arith, h))) (along_get v route es out (suc i) within h) in
       record {
         moves = moves;
@@ -112,22 +125,9 @@ module _ (p : Plan) (sound : IsSound p) (v : ℕ) where
             omega (arith, y);
       }
 
-  stays : is_routed p v ≡ false → has_moved v (trace_after p p.horizon) ≡ false
-  unfolding is_due waits
-  stays r = not_true _ ((vehicles_are_conserved p p.horizon).due v (rw r refl))
-    where
-      not_true : (c : Bool) → not c ≡ true → c ≡ false
-      not_true true e = cc
-      not_true false e = refl
-
-  -- who has no route doesn't move, and nor does who isn't there
   pub unrouted : slice_get p.routes v ≡ Some None → moves_of v (trace_after p p.horizon) ≡ []
   unfolding is_routed
-  unrouted e = no-moves v (trace_after p p.horizon) (stays (ap some_route e))
-
-  pub absent : length p.routes ≤ v → has_moved v (trace_after p p.horizon) ≡ false
-  unfolding is_routed
-  absent h = stays (ap some_route (slice_get_past p.routes v h))
+  unrouted e = no-moves v (trace_after p p.horizon) (stays p v (ap some_route e))
 
 map_some : {A B : Type 0} (f : A → B) (o : Option A) (y : B) → option_map f o ≡ Some y → (x : A) × (o ≡ Some x) × (f x ≡ y)
 map_some f None y e = absurd (none-some y e)

@@ -9,5 +9,6 @@ pub mod Totals
 pub mod RoundedUp
 pub mod Links
 pub mod Tabled
+pub mod AnyOrder
 pub mod Reading
 pub mod SoundTimes

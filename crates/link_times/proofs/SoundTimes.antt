@@ -1,10 +1,9 @@
 -- The times of every table are sound.
-use Rattle.std.proofs.Common.{◌≡◌, ◌⊎◌, inl, inr, ℕ, ◌+◌, ◌*◌, ◌/◌, ◌<◌, ◌≤◌, ◌^◌, Bool, true, false, List, length, arith, get_or, cond}
+use Rattle.std.proofs.Common.{◌≡◌, ◌⊎◌, inl, inr, ℕ, ◌*◌, ◌/◌, ◌<◌, ◌≤◌, true, false, length, arith, get_or, cond}
 use Rattle.std.specs.Prelude.{All, nat_lt}
 use Rattle.std.proofs.lemmas.Bool.{cases_lt}
 use Rattle.std.proofs.lemmas.Bool.Decides.{nat_tests}
 use Rattle.dta_model.specs.LinkTimes.{TimeTable, time_at, buckets_to, place_in}
-use Rattle.link_times.specs.TimeTables.{IsTimeTable}
 use Rattle.link_times.proofs.Places.{bucket_inside, place_inside}
 
 -- what holds of all numbers of a table holds of its times

@@ -7,7 +7,8 @@ use Rattle.net_core.specs.declared.rows.LinkNo.{LinkNo}
 use Rattle.net_core.specs.declared.rows.LinkRow.{LinkRow}
 use Rattle.dta_model.specs.declared.loading.TheConstants.{MOST_HORIZON}
 use Rattle.dta_model.specs.declared.plan.Plan.{Plan}
-use Rattle.dta_model.specs.LinkTimes.{penalty_in, visit_time}
+use Rattle.dta_model.specs.LinkTimes.{visit_time}
+use Rattle.dta_model.specs.TimedWalks.{penalty_steps}
 use Rattle.dta_model.specs.Plans.{link_at, turn}
 use Rattle.dta_model.specs.Sound.{IsSound}
 use Rattle.dta_model.proofs.Steady.{all_at, steady_of}
@@ -20,23 +21,23 @@ on_route route i d h = sym (get_or-map (λ l. l.0) route i d 0 h)
 
 module _ (p : Plan) (v : ℕ) (route : List LinkNo) (entries : List ℕ) (arrival : Option ℕ) (i : ℕ) (gone : HasGone p v route entries arrival) where
   -- a visit that ends by the next entry
-  pub onto_is : (x : ℕ) (d e : LinkNo) → suc i < length entries → x ≡ penalty_in (turn p (get_or route i d).0 (get_or route (suc i) e).0)
+  pub onto_is : (x : ℕ) (d e : LinkNo) → suc i < length entries → x ≡ penalty_steps (turn p (get_or route i d).0 (get_or route (suc i) e).0)
       → (slice_index entries (suc i) - slice_index entries i - x ≡ visit_time p (link_on route i) (slice_index entries i) (slice_get (moves_along v route entries arrival) (suc i)))
       × (1 ≤ (link_at p (link_on route i)).free → 1 ≤ slice_index entries (suc i) - slice_index entries i - x)
   onto_is x d e h q =
       let w = gone.within in
-      let same : x ≡ penalty_in (turn p (link_on route i) (link_on route (suc i))) =
-      q ∙ ap (λ l. penalty_in (turn p l (get_or route (suc i) e).0)) (on_route route i d (omega (arith, w, h))) ∙ ap (λ l. penalty_in (turn p (link_on route i) l)) (on_route route (suc i) e (omega (arith, w, h))) in
+      let same : x ≡ penalty_steps (turn p (link_on route i) (link_on route (suc i))) =
+      q ∙ ap (λ l. penalty_steps (turn p l (get_or route (suc i) e).0)) (on_route route i d (omega (arith, w, h))) ∙ ap (λ l. penalty_steps (turn p (link_on route i) l)) (on_route route (suc i) e (omega (arith, w, h))) in
       let s = gone.spaced i h in (
         ap (λ y. slice_index entries (suc i) - slice_index entries i - y) same ∙ ap (visit_time p (link_on route i) (slice_index entries i)) (sym (along_get v route entries arrival (suc i) w h)),
         λ least. omega (arith, same, s, least),
       )
 
-  pub onto_at : (x n : ℕ) (d e : LinkNo) → n ≡ suc i → n < length entries → x ≡ penalty_in (turn p (get_or route i d).0 (get_or route n e).0)
+  pub onto_at : (x n : ℕ) (d e : LinkNo) → n ≡ suc i → n < length entries → x ≡ penalty_steps (turn p (get_or route i d).0 (get_or route n e).0)
       → (slice_index entries n - slice_index entries i - x ≡ visit_time p (link_on route i) (slice_index entries i) (slice_get (moves_along v route entries arrival) (suc i)))
       × (1 ≤ (link_at p (link_on route i)).free → 1 ≤ slice_index entries n - slice_index entries i - x)
   onto_at x n d e en h q =
-      subst (λ k. k < length entries → x ≡ penalty_in (turn p (get_or route i d).0 (get_or route k e).0)
+      subst (λ k. k < length entries → x ≡ penalty_steps (turn p (get_or route i d).0 (get_or route k e).0)
       → (slice_index entries k - slice_index entries i - x ≡ visit_time p (link_on route i) (slice_index entries i) (slice_get (moves_along v route entries arrival) (suc i)))
       × (1 ≤ (link_at p (link_on route i)).free → 1 ≤ slice_index entries k - slice_index entries i - x)) (sym en) (onto_is x d e) h q
 

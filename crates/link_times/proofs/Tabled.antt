@@ -22,7 +22,7 @@ use Rattle.link_times.proofs.Sums.{over_vehicles}
 abbrev made : ℕ → ℕ → List ℕ → List ℕ → List ℕ → TimeTable
 made bucket horizon f t e = record { bucket = bucket; horizon = horizon; free = f; times = t; entered = e }
 
-same_table : (bucket horizon : ℕ) (f g t u e d : List ℕ) → f ≡ g → t ≡ u → e ≡ d → made bucket horizon f t e ≡ made bucket horizon g u d
+pub same_table : (bucket horizon : ℕ) (f g t u e d : List ℕ) → f ≡ g → t ≡ u → e ≡ d → made bucket horizon f t e ≡ made bucket horizon g u d
 same_table bucket horizon f g t u e d a b c = ap (λ x. made bucket horizon x t e) a ∙ ap (λ x. made bucket horizon g x e) b ∙ ap (λ x. made bucket horizon g u x) c
 
 -- the free-flow table
@@ -51,7 +51,7 @@ unfolding free_table table_in visits_in visits
 empty_is p net bucket horizon en eh =
     subst (λ n. free_table n bucket horizon ≡ table_in p bucket []) en (subst (λ h. free_table p.net bucket h ≡ table_in p bucket []) eh refl)
 
-ones : (xs : List Visit) → sum_by (λ v. 1) xs ≡ length xs
+pub ones : (xs : List Visit) → sum_by (λ v. 1) xs ≡ length xs
 ones [] = refl
 ones (x ∷ xs) = let a = ones xs in let b = sum_by-cons (λ v. 1) x xs in omega (arith, a, b)
 
@@ -66,7 +66,7 @@ table_is p sound bucket buckets free shown sums counts times shown_sums shown_co
     let T = trace_after p p.horizon in
     let steps : shown ≡ free_steps p.net = es ∙ ef in
     let tall : length shown_sums ≡ links * buckets = ap (λ L. length L) ss ∙ long in
-    let gone : (v : ℕ) → length p.trips ≤ v → has_moved v T ≡ false = λ v h. absent p sound v (let each = sound.each in omega (arith, h, each)) in
+    let gone : (v : ℕ) → length p.trips ≤ v → has_moved v T ≡ false = λ v h. absent p v (let each = sound.each in omega (arith, h, each)) in
     let sum_all : (l b : ℕ) → l < links → b < buckets → get_or sums (place_in buckets l b) 0 ≡ sum_by (λ v. v.time) (visits_in p bucket l b T) =
     λ l b hl hb. added.sum_is l b hl hb ∙ over_vehicles (λ v. v.time) p bucket l b (length p.trips) T gone in
     let count_all : (l b : ℕ) → l < links → b < buckets → get_or counts (place_in buckets l b) 0 ≡ length (visits_in p bucket l b T) =

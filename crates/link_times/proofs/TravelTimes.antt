@@ -8,7 +8,8 @@ use Rattle.std.proofs.lemmas.List.Elements.{All-head, All-tail, All-push, All-ni
 use Rattle.std.proofs.Math.Dec.{eqb}
 use Rattle.net_core.specs.declared.rows.Turn.{Turn}
 use Rattle.dta_model.specs.declared.plan.Plan.{Plan}
-use Rattle.dta_model.specs.LinkTimes.{penalty_in, penalty_to}
+use Rattle.dta_model.specs.LinkTimes.{penalty_to}
+use Rattle.dta_model.specs.TimedWalks.{penalty_steps}
 use Rattle.dta_model.specs.Loading.{after_step, step_moves, trace_after}
 use Rattle.dta_model.specs.NodeMoves.{may_move, may_turn, turn_test, next_move, node_moves, waits_for}
 use Rattle.dta_model.specs.Plans.{all_nodes, link_at, turn}
@@ -64,7 +65,7 @@ module _ (p : Plan) (t : ℕ) (T : List Move) where
   Earlier n d = (a : ℕ) × (a < n) × AtNode p a t T d
 
   module _ (n : ℕ) where
-    by_turn : (M : List Move) (ready l b : ℕ) (o : Option Turn) → turn_test p n t T M ready l b o ≡ true → ready + penalty_in o ≤ t
+    by_turn : (M : List Move) (ready l b : ℕ) (o : Option Turn) → turn_test p n t T M ready l b o ≡ true → ready + penalty_steps o ≤ t
     by_turn M ready l b None h = cc
     by_turn M ready l b (Some way) h = le_true (ready + way.penalty) t (both_true _ _ (both_true _ _ h).0).0
 

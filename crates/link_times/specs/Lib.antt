@@ -3,4 +3,5 @@ pub mod Sums
 pub mod Means
 pub mod Tables
 pub mod TimeTables
+pub mod Orders
 pub mod Examples

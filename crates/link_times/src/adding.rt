@@ -1,5 +1,6 @@
 // Visits added into the buckets of their entries.
-ghost use Rattle.std.specs.Prelude.{◌≡◌, ℕ, ◌+◌, ◌*◌, ◌/◌, ◌<◌, ◌≤◌, ◌^◌, List, length, slice_index, slice_get, slice_set, Option, Some, All, IfOk};
+ghost use Rattle.std.specs.Prelude.{◌≡◌, ℕ, ◌+◌, ◌*◌, ◌/◌, ◌<◌, ◌≤◌, ◌^◌, List, length};
+ghost use Rattle.std.specs.Prelude.{slice_index, slice_get, slice_set, Option, Some, All, IfOk};
 ghost use Rattle.dta_model.specs.Lent.{plan_of};
 ghost use Rattle.dta_model.specs.LinkTimes.{buckets_to, place_in};
 ghost use Rattle.dta_model.specs.Loading.{journeys_of, trace_after};
@@ -31,7 +32,8 @@ fn place_of(links: u32, buckets: u32, bucket: u32, horizon: u32, link: LinkNo, e
 fn add_visit(sums: &mut [u64], counts: &mut [u64], place: usize, steps: u32)
     requires place { place < length sums.old }
     requires many { length counts.old ≡ length sums.old }
-    requires room { (slice_index sums.old place + steps < 2 ^ 64) × (slice_index counts.old place + 1 < 2 ^ 64) }
+    requires room { (slice_index sums.old place + steps < 2 ^ 64)
+        × (slice_index counts.old place + 1 < 2 ^ 64) }
     ensures sums { sums.new ≡ slice_set sums.old place (slice_index sums.old place + steps) }
     ensures counts { counts.new ≡ slice_set counts.old place (slice_index counts.old place + 1) }
 {
@@ -62,7 +64,9 @@ fn add_journey(
     requires within { AreWithin (vehicle * MOST_HORIZON) sums.old counts.old }
     ensures size { length sums.new ≡ length sums.old }
     ensures many { length counts.new ≡ length sums.new }
-    ensures added { AreAdded (plan_of loading.now) bucket buckets (moves_along vehicle route.now entries.now arrival) sums.old counts.old sums.new counts.new }
+    ensures added { AreAdded (plan_of loading.now) bucket buckets
+        (moves_along vehicle route.now entries.now arrival)
+        sums.old counts.old sums.new counts.new }
     ensures within { AreWithin ((vehicle + 1) * MOST_HORIZON) sums.new counts.new }
 {
     for place in 0..entries.len() {
@@ -99,7 +103,9 @@ fn add_vehicle(
     requires within { AreWithin (vehicle * MOST_HORIZON) sums.old counts.old }
     ensures size { length sums.new ≡ length sums.old }
     ensures many { length counts.new ≡ length sums.new }
-    ensures added { AreAdded (plan_of loading.now) bucket buckets (moves_of vehicle (trace_after (plan_of loading.now) loading.now.horizon)) sums.old counts.old sums.new counts.new }
+    ensures added { AreAdded (plan_of loading.now) bucket buckets
+        (moves_of vehicle (trace_after (plan_of loading.now) loading.now.horizon))
+        sums.old counts.old sums.new counts.new }
     ensures within { AreWithin ((vehicle + 1) * MOST_HORIZON) sums.new counts.new }
 {
     if let Some(route) = loading.routes.get(vehicle) {
@@ -137,7 +143,8 @@ fn add_journeys(
     requires none { All (λ x. x ≡ 0) counts.old }
     ensures size { length sums.new ≡ length sums.old }
     ensures many { length counts.new ≡ length sums.new }
-    ensures added { AreSums (plan_of loading.now) bucket buckets (length loading.now.trips.now) sums.new counts.new }
+    ensures added { AreSums (plan_of loading.now) bucket buckets (length loading.now.trips.now)
+        sums.new counts.new }
     ensures within { AreWithin (MOST_TRIPS * MOST_HORIZON) sums.new counts.new }
 {
     for vehicle in 0..loading.trips.len() as u32 {
@@ -164,10 +171,13 @@ pub fn sums_of(
     requires loaded { loaded.now ≡ journeys_of (plan_of loading.now) }
     requires bucket { 1 ≤ bucket }
     requires buckets { buckets ≡ buckets_to bucket loading.now.horizon }
-    ensures size { IfOk result (λ s. length s.sums.items ≡ length loading.now.net.now.links * buckets) }
+    ensures size { IfOk result (λ s.
+        length s.sums.items ≡ length loading.now.net.now.links * buckets) }
     ensures many { IfOk result (λ s. length s.counts.items ≡ length s.sums.items) }
-    ensures added { IfOk result (λ s. AreSums (plan_of loading.now) bucket buckets (length loading.now.trips.now) s.sums.items s.counts.items) }
-    ensures within { IfOk result (λ s. AreWithin (MOST_TRIPS * MOST_HORIZON) s.sums.items s.counts.items) }
+    ensures added { IfOk result (λ s. AreSums (plan_of loading.now) bucket buckets
+        (length loading.now.trips.now) s.sums.items s.counts.items) }
+    ensures within { IfOk result (λ s.
+        AreWithin (MOST_TRIPS * MOST_HORIZON) s.sums.items s.counts.items) }
 {
     let cells = loading.net.link_count() as usize * buckets as usize;
     let mut sums = vec![in alloc; 0u64; cells]?;

@@ -10,10 +10,12 @@
 #![tactic(auto)]
 
 mod adding;
+mod laws;
 mod means;
 mod table;
 mod visit;
 
+pub use laws::link_times_in_any_order;
 pub use table::LinkTimes;
 
 #[cfg(test)]

@@ -1,5 +1,6 @@
 // Times of buckets, and the lists of a table.
-ghost use Rattle.std.specs.Prelude.{◌≡◌, ℕ, ◌+◌, ◌*◌, ◌/◌, ◌<◌, ◌≤◌, ◌^◌, List, length, slice_index, All, IfOk, IsTrue, map, ◌↔◌};
+ghost use Rattle.std.specs.Prelude.{◌≡◌, ℕ, ◌+◌, ◌*◌, ◌/◌, ◌<◌, ◌≤◌, ◌^◌, List, length};
+ghost use Rattle.std.specs.Prelude.{slice_index, All, IfOk, IsTrue, map, ◌↔◌};
 ghost use Rattle.dta_model.specs.LinkTimes.{free_steps as steps_of_links, mean_time};
 ghost use Rattle.net_core.specs.Network.{IsNet};
 ghost use Rattle.link_times.specs.Means.{AreFree, AreMeans};
@@ -41,7 +42,8 @@ pub fn means(
     requires size { length sums.now ≡ length free.now * buckets }
     requires many { length counts.now ≡ length sums.now }
     requires within { AreWithin (MOST_TRIPS * MOST_HORIZON) sums.now counts.now }
-    ensures { IfOk result (λ times. AreMeans free.now buckets sums.now counts.now times.items (length sums.now)) }
+    ensures { IfOk result (λ times. AreMeans free.now buckets sums.now counts.now times.items
+        (length sums.now)) }
 {
     let mut times = Vec::with_capacity(alloc, sums.len())?;
     for place in 0..sums.len() {
@@ -55,7 +57,8 @@ pub fn free_times(alloc: Global, free: &[u32], buckets: u32) -> Result<Vec<u32>,
     requires least { All (λ f. 1 ≤ f) free.now }
     requires few { length free.now ≤ MOST_LINKS }
     requires buckets { 1 ≤ buckets }
-    ensures { IfOk result (λ times. AreFree free.now buckets times.items (length free.now * buckets)) }
+    ensures { IfOk result (λ times.
+        AreFree free.now buckets times.items (length free.now * buckets)) }
 {
     let cells = free.len() * buckets as usize;
     let mut times = Vec::with_capacity(alloc, cells)?;

@@ -1,7 +1,9 @@
 // The times of links by the bucket of their entry.
-ghost use Rattle.std.specs.Prelude.{◌≡◌, ℕ, ◌+◌, ◌*◌, ◌<◌, ◌≤◌, ◌^◌, List, length, All, IfOk, [], replicate};
+ghost use Rattle.std.specs.Prelude.{◌≡◌, ℕ, ◌+◌, ◌*◌, ◌<◌, ◌≤◌, ◌^◌, List, length, All, IfOk, []};
+ghost use Rattle.std.specs.Prelude.{replicate};
 ghost use Rattle.dta_model.specs.Lent.{plan_of};
-ghost use Rattle.dta_model.specs.LinkTimes.{bucket_count, buckets_to, entered_in, free_table, table_in, table_of, time_at, TimeTable};
+ghost use Rattle.dta_model.specs.LinkTimes.{bucket_count, buckets_to, entered_in, free_table};
+ghost use Rattle.dta_model.specs.LinkTimes.{table_in, table_of, time_at, TimeTable};
 ghost use Rattle.dta_model.specs.Loading.{journeys_of};
 ghost use Rattle.dta_model.specs.Sound.{IsSound};
 ghost use Rattle.dta_model.specs.declared.plan.Plan.{Plan};
@@ -61,7 +63,8 @@ impl LinkTimes {
         requires bucket { 1 ≤ bucket }
         requires horizon { 1 ≤ horizon }
         ensures table { IfOk result (λ table. table ≡ free_table net.now bucket horizon) }
-        ensures empty { (p : Plan) → p.net ≡ net.now → p.horizon ≡ horizon → IfOk result (λ table. table ≡ table_in p bucket []) }
+        ensures empty { (p : Plan) → p.net ≡ net.now → p.horizon ≡ horizon
+            → IfOk result (λ table. table ≡ table_in p bucket []) }
     {
         let buckets = buckets_until(bucket, horizon);
         let free = free_steps(alloc, net)?;
@@ -112,7 +115,13 @@ impl LinkTimes {
         requires many { length counts.items ≡ length times.items }
         requires free { All (λ f. 1 ≤ f) free.items }
         requires times { All (λ x. 1 ≤ x) times.items }
-        ensures { IfOk result (λ table. table ≡ record { bucket = bucket; horizon = horizon; free = free.items; times = times.items; entered = counts.items }) }
+        ensures { IfOk result (λ table. table ≡ record {
+          bucket = bucket;
+          horizon = horizon;
+          free = free.items;
+          times = times.items;
+          entered = counts.items;
+        }) }
     {
         let buckets = buckets_until(bucket, horizon);
         let counts = if are_narrow(&counts) {
@@ -138,7 +147,13 @@ impl LinkTimes {
         requires size { length times.items ≡ length free.items * buckets_to bucket horizon }
         requires free { All (λ f. 1 ≤ f) free.items }
         requires times { All (λ x. 1 ≤ x) times.items }
-        ensures { result ≡ record { bucket = bucket; horizon = horizon; free = free.items; times = times.items; entered = replicate (length times.items) 0 } }
+        ensures { result ≡ record {
+          bucket = bucket;
+          horizon = horizon;
+          free = free.items;
+          times = times.items;
+          entered = replicate (length times.items) 0;
+        } }
     {
         LinkTimes {
             bucket,

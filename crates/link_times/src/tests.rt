@@ -19,7 +19,14 @@ fn node(zone: u64) -> NodeRow
 }
 
 fn link(id: u64, from: u32, to: u32) -> LinkRow
-    ensures { result ≡ record { id = id; from = record { 0 = from }; to = record { 0 = to }; free = 10; storage = 125; rate = 600000000 } }
+    ensures { result ≡ record {
+      id = id;
+      from = record { 0 = from };
+      to = record { 0 = to };
+      free = 10;
+      storage = 125;
+      rate = 600000000;
+    } }
 {
     LinkRow {
         id,
@@ -75,7 +82,10 @@ fn a_given_table(rt: HostRuntime) -> Result<(), Fail> {
 
 // The journey of a vehicle that enters both links and arrives.
 fn journey(alloc: Global, first: u32, second: u32, arrival: u32) -> Result<Journey, Memory>
-    ensures { IfOk result (λ j. j ≡ record { entries = first ∷ second ∷ []; arrival = Some arrival }) }
+    ensures { IfOk result (λ j. j ≡ record {
+      entries = first ∷ second ∷ [];
+      arrival = Some arrival;
+    }) }
 {
     let entries = vec![in alloc; first, second]?;
     Ok(Journey {
@@ -140,16 +150,7 @@ fn a_table_of_a_loading(rt: HostRuntime) -> Result<(), Fail> {
         trips: &trips,
         routes: &routes,
     };
-    let times = LinkTimes::of(alloc, &loading, &loaded, 50);
-    let Loading {
-        net: _,
-        queue: _,
-        delta: _,
-        horizon: _,
-        trips: _,
-        routes: _,
-    } = loading;
-    let times = times?;
+    let times = LinkTimes::of(alloc, &loading, &loaded, 50)?;
     assert_eq!(rt; (times.buckets(), times.horizon()), (2, 60));
     Ok(())
 }

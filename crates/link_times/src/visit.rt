@@ -1,8 +1,10 @@
 // The steps that one visit takes.
-ghost use Rattle.std.specs.Prelude.{◌≡◌, ℕ, suc, ◌+◌, ◌<◌, ◌≤◌, List, length, slice_get, slice_index, Option};
+ghost use Rattle.std.specs.Prelude.{◌≡◌, ℕ, suc, ◌+◌, ◌<◌, ◌≤◌, List, length, slice_get};
+ghost use Rattle.std.specs.Prelude.{slice_index, Option};
 ghost use Rattle.dta_model.specs.Lent.{plan_of};
-ghost use Rattle.dta_model.specs.LinkTimes.{penalty_in, visit_time};
+ghost use Rattle.dta_model.specs.LinkTimes.{visit_time};
 ghost use Rattle.dta_model.specs.Sound.{IsSound};
+ghost use Rattle.dta_model.specs.TimedWalks.{penalty_steps};
 ghost use Rattle.net_core.specs.Network.{turn as turn_between};
 ghost use Rattle.link_times.specs.Journeys.{HasGone, link_on, moves_along};
 
@@ -13,7 +15,7 @@ use net_core::{LinkNo, Net};
 fn penalty(net: &Net, a: LinkNo, b: LinkNo) -> u32
     requires from { a.0 < length net.now.links }
     requires to { b.0 < length net.now.links }
-    ensures { result ≡ penalty_in (turn_between net.now a.0 b.0) }
+    ensures { result ≡ penalty_steps (turn_between net.now a.0 b.0) }
 {
     match net.turn(a, b) {
         Some(turn) => turn.penalty,
@@ -33,7 +35,9 @@ pub fn visit_steps(
     requires sound { IsSound (plan_of loading.now) }
     requires gone { HasGone (plan_of loading.now) vehicle route.now entries.now arrival }
     requires place { place < length entries.now }
-    ensures time { result ≡ visit_time (plan_of loading.now) (link_on route.now place) (slice_index entries.now place) (slice_get (moves_along vehicle route.now entries.now arrival) (suc place)) }
+    ensures time { result ≡ visit_time (plan_of loading.now)
+        (link_on route.now place) (slice_index entries.now place)
+        (slice_get (moves_along vehicle route.now entries.now arrival) (suc place)) }
     ensures least { 1 ≤ result }
     ensures most { result ≤ MOST_HORIZON }
 {

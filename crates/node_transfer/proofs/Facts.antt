@@ -2,7 +2,7 @@
 use Rattle.net_core.specs.Network as network
 use Rattle.net_core.specs.Network.{numbers_below}
 use Rattle.net_core.specs.declared.rows.LinkNo.{LinkNo}
-use Rattle.net_core.specs.declared.rows.Turn.{Turn as NetTurn}
+use Rattle.net_core.specs.declared.rows.Turn.{Turn}
 use Rattle.std.specs.List.{range_with_len, last_or}
 use Rattle.std.specs.Prelude.{filter, find, slice_get, ◌≢◌, nat_eq, IsSome, option_map}
 use Rattle.std.proofs.Common.{◌≡◌, ℕ, zero, suc, ◌+◌, ◌<◌, ◌≤◌, Bool, true, false, cond, List, [], ◌∷◌, ◌++◌, length, map, refl, ap, sym, ◌∙◌, subst, arith, append_assoc, append-nil, Option, Some, None, ◌⊎◌, inl, inr}
@@ -84,11 +84,11 @@ module _ (p : Plan) (sound : IsSound p) where
           let walk = sound.walks v _ route (slice_get-get_or p.trips v some_trip (omega (arith, within, each))) e in
           (walk.turns i l b h k, all_at (λ x. x < length p.net.links) (link_numbers route) (suc i) b walk.links k)
 
-  some-turn : (l b n : ℕ) → (link_at p l).to.0 ≡ n → IsSome (turn p l b) → (nat_eq (link_at p b).from.0 n ≡ true) × ((way : NetTurn) × (turn p l b ≡ Some way))
+  some-turn : (l b n : ℕ) → (link_at p l).to.0 ≡ n → IsSome (turn p l b) → (nat_eq (link_at p b).from.0 n ≡ true) × ((way : Turn) × (turn p l b ≡ Some way))
   unfolding network.turn
   some-turn l b n to h = turn_step (nat_eq (link_at p b).from.0 (link_at p l).to.0) refl (network.turn_at p.net (link_at p l).to.0 l b) h
     where
-      turn_step : (c : Bool) → nat_eq (link_at p b).from.0 (link_at p l).to.0 ≡ c → (o : Option NetTurn) → IsSome (cond c o None) → (nat_eq (link_at p b).from.0 n ≡ true) × ((way : NetTurn) × (cond c o None ≡ Some way))
+      turn_step : (c : Bool) → nat_eq (link_at p b).from.0 (link_at p l).to.0 ≡ c → (o : Option Turn) → IsSome (cond c o None) → (nat_eq (link_at p b).from.0 n ≡ true) × ((way : Turn) × (cond c o None ≡ Some way))
       turn_step true e (Some way) h = (subst (λ k. nat_eq (link_at p b).from.0 k ≡ true) to e, (way, refl))
       turn_step true e None h = let g : false ≡ true = h in cc
       turn_step false e o h = let g : false ≡ true = h in cc

@@ -1,21 +1,23 @@
 -- The gather of a step leads from the content of a cell after its transfer to that before the next one.
 use Rattle.std.specs.Prelude.{All}
-use Rattle.std.proofs.Common.{◌≡◌, ℕ, suc, ◌-◌, ◌≤◌, List, [], ◌∷◌, ◌++◌, length, length-append, map, refl, ap, sym, ◌∙◌, arith, Some, add-one}
+use Rattle.std.proofs.Common.{◌≡◌, ℕ, suc, ◌-◌, ◌<◌, ◌≤◌, List, [], ◌∷◌, ◌++◌, length, length-append, map, refl, ap, sym, ◌∙◌, arith, Some, add-one}
 use Rattle.std.proofs.lemmas.List.{length-map}
 use Rattle.std.proofs.lemmas.List.Elements.{All-nil, All-cons}
 use Rattle.dta_model.specs.Loading.{trace_after}
 use Rattle.dta_model.specs.Plans.{ins, link_at, outs}
 use Rattle.dta_model.specs.Riders.{RiderState, rider_at, riders}
 use Rattle.dta_model.specs.Room.{room, room_by}
-use Rattle.dta_model.specs.Stages.{batch_mail, line_after, line_before, room_mail, waiting_after, waiting_before, cell_after as content_after, cell_before as content_before}
+use Rattle.dta_model.specs.Sound.{IsSound}
+use Rattle.dta_model.specs.Stages.{batch_mail, line_after, line_before, room_mail, waiting_after, waiting_before}
 use Rattle.dta_model.specs.Trace.{queue_of}
 use Rattle.dta_model.specs.declared.plan.Plan.{Plan}
 use Rattle.dta_model.specs.declared.queue.Queue.{Queue}
 use Rattle.dta_model.specs.declared.queue.Queue.TheVariants as queue
-use Rattle.dta_model.proofs.Cells.{cells_gather}
+use Rattle.dta_model.proofs.NextLines.{next-lines, next-waiting}
 use Rattle.link_queues.specs.declared.line.TheConstants.{MOST_RIDERS}
 use Rattle.node_transfer.specs.Cells.{CanGather, gathered, gathered_link, room_after}
-use Rattle.node_transfer.specs.Contents.{IsStep, away, batch_of, cell_after, cell_before, gate_after, in_link, out_link, room_of, storage_by}
+use Rattle.node_transfer.specs.Contents.{away, batch_of, cell_after, cell_before, exit_after, in_link, out_link, room_of, storage_by}
+use Rattle.node_transfer.specs.Laws.{CellsGather}
 use Rattle.node_transfer.specs.declared.in_link.InLink.{InLink}
 use Rattle.node_transfer.specs.declared.mail.Mail.TheVariants.{Room}
 use Rattle.node_transfer.proofs.InPass.{few-on, staying-none}
@@ -38,20 +40,12 @@ room-same p t l = by_queue p.queue (length-map (queue_of l (trace_after p t)) (r
     by_queue queue.Point e = refl
     by_queue queue.Spatial e = ap (λ k. Some ((link_at p l).storage - k)) e
 
-module _ (p : Plan) (n t : ℕ) (step : IsStep p n t) where
-  pub lines-gather : map (line_before p (suc t)) (ins p n) ≡ map (λ l. line_after p n t l ++ batch_mail p l t) (ins p n)
-  unfolding content_before content_after
-  lines-gather = ap (λ c. c.lines) (cells_gather p step.sound t n step.node)
-
-  pub waiting-stays : map (waiting_before p (suc t)) (outs p n) ≡ map (waiting_after p n t) (outs p n)
-  unfolding content_before content_after
-  waiting-stays = ap (λ c. c.waiting) (cells_gather p step.sound t n step.node)
-
+module _ (p : Plan) (n t : ℕ) (sound : IsSound p) (node : n < length p.net.nodes) where
   -- an in-link with such a line, and the room that the line leaves
   abbrev with_room : ℕ → List RiderState → InLink
   with_room l line = record {
     line = line;
-    gate = gate_after p n (suc t) l;
+    exit = exit_after p n (suc t) l;
     storage = storage_by p.queue (link_at p l).storage;
     mail = Room (suc t) (room_after (storage_by p.queue (link_at p l).storage) line);
   }
@@ -72,23 +66,23 @@ module _ (p : Plan) (n t : ℕ) (step : IsStep p n t) where
   unfolding cell_before cell_after
   gather-stage =
       ap (λ is. record (cell_after p n t (batch_of p t) away) { ins = is })
-      (ins-gather (ins p n) ∙ sym (map_each (line_before p (suc t)) (λ l. line_after p n t l ++ batch_mail p l t) with_room (ins p n) lines-gather) ∙ rooms-told (ins p n))
+      (ins-gather (ins p n) ∙ sym (map_each (line_before p (suc t)) (λ l. line_after p n t l ++ batch_mail p l t) with_room (ins p n) (next-lines p sound t n node)) ∙ rooms-told (ins p n))
       ∙ ap (λ os. record (cell_before p n (suc t) (room_of p (suc t)) away) { outs = os })
-      (sym (map_each (waiting_before p (suc t)) (waiting_after p n t) (λ b w. out_link p (suc t) (λ c. w) away b) (outs p n) waiting-stays))
+      (sym (map_each (waiting_before p (suc t)) (waiting_after p n t) (λ b w. out_link p (suc t) (λ c. w) away b) (outs p n) (next-waiting p sound t n node)))
 
   few-before : (l : ℕ) → length (line_before p (suc t) l) ≤ MOST_RIDERS
   unfolding line_before
   few-before l =
-      let few = few-on p step.sound n (suc t) l [] in
+      let few = few-on p sound n (suc t) l [] in
       let same = ap (λ Q. length Q) (staying-none (queue_of l (trace_after p (suc t)))) in
       let count = length-map (queue_of l (trace_after p (suc t))) (rider_at p (trace_after p (suc t))) in
-      let most = step.sound.trips.few in
+      let most = sound.trips.few in
       omega (arith, few, same, count, most)
 
   -- the lines have room for the batches
   pub can-gather : All (CanGather t) (cell_after p n t (batch_of p t) away).ins
   unfolding cell_after
-  can-gather = all_can (ins p n) lines-gather
+  can-gather = all_can (ins p n) (next-lines p sound t n node)
     where
       all_can : (ls : List ℕ) → map (line_before p (suc t)) ls ≡ map (λ l. line_after p n t l ++ batch_mail p l t) ls → All (CanGather t) (map (in_link p n (suc t) (line_after p n t) (batch_of p t)) ls)
       all_can [] h = All-nil _
@@ -99,3 +93,6 @@ module _ (p : Plan) (n t : ℕ) (step : IsStep p n t) where
           let e : length (line_before p (suc t) l) ≡ length (line_after p n t l ++ batch_mail p l t) = ap (λ L. length L) here in
           All-cons (CanGather t) (in_link p n (suc t) (line_after p n t) (batch_of p t) l) (map (in_link p n (suc t) (line_after p n t) (batch_of p t)) ls)
           (record { batch = refl; fits = omega (arith, few, e, length-append (line_after p n t l) (batch_mail p l t)) }) (all_can ls rest)
+
+pub cells_gather : CellsGather
+cells_gather p sound t n node = sym (gather-stage p n t sound node)

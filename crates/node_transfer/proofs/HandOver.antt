@@ -9,23 +9,23 @@ use Rattle.std.proofs.lemmas.List.Elements.{All-nil, All-cons, All-weaker}
 use Rattle.std.proofs.lemmas.List.FromFn.{length-map-range_with_len, get_or-map-range_with_len}
 use Rattle.std.proofs.lemmas.Option.{slice_get-get_or, slice_get_within}
 use Rattle.std.proofs.Math.Dec.{eqb}
-use Rattle.dta_model.specs.HandOver.{all_riders, riders_of}
+use Rattle.dta_model.specs.HandOver.{AreVehicles, all_riders, riders_at}
 use Rattle.dta_model.specs.Loading.{arrival_of, entries_of, journey_of, journeys_of, trace_after}
 use Rattle.dta_model.specs.Plans.{all_nodes, departure_of, ins, outs, vehicle_count, vehicles_of}
 use Rattle.dta_model.specs.Riders.{RiderState, rider_at, riders}
 use Rattle.dta_model.specs.Sound.{IsSound}
-use Rattle.dta_model.specs.Stages.{arrived_before, line_before, waiting_before, waiting_for, cell_before as content_before}
+use Rattle.dta_model.specs.Stages.{arrived_before, line_before, waiting_before, waiting_for}
 use Rattle.dta_model.specs.State.{is_due, is_routed, some_route}
 use Rattle.net_core.specs.declared.rows.LinkNo.{LinkNo}
 use Rattle.dta_model.proofs.ByNumber.{all_numbered}
-use Rattle.node_transfer.specs.Laws.{CellsHandOver}
+use Rattle.node_transfer.specs.Laws.{CellsHandOver, CellsHoldAll}
 use Rattle.node_transfer.proofs.Hands.{all_split}
 use Rattle.dta_model.specs.Trace.{has_moved, moves_of}
 use Rattle.dta_model.specs.declared.loaded.Journey.{Journey}
 use Rattle.dta_model.specs.declared.plan.Plan.{Plan}
 use Rattle.dta_model.proofs.Fuel.{Lawful, trace-lawful}
 use Rattle.dta_model.proofs.Gathering.{no-moves}
-use Rattle.dta_model.proofs.HandOver.{cells_hold_all}
+use Rattle.dta_model.proofs.HandOver.{nodes_hold_all}
 use Rattle.dta_model.proofs.Places.{of_mover}
 use Rattle.node_transfer.proofs.ByKey.{both_true}
 use Rattle.node_transfer.specs.Contents.{away, cell_before, in_link, out_link, waiting_parts}
@@ -70,29 +70,29 @@ module _ (p : Plan) (sound : IsSound p) (t : ℕ) where
       map_append f [] ys = refl
       map_append f (x ∷ xs) ys = ap (λ zs. f x ∷ zs) (map_append f xs ys)
 
-  lines-in : (n : ℕ) (mail : ℕ → Mail) (ls : List ℕ) → flat_map line_of (map (in_link p n t (line_before p t) mail) ls) ≡ flat_map (λ x. x) (map (line_before p t) ls)
+  lines-in : (n : ℕ) (mail : ℕ → Mail) (ls : List ℕ) → flat_map line_of (map (in_link p n t (line_before p t) mail) ls) ≡ flat_map (line_before p t) ls
   lines-in n mail [] = refl
   lines-in n mail (l ∷ ls) = ap (λ xs. line_before p t l ++ xs) (lines-in n mail ls)
 
-  waiting-in : (mail : ℕ → Mail) (bs : List ℕ) → flat_map waiting_of (map (out_link p t (waiting_before p t) mail) bs) ≡ flat_map (λ x. x) (map (waiting_before p t) bs)
+  waiting-in : (mail : ℕ → Mail) (bs : List ℕ) → flat_map waiting_of (map (out_link p t (waiting_before p t) mail) bs) ≡ flat_map (waiting_before p t) bs
   waiting-in mail [] = refl
   waiting-in mail (b ∷ bs) = ap (λ x. x ++ flat_map waiting_of (map (out_link p t (waiting_before p t) mail) bs)) (one-line b) ∙ ap (λ xs. waiting_before p t b ++ xs) (waiting-in mail bs)
 
-  -- the riders of a cell are those of its content
-  pub riders-in-cell : (n : ℕ) (in_mail out_mail : ℕ → Mail) → riders_in (cell_before p n t in_mail out_mail) ≡ riders_of (content_before p n t)
-  unfolding cell_before content_before
+  -- the riders of a cell are those of its node
+  pub riders-in-cell : (n : ℕ) (in_mail out_mail : ℕ → Mail) → riders_in (cell_before p n t in_mail out_mail) ≡ riders_at p t n
+  unfolding cell_before
   riders-in-cell n in_mail out_mail =
       ap (λ a. a ++ (flat_map waiting_of (map (out_link p t (waiting_before p t) out_mail) (outs p n)) ++ arrived_before p n t)) (lines-in n in_mail (ins p n))
-      ∙ ap (λ a. flat_map (λ x. x) (map (line_before p t) (ins p n)) ++ (a ++ arrived_before p n t)) (waiting-in out_mail (outs p n))
+      ∙ ap (λ a. flat_map (line_before p t) (ins p n) ++ (a ++ arrived_before p n t)) (waiting-in out_mail (outs p n))
 
-  cells-riders : (ns : List ℕ) → flat_map riders_in (map (λ n. cell_before p n t away away) ns) ≡ flat_map (λ n. riders_of (content_before p n t)) ns
-  cells-riders [] = refl
-  cells-riders (n ∷ ns) = ap (λ x. x ++ flat_map riders_in (map (λ n. cell_before p n t away away) ns)) (riders-in-cell n away away) ∙ ap (λ xs. riders_of (content_before p n t) ++ xs) (cells-riders ns)
+  cells-riders : (f g : ℕ → Mail) (ns : List ℕ) → flat_map riders_in (map (λ n. cell_before p n t f g) ns) ≡ flat_map (riders_at p t) ns
+  cells-riders f g [] = refl
+  cells-riders f g (n ∷ ns) = ap (λ x. x ++ flat_map riders_in (map (λ n. cell_before p n t f g) ns)) (riders-in-cell n f g) ∙ ap (λ xs. riders_at p t n ++ xs) (cells-riders f g ns)
 
   -- all cells have the riders of the loading
-  pub riders-in-cells : flat_map riders_in (map (λ n. cell_before p n t away away) (all_nodes p)) ≡ all_riders p t
+  pub riders-in-cells : (f g : ℕ → Mail) → flat_map riders_in (map (λ n. cell_before p n t f g) (all_nodes p)) ≡ all_riders p t
   unfolding all_riders
-  riders-in-cells = cells-riders (all_nodes p)
+  riders-in-cells f g = cells-riders f g (all_nodes p)
 
 -- the journey of a number, after all riders have handed over theirs
 abbrev last_journey : List RiderState → Option Journey → Option Journey
@@ -175,7 +175,7 @@ module _ (p : Plan) (sound : IsSound p) where
       same_lists (handed all start) (map (journey_of p) (vehicles_of p)) (omega (arith, many, count, total))
       (λ v h. let below : v < vehicle_count p = omega (arith, h, many, count) in
       handed-at all start v (omega (arith, h, many))
-      ∙ ap (λ rs. last_journey rs (slice_get start v)) ((cells_hold_all p sound p.horizon).once v)
+      ∙ ap (λ rs. last_journey rs (slice_get start v)) ((nodes_hold_all p sound p.horizon).once v)
       ∙ ap (λ o. last_journey (cond (is_routed p v) (rider_at p (trace_after p p.horizon) v ∷ []) []) o) (at_number (λ v. no_journey) (vehicle_count p) v below)
       ∙ journey-at v
       ∙ sym (at_number (journey_of p) (vehicle_count p) v below))
@@ -195,7 +195,7 @@ module _ (p : Plan) (sound : IsSound p) where
 
   -- the riders of the loading are vehicles of the plan
   all-within : (t : ℕ) → All (Within (vehicle_count p)) (all_riders p t)
-  all-within t = all_numbered (λ v r. v < vehicle_count p) (all_riders p t) (λ v. subst (λ L. All (λ r. v < vehicle_count p) L) (sym ((cells_hold_all p sound t).once v)) (by_route v (is_routed p v) refl)) (rider_at p [] 0)
+  all-within t = all_numbered (λ v r. v < vehicle_count p) (all_riders p t) (λ v. subst (λ L. All (λ r. v < vehicle_count p) L) (sym ((nodes_hold_all p sound t).once v)) (by_route v (is_routed p v) refl)) (rider_at p [] 0)
     where
       by_route : (v : ℕ) (c : Bool) → is_routed p v ≡ c → All (λ r. v < vehicle_count p) (cond c (rider_at p (trace_after p t) v ∷ []) [])
       by_route v true e = All-cons (λ r. v < vehicle_count p) (rider_at p (trace_after p t) v) [] (routed-below v e) (All-nil _)
@@ -205,7 +205,7 @@ module _ (p : Plan) (sound : IsSound p) where
   unfolding all_riders
   cell-within n t f g h =
       subst (λ rs. All (Within (vehicle_count p)) rs) (sym (riders-in-cell p sound t n f g))
-      (all_part (λ m. riders_of (content_before p m t)) n (length p.net.nodes) 0 (omega arith) (omega (arith, h)) (all-within t))
+      (all_part (riders_at p t) n (length p.net.nodes) 0 (omega arith) (omega (arith, h)) (all-within t))
     where
       all_part : (part : ℕ → List RiderState) (n k from : ℕ) → from ≤ n → n < from + k → All (Within (vehicle_count p)) (flat_map part (range_with_len from k)) → All (Within (vehicle_count p)) (part n)
       all_part part n zero from low high a = absurd (omega (arith, low, high))
@@ -219,5 +219,8 @@ module _ (p : Plan) (sound : IsSound p) where
 pub cells_hand_over : CellsHandOver
 cells_hand_over p sound = record {
   within = λ n t f g h. cell-within p sound n t f g h;
-  journeys = ap (λ rs. handed rs (no_journeys (vehicle_count p))) (riders-in-cells p sound p.horizon) ∙ all-handed p sound;
+  journeys = ap (λ rs. handed rs (no_journeys (vehicle_count p))) (riders-in-cells p sound p.horizon away away) ∙ all-handed p sound;
 }
+
+pub cells_hold_all : CellsHoldAll
+cells_hold_all p sound t f g = subst (AreVehicles p t) (sym (riders-in-cells p sound t f g)) (nodes_hold_all p sound t)

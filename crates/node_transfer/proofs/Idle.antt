@@ -17,7 +17,8 @@ use Rattle.node_transfer.specs.declared.in_link.InLink.{InLink}
 use Rattle.node_transfer.specs.declared.mail.Mail.{Mail}
 use Rattle.node_transfer.specs.declared.mail.Mail.TheVariants.{Away}
 use Rattle.node_transfer.specs.declared.out_link.OutLink.{OutLink}
-use Rattle.node_transfer.proofs.Gather.{lines-gather, map_each, room-same, waiting-stays}
+use Rattle.dta_model.proofs.NextLines.{next-lines, next-waiting}
+use Rattle.node_transfer.proofs.Gather.{map_each, room-same}
 use Rattle.node_transfer.proofs.Quiet.{rested_with, transferred-rests}
 use Rattle.node_transfer.proofs.Transfer.{transfer-stage}
 
@@ -178,7 +179,7 @@ module _ (p : Plan) (n t : ℕ) (step : IsStep p n t) where
       ∙ ap (λ xs. line_after p n t l ∷ xs) (nothing-joins ls (All-tail (λ l. batch_mail p l t ≡ []) l ls a))
 
   lines-same : NobodyComes p n t → map (line_before p (suc t)) (ins p n) ≡ map (line_after p n t) (ins p n)
-  lines-same none = lines-gather p n t step ∙ nothing-joins (ins p n) (nobody none)
+  lines-same none = next-lines p step.sound t n step.node ∙ nothing-joins (ins p n) (nobody none)
 
   each-same : (ls : List ℕ) → map (line_before p (suc t)) ls ≡ map (line_after p n t) ls
       → All (λ l. line_before p (suc t) l ≡ line_after p n t l) ls
@@ -194,7 +195,7 @@ module _ (p : Plan) (n t : ℕ) (step : IsStep p n t) where
       ap (λ is. record (cell_before p n (suc t) away away) { ins = is })
       (map_each (line_before p (suc t)) (line_after p n t) (λ l line. in_link p n (suc t) (λ c. line) away l) (ins p n) (lines-same none))
       ∙ ap (λ os. record (cell_after p n t away away) { outs = os })
-      (map_each (waiting_before p (suc t)) (waiting_after p n t) (λ b line. out_link p (suc t) (λ c. line) away b) (outs p n) (waiting-stays p n t step))
+      (map_each (waiting_before p (suc t)) (waiting_after p n t) (λ b line. out_link p (suc t) (λ c. line) away b) (outs p n) (next-waiting p step.sound t n step.node))
 
   -- and the links keep their rooms
   rooms-stay : InsStay (ins p n) → NobodyComes p n t → (l : ℕ) → l < length p.net.links → (link_at p l).to.0 ≡ n

@@ -22,14 +22,14 @@ use Rattle.dta_model.proofs.Places.{of_mover}
 use Rattle.dta_model.proofs.Queues.{absent, distinct, queue-distinct, leads_once}
 use Rattle.dta_model.proofs.Standing.{in-queue}
 use Rattle.node_transfer.specs.Cells.{passed_link, passed_links, passed_front, passed_rotated, link_after, put_first, joined_behind}
-use Rattle.node_transfer.specs.Contents.{in_link, gate_after, away}
-use Rattle.node_transfer.specs.Pass.{opened_gate}
+use Rattle.node_transfer.specs.Contents.{in_link, exit_after, away}
+use Rattle.node_transfer.specs.Pass.{opened_exit}
 use Rattle.node_transfer.specs.declared.in_link.InLink.{InLink}
 use Rattle.node_transfer.proofs.ByKey.{head_parts}
 use Rattle.node_transfer.proofs.Facts.{on-link}
 use Rattle.node_transfer.proofs.LinkPass.{drains, pass_of, work_of, pass_same}
-use Rattle.node_transfer.proofs.Meters.{gate-opens, gate-closes}
-use Rattle.node_transfer.proofs.Mid.{T, line_mid, gate_mid, out_mid, arrived_mid, in_done}
+use Rattle.node_transfer.proofs.Meters.{exit-opens, exit-closes}
+use Rattle.node_transfer.proofs.Mid.{T, line_mid, exit_mid, out_mid, arrived_mid, in_done}
 use Rattle.node_transfer.proofs.Movers.{distinct_filter, staying-same, clash}
 
 pub staying-none : (Q : List ℕ) → staying [] Q ≡ Q
@@ -111,8 +111,8 @@ module _ (p : Plan) (sound : IsSound p) (n t : ℕ) where
       → passed_link p.delta t (in_before l) (map (out_mid p n t M) (outs p n)) (arrived_mid p n t M) ≡ record { link = in_done p n t M' l; outs = map (out_mid p n t M') (outs p n); arrived = arrived_mid p n t M' }
   link-passes l to M M' none r =
       ap (λ w. link_after (in_before l) w)
-      (pass_same t (line_before p t l) (line_mid p n t M l) (opened_gate p.delta (gate_after p n t l)) (gate_mid p n t M l) (map (out_mid p n t M) (outs p n)) (map (out_mid p n t M) (outs p n)) (arrived_mid p n t M) (arrived_mid p n t M) (line-before l to M none) (gate-opens p n t M l (none-left l M none)) refl refl ∙ r)
-      ∙ ap (λ g. record { link = record (in_before l) { line = line_mid p n t M' l; gate = g }; outs = map (out_mid p n t M') (outs p n); arrived = arrived_mid p n t M' }) (gate-closes p n t M' l)
+      (pass_same t (line_before p t l) (line_mid p n t M l) (opened_exit p.delta (exit_after p n t l)) (exit_mid p n t M l) (map (out_mid p n t M) (outs p n)) (map (out_mid p n t M) (outs p n)) (arrived_mid p n t M) (arrived_mid p n t M) (line-before l to M none) (exit-opens p n t M l (none-left l M none)) refl refl ∙ r)
+      ∙ ap (λ g. record { link = record (in_before l) { line = line_mid p n t M' l; exit = g }; outs = map (out_mid p n t M') (outs p n); arrived = arrived_mid p n t M' }) (exit-closes p n t M' l)
 
   -- several in-links
   pub record InsPass (M : List Move) (ls : List ℕ) (M' : List Move) : Type 0 where

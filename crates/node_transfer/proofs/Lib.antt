@@ -18,6 +18,7 @@ pub mod Due
 pub mod Transfer
 pub mod Gather
 pub mod Totals
+pub mod AddUp
 pub mod Starts
 pub mod Opened
 pub mod Counts
@@ -31,7 +32,10 @@ pub mod Ready
 pub mod Numbers
 pub mod ListPlaces
 pub mod Parts
+pub mod Sets
+pub mod Puts
 pub mod Exchanges
+pub mod Lending
 pub mod Finished
 pub mod Handed
 pub mod Cases

@@ -19,12 +19,12 @@ use Rattle.dta_model.proofs.Queues.{distinct, queue-distinct}
 use Rattle.node_transfer.specs.Contents.{kept_turns}
 use Rattle.node_transfer.specs.Pass.{Work, passed, verdict, place_of}
 use Rattle.node_transfer.specs.declared.out_link.OutLink.{OutLink}
-use Rattle.node_transfer.specs.declared.pass.Gate.{Gate}
+use Rattle.node_transfer.specs.declared.pass.Exit.{Exit}
 use Rattle.node_transfer.specs.declared.pass.Verdict.TheVariants.{Stays, Arrives, Enters}
 use Rattle.node_transfer.proofs.Facts.{OnLink, on-link}
-use Rattle.node_transfer.proofs.Mid.{T, line_mid, gate_mid, out_mid, arrived_mid, waiting_mid}
+use Rattle.node_transfer.proofs.Mid.{T, line_mid, exit_mid, out_mid, arrived_mid, waiting_mid}
 use Rattle.node_transfer.proofs.Movers.{distinct_filter, distinct_range, first_leaves, staying_push, staying-same, unmoved_one, waits-unmoved, clash, batch-push, arrive-push}
-use Rattle.node_transfer.proofs.OneMove.{outs-arrival, outs-entry, gate-arrival, gate-entry}
+use Rattle.node_transfer.proofs.OneMove.{outs-arrival, outs-entry, exit-arrival, exit-entry}
 use Rattle.node_transfer.proofs.Passes.{passed-none, passed-stays, passed-arrives, passed-enters}
 use Rattle.node_transfer.proofs.Verdicts.{verdict-head}
 
@@ -46,15 +46,15 @@ pub outs-distinct : (p : Plan) (n : ℕ) → distinct (outs p n) ≡ true
 unfolding network.outs
 outs-distinct p n = distinct_filter (λ l. nat_eq (link_at p l).from.0 n) (network.numbers_below (length p.net.links)) (distinct_range (length p.net.links) 0)
 
-pub pass_same : (step : ℕ) (a a' : List RiderState) (b b' : Gate) (c c' : List OutLink) (d d' : List RiderState) → a ≡ a' → b ≡ b' → c ≡ c' → d ≡ d' → passed step a b c d ≡ passed step a' b' c' d'
+pub pass_same : (step : ℕ) (a a' : List RiderState) (b b' : Exit) (c c' : List OutLink) (d d' : List RiderState) → a ≡ a' → b ≡ b' → c ≡ c' → d ≡ d' → passed step a b c d ≡ passed step a' b' c' d'
 pass_same step a a' b b' c c' d d' e f g h = ap (λ x. passed step x b c d) e ∙ ap (λ x. passed step a' x c d) f ∙ ap (λ x. passed step a' b' x d) g ∙ ap (λ x. passed step a' b' c' x) h
 
 module _ (p : Plan) (sound : IsSound p) (n t l : ℕ) (to : (link_at p l).to.0 ≡ n) where
   abbrev pub pass_of : List Move → Work
-  pass_of M = passed t (line_mid p n t M l) (gate_mid p n t M l) (map (out_mid p n t M) (outs p n)) (arrived_mid p n t M)
+  pass_of M = passed t (line_mid p n t M l) (exit_mid p n t M l) (map (out_mid p n t M) (outs p n)) (arrived_mid p n t M)
 
   abbrev pub work_of : List Move → Work
-  work_of M = record { line = line_mid p n t M l; gate = gate_mid p n t M l; outs = map (out_mid p n t M) (outs p n); arrived = arrived_mid p n t M }
+  work_of M = record { line = line_mid p n t M l; exit = exit_mid p n t M l; outs = map (out_mid p n t M) (outs p n); arrived = arrived_mid p n t M }
 
   -- the head gives no move, and the pass ends; or it gives one, and the pass goes on after it
   pub data HeadStep (M : List Move) : Type 0 where
@@ -80,21 +80,21 @@ module _ (p : Plan) (sound : IsSound p) (n t l : ℕ) (to : (link_at p l).to.0 �
     first-rider : slice_get (line_mid p n t M l) 0 ≡ Some (rider_at p (T p n t) v)
     first-rider = first_map (rider_at p (T p n t)) (staying M (queue_of l (T p n t))) (Some v) first
 
-    goes-out : next_target p (T p n t) v ≡ Arrived → verdict t (gate_mid p n t M l) (map (out_mid p n t M) (outs p n)) (rider_at p (T p n t) v) ≡ Arrives → pass_of M ≡ pass_of (M ++ m0 ∷ [])
+    goes-out : next_target p (T p n t) v ≡ Arrived → verdict t (exit_mid p n t M l) (map (out_mid p n t M) (outs p n)) (rider_at p (T p n t) v) ≡ Arrives → pass_of M ≡ pass_of (M ++ m0 ∷ [])
     goes-out e w =
-        passed-arrives t (line_mid p n t M l) (gate_mid p n t M l) (map (out_mid p n t M) (outs p n)) (arrived_mid p n t M) (rider_at p (T p n t) v) first-rider w
-        ∙ pass_same t _ _ _ _ _ _ _ _ line-drops (gate-arrival p n t M m0 l F.stood e) (sym (outs-arrival p n t M m0 (batch-push p n t M m0 new F.only refl refl) waits (outs p n) e))
+        passed-arrives t (line_mid p n t M l) (exit_mid p n t M l) (map (out_mid p n t M) (outs p n)) (arrived_mid p n t M) (rider_at p (T p n t) v) first-rider w
+        ∙ pass_same t _ _ _ _ _ _ _ _ line-drops (exit-arrival p n t M m0 l F.stood e) (sym (outs-arrival p n t M m0 (batch-push p n t M m0 new F.only refl refl) waits (outs p n) e))
         (append_assoc (arrived_before p n t) (arrive_by p (T p n t) M) (moved (rider_at p (T p n t) v) t ∷ [])
         ∙ ap (λ A. arrived_before p n t ++ A) (sym (arrive-push p n t M m0 new F.only refl refl ∙ ap (λ x. arrive_by p (T p n t) M ++ cond (not (is_onto x)) (moved (rider_at p (T p n t) v) t ∷ []) []) e)))
 
-    goes-on : (b : ℕ) → next_target p (T p n t) v ≡ Onto b → verdict t (gate_mid p n t M l) (map (out_mid p n t M) (outs p n)) (rider_at p (T p n t) v) ≡ Enters (place_of b (outs p n)) (place_of b (kept_turns p n l)) → pass_of M ≡ pass_of (M ++ m0 ∷ [])
+    goes-on : (b : ℕ) → next_target p (T p n t) v ≡ Onto b → verdict t (exit_mid p n t M l) (map (out_mid p n t M) (outs p n)) (rider_at p (T p n t) v) ≡ Enters (place_of b (outs p n)) (place_of b (kept_turns p n l)) → pass_of M ≡ pass_of (M ++ m0 ∷ [])
     goes-on b e w =
-        passed-enters t (line_mid p n t M l) (gate_mid p n t M l) (map (out_mid p n t M) (outs p n)) (arrived_mid p n t M) (rider_at p (T p n t) v) (place_of b (outs p n)) (place_of b (kept_turns p n l)) first-rider w
-        ∙ pass_same t _ _ _ _ _ _ _ _ line-drops (gate-entry p n t M m0 l F.stood b (distinct_filter _ (outs p n) (outs-distinct p n)) e) (outs-entry p n t M m0 (batch-push p n t M m0 new F.only refl refl) waits (outs p n) b (outs-distinct p n) e)
+        passed-enters t (line_mid p n t M l) (exit_mid p n t M l) (map (out_mid p n t M) (outs p n)) (arrived_mid p n t M) (rider_at p (T p n t) v) (place_of b (outs p n)) (place_of b (kept_turns p n l)) first-rider w
+        ∙ pass_same t _ _ _ _ _ _ _ _ line-drops (exit-entry p n t M m0 l F.stood b (distinct_filter _ (outs p n) (outs-distinct p n)) e) (outs-entry p n t M m0 (batch-push p n t M m0 new F.only refl refl) waits (outs p n) b (outs-distinct p n) e)
         (ap (λ A. arrived_before p n t ++ A) (sym (arrive-push p n t M m0 new F.only refl refl ∙ ap (λ x. arrive_by p (T p n t) M ++ cond (not (is_onto x)) (moved (rider_at p (T p n t) v) t ∷ []) []) e ∙ append-nil (arrive_by p (T p n t) M))))
 
-    stays-put : verdict t (gate_mid p n t M l) (map (out_mid p n t M) (outs p n)) (rider_at p (T p n t) v) ≡ Stays → pass_of M ≡ work_of M
-    stays-put w = passed-stays t (line_mid p n t M l) (gate_mid p n t M l) (map (out_mid p n t M) (outs p n)) (arrived_mid p n t M) (rider_at p (T p n t) v) first-rider w
+    stays-put : verdict t (exit_mid p n t M l) (map (out_mid p n t M) (outs p n)) (rider_at p (T p n t) v) ≡ Stays → pass_of M ≡ work_of M
+    stays-put w = passed-stays t (line_mid p n t M l) (exit_mid p n t M l) (map (out_mid p n t M) (outs p n)) (arrived_mid p n t M) (rider_at p (T p n t) v) first-rider w
 
     head-is : All (λ m. m.step ≡ t) M → head_move p n t (T p n t) M l ≡ where_true (may_move p n t (T p n t) M l (F.entry.step + (link_at p l).free) (next_target p (T p n t) v)) m0
     unfolding line_move leave_move
@@ -135,7 +135,7 @@ module _ (p : Plan) (sound : IsSound p) (n t l : ℕ) (to : (link_at p l).to.0 �
       by_first : (o : Option ℕ) → slice_get (staying M (queue_of l (T p n t))) 0 ≡ o → HeadStep M
       by_first None e =
           stuck-head (heads_of_lines p sound n t (T p n t) M now l ∙ ap (λ o. line_move p n t (T p n t) M l o) e ∙ nobody M)
-          (passed-none t (line_mid p n t M l) (gate_mid p n t M l) (map (out_mid p n t M) (outs p n)) (arrived_mid p n t M) (first_map (rider_at p (T p n t)) (staying M (queue_of l (T p n t))) None e))
+          (passed-none t (line_mid p n t M l) (exit_mid p n t M l) (map (out_mid p n t M) (outs p n)) (arrived_mid p n t M) (first_map (rider_at p (T p n t)) (staying M (queue_of l (T p n t))) None e))
       by_first (Some v) e =
           let k = kept_at (λ w. not (has_moved w M)) (queue_of l (T p n t)) 0 v e in
           head-step-of M v e (not_true (has_moved v M) k.0) (on-link p sound n t l to (k.1.0) v (k.1.1)) now
@@ -158,7 +158,7 @@ module _ (p : Plan) (sound : IsSound p) (n t l : ℕ) (to : (link_at p l).to.0 �
         is = sym (append-nil M);
         now = All-nil _;
         own = All-nil _;
-        result = passed-none t (line_mid p n t M l) (gate_mid p n t M l) (map (out_mid p n t M) (outs p n)) (arrived_mid p n t M) (first_map (rider_at p (T p n t)) (staying M (queue_of l (T p n t))) None (ap (λ S. slice_get S 0) e));
+        result = passed-none t (line_mid p n t M l) (exit_mid p n t M l) (map (out_mid p n t M) (outs p n)) (arrived_mid p n t M) (first_map (rider_at p (T p n t)) (staying M (queue_of l (T p n t))) None (ap (λ S. slice_get S 0) e));
       }
       ended (x ∷ S) e h = absurd (omega (arith, h))
   drains (suc fuel) M now few = by_step (head-step M now) (λ m s e. drains fuel (M ++ m ∷ []) (All-push (λ x. x.step ≡ t) M m now s) (shorter m e))

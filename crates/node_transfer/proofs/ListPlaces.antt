@@ -2,15 +2,13 @@
 use Rattle.std.specs.List.{list_any}
 use Rattle.std.specs.Prelude.{nat_eq, slice_get}
 use Rattle.std.proofs.Common.{◌≡◌, ℕ, zero, suc, ◌+◌, ◌<◌, ◌≤◌, Bool, true, false, ◌&&◌, ◌||◌, not, List, [], ◌∷◌, length, refl, ap, sym, ◌∙◌, arith, Some, get_or, take, add-one}
-use Rattle.std.proofs.lemmas.Bool.{eq-eqb, ne_eqb}
+use Rattle.std.proofs.lemmas.Bool.{eq-eqb, eqb-true, ne_eqb}
 use Rattle.std.proofs.Math.Dec.{eqb}
 use Rattle.net_core.specs.Network.{as_links}
 use Rattle.net_core.specs.declared.rows.LinkNo.{LinkNo}
 use Rattle.dta_model.proofs.Queues.{absent, distinct}
+use Rattle.node_transfer.specs.Exchange.{is_among}
 use Rattle.node_transfer.specs.Pass.{place_of}
-
-abbrev pub Among : List ℕ → ℕ → Bool
-Among xs l = list_any (λ b. nat_eq b l) xs
 
 -- a number that is absent stands nowhere
 absent-get : (x b j : ℕ) (xs : List ℕ) → absent x xs ≡ true → slice_get xs j ≡ Some b → eqb x b ≡ false
@@ -45,8 +43,17 @@ place-is (x ∷ xs) (suc j) b d e =
     let parts = alone (absent x xs) (distinct xs) d in
     rw (absent-get x b j xs parts.0 e) (ap (λ k. k + 1) (place-is xs j b parts.1 e) ∙ add-one j)
 
+-- one among others stands at a place
+pub among-place : (xs : List ℕ) (l : ℕ) → is_among xs l ≡ true → (j : ℕ) × (slice_get xs j ≡ Some l)
+among-place [] l h = cc
+among-place (x ∷ xs) l h = by_test (nat_eq x l) refl h (λ q. among-place xs l q)
+  where
+    by_test : (c : Bool) → nat_eq x l ≡ c → (c || is_among xs l) ≡ true → (is_among xs l ≡ true → (j : ℕ) × (slice_get xs j ≡ Some l)) → (j : ℕ) × (slice_get (x ∷ xs) j ≡ Some l)
+    by_test true e h later = (0, ap (λ y. Some y) (eqb-true x l e))
+    by_test false e h later = let rest = later h in (suc (rest.0), rest.1)
+
 -- it isn't among those before it
-pub not-before : (xs : List ℕ) (j b : ℕ) → distinct xs ≡ true → slice_get xs j ≡ Some b → Among (take j xs) b ≡ false
+pub not-before : (xs : List ℕ) (j b : ℕ) → distinct xs ≡ true → slice_get xs j ≡ Some b → is_among (take j xs) b ≡ false
 not-before [] j b d e = cc
 not-before (x ∷ xs) zero b d e = refl
 not-before (x ∷ xs) (suc j) b d e =
@@ -54,13 +61,13 @@ not-before (x ∷ xs) (suc j) b d e =
     rw (absent-get x b j xs parts.0 e) (not-before xs j b parts.1 e)
 
 -- one more number
-pub among-next : (xs : List ℕ) (j b l : ℕ) → slice_get xs j ≡ Some b → Among (take (suc j) xs) l ≡ (nat_eq b l || Among (take j xs) l)
+pub among-next : (xs : List ℕ) (j b l : ℕ) → slice_get xs j ≡ Some b → is_among (take (suc j) xs) l ≡ (nat_eq b l || is_among (take j xs) l)
 among-next [] j b l e = cc
 among-next (x ∷ xs) zero b l e = ap (λ y. nat_eq y l || false) (some_nat x b e)
   where
     some_nat : (a b : ℕ) → Some a ≡ Some b → a ≡ b
     some_nat a b h = cc
-among-next (x ∷ xs) (suc j) b l e = ap (λ c. nat_eq x l || c) (among-next xs j b l e) ∙ swapped (nat_eq x l) (nat_eq b l) (Among (take j xs) l)
+among-next (x ∷ xs) (suc j) b l e = ap (λ c. nat_eq x l || c) (among-next xs j b l e) ∙ swapped (nat_eq x l) (nat_eq b l) (is_among (take j xs) l)
   where
     swapped : (a b c : Bool) → (a || (b || c)) ≡ (b || (a || c))
     swapped true true c = refl

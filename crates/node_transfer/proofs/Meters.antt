@@ -1,4 +1,4 @@
--- Gates and out-links that open and close.
+-- Exits and out-links that open and close.
 use Rattle.std.specs.Prelude.{count_by, option_map}
 use Rattle.std.proofs.Common.{◌≡◌, ℕ, suc, ◌+◌, ◌-◌, ◌*◌, ◌/◌, ◌%◌, ◌≤◌, Bool, true, false, cond, ◌&&◌, List, [], ◌∷◌, map, refl, ap, ◌∙◌, arith, Option, Some, None, min}
 use Rattle.std.proofs.lemmas.List.Sums.{sum_by-cons}
@@ -9,12 +9,12 @@ use Rattle.dta_model.specs.Room.{room}
 use Rattle.dta_model.specs.Stages.{room_mail}
 use Rattle.dta_model.specs.Trace.{Move, leads_to, stands_on}
 use Rattle.dta_model.specs.declared.plan.Plan.{Plan}
-use Rattle.net_core.specs.declared.rows.Turn.{Turn as NetTurn}
-use Rattle.node_transfer.specs.Contents.{kept_turns, turn_by, turn_after, gate_after, meter_after, room_of}
+use Rattle.net_core.specs.declared.rows.Turn.{Turn}
+use Rattle.node_transfer.specs.Contents.{kept_turns, turn_by, turn_after, exit_after, meter_after, room_of}
 use Rattle.node_transfer.specs.Meter.{granted, closed}
 use Rattle.node_transfer.specs.Outs.{capped_by, capped_at}
-use Rattle.node_transfer.specs.Pass.{opened_turn, closed_turn, opened_gate, closed_gate}
-use Rattle.node_transfer.proofs.Mid.{T, meter_mid, capped_room, turn_mid, gate_mid, takes}
+use Rattle.node_transfer.specs.Pass.{opened_turn, closed_turn, opened_exit, closed_exit}
+use Rattle.node_transfer.proofs.Mid.{T, meter_mid, capped_room, turn_mid, exit_mid, takes}
 
 next_part : (s x : ℕ) → suc s * x ≡ s * x + x
 next_part s x = omega arith
@@ -61,8 +61,8 @@ module _ (p : Plan) (n t : ℕ) (M : List Move) (l : ℕ) where
   unfolding turned left
   turned-le b = count_and (leads_to b) (λ m. stands_on l (T p n t) m.vehicle) M
 
-  pub gate-opens : left p n t (T p n t) M l ≡ 0 → opened_gate p.delta (gate_after p n t l) ≡ gate_mid p n t M l
-  gate-opens z =
+  pub exit-opens : left p n t (T p n t) M l ≡ 0 → opened_exit p.delta (exit_after p n t l) ≡ exit_mid p n t M l
+  exit-opens z =
       let o : granted p.delta (meter_after p t (link_at p l).rate) ≡ meter_mid p t (link_at p l).rate (left p n t (T p n t) M l) = meter-opens p t (link_at p l).rate (left p n t (T p n t) M l) z in
       let ts : map (opened_turn p.delta) (map (turn_after p t l) (kept_turns p n l)) ≡ map (turn_mid p n t M l) (kept_turns p n l) = turns (kept_turns p n l) in
       rw (o, ts) refl
@@ -71,9 +71,9 @@ module _ (p : Plan) (n t : ℕ) (M : List Move) (l : ℕ) where
       by_rate b None e = refl
       by_rate b (Some rate) e = ap (λ k. Some k) (meter-opens p t rate (turned p n t (T p n t) M l b) e)
 
-      by_turn : (b : ℕ) (o : Option NetTurn) → turned p n t (T p n t) M l b ≡ 0 → opened_turn p.delta (turn_by (meter_after p t) b o) ≡ turn_by (λ rate. meter_mid p t rate (turned p n t (T p n t) M l b)) b o
+      by_turn : (b : ℕ) (o : Option Turn) → turned p n t (T p n t) M l b ≡ 0 → opened_turn p.delta (turn_by (meter_after p t) b o) ≡ turn_by (λ rate. meter_mid p t rate (turned p n t (T p n t) M l b)) b o
       by_turn b None e = refl
-      by_turn b (Some way) e = ap (λ k. record { to = b; penalty = way.penalty; limit = k }) (by_rate b way.rate e)
+      by_turn b (Some way) e = ap (λ k. record { to = record { 0 = b }; penalty = way.penalty; limit = k }) (by_rate b way.rate e)
 
       turns : (xs : List ℕ) → map (opened_turn p.delta) (map (turn_after p t l) xs) ≡ map (turn_mid p n t M l) xs
       turns [] = refl
@@ -83,17 +83,17 @@ module _ (p : Plan) (n t : ℕ) (M : List Move) (l : ℕ) where
           let r : map (opened_turn p.delta) (map (turn_after p t l) xs) ≡ map (turn_mid p n t M l) xs = turns xs in
           rw (e, r) refl
 
-  pub gate-closes : closed_gate (gate_mid p n t M l) ≡ gate_after p n (suc t) l
-  gate-closes =
+  pub exit-closes : closed_exit (exit_mid p n t M l) ≡ exit_after p n (suc t) l
+  exit-closes =
       let ts : map closed_turn (map (turn_mid p n t M l) (kept_turns p n l)) ≡ map (turn_after p (suc t) l) (kept_turns p n l) = turns (kept_turns p n l) in rw ts refl
     where
       by_rate : (b : ℕ) (r : Option ℕ) → option_map closed (option_map (λ rate. meter_mid p t rate (turned p n t (T p n t) M l b)) r) ≡ option_map (meter_after p (suc t)) r
       by_rate b None = refl
       by_rate b (Some rate) = refl
 
-      by_turn : (b : ℕ) (o : Option NetTurn) → closed_turn (turn_by (λ rate. meter_mid p t rate (turned p n t (T p n t) M l b)) b o) ≡ turn_by (meter_after p (suc t)) b o
+      by_turn : (b : ℕ) (o : Option Turn) → closed_turn (turn_by (λ rate. meter_mid p t rate (turned p n t (T p n t) M l b)) b o) ≡ turn_by (meter_after p (suc t)) b o
       by_turn b None = refl
-      by_turn b (Some way) = ap (λ k. record { to = b; penalty = way.penalty; limit = k }) (by_rate b way.rate)
+      by_turn b (Some way) = ap (λ k. record { to = record { 0 = b }; penalty = way.penalty; limit = k }) (by_rate b way.rate)
 
       turns : (xs : List ℕ) → map closed_turn (map (turn_mid p n t M l) xs) ≡ map (turn_after p (suc t) l) xs
       turns [] = refl

@@ -9,14 +9,14 @@ use Rattle.dta_model.specs.Room.{room}
 use Rattle.dta_model.specs.Stages.{staying, waiting_for, arrived_before, arrive_by, batch_by}
 use Rattle.dta_model.specs.Trace.{Move, queue_of}
 use Rattle.dta_model.specs.declared.plan.Plan.{Plan}
-use Rattle.node_transfer.specs.Contents.{kept_turns, turn_by, storage_by, gate_after, meter_after}
+use Rattle.node_transfer.specs.Contents.{kept_turns, turn_by, storage_by, exit_after, meter_after}
 use Rattle.node_transfer.specs.Meter.{MeterState}
 use Rattle.node_transfer.specs.declared.in_link.InLink.{InLink}
 use Rattle.node_transfer.specs.declared.mail.Mail.TheVariants.{Away, Batch}
 use Rattle.node_transfer.specs.declared.out_link.OutLink.{OutLink}
 use Rattle.node_transfer.specs.declared.out_link.Waiting.{Waiting}
-use Rattle.node_transfer.specs.declared.pass.Gate.{Gate}
-use Rattle.node_transfer.specs.declared.turn.Turn.{Turn}
+use Rattle.node_transfer.specs.declared.pass.Exit.{Exit}
+use Rattle.node_transfer.specs.declared.turn.LimitedTurn.{LimitedTurn}
 
 -- a rate in step t, of whose allowance some are used
 abbrev pub meter_mid : Plan → ℕ → ℕ → ℕ → MeterState
@@ -34,11 +34,11 @@ module _ (p : Plan) (n t : ℕ) where
   abbrev pub line_mid : List Move → ℕ → List RiderState
   line_mid M l = riders p T (staying M (queue_of l T))
 
-  abbrev pub turn_mid : List Move → ℕ → ℕ → Turn
+  abbrev pub turn_mid : List Move → ℕ → ℕ → LimitedTurn
   turn_mid M l b = turn_by (λ rate. meter_mid p t rate (turned p n t T M l b)) b (turn p l b)
 
-  abbrev pub gate_mid : List Move → ℕ → Gate
-  gate_mid M l = record {
+  abbrev pub exit_mid : List Move → ℕ → Exit
+  exit_mid M l = record {
     free = (link_at p l).free;
     outflow = meter_mid p t (link_at p l).rate (left p n t T M l);
     turns = map (turn_mid M l) (kept_turns p n l);
@@ -60,7 +60,7 @@ module _ (p : Plan) (n t : ℕ) where
 
   abbrev pub out_mid : List Move → ℕ → OutLink
   out_mid M b = record {
-    link = b;
+    link = record { 0 = b };
     inflow = record { rate = (link_at p b).rate; carried = carried (link_at p b).rate p.delta (suc t); left = takes b - entered p n t T M b };
     waiting = waiting_mid M b;
     batch = batch_by p b T M;
@@ -74,14 +74,14 @@ module _ (p : Plan) (n t : ℕ) where
   abbrev pub in_done : List Move → ℕ → InLink
   in_done M l = record {
     line = line_mid M l;
-    gate = gate_after p n (suc t) l;
+    exit = exit_after p n (suc t) l;
     storage = storage_by p.queue (link_at p l).storage;
     mail = Away;
   }
 
   abbrev pub out_done : List Move → ℕ → OutLink
   out_done M b = record {
-    link = b;
+    link = record { 0 = b };
     inflow = meter_after p (suc t) (link_at p b).rate;
     waiting = waiting_mid M b;
     batch = [];

@@ -1,4 +1,4 @@
--- What one more move changes of the gates, turns and out-links of a cell.
+-- What one more move changes of the exits, turns and out-links of a cell.
 use Rattle.std.specs.Prelude.{option_map}
 use Rattle.std.proofs.Common.{◌≡◌, ℕ, ◌+◌, ◌-◌, true, false, cond, ◌&&◌, List, [], ◌∷◌, ◌++◌, map, refl, ap, sym, ◌∙◌, arith, append-nil, Option, Some, None}
 use Rattle.std.proofs.lemmas.Bool.{eq-eqb, ne_eqb}
@@ -11,15 +11,15 @@ use Rattle.dta_model.specs.Stages.{batch_by}
 use Rattle.dta_model.specs.Trace.{Move, Onto, Arrived, leads_to, stands_on}
 use Rattle.dta_model.specs.declared.plan.Plan.{Plan}
 use Rattle.dta_model.proofs.Queues.{distinct}
-use Rattle.net_core.specs.declared.rows.Turn.{Turn as NetTurn}
+use Rattle.net_core.specs.declared.rows.Turn.{Turn}
 use Rattle.node_transfer.specs.Cells.{set_some}
 use Rattle.node_transfer.specs.Contents.{kept_turns, turn_by}
 use Rattle.node_transfer.specs.Meter.{passed_one}
 use Rattle.node_transfer.specs.Pass.{place_of, entered_at, entered_in, entered_out, used_at, used_in, used_turn, after_arrival, after_entry}
 use Rattle.node_transfer.specs.declared.out_link.OutLink.{OutLink}
-use Rattle.node_transfer.specs.declared.turn.Turn.{Turn}
+use Rattle.node_transfer.specs.declared.turn.LimitedTurn.{LimitedTurn}
 use Rattle.node_transfer.proofs.ByKey.{set-at}
-use Rattle.node_transfer.proofs.Mid.{T, meter_mid, turn_mid, gate_mid, takes, waiting_mid, out_mid}
+use Rattle.node_transfer.proofs.Mid.{T, meter_mid, turn_mid, exit_mid, takes, waiting_mid, out_mid}
 
 pub map-cong : {X Y : Type 0} (f f' : X → Y) → ((x : X) → f' x ≡ f x) → (xs : List X) → map f' xs ≡ map f xs
 map-cong f f' e [] = refl
@@ -29,7 +29,7 @@ entered_changed : (o : Option OutLink) (p step : ℕ) (r : RiderState) (outs : L
 entered_changed None p step r outs = refl
 entered_changed (Some o) p step r outs = refl
 
-used_changed : (o : Option Turn) (p : ℕ) (ts : List Turn) → used_in o p ts ≡ set_some used_turn o p ts
+used_changed : (o : Option LimitedTurn) (p : ℕ) (ts : List LimitedTurn) → used_in o p ts ≡ set_some used_turn o p ts
 used_changed None p ts = refl
 used_changed (Some o) p ts = refl
 
@@ -91,24 +91,24 @@ module _ (p : Plan) (n t : ℕ) (M : List Move) (m : Move) where
         by_rate None c = refl
         by_rate (Some rate) c = ap (λ k. Some (record { rate = rate; carried = (meter_mid p t rate 0).carried; left = k })) (take_one (allowance rate p.delta t) _ _ c)
 
-        by_turn : (o : Option NetTurn) → turned p n t (T p n t) (M ++ m ∷ []) l b ≡ turned p n t (T p n t) M l b + 1
+        by_turn : (o : Option Turn) → turned p n t (T p n t) (M ++ m ∷ []) l b ≡ turned p n t (T p n t) M l b + 1
             → turn_by (λ rate. meter_mid p t rate (turned p n t (T p n t) (M ++ m ∷ []) l b)) b o ≡ used_turn (turn_by (λ rate. meter_mid p t rate (turned p n t (T p n t) M l b)) b o)
         by_turn None c = refl
-        by_turn (Some way) c = ap (λ y. record { to = b; penalty = way.penalty; limit = y }) (by_rate way.rate c)
+        by_turn (Some way) c = ap (λ y. record { to = record { 0 = b }; penalty = way.penalty; limit = y }) (by_rate way.rate c)
 
     module _ (stood : stands_on l (T p n t) m.vehicle ≡ true) where
       left-one : left p n t (T p n t) (M ++ m ∷ []) l ≡ left p n t (T p n t) M l + 1
       left-one = left-push l ∙ rw stood refl
 
-      pub gate-arrival : m.target ≡ Arrived → after_arrival (gate_mid p n t M l) ≡ gate_mid p n t (M ++ m ∷ []) l
-      gate-arrival e =
+      pub exit-arrival : m.target ≡ Arrived → after_arrival (exit_mid p n t M l) ≡ exit_mid p n t (M ++ m ∷ []) l
+      exit-arrival e =
           let c : allowance (link_at p l).rate p.delta t - left p n t (T p n t) (M ++ m ∷ []) l ≡ allowance (link_at p l).rate p.delta t - left p n t (T p n t) M l - 1 = take_one _ _ _ left-one in
           let ts : map (turn_mid p n t (M ++ m ∷ []) l) (kept_turns p n l) ≡ map (turn_mid p n t M l) (kept_turns p n l) = map-cong (turn_mid p n t M l) (turn_mid p n t (M ++ m ∷ []) l) (λ x. turn-same x (rw e refl)) (kept_turns p n l) in
           rw (c, ts) refl
 
-      pub gate-entry : (b : ℕ) → distinct (kept_turns p n l) ≡ true → m.target ≡ Onto b
-          → after_entry (place_of b (kept_turns p n l)) (gate_mid p n t M l) ≡ gate_mid p n t (M ++ m ∷ []) l
-      gate-entry b d e =
+      pub exit-entry : (b : ℕ) → distinct (kept_turns p n l) ≡ true → m.target ≡ Onto b
+          → after_entry (place_of b (kept_turns p n l)) (exit_mid p n t M l) ≡ exit_mid p n t (M ++ m ∷ []) l
+      exit-entry b d e =
           let c : allowance (link_at p l).rate p.delta t - left p n t (T p n t) (M ++ m ∷ []) l ≡ allowance (link_at p l).rate p.delta t - left p n t (T p n t) M l - 1 = take_one _ _ _ left-one in
           let ts : used_at (place_of b (kept_turns p n l)) (map (turn_mid p n t M l) (kept_turns p n l)) ≡ map (turn_mid p n t (M ++ m ∷ []) l) (kept_turns p n l) =
           used_changed _ _ (map (turn_mid p n t M l) (kept_turns p n l))

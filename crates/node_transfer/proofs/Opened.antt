@@ -2,7 +2,7 @@
 use Rattle.net_core.specs.Network as network
 use Rattle.net_core.specs.Network.{numbers_below}
 use Rattle.net_core.specs.declared.rows.LinkNo.{LinkNo}
-use Rattle.net_core.specs.declared.rows.Turn.{Turn as NetTurn}
+use Rattle.net_core.specs.declared.rows.Turn.{Turn}
 use Rattle.std.specs.List.{range_with_len}
 use Rattle.std.specs.Prelude.{filter, slice_get, slice_index_or, nat_eq, nat_le, nat_lt, All, option_map, ◌≢◌}
 use Rattle.std.proofs.Common.{◌≡◌, ℕ, zero, suc, ◌+◌, ◌*◌, ◌%◌, ◌<◌, ◌≤◌, Bool, true, false, cond, ◌&&◌, List, [], ◌∷◌, ◌++◌, length, map, refl, ap, sym, ◌∙◌, subst, arith, append-nil, Option, Some, None, get_or, add-one}
@@ -173,9 +173,9 @@ module _ (p : Plan) where
       by_rate None = refl
       by_rate (Some rate) = ap (λ m. Some m) (meter-start rate)
 
-      by_turn : (o : Option NetTurn) → turn_by unused b o ≡ turn_by (meter_after p 0) b o
+      by_turn : (o : Option Turn) → turn_by unused b o ≡ turn_by (meter_after p 0) b o
       by_turn None = refl
-      by_turn (Some way) = ap (λ y. record { to = b; penalty = way.penalty; limit = y }) (by_rate way.rate)
+      by_turn (Some way) = ap (λ y. record { to = record { 0 = b }; penalty = way.penalty; limit = y }) (by_rate way.rate)
 
   turns-start : (l : ℕ) (bs : List ℕ) → map (turn_at_start p l) bs ≡ map (turn_after p 0 l) bs
   turns-start l [] = refl
@@ -184,8 +184,8 @@ module _ (p : Plan) where
   in-start : (n l : ℕ) → start_in p (outs p n) l ≡ in_link p n 0 (line_before p 0) away l
   unfolding line_before trace_after queue_of last_moves
   in-start n l =
-      ap (λ m. record (start_in p (outs p n) l) { gate = record { free = (link_at p l).free; outflow = m; turns = turns_at_start p l (outs p n) } }) (meter-start (link_at p l).rate)
-      ∙ ap (λ ts. record (in_link p n 0 (line_before p 0) away l) { gate = record { free = (link_at p l).free; outflow = meter_after p 0 (link_at p l).rate; turns = ts } }) (turns-start l (kept_turns p n l))
+      ap (λ m. record (start_in p (outs p n) l) { exit = record { free = (link_at p l).free; outflow = m; turns = turns_at_start p l (outs p n) } }) (meter-start (link_at p l).rate)
+      ∙ ap (λ ts. record (in_link p n 0 (line_before p 0) away l) { exit = record { free = (link_at p l).free; outflow = meter_after p 0 (link_at p l).rate; turns = ts } }) (turns-start l (kept_turns p n l))
 
   ins-start : (n : ℕ) (ls : List ℕ) → map (start_in p (outs p n)) ls ≡ map (in_link p n 0 (line_before p 0) away) ls
   ins-start n [] = refl
@@ -201,7 +201,7 @@ module _ (p : Plan) where
   out-start : (lines : List (List RiderState)) (b : ℕ) → slice_index_or lines b [] ≡ waiting_before p 0 b → start_out p lines b ≡ out_link p 0 (waiting_before p 0) away b
   out-start lines b e =
       ap (λ w. record (start_out p lines b) { waiting = record { later = w; due = [] } }) e
-      ∙ ap (λ w. record { link = b; inflow = unused (link_at p b).rate; waiting = w; batch = []; mail = away b }) (sym (all-later (waiting_before p 0 b)))
+      ∙ ap (λ w. record { link = record { 0 = b }; inflow = unused (link_at p b).rate; waiting = w; batch = []; mail = away b }) (sym (all-later (waiting_before p 0 b)))
       ∙ ap (λ m. record (out_link p 0 (waiting_before p 0) away b) { inflow = m }) (meter-start (link_at p b).rate)
 
   -- a line that is taken leaves the others

@@ -11,17 +11,19 @@ use Rattle.dta_model.specs.declared.plan.Plan.{Plan}
 use Rattle.dta_model.proofs.Queues.{distinct}
 use Rattle.node_transfer.specs.Cells.{CellState, in_mail, in_mail_put, in_mailed, mail_of_in, mail_of_out, out_mail, out_mail_put, out_mailed, with_in_mail, with_out_mail}
 use Rattle.node_transfer.specs.Contents.{cell_after, cell_before, in_link, out_link}
+use Rattle.node_transfer.specs.Exchange.{is_among}
 use Rattle.node_transfer.specs.declared.mail.Mail.{Mail}
 use Rattle.node_transfer.proofs.ByKey.{set-at}
 use Rattle.node_transfer.proofs.Movers.{distinct_filter, distinct_range}
 use Rattle.node_transfer.proofs.Numbers.{any-below, kept-below, same-kept}
-use Rattle.node_transfer.proofs.ListPlaces.{Among, place-is}
+use Rattle.node_transfer.proofs.ListPlaces.{among-place, place-is}
 
 -- a cell, made of the mail in the places of links: those that end or begin at its node
 pub record IsMadeOf (p : Plan) (n : ℕ) (ends : ℕ → ℕ) (links : List ℕ) (cell : (ℕ → Mail) → CellState) (put : ℕ → Mail → CellState → CellState) (told : ℕ → CellState → Option Mail) : Type 0 where
   pub once : distinct links ≡ true
-  pub member : (l : ℕ) → l < length p.net.links → Among links l ≡ nat_eq (ends l) n
+  pub member : (l : ℕ) → l < length p.net.links → is_among links l ≡ nat_eq (ends l) n
   pub inside : (j b : ℕ) → slice_get links j ≡ Some b → b < length p.net.links
+  pub among : (l : ℕ) → is_among links l ≡ true → l < length p.net.links
   pub puts : (mail mail' : ℕ → Mail) (j b : ℕ) (m : Mail) → slice_get links j ≡ Some b → ((x : ℕ) → x ≢ b → mail x ≡ mail' x) → m ≡ mail' b → put j m (cell mail) ≡ cell mail'
   pub tells : (mail : ℕ → Mail) (j b : ℕ) → slice_get links j ≡ Some b → told j (cell mail) ≡ Some (mail b)
   pub same : (mail mail' : ℕ → Mail) → ((x : ℕ) → x < length p.net.links → ends x ≡ n → mail x ≡ mail' x) → cell mail ≡ cell mail'
@@ -40,11 +42,11 @@ module _ (p : Plan) (n : ℕ) where
   unfolding network.ins
   ins-once = distinct_filter (λ l. nat_eq (link_at p l).to.0 n) (network.numbers_below (length p.net.links)) (distinct_range (length p.net.links) 0)
 
-  pub outs-member : (l : ℕ) → l < length p.net.links → Among (outs p n) l ≡ nat_eq (link_at p l).from.0 n
+  pub outs-member : (l : ℕ) → l < length p.net.links → is_among (outs p n) l ≡ nat_eq (link_at p l).from.0 n
   unfolding network.outs
   outs-member l h = any-below (λ l. nat_eq (link_at p l).from.0 n) l (length p.net.links) h
 
-  pub ins-member : (l : ℕ) → l < length p.net.links → Among (ins p n) l ≡ nat_eq (link_at p l).to.0 n
+  pub ins-member : (l : ℕ) → l < length p.net.links → is_among (ins p n) l ≡ nat_eq (link_at p l).to.0 n
   unfolding network.ins
   ins-member l h = any-below (λ l. nat_eq (link_at p l).to.0 n) l (length p.net.links) h
 
@@ -56,9 +58,15 @@ module _ (p : Plan) (n : ℕ) where
   unfolding network.ins
   ins-inside j b e = kept-below (λ l. nat_eq (link_at p l).to.0 n) (length p.net.links) j b e
 
+  pub outs-among : (l : ℕ) → is_among (outs p n) l ≡ true → l < length p.net.links
+  outs-among l is_in = let stands = among-place (outs p n) l is_in in outs-inside stands.0 l stands.1
+
   outs-same : {X : Type 0} (f g : ℕ → X) → ((x : ℕ) → x < length p.net.links → (link_at p x).from.0 ≡ n → f x ≡ g x) → map f (outs p n) ≡ map g (outs p n)
   unfolding network.outs
   outs-same f g h = same-kept f g (λ l. nat_eq (link_at p l).from.0 n) (length p.net.links) (λ i below e. h i below (eqb-true (link_at p i).from.0 n e))
+
+  pub ins-among : (l : ℕ) → is_among (ins p n) l ≡ true → l < length p.net.links
+  ins-among l is_in = let stands = among-place (ins p n) l is_in in ins-inside stands.0 l stands.1
 
   ins-same : {X : Type 0} (f g : ℕ → X) → ((x : ℕ) → x < length p.net.links → (link_at p x).to.0 ≡ n → f x ≡ g x) → map f (ins p n) ≡ map g (ins p n)
   unfolding network.ins
@@ -88,6 +96,7 @@ module _ (p : Plan) (n : ℕ) where
     once = outs-once;
     member = outs-member;
     inside = outs-inside;
+    among = outs-among;
     puts = λ mail mail' j b m e other here. ap (λ os. record (cell_before p n t ms mail) { outs = os }) (outs-put t (waiting_before p t) mail mail' j b m e other here);
     tells = λ mail j b e. ap (λ o. option_map mail_of_out o) (got-map (out_link p t (waiting_before p t) mail) (outs p n) j b e);
     same = λ mail mail' h. ap (λ os. record (cell_before p n t ms mail) { outs = os }) (outs-same (out_link p t (waiting_before p t) mail) (out_link p t (waiting_before p t) mail') (λ x below at. ap (λ y. record (out_link p t (waiting_before p t) mail x) { mail = y }) (h x below at)));
@@ -99,6 +108,7 @@ module _ (p : Plan) (n : ℕ) where
     once = outs-once;
     member = outs-member;
     inside = outs-inside;
+    among = outs-among;
     puts = λ mail mail' j b m e other here. ap (λ os. record (cell_after p n t ms mail) { outs = os }) (outs-put (suc t) (waiting_after p n t) mail mail' j b m e other here);
     tells = λ mail j b e. ap (λ o. option_map mail_of_out o) (got-map (out_link p (suc t) (waiting_after p n t) mail) (outs p n) j b e);
     same = λ mail mail' h. ap (λ os. record (cell_after p n t ms mail) { outs = os }) (outs-same (out_link p (suc t) (waiting_after p n t) mail) (out_link p (suc t) (waiting_after p n t) mail') (λ x below at. ap (λ y. record (out_link p (suc t) (waiting_after p n t) mail x) { mail = y }) (h x below at)));
@@ -110,6 +120,7 @@ module _ (p : Plan) (n : ℕ) where
     once = ins-once;
     member = ins-member;
     inside = ins-inside;
+    among = ins-among;
     puts = λ mail mail' j b m e other here. ap (λ is. record (cell_before p n t mail ms) { ins = is }) (ins-put t (line_before p t) mail mail' j b m e other here);
     tells = λ mail j b e. ap (λ o. option_map mail_of_in o) (got-map (in_link p n t (line_before p t) mail) (ins p n) j b e);
     same = λ mail mail' h. ap (λ is. record (cell_before p n t mail ms) { ins = is }) (ins-same (in_link p n t (line_before p t) mail) (in_link p n t (line_before p t) mail') (λ x below at. ap (λ y. record (in_link p n t (line_before p t) mail x) { mail = y }) (h x below at)));
@@ -121,6 +132,7 @@ module _ (p : Plan) (n : ℕ) where
     once = ins-once;
     member = ins-member;
     inside = ins-inside;
+    among = ins-among;
     puts = λ mail mail' j b m e other here. ap (λ is. record (cell_after p n t mail ms) { ins = is }) (ins-put (suc t) (line_after p n t) mail mail' j b m e other here);
     tells = λ mail j b e. ap (λ o. option_map mail_of_in o) (got-map (in_link p n (suc t) (line_after p n t) mail) (ins p n) j b e);
     same = λ mail mail' h. ap (λ is. record (cell_after p n t mail ms) { ins = is }) (ins-same (in_link p n (suc t) (line_after p n t) mail) (in_link p n (suc t) (line_after p n t) mail') (λ x below at. ap (λ y. record (in_link p n (suc t) (line_after p n t) mail x) { mail = y }) (h x below at)));

@@ -8,29 +8,29 @@ use Rattle.std.proofs.lemmas.List.Elements.{All-head, All-tail}
 use Rattle.std.proofs.lemmas.Grind.{common_steps}
 use Rattle.dta_model.specs.Riders.{RiderState, moved}
 use Rattle.node_transfer.specs.Pass.{verdict, passed, CanPass, Rides, FitsAll, total, held, out_links, waitings, entered_at, entered_in, after_arrival, after_entry}
-use Rattle.node_transfer.specs.declared.pass.Gate.{Gate}
+use Rattle.node_transfer.specs.declared.pass.Exit.{Exit}
 use Rattle.node_transfer.specs.declared.out_link.OutLink.{OutLink}
 use Rattle.node_transfer.specs.declared.pass.Verdict.TheVariants.{Stays, Arrives, Enters}
 
-pub passed-none : (step : ℕ) (line : List RiderState) (gate : Gate) (outs : List OutLink) (arrived : List RiderState) → slice_get line 0 ≡ None → passed step line gate outs arrived ≡ record { line = line; gate = gate; outs = outs; arrived = arrived }
+pub passed-none : (step : ℕ) (line : List RiderState) (exit : Exit) (outs : List OutLink) (arrived : List RiderState) → slice_get line 0 ≡ None → passed step line exit outs arrived ≡ record { line = line; exit = exit; outs = outs; arrived = arrived }
 unfolding passed
-passed-none step [] gate outs arrived h = refl
-passed-none step (r ∷ line) gate outs arrived h = cc
+passed-none step [] exit outs arrived h = refl
+passed-none step (r ∷ line) exit outs arrived h = cc
 
-pub passed-stays : (step : ℕ) (line : List RiderState) (gate : Gate) (outs : List OutLink) (arrived : List RiderState) (r : RiderState) → slice_get line 0 ≡ Some r → verdict step gate outs r ≡ Stays → passed step line gate outs arrived ≡ record { line = line; gate = gate; outs = outs; arrived = arrived }
+pub passed-stays : (step : ℕ) (line : List RiderState) (exit : Exit) (outs : List OutLink) (arrived : List RiderState) (r : RiderState) → slice_get line 0 ≡ Some r → verdict step exit outs r ≡ Stays → passed step line exit outs arrived ≡ record { line = line; exit = exit; outs = outs; arrived = arrived }
 unfolding passed
-passed-stays step [] gate outs arrived r h v = cc
-passed-stays step (x ∷ line) gate outs arrived r h v = let same : x ≡ r = cc in rw (ap (λ y. verdict step gate outs y) same ∙ v, passed) refl
+passed-stays step [] exit outs arrived r h v = cc
+passed-stays step (x ∷ line) exit outs arrived r h v = let same : x ≡ r = cc in rw (ap (λ y. verdict step exit outs y) same ∙ v, passed) refl
 
-pub passed-arrives : (step : ℕ) (line : List RiderState) (gate : Gate) (outs : List OutLink) (arrived : List RiderState) (r : RiderState) → slice_get line 0 ≡ Some r → verdict step gate outs r ≡ Arrives → passed step line gate outs arrived ≡ passed step (drop 1 line) (after_arrival gate) outs (arrived ++ moved r step ∷ [])
+pub passed-arrives : (step : ℕ) (line : List RiderState) (exit : Exit) (outs : List OutLink) (arrived : List RiderState) (r : RiderState) → slice_get line 0 ≡ Some r → verdict step exit outs r ≡ Arrives → passed step line exit outs arrived ≡ passed step (drop 1 line) (after_arrival exit) outs (arrived ++ moved r step ∷ [])
 unfolding passed
-passed-arrives step [] gate outs arrived r h v = cc
-passed-arrives step (x ∷ line) gate outs arrived r h v = let same : x ≡ r = cc in rw (ap (λ y. verdict step gate outs y) same ∙ v, passed) (ap (λ y. passed step line (after_arrival gate) outs (arrived ++ moved y step ∷ [])) same)
+passed-arrives step [] exit outs arrived r h v = cc
+passed-arrives step (x ∷ line) exit outs arrived r h v = let same : x ≡ r = cc in rw (ap (λ y. verdict step exit outs y) same ∙ v, passed) (ap (λ y. passed step line (after_arrival exit) outs (arrived ++ moved y step ∷ [])) same)
 
-pub passed-enters : (step : ℕ) (line : List RiderState) (gate : Gate) (outs : List OutLink) (arrived : List RiderState) (r : RiderState) (p k : ℕ) → slice_get line 0 ≡ Some r → verdict step gate outs r ≡ Enters p k → passed step line gate outs arrived ≡ passed step (drop 1 line) (after_entry k gate) (entered_at p step r outs) arrived
+pub passed-enters : (step : ℕ) (line : List RiderState) (exit : Exit) (outs : List OutLink) (arrived : List RiderState) (r : RiderState) (p k : ℕ) → slice_get line 0 ≡ Some r → verdict step exit outs r ≡ Enters p k → passed step line exit outs arrived ≡ passed step (drop 1 line) (after_entry k exit) (entered_at p step r outs) arrived
 unfolding passed
-passed-enters step [] gate outs arrived r p k h v = cc
-passed-enters step (x ∷ line) gate outs arrived r p k h v = let same : x ≡ r = cc in rw (ap (λ y. verdict step gate outs y) same ∙ v, passed) (ap (λ y. passed step line (after_entry k gate) (entered_at p step y outs) arrived) same)
+passed-enters step [] exit outs arrived r p k h v = cc
+passed-enters step (x ∷ line) exit outs arrived r p k h v = let same : x ≡ r = cc in rw (ap (λ y. verdict step exit outs y) same ∙ v, passed) (ap (λ y. passed step line (after_entry k exit) (entered_at p step y outs) arrived) same)
 
 -- the head of a line rides
 pub head_rides : (links : List ℕ) (line : List RiderState) (r : RiderState) → All (Rides links) line → slice_get line 0 ≡ Some r → Rides links r
@@ -48,8 +48,8 @@ CanPass-arrives (x ∷ line) outs arrived r c h m = record {
 pub entered_links : (o : Option OutLink) (p step : ℕ) (r : RiderState) (outs : List OutLink) → slice_get outs p ≡ o → out_links (entered_in o p step r outs) ≡ out_links outs
 entered_links None p step r outs h = refl
 entered_links (Some o) p step r [] h = refl
-entered_links (Some o) zero step r (x ∷ outs) h = let same : x ≡ o = cc in ap (λ l. l ∷ out_links outs) (sym (ap (λ y. y.link) same))
-entered_links (Some o) (suc p) step r (x ∷ outs) h = ap (λ ls. x.link ∷ ls) (entered_links (Some o) p step r outs h)
+entered_links (Some o) zero step r (x ∷ outs) h = let same : x ≡ o = cc in ap (λ l. l ∷ out_links outs) (sym (ap (λ y. y.link.0) same))
+entered_links (Some o) (suc p) step r (x ∷ outs) h = ap (λ ls. x.link.0 ∷ ls) (entered_links (Some o) p step r outs h)
 
 pub entered_waitings : (o : Option OutLink) (p step : ℕ) (r : RiderState) (outs : List OutLink) → slice_get outs p ≡ o → waitings (entered_in o p step r outs) ≡ waitings outs
 entered_waitings None p step r outs h = refl

@@ -8,49 +8,49 @@ use Rattle.dta_model.specs.Riders.{RiderState}
 use Rattle.node_transfer.specs.Cells.{CellState, finished, joined_behind, link_after, out_mail_put, passed_front, passed_link, passed_links, passed_rotated, put_first, start_at, transferred}
 use Rattle.node_transfer.specs.Meter.{MeterState, closed, granted}
 use Rattle.node_transfer.specs.Outs.{capped_by, closed_out, closed_with, opened_out, released}
-use Rattle.node_transfer.specs.Pass.{by_target, opened_gate, passed, penalty_of, place_of, turn_links, verdict, verdict_by}
+use Rattle.node_transfer.specs.Pass.{by_target, opened_exit, passed, penalty_of, place_of, turn_links, verdict, verdict_by}
 use Rattle.node_transfer.specs.Rest.{HeadIsLater, IsQuiet, WaitLater, rested, rested_in, rested_once, rested_out}
 use Rattle.node_transfer.specs.declared.in_link.InLink.{InLink}
 use Rattle.node_transfer.specs.declared.mail.Mail.{Mail}
 use Rattle.node_transfer.specs.declared.mail.Mail.TheVariants.{Away, Batch, Room}
 use Rattle.node_transfer.specs.declared.out_link.OutLink.{OutLink}
-use Rattle.node_transfer.specs.declared.pass.Gate.{Gate}
+use Rattle.node_transfer.specs.declared.pass.Exit.{Exit}
 use Rattle.node_transfer.specs.declared.pass.Verdict.TheVariants.{Stays}
-use Rattle.node_transfer.specs.declared.turn.Turn.{Turn}
+use Rattle.node_transfer.specs.declared.turn.LimitedTurn.{LimitedTurn}
 use Rattle.node_transfer.proofs.Outs.{admitted-none, not_le}
 
 -- a head that isn't ready stays
-target-stays : (step ready : ℕ) (turns : List Turn) (outs : List OutLink) (target : Option ℕ) → step < ready
+target-stays : (step ready : ℕ) (turns : List LimitedTurn) (outs : List OutLink) (target : Option ℕ) → step < ready
     → by_target step ready turns outs target ≡ Stays
 target-stays step ready turns outs None h = rw (not_le ready step h) refl
 target-stays step ready turns outs (Some b) h =
     rw (not_le (ready + penalty_of (slice_get turns (place_of b (turn_links turns)))) step (omega (arith, h))) refl
 
-verdict-stays : (step : ℕ) (gate : Gate) (outs : List OutLink) (r : RiderState)
-    → IfSome (last_or None r.entries) (λ entry. step < entry + gate.free) → verdict step gate outs r ≡ Stays
+verdict-stays : (step : ℕ) (exit : Exit) (outs : List OutLink) (r : RiderState)
+    → IfSome (last_or None r.entries) (λ entry. step < entry + exit.free) → verdict step exit outs r ≡ Stays
 unfolding verdict
-verdict-stays step gate outs r h = by_entry (last_or None r.entries) h
+verdict-stays step exit outs r h = by_entry (last_or None r.entries) h
   where
-    by_test : (c : Bool) (entry : ℕ) → step < entry + gate.free
-        → cond c (by_target step (entry + gate.free) gate.turns outs (slice_get r.route (length r.entries))) Stays ≡ Stays
-    by_test true entry later = target-stays step (entry + gate.free) gate.turns outs (slice_get r.route (length r.entries)) later
+    by_test : (c : Bool) (entry : ℕ) → step < entry + exit.free
+        → cond c (by_target step (entry + exit.free) exit.turns outs (slice_get r.route (length r.entries))) Stays ≡ Stays
+    by_test true entry later = target-stays step (entry + exit.free) exit.turns outs (slice_get r.route (length r.entries)) later
     by_test false entry later = refl
 
-    by_entry : (o : Option ℕ) → IfSome o (λ entry. step < entry + gate.free)
-        → verdict_by step gate outs o (slice_get r.route (length r.entries)) ≡ Stays
+    by_entry : (o : Option ℕ) → IfSome o (λ entry. step < entry + exit.free)
+        → verdict_by step exit outs o (slice_get r.route (length r.entries)) ≡ Stays
     by_entry None later = refl
-    by_entry (Some entry) later = by_test (nat_lt 0 gate.outflow.left) entry later
+    by_entry (Some entry) later = by_test (nat_lt 0 exit.outflow.left) entry later
 
-passed-stays : (step : ℕ) (line : List RiderState) (gate : Gate) (outs : List OutLink) (arrived : List RiderState)
-    → IfSome (slice_get line 0) (λ r. IfSome (last_or None r.entries) (λ entry. step < entry + gate.free))
-    → passed step line gate outs arrived ≡ record { line = line; gate = gate; outs = outs; arrived = arrived }
+passed-stays : (step : ℕ) (line : List RiderState) (exit : Exit) (outs : List OutLink) (arrived : List RiderState)
+    → IfSome (slice_get line 0) (λ r. IfSome (last_or None r.entries) (λ entry. step < entry + exit.free))
+    → passed step line exit outs arrived ≡ record { line = line; exit = exit; outs = outs; arrived = arrived }
 unfolding passed
-passed-stays step [] gate outs arrived h = refl
-passed-stays step (r ∷ line) gate outs arrived h = rw (verdict-stays step gate outs r h, passed) refl
+passed-stays step [] exit outs arrived h = refl
+passed-stays step (r ∷ line) exit outs arrived h = rw (verdict-stays step exit outs r h, passed) refl
 
 link-stays : (delta step : ℕ) (link : InLink) (outs : List OutLink) (arrived : List RiderState) → HeadIsLater step link
     → passed_link delta step link outs arrived ≡ record { link = rested_in delta link; outs = outs; arrived = arrived }
-link-stays delta step link outs arrived h = ap (link_after link) (passed-stays step link.line (opened_gate delta link.gate) outs arrived h)
+link-stays delta step link outs arrived h = ap (link_after link) (passed-stays step link.line (opened_exit delta link.exit) outs arrived h)
 
 links-stay : (delta step : ℕ) (xs : List InLink) (outs : List OutLink) (arrived : List RiderState) → All (HeadIsLater step) xs
     → passed_links delta step xs outs arrived ≡ record { ins = map (rested_in delta) xs; outs = outs; arrived = arrived }

@@ -8,7 +8,7 @@ use Rattle.node_transfer.specs.Rest.{rested, rested_in, rested_once, rested_out}
 use Rattle.node_transfer.specs.Skip.{skipped_in, skipped_out, skipped_turn}
 use Rattle.node_transfer.specs.declared.in_link.InLink.{InLink}
 use Rattle.node_transfer.specs.declared.out_link.OutLink.{OutLink}
-use Rattle.node_transfer.specs.declared.turn.Turn.{Turn}
+use Rattle.node_transfer.specs.declared.turn.LimitedTurn.{LimitedTurn}
 
 more_carried : (carried k part : ℕ) → ((carried + k * part) % 3600000000 + part) % 3600000000 ≡ (carried + suc k * part) % 3600000000
 more_carried carried k part = omega arith
@@ -32,13 +32,13 @@ module _ (delta : ℕ) where
   limit-next k None = refl
   limit-next k (Some m) = ap (λ c. Some c) (meter-next k m)
 
-  turns-first : (ts : List Turn) → map closed_turn (map (opened_turn delta) ts) ≡ map (skipped_turn delta 1) ts
+  turns-first : (ts : List LimitedTurn) → map closed_turn (map (opened_turn delta) ts) ≡ map (skipped_turn delta 1) ts
   turns-first [] = refl
   turns-first (t ∷ ts) =
       let here : closed_turn (opened_turn delta t) ≡ skipped_turn delta 1 t = ap (λ o. record t { limit = o }) (limit-first t.limit) in
       rw (here, turns-first ts) refl
 
-  turns-next : (k : ℕ) (ts : List Turn)
+  turns-next : (k : ℕ) (ts : List LimitedTurn)
       → map closed_turn (map (opened_turn delta) (map (skipped_turn delta k) ts)) ≡ map (skipped_turn delta (suc k)) ts
   turns-next k [] = refl
   turns-next k (t ∷ ts) =
@@ -48,16 +48,16 @@ module _ (delta : ℕ) where
 
   in-first : (link : InLink) → rested_in delta link ≡ skipped_in delta 1 link
   in-first link =
-      let g = link.gate in
-      ap (λ m. record link { gate = record g { outflow = m; turns = map closed_turn (map (opened_turn delta) g.turns) } }) (meter-first g.outflow)
-      ∙ ap (λ ts. record link { gate = record g { outflow = skipped delta 1 g.outflow; turns = ts } }) (turns-first g.turns)
+      let g = link.exit in
+      ap (λ m. record link { exit = record g { outflow = m; turns = map closed_turn (map (opened_turn delta) g.turns) } }) (meter-first g.outflow)
+      ∙ ap (λ ts. record link { exit = record g { outflow = skipped delta 1 g.outflow; turns = ts } }) (turns-first g.turns)
 
   in-next : (k : ℕ) (link : InLink) → rested_in delta (skipped_in delta k link) ≡ skipped_in delta (suc k) link
   in-next k link =
-      let g = link.gate in
+      let g = link.exit in
       let turns = map closed_turn (map (opened_turn delta) (map (skipped_turn delta k) g.turns)) in
-      ap (λ m. record link { gate = record g { outflow = m; turns = turns } }) (meter-next k g.outflow)
-      ∙ ap (λ ts. record link { gate = record g { outflow = skipped delta (suc k) g.outflow; turns = ts } }) (turns-next k g.turns)
+      ap (λ m. record link { exit = record g { outflow = m; turns = turns } }) (meter-next k g.outflow)
+      ∙ ap (λ ts. record link { exit = record g { outflow = skipped delta (suc k) g.outflow; turns = ts } }) (turns-next k g.turns)
 
   ins-first : (ls : List InLink) → map (rested_in delta) ls ≡ map (skipped_in delta 1) ls
   ins-first [] = refl

@@ -16,7 +16,7 @@ use Rattle.node_transfer.specs.Cells.{set_some}
 use Rattle.node_transfer.specs.Contents.{storage_by}
 use Rattle.net_core.specs.Rows.{IsBetween, IsLinkInRange, IsTurnInRange}
 use Rattle.net_core.specs.declared.rows.TheConstants.{MOST_RATE}
-use Rattle.net_core.specs.declared.rows.Turn.{Turn as NetTurn}
+use Rattle.net_core.specs.declared.rows.Turn.{Turn}
 use Rattle.net_core.specs.declared.rows.TurnRow.{TurnRow}
 use Rattle.dta_model.specs.Plans.{ins, outs, turn}
 use Rattle.dta_model.specs.Loading.{trace_after}
@@ -72,7 +72,7 @@ found_all q (x ∷ rows) row a e = by_test (q x) e (found_all q rows row (All-ta
 pub rate_fits : (p : Plan) (l : ℕ) (row : LinkRow) → IsSound p → slice_get p.net.links l ≡ Some row → row.rate ≤ MOST_RATE
 rate_fits p l row sound h = (all_at IsLinkInRange p.net.links l row sound.net.links.range h).rate
 
-pub limit_fits : (p : Plan) (a b : ℕ) (way : NetTurn) → IsSound p → turn p a b ≡ Some way → IfSome way.rate (λ r. r ≤ MOST_RATE)
+pub limit_fits : (p : Plan) (a b : ℕ) (way : Turn) → IsSound p → turn p a b ≡ Some way → IfSome way.rate (λ r. r ≤ MOST_RATE)
 unfolding network.turn network.turn_at
 limit_fits p a b way sound h = by_meeting (nat_eq (link_at p b).from.0 (link_at p a).to.0) h
   where
@@ -83,14 +83,14 @@ limit_fits p a b way sound h = by_meeting (nat_eq (link_at p b).from.0 (link_at 
         same : (row : TurnRow) → Some (record { penalty = row.penalty; rate = row.rate }) ≡ Some way → row.rate ≡ way.rate
         same row e = let q : record { penalty = row.penalty; rate = row.rate } ≡ way = some_way (record { penalty = row.penalty; rate = row.rate }) way e in ap (λ w. w.rate) q
           where
-            some_way : (x y : NetTurn) → Some x ≡ Some y → x ≡ y
+            some_way : (x y : Turn) → Some x ≡ Some y → x ≡ y
             some_way x y e = cc
 
     by_name : (c : Bool) → cond c (network.as_turn (find (λ turn. nat_eq turn.a.0 a && nat_eq turn.b.0 b) p.net.turns)) (Some network.free_turn) ≡ Some way → IfSome way.rate (λ r. r ≤ MOST_RATE)
     by_name true e = of_row (find (λ turn. nat_eq turn.a.0 a && nat_eq turn.b.0 b) p.net.turns) (λ row q. found_all (λ turn. nat_eq turn.a.0 a && nat_eq turn.b.0 b) p.net.turns row sound.net.turns.range q) e
     by_name false e = let q : network.free_turn ≡ way = free_way network.free_turn way e in subst (λ w. IfSome w.rate (λ r. r ≤ MOST_RATE)) q (search rules)
       where
-        free_way : (x y : NetTurn) → Some x ≡ Some y → x ≡ y
+        free_way : (x y : Turn) → Some x ≡ Some y → x ≡ y
         free_way x y e = cc
 
     by_meeting : (c : Bool) → cond c (cond (network.is_named p.net (link_at p a).to.0) (network.as_turn (find (λ turn. nat_eq turn.a.0 a && nat_eq turn.b.0 b) p.net.turns)) (Some network.free_turn)) None ≡ Some way → IfSome way.rate (λ r. r ≤ MOST_RATE)

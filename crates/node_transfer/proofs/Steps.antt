@@ -32,7 +32,7 @@ opened-sum delta step (o ∷ outs) = let e = opened-held delta step o in let h =
 
 pub opened-links : (delta step : ℕ) (outs : List OutLink) → out_links (map (opened_out delta step) outs) ≡ out_links outs
 opened-links delta step [] = refl
-opened-links delta step (o ∷ outs) = ap (λ ls. o.link ∷ ls) (opened-links delta step outs)
+opened-links delta step (o ∷ outs) = ap (λ ls. o.link.0 ∷ ls) (opened-links delta step outs)
 
 released-due : (step : ℕ) (later due : List RiderState) → All UnderWay later → All UnderWay due → All UnderWay (released step later due).due
 unfolding released

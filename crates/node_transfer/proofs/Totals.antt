@@ -1,24 +1,25 @@
 -- How many riders a cell holds, and what a transfer asks of them.
 use Rattle.std.specs.List.{flat_map, range_with_len, sum_by}
-use Rattle.std.specs.Prelude.{filter, find, slice_get, nat_eq, nat_le, nat_lt, All, IfSome}
+use Rattle.std.specs.Prelude.{filter, find, slice_get, nat_eq, nat_le, nat_lt, All, IfSome, option_map}
 use Rattle.std.proofs.Common.{◌≡◌, ℕ, zero, suc, ◌+◌, ◌<◌, ◌≤◌, Bool, true, false, cond, List, [], ◌∷◌, ◌++◌, length, length-append, map, refl, ap, sym, ◌∙◌, subst, arith, rules, min, Option, Some, None, ◌⊎◌, inl, inr}
 use Rattle.std.proofs.lemmas.Bool.Decides.{nat_tests, eqb_tells}
 use Rattle.std.proofs.lemmas.List.{length-map}
 use Rattle.std.proofs.lemmas.List.Elements.{All-head, All-tail, All-nil, All-cons}
 use Rattle.std.proofs.lemmas.List.Sums.{sum_by-cons, length-filter}
+use Rattle.std.proofs.lemmas.Option.{slice_get-map}
 use Rattle.std.proofs.Math.Dec.{eqb}
-use Rattle.dta_model.specs.HandOver.{all_riders, riders_of}
+use Rattle.dta_model.specs.HandOver.{all_riders, riders_at}
 use Rattle.dta_model.specs.Loading.{trace_after, arrival_of}
 use Rattle.dta_model.specs.Plans.{ins, link_at, outs}
 use Rattle.dta_model.specs.Riders.{RiderState, rider_at, riders}
-use Rattle.dta_model.specs.Stages.{arrived_before, line_before, waiting_before, waiting_for, cell_before as content_before}
+use Rattle.dta_model.specs.Stages.{arrived_before, line_before, waiting_before, waiting_for}
 use Rattle.dta_model.specs.Trace.{queue_of, has_moved}
 use Rattle.dta_model.specs.declared.plan.Plan.{Plan}
 use Rattle.dta_model.specs.declared.trip.TheConstants.{MOST_TRIPS}
 use Rattle.dta_model.proofs.Gathering.{no-moves}
-use Rattle.dta_model.proofs.HandOver.{cells_hold_all}
+use Rattle.dta_model.proofs.HandOver.{nodes_hold_all}
 use Rattle.link_queues.specs.declared.line.TheConstants.{MOST_RIDERS}
-use Rattle.node_transfer.specs.Cells.{CanTransfer, UnderWay, Waits, cell_total, line_length, waiting_length}
+use Rattle.node_transfer.specs.Cells.{CanTransfer, CellState, UnderWay, Waits, cell_total, line_length, waiting_length}
 use Rattle.dta_model.specs.Sound.{IsSound}
 use Rattle.dta_model.specs.State.{count_on}
 use Rattle.link_queues.specs.Lines.{due}
@@ -61,38 +62,38 @@ parts-length t (r ∷ rs) = by_two (nat_le t r.departure) (nat_lt r.departure t)
     by_two false false q s ih = let no_way : true ≡ false = sym (due_only q) ∙ s in cc no_way
 
 module _ (p : Plan) (n t : ℕ) where
-  lines-total : (line : ℕ → List RiderState) (mail : ℕ → Mail) (ls : List ℕ) → sum_by line_length (map (in_link p n t line mail) ls) ≡ length (flat_map (λ x. x) (map line ls))
+  lines-total : (line : ℕ → List RiderState) (mail : ℕ → Mail) (ls : List ℕ) → sum_by line_length (map (in_link p n t line mail) ls) ≡ length (flat_map line ls)
   lines-total line mail [] = refl
   lines-total line mail (l ∷ ls) =
       let c = sum_by-cons line_length (in_link p n t line mail l) (map (in_link p n t line mail) ls) in
       let r = lines-total line mail ls in
-      omega (arith, c, r, length-append (line l) (flat_map (λ x. x) (map line ls)))
+      omega (arith, c, r, length-append (line l) (flat_map line ls))
 
-  waiting-total : (line : ℕ → List RiderState) (mail : ℕ → Mail) (bs : List ℕ) → sum_by held (map (out_link p t line mail) bs) ≡ length (flat_map (λ x. x) (map line bs))
+  waiting-total : (line : ℕ → List RiderState) (mail : ℕ → Mail) (bs : List ℕ) → sum_by held (map (out_link p t line mail) bs) ≡ length (flat_map line bs)
   waiting-total line mail [] = refl
   waiting-total line mail (b ∷ bs) =
       let c = sum_by-cons held (out_link p t line mail b) (map (out_link p t line mail) bs) in
       let here = parts-length t (line b) in
       let r = waiting-total line mail bs in
-      omega (arith, c, here, r, length-append (line b) (flat_map (λ x. x) (map line bs)))
+      omega (arith, c, here, r, length-append (line b) (flat_map line bs))
 
   module _ (sound : IsSound p) (node : n < length p.net.nodes) where
-    few-riders : length (riders_of (content_before p n t)) ≤ MOST_TRIPS
+    few-riders : length (riders_at p t n) ≤ MOST_TRIPS
     unfolding all_riders
     few-riders =
-        let few = (cells_hold_all p sound t).few in
-        let part = part-of (λ m. riders_of (content_before p m t)) n (length p.net.nodes) 0 (omega arith) (let h = node in omega (arith, h)) in
+        let few = (nodes_hold_all p sound t).few in
+        let part = part-of (riders_at p t) n (length p.net.nodes) 0 (omega arith) (let h = node in omega (arith, h)) in
         let most = sound.trips.few in
         omega (arith, few, part, most)
 
     pub cell-few : (in_mail out_mail : ℕ → Mail) → cell_total (cell_before p n t in_mail out_mail).ins (cell_before p n t in_mail out_mail).outs (cell_before p n t in_mail out_mail).arrived ≤ MOST_RIDERS
-    unfolding cell_before content_before
+    unfolding cell_before
     cell-few in_mail out_mail =
         let few = few-riders in
         let a = lines-total (line_before p t) in_mail (ins p n) in
         let b = waiting-total (waiting_before p t) out_mail (outs p n) in
-        let c = length-append (flat_map (λ x. x) (map (line_before p t) (ins p n))) (flat_map (λ x. x) (map (waiting_before p t) (outs p n)) ++ arrived_before p n t) in
-        let d = length-append (flat_map (λ x. x) (map (waiting_before p t) (outs p n))) (arrived_before p n t) in
+        let c = length-append (flat_map (line_before p t) (ins p n)) (flat_map (waiting_before p t) (outs p n) ++ arrived_before p n t) in
+        let d = length-append (flat_map (waiting_before p t) (outs p n)) (arrived_before p n t) in
         omega (arith, few, a, b, c, d)
 
     links-same : (line : ℕ → List RiderState) (mail : ℕ → Mail) (bs : List ℕ) → links_of (map (out_link p t line mail) bs) ≡ bs
@@ -189,3 +190,14 @@ module _ (p : Plan) (n t : ℕ) where
         let w : min (sum_by waiting_length (map (out_link p t (waiting_before p t) away) (outs p n))) MOST_COUNT ≡ sum_by (λ b. due t (waiting_before p t b)) (outs p n) = omega (arith, few, due_few, a) in
         let r : min (sum_by line_length (map (in_link p n t (line_before p t) away) (ins p n))) MOST_COUNT ≡ sum_by (count_on (trace_after p t)) (ins p n) = omega (arith, few, b) in
         rw (w, r) refl
+
+-- the number of the line of an in-link is that of the vehicles on its link
+pub line-count : (p : Plan) (n t place l k : ℕ) (s : CellState) → IfSome (slice_get s.ins place) (λ link. k ≡ length link.line)
+    → s ≡ cell_before p n t away away → slice_get (ins p n) place ≡ Some l → k ≡ count_on (trace_after p t) l
+unfolding cell_before line_before count_on
+line-count p n t place l k s tells same here =
+    let there : slice_get s.ins place ≡ Some (in_link p n t (line_before p t) away l) =
+    ap (λ c. slice_get c.ins place) same ∙ slice_get-map (in_link p n t (line_before p t) away) (ins p n) place ∙ ap (λ o. option_map (in_link p n t (line_before p t) away) o) here
+    in
+    let told : k ≡ length (line_before p t l) = subst (λ o. IfSome o (λ link. k ≡ length link.line)) there tells in
+    told ∙ length-map (queue_of l (trace_after p t)) (rider_at p (trace_after p t))

@@ -65,13 +65,13 @@ module _ (p : Plan) (sound : IsSound p) (n t : ℕ) where
   out-opens : (b : ℕ) → opened_out p.delta t (out_link p t (waiting_before p t) (room_of p t) b) ≡ out_mid p n t [] b
   out-opens b =
       ap (λ w. record {
-        link = b;
+        link = record { 0 = b };
         inflow = capped_by (room_of p t b) (granted p.delta (meter_after p t (link_at p b).rate));
         waiting = w;
         batch = [];
         mail = Away;
       }) (waiting-opens p sound n t b)
-      ∙ ap (λ i. record { link = b; inflow = i; waiting = waiting_mid p n t [] b; batch = []; mail = Away }) (inflow-opens p n t b)
+      ∙ ap (λ i. record { link = record { 0 = b }; inflow = i; waiting = waiting_mid p n t [] b; batch = []; mail = Away }) (inflow-opens p n t b)
       ∙ ap (λ B. record (out_mid p n t [] b) { batch = B }) (sym (no_batch b))
 
   outs-open : (bs : List ℕ) → map (opened_out p.delta t) (map (out_link p t (waiting_before p t) (room_of p t)) bs) ≡ map (out_mid p n t []) bs

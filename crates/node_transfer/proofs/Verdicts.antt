@@ -13,22 +13,22 @@ use Rattle.dta_model.specs.Riders.{RiderState, rider_at}
 use Rattle.dta_model.specs.Room.{room, has_room}
 use Rattle.dta_model.specs.Trace.{Move, Onto, Arrived}
 use Rattle.dta_model.specs.declared.plan.Plan.{Plan}
-use Rattle.net_core.specs.declared.rows.Turn.{Turn as NetTurn}
+use Rattle.net_core.specs.declared.rows.Turn.{Turn}
 use Rattle.node_transfer.specs.Contents.{kept_turns, is_kept, turn_by}
 use Rattle.node_transfer.specs.Pass.{place_of, verdict, by_target, entry_at, is_entry, turn_links, out_links, turn_open, limit_open, out_open, penalty_of}
 use Rattle.node_transfer.specs.declared.out_link.OutLink.{OutLink}
-use Rattle.node_transfer.specs.declared.pass.Gate.{Gate}
+use Rattle.node_transfer.specs.declared.pass.Exit.{Exit}
 use Rattle.node_transfer.specs.declared.pass.Verdict.{Verdict}
 use Rattle.node_transfer.specs.declared.pass.Verdict.TheVariants.{Stays, Arrives, Enters}
-use Rattle.node_transfer.specs.declared.turn.Turn.{Turn}
-use Rattle.node_transfer.proofs.Mid.{T, meter_mid, capped_room, turn_mid, gate_mid, out_mid}
+use Rattle.node_transfer.specs.declared.turn.LimitedTurn.{LimitedTurn}
+use Rattle.node_transfer.proofs.Mid.{T, meter_mid, capped_room, turn_mid, exit_mid, out_mid}
 use Rattle.node_transfer.proofs.ByKey.{both_true}
 use Rattle.node_transfer.specs.Meter.{MeterState}
 use Rattle.node_transfer.proofs.ByKey.{get-at, find_kept}
 
 -- a turn that the network allows, to a link out of the node
 pub record Allowed (p : Plan) (n l b : ℕ) : Type 0 where
-  pub way : NetTurn
+  pub way : Turn
   pub allows : turn p l b ≡ Some way
   pub there : find (λ o. nat_eq o b) (outs p n) ≡ Some b
 
@@ -48,13 +48,13 @@ not_false_of true h = refl
 not_false_of false h = cc
 
 -- a turn that isn't kept has no penalty and no limit
-plain-parts : (way : NetTurn) → is_kept (Some way) ≡ false → (way.penalty ≡ 0) × (way.rate ≡ None)
+plain-parts : (way : Turn) → is_kept (Some way) ≡ false → (way.penalty ≡ 0) × (way.rate ≡ None)
 plain-parts way h =
     let b = both_true (nat_eq way.penalty 0) (is_none way.rate) (not_false_of (nat_eq way.penalty 0 && is_none way.rate) h) in
     (eqb-true way.penalty 0 b.0, is_none_of way.rate b.1)
 
 -- the turn that a cell finds
-abbrev found_turn : (ℕ → MeterState) → ℕ → NetTurn → Bool → Option Turn
+abbrev found_turn : (ℕ → MeterState) → ℕ → Turn → Bool → Option LimitedTurn
 found_turn meter b way c = cond c (Some (turn_by meter b (Some way))) None
 
 and_assoc : (a b c : Bool) → (a && (b && c)) ≡ ((a && b) && c)
@@ -73,22 +73,22 @@ conds_and true false x y = refl
 conds_and false true x y = refl
 conds_and false false x y = refl
 
-verdict-of : (t : ℕ) (gate : Gate) (os : List OutLink) (r : RiderState) (entry : ℕ) (o : Option ℕ) → last_or None r.entries ≡ Some entry → slice_get r.route (length r.entries) ≡ o
-    → verdict t gate os r ≡ cond (nat_lt 0 gate.outflow.left) (by_target t (entry + gate.free) gate.turns os o) Stays
+verdict-of : (t : ℕ) (exit : Exit) (os : List OutLink) (r : RiderState) (entry : ℕ) (o : Option ℕ) → last_or None r.entries ≡ Some entry → slice_get r.route (length r.entries) ≡ o
+    → verdict t exit os r ≡ cond (nat_lt 0 exit.outflow.left) (by_target t (entry + exit.free) exit.turns os o) Stays
 unfolding verdict
-verdict-of t gate os r entry o e q = rw (e, q) refl
+verdict-of t exit os r entry o e q = rw (e, q) refl
 
 module _ (p : Plan) (n t : ℕ) (M : List Move) where
   pub out-test : (b : ℕ) → out_open (Some (out_mid p n t M b)) ≡ may_enter p n t (T p n t) M b
   unfolding may_enter
   out-test b = takes_test (room p b t (T p n t)) (link_allowance p b t) (entered p n t (T p n t) M b)
 
-  found-penalty : (l b : ℕ) (way : NetTurn) (c : Bool) → is_kept (Some way) ≡ c
+  found-penalty : (l b : ℕ) (way : Turn) (c : Bool) → is_kept (Some way) ≡ c
       → penalty_of (found_turn (λ rate. meter_mid p t rate (turned p n t (T p n t) M l b)) b way c) ≡ way.penalty
   found-penalty l b way true h = refl
   found-penalty l b way false h = sym (plain-parts way h).0
 
-  found-open : (l b : ℕ) (way : NetTurn) (c : Bool) → is_kept (Some way) ≡ c
+  found-open : (l b : ℕ) (way : Turn) (c : Bool) → is_kept (Some way) ≡ c
       → turn_open (found_turn (λ rate. meter_mid p t rate (turned p n t (T p n t) M l b)) b way c) ≡ has_pass p way.rate t (turned p n t (T p n t) M l b)
   found-open l b way true h = by_rate way.rate
     where
@@ -102,7 +102,7 @@ module _ (p : Plan) (n t : ℕ) (M : List Move) where
   turn_links-mid l [] = refl
   turn_links-mid l (x ∷ xs) = rw (turn_links-mid l xs) (ap (λ y. y ∷ xs) (to_same (turn p l x)))
     where
-      to_same : (o : Option NetTurn) → (turn_by (λ rate. meter_mid p t rate (turned p n t (T p n t) M l x)) x o).to ≡ x
+      to_same : (o : Option Turn) → (turn_by (λ rate. meter_mid p t rate (turned p n t (T p n t) M l x)) x o).to.0 ≡ x
       to_same None = refl
       to_same (Some way) = refl
 
@@ -142,14 +142,14 @@ module _ (p : Plan) (n t : ℕ) (M : List Move) where
   -- the code's verdict is that of the definitions
   pub verdict-head : (l v entry : ℕ) (o : Option ℕ) → last_or None (rider_at p (T p n t) v).entries ≡ Some entry
       → slice_get (rider_at p (T p n t) v).route (length (rider_at p (T p n t) v).entries) ≡ o → ((b : ℕ) → o ≡ Some b → Allowed p n l b)
-      → verdict t (gate_mid p n t M l) (map (out_mid p n t M) (outs p n)) (rider_at p (T p n t) v) ≡ head_verdict l (entry + (link_at p l).free) o
+      → verdict t (exit_mid p n t M l) (map (out_mid p n t M) (outs p n)) (rider_at p (T p n t) v) ≡ head_verdict l (entry + (link_at p l).free) o
   unfolding may_move link_allowance
   verdict-head l v entry None e q a =
-      verdict-of t (gate_mid p n t M l) (map (out_mid p n t M) (outs p n)) (rider_at p (T p n t) v) entry None e q
+      verdict-of t (exit_mid p n t M l) (map (out_mid p n t M) (outs p n)) (rider_at p (T p n t) v) entry None e q
       ∙ ap (λ c. cond c (cond (nat_le (entry + (link_at p l).free) t) Arrives Stays) Stays) (lt_sub (allowance (link_at p l).rate p.delta t) (left p n t (T p n t) M l))
       ∙ conds (nat_lt (left p n t (T p n t) M l) (allowance (link_at p l).rate p.delta t)) (nat_le (entry + (link_at p l).free) t) Arrives Stays
   verdict-head l v entry (Some b) e q a =
-      verdict-of t (gate_mid p n t M l) (map (out_mid p n t M) (outs p n)) (rider_at p (T p n t) v) entry (Some b) e q
+      verdict-of t (exit_mid p n t M l) (map (out_mid p n t M) (outs p n)) (rider_at p (T p n t) v) entry (Some b) e q
       ∙ ap (λ c. cond c (entry_at t (entry + (link_at p l).free) (map (turn_mid p n t M l) (kept_turns p n l)) (map (out_mid p n t M) (outs p n)) (place_of b (out_links (map (out_mid p n t M) (outs p n)))) (place_of b (turn_links (map (turn_mid p n t M l) (kept_turns p n l))))) Stays) (lt_sub (allowance (link_at p l).rate p.delta t) (left p n t (T p n t) M l))
       ∙ rw (out_links-mid (outs p n), turn_links-mid l (kept_turns p n l), entry-test l (entry + (link_at p l).free) b (a b refl))
       (conds_and (nat_lt (left p n t (T p n t) M l) (allowance (link_at p l).rate p.delta t)) (may_turn p n t (T p n t) M (entry + (link_at p l).free) l b) _ Stays)

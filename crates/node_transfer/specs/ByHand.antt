@@ -1,6 +1,5 @@
 -- The cells and the mail of a loading that is driven by hand, while the nodes of a step work one after another.
-use Rattle.std.specs.List.{list_any}
-use Rattle.std.specs.Prelude.{ℕ, suc, cond, nat_eq, nat_lt, List, length, map}
+use Rattle.std.specs.Prelude.{ℕ, suc, cond, nat_lt, List, length, map}
 use Rattle.net_core.specs.Network.{numbers_below}
 use Rattle.dta_model.specs.Plans.{all_nodes, link_at}
 use Rattle.dta_model.specs.declared.plan.Plan.{Plan}
@@ -14,10 +13,6 @@ all_cells p cell = map cell (all_nodes p)
 
 abbrev pub all_mail : Plan → (ℕ → Mail) → List Mail
 all_mail p mail = map mail (numbers_below (length p.net.links))
-
--- the mail of the links of a list by one rule, and that of the others by another
-abbrev pub replaced : List ℕ → (ℕ → Mail) → (ℕ → Mail) → ℕ → Mail
-replaced links there others l = cond (list_any (λ b. nat_eq b l) links) (there l) (others l)
 
 -- where the nodes below k have made their transfer of step t, and the others haven't
 abbrev pub cell_in_transfer : Plan → ℕ → ℕ → ℕ → CellState

@@ -20,6 +20,7 @@ unfoldable pub handed : List RiderState → List Journey → List Journey
 handed [] loaded = loaded
 handed (r ∷ riders) loaded = handed riders (slice_set loaded r.number (journey_by r))
 
+-- who stands on an in-link
 abbrev pub line_of : InLink → List RiderState
 line_of link = link.line
 

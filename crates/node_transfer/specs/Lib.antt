@@ -11,5 +11,6 @@ pub mod Counts
 pub mod Skip
 pub mod Rest
 pub mod Laws
+pub mod Exchange
 pub mod Examples
 pub mod ByHand

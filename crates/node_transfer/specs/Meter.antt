@@ -2,7 +2,8 @@
 use Rattle.dta_model.specs.declared.credit.TheConstants.{PARTS_OF_A_VEHICLE}
 use Rattle.std.specs.Prelude.{ℕ, ◌+◌, ◌-◌, ◌*◌, ◌/◌, ◌%◌, min}
 
--- a rate, the parts of a vehicle that are carried, and the whole vehicles that are left of the step's allowance
+-- a rate, the parts of a vehicle that are carried, and the whole vehicles that are left of the
+-- step's allowance
 pub record MeterState : Type 0 where
   pub rate : ℕ
   pub carried : ℕ
@@ -14,7 +15,11 @@ unused rate = record { rate = rate; carried = 0; left = 0 }
 
 -- the allowance of the next step of delta seconds is granted
 abbrev pub granted : ℕ → MeterState → MeterState
-granted delta m = record { rate = m.rate; carried = (m.carried + m.rate * delta) % PARTS_OF_A_VEHICLE; left = (m.carried + m.rate * delta) / PARTS_OF_A_VEHICLE }
+granted delta m = record {
+  rate = m.rate;
+  carried = (m.carried + m.rate * delta) % PARTS_OF_A_VEHICLE;
+  left = (m.carried + m.rate * delta) / PARTS_OF_A_VEHICLE;
+}
 
 -- one vehicle passed
 abbrev pub passed_one : MeterState → MeterState
@@ -30,4 +35,8 @@ capped room m = record m { left = min m.left room }
 
 -- so many steps went by whose allowances nobody used
 abbrev pub skipped : ℕ → ℕ → MeterState → MeterState
-skipped delta steps m = record { rate = m.rate; carried = (m.carried + steps * (m.rate * delta)) % PARTS_OF_A_VEHICLE; left = 0 }
+skipped delta steps m = record {
+  rate = m.rate;
+  carried = (m.carried + steps * (m.rate * delta)) % PARTS_OF_A_VEHICLE;
+  left = 0;
+}

@@ -4,8 +4,8 @@ use Rattle.std.specs.Prelude.{◌≡◌, ℕ, ◌+◌, ◌<◌, ◌≤◌, Bool,
 use Rattle.std.specs.List.{sum_by, last_or}
 use Rattle.dta_model.specs.Riders.{RiderState, moved}
 use Rattle.node_transfer.specs.Meter.{MeterState, granted, passed_one, closed}
-use Rattle.node_transfer.specs.declared.turn.Turn.{Turn}
-use Rattle.node_transfer.specs.declared.pass.Gate.{Gate}
+use Rattle.node_transfer.specs.declared.turn.LimitedTurn.{LimitedTurn}
+use Rattle.node_transfer.specs.declared.pass.Exit.{Exit}
 use Rattle.node_transfer.specs.declared.out_link.OutLink.{OutLink}
 use Rattle.node_transfer.specs.declared.out_link.Waiting.{Waiting}
 use Rattle.node_transfer.specs.declared.pass.Verdict.{Verdict}
@@ -16,52 +16,61 @@ unfoldable pub place_of : ℕ → List ℕ → ℕ
 place_of b [] = 0
 place_of b (x ∷ xs) = cond (nat_eq x b) 0 (place_of b xs + 1)
 
-abbrev pub turn_links : List Turn → List ℕ
-turn_links ts = map (λ t. t.to) ts
+-- the links to which turns lead, those of out-links, and those who wait for them
+abbrev pub turn_links : List LimitedTurn → List ℕ
+turn_links ts = map (λ t. t.to.0) ts
 
 abbrev pub out_links : List OutLink → List ℕ
-out_links outs = map (λ o. o.link) outs
+out_links outs = map (λ o. o.link.0) outs
 
 abbrev pub waitings : List OutLink → List Waiting
 waitings outs = map (λ o. o.waiting) outs
 
-abbrev pub opened_turn : ℕ → Turn → Turn
+-- a turn that is granted its allowance of a step, one whose step is over, and one that is taken
+abbrev pub opened_turn : ℕ → LimitedTurn → LimitedTurn
 opened_turn delta t = record t { limit = option_map (granted delta) t.limit }
 
-abbrev pub closed_turn : Turn → Turn
+abbrev pub closed_turn : LimitedTurn → LimitedTurn
 closed_turn t = record t { limit = option_map closed t.limit }
 
-abbrev pub used_turn : Turn → Turn
+abbrev pub used_turn : LimitedTurn → LimitedTurn
 used_turn t = record t { limit = option_map passed_one t.limit }
 
+-- whether a limit allows one more
 abbrev pub limit_open : Option MeterState → Bool
 limit_open None = true
 limit_open (Some m) = nat_lt 0 m.left
 
 -- a turn that isn't listed has no penalty and no limit
-abbrev pub penalty_of : Option Turn → ℕ
+abbrev pub penalty_of : Option LimitedTurn → ℕ
 penalty_of None = 0
 penalty_of (Some t) = t.penalty
 
-abbrev pub turn_open : Option Turn → Bool
+-- whether a turn may be taken once more
+abbrev pub turn_open : Option LimitedTurn → Bool
 turn_open None = true
 turn_open (Some t) = limit_open t.limit
 
-abbrev pub used_in : Option Turn → ℕ → List Turn → List Turn
+-- turns of which the one at place k, if it is there, is taken
+abbrev pub used_in : Option LimitedTurn → ℕ → List LimitedTurn → List LimitedTurn
 used_in None k ts = ts
 used_in (Some t) k ts = slice_set ts k (used_turn t)
 
 -- one vehicle takes the turn at a place
-abbrev pub used_at : ℕ → List Turn → List Turn
+abbrev pub used_at : ℕ → List LimitedTurn → List LimitedTurn
 used_at k ts = used_in (slice_get ts k) k ts
 
+-- whether one more may enter an out-link
 abbrev pub out_open : Option OutLink → Bool
 out_open None = false
 out_open (Some o) = nat_lt 0 o.inflow.left
 
+-- an out-link that a rider enters: it stands last in the batch
 abbrev pub entered_out : ℕ → RiderState → OutLink → OutLink
-entered_out step r o = record o { inflow = passed_one o.inflow; batch = o.batch ++ moved r step ∷ [] }
+entered_out step r o =
+    record o { inflow = passed_one o.inflow; batch = o.batch ++ moved r step ∷ [] }
 
+-- out-links of which a rider enters the one at place p, if it is there
 abbrev pub entered_in : Option OutLink → ℕ → ℕ → RiderState → List OutLink → List OutLink
 entered_in None p step r outs = outs
 entered_in (Some o) p step r outs = slice_set outs p (entered_out step r o)
@@ -71,51 +80,64 @@ abbrev pub entered_at : ℕ → ℕ → RiderState → List OutLink → List Out
 entered_at p step r outs = entered_in (slice_get outs p) p step r outs
 
 -- whether one that is ready may take the turn at a place into the out-link at a place
-abbrev pub is_entry : ℕ → ℕ → List Turn → List OutLink → ℕ → ℕ → Bool
-is_entry step ready turns outs p k = nat_le (ready + penalty_of (slice_get turns k)) step && (turn_open (slice_get turns k) && out_open (slice_get outs p))
+abbrev pub is_entry : ℕ → ℕ → List LimitedTurn → List OutLink → ℕ → ℕ → Bool
+is_entry step ready turns outs p k =
+    nat_le (ready + penalty_of (slice_get turns k)) step
+    && (turn_open (slice_get turns k) && out_open (slice_get outs p))
 
-abbrev pub entry_at : ℕ → ℕ → List Turn → List OutLink → ℕ → ℕ → Verdict
+-- one that is ready enters, or stays
+abbrev pub entry_at : ℕ → ℕ → List LimitedTurn → List OutLink → ℕ → ℕ → Verdict
 entry_at step ready turns outs p k = cond (is_entry step ready turns outs p k) (Enters p k) Stays
 
-abbrev pub by_target : ℕ → ℕ → List Turn → List OutLink → Option ℕ → Verdict
+-- what one does that is ready: without a next link it arrives, else it enters that link if it may
+abbrev pub by_target : ℕ → ℕ → List LimitedTurn → List OutLink → Option ℕ → Verdict
 by_target step ready turns outs None = cond (nat_le ready step) Arrives Stays
-by_target step ready turns outs (Some b) = entry_at step ready turns outs (place_of b (out_links outs)) (place_of b (turn_links turns))
+by_target step ready turns outs (Some b) =
+    entry_at step ready turns outs (place_of b (out_links outs)) (place_of b (turn_links turns))
 
-abbrev pub verdict_by : ℕ → Gate → List OutLink → Option ℕ → Option ℕ → Verdict
-verdict_by step gate outs None target = Stays
-verdict_by step gate outs (Some entry) target =
-    cond (nat_lt 0 gate.outflow.left) (by_target step (entry + gate.free) gate.turns outs target) Stays
+-- what one does that entered its link at a step: nobody leaves beyond the link's allowance
+abbrev pub verdict_by : ℕ → Exit → List OutLink → Option ℕ → Option ℕ → Verdict
+verdict_by step exit outs None target = Stays
+verdict_by step exit outs (Some entry) target =
+    cond (nat_lt 0 exit.outflow.left)
+    (by_target step (entry + exit.free) exit.turns outs target)
+    Stays
 
 -- what the head of the line does
-unfoldable pub verdict : ℕ → Gate → List OutLink → RiderState → Verdict
-verdict step gate outs r = verdict_by step gate outs (last_or None r.entries) (slice_get r.route (length r.entries))
+unfoldable pub verdict : ℕ → Exit → List OutLink → RiderState → Verdict
+verdict step exit outs r =
+    verdict_by step exit outs (last_or None r.entries) (slice_get r.route (length r.entries))
 
+-- a line, its exit, the out-links and those who arrived, while heads move
 pub record Work : Type 0 where
   pub line : List RiderState
-  pub gate : Gate
+  pub exit : Exit
   pub outs : List OutLink
   pub arrived : List RiderState
 
-abbrev pub after_arrival : Gate → Gate
-after_arrival gate = record gate { outflow = passed_one gate.outflow }
+-- an exit through which one vehicle arrived, and one through which one left by turn k
+abbrev pub after_arrival : Exit → Exit
+after_arrival exit = record exit { outflow = passed_one exit.outflow }
 
-abbrev pub after_entry : ℕ → Gate → Gate
-after_entry k gate = record gate { outflow = passed_one gate.outflow; turns = used_at k gate.turns }
+abbrev pub after_entry : ℕ → Exit → Exit
+after_entry k exit = record exit { outflow = passed_one exit.outflow; turns = used_at k exit.turns }
 
 -- the lists once no head moves
-unfoldable pub passed : ℕ → List RiderState → Gate → List OutLink → List RiderState → Work
-passed step [] gate outs arrived = record { line = []; gate = gate; outs = outs; arrived = arrived }
-passed step (r ∷ line) gate outs arrived = elim (verdict step gate outs r) as (λ _. Work) [
-  | Stays ↦ record { line = r ∷ line; gate = gate; outs = outs; arrived = arrived }
-  | Arrives ↦ passed step line (after_arrival gate) outs (arrived ++ moved r step ∷ [])
-  | Enters p k ↦ passed step line (after_entry k gate) (entered_at p step r outs) arrived
+unfoldable pub passed : ℕ → List RiderState → Exit → List OutLink → List RiderState → Work
+passed step [] exit outs arrived = record { line = []; exit = exit; outs = outs; arrived = arrived }
+passed step (r ∷ line) exit outs arrived = elim (verdict step exit outs r) as (λ _. Work) [
+  | Stays ↦ record { line = r ∷ line; exit = exit; outs = outs; arrived = arrived }
+  | Arrives ↦ passed step line (after_arrival exit) outs (arrived ++ moved r step ∷ [])
+  | Enters p k ↦ passed step line (after_entry k exit) (entered_at p step r outs) arrived
 ]
 
-abbrev pub opened_gate : ℕ → Gate → Gate
-opened_gate delta g = record g { outflow = granted delta g.outflow; turns = map (opened_turn delta) g.turns }
+-- an exit at the start of a step, with its allowances granted, and one whose step is over
+abbrev pub opened_exit : ℕ → Exit → Exit
+opened_exit delta g =
+    record g { outflow = granted delta g.outflow; turns = map (opened_turn delta) g.turns }
 
-abbrev pub closed_gate : Gate → Gate
-closed_gate g = record g { outflow = closed g.outflow; turns = map closed_turn g.turns }
+abbrev pub closed_exit : Exit → Exit
+closed_exit g = record g { outflow = closed g.outflow; turns = map closed_turn g.turns }
 
 -- a rider on its way to one of the links
 pub record Rides (links : List ℕ) (r : RiderState) : Type 0 where
@@ -130,9 +152,12 @@ held o = length o.waiting.later + (length o.waiting.due + length o.batch)
 abbrev pub total : List RiderState → List OutLink → List RiderState → ℕ
 total line outs arrived = length line + (length arrived + sum_by held outs)
 
+-- lists hold all riders of a line and behind it
 abbrev pub FitsAll : List RiderState → List OutLink → List RiderState → Type 0
 FitsAll line outs arrived = total line outs arrived ≤ MOST_RIDERS
 
-pub record CanPass (line : List RiderState) (outs : List OutLink) (arrived : List RiderState) : Type 0 where
+-- all who stand in a line ride on to an out-link or arrive, and lists hold all riders
+pub record CanPass (line : List RiderState) (outs : List OutLink) (arrived : List RiderState)
+    : Type 0 where
   pub rides : All (Rides (out_links outs)) line
   pub fits : FitsAll line outs arrived

@@ -9,24 +9,29 @@ use Rattle.node_transfer.specs.Meter.{unused}
 use Rattle.node_transfer.specs.declared.in_link.InLink.{InLink}
 use Rattle.node_transfer.specs.declared.mail.Mail.TheVariants.{Away}
 use Rattle.node_transfer.specs.declared.out_link.OutLink.{OutLink}
-use Rattle.node_transfer.specs.declared.turn.Turn.{Turn}
+use Rattle.node_transfer.specs.declared.turn.LimitedTurn.{LimitedTurn}
 
--- the turns of link l, among those to the links bs, that have a penalty or a limit
-abbrev pub turn_at_start : Plan → ℕ → ℕ → Turn
+-- the turn from link l to link b
+abbrev pub turn_at_start : Plan → ℕ → ℕ → LimitedTurn
 turn_at_start p l b = turn_by unused b (turn p l b)
 
 -- where it is one that a cell keeps
-abbrev pub kept_at_start : Plan → ℕ → ℕ → Option Turn
+abbrev pub kept_at_start : Plan → ℕ → ℕ → Option LimitedTurn
 kept_at_start p l b = cond (is_kept (turn p l b)) (Some (turn_at_start p l b)) None
 
-abbrev pub turns_at_start : Plan → ℕ → List ℕ → List Turn
+-- those of the turns of link l to the links bs that a cell keeps
+abbrev pub turns_at_start : Plan → ℕ → List ℕ → List LimitedTurn
 turns_at_start p l bs = map (turn_at_start p l) (filter (λ b. is_kept (turn p l b)) bs)
 
 -- link l as an in-link of a node with the out-links bs
 abbrev pub start_in : Plan → List ℕ → ℕ → InLink
 start_in p bs l = record {
   line = [];
-  gate = record { free = (link_at p l).free; outflow = unused (link_at p l).rate; turns = turns_at_start p l bs };
+  exit = record {
+    free = (link_at p l).free;
+    outflow = unused (link_at p l).rate;
+    turns = turns_at_start p l bs;
+  };
   storage = storage_by p.queue (link_at p l).storage;
   mail = Away;
 }
@@ -34,7 +39,7 @@ start_in p bs l = record {
 -- link b as an out-link, with its line among these
 abbrev pub start_out : Plan → List (List RiderState) → ℕ → OutLink
 start_out p lines b = record {
-  link = b;
+  link = record { 0 = b };
   inflow = unused (link_at p b).rate;
   waiting = record { later = slice_index_or lines b []; due = [] };
   batch = [];

@@ -7,6 +7,7 @@ use Rattle.dta_model.specs.Riders.{RiderState, riders}
 use Rattle.dta_model.specs.declared.plan.Plan.{Plan}
 use Rattle.node_transfer.specs.Cells.{changed_at}
 
+-- so many lines without riders
 abbrev pub empty_lines : ℕ → List (List RiderState)
 empty_lines count = map (λ b. []) (numbers_below count)
 
@@ -14,6 +15,7 @@ empty_lines count = map (λ b. []) (numbers_below count)
 abbrev pub line_below : Plan → ℕ → ℕ → List RiderState
 line_below p count b = riders p [] (filter (λ v. is_first b (first_link p v)) (numbers_below count))
 
+-- the same for each link
 abbrev pub lines_below : Plan → ℕ → List (List RiderState)
 lines_below p count = map (line_below p count) (numbers_below (length p.net.links))
 
@@ -21,6 +23,7 @@ lines_below p count = map (line_below p count) (numbers_below (length p.net.link
 abbrev pub lines_at_start : Plan → List (List RiderState)
 lines_at_start p = lines_below p (vehicle_count p)
 
+-- one more rider at the end of a line, and at the end of the line at a place
 abbrev pub with_last : RiderState → List RiderState → List RiderState
 with_last r line = line ++ r ∷ []
 

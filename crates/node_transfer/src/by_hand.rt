@@ -1,25 +1,22 @@
-// A loading whose cells are driven by hand: in each step the mail of each link is lent to the places of its nodes, and taken out
-// of them, one node after another.
+// A loading whose cells are driven node by node, in each step first all transfers and then all
+// gathers.
 ghost use Rattle.dta_model.specs.Lent.{plan_of};
 ghost use Rattle.dta_model.specs.Loading.{journeys_of};
 ghost use Rattle.dta_model.specs.Sound.{IsSound};
 ghost use Rattle.node_transfer.specs.ByHand.{cells_before, rooms};
 ghost use Rattle.std.specs.Prelude.{◌≡◌, ◌<◌, suc, IfOk};
 
-mod exchange;
-mod hand_over;
-mod node;
 mod phases;
 mod tests;
 
-use crate::by_hand::hand_over::hand_over_all;
 use crate::by_hand::phases::{gather_all, transfer_all};
-use crate::{Mail, NodeCell, Opening, opening};
+use crate::{Mail, NodeCell, Opening, hand_over_all, opening};
 use dta_model::{Loaded, Loading};
 use net_core::Memory;
 use std::alloc::Global;
 
-/// The journeys of a loading, by the calls of its cells: transfers and gathers for all its steps, and then the hand-over.
+/// The journeys of a loading, by the calls of its cells: transfers and gathers for all its steps,
+/// and then the hand-over.
 pub fn drive_by_hand(alloc: Global, loading: &Loading) -> Result<Loaded, Memory>
     requires { IsSound (plan_of loading.now) }
     ensures { IfOk result (λ loaded. loaded ≡ journeys_of (plan_of loading.now)) }

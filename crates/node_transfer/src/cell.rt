@@ -1,4 +1,7 @@
 // A node's cell.
+ghost use Rattle.dta_model.specs.Loading.{trace_after};
+ghost use Rattle.dta_model.specs.Plans.{ins};
+ghost use Rattle.dta_model.specs.State.{count_on};
 ghost use Rattle.dta_model.specs.declared.plan.Plan.{Plan};
 ghost use Rattle.node_transfer.specs.Cells.{CanGather, CanTransfer, gathered, in_mail, out_mail, transferred, with_in_mail, with_out_mail};
 ghost use Rattle.node_transfer.specs.Contents.{IsStep, away, batch_of, cell_after, cell_before, room_of};
@@ -9,7 +12,7 @@ ghost use Rattle.node_transfer.specs.Rest.{IsQuiet, rested};
 ghost use Rattle.node_transfer.specs.declared.rest.TheConstants.{NO_STEP};
 ghost use Rattle.std.specs.Prelude.{◌≡◌, ℕ, suc, ◌<◌, ◌≤◌, [], All, length, slice_get, IfOk, IfSome, Some};
 
-use crate::hand::hand_parts;
+use crate::hand_over::hand_parts;
 use crate::in_link::{InLink, gather_links};
 use crate::mail::Mail;
 use crate::out_link::OutLink;
@@ -183,6 +186,17 @@ impl NodeCell {
     pub fn on_link(&self, place: usize) -> u64
         requires { place < length self.now.ins }
         ensures line { IfSome (slice_get self.now.ins place) (λ link. result ≡ length link.line) }
+        // before the transfer of step t it is the number of the vehicles on that link after t steps
+        ensures count { (p : Plan) (n t l : ℕ) → self.now ≡ cell_before p n t away away → slice_get (ins p n) place ≡ Some l
+            → result ≡ count_on (trace_after p t) l }
+    {
+        self.line_length(place)
+    }
+
+    // How many riders stand in the line of the in-link of a place.
+    fn line_length(&self, place: usize) -> u64
+        requires { place < length self.now.ins }
+        ensures { IfSome (slice_get self.now.ins place) (λ link. result ≡ length link.line) }
     {
         self.parts.ins[place].line.len() as u64
     }

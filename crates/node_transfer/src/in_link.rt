@@ -2,12 +2,12 @@
 ghost use Rattle.std.specs.Prelude.{◌≡◌, ℕ, ◌+◌, ◌-◌, ◌<◌, ◌≤◌, List, [], ◌∷◌, ◌++◌, length, map, All, IsTrue, false, Option, None, Some, slice_get, slice_set, IfSome, IsSomeAnd};
 ghost use Rattle.std.specs.List.{sum_by};
 ghost use Rattle.dta_model.specs.Riders.{RiderState};
-ghost use Rattle.node_transfer.specs.Pass.{passed, CanPass, opened_gate, closed_gate, total, out_links, waitings, held};
+ghost use Rattle.node_transfer.specs.Pass.{passed, CanPass, opened_exit, closed_exit, total, out_links, waitings, held};
 ghost use Rattle.node_transfer.specs.Cells.{LinkWork, passed_link, CellWork, passed_links, passed_rotated, CanCross, cell_total, IsBatch, mail_line, room_after, gathered_link, CanGather};
 
 use crate::mail::Mail;
 use crate::out_link::OutLink;
-use crate::pass::{Gate, close_gate, open_gate, pass};
+use crate::pass::{Exit, close_exit, open_exit, pass};
 use dta_model::MOST_HORIZON;
 use fixed_units::MOST_STEP;
 use link_queues::{Line, MOST_RIDERS};
@@ -16,7 +16,7 @@ use link_queues::{Line, MOST_RIDERS};
 #[derive(Drop)]
 pub struct InLink {
     pub line: Line,
-    pub gate: Gate,
+    pub exit: Exit,
     pub storage: Option<u32>,
     pub mail: Mail,
 }
@@ -31,9 +31,9 @@ pub fn pass_link(link: &mut InLink, outs: &mut [OutLink], arrived: &mut Line, de
     ensures total { total link.new.line outs.new arrived.new ≤ total link.old.line outs.old arrived.old }
     ensures done { passed_link delta step link.old outs.old arrived.old ≡ record { link = link.new; outs = outs.new; arrived = arrived.new } }
 {
-    open_gate(&mut link.gate, delta);
-    pass(&mut link.line, &mut link.gate, outs, arrived, step);
-    close_gate(&mut link.gate);
+    open_exit(&mut link.exit, delta);
+    pass(&mut link.line, &mut link.exit, outs, arrived, step);
+    close_exit(&mut link.exit);
 }
 
 /// Moves the heads of all in-links, in order.

@@ -1,10 +1,22 @@
 // Laws of the contents of cells. Each is the contract of a function that does nothing.
-ghost use Rattle.node_transfer.specs.Laws.{CellsHandOver, MailGoesByLinks};
+ghost use Rattle.node_transfer.specs.Counts.{CountsAddUp};
+ghost use Rattle.node_transfer.specs.Laws.{CellsGather, CellsHandOver, CellsHoldAll, MailGoesByLinks};
 ghost use Rattle.node_transfer.specs.Rest.{QuietNodesStayIdle};
 
 /// A mail that is put into the place of a link is the mail of that link.
 pub fn mail_goes_by_links()
     ensures { MailGoesByLinks }
+{}
+
+/// All cells together hold the vehicles that have routes, each once and as the trace makes it.
+pub fn cells_hold_all()
+    ensures { CellsHoldAll }
+{}
+
+/// A cell of the next step is what the transfer left of it, with the batch at the end of each
+/// in-line.
+pub fn cells_gather()
+    ensures { CellsGather }
 {}
 
 /// All cells together, at the horizon, hand over the journeys of the loading.
@@ -15,4 +27,10 @@ pub fn cells_hand_over()
 /// At a node where nobody is ready nobody moves, and where nobody comes either, its cell only rests.
 pub fn quiet_nodes_stay_idle()
     ensures { QuietNodesStayIdle }
+{}
+
+/// The counts of all cells after a number of steps add up to those of the loading: who waits and is due,
+/// who is on a link, and who has arrived.
+pub fn counts_add_up()
+    ensures { CountsAddUp }
 {}

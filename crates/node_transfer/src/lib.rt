@@ -1,13 +1,17 @@
-//! One node's step: its moves by the definition of a node's moves, in O(1) a move and without memory.
+//! One node's step: its moves by the definition of a node's moves, in O(1) a move and without
+//! memory.
 //!
-//! A [`NodeCell`] holds what a node needs of a loading, and a place for the [`Mail`] of each of its links. In each step it first
-//! transfers, which makes the node's moves and writes the batch of each out-link; then it gathers the batches of its in-links. The
-//! promise of each call is the content of the cell at the next stage, for every loading of which it has the content before.
-//! [`opening`] alone takes memory. A cell can go to another thread and come back.
+//! A [`NodeCell`] holds what a node needs of a loading, and a place for the [`Mail`] of each of its
+//! links. In each step it first transfers, which makes the node's moves and writes the batch of each
+//! out-link; then it gathers the batches of its in-links. The promise of each call is the content of
+//! the cell at the next stage, for every loading of which it has the content before. [`exchange`]
+//! lends the cell of a node the mail of its links and collects it. [`opening`] alone takes memory. A
+//! cell can go to another thread and come back.
 #![tactic(auto)]
 
 mod cell;
-mod hand;
+pub mod exchange;
+mod hand_over;
 mod in_link;
 mod laws;
 mod lists;
@@ -25,7 +29,11 @@ mod threads;
 mod turn;
 
 pub use cell::{CellCounts, NodeCell};
-pub use laws::{cells_hand_over, mail_goes_by_links, quiet_nodes_stay_idle};
+pub use hand_over::hand_over_all;
+pub use laws::{
+    cells_gather, cells_hand_over, cells_hold_all, counts_add_up, mail_goes_by_links,
+    quiet_nodes_stay_idle,
+};
 pub use lists::{Cells, Mails, Opening};
 pub use mail::Mail;
 pub use rest::NO_STEP;

@@ -10,6 +10,7 @@ use crate::mail::Mail;
 use crate::meter::Meter;
 use fixed_units::MOST_STEP;
 use link_queues::{Line, MOST_RIDERS};
+use net_core::LinkNo;
 
 /// Those that wait for an out-link: due by now, and later.
 #[derive(Drop)]
@@ -21,7 +22,7 @@ pub struct Waiting {
 /// An out-link: who waits for it, and who enters it in the step.
 #[derive(Drop)]
 pub struct OutLink {
-    pub link: u32,
+    pub link: LinkNo,
     pub inflow: Meter,
     pub waiting: Waiting,
     pub batch: Line,
@@ -29,11 +30,11 @@ pub struct OutLink {
 }
 
 /// The place of a link among out-links; their number where it isn't there.
-pub fn place_to(outs: &[OutLink], link: u32) -> usize
-    ensures { result ≡ place_of link (out_links outs.now) }
+pub fn place_to(outs: &[OutLink], link: LinkNo) -> usize
+    ensures { result ≡ place_of link.0 (out_links outs.now) }
 {
     let mut place = 0;
-    while place < outs.len() && outs[place].link != link {
+    while place < outs.len() && outs[place].link.0 != link.0 {
         place += 1;
     }
     place

@@ -2,20 +2,21 @@
 ghost use Rattle.std.specs.Prelude.{◌≡◌, ℕ, ◌+◌, ◌-◌, ◌<◌, ◌≤◌, List, [], ◌∷◌, ◌++◌, length, IfSome, IsSomeAnd, nat_le, slice_get, slice_set, drop, All, IsTrue, true, false, map, Option, None, Some};
 ghost use Rattle.dta_model.specs.Riders.{RiderState, moved};
 ghost use Rattle.node_transfer.specs.Meter.{MeterState, granted, passed_one, closed};
-ghost use Rattle.node_transfer.specs.Pass.{Work, verdict, passed, CanPass, Rides, FitsAll, total, out_links, waitings, turn_links, used_at, entered_at, turn_open, out_open, is_entry, opened_gate, closed_gate, after_arrival, after_entry, place_of};
+ghost use Rattle.node_transfer.specs.Pass.{Work, verdict, passed, CanPass, Rides, FitsAll, total, out_links, waitings, turn_links, used_at, entered_at, turn_open, out_open, is_entry, opened_exit, closed_exit, after_arrival, after_entry, place_of};
 
 use crate::meter::Meter;
 use crate::out_link::{OutLink, place_to};
-use crate::turn::{Turns, has_pass};
+use crate::turn::{LimitedTurns, has_pass};
 use fixed_units::MOST_STEP;
 use link_queues::{Line, MOST_RIDERS, Rider};
 
-/// What lets the heads of an in-link go.
+/// How vehicles leave an in-link: after how many steps, at which rate, and by which turns that have a
+/// penalty or a limit.
 #[derive(Drop)]
-pub struct Gate {
+pub struct Exit {
     pub free: u32,
     pub outflow: Meter,
-    pub turns: Turns,
+    pub turns: LimitedTurns,
 }
 
 /// What the head of a line does.
@@ -26,26 +27,26 @@ pub enum Verdict {
     Enters(usize, usize),
 }
 
-/// Grants a gate its allowances.
-pub fn open_gate(gate: &mut Gate, delta: u32)
+/// Grants an exit its allowances.
+pub fn open_exit(exit: &mut Exit, delta: u32)
     requires { delta ≤ MOST_STEP }
-    ensures { gate.new ≡ opened_gate delta gate.old }
+    ensures { exit.new ≡ opened_exit delta exit.old }
 {
-    gate.outflow.open(delta);
-    gate.turns.open(delta);
+    exit.outflow.open(delta);
+    exit.turns.open(delta);
 }
 
-/// Ends the step for a gate.
-pub fn close_gate(gate: &mut Gate)
-    ensures { gate.new ≡ closed_gate gate.old }
+/// Ends the step for an exit.
+pub fn close_exit(exit: &mut Exit)
+    ensures { exit.new ≡ closed_exit exit.old }
 {
-    gate.outflow.close();
-    gate.turns.close();
+    exit.outflow.close();
+    exit.turns.close();
 }
 
 /// Whether a rider that is ready at a step may take the turn at a place into the out-link at a place.
 pub fn may_enter(
-    turns: &Turns,
+    turns: &LimitedTurns,
     outs: &[OutLink],
     ready: u64,
     step: u32,
@@ -72,17 +73,17 @@ pub fn is_served(ready: u64, penalty: u32, step: u32) -> bool
 
 /// What the rider does next.
 #[tactic(auto, unfolding(crate::specs::Pass::verdict))]
-pub fn judge(rider: &Rider, gate: &Gate, outs: &[OutLink], step: u32) -> Verdict
+pub fn judge(rider: &Rider, exit: &Exit, outs: &[OutLink], step: u32) -> Verdict
     requires { Rides (out_links outs.now) rider.now }
-    ensures value { result ≡ verdict step gate.now outs.now rider.now }
-    ensures arrives { result ≡ Verdict.Arrives → 0 < gate.now.outflow.left }
-    ensures enters { (p k : ℕ) → result ≡ Verdict.Enters p k → (0 < gate.now.outflow.left) × (out_open (slice_get outs.now p) ≡ true) × (turn_open (slice_get gate.now.turns k) ≡ true) }
+    ensures value { result ≡ verdict step exit.now outs.now rider.now }
+    ensures arrives { result ≡ Verdict.Arrives → 0 < exit.now.outflow.left }
+    ensures enters { (p k : ℕ) → result ≡ Verdict.Enters p k → (0 < exit.now.outflow.left) × (out_open (slice_get outs.now p) ≡ true) × (turn_open (slice_get exit.now.turns k) ≡ true) }
 {
     let ready = match rider.last_entry() {
-        Some(entry) => entry as u64 + gate.free as u64,
+        Some(entry) => entry as u64 + exit.free as u64,
         None => return Verdict::Stays,
     };
-    if gate.outflow.left() > 0 {
+    if exit.outflow.left() > 0 {
         match rider.next_link() {
             None => {
                 if ready <= step as u64 {
@@ -92,9 +93,9 @@ pub fn judge(rider: &Rider, gate: &Gate, outs: &[OutLink], step: u32) -> Verdict
                 }
             }
             Some(link) => {
-                let place = place_to(outs, link.0);
-                let turn = gate.turns.place_to(link.0);
-                if may_enter(&gate.turns, outs, ready, step, place, turn) {
+                let place = place_to(outs, link);
+                let turn = exit.turns.place_to(link);
+                if may_enter(&exit.turns, outs, ready, step, place, turn) {
                     Verdict::Enters(place, turn)
                 } else {
                     Verdict::Stays
@@ -106,22 +107,22 @@ pub fn judge(rider: &Rider, gate: &Gate, outs: &[OutLink], step: u32) -> Verdict
     }
 }
 
-/// One vehicle leaves the network through the gate.
-pub fn count_arrival(gate: &mut Gate)
-    requires { 0 < gate.old.outflow.left }
-    ensures { gate.new ≡ after_arrival gate.old }
+/// One vehicle arrives at the end of the link.
+pub fn count_arrival(exit: &mut Exit)
+    requires { 0 < exit.old.outflow.left }
+    ensures { exit.new ≡ after_arrival exit.old }
 {
-    gate.outflow.pass();
+    exit.outflow.pass();
 }
 
 /// One vehicle leaves by the turn at a place.
-pub fn count_entry(gate: &mut Gate, turn: usize)
-    requires left { 0 < gate.old.outflow.left }
-    requires open { turn_open (slice_get gate.old.turns turn) ≡ true }
-    ensures { gate.new ≡ after_entry turn gate.old }
+pub fn count_entry(exit: &mut Exit, turn: usize)
+    requires left { 0 < exit.old.outflow.left }
+    requires open { turn_open (slice_get exit.old.turns turn) ≡ true }
+    ensures { exit.new ≡ after_entry turn exit.old }
 {
-    gate.outflow.pass();
-    gate.turns.use_at(turn);
+    exit.outflow.pass();
+    exit.turns.use_at(turn);
 }
 
 /// Moves the head of the line into an out-link.
@@ -141,7 +142,7 @@ pub fn enter_at(line: &mut Line, outs: &mut [OutLink], place: usize, step: u32)
 #[tactic(auto, using(crate::proofs::Passes::pass_steps))]
 pub fn advance(
     line: &mut Line,
-    gate: &mut Gate,
+    exit: &mut Exit,
     outs: &mut [OutLink],
     arrived: &mut Line,
     step: u32,
@@ -151,37 +152,37 @@ pub fn advance(
     ensures links { out_links outs.new ≡ out_links outs.old }
     ensures waits { waitings outs.new ≡ waitings outs.old }
     ensures total { total line.new outs.new arrived.new ≤ total line.old outs.old arrived.old }
-    ensures goes { passed step line.old gate.old outs.old arrived.old ≡ passed step line.new gate.new outs.new arrived.new }
+    ensures goes { passed step line.old exit.old outs.old arrived.old ≡ passed step line.new exit.new outs.new arrived.new }
     ensures shorter { IsTrue result → length line.new + 1 ≡ length line.old }
-    ensures done { result ≡ false → passed step line.new gate.new outs.new arrived.new ≡ record { line = line.new; gate = gate.new; outs = outs.new; arrived = arrived.new } }
+    ensures done { result ≡ false → passed step line.new exit.new outs.new arrived.new ≡ record { line = line.new; exit = exit.new; outs = outs.new; arrived = arrived.new } }
 {
     let what = match line.front() {
         None => return false,
-        Some(rider) => judge(rider, gate, outs, step),
+        Some(rider) => judge(rider, exit, outs, step),
     };
     match what {
         Verdict::Stays => false,
         Verdict::Arrives => {
             line.move_front_to(arrived, step);
-            count_arrival(gate);
+            count_arrival(exit);
             true
         }
         Verdict::Enters(place, turn) => {
             enter_at(line, outs, place, step);
-            count_entry(gate, turn);
+            count_entry(exit, turn);
             true
         }
     }
 }
 
 /// Moves heads of the line until none may move.
-pub fn pass(line: &mut Line, gate: &mut Gate, outs: &mut [OutLink], arrived: &mut Line, step: u32)
+pub fn pass(line: &mut Line, exit: &mut Exit, outs: &mut [OutLink], arrived: &mut Line, step: u32)
     requires { CanPass line.old outs.old arrived.old }
     ensures kept { CanPass line.new outs.new arrived.new }
     ensures links { out_links outs.new ≡ out_links outs.old }
     ensures waits { waitings outs.new ≡ waitings outs.old }
     ensures total { total line.new outs.new arrived.new ≤ total line.old outs.old arrived.old }
-    ensures done { passed step line.old gate.old outs.old arrived.old ≡ record { line = line.new; gate = gate.new; outs = outs.new; arrived = arrived.new } }
+    ensures done { passed step line.old exit.old outs.old arrived.old ≡ record { line = line.new; exit = exit.new; outs = outs.new; arrived = arrived.new } }
 {
-    while advance(line, gate, outs, arrived, step) {}
+    while advance(line, exit, outs, arrived, step) {}
 }

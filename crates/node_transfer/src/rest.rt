@@ -2,20 +2,20 @@
 ghost use Rattle.dta_model.specs.Riders.{RiderState};
 ghost use Rattle.node_transfer.specs.Rest.{HeadIsLater, WaitLater, rested};
 ghost use Rattle.node_transfer.specs.declared.rest.TheConstants.{NO_STEP};
-ghost use Rattle.node_transfer.specs.Skip.{skipped_gate, skipped_in, skipped_out, skipped_turn};
+ghost use Rattle.node_transfer.specs.Skip.{skipped_exit, skipped_in, skipped_out, skipped_turn};
 ghost use Rattle.std.specs.Prelude.{◌≡◌, ℕ, ◌<◌, ◌≤◌, All, List, map};
 
 use crate::in_link::InLink;
 use crate::out_link::OutLink;
-use crate::pass::Gate;
-use crate::turn::Turn;
+use crate::pass::Exit;
+use crate::turn::LimitedTurn;
 use fixed_units::MOST_STEP;
 
 /// The answer where nobody is ready in any step.
 pub const NO_STEP: u32 = 4_294_967_295;
 
 /// Lets so many steps go by in which nobody turns.
-pub fn rest_turns(turns: &mut [Turn], delta: u32, steps: u32)
+pub fn rest_turns(turns: &mut [LimitedTurn], delta: u32, steps: u32)
     requires { delta ≤ MOST_STEP }
     ensures { turns.new ≡ map (skipped_turn delta steps) turns.old }
 {
@@ -25,7 +25,7 @@ pub fn rest_turns(turns: &mut [Turn], delta: u32, steps: u32)
 }
 
 // Lets so many steps go by in which nobody takes the turn.
-fn rest_turn(turn: &mut Turn, delta: u32, steps: u32)
+fn rest_turn(turn: &mut LimitedTurn, delta: u32, steps: u32)
     requires { delta ≤ MOST_STEP }
     ensures { turn.new ≡ skipped_turn delta steps turn.old }
 {
@@ -35,13 +35,13 @@ fn rest_turn(turn: &mut Turn, delta: u32, steps: u32)
     }
 }
 
-// Lets so many steps go by in which nobody leaves by the gate.
-fn rest_gate(gate: &mut Gate, delta: u32, steps: u32)
+// Lets so many steps go by in which nobody leaves the link.
+fn rest_exit(exit: &mut Exit, delta: u32, steps: u32)
     requires { delta ≤ MOST_STEP }
-    ensures { gate.new ≡ skipped_gate delta steps gate.old }
+    ensures { exit.new ≡ skipped_exit delta steps exit.old }
 {
-    gate.outflow.rest(delta, steps);
-    gate.turns.rest(delta, steps);
+    exit.outflow.rest(delta, steps);
+    exit.turns.rest(delta, steps);
 }
 
 // Lets so many steps go by in which nobody leaves the in-links.
@@ -50,7 +50,7 @@ fn rest_ins(ins: &mut [InLink], delta: u32, steps: u32)
     ensures { ins.new ≡ map (skipped_in delta steps) ins.old }
 {
     for i in 0..ins.len() {
-        rest_gate(&mut ins[i].gate, delta, steps);
+        rest_exit(&mut ins[i].exit, delta, steps);
     }
 }
 
@@ -85,7 +85,7 @@ fn ready_step(link: &InLink) -> u32
         None => NO_STEP,
         Some(rider) => match rider.last_entry() {
             None => NO_STEP,
-            Some(entry) => entry.saturating_add(link.gate.free),
+            Some(entry) => entry.saturating_add(link.exit.free),
         },
     }
 }

@@ -12,9 +12,9 @@ use crate::in_link::InLink;
 use crate::mail::Mail;
 use crate::meter::Meter;
 use crate::out_link::{OutLink, Waiting};
-use crate::pass::Gate;
+use crate::pass::Exit;
 use crate::start::storage_of;
-use crate::turn::{Turn, Turns};
+use crate::turn::{LimitedTurn, LimitedTurns};
 use dta_model::Loading;
 use link_queues::Line;
 use net_core::{LinkNo, MOST_RATE, Memory, NodeNo};
@@ -81,7 +81,7 @@ fn start_outs(
     let mut out_links = Vec::new(alloc);
     for i in 0..outs.len() {
         let out = OutLink {
-            link: outs[i].0,
+            link: outs[i],
             inflow: start_meter(loading, outs[i]),
             waiting: Waiting {
                 later: lines[outs[i].0 as usize].take_all(),
@@ -140,7 +140,7 @@ fn start_in_link(
     let turns = start_turns(alloc, loading, link, outs)?;
     Ok(InLink {
         line: Line::new(alloc),
-        gate: Gate {
+        exit: Exit {
             free: row.free,
             outflow,
             turns,
@@ -157,7 +157,7 @@ fn start_turns(
     loading: &Loading,
     link: LinkNo,
     outs: &[LinkNo],
-) -> Result<Turns, Memory>
+) -> Result<LimitedTurns, Memory>
     requires sound { IsSound (plan_of loading.now) }
     requires link { link.0 < length loading.now.net.now.links }
     requires outs { All (λ l. l.0 < length loading.now.net.now.links) outs.now }
@@ -166,7 +166,7 @@ fn start_turns(
     let mut list = Vec::new(alloc);
     let node = loading.net.link(link).to;
     if !loading.net.is_named(node) {
-        return Ok(Turns { list });
+        return Ok(LimitedTurns { list });
     }
     for i in 0..outs.len() {
         if let Some(turn) = start_turn(loading, link, outs[i]) {
@@ -176,7 +176,7 @@ fn start_turns(
             }
         }
     }
-    Ok(Turns { list })
+    Ok(LimitedTurns { list })
 }
 
 // The rate of a link, of which nothing is granted yet.
@@ -191,7 +191,7 @@ fn start_meter(loading: &Loading, link: LinkNo) -> Meter
 
 // The turn from a link to another, where it has a penalty or a limit.
 #[tactic(auto, using(crate::proofs::Starts::limit_fits))]
-fn start_turn(loading: &Loading, a: LinkNo, b: LinkNo) -> Option<Turn>
+fn start_turn(loading: &Loading, a: LinkNo, b: LinkNo) -> Option<LimitedTurn>
     requires sound { IsSound (plan_of loading.now) }
     requires from { a.0 < length loading.now.net.now.links }
     requires to { b.0 < length loading.now.net.now.links }
@@ -201,8 +201,8 @@ fn start_turn(loading: &Loading, a: LinkNo, b: LinkNo) -> Option<Turn>
     if turn.penalty == 0 && turn.rate.is_none() {
         return None;
     }
-    Some(Turn {
-        to: b.0,
+    Some(LimitedTurn {
+        to: b,
         penalty: turn.penalty,
         limit: limit_of(turn.rate),
     })

@@ -7,33 +7,34 @@ ghost use Rattle.node_transfer.specs.Skip.{skipped_turn};
 use crate::meter::Meter;
 use crate::rest::rest_turns;
 use fixed_units::MOST_STEP;
+use net_core::LinkNo;
 use std::marker::Model;
 
-/// A listed turn to a link.
+/// A turn to a link that has a penalty or a limit.
 #[derive(Drop)]
-pub struct Turn {
-    pub to: u32,
+pub struct LimitedTurn {
+    pub to: LinkNo,
     pub penalty: u32,
     pub limit: Option<Meter>,
 }
 
-/// The listed turns of an in-link.
+/// The turns of an in-link that have a penalty or a limit.
 #[derive(Drop)]
-pub struct Turns {
-    pub list: Vec<Turn>,
+pub struct LimitedTurns {
+    pub list: Vec<LimitedTurn>,
 }
 
-impl Model for Turns {
+impl Model for LimitedTurns {
     ghost use Rattle.std.specs.Prelude.{List};
-    ghost use Rattle.node_transfer.specs.declared.turn.Turn.{Turn};
+    ghost use Rattle.node_transfer.specs.declared.turn.LimitedTurn.{LimitedTurn};
 
-    ghost Value = { List Turn };
+    ghost Value = { List LimitedTurn };
 
     ghost view = { λ t. t.list.items };
 }
 
 /// Grants a turn its allowance.
-pub fn open_turn(turn: &mut Turn, delta: u32)
+pub fn open_turn(turn: &mut LimitedTurn, delta: u32)
     requires { delta ≤ MOST_STEP }
     ensures { turn.new ≡ opened_turn delta turn.old }
 {
@@ -44,7 +45,7 @@ pub fn open_turn(turn: &mut Turn, delta: u32)
 }
 
 /// Ends the step for a turn.
-pub fn close_turn(turn: &mut Turn)
+pub fn close_turn(turn: &mut LimitedTurn)
     ensures { turn.new ≡ closed_turn turn.old }
 {
     match &mut turn.limit {
@@ -54,7 +55,7 @@ pub fn close_turn(turn: &mut Turn)
 }
 
 /// One vehicle turns.
-pub fn use_turn(turn: &mut Turn)
+pub fn use_turn(turn: &mut LimitedTurn)
     requires { IfSome turn.old.limit (λ m. 0 < m.left) }
     ensures { turn.new ≡ used_turn turn.old }
 {
@@ -65,7 +66,7 @@ pub fn use_turn(turn: &mut Turn)
 }
 
 /// Whether a turn has a pass left.
-pub fn has_pass(turn: &Turn) -> bool
+pub fn has_pass(turn: &LimitedTurn) -> bool
     ensures { result ≡ limit_open turn.now.limit }
 {
     match &turn.limit {
@@ -75,7 +76,7 @@ pub fn has_pass(turn: &Turn) -> bool
 }
 
 /// Grants all turns their allowances.
-pub fn open_turns(turns: &mut [Turn], delta: u32)
+pub fn open_turns(turns: &mut [LimitedTurn], delta: u32)
     requires { delta ≤ MOST_STEP }
     ensures { turns.new ≡ map (opened_turn delta) turns.old }
 {
@@ -85,7 +86,7 @@ pub fn open_turns(turns: &mut [Turn], delta: u32)
 }
 
 /// Ends the step for all turns.
-pub fn close_turns(turns: &mut [Turn])
+pub fn close_turns(turns: &mut [LimitedTurn])
     ensures { turns.new ≡ map closed_turn turns.old }
 {
     for i in 0..turns.len() {
@@ -94,18 +95,18 @@ pub fn close_turns(turns: &mut [Turn])
 }
 
 /// The place of the turn to a link; their number where there is none.
-pub fn turn_to(turns: &[Turn], link: u32) -> usize
-    ensures { result ≡ place_of link (turn_links turns.now) }
+pub fn turn_to(turns: &[LimitedTurn], link: LinkNo) -> usize
+    ensures { result ≡ place_of link.0 (turn_links turns.now) }
 {
     let mut place = 0;
-    while place < turns.len() && turns[place].to != link {
+    while place < turns.len() && turns[place].to.0 != link.0 {
         place += 1;
     }
     place
 }
 
 /// Uses the turn at a place, if one is there.
-pub fn use_turn_at(turns: &mut [Turn], place: usize)
+pub fn use_turn_at(turns: &mut [LimitedTurn], place: usize)
     requires { turn_open (slice_get turns.old place) ≡ true }
     ensures { turns.new ≡ used_at place turns.old }
 {
@@ -114,7 +115,7 @@ pub fn use_turn_at(turns: &mut [Turn], place: usize)
     }
 }
 
-impl Turns {
+impl LimitedTurns {
     /// Lets so many steps go by in which nobody turns.
     pub fn rest(&mut self, delta: u32, steps: u32)
         requires { delta ≤ MOST_STEP }
@@ -147,14 +148,14 @@ impl Turns {
     }
 
     /// The place of the turn to a link; their number where there is none.
-    pub fn place_to(&self, link: u32) -> usize
-        ensures { result ≡ place_of link (turn_links self.now) }
+    pub fn place_to(&self, link: LinkNo) -> usize
+        ensures { result ≡ place_of link.0 (turn_links self.now) }
     {
         turn_to(&self.list, link)
     }
 
     /// The turn at a place.
-    pub fn get(&self, place: usize) -> Option<&Turn>
+    pub fn get(&self, place: usize) -> Option<&LimitedTurn>
         ensures { option_copied result ≡ slice_get self.now place }
     {
         self.list.get(place)

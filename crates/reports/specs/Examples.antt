@@ -1,6 +1,6 @@
 -- Worked cases of the definitions, computed: vehicles of all four statuses, a table of link times cut short by its horizon, gaps, the report, a
 -- watch line and the refusals.
-use Rattle.std.specs.Prelude.{◌≡◌, refl, codes, [], ◌∷◌, List, Option, None, Some}
+use Rattle.std.specs.Prelude.{◌≡◌, refl, codes, map, true, false, [], ◌∷◌, List, Option, None, Some}
 use Rattle.std.specs.Fmt.{digits}
 use Rattle.desk_io.specs.declared.desk.Table.TheVariants as table
 use Rattle.net_core.specs.Rows.{link_in}
@@ -20,6 +20,7 @@ use Rattle.reports.specs.declared.refusal.Refusal.TheVariants as refusal
 use Rattle.reports.specs.declared.refusal.TheConstants.{CELL_LIMIT, TABLE_LIMIT}
 use Rattle.reports.specs.declared.summary.Summary.{Summary}
 use Rattle.reports.specs.Texts.{agent_header, agent_line, agent_text, bucket_line, count_lines, free_link_line, free_link_time_header, free_link_time_text, free_report_text, gap_header, gap_line, gap_text, last_gap_lines, link_lines, link_time_header, link_time_text, refusal_line, report_text, trip_columns, vehicles, watch_line, way_columns}
+use Rattle.reports.specs.Watch.{AreWatchSteps, multiples, rises_from}
 
 -- the links of 1000 m, one lane, 60 km/h and 600 vehicles per hour: ten steps, room for 125
 -- vehicles
@@ -112,6 +113,29 @@ a_state = record { steps = 1; waiting = 0; running = 1; arrived = 0; first = 1 �
 one-state : watch_line 1 a_state ≡ codes "1,1,0,1,0,1,0,0,0\n"
 unfolding watch_line digits
 one-state = refl
+
+-- a loading of 25 steps that is watched every 10: the lines of steps 10, 20 and 25 meet the rule, and
+-- so does the last line alone
+every-ten : AreWatchSteps 10 25 (10 ∷ 20 ∷ 25 ∷ [])
+every-ten = record { before = 10 ∷ 20 ∷ []; ends = refl; rising = refl; apart = refl }
+
+the-last-alone : AreWatchSteps 10 25 (25 ∷ [])
+the-last-alone = record { before = []; ends = refl; rising = refl; apart = refl }
+
+-- a line may come late, as that of step 13 for 10
+a-late-line : AreWatchSteps 10 25 (13 ∷ 20 ∷ 25 ∷ [])
+a-late-line = record { before = 13 ∷ 20 ∷ []; ends = refl; rising = refl; apart = refl }
+
+-- that of step 15 has no more multiples than that of step 10, nor that of step 5 than 0, and a step
+-- isn't told twice
+too-soon-after-another : rises_from 0 (map (multiples 10) (10 ∷ 15 ∷ [])) ≡ false
+too-soon-after-another = refl
+
+too-soon-at-first : rises_from 0 (map (multiples 10) (5 ∷ 10 ∷ [])) ≡ false
+too-soon-at-first = refl
+
+told-twice : rises_from 0 (10 ∷ 25 ∷ 25 ∷ []) ≡ false
+told-twice = refl
 
 -- ---- refusals
 

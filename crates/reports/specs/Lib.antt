@@ -1,3 +1,4 @@
 pub mod Sending
 pub mod Texts
+pub mod Watch
 pub mod Examples

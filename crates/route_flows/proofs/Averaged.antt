@@ -12,7 +12,7 @@ use Rattle.dta_model.specs.declared.trip.Trip.{Trip}
 use Rattle.gap.specs.Gap.{AreWalks, has_route, routed}
 use Rattle.gap.proofs.Sums.{told_where_routed}
 use Rattle.time_routes.specs.Destinations.{AreTold, asked_least, asked_walk, asks_least, asks_walk, LeastOf, WalkOf}
-use Rattle.time_routes.specs.declared.destinations.Ask.{Ask}
+use Rattle.time_routes.specs.declared.reading.tell.Ask.{Ask}
 use Rattle.route_flows.specs.Asked.{AreAsked, Keeps}
 use Rattle.route_flows.specs.Averages.{AreChosenRoutes, AreNextRoutes, is_selected}
 

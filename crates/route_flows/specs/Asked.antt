@@ -3,7 +3,7 @@ use Rattle.std.specs.Prelude.{◌≡◌, ℕ, ◌<◌, ◌&&◌, Bool, true, fal
 use Rattle.net_core.specs.declared.rows.LinkNo.{LinkNo}
 use Rattle.gap.specs.Gap.{has_route}
 use Rattle.route_flows.specs.Averages.{is_selected}
-use Rattle.time_routes.specs.declared.destinations.Ask.{Ask}
+use Rattle.time_routes.specs.declared.reading.tell.Ask.{Ask}
 
 -- the walks of the first vehicles that are selected are asked for, and the least times of those
 -- that have routes, if these are wanted

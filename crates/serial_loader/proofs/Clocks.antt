@@ -11,7 +11,7 @@ use Rattle.node_transfer.specs.declared.mail.Mail.{Mail}
 use Rattle.serial_loader.specs.Exchange.{AreLeft, AreWoken, MayWake, brings, wake_by, woken}
 use Rattle.serial_loader.specs.Phases.{HoldsBatch, Stands}
 use Rattle.serial_loader.specs.declared.clock.Clock.{Clock}
-use Rattle.serial_loader.proofs.Sets.{count-set, set-got, set-here, set-other}
+use Rattle.node_transfer.proofs.Sets.{count-set, set-got, set-here, set-other}
 
 abbrev Was : ℕ → List Clock → ℕ → Clock → Type 0
 Was t old k w = (w' : Clock) × ((slice_get old k ≡ Some w') × MayWake t w' w)

@@ -16,7 +16,7 @@ use Rattle.node_transfer.proofs.Numbers.{found-below}
 use Rattle.serial_loader.specs.Phases.{InTransfer, cells_before}
 use Rattle.serial_loader.specs.declared.clock.Clock.{Clock}
 use Rattle.serial_loader.proofs.Clocks.{stands-now}
-use Rattle.serial_loader.proofs.Sets.{count-set, same-elements, set-got, set-other}
+use Rattle.node_transfer.proofs.Sets.{count-set, same-elements, set-got, set-other}
 
 abbrev pub new_clock : Clock
 new_clock = record { since = 0; wake = 0 }

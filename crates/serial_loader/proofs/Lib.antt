@@ -1,6 +1,4 @@
-pub mod Sets
 pub mod Clocks
-pub mod Exchanges
 pub mod Mails
 pub mod Passed
 pub mod Steps

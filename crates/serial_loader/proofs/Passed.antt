@@ -1,19 +1,20 @@
 -- One more mail that goes between the list of all links and a node's places.
 use Rattle.std.specs.Prelude.{IfSome, slice_get, slice_set}
-use Rattle.std.proofs.Common.{◌≡◌, ℕ, suc, ◌+◌, ◌<◌, List, length, refl, sym, ◌∙◌, subst, Option, Some, take, add-one, get_or}
+use Rattle.std.proofs.Common.{◌≡◌, ℕ, suc, ◌+◌, ◌<◌, List, length, sym, ◌∙◌, subst, Option, Some, take, add-one, get_or}
 use Rattle.std.proofs.lemmas.Option.{slice_get-get_or}
 use Rattle.dta_model.specs.Plans.{link_at}
 use Rattle.dta_model.specs.declared.plan.Plan.{Plan}
 use Rattle.node_transfer.specs.Cells.{CellState}
-use Rattle.node_transfer.specs.Contents.{away, batch_of, room_of}
+use Rattle.node_transfer.specs.Contents.{away, batch_of}
 use Rattle.node_transfer.specs.declared.mail.Mail.{Mail}
 use Rattle.node_transfer.specs.declared.mail.Mail.TheVariants.{Away}
-use Rattle.serial_loader.specs.Exchange.{AllBringBatches, AllHoldBatches, AllTellRooms, AreWoken, ChangesOnly, as_batch, put_batch, wake_by}
+use Rattle.node_transfer.specs.Exchange.{ArePut, ChangesOnly}
+use Rattle.serial_loader.specs.Exchange.{AllBringBatches, AllHoldBatches, AllTellRooms, AreWoken, as_batch, put_batch, wake_by}
 use Rattle.serial_loader.specs.declared.clock.Clock.{Clock}
 use Rattle.serial_loader.proofs.Clocks.{more-woken, woken-by}
-use Rattle.node_transfer.specs.ByHand.{replaced}
-use Rattle.serial_loader.proofs.Exchanges.{lent-next, taken-next, told-next}
-use Rattle.serial_loader.proofs.Mails.{among-links, hold-next, put-mail, set-mail, tell-next}
+use Rattle.node_transfer.proofs.Exchanges.{emptied-next, replaced, told-next}
+use Rattle.serial_loader.proofs.Mails.{hold-next, put-mail}
+use Rattle.node_transfer.proofs.Puts.{among-links, put-next}
 use Rattle.node_transfer.proofs.Parts.{IsMadeOf}
 use Rattle.node_transfer.proofs.ListPlaces.{not-before}
 
@@ -22,34 +23,12 @@ some_is P o v h e = subst (λ o. IfSome o P) e h
 
 module _ (p : Plan) (n t : ℕ) (ends : ℕ → ℕ) (links : List ℕ) (cell : (ℕ → Mail) → CellState) (put : ℕ → Mail → CellState → CellState) (told : ℕ → CellState → Option Mail)
     (made : IsMadeOf p n ends links cell put told) where
-  -- a batch is lent to the place of an in-link
-  pub lent-mail : (j b : ℕ) (old ms ms' : List Mail) (c c' : CellState) → slice_get links j ≡ Some b → b < length ms
-      → c ≡ cell (replaced (take j links) (batch_of p t) away) → ChangesOnly (take j links) old ms → AllBringBatches p t links old
-      → ms' ≡ slice_set ms b Away → IfSome (slice_get ms b) (λ m. c' ≡ put j (as_batch t m) c)
-      → (c' ≡ cell (replaced (take (j + 1) links) (batch_of p t) away)) × ChangesOnly (take (j + 1) links) old ms'
-  lent-mail j b old ms ms' c c' e inside is changed brings set now =
-      let m = get_or ms b Away in
-      let got : slice_get ms b ≡ Some m = slice_get-get_or ms b Away inside in
-      let there : slice_get old b ≡ Some m = sym (changed.others b (not-before links j b made.once e)) ∙ got in
-      let took : c' ≡ put j (as_batch t m) c = some_is (λ m. c' ≡ put j (as_batch t m) c) (slice_get ms b) m now got in (
-        lent-next p n ends links cell put told made (batch_of p t) j b (as_batch t m) c c' e is (brings b m (among-links links j b e) there) took,
-        rw add-one (subst (λ xs. ChangesOnly (take (suc j) links) old xs) (sym set) (set-mail links j b Away old ms e changed)),
-      )
-
-  -- a room is taken out of it
-  pub taken-mail : (j b : ℕ) (old ms ms' : List Mail) (c c' : CellState) → slice_get links j ≡ Some b
-      → c ≡ cell (replaced (take j links) away (room_of p t)) → ChangesOnly (take j links) old ms → AllTellRooms p t (take j links) ms
-      → c' ≡ put j Away c → IfSome (told j c) (λ m. ms' ≡ slice_set ms b m)
-      → (c' ≡ cell (replaced (take (j + 1) links) away (room_of p t))) × (ChangesOnly (take (j + 1) links) old ms' × AllTellRooms p t (take (j + 1) links) ms')
-  taken-mail j b old ms ms' c c' e is changed rooms now set =
-      let there : told j c ≡ Some (room_of p t b) = told-next p n ends links cell put told made (room_of p t) j b c e is in
-      let is_set : ms' ≡ slice_set ms b (room_of p t b) = some_is (λ m. ms' ≡ slice_set ms b m) (told j c) (room_of p t b) set there in (
-        taken-next p n ends links cell put told made (room_of p t) j b c c' e is now,
-        rw add-one (
-          subst (λ xs. ChangesOnly (take (suc j) links) old xs) (sym is_set) (set-mail links j b (room_of p t b) old ms e changed),
-          subst (λ xs. AllTellRooms p t (take (suc j) links) xs) (sym is_set) (tell-next p t links j b (room_of p t b) ms e refl rooms),
-        ),
-      )
+  -- the mail of an in-link is the batch of the step
+  pub completed : (j b : ℕ) (m' d : Mail) (old ms : List Mail) → slice_get links j ≡ Some b → b < length ms → ArePut (batch_of p t) (take j links) old ms → AllBringBatches p t links old
+      → m' ≡ as_batch t (get_or ms b d) → ArePut (batch_of p t) (take (j + 1) links) old (slice_set ms b m')
+  completed j b m' d old ms e inside puts brings is =
+      let there : slice_get old b ≡ Some (get_or ms b d) = sym (puts.others.others b (not-before links j b made.once e)) ∙ slice_get-get_or ms b d inside in
+      put-next (batch_of p t) links j b m' old ms e inside (is ∙ brings b (get_or ms b d) (among-links links j b e) there) puts
 
   -- a batch is taken out of the place of an out-link
   pub collected : (j b : ℕ) (first clocks clocks' : List Clock) (old ms ms' : List Mail) (c c' : CellState) → slice_get links j ≡ Some b
@@ -62,7 +41,7 @@ module _ (p : Plan) (n t : ℕ) (ends : ℕ → ℕ) (links : List ℕ) (cell : 
       let is_put : ms' ≡ put_batch b (batch_of p t b) ms = some_is (λ m. ms' ≡ put_batch b m ms) (told j c) (batch_of p t b) put_it there in
       let is_woken : clocks' ≡ wake_by t (link_at p b).to.0 (batch_of p t b) clocks = some_is (λ m. clocks' ≡ wake_by t (link_at p b).to.0 m clocks) (told j c) (batch_of p t b) wake_it there in
       let once = not-before links j b made.once e in (
-        taken-next p n ends links cell put told made (batch_of p t) j b c c' e is now,
+        emptied-next p n ends links cell put told made (batch_of p t) j b c c' e is now,
         (
           subst (λ xs. AreWoken t first xs) (sym is_woken) (more-woken t first clocks (wake_by t (link_at p b).to.0 (batch_of p t b) clocks) woke (woken-by t (link_at p b).to.0 (batch_of p t b) clocks)),
           rw add-one (

@@ -15,7 +15,8 @@ use Rattle.node_transfer.specs.Rest.{IsIdle, IsQuiet, NobodyComes, QuietNodesSta
 use Rattle.node_transfer.specs.declared.mail.Mail.{Mail}
 use Rattle.node_transfer.specs.declared.mail.Mail.TheVariants.{Room}
 use Rattle.node_transfer.proofs.Quiet.{quiet-rested, rested-suc}
-use Rattle.serial_loader.specs.Exchange.{AllBringBatches, AllHoldBatches, AllTellRooms, AreLeft, ChangesOnly, MayWake}
+use Rattle.node_transfer.specs.Exchange.{ChangesOnly}
+use Rattle.serial_loader.specs.Exchange.{AllBringBatches, AllHoldBatches, AllTellRooms, AreLeft, MayWake}
 use Rattle.serial_loader.specs.Phases.{HasWoken, HoldsBatch, InGather, InTransfer, IsAfter, IsBefore, TellsRoom}
 use Rattle.serial_loader.specs.declared.clock.Clock.{Clock}
 use Rattle.serial_loader.proofs.Clocks.{stands-now}
@@ -23,8 +24,8 @@ use Rattle.node_transfer.proofs.Finished.{from-below, to-below}
 use Rattle.serial_loader.proofs.Mails.{brings-it}
 use Rattle.node_transfer.proofs.Parts.{ins-member, outs-member}
 use Rattle.serial_loader.proofs.Passed.{some_is}
-use Rattle.node_transfer.proofs.ListPlaces.{Among}
-use Rattle.serial_loader.proofs.Sets.{count-set, set-got, set-other}
+use Rattle.node_transfer.specs.Exchange.{is_among}
+use Rattle.node_transfer.proofs.Sets.{count-set, set-got, set-other}
 
 abbrev Tells : ℕ → ℕ → Type 0
 Tells k n = ((eqb k n ≡ true) × (k ≡ n)) ⊎ ((eqb k n ≡ false) × (k ≢ n))
@@ -68,16 +69,16 @@ still-held-left p t n l old new m f (inl (e, woke)) = inl (e, by_found (slice_ge
         omega (arith, before, sooner)
 
 -- the links of a node
-outs-here : (p : Plan) (n l : ℕ) → l < length p.net.links → (link_at p l).from.0 ≡ n → Among (outs p n) l ≡ true
+outs-here : (p : Plan) (n l : ℕ) → l < length p.net.links → (link_at p l).from.0 ≡ n → is_among (outs p n) l ≡ true
 outs-here p n l below from = outs-member p n l below ∙ eq-eqb (link_at p l).from.0 n from
 
-outs-there : (p : Plan) (n l : ℕ) → l < length p.net.links → (link_at p l).from.0 ≢ n → Among (outs p n) l ≡ false
+outs-there : (p : Plan) (n l : ℕ) → l < length p.net.links → (link_at p l).from.0 ≢ n → is_among (outs p n) l ≡ false
 outs-there p n l below from = outs-member p n l below ∙ ne_eqb (link_at p l).from.0 n from
 
-ins-here : (p : Plan) (n l : ℕ) → l < length p.net.links → (link_at p l).to.0 ≡ n → Among (ins p n) l ≡ true
+ins-here : (p : Plan) (n l : ℕ) → l < length p.net.links → (link_at p l).to.0 ≡ n → is_among (ins p n) l ≡ true
 ins-here p n l below to = ins-member p n l below ∙ eq-eqb (link_at p l).to.0 n to
 
-ins-there : (p : Plan) (n l : ℕ) → l < length p.net.links → (link_at p l).to.0 ≢ n → Among (ins p n) l ≡ false
+ins-there : (p : Plan) (n l : ℕ) → l < length p.net.links → (link_at p l).to.0 ≢ n → is_among (ins p n) l ≡ false
 ins-there p n l below to = ins-member p n l below ∙ ne_eqb (link_at p l).to.0 n to
 
 -- a link with a mail is one of the table

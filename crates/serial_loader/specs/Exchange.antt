@@ -1,9 +1,9 @@
 -- Mail between the list of all links and a node's places.
-use Rattle.std.specs.List.{list_any}
-use Rattle.std.specs.Prelude.{◌≡◌, ◌⊎◌, ℕ, suc, ◌≤◌, ◌≢◌, Bool, true, false, cond, nat_eq, nat_lt, List, [], None, Option, Some, length, min, slice_get, slice_set}
+use Rattle.std.specs.Prelude.{◌≡◌, ◌⊎◌, ℕ, suc, ◌≤◌, ◌≢◌, Bool, true, cond, nat_lt, List, [], None, Option, Some, length, min, slice_get, slice_set}
 use Rattle.dta_model.specs.declared.plan.Plan.{Plan}
 use Rattle.node_transfer.specs.Cells.{changed_at, mail_line}
 use Rattle.node_transfer.specs.Contents.{batch_of}
+use Rattle.node_transfer.specs.Exchange.{is_among}
 use Rattle.node_transfer.specs.declared.mail.Mail.{Mail}
 use Rattle.node_transfer.specs.declared.mail.Mail.TheVariants.{Away, Room, Batch}
 use Rattle.serial_loader.specs.Phases.{HoldsBatch, TellsRoom}
@@ -53,17 +53,12 @@ pub record AreLeft (t n : ℕ) (old new : List Clock) : Type 0 where
   pub here : slice_get new n ≡ Some (record { since = suc t; wake = t })
   pub others : (k : ℕ) (w : Clock) → k ≢ n → slice_get new k ≡ Some w → (w' : Clock) × ((slice_get old k ≡ Some w') × MayWake t w' w)
 
--- only the mail of some links was changed
-pub record ChangesOnly (links : List ℕ) (old new : List Mail) : Type 0 where
-  pub count : length new ≡ length old
-  pub others : (l : ℕ) → list_any (λ b. nat_eq b l) links ≡ false → slice_get new l ≡ slice_get old l
-
 -- the mail of these links tells rooms, or holds batches
 abbrev pub AllTellRooms : Plan → ℕ → List ℕ → List Mail → Type 0
-AllTellRooms p t links mail = (l : ℕ) (m : Mail) → list_any (λ b. nat_eq b l) links ≡ true → slice_get mail l ≡ Some m → TellsRoom p t l m
+AllTellRooms p t links mail = (l : ℕ) (m : Mail) → is_among links l ≡ true → slice_get mail l ≡ Some m → TellsRoom p t l m
 
 abbrev pub AllHoldBatches : Plan → ℕ → List Clock → List ℕ → List Mail → Type 0
-AllHoldBatches p t clocks links mail = (l : ℕ) (m : Mail) → list_any (λ b. nat_eq b l) links ≡ true → slice_get mail l ≡ Some m → HoldsBatch p t clocks l m
+AllHoldBatches p t clocks links mail = (l : ℕ) (m : Mail) → is_among links l ≡ true → slice_get mail l ≡ Some m → HoldsBatch p t clocks l m
 
 abbrev pub AllBringBatches : Plan → ℕ → List ℕ → List Mail → Type 0
-AllBringBatches p t links mail = (l : ℕ) (m : Mail) → list_any (λ b. nat_eq b l) links ≡ true → slice_get mail l ≡ Some m → as_batch t m ≡ batch_of p t l
+AllBringBatches p t links mail = (l : ℕ) (m : Mail) → is_among links l ≡ true → slice_get mail l ≡ Some m → as_batch t m ≡ batch_of p t l

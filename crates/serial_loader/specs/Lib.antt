@@ -1,3 +1,2 @@
 pub mod Phases
 pub mod Exchange
-pub mod Order

@@ -1,10 +1,15 @@
-// Mail between the list of all links and a node's places.
+// Mail between the list of all links and a node's places, where idle nodes leave theirs as it is: a
+// mail tells its room until somebody comes, and a batch with which nobody comes is dropped.
 ghost use Rattle.dta_model.specs.Lent.{plan_of};
 ghost use Rattle.dta_model.specs.Plans.{ins as ins_of, outs as outs_of};
-ghost use Rattle.node_transfer.specs.Cells.{in_mail, out_mail, with_in_mail, with_out_mail};
-ghost use Rattle.node_transfer.specs.Contents.{IsStep, away, batch_of, cell_after, cell_before, room_of};
-ghost use Rattle.serial_loader.specs.Exchange.{AllBringBatches, AllHoldBatches, AllTellRooms, AreWoken, ChangesOnly, as_batch, brings, put_batch, told_room, wake_by, woken};
-ghost use Rattle.std.specs.Prelude.{◌≡◌, ◌<◌, suc, length, slice_get, slice_set, IfSome, Some};
+ghost use Rattle.node_transfer.specs.Cells.{out_mail, with_out_mail};
+ghost use Rattle.node_transfer.specs.Contents.{IsStep, away, batch_of, cell_after, cell_before};
+ghost use Rattle.node_transfer.specs.Contents.{room_of};
+ghost use Rattle.node_transfer.specs.Exchange.{ArePut, ChangesOnly};
+ghost use Rattle.serial_loader.specs.Exchange.{AllBringBatches, AllHoldBatches, AllTellRooms};
+ghost use Rattle.serial_loader.specs.Exchange.{AreWoken, as_batch, brings, put_batch, told_room};
+ghost use Rattle.serial_loader.specs.Exchange.{wake_by, woken};
+ghost use Rattle.std.specs.Prelude.{◌≡◌, ◌<◌, length, IfSome};
 
 use crate::clock::Clock;
 use dta_model::Loading;
@@ -18,8 +23,10 @@ pub fn lend_rooms(loading: &Loading, node: NodeNo, step: u32, cell: &mut NodeCel
     requires step { IsStep (plan_of loading.now) node.0 step }
     requires count { length mail.now ≡ length loading.now.net.now.links }
     requires cell { cell.old ≡ cell_before (plan_of loading.now) node.0 step away away }
-    requires rooms { AllTellRooms (plan_of loading.now) step (outs_of (plan_of loading.now) node.0) mail.now }
-    ensures { cell.new ≡ cell_before (plan_of loading.now) node.0 step away (room_of (plan_of loading.now) step) }
+    requires rooms { AllTellRooms (plan_of loading.now) step (outs_of (plan_of loading.now) node.0)
+        mail.now }
+    ensures { cell.new ≡ cell_before (plan_of loading.now) node.0 step
+        away (room_of (plan_of loading.now) step) }
 {
     let outs = loading.net.outs(node);
     for place in 0..outs.len() {
@@ -44,8 +51,8 @@ fn room_in(mail: &Mail) -> Option<u32>
     }
 }
 
-/// Takes the batches of a step out of the places of a node's out-links. Those with which somebody comes wake the nodes to which they
-/// go; the others are dropped.
+/// Takes the batches of a step out of the places of a node's out-links. Those with which somebody
+/// comes wake the nodes to which they go; the others are dropped.
 pub fn collect_batches(
     loading: &Loading,
     node: NodeNo,
@@ -57,12 +64,15 @@ pub fn collect_batches(
     requires step { IsStep (plan_of loading.now) node.0 step }
     requires clocks { length clocks.old ≡ length loading.now.net.now.nodes }
     requires mail { length mail.old ≡ length loading.now.net.now.links }
-    requires cell { cell.old ≡ cell_after (plan_of loading.now) node.0 step away (batch_of (plan_of loading.now) step) }
-    requires rooms { AllTellRooms (plan_of loading.now) step (outs_of (plan_of loading.now) node.0) mail.old }
+    requires cell { cell.old ≡ cell_after (plan_of loading.now) node.0 step
+        away (batch_of (plan_of loading.now) step) }
+    requires rooms { AllTellRooms (plan_of loading.now) step (outs_of (plan_of loading.now) node.0)
+        mail.old }
     ensures cell { cell.new ≡ cell_after (plan_of loading.now) node.0 step away away }
     ensures clocks { AreWoken step clocks.old clocks.new }
     ensures others { ChangesOnly (outs_of (plan_of loading.now) node.0) mail.old mail.new }
-    ensures batches { AllHoldBatches (plan_of loading.now) step clocks.new (outs_of (plan_of loading.now) node.0) mail.new }
+    ensures batches { AllHoldBatches (plan_of loading.now) step clocks.new
+        (outs_of (plan_of loading.now) node.0) mail.new }
 {
     let outs = loading.net.outs(node);
     for place in 0..outs.len() {
@@ -71,50 +81,8 @@ pub fn collect_batches(
     }
 }
 
-/// Fills the places of a node's in-links with the batches of a step.
-pub fn lend_batches(
-    alloc: Global,
-    loading: &Loading,
-    node: NodeNo,
-    step: u32,
-    cell: &mut NodeCell,
-    mail: &mut [Mail],
-)
-    requires step { IsStep (plan_of loading.now) node.0 step }
-    requires count { length mail.old ≡ length loading.now.net.now.links }
-    requires cell { cell.old ≡ cell_after (plan_of loading.now) node.0 step away away }
-    requires batches { AllBringBatches (plan_of loading.now) step (ins_of (plan_of loading.now) node.0) mail.old }
-    ensures cell { cell.new ≡ cell_after (plan_of loading.now) node.0 step (batch_of (plan_of loading.now) step) away }
-    ensures others { ChangesOnly (ins_of (plan_of loading.now) node.0) mail.old mail.new }
-{
-    let ins = loading.net.ins(node);
-    for place in 0..ins.len() {
-        lend_in(alloc, ins[place], place, step, cell, mail);
-    }
-}
-
-/// Takes the rooms of the next step out of the places of a node's in-links.
-pub fn collect_rooms(
-    loading: &Loading,
-    node: NodeNo,
-    step: u32,
-    cell: &mut NodeCell,
-    mail: &mut [Mail],
-)
-    requires step { IsStep (plan_of loading.now) node.0 step }
-    requires count { length mail.old ≡ length loading.now.net.now.links }
-    requires cell { cell.old ≡ cell_before (plan_of loading.now) node.0 (suc step) (room_of (plan_of loading.now) (suc step)) away }
-    ensures cell { cell.new ≡ cell_before (plan_of loading.now) node.0 (suc step) away away }
-    ensures others { ChangesOnly (ins_of (plan_of loading.now) node.0) mail.old mail.new }
-    ensures rooms { AllTellRooms (plan_of loading.now) (suc step) (ins_of (plan_of loading.now) node.0) mail.new }
-{
-    let ins = loading.net.ins(node);
-    for place in 0..ins.len() {
-        collect_in(ins[place], place, cell, mail);
-    }
-}
-
-// Takes the batch out of an out-link's place. Where somebody comes with it, it becomes the mail of its link, and wakes the node.
+// Takes the batch out of an out-link's place. Where somebody comes with it, it becomes the mail of
+// its link, and wakes the node.
 fn collect_out(
     link: LinkNo,
     to: NodeNo,
@@ -129,7 +97,8 @@ fn collect_out(
     requires there { place < length cell.old.outs }
     ensures cell { cell.new ≡ with_out_mail place Mail.Away cell.old }
     ensures mail { IfSome (out_mail place cell.old) (λ m. mail.new ≡ put_batch link.0 m mail.old) }
-    ensures clocks { IfSome (out_mail place cell.old) (λ m. clocks.new ≡ wake_by step to.0 m clocks.old) }
+    ensures clocks { IfSome (out_mail place cell.old)
+        (λ m. clocks.new ≡ wake_by step to.0 m clocks.old) }
 {
     let batch = cell.give_out(place);
     if brings_somebody(&batch) {
@@ -155,44 +124,39 @@ fn wake(clock: &mut Clock, step: u32)
     clock.wake = clock.wake.min(step);
 }
 
-// Moves the mail of a link into the place of an in-link, as the batch of a step.
-fn lend_in(
+/// Makes the mail of a node's in-links the batches of a step: where no batch was put, it is one
+/// with which nobody comes.
+pub fn complete_batches(
     alloc: Global,
-    link: LinkNo,
-    place: usize,
+    loading: &Loading,
+    node: NodeNo,
     step: u32,
-    cell: &mut NodeCell,
     mail: &mut [Mail],
 )
-    requires link { link.0 < length mail.old }
-    requires there { place < length cell.old.ins }
-    requires away { in_mail place cell.old ≡ Some Mail.Away }
-    ensures mail { mail.new ≡ slice_set mail.old link.0 Mail.Away }
-    ensures cell { IfSome (slice_get mail.old link.0) (λ m. cell.new ≡ with_in_mail place (as_batch step m) cell.old) }
+    requires step { IsStep (plan_of loading.now) node.0 step }
+    requires count { length mail.old ≡ length loading.now.net.now.links }
+    requires batches { AllBringBatches (plan_of loading.now) step
+        (ins_of (plan_of loading.now) node.0) mail.old }
+    ensures { ArePut (batch_of (plan_of loading.now) step) (ins_of (plan_of loading.now) node.0)
+        mail.old mail.new }
 {
-    let there = std::mem::replace(&mut mail[link.0 as usize], Mail::Away);
-    cell.take_in(place, to_batch(alloc, step, there));
-}
-
-// A mail as the batch of a step.
-fn to_batch(alloc: Global, step: u32, mail: Mail) -> Mail
-    ensures { result ≡ as_batch step mail }
-{
-    match mail {
-        Mail::Batch { step, line } => Mail::Batch { step, line },
-        _ => Mail::Batch {
-            step,
-            line: Line::new(alloc),
-        },
+    let ins = loading.net.ins(node);
+    for place in 0..ins.len() {
+        complete_batch(alloc, step, &mut mail[ins[place].0 as usize]);
     }
 }
 
-// Moves the mail of an in-link's place to its link.
-fn collect_in(link: LinkNo, place: usize, cell: &mut NodeCell, mail: &mut [Mail])
-    requires link { link.0 < length mail.old }
-    requires there { place < length cell.old.ins }
-    ensures cell { cell.new ≡ with_in_mail place Mail.Away cell.old }
-    ensures mail { IfSome (in_mail place cell.old) (λ m. mail.new ≡ slice_set mail.old link.0 m) }
+// Makes a mail the batch of a step.
+fn complete_batch(alloc: Global, step: u32, mail: &mut Mail)
+    ensures { mail.new ≡ as_batch step mail.old }
 {
-    mail[link.0 as usize] = cell.give_in(place);
+    match mail {
+        Mail::Batch { .. } => {}
+        _ => {
+            *mail = Mail::Batch {
+                step,
+                line: Line::new(alloc),
+            }
+        }
+    }
 }

@@ -4,13 +4,12 @@
 //! nodes make their transfers, and then all nodes their gathers. Its promise is that it gives
 //! exactly the journeys of the definition, for every sound loading; only memory can fail.
 //!
-//! A node at which nobody is ready is left as it is until its next step or until somebody comes. Its
-//! credits are then brought up to date by their closed form.
+//! A node at which nobody is ready is left as it is until its next step or until somebody comes.
+//! Its credits are then brought up to date by their closed form.
 #![tactic(auto)]
 
 mod clock;
 mod exchange;
-mod hand_over;
 mod node;
 mod phases;
 mod plain;

@@ -1,26 +1,30 @@
 // The plain simulator.
+ghost use Rattle.dta_model.specs.Laws.{EndInOrder, LinksAreLeftInOrder, StaysConserved};
 ghost use Rattle.dta_model.specs.Lent.{plan_of};
 ghost use Rattle.dta_model.specs.Loading.{journeys_of};
 ghost use Rattle.dta_model.specs.Sound.{IsSound};
-ghost use Rattle.serial_loader.specs.Order.{EndInOrder};
 ghost use Rattle.serial_loader.specs.Phases.{AreBefore, cells_before};
 ghost use Rattle.node_transfer.specs.declared.mail.Mail.{Mail};
 ghost use Rattle.std.specs.Prelude.{◌≡◌, ◌<◌, suc, IfOk, List};
 
 use crate::clock::Clock;
-use crate::hand_over::hand_over_all;
 use crate::phases::{gather_all, transfer_all};
 use dta_model::{Loaded, Loading};
 use net_core::Memory;
-use node_transfer::{Mail, NodeCell, Opening, opening};
+use node_transfer::{Mail, NodeCell, Opening, hand_over_all, opening};
 use std::alloc::Global;
 
 /// The journeys of a loading, by its definition: an entry step for each link that a vehicle
 /// entered, and the step of its arrival, if it arrived (Zhou and Taylor 2014).
+///
+/// In that loading each due vehicle waits, is on one link or has arrived, after every step, and
+/// links are left in the order of entry.
 pub fn load_plain(alloc: Global, loading: &Loading) -> Result<Loaded, Memory>
     requires { IsSound (plan_of loading.now) }
     ensures journeys { IfOk result (λ loaded. loaded ≡ journeys_of (plan_of loading.now)) }
     ensures order { IfOk result (EndInOrder (plan_of loading.now)) }
+    ensures conserved { IfOk result (λ loaded. StaysConserved (plan_of loading.now)) }
+    ensures left_in_order { IfOk result (λ loaded. LinksAreLeftInOrder (plan_of loading.now)) }
 {
     let Opening {
         cells,

@@ -13,32 +13,13 @@
 //! of each of its links.
 #![tactic(auto)]
 
-mod building;
-mod cells;
-mod destinations;
-mod filled;
-mod firsts;
-mod form;
-mod group;
-mod labels;
-mod lanes;
-mod least;
-mod longest;
-mod narrow;
-mod onward;
-mod route;
-mod router;
-mod rows;
-mod spans;
+mod filling;
+mod reading;
 mod states;
-mod table;
-mod tables;
-mod tail;
-mod wide;
 
-pub use destinations::{Ask, Told, tell};
-pub use group::{GroupLabels, MOST_GROUP};
-pub use labels::Labels;
+pub use reading::group_labels::{GroupLabels, MOST_GROUP};
+pub use reading::labels::Labels;
+pub use reading::tell::{Ask, Told, tell};
 
 #[cfg(test)]
 mod tests;

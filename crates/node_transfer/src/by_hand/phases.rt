@@ -4,7 +4,7 @@ ghost use Rattle.dta_model.specs.Sound.{IsSound};
 ghost use Rattle.node_transfer.specs.ByHand.{batches, cells_after, cells_before, rooms};
 ghost use Rattle.std.specs.Prelude.{◌≡◌, ◌<◌, suc};
 
-use crate::by_hand::node::{gather_node, transfer_node};
+use crate::exchange::{gather_unit, transfer_unit};
 use crate::{Mail, NodeCell};
 use dta_model::Loading;
 use net_core::NodeNo;
@@ -19,7 +19,7 @@ pub fn transfer_all(loading: &Loading, step: u32, cells: &mut [NodeCell], mail: 
     ensures mail { mail.new ≡ batches (plan_of loading.now) step }
 {
     for n in 0..loading.net.node_count() {
-        transfer_node(loading, NodeNo(n), step, &mut cells[n as usize], mail);
+        transfer_unit(loading, NodeNo(n), step, &mut cells[n as usize], mail);
     }
 }
 
@@ -33,6 +33,6 @@ pub fn gather_all(loading: &Loading, step: u32, cells: &mut [NodeCell], mail: &m
     ensures mail { mail.new ≡ rooms (plan_of loading.now) (suc step) }
 {
     for node in 0..loading.net.node_count() {
-        gather_node(loading, NodeNo(node), step, &mut cells[node as usize], mail);
+        gather_unit(loading, NodeNo(node), step, &mut cells[node as usize], mail);
     }
 }

@@ -13,15 +13,15 @@ pub returns-in_err-line-clause-halts : goal.returns-in_err-line-clause-halts
 returns-in_err-line-clause-halts g c = λ start before.
     let p = err_from_is_err_and c.from_residual-in_err-line.result c.from_residual-in_err-line.ensures.1 in
     rw (p.1, p.2) (halts-after c.args.settings.now c.args.job.now c.in_err-line.field-0.0 c.args.iteration c.args.routes.now c.args.lines.now.items start
-    (g.D.Desk.taken c.args.desk.now) (g.D.Desk.taken c.load_watched.new.desk) before (omega arith) c.in_ok-round.ensures.whole c.in_err-line.ensures.memory)
+    (g.D.Desk.taken c.args.desk.now) (g.D.Desk.taken c.load_watched.new.desk) before (omega arith) c.in_ok-round.ensures.watched c.in_err-line.ensures.memory)
 
 pub returns-in_err-push-clause-halts : goal.returns-in_err-push-clause-halts
 returns-in_err-push-clause-halts g c = λ start before.
     let p = err_from_is_err_and c.from_residual-in_err-push.result c.from_residual-in_err-push.ensures.1 in
     rw (p.1, p.2) (halts-after c.args.settings.now c.args.job.now c.in_err-push.field-0.0 c.args.iteration c.args.routes.now c.args.lines.now.items start
-    (g.D.Desk.taken c.args.desk.now) (g.D.Desk.taken c.load_watched.new.desk) before (omega arith) c.in_ok-round.ensures.whole c.in_err-push.ensures.memory)
+    (g.D.Desk.taken c.args.desk.now) (g.D.Desk.taken c.load_watched.new.desk) before (omega arith) c.in_ok-round.ensures.watched c.in_err-push.ensures.memory)
 
 pub returns-clause-forward : goal.returns-clause-forward
 returns-clause-forward g c = λ start before.
     ahead c.args.settings.now c.args.job.now c.args.iteration c.args.routes.now c.in_ok-line.next c.args.lines.now.items c.push.new.lines.items c.in_ok-line.line start
-    (g.D.Desk.taken c.args.desk.now) (g.D.Desk.taken c.load_watched.new.desk) before c.in_ok-round.ensures.whole c.in_ok-push.ensures.ok c.in_ok-line.ensures.gap c.in_ok-line.ensures.next
+    (g.D.Desk.taken c.args.desk.now) (g.D.Desk.taken c.load_watched.new.desk) before c.in_ok-round.ensures.watched c.in_ok-push.ensures.ok c.in_ok-line.ensures.gap c.in_ok-line.ensures.next

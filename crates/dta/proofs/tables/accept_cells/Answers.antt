@@ -1,4 +1,4 @@
-use Rattle.dta.proofs.TurnFacts.{cells-stop}
+use Rattle.dta.proofs.TableFacts.{cells-stop}
 use Rattle.dta.proofs.tables.accept_cells.Goals as goal
 
 pub returns-clause-stops : goal.returns-clause-stops

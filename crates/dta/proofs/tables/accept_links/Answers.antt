@@ -1,4 +1,4 @@
-use Rattle.dta.proofs.TurnFacts.{links-stop}
+use Rattle.dta.proofs.TableFacts.{links-stop}
 use Rattle.dta.proofs.tables.accept_links.Goals as goal
 
 pub returns-clause-stops : goal.returns-clause-stops

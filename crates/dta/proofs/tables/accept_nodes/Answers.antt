@@ -1,5 +1,5 @@
 use Rattle.dta.specs.Tables.{no_rows}
-use Rattle.dta.proofs.TurnFacts.{nodes-stop}
+use Rattle.dta.proofs.TableFacts.{nodes-stop}
 use Rattle.dta.proofs.tables.accept_nodes.Goals as goal
 
 pub returns-clause-stops : goal.returns-clause-stops

@@ -1,4 +1,4 @@
-use Rattle.dta.proofs.TurnFacts.{turns-stop}
+use Rattle.dta.proofs.TableFacts.{turns-stop}
 use Rattle.dta.proofs.tables.accept_turns.Goals as goal
 
 pub returns-clause-stops : goal.returns-clause-stops

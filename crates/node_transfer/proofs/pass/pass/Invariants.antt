@@ -8,7 +8,7 @@ invariant-loop l =
     × (out_links l.outs ≡ out_links l.initial.outs)
     × (waitings l.outs ≡ waitings l.initial.outs)
     × (total l.line l.outs l.arrived ≤ total l.initial.line l.initial.outs l.initial.arrived)
-    × (passed l.step l.initial.line l.initial.gate l.initial.outs l.initial.arrived ≡ passed l.step l.line l.gate l.outs l.arrived)
+    × (passed l.step l.initial.line l.initial.exit l.initial.outs l.initial.arrived ≡ passed l.step l.line l.exit l.outs l.arrived)
 
 abbrev pub decreases-loop : goal.decreases-loop
 decreases-loop l = length l.line

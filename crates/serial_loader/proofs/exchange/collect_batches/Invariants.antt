@@ -2,8 +2,9 @@ use Rattle.std.proofs.Common.{◌≡◌, take}
 use Rattle.dta_model.specs.Lent.{plan_of}
 use Rattle.dta_model.specs.Plans.{outs}
 use Rattle.node_transfer.specs.Contents.{away, batch_of, cell_after}
-use Rattle.serial_loader.specs.Exchange.{AllHoldBatches, AreWoken, ChangesOnly}
-use Rattle.node_transfer.specs.ByHand.{replaced}
+use Rattle.node_transfer.specs.Exchange.{ChangesOnly}
+use Rattle.serial_loader.specs.Exchange.{AllHoldBatches, AreWoken}
+use Rattle.node_transfer.proofs.Exchanges.{replaced}
 use Rattle.serial_loader.proofs.exchange.collect_batches.Given as goal
 
 abbrev pub invariant-loop-place : goal.invariant-loop-place

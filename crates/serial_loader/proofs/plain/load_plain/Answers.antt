@@ -9,7 +9,9 @@ use Rattle.node_transfer.specs.Hand.{Within, handed, riders_in}
 use Rattle.node_transfer.specs.Start.{no_journey}
 use Rattle.node_transfer.proofs.HandOver.{cells_hand_over}
 use Rattle.dta_model.proofs.Ends.{journeys_end_in_order}
-use Rattle.serial_loader.specs.Order.{EndInOrder}
+use Rattle.dta_model.proofs.InTurn.{left_in_order}
+use Rattle.dta_model.proofs.Onward.{vehicles_are_conserved}
+use Rattle.dta_model.specs.Laws.{EndInOrder}
 use Rattle.serial_loader.specs.Phases.{cells_before}
 use Rattle.node_transfer.proofs.Handed.{all-within, given-back}
 use Rattle.node_transfer.proofs.Numbers.{cell-count}
@@ -80,3 +82,9 @@ returns-clause-order c =
     ∙ ap (λ loaded. handed (flat_map riders_in (cells_before p p.horizon)) loaded) start.loaded
     ∙ (cells_hand_over p c.requires).journeys
     )) (journeys_end_in_order p)
+
+pub returns-clause-conserved : goal.returns-clause-conserved
+returns-clause-conserved c = vehicles_are_conserved (plan_of c.args.loading.now)
+
+pub returns-clause-left_in_order : goal.returns-clause-left_in_order
+returns-clause-left_in_order c = left_in_order (plan_of c.args.loading.now)

@@ -1,4 +1,4 @@
-use Rattle.time_routes.proofs.TableFacts.{free_many}
+use Rattle.time_routes.proofs.OfFilling.TableFacts.{free_many}
 use Rattle.time_routes.proofs.tests.free.Goals as goal
 
 pub returns : goal.returns

@@ -1,4 +1,4 @@
-use Rattle.std.proofs.Common.{◌≡◌, ◌∙◌, ℕ, ◌*◌, ◌<◌, ◌≤◌, ◌^◌, subst, ap, arith, length}
+use Rattle.std.proofs.Common.{◌∙◌, ◌*◌, ◌<◌, ◌≤◌, ◌^◌, subst, ap, length}
 use Rattle.std.specs.Prelude.{All}
 use Rattle.link_times.specs.Tables.{table_view}
 use Rattle.link_times.specs.TimeTables.{IsTimeTable}

@@ -3,9 +3,10 @@ use Rattle.std.specs.Prelude.{slice_set}
 use Rattle.dta_model.specs.Lent.{plan_of}
 use Rattle.dta_model.specs.Plans.{link_at}
 use Rattle.node_transfer.specs.Contents.{away, batch_of, cell_after, cell_before, room_of}
-use Rattle.node_transfer.specs.ByHand.{cell_in_transfer}
-use Rattle.node_transfer.proofs.Finished.{all-done, cell-of-it, cell-one-more, mail-more, none-done, from-below}
-use Rattle.node_transfer.proofs.Numbers.{cell-count}
+use Rattle.node_transfer.specs.ByHand.{cell_in_transfer, mail_in_transfer}
+use Rattle.node_transfer.proofs.Finished.{all-done, cell-of-it, cell-one-more, mail-more, mail-of-it, none-done, from-below}
+use Rattle.node_transfer.proofs.Numbers.{cell-count, mail-count}
+use Rattle.node_transfer.proofs.Parts.{outs-before}
 use Rattle.node_transfer.proofs.by_hand.phases.transfer_all.Goals as goal
 
 pub loop-n-init : goal.loop-n-init
@@ -28,8 +29,8 @@ bounds-cells-n c =
     let size = cell-count p (cell_in_transfer p s n) in
     omega (arith, below, total, size)
 
-pub transfer_node-requires-clause-cell : goal.transfer_node-requires-clause-cell
-transfer_node-requires-clause-cell c =
+pub transfer_unit-requires-clause-cell : goal.transfer_unit-requires-clause-cell
+transfer_unit-requires-clause-cell c =
     let p = plan_of c.args.loading.now in
     let s = c.args.step in
     let n = c.loop-n.n in
@@ -37,6 +38,20 @@ transfer_node-requires-clause-cell c =
     let here = c.loop-n-test.true in
     let below : n < length p.net.nodes = omega (arith, count, here) in
     ap (λ xs. get_or xs n c.index-cells-n.result) c.loop-n.invariant.0 ∙ cell-of-it p (λ x. cell_after p x s away away) (λ x. cell_before p x s away away) n c.index-cells-n.result below
+
+pub transfer_unit-requires-clause-count : goal.transfer_unit-requires-clause-count
+transfer_unit-requires-clause-count c =
+    let p = plan_of c.args.loading.now in
+    let s = c.args.step in
+    let n = c.loop-n.n in
+    ap (λ xs. length xs) c.loop-n.invariant.1 ∙ mail-count p (mail_in_transfer p s n)
+
+pub transfer_unit-requires-clause-rooms : goal.transfer_unit-requires-clause-rooms
+transfer_unit-requires-clause-rooms c =
+    let p = plan_of c.args.loading.now in
+    let s = c.args.step in
+    let n = c.loop-n.n in
+    mail-of-it (outs-before p n s away) (batch_of p s) (room_of p s) c.loop-n.mail c.loop-n.invariant.1
 
 pub loop-n-preserved : goal.loop-n-preserved
 loop-n-preserved c =
@@ -46,8 +61,8 @@ loop-n-preserved c =
     let count = c.node_count-n-end.ensures.count in
     let here = c.loop-n-test.true in
     let below : n < length p.net.nodes = omega (arith, count, here) in (
-      ap (λ xs. slice_set xs n c.transfer_node.new.cell) c.loop-n.invariant.0 ∙ cell-one-more p (λ x. cell_after p x s away away) (λ x. cell_before p x s away away) n c.transfer_node.new.cell below c.transfer_node.ensures.cell,
-      c.transfer_node.ensures.mail ∙ mail-more p (λ l. (link_at p l).from.0) (batch_of p s) (room_of p s) n,
+      ap (λ xs. slice_set xs n c.transfer_unit.new.cell) c.loop-n.invariant.0 ∙ cell-one-more p (λ x. cell_after p x s away away) (λ x. cell_before p x s away away) n c.transfer_unit.new.cell below c.transfer_unit.ensures.cell,
+      mail-more (outs-before p n s away) (batch_of p s) (room_of p s) c.loop-n.mail c.loop-n.invariant.1 c.transfer_unit.new.mail c.transfer_unit.ensures.batches,
     )
 
 pub returns-clause-cells : goal.returns-clause-cells

@@ -12,7 +12,7 @@ join_batches-requires-clause-step c =
 pub join_batches-requires-clause-can : goal.join_batches-requires-clause-can
 join_batches-requires-clause-can c =
     let r = c.requires in
-    subst (λ x. All (CanGather c.args.step) x.ins) (sym r.3) (can-gather r.0 r.1 c.args.step r.2)
+    subst (λ x. All (CanGather c.args.step) x.ins) (sym r.3) (can-gather r.0 r.1 c.args.step r.2.sound r.2.node)
 
 pub returns : goal.returns
-returns c p n s e = c.join_batches.ensures ∙ ap (λ x. gathered c.args.step x) e ∙ gather-stage p n c.args.step s
+returns c p n s e = c.join_batches.ensures ∙ ap (λ x. gathered c.args.step x) e ∙ gather-stage p n c.args.step s.sound s.node

@@ -1,0 +1,110 @@
+-- The first fault of a table stands in that table, and reading stops there.
+use Rattle.std.proofs.Common.{◌≡◌, ℕ, ◌+◌, ◌≤◌, List, [], ◌∷◌, ◌++◌, length, refl, sym, ap, subst, true, false}
+use Rattle.std.specs.Prelude.{Result, Ok, Err}
+use Rattle.desk_io.specs.declared.desk.Table.{Table}
+use Rattle.desk_io.specs.declared.desk.Table.TheVariants as table
+use Rattle.desk_io.specs.Transfers.{IsRead}
+use Rattle.row_reader.specs.Records.{Record, is_text, records}
+use Rattle.row_reader.specs.Faults.{fault_of}
+use Rattle.row_reader.specs.Fields.{complain}
+use Rattle.row_reader.specs.FirstFault.{Judge, Tells, at_line, judged, rows_from, then_with, verdict}
+use Rattle.row_reader.specs.declared.faults.Code.TheVariants.{E2}
+use Rattle.row_reader.specs.declared.faults.Column.TheVariants.{NoColumn}
+use Rattle.row_reader.specs.declared.faults.Complaint.{Complaint}
+use Rattle.row_reader.specs.declared.faults.TableFault.{TableFault}
+use Rattle.row_reader.specs.declared.faults.TableRefusal.{TableRefusal}
+use Rattle.row_reader.specs.declared.faults.TableRefusal.TheVariants as refusal
+use Rattle.net_core.specs.declared.rows.TheConstants.{MOST_LINKS, MOST_NODES, MOST_TURNS}
+use Rattle.gmns_tables.specs.Links.{link_of, link_places, link_verdict}
+use Rattle.gmns_tables.specs.Movements.{turn_of, turn_places}
+use Rattle.gmns_tables.specs.Nodes.{node_of, node_places, node_verdict}
+use Rattle.gmns_tables.specs.declared.units.Units.{Units}
+use Rattle.demand.specs.Cells.{cell_of, cell_places, demand_verdict}
+use Rattle.demand.specs.declared.cells.TheConstants.{MOST_CELLS}
+use Rattle.reports.specs.declared.refusal.TheConstants.{TABLE_LIMIT}
+use Rattle.dta.specs.Outcome.{DeskState}
+use Rattle.dta.specs.Stops.{StopsAt, stop_of}
+use Rattle.dta.specs.Tables.{TableRows, turns_of, with_table}
+
+-- of a line, and then of the rest
+then-table : {A B : Type 0} (t : Table) (line : ℕ) (r : Result A Complaint) (next : A → Result B TableFault) (f : TableFault)
+    → ((x : A) (g : TableFault) → next x ≡ Err g → g.table ≡ t) → then_with (at_line t line r) next ≡ Err f → f.table ≡ t
+then-table t line (Ok x) next f more e = more x f e
+then-table t line (Err c) next f more e = let s : fault_of t line c ≡ f = cc in ap (λ (g : TableFault). g.table) (sym s)
+
+rows-table : {R : Type 0} (t : Table) (judge : Judge R) (before : List R) (rest : List Record) (f : TableFault) → rows_from t judge before rest ≡ Err f → f.table ≡ t
+unfolding rows_from
+rows-table t judge before [] f e = absurd cc
+rows-table t judge before (r ∷ rest) f e =
+    then-table t (length before + 2) (judge before r) _ f (λ row g h. rows-table t judge (before ++ row ∷ []) rest g h) e
+
+pub verdict-table : {P R : Type 0} (t : Table) (limit : ℕ) (places : Record → Result P Complaint) (columns : P → Judge R) (all : List Record) (f : TableFault)
+    → verdict t limit places columns all ≡ Err f → f.table ≡ t
+unfolding verdict
+verdict-table t limit places columns [] f e = then-table t 1 (places []) _ f (λ p g h. rows-table t (judged [] limit (columns p)) [] [] g h) e
+verdict-table t limit places columns (header ∷ rest) f e =
+    elim (is_text header) as (λ b. is_text header ≡ b → f.table ≡ t) [
+      | true ↦ λ b. then-table t 1 (places header) _ f (λ p g h. rows-table t (judged header limit (columns p)) [] rest g h) (rw b at e)
+      | false ↦ λ b. let k = rw b at e in let s : fault_of t 1 (complain E2 NoColumn) ≡ f = cc in ap (λ (g : TableFault). g.table) (sym s)
+    ] refl
+
+-- what a reader refused over a text that is these bytes
+abbrev IsToldBy : Units → Table → TableRows → List ℕ → TableRefusal → Type 0
+IsToldBy units t rows bytes (refusal.Fault f) = (with_table units rows t bytes ≡ Err f) × (f.table ≡ t)
+IsToldBy units t rows bytes refusal.Memory = Unit {0}
+
+-- reading stopped at a table by what its reader answered over the text that was read
+stop-at : (units : Units) (t : Table) (rows : TableRows) (bytes : List ℕ) (before after : DeskState) (why : TableRefusal)
+    → IsRead t bytes before.left after.left → length bytes ≤ TABLE_LIMIT → IsToldBy units t rows bytes why
+    → StopsAt units t rows (stop_of why) before after
+stop-at units t rows bytes before after (refusal.Fault f) read short told =
+    (told.1, record { bytes = bytes; read = read; short = short; first = told.0; its_own = told.1 })
+stop-at units t rows bytes before after refusal.Memory read short told = record { bytes = bytes; read = read.read }
+
+nodes-told : (units : Units) (rows : TableRows) (bytes : List ℕ) (why : TableRefusal) → Tells (node_verdict (records bytes)) (Err why)
+    → IsToldBy units table.Node rows bytes why
+nodes-told units rows bytes (refusal.Fault f) told =
+    (rw (told) refl, verdict-table table.Node MOST_NODES node_places node_of (records bytes) f told)
+nodes-told units rows bytes refusal.Memory told = tt
+
+links-told : (units : Units) (rows : TableRows) (bytes : List ℕ) (why : TableRefusal) → Tells (link_verdict rows.nodes units (records bytes)) (Err why)
+    → IsToldBy units table.Link rows bytes why
+links-told units rows bytes (refusal.Fault f) told =
+    (rw (told) refl, verdict-table table.Link MOST_LINKS link_places (link_of rows.nodes units) (records bytes) f told)
+links-told units rows bytes refusal.Memory told = tt
+
+turns-table : (units : Units) (rows : TableRows) (bytes : List ℕ) (f : TableFault) → turns_of units rows bytes ≡ Err f → f.table ≡ table.Movement
+turns-table units rows [] f told = absurd cc
+turns-table units rows (b ∷ bytes) f told =
+    verdict-table table.Movement MOST_TURNS turn_places (turn_of rows.nodes rows.links units) (records (b ∷ bytes)) f told
+
+turns-told : (units : Units) (rows : TableRows) (bytes : List ℕ) (why : TableRefusal) → Tells (turns_of units rows bytes) (Err why)
+    → IsToldBy units table.Movement rows bytes why
+turns-told units rows bytes (refusal.Fault f) told = (rw (told) refl, turns-table units rows bytes f told)
+turns-told units rows bytes refusal.Memory told = tt
+
+cells-told : (units : Units) (rows : TableRows) (bytes : List ℕ) (why : TableRefusal) → Tells (demand_verdict (records bytes)) (Err why)
+    → IsToldBy units table.Demand rows bytes why
+cells-told units rows bytes (refusal.Fault f) told =
+    (rw (told) refl, verdict-table table.Demand MOST_CELLS cell_places cell_of (records bytes) f told)
+cells-told units rows bytes refusal.Memory told = tt
+
+pub nodes-stop : (units : Units) (rows : TableRows) (bytes text : List ℕ) (before after : DeskState) (why : TableRefusal) → IsRead table.Node bytes before.left after.left
+    → length bytes ≤ TABLE_LIMIT → text ≡ bytes → Tells (node_verdict (records text)) (Err why) → StopsAt units table.Node rows (stop_of why) before after
+nodes-stop units rows bytes text before after why read short same told =
+    stop-at units table.Node rows bytes before after why read short (nodes-told units rows bytes why (subst (λ x. Tells (node_verdict (records x)) (Err why)) same told))
+
+pub links-stop : (units : Units) (rows : TableRows) (bytes text : List ℕ) (before after : DeskState) (why : TableRefusal) → IsRead table.Link bytes before.left after.left
+    → length bytes ≤ TABLE_LIMIT → text ≡ bytes → Tells (link_verdict rows.nodes units (records text)) (Err why) → StopsAt units table.Link rows (stop_of why) before after
+links-stop units rows bytes text before after why read short same told =
+    stop-at units table.Link rows bytes before after why read short (links-told units rows bytes why (subst (λ x. Tells (link_verdict rows.nodes units (records x)) (Err why)) same told))
+
+pub turns-stop : (units : Units) (rows : TableRows) (bytes text : List ℕ) (before after : DeskState) (why : TableRefusal) → IsRead table.Movement bytes before.left after.left
+    → length bytes ≤ TABLE_LIMIT → text ≡ bytes → Tells (turns_of units rows text) (Err why) → StopsAt units table.Movement rows (stop_of why) before after
+turns-stop units rows bytes text before after why read short same told =
+    stop-at units table.Movement rows bytes before after why read short (turns-told units rows bytes why (subst (λ x. Tells (turns_of units rows x) (Err why)) same told))
+
+pub cells-stop : (units : Units) (rows : TableRows) (bytes text : List ℕ) (before after : DeskState) (why : TableRefusal) → IsRead table.Demand bytes before.left after.left
+    → length bytes ≤ TABLE_LIMIT → text ≡ bytes → Tells (demand_verdict (records text)) (Err why) → StopsAt units table.Demand rows (stop_of why) before after
+cells-stop units rows bytes text before after why read short same told =
+    stop-at units table.Demand rows bytes before after why read short (cells-told units rows bytes why (subst (λ x. Tells (demand_verdict (records x)) (Err why)) same told))

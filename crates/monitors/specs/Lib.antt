@@ -1,0 +1,4 @@
+pub mod Posted
+pub mod Words
+pub mod Rule
+pub mod Examples

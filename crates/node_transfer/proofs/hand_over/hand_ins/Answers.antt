@@ -1,0 +1,38 @@
+use Rattle.std.specs.List.{flat_map}
+use Rattle.std.proofs.Common.{◌∙◌, ◌+◌, ◌<◌, ◌≤◌, arith, sym, subst, ap, length, drop}
+use Rattle.std.specs.Prelude.{All, slice_index_or, slice_set}
+use Rattle.node_transfer.specs.Hand.{Within, handed, line_of}
+use Rattle.node_transfer.proofs.Hands.{all_split, flat_end, flat_next, handed-append}
+use Rattle.node_transfer.proofs.hand_over.hand_ins.Goals as goal
+
+pub hand_link-requires : goal.hand_link-requires
+hand_link-requires c =
+    let d = c.index-ins-i.result in
+    let v = c.loop-i.invariant in
+    let all_there = c.loop-i.auto.ins in
+    let test = c.loop-i-test.true in
+    let here : c.loop-i.i < length c.loop-i.ins = omega (arith, all_there, test) in
+    let all = subst (λ rs. All (Within (length c.args.loaded.now)) rs) (flat_next line_of c.loop-i.ins c.loop-i.i d d here) v.0 in
+    subst (λ k. All (Within k) (line_of (slice_index_or c.loop-i.ins c.loop-i.i d))) (sym v.1) ((all_split (Within (length c.args.loaded.now)) _ _ all).0)
+
+pub loop-i-preserved : goal.loop-i-preserved
+loop-i-preserved c =
+    let d = c.index-ins-i.result in
+    let v = c.loop-i.invariant in
+    let all_there = c.loop-i.auto.ins in
+    let test = c.loop-i-test.true in
+    let here : c.loop-i.i < length c.loop-i.ins = omega (arith, all_there, test) in
+    let next = flat_next line_of c.loop-i.ins c.loop-i.i d c.hand_link.new.link here in
+    let all = subst (λ rs. All (Within (length c.args.loaded.now)) rs) next v.0 in (
+      (all_split (Within (length c.args.loaded.now)) _ _ all).1,
+      c.hand_link.ensures.same ∙ v.1,
+      v.2 ∙ ap (λ rs. handed rs c.loop-i.loaded) next ∙ handed-append _ _ c.loop-i.loaded
+          ∙ ap (λ l. handed (flat_map line_of (drop (c.loop-i.i + 1) (slice_set c.loop-i.ins c.loop-i.i c.hand_link.new.link))) l) (sym c.hand_link.ensures.done),
+    )
+
+pub returns-clause-done : goal.returns-clause-done
+returns-clause-done c =
+    let all_there = c.loop-i.auto.ins in
+    let test = c.loop-i-test.false in
+    let past : length c.loop-i.ins ≤ c.loop-i.i = omega (arith, all_there, test) in
+    sym (c.loop-i.invariant.2 ∙ flat_end line_of c.loop-i.ins c.loop-i.i c.loop-i.loaded past)

@@ -1,0 +1,5 @@
+use Rattle.node_transfer.proofs.Gather.{cells_gather}
+use Rattle.node_transfer.proofs.laws.cells_gather.Goals as goal
+
+pub returns : goal.returns
+returns c = cells_gather

@@ -1,0 +1,72 @@
+-- Rows of what is left, one after another.
+use Rattle.std.proofs.Common.{◌≡◌, ◌⊎◌, inl, inr, ℕ, ◌+◌, ◌-◌, ◌*◌, ◌<◌, ◌≤◌, Bool, cond, List, length, refl, arith, get_or, ap, sym, ◌∙◌, mul-le-mul_right}
+use Rattle.std.specs.Prelude.{nat_eq, All}
+use Rattle.std.proofs.lemmas.Bool.{cases_lt}
+use Rattle.std.proofs.lemmas.List.{length-map}
+use Rattle.net_core.specs.declared.rows.NetRows.{NetRows}
+use Rattle.dta_model.specs.LinkTimes.{TimeTable, free_table}
+use Rattle.time_routes.specs.Filling.Labels.{far, rest_in, value}
+use Rattle.time_routes.specs.Filling.Rests.{span, least_over}
+use Rattle.time_routes.specs.Filling.WideRows.{IsRowTo, AreRows}
+use Rattle.time_routes.specs.States.Routers.{ways_of}
+use Rattle.time_routes.specs.declared.states.onward.Onward.{Onward}
+use Rattle.time_routes.proofs.OfFilling.WideRowFacts.{least_same, All_range}
+use Rattle.time_routes.specs.declared.states.router.Router.{Router}
+use Rattle.time_routes.specs.States.RouterWays.{is_own, onwards}
+
+pub AreRows_none : (at : ℕ → ℕ → ℕ) (states horizon : ℕ) (labels : List ℕ) (r : Router) (zone : ℕ) (first : ℕ) → horizon ≤ first → All (λ x. x ≤ far) labels → AreRows at states horizon labels labels r zone first
+AreRows_none at states horizon labels r zone first none low = record { as_many = refl; tail = λ k h. refl; each = λ s e h l m. absurd (omega arith); low = low }
+
+-- one more row, for the step before
+pub AreRows_more : (at : ℕ → ℕ → ℕ) (states horizon : ℕ) (old now new : List ℕ) (r : Router) (zone : ℕ) (step back : ℕ)
+    → back + step ≡ horizon → 0 < back → length r.zones.items ≡ states
+    → ((s : ℕ) → s < length r.zones.items → (get_or r.starts.items s 0 ≤ get_or r.starts.items (s + 1) 0) × (get_or r.starts.items (s + 1) 0 ≤ length r.ways.items))
+    → All (λ w. w.to < states) r.ways.items → ((e : ℕ) → All (λ w. 0 < span at e w) r.ways.items)
+    → AreRows at states horizon old now r zone (step + 1)
+    → IsRowTo at states horizon now new back step r zone (length r.zones.items)
+    → AreRows at states horizon old new r zone step
+AreRows_more at states horizon old now new r zone step back sum some many ordered to goes rows row = record {
+  as_many = row.as_many ∙ rows.as_many;
+  tail = λ k h. row.before k (in_tail k h) ∙ rows.tail k h;
+  each = λ s e h l m. at_step s e h l m (cases_lt step e);
+  low = row.low;
+}
+  where
+    in_tail : (k : ℕ) → k < states → k < back * states
+    in_tail k h = let m : 1 * states ≤ back * states = mul-le-mul_right states (omega arith) in omega arith
+
+    inside : (s : ℕ) → s < states → All (λ w. w.to < states) (onwards r s)
+    inside s h = let o = ordered s (omega arith) in All_range (λ w. w.to < states) r.ways.items (get_or r.starts.items s 0) (get_or r.starts.items (s + 1) 0) (o.0) (o.1) to
+
+    going : (s e : ℕ) → s < states → All (λ w. 0 < span at e w) (onwards r s)
+    going s e h = let o = ordered s (omega arith) in All_range (λ w. 0 < span at e w) r.ways.items (get_or r.starts.items s 0) (get_or r.starts.items (s + 1) 0) (o.0) (o.1) (goes e)
+
+    at_step : (s e : ℕ) → s < states → step ≤ e → e < horizon → (step < e) ⊎ (e ≤ step) → get_or new ((horizon - e) * states + s) 0 ≡ value at states horizon new (is_own r zone s) (onwards r s) e
+    at_step s e h l m (inl later) =
+        let fewer : horizon - e + 1 ≤ back = omega arith in
+        let below : (horizon - e + 1) * states ≤ back * states = mul-le-mul_right states fewer in
+        let own : Bool = is_own r zone s in
+        let same : least_over at far (rest_in states horizon new) e (onwards r s) ≡ least_over at far (rest_in states horizon now) e (onwards r s)
+        = least_same at states horizon now new (horizon - e) e (omega arith) (omega arith) (λ k q. row.before k (omega arith)) (onwards r s) (inside s h) (going s e h) in
+        row.before ((horizon - e) * states + s) (omega arith) ∙ rows.each s e h (omega arith) m ∙ ap (λ x. cond own 0 x) (sym same)
+    at_step s e h l m (inr here) =
+        let now_step : e ≡ step = omega arith in
+        let at_back : horizon - e ≡ back = omega arith in
+        let own : Bool = is_own r zone s in
+        let same : least_over at far (rest_in states horizon new) step (onwards r s) ≡ least_over at far (rest_in states horizon now) step (onwards r s)
+        = least_same at states horizon now new back step sum some row.before (onwards r s) (inside s h) (going s step h) in
+        rw (at_back, now_step) (row.each s (omega arith) ∙ ap (λ x. cond own 0 x) (sym same))
+
+pub AreRows_self : (at : ℕ → ℕ → ℕ) (states horizon : ℕ) (old new : List ℕ) (r : Router) (zone : ℕ) (first : ℕ) → AreRows at states horizon old new r zone first → AreRows at states horizon new new r zone first
+AreRows_self at states horizon old new r zone first rows = record { as_many = refl; tail = λ k h. refl; each = rows.each; low = rows.low }
+
+-- a place in a row stands in the table
+pub place_inside : (n wide back k : ℕ) → back ≤ n → k < wide → back * wide + k < (n + 1) * wide
+place_inside n wide back k h inside =
+    let rows : (back + 1) * wide ≤ (n + 1) * wide = mul-le-mul_right wide (omega arith) in
+    omega arith
+
+-- the free-flow table has the steps of each link
+pub free_many : (t : TimeTable) (net : NetRows) (bucket horizon : ℕ) → t ≡ free_table net bucket horizon → length t.free ≡ length net.links
+unfolding free_table
+free_many t net bucket horizon is = ap (λ x. length x.free) is ∙ length-map net.links (λ link. link.free)

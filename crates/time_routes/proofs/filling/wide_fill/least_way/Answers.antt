@@ -1,0 +1,18 @@
+use Rattle.std.proofs.Common.{arith}
+use Rattle.dta_model.specs.LinkTimes.{time_at}
+use Rattle.time_routes.specs.Filling.Labels.{rest_in}
+use Rattle.time_routes.proofs.OfFilling.PlaceFacts.{over_place, least_step}
+use Rattle.time_routes.proofs.filling.wide_fill.least_way.Goals as goal
+
+pub loop-way-preserved : goal.loop-way-preserved
+loop-way-preserved c =
+    let at = time_at c.args.times.now in
+    let h = c.args.times.now.horizon in
+    let labels = c.args.labels.now in
+    let p = c.place_after-place.result in
+    let sp = c.span_of-span.result in (
+      least_step at (rest_in c.args.states h labels) c.args.step c.args.ways.now c.loop-way.way-index _ _ _ _ _ c.loop-way-test.true
+          (over_place at c.args.states h labels c.args.step c.args.back p sp _ (c.requires.back.1) c.span_of-span.ensures.is c.place_after-place.ensures.is)
+          c.min-least.ensures (c.loop-way.invariant.0),
+      omega (arith, c.min-least.ensures, c.loop-way.invariant.1),
+    )

@@ -1,6 +1,0 @@
-use Rattle.dta_model.specs.LinkTimes.{time_at}
-use Rattle.time_routes.specs.Lanes.{IsLaneRowTo}
-use Rattle.time_routes.proofs.lanes.fill_row.Given as goal
-
-abbrev pub invariant-loop-state : goal.invariant-loop-state
-invariant-loop-state l = IsLaneRowTo (time_at l.times) l.wide l.times.horizon l.initial.cells l.cells l.back l.step l.router.zones.items l.wanted l.router.starts.items l.router.ways.items l.state

@@ -1,0 +1,18 @@
+use Rattle.std.proofs.Common.{arith}
+use Rattle.dta_model.specs.LinkTimes.{time_at}
+use Rattle.time_routes.specs.Destinations.{LeadsToFirst}
+use Rattle.time_routes.proofs.OfReading.TellFacts.{group_more, tells_then}
+use Rattle.time_routes.proofs.reading.tell.tell_groups.Goals as goal
+
+pub loop-first-preserved : goal.loop-first-preserved
+loop-first-preserved c =
+    let net = c.args.net.now in
+    let trips = c.args.trips.now in
+    let asks = c.args.asks.now in
+    let named = c.args.zones.now in
+    let short = c.min-next.ensures in (
+      tells_then (time_at c.args.times.now) net trips asks (LeadsToFirst net trips asks named c.loop-first.first) _ _ c.args.told.now c.loop-first.told c.tell_group.new.told
+          c.loop-first.invariant.0 c.in_ok-tell_group.ensures.leasts c.in_ok-tell_group.ensures.walks
+          (group_more net trips asks named c.loop-first.first c.min-next.result),
+      omega (arith, short),
+    )

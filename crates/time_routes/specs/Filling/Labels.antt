@@ -1,0 +1,28 @@
+-- What is left from each state at each step, row by row: the static tail first, then each step
+-- before the row of the next.
+use Rattle.std.specs.Prelude.{ℕ, ◌+◌, ◌-◌, ◌*◌, ◌^◌, Bool, cond, List, slice_index_or}
+use Rattle.net_core.specs.declared.rows.TheConstants.{MOST_PENALTY_STEPS}
+use Rattle.time_routes.specs.Filling.Rests.{least_over}
+use Rattle.time_routes.specs.declared.filling.no_walk.TheConstants.{FAR}
+use Rattle.time_routes.specs.declared.states.onward.Onward.{Onward}
+
+-- what stands for no walk
+abbrev pub far : ℕ
+far = FAR
+
+-- no way on takes so many steps: a penalty, and a link time of 32 bits
+abbrev pub most_span : ℕ
+most_span = 2 ^ 32 + MOST_PENALTY_STEPS
+
+-- the most that is left where there is a walk
+abbrev pub most_left : ℕ
+most_left = 2 ^ 60
+
+-- what is left from a state at a step; from the horizon on it is the tail's
+unfoldable pub rest_in : ℕ → ℕ → List ℕ → ℕ → ℕ → ℕ
+rest_in states horizon labels s e = slice_index_or labels ((horizon - e) * states + s) 0
+
+-- what ought to stand there: nothing at the zone, else the least over the ways on
+abbrev pub value : (ℕ → ℕ → ℕ) → ℕ → ℕ → List ℕ → Bool → List Onward → ℕ → ℕ
+value at states horizon labels own ways e =
+    cond own 0 (least_over at far (rest_in states horizon labels) e ways)

@@ -1,0 +1,83 @@
+// What is left to each zone of a group.
+ghost use Rattle.std.specs.Prelude.{◌≡◌, ◌+◌, ◌-◌, ◌*◌, ◌<◌, ◌≤◌, [], length, get_or, map, All};
+ghost use Rattle.time_routes.specs.Filling.Labels.{far, rest_in};
+ghost use Rattle.time_routes.specs.Filling.SlotRows.{slot_rest};
+ghost use Rattle.time_routes.specs.Filling.Narrow.{widened};
+
+use crate::filling::no_walk::{FAR, NARROW_FAR};
+use crate::filling::table_forms::{NarrowTable, WideTable};
+
+/// The steps that are left to each zone of a group, in the narrower form that serves.
+#[derive(Drop)]
+pub(crate) enum LabelTable {
+    Narrow(NarrowTable),
+    Wide(WideTable),
+}
+
+// The number of rows between that of a step and that of the horizon.
+fn rows_back(horizon: u32, step: u64) -> usize
+    ensures is { result ≡ horizon - step }
+    ensures within { result ≤ horizon }
+{
+    (horizon as u64).saturating_sub(step) as usize
+}
+
+// What is left in a slot.
+#[tactic(auto, unfolding(crate::specs::Filling::SlotRows::slot_rest), using(crate::proofs::OfFilling::TableFacts::place_inside))]
+fn slot_at(slots: &NarrowTable, slot: usize, state: u32, step: u64) -> u64
+    requires slot { slot < 4 }
+    requires state { state < slots.now.states }
+    ensures is { result ≡ widened (slot_rest (slots.now.states * 4) slots.now.horizon
+        slots.now.labels.items slot state step) }
+    ensures low { result ≤ far }
+{
+    let back = rows_back(slots.horizon, step);
+    let left = slots.labels[back * (slots.states * 4) + (state as usize * 4 + slot)];
+    if left < NARROW_FAR { left as u64 } else { FAR }
+}
+
+// What is left in a row of its own.
+#[tactic(auto, unfolding(crate::specs::Filling::Labels::rest_in), using(crate::proofs::OfFilling::TableFacts::place_inside))]
+fn row_at(row: &[u64], states: usize, horizon: u32, state: u32, step: u64) -> u64
+    requires rows { length row.now ≡ (horizon + 1) * states }
+    requires low { All (λ x. x ≤ far) row.now }
+    requires state { state < states }
+    ensures is { result ≡ rest_in states horizon row.now state step }
+    ensures low { result ≤ far }
+{
+    row[rows_back(horizon, step) * states + state as usize]
+}
+
+// What is left to the zone at a place.
+fn place_at(rows: &WideTable, place: usize, state: u32, step: u64) -> u64
+    requires place { place < length rows.now.zones.items }
+    requires state { state < rows.now.states }
+    ensures is { result ≡ rest_in rows.now.states rows.now.horizon
+        (get_or (map (λ row. row.items) rows.now.zones.items) place []) state step }
+    ensures low { result ≤ far }
+{
+    row_at(
+        rows.zones[place].as_slice(),
+        rows.states,
+        rows.horizon,
+        state,
+        step,
+    )
+}
+
+impl LabelTable {
+    ghost use Rattle.time_routes.specs.Filling.Tables.{places, rests, states_in};
+
+    /// What is left from a state at a step to the zone at a place.
+    pub(crate) fn rest_at(&self, place: usize, state: u32, step: u64) -> u64
+        requires place { place < places self.now }
+        requires state { state < states_in self.now }
+        ensures is { result ≡ rests self.now place state step }
+        ensures low { result ≤ far }
+    {
+        match self {
+            LabelTable::Narrow(slots) => slot_at(slots, place, state, step),
+            LabelTable::Wide(rows) => place_at(rows, place, state, step),
+        }
+    }
+}

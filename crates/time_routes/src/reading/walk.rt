@@ -1,0 +1,175 @@
+// Chosen walks by what is left.
+ghost use Rattle.std.specs.Prelude.{◌≡◌, ◌≢◌, ℕ, ◌+◌, ◌<◌, ◌≤◌, ◌^◌, List, length, All, Option};
+ghost use Rattle.std.specs.Prelude.{None, Some, IfOk, MatchOption, slice_get, true, false, Bool};
+ghost use Rattle.net_core.specs.declared.rows.NetRows.{NetRows};
+ghost use Rattle.dta_model.specs.LinkTimes.{time_at};
+ghost use Rattle.dta_model.specs.Plans.{link_numbers};
+ghost use Rattle.link_times.specs.TimeTables.{IsTimeTable};
+ghost use Rattle.time_routes.specs.Filling.Labels.{far};
+ghost use Rattle.time_routes.specs.Reading.Paths.{path_time, IsChosenPath};
+ghost use Rattle.time_routes.specs.Reading.FirstLinks.{AreFirsts};
+ghost use Rattle.time_routes.specs.Filling.Rests.{over, least_over, IsPick};
+ghost use Rattle.time_routes.specs.States.Routers.{ways_to};
+ghost use Rattle.time_routes.specs.Reading.Serves.{Fit, Serves, label_in, FirstOver, FirstWith};
+ghost use Rattle.time_routes.specs.Reading.Serves.{IsFollowed};
+ghost use Rattle.time_routes.specs.States.RouterWays.{state_of};
+ghost use Rattle.time_routes.specs.Reading.OfZone.{AreFit, label_to, rest_to};
+ghost use Rattle.time_routes.specs.Filling.Tables.{places, rests, states_in};
+
+use crate::filling::wide_fill::span_of;
+use crate::reading::least::{label_at, least_label};
+use crate::reading::zone_labels::ZoneLabels;
+use crate::states::onward::Onward;
+use dta_model::Route;
+use net_core::{LinkNo, Net};
+use std::alloc::{AllocError, Global};
+
+// The time over a way on.
+#[tactic(auto, unfolding(crate::specs::Filling::Rests::over))]
+fn over_at(labels: &ZoneLabels, way: &Onward, step: u64) -> u64
+    requires place { labels.now.place < places labels.now.table.now }
+    requires to { way.now.to < states_in labels.now.table.now }
+    requires sound { IsTimeTable labels.now.times.now }
+    requires link { way.now.link < length labels.now.times.now.free }
+    requires step { step < 2 ^ 63 }
+    ensures { result ≡ over (time_at labels.now.times.now) far (rest_to labels.now) step way.now }
+{
+    let span = span_of(labels.times, step, way);
+    labels.table.rest_at(labels.place, way.to, step + span) + span
+}
+
+// The first way on that takes a time.
+fn pick(labels: &ZoneLabels, ways: &[Onward], step: u64, left: u64) -> Option<Onward>
+    requires place { labels.now.place < places labels.now.table.now }
+    requires to { All (λ w. w.to < states_in labels.now.table.now) ways.now }
+    requires sound { IsTimeTable labels.now.times.now }
+    requires link { All (λ w. w.link < length labels.now.times.now.free) ways.now }
+    requires step { step < 2 ^ 63 }
+    ensures { FirstOver (over (time_at labels.now.times.now) far (rest_to labels.now) step) ways.now
+        left result }
+{
+    for way in ways {
+        if over_at(labels, way, step) == left {
+            return Some(*way);
+        }
+    }
+    None
+}
+
+// The way on that gives what is left.
+fn next_way(labels: &ZoneLabels, ways: &[Onward], step: u64, left: u64) -> Onward
+    requires place { labels.now.place < places labels.now.table.now }
+    requires to { All (λ w. w.to < states_in labels.now.table.now) ways.now }
+    requires sound { IsTimeTable labels.now.times.now }
+    requires link { All (λ w. w.link < length labels.now.times.now.free) ways.now }
+    requires step { step < 2 ^ 63 }
+    requires left { (left < far) × (left ≡ least_over (time_at labels.now.times.now) far
+        (rest_to labels.now) step ways.now) }
+    ensures { IsPick (time_at labels.now.times.now) far (rest_to labels.now) ways.now step left
+        result }
+{
+    match pick(labels, ways, step, left) {
+        Some(way) => way,
+        None => unreachable!(),
+    }
+}
+
+// The links of the walk that follows the labels from a link at a step.
+fn follow(
+    alloc: Global,
+    labels: &ZoneLabels,
+    net: &Net,
+    zone: u32,
+    first: u32,
+    step: u64,
+) -> Result<Vec<LinkNo>, AllocError>
+    requires sound { IsTimeTable labels.now.times.now }
+    requires fit { AreFit labels.now }
+    requires serves { Serves net.now zone (time_at labels.now.times.now) (rest_to labels.now)
+        labels.now.router.now }
+    requires first { first < length labels.now.times.now.free }
+    requires step { step < 2 ^ 40 }
+    requires near { rest_to labels.now (state_of labels.now.router.now first)
+        (step + time_at labels.now.times.now first step) < far }
+    ensures { IfOk result (λ v. IsFollowed (ways_to (time_at labels.now.times.now) net.now zone)
+        (label_to labels.now) first step (link_numbers v.items)) }
+{
+    let mut route = Vec::new(alloc);
+    route.push(LinkNo(first))?;
+    let mut link = first;
+    let mut entry = step;
+    while !labels
+        .router
+        .is_in(labels.router.state(link) as usize, zone)
+    {
+        let state = labels.router.state(link);
+        let start = entry + labels.times.at(LinkNo(link), entry) as u64;
+        let left = labels.table.rest_at(labels.place, state, start);
+        let way = next_way(labels, labels.router.ways_on(state as usize), start, left);
+        link = way.link;
+        entry = start + way.wait as u64;
+        route.push(LinkNo(link))?;
+    }
+    Ok(route)
+}
+
+// The first of some links whose label is a time.
+fn first_with(labels: &ZoneLabels, firsts: &[u32], step: u64, least: u64) -> Option<u32>
+    requires fit { AreFit labels.now }
+    requires firsts { All (λ l. l < length labels.now.times.now.free) firsts.now }
+    requires step { step < 2 ^ 40 }
+    ensures { FirstWith (λ l. label_to labels.now l step) firsts.now least result }
+{
+    for link in firsts {
+        if has_time(label_at(labels, *link, step), least) {
+            return Some(*link);
+        }
+    }
+    None
+}
+
+// Whether a label is a time.
+fn has_time(label: Option<u64>, time: u64) -> bool
+    ensures so { result ≡ true → label ≡ Some time }
+    ensures not_so { result ≡ false → label ≢ Some time }
+{
+    match label {
+        Some(x) => x == time,
+        None => false,
+    }
+}
+
+/// The walk from one of some links that the labels choose, at a step.
+pub(crate) fn walk_of(
+    alloc: Global,
+    labels: &ZoneLabels,
+    net: &Net,
+    zone: u32,
+    firsts: &[u32],
+    step: u64,
+) -> Result<Option<Route>, AllocError>
+    requires sound { IsTimeTable labels.now.times.now }
+    requires fit { AreFit labels.now }
+    requires serves { Serves net.now zone (time_at labels.now.times.now) (rest_to labels.now)
+        labels.now.router.now }
+    requires firsts { All (λ l. l < length labels.now.times.now.free) firsts.now }
+    requires rising { (i k a b : ℕ) → i < k → slice_get firsts.now i ≡ Some a
+        → slice_get firsts.now k ≡ Some b → a < b }
+    requires step { step < 2 ^ 40 }
+    ensures { (begins : ℕ → Bool) → AreFirsts begins firsts.now
+        → IfOk result (λ o. MatchOption o ((w : List ℕ)
+        → path_time (ways_to (time_at labels.now.times.now) net.now zone) begins step w ≡ None)
+        (λ links. IsChosenPath (ways_to (time_at labels.now.times.now) net.now zone) begins step
+        (link_numbers links))) }
+{
+    match least_label(labels, firsts, step) {
+        None => Ok(None),
+        Some(least) => match first_with(labels, firsts, step, least) {
+            Some(first) => {
+                let links = follow(alloc, labels, net, zone, first, step)?;
+                Ok(Some(Route::of(links)))
+            }
+            None => unreachable!(),
+        },
+    }
+}
