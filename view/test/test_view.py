@@ -196,6 +196,9 @@ class Test:
         page.click('#worst-link')
         wide = page.run('return document.documentElement.scrollWidth')
         check(wide <= 390, f'the page is {wide} wide in a window of 390')
+        for link in ('1', '76'):
+            x = page.run('return Page.placeOf(arguments[0])[0]', link)
+            check(0 < x < 390, f'link {link} is out of the small window\'s map')
         page.run('scrollTo(0, 0)')
         page.driver.save_screenshot(os.path.join(self.folder, 'small_window.png'))
 
