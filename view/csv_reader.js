@@ -215,6 +215,7 @@ function csvReader() {
         identifier(places, column) {
             const key = identifier(places.bytes, places.starts[column], places.ends[column]);
             if (key === key) return key;
+            if (places.isEmpty(column)) throw places.fault(`${this.names[column]} is empty.`);
             throw places.fault(`${this.said(places, column)} isn't an identifier.`);
         }
 

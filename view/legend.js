@@ -52,16 +52,20 @@ class Legend {
         pen.fillText(words, 10, head / 2);
         pen.font = '12px system-ui, sans-serif';
         pen.fillText(this.scale.measure.name, 10, head + map.height + 14);
-        const wide = (map.width - 20) / this.counts.length;
-        for (let place = 0; place < this.counts.length; place += 1) {
-            const x = 10 + place * wide;
-            pen.fillStyle = Measures.colours[place];
-            pen.fillRect(x, head + map.height + 28, 16, 2 + 4 * Measures.widths[place]);
-            pen.fillStyle = '#1a2228';
-            pen.fillText(
-                Measures.classWords(this.scale, place), x + 20, head + map.height + 34,
-                wide - 24);
-        }
+        this.drawClasses(pen, 10, head + map.height + 34);
         return canvas;
+    }
+    // Each class as a piece of its line, with its words.
+    drawClasses(pen, left, middle) {
+        let x = left;
+        for (let place = 0; place < this.counts.length; place += 1) {
+            const height = 2 + 4 * Measures.widths[place];
+            const words = Measures.classWords(this.scale, place);
+            pen.fillStyle = Measures.colours[place];
+            pen.fillRect(x, middle - height / 2, 20, height);
+            pen.fillStyle = '#1a2228';
+            pen.fillText(words, x + 25, middle);
+            x += 25 + pen.measureText(words).width + 16;
+        }
     }
 }

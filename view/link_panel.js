@@ -142,8 +142,7 @@ class LinkPanel {
             (count) => count.kind === 'turn' && count.first === name && count.from <= view.step
                 && view.step < count.to);
         return turns.slice(0, 6).map(
-            (count) =>
-                [`turn to ${count.second}`, `${Totals.format(count.vehicles)} vehicles`]);
+            (count) => [`turn to ${count.second}`, `${Totals.format(count.vehicles)} vehicles`]);
     }
 
     updateVehicles(part, view) {
@@ -153,8 +152,8 @@ class LinkPanel {
         for (let visit = first; visit < Math.min(behind, first + most); visit += 1) {
             const agent = run.visits.agent[visit];
             rows.push([
-                run.agentName(agent), run.tripTitle(agent),
-                String(run.visits.enter[visit]), String(view.step - run.visits.enter[visit])
+                run.agentName(agent), run.tripTitle(agent), String(run.visits.enter[visit]),
+                String(view.step - run.visits.enter[visit])
             ]);
         }
         if (rows.length === 0) {

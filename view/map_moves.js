@@ -62,6 +62,7 @@ const MapMoves = (() => {
     }
 
     function pan(map, acrossX, acrossY) {
+        map.camera.isMoved = true;
         map.camera.x -= acrossX / map.camera.scale;
         map.camera.y += acrossY / map.camera.scale;
         map.told.moved();
@@ -73,6 +74,7 @@ const MapMoves = (() => {
         const {camera} = map;
         const aboutX = camera.x + (x - map.width / 2) / camera.scale;
         const aboutY = camera.y - (y - map.height / 2) / camera.scale;
+        camera.isMoved = true;
         camera.scale *= times;
         camera.x = aboutX - (x - map.width / 2) / camera.scale;
         camera.y = aboutY + (y - map.height / 2) / camera.scale;

@@ -40,24 +40,27 @@ class MapView {
     resize() {
         const share = window.devicePixelRatio || 1;
         const width = Math.round(this.width * share), height = Math.round(this.height * share);
+        if (this.canvas.width === width && this.canvas.height === height) return;
         for (const canvas of [this.canvas, this.layer]) {
-            if (canvas.width === width && canvas.height === height) continue;
             canvas.width = width;
             canvas.height = height;
         }
         this.screenPen.setTransform(share, 0, 0, share, 0, 0);
         this.layerPen.setTransform(share, 0, 0, share, 0, 0);
+        // Who has gone to a place of the network stays there; else all of it is shown again.
+        if (!this.camera.isMoved) this.fit();
+        this.placed = '';
     }
 
     fit() {
         this.geometry.fit(this.camera, this.width, this.height);
-        this.camera.isFitted = true;
+        this.camera.isMoved = false;
     }
 
     draw(view) {
         if (this.run === null || this.width === 0) return;
         this.resize();
-        if (!this.camera.isFitted) this.fit();
+        if (this.camera.scale === undefined) this.fit();
         this.placeIfMoved();
         if (this.fillIfChanged(view)) this.drawLayer(view);
         this.pen = this.screenPen;
@@ -83,6 +86,7 @@ class MapView {
         const place = [x, y, scale, this.width, this.height].join(' ');
         if (place === this.placed) return;
         this.placed = place;
+        this.content = '';
         this.geometry.place(this.camera, this.width, this.height);
     }
 

@@ -15,13 +15,16 @@ class Rankings {
     }
 
     showTotals(runs, settings) {
-        const columns = runs.map((run) => new Map(Totals.of(run, settings)));
+        const columns = runs.map(
+            (run) => new Map(Totals.rowsOf(run, settings).map((row) => [row.name, row])));
         const names = [...new Set(columns.flatMap((column) => [...column.keys()]))];
         const head = ['Totals', ...runs.map((run) => run.name)];
-        const value = (column, name) => (column.has(name) ? Totals.format(column.get(name)) : '');
-        const rows = names.map((name) => [name, ...columns.map((column) => value(column, name))]);
-        const plain =
-            names.map((name) => [name, ...columns.map((column) => column.get(name) ?? '')]);
+        const table = (cell) => names.map(
+            (name) =>
+                [name,
+                 ...columns.map((column) => (column.has(name) ? cell(column.get(name)) : ''))]);
+        const rows = table(({value, digits}) => Totals.format(value, digits));
+        const plain = table(({value}) => value);
         this.boxes.totals.replaceChildren(
             Elements.table(head, rows),
             Elements.button(
@@ -93,7 +96,7 @@ class Rankings {
             this.showTables(runs, view);
         };
         const head =
-            ['Link', 'Way', 'Vehicle-hours lost', 'Waited for it', 'Greatest delay', 'from'];
+            ['Link', 'Way', 'Vehicle-hours lost', 'and waiting for it', 'Greatest delay', 'from'];
         return this.card(title, `links_${run.name}`, head, rows, choice, shown, 2);
     }
 

@@ -57,8 +57,8 @@ function resultTables(csv) {
         if (have === need) return;
         throw new csv.TableFault(
             name, have + 1,
-            `the table ends after ${have} rows, but the links of link.csv need ${need}${words}. ` +
-                'It seems to be one of another run, or to be cut off.');
+            `the table ends after ${have} rows, but the links of link.csv need ` +
+                `${need}${words}. It seems to be one of another run, or to be cut off.`);
     }
 
     // The first link's rows tell the buckets; every other link must have the same.

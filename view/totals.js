@@ -4,42 +4,55 @@
 const Totals = (() => {
     const kilometres = {m: 0.001, km: 1, mi: 1.609344};
 
-    function of (run, settings) {
-        const hours = (steps) => steps * settings.stepSeconds / 3600;
-        const minutes = (steps) => steps * settings.stepSeconds / 60;
-        const rows = [['Links', run.links.count], ['Nodes', run.nodes.count]];
-        if (run.agents !== null) {
-            const [arrived, running, waiting, unrouted] = run.sums.statuses;
-            const trips = tripSteps(run);
-            rows.push(
-                ['Vehicles', run.agents.count], ['arrived', arrived],
-                ['running at the end', running], ['waiting at the end', waiting],
-                ['without a route', unrouted],
-                ['Vehicle-hours on links', hours(run.sums.onLinks)],
-                ['Vehicle-hours waiting at origins', hours(run.sums.waited)], [
-                    'Vehicle-kilometres, of links that were left',
-                    run.sums.length * kilometres[settings.unit]
-                ]);
-            if (run.times !== null)
-                rows.push(['Vehicle-hours lost on links', hours(run.sums.lost)]);
-            if (trips.length > 0) {
-                rows.push([
-                    'Minutes of a trip: mean',
-                    minutes(trips.reduce((sum, steps) => sum + steps, 0) / trips.length)
-                ]);
-                rows.push([
-                    'Minutes of a trip: 95 in 100 take at most',
-                    minutes(trips[lastOf(trips.length)])
-                ]);
-            }
-        }
+    // Names with their values: counts as whole numbers, everything else to a tenth.
+    function rowsOf(run, settings) {
+        const rows = [count('Links', run.links.count), count('Nodes', run.nodes.count)];
+        if (run.agents !== null)
+            rows.push(...vehicleRows(run, settings), ...tripRows(run, settings));
         if (run.gap !== null && run.gap.length > 0) {
             const last = run.gap[run.gap.length - 1];
-            rows.push(
-                ['Iterations', last.iteration],
-                ['Gap of the last iteration, in millionths', last.ppm]);
+            rows.push(count('Iterations', last.iteration));
+            rows.push(count('Gap of the last iteration, in millionths', last.ppm));
         }
         return rows;
+    }
+
+    function count(name, value) {
+        return {name, value, digits: 0};
+    }
+
+    function tenth(name, value) {
+        return {name, value, digits: 1};
+    }
+
+    function vehicleRows(run, settings) {
+        const {statuses, onLinks, waited, lost, length} = run.sums;
+        const hours = (steps) => steps * settings.stepSeconds / 3600;
+        const rows = [
+            count('Vehicles', run.agents.count),
+            count('arrived', statuses[0]),
+            count('running at the end', statuses[1]),
+            count('waiting at the end', statuses[2]),
+            count('without a route', statuses[3]),
+            tenth('Vehicle-hours on links', hours(onLinks)),
+        ];
+        if (run.times !== null) rows.push(tenth('Vehicle-hours lost on links', hours(lost)));
+        rows.push(tenth('Vehicle-hours waiting at origins', hours(waited)));
+        rows.push(tenth(
+            'Vehicle-kilometres, of links that were left', length * kilometres[settings.unit]));
+        return rows;
+    }
+
+    function tripRows(run, settings) {
+        const trips = tripSteps(run), minutes = settings.stepSeconds / 60;
+        if (trips.length === 0) return [];
+        const sum = trips.reduce((before, steps) => before + steps, 0);
+        return [
+            tenth('Minutes of a trip: mean', sum / trips.length * minutes),
+            tenth(
+                'Minutes of a trip: 95 in 100 take at most',
+                trips[lastOf(trips.length)] * minutes),
+        ];
     }
 
     function lastOf(count) {
@@ -109,10 +122,10 @@ const Totals = (() => {
         return ten(run.agents.count, (agent) => run.tripSteps(agent), -1);
     }
 
-    function format(value) {
+    function format(value, digits = Number.isInteger(value) ? 0 : 1) {
         return value.toLocaleString(
-            'en', {maximumFractionDigits: Number.isInteger(value) ? 0 : 1});
+            'en', {minimumFractionDigits: digits, maximumFractionDigits: digits});
     }
 
-    return {of, tripSteps, ten, rankings, longestTrips, format};
+    return {rowsOf, tripSteps, ten, rankings, longestTrips, format};
 })();

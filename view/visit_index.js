@@ -7,62 +7,81 @@ function visitIndex() {
     // horizon as its end.
     function visitsOf(agents, horizon) {
         const count = agents.entries.length;
-        const visits = {
-            count,
-            link: new Int32Array(count),
-            enter: agents.entries,
-            leave: new Int32Array(count),
-            agent: new Int32Array(count),
-        };
+        const visits = emptyVisits(count);
+        visits.enter.set(agents.entries);
         for (let agent = 0; agent < agents.count; agent += 1) {
             const first = agents.entryStart[agent], behind = agents.entryStart[agent + 1];
+            const link = agents.linkStart[agent] - first, arrival = agents.arrival[agent];
             for (let visit = first; visit < behind; visit += 1) {
-                visits.link[visit] = agents.links[agents.linkStart[agent] + visit - first];
+                visits.link[visit] = agents.links[link + visit];
                 visits.agent[visit] = agent;
-                visits.leave[visit] = visit + 1 < behind ? agents.entries[visit + 1] :
-                    agents.arrival[agent] >= 0           ? agents.arrival[agent] :
-                                                           horizon;
+                visits.leave[visit] = agents.entries[visit + 1];
             }
+            if (behind > first) visits.leave[behind - 1] = arrival < 0 ? horizon : arrival;
         }
         return visits;
     }
 
-    // Sorts by counting: `order` by `key`, equal keys in the order in which they stand. Answers
-    // where each key begins.
-    function sortedBy(key, keys, order) {
-        const starts = new Int32Array(keys + 1);
-        for (let place = 0; place < key.length; place += 1) starts[key[place] + 1] += 1;
-        for (let value = 0; value < keys; value += 1) starts[value + 1] += starts[value];
-        const next = starts.slice(), sorted = new Int32Array(key.length);
-        for (let place = 0; place < key.length; place += 1) {
-            const item = order === null ? place : order[place];
-            sorted[next[key[item]]++] = item;
-        }
-        return {starts, sorted};
-    }
-
-    function picked(values, order) {
-        const result = new Int32Array(order.length);
-        for (let place = 0; place < order.length; place += 1)
-            result[place] = values[order[place]];
-        return result;
-    }
-
-    // Three sorts, each stable: by end, by entry, by link. A link is left in the order of entry,
-    // so those who are on it stand side by side in its list, behind those who have left.
-    function indexOf(visits, links, horizon) {
-        const left = sortedBy(visits.leave, horizon + 1, null);
-        const entered = sortedBy(visits.enter, horizon + 1, left.sorted);
-        const byLink = sortedBy(visits.link, links, entered.sorted);
+    function emptyVisits(count) {
         return {
-            leaveStarts: left.starts,
-            leaveLinks: picked(visits.link, left.sorted),
-            enterStarts: entered.starts,
-            enterLinks: picked(visits.link, entered.sorted),
-            linkStarts: byLink.starts,
-            enter: picked(visits.enter, byLink.sorted),
-            leave: picked(visits.leave, byLink.sorted),
-            agent: picked(visits.agent, byLink.sorted),
+            count,
+            link: new Int32Array(count),
+            enter: new Int32Array(count),
+            leave: new Int32Array(count),
+            agent: new Int32Array(count),
+        };
+    }
+
+    // Where each key begins once items are sorted by their keys, by counting.
+    function startsOf(key, keys) {
+        const starts = new Int32Array(keys + 1);
+        for (let item = 0; item < key.length; item += 1) starts[key[item] + 1] += 1;
+        for (let value = 0; value < keys; value += 1) starts[value + 1] += starts[value];
+        return starts;
+    }
+
+    // The values in the order of their keys. Equal keys keep their order.
+    function sortedBy(key, starts, values) {
+        const next = starts.slice(), sorted = new Int32Array(key.length);
+        for (let item = 0; item < key.length; item += 1) sorted[next[key[item]]++] = values[item];
+        return sorted;
+    }
+
+    // The same for whole visits.
+    function visitsBy(key, starts, visits) {
+        const next = starts.slice(), sorted = emptyVisits(visits.count);
+        for (let visit = 0; visit < visits.count; visit += 1) {
+            const place = next[key[visit]]++;
+            sorted.link[place] = visits.link[visit];
+            sorted.enter[place] = visits.enter[visit];
+            sorted.leave[place] = visits.leave[visit];
+            sorted.agent[place] = visits.agent[visit];
+        }
+        return sorted;
+    }
+
+    // Sorts by end, by entry and by link. A link is left in the order of entry, so those who are
+    // on it stand side by side in its list, behind those who have left. Millions of visits go to
+    // many links faster where they first go to groups of links, whose places are near each other
+    // in memory.
+    function indexOf(visits, links, horizon) {
+        const leaveStarts = startsOf(visits.leave, horizon + 1);
+        const byLeave = visitsBy(visits.leave, leaveStarts, visits);
+        const enterStarts = startsOf(byLeave.enter, horizon + 1);
+        const byEnter = visitsBy(byLeave.enter, enterStarts, byLeave);
+        const group = byEnter.link.map((link) => link >> 8);
+        const byGroup = visitsBy(group, startsOf(group, (links >> 8) + 1), byEnter);
+        const linkStarts = startsOf(byGroup.link, links);
+        const {enter, leave, agent} = visitsBy(byGroup.link, linkStarts, byGroup);
+        return {
+            leaveStarts,
+            leaveLinks: byLeave.link,
+            enterStarts,
+            enterLinks: byEnter.link,
+            linkStarts,
+            enter,
+            leave,
+            agent,
         };
     }
 
@@ -81,14 +100,13 @@ function visitIndex() {
             end.push(entry);
             steps[link[link.length - 1]] += entry - agents.departure[agent];
         }
-        const begins = sortedBy(begin, horizon + 1, null),
-              ends = sortedBy(end, horizon + 1, null);
+        const beginStarts = startsOf(begin, horizon + 1), endStarts = startsOf(end, horizon + 1);
         return {
             steps,
-            beginStarts: begins.starts,
-            beginLinks: picked(link, begins.sorted),
-            endStarts: ends.starts,
-            endLinks: picked(link, ends.sorted),
+            beginStarts,
+            beginLinks: sortedBy(begin, beginStarts, link),
+            endStarts,
+            endLinks: sortedBy(end, endStarts, link),
         };
     }
 

@@ -105,7 +105,9 @@ class Page:
 
     def wait_for_runs(self, names, seconds=30):
         def shown():
-            maps = 'return [...document.querySelectorAll(".map strong")].map((box) => box.innerText)'
+            maps = (
+                'return [...document.querySelectorAll(".map strong")].map((box) => box.innerText)'
+            )
             return self.run(maps) == names
 
         self.wait(shown, f'the maps of {names}; the page says: {self.text("#messages")}', seconds)

@@ -18,6 +18,14 @@ COUNTS = (
     'kind,first,second,from_step,to_step,vehicles\n' 'turn,20,30,0,50,7\n' 'through,1,3,0,60,7\n'
 )
 
+# Lengths and lanes that aren't whole.
+ODD_NETWORK = {
+    'link.csv': 'link_id,from_node_id,to_node_id,length,lanes\n'
+    '1,1,2,0.1239,1.5\n2,2,3,1.0e-1,\n3,3,1,2,.1\n4,1,3,0,100\n',
+    'agent.csv': None,
+    'link_performance.csv': None,
+}
+
 # Name, the files that differ from a good run (None: not there), and what must be said.
 CASES = [
     (

@@ -6,17 +6,17 @@ import subprocess
 TOP = os.path.dirname(os.path.dirname(os.path.dirname(os.path.abspath(__file__))))
 
 
-def run(program, words, example, folder, change=None):
-    """Copies an example's tables, changes them, and runs `assign` on them."""
-    shutil.copytree(os.path.join(TOP, 'examples', example), folder)
+def run(program, words, tables, folder, change=None):
+    """Copies a folder's tables, changes them, and runs the program on them: its report."""
+    shutil.copytree(tables, folder)
     if change is not None:
         change(folder)
     done = subprocess.run(
-        [program, 'assign', *words], cwd=folder, capture_output=True, text=True, check=False
+        [program, *words], cwd=folder, capture_output=True, text=True, check=False
     )
     if done.returncode != 0:
         raise SystemExit(
-            f'{program} ended with {done.returncode} on {example}: {done.stdout}{done.stderr}'
+            f'{program} ended with {done.returncode} on {tables}: {done.stdout}{done.stderr}'
         )
     return dict(line.split(' ') for line in done.stdout.splitlines())
 
@@ -40,34 +40,17 @@ def halve_capacity(link):
     return change
 
 
-def drop_column(name, column):
-    """A change of a folder's tables: one column is taken out."""
-
-    def change(folder):
-        path = os.path.join(folder, name)
-        with open(path, encoding='utf-8') as table:
-            rows = [line.split(',') for line in table.read().splitlines()]
-        place = rows[0].index(column)
-        with open(path, 'w', encoding='utf-8') as table:
-            table.writelines(','.join(row[:place] + row[place + 1 :]) + '\n' for row in rows)
-
-    return change
-
-
 def make_all(program, folder):
-    """The runs that the test looks at, by name, with their reports."""
+    """The runs that the test looks at, by name: their folders and their reports."""
 
-    def made(name, *words):
-        return os.path.join(folder, name), run(
-            program, words[0], words[1], os.path.join(folder, name), *words[2:]
-        )
+    def made(name, words, example, change=None):
+        path = os.path.join(folder, name)
+        return path, run(program, words, os.path.join(TOP, 'examples', example), path, change)
 
+    short = ['assign', '--period', '1', '--horizon', '60', '--iterations', '2']
+    long = ['assign', '--iterations', '20']
     return {
-        'two_routes': made(
-            'two_routes', ['--period', '1', '--horizon', '60', '--iterations', '2'], 'two_routes'
-        ),
-        'sioux_falls': made('sioux_falls', ['--iterations', '20'], 'sioux_falls'),
-        'half_of_link_48': made(
-            'half_of_link_48', ['--iterations', '20'], 'sioux_falls', halve_capacity('48')
-        ),
+        'two_routes': made('two_routes', short, 'two_routes'),
+        'sioux_falls': made('sioux_falls', long, 'sioux_falls'),
+        'half_of_link_48': made('half_of_link_48', long, 'sioux_falls', halve_capacity('48')),
     }

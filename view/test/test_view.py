@@ -31,8 +31,9 @@ from tables import Told
 
 
 class Test:
-    def __init__(self, page, runs, folder, pictures):
-        self.page, self.runs, self.folder, self.pictures = page, runs, folder, pictures
+    def __init__(self, page, program, runs, folder, pictures):
+        self.page, self.program, self.runs = page, program, runs
+        self.folder, self.pictures = folder, pictures
 
     def path(self, name):
         return self.runs[name][0]
@@ -195,6 +196,9 @@ class Test:
         page.click('#worst-link')
         wide = page.run('return document.documentElement.scrollWidth')
         check(wide <= 390, f'the page is {wide} wide in a window of 390')
+        for link in ('1', '76'):
+            x = page.run('return Page.placeOf(arguments[0])[0]', link)
+            check(0 < x < 390, f'link {link} is out of the small window\'s map')
         page.run('scrollTo(0, 0)')
         page.driver.save_screenshot(os.path.join(self.folder, 'small_window.png'))
 
@@ -226,6 +230,28 @@ class Test:
                 page.find('#welcome').is_displayed() or page.find('#shown').is_displayed(),
                 f'{name}: a blank page',
             )
+
+    def storage_is_the_program_s(self):
+        """What the page computes from a network alone is what `dta freeflow` writes of it."""
+        page, unit, jam = self.page, 'mi', '137'
+        alone = faults.make(self.folder, 'alone', faults.ODD_NETWORK)
+        path = os.path.join(self.folder, 'free')
+        words = ['freeflow', '--length-unit', unit, '--jam', jam]
+        run_examples.run(self.program, words, alone, path)
+        page.open()
+        page.drop([alone])
+        page.wait_for_runs(['alone'])
+        page.drop([path])
+        page.wait_for_runs(['alone', 'free'])
+        page.choose('#unit', unit)
+        page.choose('#jam', jam)
+        for link in ('1', '2', '3', '4'):
+            page.choose('#find', link)
+            told = page.run(
+                'return [...document.querySelectorAll("#link dl")].map((box) =>'
+                ' box.innerText.split("stores")[1].trim())'
+            )
+            equal(told[0], told[1], f'the storage of link {link}')
 
     def skims_and_counts_are_shown(self):
         page = self.page
@@ -294,6 +320,7 @@ TESTS = [
     'a_small_window_holds_all',
     'tables_are_saved',
     'faults_are_told',
+    'storage_is_the_program_s',
     'skims_and_counts_are_shown',
     'a_large_run_is_fast',
 ]
@@ -311,7 +338,8 @@ def main():
     folder = tempfile.mkdtemp(prefix='view_test_')
     pictures = chosen.pictures or folder
     os.makedirs(pictures, exist_ok=True)
-    runs = run_examples.make_all(os.path.abspath(chosen.program), folder)
+    program = os.path.abspath(chosen.program)
+    runs = run_examples.make_all(program, folder)
     page = Page(folder)
     failed = 0
     for name in TESTS:
@@ -323,7 +351,7 @@ def main():
             continue
         begin = time.time()
         try:
-            getattr(Test(page, runs, folder, pictures), name)()
+            getattr(Test(page, program, runs, folder, pictures), name)()
             equal(page.errors(), [], 'errors in the console')
             print(f'ok      {name} ({time.time() - begin:.1f} s)', flush=True)
         except Exception:
