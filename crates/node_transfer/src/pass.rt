@@ -44,7 +44,8 @@ pub fn close_exit(exit: &mut Exit)
     exit.turns.close();
 }
 
-/// Whether a rider that is ready at a step may take the turn at a place into the out-link at a place.
+/// Whether a rider that is ready at a step may take the turn at a place into the out-link at a
+/// place.
 pub fn may_enter(
     turns: &LimitedTurns,
     outs: &[OutLink],
@@ -133,7 +134,8 @@ pub fn enter_at(line: &mut Line, outs: &mut [OutLink], place: usize, step: u32)
     requires open { out_open (slice_get outs.old place) ≡ true }
     requires fits { IfSome (slice_get outs.old place) (λ o. length o.batch < MOST_RIDERS) }
     ensures rest { line.new ≡ drop 1 line.old }
-    ensures entered { IfSome (slice_get line.old 0) (λ r. outs.new ≡ entered_at place step r outs.old) }
+    ensures entered { IfSome (slice_get line.old 0)
+        (λ r. outs.new ≡ entered_at place step r outs.old) }
 {
     let out = &mut outs[place];
     line.move_front_to(&mut out.batch, step);
@@ -154,9 +156,11 @@ pub fn advance(
     ensures links { out_links outs.new ≡ out_links outs.old }
     ensures waits { waitings outs.new ≡ waitings outs.old }
     ensures total { total line.new outs.new arrived.new ≤ total line.old outs.old arrived.old }
-    ensures goes { passed step line.old exit.old outs.old arrived.old ≡ passed step line.new exit.new outs.new arrived.new }
+    ensures goes { passed step line.old exit.old outs.old arrived.old
+        ≡ passed step line.new exit.new outs.new arrived.new }
     ensures shorter { IsTrue result → length line.new + 1 ≡ length line.old }
-    ensures done { result ≡ false → passed step line.new exit.new outs.new arrived.new ≡ record { line = line.new; exit = exit.new; outs = outs.new; arrived = arrived.new } }
+    ensures done { result ≡ false → passed step line.new exit.new outs.new arrived.new
+        ≡ record { line = line.new; exit = exit.new; outs = outs.new; arrived = arrived.new } }
 {
     let what = match line.front() {
         None => return false,
@@ -184,7 +188,8 @@ pub fn pass(line: &mut Line, exit: &mut Exit, outs: &mut [OutLink], arrived: &mu
     ensures links { out_links outs.new ≡ out_links outs.old }
     ensures waits { waitings outs.new ≡ waitings outs.old }
     ensures total { total line.new outs.new arrived.new ≤ total line.old outs.old arrived.old }
-    ensures done { passed step line.old exit.old outs.old arrived.old ≡ record { line = line.new; exit = exit.new; outs = outs.new; arrived = arrived.new } }
+    ensures done { passed step line.old exit.old outs.old arrived.old
+        ≡ record { line = line.new; exit = exit.new; outs = outs.new; arrived = arrived.new } }
 {
     while advance(line, exit, outs, arrived, step) {}
 }
