@@ -1,6 +1,6 @@
 -- Each step keeps the rule of a board, and tells what it says.
-use Rattle.std.proofs.Common.{arith, ◌≡◌, ◌≢◌, ◌⊎◌, ℕ, zero, suc, List, [], ◌∷◌, ◌++◌, set}
-use Rattle.std.proofs.Common.{Bool, true, false, true≢false, refl, sym, ap, ◌∙◌, subst, ⊎_elim}
+use Rattle.std.proofs.Common.{arith, ◌≡◌, ◌≢◌, ℕ, zero, suc, List, [], ◌∷◌, ◌++◌, set}
+use Rattle.std.proofs.Common.{true, false, true≢false, refl, sym, ap, ◌∙◌, subst, ⊎_elim}
 use mathlib.Core.Option.{some, some-ne-none, some-injective}
 use lib.ListN.{get_elem?}
 use Rattle.crossbeam_utils.specs.Register.{Turns, Forks, Merges}
@@ -8,7 +8,7 @@ use Rattle.atomic_table.proofs.Lists.{at_set, at_snoc, set_again}
 use Rattle.dta_model.specs.declared.eight.Eight.{Eight}
 use Rattle.monitors.specs.declared.rule.View.{View}
 use Rattle.monitors.specs.Posted.{last_of, zeros, IsPrefix, IsLater, StepsRise}
-use Rattle.monitors.specs.Words.{words_of, eight_of}
+use Rattle.monitors.specs.Words.{words_of}
 use Rattle.monitors.specs.Rule.{knowing, telling, nothing, Fits, Shows, Posts, Reads, Settles}
 use Rattle.monitors.proofs.Lists.{IsPrefix-same, IsPrefix-nothing, IsPrefix-more}
 use Rattle.monitors.proofs.Lists.{last_of-push, StepsRise-push}

@@ -1,5 +1,5 @@
 -- Small worked cases: what a board shows, and what is a beginning of what.
-use Rattle.std.specs.Prelude.{◌≡◌, ℕ, List, [], ◌∷◌, refl}
+use Rattle.std.specs.Prelude.{◌≡◌, ℕ, [], ◌∷◌, refl}
 use Rattle.std.proofs.Common.{inr}
 use Rattle.dta_model.specs.State.{no_vehicles}
 use Rattle.dta_model.specs.declared.eight.Eight.{Eight}

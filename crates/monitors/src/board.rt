@@ -1,6 +1,6 @@
 // The board and its calls.
-ghost use Rattle.std.specs.Prelude.{◌≡◌, ◌<◌, ◌≤◌, ◌++◌, [], ◌∷◌, All, IfOk};
-ghost use Rattle.monitors.specs.Posted.{IsPrefix, OneIsPrefix, last_of};
+ghost use Rattle.std.specs.Prelude.{◌≡◌, ◌≤◌, ◌++◌, [], ◌∷◌, IfOk};
+ghost use Rattle.monitors.specs.Posted.{IsLater, IsPrefix, OneIsPrefix, last_of};
 
 use crate::rule::{Cell, Part, Post, Read, Settle, Tell};
 use crate::words::{from_words, to_words};
@@ -48,7 +48,7 @@ impl Board {
     /// Posts a state of more steps than those posted before.
     pub fn post<R: Wait>(&self, rt: &R, pass: &mut WriterPass, eight: Eight)
         requires own { pass.old.board ≡ self.now }
-        requires later { All (λ posted. posted.steps < eight.steps) pass.old.list }
+        requires later { IsLater eight pass.old.list }
         ensures board { pass.new.board ≡ pass.old.board }
         ensures list { pass.new.list ≡ pass.old.list ++ eight ∷ [] }
     {

@@ -1,4 +1,4 @@
-use Rattle.std.proofs.Common.{List, ap, sym, subst}
+use Rattle.std.proofs.Common.{List, ap, subst}
 use Rattle.crossbeam_utils.specs.Seq.{cell_view}
 use Rattle.dta_model.specs.declared.eight.Eight.{Eight}
 use Rattle.monitors.specs.Posted.{IsPrefix}
