@@ -261,6 +261,10 @@ const Page = (() => {
         for (const name of ['step-seconds', 'unit', 'jam'])
             find(name).addEventListener('change', settingsChanged);
         document.addEventListener('keydown', key, true);
+        window.addEventListener('error', (event) => {
+            find('messages').append(Elements.make(
+                'p', {className: 'fault'}, `The page itself has a fault: ${event.message}.`));
+        });
         let later = 0;
         window.addEventListener('resize', () => {
             clearTimeout(later);

@@ -178,6 +178,7 @@ class Test:
         )
         page.wait_for_runs(['chosen files'])
         check('the network alone' in page.text('#messages'), 'what is missing is told')
+        check('no results yet' in page.text('#legend'), 'the legend of a network alone')
         page.drop(
             [
                 os.path.join(folder, name)
