@@ -46,11 +46,11 @@ module _ (s : Settings) (job : JobRows) (ra rb : List VehicleRoutes) (la lb : Li
       let again = b.next i (get_or ra i []) y (subst (λ (r : VehicleRoutes). slice_get rb i ≡ Some r) p other) (subst (λ n. slice_get rb n ≡ Some y) (omega arith) f) in
       next_are_determined (time_at (times_of s job (get_or ra i []))) job.net job.trips (i + 1) (get_or ra i []) x y next again
 
-  same-routes : length ra ≡ length rb → ra ≡ rb
+  pub same-routes : length ra ≡ length rb → ra ≡ rb
   same-routes e = ext_get_or [] ra rb e (λ i h.
       same-at i (get_or ra i []) (get_or rb i []) (slice_get-get_or ra i [] h) (slice_get-get_or rb i [] (omega (arith, h, e))))
 
-  same-lines : ra ≡ rb → length la ≡ length ra → length la ≡ length lb → la ≡ lb
+  pub same-lines : ra ≡ rb → length la ≡ length ra → length la ≡ length lb → la ≡ lb
   same-lines same n e = ext_get_or no_line la lb e (λ i h.
       let r = get_or ra i [] in
       let there = slice_get-get_or ra i [] (omega (arith, h, n)) in
@@ -106,6 +106,34 @@ module _ (s : Settings) (job : JobRows) where
 
 -- ---- all texts
 
+-- the texts after the last iteration, over the same routes and gaps
+pub lasts-by : (s : Settings) (job : JobRows) (ra rb : List VehicleRoutes) (la lb : List GapLine)
+    (last_a last_b : VehicleRoutes) (line_a line_b : GapLine) → ra ≡ rb → la ≡ lb
+    → slice_get ra (s.iterations - 1) ≡ Some last_a → slice_get rb (s.iterations - 1) ≡ Some last_b
+    → slice_get la (s.iterations - 1) ≡ Some line_a → slice_get lb (s.iterations - 1) ≡ Some line_b
+    → last_texts s.command s job last_a la line_a ≡ last_texts s.command s job last_b lb line_b
+lasts-by s job ra rb la lb last_a last_b line_a line_b routes lines at_a at_b on_a on_b =
+    let last : last_a ≡ last_b = some-is last_a last_b (sym at_a
+    ∙ ap (λ (rs : List VehicleRoutes). slice_get rs (s.iterations - 1)) routes ∙ at_b) in
+    let line : line_a ≡ line_b = some-is line_a line_b (sym on_a
+    ∙ ap (λ (ls : List GapLine). slice_get ls (s.iterations - 1)) lines ∙ on_b) in
+    ap (λ (r : VehicleRoutes). last_texts s.command s job r la line_a) last
+    ∙ ap (λ (ls : List GapLine). last_texts s.command s job last_b ls line_a) lines
+    ∙ ap (λ (l : GapLine). last_texts s.command s job last_b lb l) line
+
+-- the texts of an assignment but for Watch are those after its last iteration
+but-watch-is : (texts watched last : List OutText) → texts ≡ watched ++ last
+    → but_watch watched ≡ [] → but_watch texts ≡ but_watch last
+but-watch-is texts watched last are none =
+    ap but_watch are ∙ filter-append (λ t. not (is_watch t.to)) watched last
+    ∙ ap (λ (xs : List OutText). xs ++ but_watch last) none
+
+pub but-watch-assigned : (s : Settings) (job : JobRows) (xs : List OutText) (a : AreAssigned s job xs)
+    → but_watch xs ≡ but_watch (last_texts s.command s job a.last a.lines a.line)
+but-watch-assigned s job xs a =
+    but-watch-is xs a.watched (last_texts s.command s job a.last a.lines a.line) a.texts_are
+    (none-left s job 1 a.routes a.watched a.watch_lines)
+
 module _ (s : Settings) (job : JobRows) (xs ys : List OutText) (a : AreAssigned s job xs)
     (b : AreAssigned s job ys) where
   routes-same : a.routes ≡ b.routes
@@ -115,32 +143,15 @@ module _ (s : Settings) (job : JobRows) (xs ys : List OutText) (a : AreAssigned 
   lasts-same : last_texts s.command s job a.last a.lines a.line
       ≡ last_texts s.command s job b.last b.lines b.line
   lasts-same =
-      let lines : a.lines ≡ b.lines = same-lines s job a.routes b.routes a.lines b.lines a.iterations
-      b.iterations routes-same (a.with_gaps ∙ sym a.as_many) (a.with_gaps ∙ sym b.with_gaps) in
-      let last : a.last ≡ b.last = some-is a.last b.last (sym a.last_routes
-      ∙ ap (λ (rs : List VehicleRoutes). slice_get rs (s.iterations - 1)) routes-same
-      ∙ b.last_routes) in
-      let line : a.line ≡ b.line = some-is a.line b.line (sym a.last_line
-      ∙ ap (λ (ls : List GapLine). slice_get ls (s.iterations - 1)) lines ∙ b.last_line) in
-      ap (λ (r : VehicleRoutes). last_texts s.command s job r a.lines a.line) last
-      ∙ ap (λ (ls : List GapLine). last_texts s.command s job b.last ls a.line) lines
-      ∙ ap (λ (l : GapLine). last_texts s.command s job b.last b.lines l) line
-
-  -- the texts but for Watch are those after the last iteration
-  but-watch-is : (texts watched last : List OutText) → texts ≡ watched ++ last
-      → but_watch watched ≡ [] → but_watch texts ≡ but_watch last
-  but-watch-is texts watched last are none =
-      ap but_watch are ∙ filter-append (λ t. not (is_watch t.to)) watched last
-      ∙ ap (λ (xs : List OutText). xs ++ but_watch last) none
+      lasts-by s job a.routes b.routes a.lines b.lines a.last b.last a.line b.line routes-same
+      (same-lines s job a.routes b.routes a.lines b.lines a.iterations b.iterations routes-same
+      (a.with_gaps ∙ sym a.as_many) (a.with_gaps ∙ sym b.with_gaps))
+      a.last_routes b.last_routes a.last_line b.last_line
 
   both-assigned : AreDetermined s job xs ys
   both-assigned = record {
     but_watch_lines =
-        but-watch-is xs a.watched (last_texts s.command s job a.last a.lines a.line) a.texts_are
-        (none-left s job 1 a.routes a.watched a.watch_lines)
-        ∙ ap but_watch lasts-same
-        ∙ sym (but-watch-is ys b.watched (last_texts s.command s job b.last b.lines b.line) b.texts_are
-        (none-left s job 1 b.routes b.watched b.watch_lines));
+        but-watch-assigned s job xs a ∙ ap but_watch lasts-same ∙ sym (but-watch-assigned s job ys b);
     plain = λ plain.
         let watched : a.watched ≡ b.watched = watched-same s job 1 b.routes a.watched b.watched plain
         (subst (λ (rs : List VehicleRoutes). AreWatchTexts s job 1 rs a.watched) routes-same

@@ -6,3 +6,4 @@ pub mod OutputFacts
 pub mod IterateFacts
 pub mod RunFacts
 pub mod Determined
+pub mod AnyOrder

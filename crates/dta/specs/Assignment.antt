@@ -23,18 +23,23 @@ times_of s job routes = table_of (plan_of s job routes) s.bucket
 abbrev pub end_of : Settings → JobRows → VehicleRoutes → Eight
 end_of s job routes = eight_after (plan_of s job routes) s.horizon
 
--- the routes of iterations one after another, and their gaps
-pub record AreIterations (s : Settings) (job : JobRows) (routes : List VehicleRoutes)
-    (lines : List GapLine) : Type 0 where
+-- the routes of iterations one after another, and their gaps, where the loading over routes has these
+-- link times
+pub record AreIterationsBy (times : VehicleRoutes → TimeTable) (job : JobRows)
+    (routes : List VehicleRoutes) (lines : List GapLine) : Type 0 where
   -- the first routes are the chosen walks by free-flow steps
   pub first : (r : VehicleRoutes) → slice_get routes 0 ≡ Some r → AreFirstRoutes job.net job.trips r
   -- after iteration i some vehicles take their chosen walks in its table, and the others stay
   pub next :
       (i : ℕ) (old new : VehicleRoutes) → slice_get routes i ≡ Some old
       → slice_get routes (i + 1) ≡ Some new
-      → AreNextRoutes (time_at (times_of s job old)) job.net job.trips (i + 1) old new
+      → AreNextRoutes (time_at (times old)) job.net job.trips (i + 1) old new
   -- each gap is that of an iteration's routes in its own table
   pub gaps :
       (i : ℕ) (r : VehicleRoutes) (line : GapLine) → slice_get routes i ≡ Some r
       → slice_get lines i ≡ Some line
-      → IsGapLine (time_at (times_of s job r)) job.net job.trips r line
+      → IsGapLine (time_at (times r)) job.net job.trips r line
+
+-- the same by the loadings of a job
+abbrev pub AreIterations : Settings → JobRows → List VehicleRoutes → List GapLine → Type 0
+AreIterations s job routes lines = AreIterationsBy (times_of s job) job routes lines

@@ -3,6 +3,7 @@ pub mod Tables
 pub mod Jobs
 pub mod Assignment
 pub mod Outputs
+pub mod Orders
 pub mod Verdict
 pub mod Outcome
 pub mod Stops

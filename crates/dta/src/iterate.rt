@@ -93,16 +93,7 @@ fn load(alloc: Global, settings: &Settings, job: &Job, routes: &Routes) -> Resul
     ensures memory { IfErr result (λ why. why ≡ halt.Memory) }
 {
     let loading = job.loading(settings, routes);
-    let round = load_over(alloc, &loading, settings.bucket);
-    let Loading {
-        net: _,
-        queue: _,
-        delta: _,
-        horizon: _,
-        trips: _,
-        routes: _,
-    } = loading;
-    round
+    load_over(alloc, &loading, settings.bucket)
 }
 
 // Puts the watch line of an iteration, where there is a watch: the state after its last step.

@@ -13,14 +13,14 @@ ghost use Rattle.dta_words.specs.Grammar.{settings_of};
 ghost use Rattle.reports.specs.Texts.{refusal_line};
 ghost use Rattle.dta.specs.Status.{refusal_status as status_of_refusal};
 ghost use Rattle.dta.specs.declared.status.Status.TheVariants as status;
-ghost use Rattle.dta.specs.Laws.{TextsAreDetermined};
+ghost use Rattle.dta.specs.Laws.{TextsAreDetermined, TextsInAnyOrder};
 ghost use Rattle.dta.specs.Outcome.{state_of, Means, Answers};
 ghost use Rattle.dta.specs.Verdict.{verdict, AreToldBy};
 
 use crate::gate::Gate;
 use crate::iterate::{Halt, iterate};
 use crate::job::{Job, accept};
-use crate::laws::texts_are_determined;
+use crate::laws::{texts_are_determined, texts_in_any_order};
 use crate::outputs::put_assigned;
 use crate::status::Status;
 use crate::stop::Stop;
@@ -182,6 +182,9 @@ pub fn run<R: AllocGlobal + Threads + Wait, D: Desk + Send, G: Gate + Sync>(
     // Settings and a job, which are made of words and tables alone, have one list of texts but for
     // Watch, and where the loader is plain one list of all texts.
     ensures determined { TextsAreDetermined }
+
+    // They are the same where loadings take the nodes of a step in any order.
+    ensures any_order { TextsInAnyOrder }
     ensures reads { D.read_faults desk.old ≤ D.read_faults desk.new }
     ensures puts { D.put_faults desk.old ≤ D.put_faults desk.new }
 {
@@ -189,5 +192,6 @@ pub fn run<R: AllocGlobal + Threads + Wait, D: Desk + Send, G: Gate + Sync>(
     links_are_left_in_order();
     journeys_end_in_order();
     texts_are_determined();
+    texts_in_any_order();
     answer(rt, words, desk)
 }

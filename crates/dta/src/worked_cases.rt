@@ -4,10 +4,12 @@ use crate::gate::NoGate;
 use crate::run::run;
 use crate::status::Status;
 use crate::tests::desk_of;
-use desk_io::Output;
+use desk_io::{MemDesk, Output};
 use dta_words::Words;
 use std::alloc::Global;
+use std::sync::Wait;
 use std::test::Fail;
+use std::thread::Threads;
 
 // A case: its words, its tables, and what each output takes.
 #[derive(Clone, Copy)]
@@ -66,7 +68,7 @@ const TWO_VEHICLES: &str = "o_zone_id,d_zone_id,volume\n1,3,2\n";
 
 const FOUR_VEHICLES: &str = "o_zone_id,d_zone_id,volume\n1,3,4\n";
 
-const CASES: [Case; 25] = [
+static CASES: [Case; 25] = [
     Case {
         name: "two links --workers 1",
         words: "assign --period 30 --horizon 60 --workers 1",
@@ -400,33 +402,52 @@ fn words_in(alloc: Global, line: &str) -> Result<Words, Fail> {
     Ok(words)
 }
 
+// A desk with the tables of a case.
+fn desk_with(alloc: Global, case: &Case) -> Result<MemDesk, Fail> {
+    desk_of(
+        alloc,
+        case.node.as_bytes(),
+        case.link.as_bytes(),
+        case.movement.as_bytes(),
+        case.demand.as_bytes(),
+    )
+}
+
+// Whether a run of a case ends with status 0. What it puts is in the desk.
+fn is_done<R: AllocGlobal + Threads + Wait>(
+    rt: &R,
+    case: &Case,
+    desk: &mut MemDesk,
+) -> Result<bool, Fail> {
+    let words = words_in(rt.alloc(), case.words)?;
+    Ok(run(rt, &words, desk, &mut NoGate) == Status::Done)
+}
+
+// The first output that took something else than what is wanted.
+fn another_text(case: &Case, desk: &MemDesk) -> Option<Output> {
+    for (output, wanted) in [
+        (Output::Agent, case.agent),
+        (Output::LinkTime, case.link_time),
+        (Output::Gap, case.gap),
+        (Output::Report, case.report),
+        (Output::Watch, case.watch),
+    ] {
+        if desk.taken(output) != wanted.as_bytes() {
+            return Some(output);
+        }
+    }
+    None
+}
+
 // Each case ends with status 0, and puts what is wanted and nothing else.
 #[test]
 fn worked_cases(rt: HostRuntime) -> Result<(), Fail> {
-    for case in CASES {
+    for case in &CASES {
         let name = case.name;
-        let words = words_in(rt.alloc(), case.words)?;
-        let mut desk = desk_of(
-            rt.alloc(),
-            case.node.as_bytes(),
-            case.link.as_bytes(),
-            case.movement.as_bytes(),
-            case.demand.as_bytes(),
-        )?;
-        let status = run(&rt, &words, &mut desk, &mut NoGate);
-        assert!(rt; status == Status::Done, "{name}: status");
-        for (output, wanted) in [
-            (Output::Agent, case.agent),
-            (Output::LinkTime, case.link_time),
-            (Output::Gap, case.gap),
-            (Output::Report, case.report),
-            (Output::Watch, case.watch),
-        ] {
-            assert!(rt;
-                desk.taken(output) == wanted.as_bytes(),
-                "{name}: {output:?}"
-            );
-        }
+        let mut desk = desk_with(rt.alloc(), case)?;
+        assert!(rt; is_done(&rt, case, &mut desk)?, "{name}");
+        let other = another_text(case, &desk);
+        assert!(rt; other == None, "{name}: {other:?}");
     }
     Ok(())
 }

@@ -1,6 +1,7 @@
 -- The gap of an iteration: how many steps its routes take above the least ones. Routes and least
 -- times are by one table of link times, each from its vehicle's departure.
-use Rattle.std.specs.Prelude.{◌≡◌, ℕ, zero, suc, ◌+◌, ◌*◌, ◌/◌, ◌≤◌, All, Bool, false, is_some, List, length, Option, None, Some, slice_get, sum_by}
+use Rattle.std.specs.Prelude.{◌≡◌, ℕ, zero, suc, ◌+◌, ◌*◌, ◌/◌, ◌≤◌, All, Bool, false, is_some}
+use Rattle.std.specs.Prelude.{List, length, Option, None, Some, slice_get, sum_by}
 use Rattle.net_core.specs.Network.{numbers_below}
 use Rattle.net_core.specs.declared.rows.LinkNo.{LinkNo}
 use Rattle.net_core.specs.declared.rows.NetRows.{NetRows}
@@ -54,7 +55,8 @@ IsLeastOf at net trip (Some route) least =
     IsLeast at net trip.origin trip.destination trip.departure least
 
 -- those of every vehicle
-abbrev pub AreLeasts : (ℕ → ℕ → ℕ) → NetRows → List Trip → List (Option (List LinkNo)) → (ℕ → ℕ) → Type 0
+abbrev pub AreLeasts : (ℕ → ℕ → ℕ) → NetRows → List Trip → List (Option (List LinkNo)) → (ℕ → ℕ)
+    → Type 0
 AreLeasts at net trips routes least =
     (v : ℕ) (trip : Trip) (route : Option (List LinkNo)) → slice_get trips v ≡ Some trip
     → slice_get routes v ≡ Some route → IsLeastOf at net trip route (least v)
@@ -73,11 +75,13 @@ ppm_of gap zero = 0
 ppm_of gap (suc least) = PER_MILLION * gap / suc least
 
 -- the line of an iteration's gap, over the vehicles that have a route
-pub record IsGapLine (at : ℕ → ℕ → ℕ) (net : NetRows) (trips : List Trip) (routes : List (Option (List LinkNo))) (line : GapLine) : Type 0 where
+pub record IsGapLine (at : ℕ → ℕ → ℕ) (net : NetRows) (trips : List Trip)
+    (routes : List (Option (List LinkNo))) (line : GapLine) : Type 0 where
   -- the steps of their routes
   pub by_routes : line.route_steps ≡ over_vehicles (length trips) (route_time at net trips routes)
   -- their least steps
-  pub by_leasts : (least : ℕ → ℕ) × AreLeasts at net trips routes least × (line.least_steps ≡ over_vehicles (length trips) least)
+  pub by_leasts : (least : ℕ → ℕ) × AreLeasts at net trips routes least
+      × (line.least_steps ≡ over_vehicles (length trips) least)
   -- the first less the second, which is no greater
   pub above : line.least_steps + line.gap_steps ≡ line.route_steps
   pub per_million : line.ppm ≡ ppm_of line.gap_steps line.least_steps

@@ -9,6 +9,7 @@ use Rattle.gap.specs.declared.line.GapLine.{GapLine}
 -- routes and a table have one gap
 abbrev pub LinesAreDetermined : Type 0
 LinesAreDetermined =
-    (at : ℕ → ℕ → ℕ) (net : NetRows) (trips : List Trip) (routes : List (Option (List LinkNo))) (a b : GapLine)
+    (at : ℕ → ℕ → ℕ) (net : NetRows) (trips : List Trip) (routes : List (Option (List LinkNo)))
+    (a b : GapLine)
     → length routes ≡ length trips → IsGapLine at net trips routes a
     → IsGapLine at net trips routes b → a ≡ b

@@ -2,7 +2,8 @@
 ghost use Rattle.std.specs.Prelude.{◌≡◌, ◌<◌, ◌≤◌, ◌*◌, ◌^◌, ℕ, List, length, All, Some, IfOk};
 ghost use Rattle.dta_model.specs.LinkTimes.{time_at};
 ghost use Rattle.dta_model.specs.Sound.{AreTrips};
-ghost use Rattle.gap.specs.Gap.{AreWalks, IsGapLine, IsShort, has_route, over_vehicles, ppm_of, route_time, steps_of};
+ghost use Rattle.gap.specs.Gap.{AreWalks, IsGapLine, IsShort, has_route, over_vehicles, ppm_of};
+ghost use Rattle.gap.specs.Gap.{route_time, steps_of};
 ghost use Rattle.gap.specs.Told.{asks_for, least_at, least_in};
 ghost use Rattle.net_core.specs.declared.rows.LinkNo.{LinkNo as LinkOf};
 ghost use Rattle.time_routes.specs.Destinations.{AreTold, LeastOf};
@@ -22,7 +23,8 @@ const PER_MILLION: u128 = 1_000_000;
 fn route_steps(net: &Net, times: &LinkTimes, trip: &Trip, route: &Option<Route>) -> u128
     requires table { length times.now.free ≡ length net.now.links }
     requires short { IsShort times.now }
-    requires links { (links : List LinkOf) → route.now ≡ Some links → All (λ l. l.0 < length net.now.links) links }
+    requires links { (links : List LinkOf) → route.now ≡ Some links
+        → All (λ l. l.0 < length net.now.links) links }
     ensures is { result ≡ steps_of (time_at times.now) net.now (Some trip.now) (Some route.now) }
     ensures low { result < 2 ^ 82 }
 {
@@ -39,7 +41,8 @@ fn all_route_steps(net: &Net, times: &LinkTimes, trips: &[Trip], routes: &[Optio
     requires few { length trips.now ≤ MOST_TRIPS }
     requires each { length routes.now ≡ length trips.now }
     requires walks { AreWalks net.now trips.now routes.now }
-    ensures is { result ≡ over_vehicles (length trips.now) (route_time (time_at times.now) net.now trips.now routes.now) }
+    ensures is { result ≡ over_vehicles (length trips.now)
+        (route_time (time_at times.now) net.now trips.now routes.now) }
     ensures low { result ≤ length trips.now * 2 ^ 82 }
 {
     let mut total: u128 = 0;
@@ -98,7 +101,8 @@ pub fn gap_line(
     requires few { length trips.now ≤ MOST_TRIPS }
     requires each { length routes.now ≡ length trips.now }
     requires walks { AreWalks net.now trips.now routes.now }
-    requires told { AreTold (LeastOf (time_at times.now) net.now) (has_route routes.now) trips.now told.now }
+    requires told { AreTold (LeastOf (time_at times.now) net.now) (has_route routes.now) trips.now
+        told.now }
     ensures { IsGapLine (time_at times.now) net.now trips.now routes.now result }
 {
     let routes = routes.as_slice();

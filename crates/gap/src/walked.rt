@@ -45,7 +45,8 @@ fn arrival(net: &Net, times: &LinkTimes, start: u32, first: LinkNo, others: &[Li
     requires short { IsShort times.now }
     requires first { first.0 < length net.now.links }
     requires others { All (λ l. l.0 < length net.now.links) others.now }
-    ensures is { result ≡ arrival_after (time_at times.now) net.now start first.0 (link_numbers others.now) }
+    ensures is { result ≡ arrival_after (time_at times.now) net.now start first.0
+        (link_numbers others.now) }
     ensures later { start ≤ result }
     ensures soon { result ≤ start + (length others.now + 1) * most_of_a_link }
 {

@@ -1,7 +1,9 @@
 -- Small worked cases: what a board shows, and what is a beginning of what.
 use Rattle.std.specs.Prelude.{◌≡◌, ℕ, List, [], ◌∷◌, refl}
+use Rattle.std.proofs.Common.{inr}
+use Rattle.dta_model.specs.State.{no_vehicles}
 use Rattle.dta_model.specs.declared.eight.Eight.{Eight}
-use Rattle.monitors.specs.Posted.{zeros, last_of, IsPrefix}
+use Rattle.monitors.specs.Posted.{zeros, last_of, IsPrefix, OneIsPrefix}
 use Rattle.monitors.specs.Words.{words_of, eight_of}
 
 -- after so many steps one vehicle runs on the first link
@@ -14,6 +16,11 @@ running_after steps = record {
   first = 1 ∷ 0 ∷ 0 ∷ 0 ∷ [];
 }
 
+-- zeros are the state before the first step of every loading
+as_before_the_first_step : zeros ≡ no_vehicles
+unfolding no_vehicles
+as_before_the_first_step = refl
+
 before_the_first : last_of [] ≡ zeros
 before_the_first = refl
 
@@ -25,6 +32,9 @@ first_of_two = (running_after 2 ∷ [], refl)
 
 none_of_two : IsPrefix [] (running_after 1 ∷ running_after 2 ∷ [])
 none_of_two = (running_after 1 ∷ running_after 2 ∷ [], refl)
+
+either_way : OneIsPrefix (running_after 1 ∷ running_after 2 ∷ []) (running_after 1 ∷ [])
+either_way = inr first_of_two
 
 in_words : words_of (running_after 3) ≡ 3 ∷ 0 ∷ 1 ∷ 0 ∷ 1 ∷ 0 ∷ 0 ∷ 0 ∷ []
 in_words = refl

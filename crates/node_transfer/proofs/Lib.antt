@@ -19,6 +19,7 @@ pub mod Transfer
 pub mod Gather
 pub mod Totals
 pub mod AddUp
+pub mod TwoStages
 pub mod Starts
 pub mod Opened
 pub mod Counts

@@ -56,7 +56,12 @@ impl Model for NodeCell {
 
     ghost Value = { CellState };
 
-    ghost view = { λ c. record { ins = c.parts.value.ins.items; outs = c.parts.value.outs.items; arrived = c.parts.value.arrived; delta = c.parts.value.delta } };
+    ghost view = { λ c. record {
+      ins = c.parts.value.ins.items;
+      outs = c.parts.value.outs.items;
+      arrived = c.parts.value.arrived;
+      delta = c.parts.value.delta;
+    } };
 
     ghost invariant = { λ c. c.parts.value.delta ≤ MOST_STEP };
 }
@@ -70,7 +75,8 @@ impl NodeCell {
         delta: u32,
     ) -> Result<Self, Memory>
         requires { delta ≤ MOST_STEP }
-        ensures { IfOk result (λ cell. cell ≡ record { ins = ins.items; outs = outs.items; arrived = []; delta = delta }) }
+        ensures { IfOk result
+            (λ cell. cell ≡ record { ins = ins.items; outs = outs.items; arrived = []; delta = delta }) }
     {
         let arrived = Line::new(alloc);
         let parts = Box::new(
@@ -85,20 +91,25 @@ impl NodeCell {
         Ok(NodeCell { parts })
     }
 
-    /// Moves the vehicles of a step. The mail of each out-link is the room of that step, and becomes the batch of it.
+    /// Moves the vehicles of a step. The mail of each out-link is the room of that step, and becomes
+    /// the batch of it.
     pub fn transfer(&mut self, step: u32)
-        requires { (p : Plan) × (n : ℕ) × IsStep p n step × (self.old ≡ cell_before p n step away (room_of p step)) }
-        ensures { (p : Plan) (n : ℕ) → IsStep p n step → self.old ≡ cell_before p n step away (room_of p step)
+        requires { (p : Plan) × (n : ℕ) × IsStep p n step
+            × (self.old ≡ cell_before p n step away (room_of p step)) }
+        ensures { (p : Plan) (n : ℕ) → IsStep p n step
+            → self.old ≡ cell_before p n step away (room_of p step)
             → self.new ≡ cell_after p n step away (batch_of p step) }
     {
         self.pass_vehicles(step);
     }
 
-    /// Puts those who come in a step last on their links. The mail of each in-link is the batch of that step, and becomes the room
-    /// of the next one.
+    /// Puts those who come in a step last on their links. The mail of each in-link is the batch of
+    /// that step, and becomes the room of the next one.
     pub fn gather(&mut self, step: u32)
-        requires { (p : Plan) × (n : ℕ) × IsStep p n step × (self.old ≡ cell_after p n step (batch_of p step) away) }
-        ensures { (p : Plan) (n : ℕ) → IsStep p n step → self.old ≡ cell_after p n step (batch_of p step) away
+        requires { (p : Plan) × (n : ℕ) × IsStep p n step
+            × (self.old ≡ cell_after p n step (batch_of p step) away) }
+        ensures { (p : Plan) (n : ℕ) → IsStep p n step
+            → self.old ≡ cell_after p n step (batch_of p step) away
             → self.new ≡ cell_before p n (suc step) (room_of p (suc step)) away }
     {
         self.join_batches(step);
@@ -112,8 +123,9 @@ impl NodeCell {
         rest_links(&mut parts.ins, &mut parts.outs, parts.delta, steps);
     }
 
-    /// The first step in which somebody of the cell is ready, unless somebody comes: the head of an in-link has been on it for long
-    /// enough, or one who waits is due. It is [`NO_STEP`] where nobody ever is.
+    /// The first step in which somebody of the cell is ready, unless somebody comes: the head of an
+    /// in-link has been on it for long enough, or one who waits is due. It is [`NO_STEP`] where nobody
+    /// ever is.
     pub fn next_step(&self) -> u32
         ensures quiet { (step : ℕ) → step < result → IsQuiet step self.now }
         ensures least { result < NO_STEP → IsQuiet result self.now → ⊥ }
@@ -187,7 +199,8 @@ impl NodeCell {
         requires { place < length self.now.ins }
         ensures line { IfSome (slice_get self.now.ins place) (λ link. result ≡ length link.line) }
         // before the transfer of step t it is the number of the vehicles on that link after t steps
-        ensures count { (p : Plan) (n t l : ℕ) → self.now ≡ cell_before p n t away away → slice_get (ins p n) place ≡ Some l
+        ensures count { (p : Plan) (n t l : ℕ)
+            → self.now ≡ cell_before p n t away away → slice_get (ins p n) place ≡ Some l
             → result ≡ count_on (trace_after p t) l }
     {
         self.line_length(place)
@@ -201,10 +214,12 @@ impl NodeCell {
         self.parts.ins[place].line.len() as u64
     }
 
-    /// How many vehicles wait for the out-links and are due, how many are on the in-links, and how many have arrived, where the cell
-    /// is before the transfer of step `steps`. It looks at each link once, and at no vehicle.
+    /// How many vehicles wait for the out-links and are due, how many are on the in-links, and how many
+    /// have arrived, where the cell is before the transfer of step `steps`. It looks at each link once,
+    /// and at no vehicle.
     pub fn counts(&self, steps: u32) -> CellCounts
-        ensures { (p : Plan) (n : ℕ) → IsSound p → n < length p.net.nodes → self.now ≡ cell_before p n steps away away
+        ensures { (p : Plan) (n : ℕ) → IsSound p → n < length p.net.nodes
+            → self.now ≡ cell_before p n steps away away
             → result ≡ counts_at p n steps }
     {
         self.count_vehicles()

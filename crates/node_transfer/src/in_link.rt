@@ -28,8 +28,10 @@ pub fn pass_link(link: &mut InLink, outs: &mut [OutLink], arrived: &mut Line, de
     ensures kept { CanPass link.new.line outs.new arrived.new }
     ensures links { out_links outs.new ≡ out_links outs.old }
     ensures waits { waitings outs.new ≡ waitings outs.old }
-    ensures total { total link.new.line outs.new arrived.new ≤ total link.old.line outs.old arrived.old }
-    ensures done { passed_link delta step link.old outs.old arrived.old ≡ record { link = link.new; outs = outs.new; arrived = arrived.new } }
+    ensures total { total link.new.line outs.new arrived.new
+        ≤ total link.old.line outs.old arrived.old }
+    ensures done { passed_link delta step link.old outs.old arrived.old
+        ≡ record { link = link.new; outs = outs.new; arrived = arrived.new } }
 {
     open_exit(&mut link.exit, delta);
     pass(&mut link.line, &mut link.exit, outs, arrived, step);
@@ -49,9 +51,11 @@ pub fn pass_links(
     ensures kept { CanCross ins.new outs.new arrived.new }
     ensures links { out_links outs.new ≡ out_links outs.old }
     ensures waits { waitings outs.new ≡ waitings outs.old }
-    ensures total { cell_total ins.new outs.new arrived.new ≤ cell_total ins.old outs.old arrived.old }
+    ensures total { cell_total ins.new outs.new arrived.new
+        ≤ cell_total ins.old outs.old arrived.old }
     ensures count { length ins.new ≡ length ins.old }
-    ensures done { passed_links delta step ins.old outs.old arrived.old ≡ record { ins = ins.new; outs = outs.new; arrived = arrived.new } }
+    ensures done { passed_links delta step ins.old outs.old arrived.old
+        ≡ record { ins = ins.new; outs = outs.new; arrived = arrived.new } }
 {
     for i in 0..ins.len() {
         pass_link(&mut ins[i], outs, arrived, delta, step);
@@ -73,7 +77,8 @@ pub fn pass_rotated(
     ensures links { out_links outs.new ≡ out_links outs.old }
     ensures waits { waitings outs.new ≡ waitings outs.old }
     ensures fits { length arrived.new + sum_by held outs.new ≤ MOST_RIDERS }
-    ensures done { passed_rotated delta step start ins.old outs.old arrived.old ≡ record { ins = ins.new; outs = outs.new; arrived = arrived.new } }
+    ensures done { passed_rotated delta step start ins.old outs.old arrived.old
+        ≡ record { ins = ins.new; outs = outs.new; arrived = arrived.new } }
 {
     let (front, back) = ins.split_at_mut(start);
     pass_links(back, outs, arrived, delta, step);

@@ -1,11 +1,16 @@
 // Laws of the contents of cells. Each is the contract of a function that does nothing.
 ghost use Rattle.node_transfer.specs.Counts.{CountsAddUp};
-ghost use Rattle.node_transfer.specs.Laws.{CellsGather, CellsHandOver, CellsHoldAll, MailGoesByLinks};
+ghost use Rattle.node_transfer.specs.Laws.{CellsGather, CellsHandOver, CellsHoldAll, MailGoesByLinks, StepsHaveTwoStages};
 ghost use Rattle.node_transfer.specs.Rest.{QuietNodesStayIdle};
 
 /// A mail that is put into the place of a link is the mail of that link.
 pub fn mail_goes_by_links()
     ensures { MailGoesByLinks }
+{}
+
+/// Stage 2 t of a cell or a mail is before the transfers of step t, and stage 2 t + 1 after them.
+pub fn steps_have_two_stages()
+    ensures { StepsHaveTwoStages }
 {}
 
 /// All cells together hold the vehicles that have routes, each once and as the trace makes it.
@@ -24,13 +29,14 @@ pub fn cells_hand_over()
     ensures { CellsHandOver }
 {}
 
-/// At a node where nobody is ready nobody moves, and where nobody comes either, its cell only rests.
+/// At a node where nobody is ready nobody moves, and where nobody comes either, its cell only
+/// rests.
 pub fn quiet_nodes_stay_idle()
     ensures { QuietNodesStayIdle }
 {}
 
-/// The counts of all cells after a number of steps add up to those of the loading: who waits and is due,
-/// who is on a link, and who has arrived.
+/// The counts of all cells after a number of steps add up to those of the loading: who waits and is
+/// due, who is on a link, and who has arrived.
 pub fn counts_add_up()
     ensures { CountsAddUp }
 {}

@@ -32,7 +32,7 @@ pub use cell::{CellCounts, NodeCell};
 pub use hand_over::hand_over_all;
 pub use laws::{
     cells_gather, cells_hand_over, cells_hold_all, counts_add_up, mail_goes_by_links,
-    quiet_nodes_stay_idle,
+    quiet_nodes_stay_idle, steps_have_two_stages,
 };
 pub use lists::{Cells, Mails, Opening};
 pub use mail::Mail;

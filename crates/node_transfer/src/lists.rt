@@ -82,8 +82,8 @@ impl Mails {
     }
 }
 
-/// The parts of a loading at the start of step 0: the cell of each node, the mail of each link, and for each vehicle a journey without
-/// entries and arrival.
+/// The parts of a loading at the start of step 0: the cell of each node, the mail of each link, and
+/// for each vehicle a journey without entries and arrival.
 #[derive(Drop)]
 pub struct Opening {
     pub cells: Cells,

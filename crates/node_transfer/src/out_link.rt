@@ -47,7 +47,8 @@ pub fn release_one(later: &mut Line, due: &mut Line, step: u32) -> bool
     ensures kept { length later.new + length due.new ≡ length later.old + length due.old }
     ensures goes { released step later.old due.old ≡ released step later.new due.new }
     ensures shorter { IsTrue result → length later.new + 1 ≡ length later.old }
-    ensures done { result ≡ false → released step later.new due.new ≡ record { later = later.new; due = due.new } }
+    ensures done { result ≡ false → released step later.new due.new
+        ≡ record { later = later.new; due = due.new } }
 {
     let is_due = match later.front() {
         None => return false,
@@ -99,9 +100,11 @@ pub fn admit_one(due: &mut Line, batch: &mut Line, meter: &mut Meter, step: u32)
     requires under_way { All (λ r. r.arrival ≡ None) due.old }
     ensures kept { length due.new + length batch.new ≡ length due.old + length batch.old }
     ensures still { All (λ r. r.arrival ≡ None) due.new }
-    ensures goes { admitted step due.old batch.old meter.old ≡ admitted step due.new batch.new meter.new }
+    ensures goes { admitted step due.old batch.old meter.old
+        ≡ admitted step due.new batch.new meter.new }
     ensures shorter { IsTrue result → length due.new + 1 ≡ length due.old }
-    ensures done { result ≡ false → admitted step due.new batch.new meter.new ≡ record { due = due.new; batch = batch.new; meter = meter.new } }
+    ensures done { result ≡ false → admitted step due.new batch.new meter.new
+        ≡ record { due = due.new; batch = batch.new; meter = meter.new } }
 {
     if due.len() > 0 && meter.left() > 0 {
         due.move_front_to(batch, step);
@@ -116,7 +119,8 @@ pub fn admit_one(due: &mut Line, batch: &mut Line, meter: &mut Meter, step: u32)
 pub fn admit(due: &mut Line, batch: &mut Line, meter: &mut Meter, step: u32)
     requires fits { length due.old + length batch.old ≤ MOST_RIDERS }
     requires under_way { All (λ r. r.arrival ≡ None) due.old }
-    ensures { admitted step due.old batch.old meter.old ≡ record { due = due.new; batch = batch.new; meter = meter.new } }
+    ensures { admitted step due.old batch.old meter.old
+        ≡ record { due = due.new; batch = batch.new; meter = meter.new } }
 {
     while admit_one(due, batch, meter, step) {}
 }

@@ -10,8 +10,8 @@ use crate::turn::{LimitedTurns, has_pass};
 use fixed_units::MOST_STEP;
 use link_queues::{Line, MOST_RIDERS, Rider};
 
-/// How vehicles leave an in-link: after how many steps, at which rate, and by which turns that have a
-/// penalty or a limit.
+/// How vehicles leave an in-link: after how many steps, at which rate, and by which turns that have
+/// a penalty or a limit.
 #[derive(Drop)]
 pub struct Exit {
     pub free: u32,
@@ -44,7 +44,8 @@ pub fn close_exit(exit: &mut Exit)
     exit.turns.close();
 }
 
-/// Whether a rider that is ready at a step may take the turn at a place into the out-link at a place.
+/// Whether a rider that is ready at a step may take the turn at a place into the out-link at a
+/// place.
 pub fn may_enter(
     turns: &LimitedTurns,
     outs: &[OutLink],
@@ -77,7 +78,9 @@ pub fn judge(rider: &Rider, exit: &Exit, outs: &[OutLink], step: u32) -> Verdict
     requires { Rides (out_links outs.now) rider.now }
     ensures value { result ≡ verdict step exit.now outs.now rider.now }
     ensures arrives { result ≡ Verdict.Arrives → 0 < exit.now.outflow.left }
-    ensures enters { (p k : ℕ) → result ≡ Verdict.Enters p k → (0 < exit.now.outflow.left) × (out_open (slice_get outs.now p) ≡ true) × (turn_open (slice_get exit.now.turns k) ≡ true) }
+    ensures enters { (p k : ℕ) → result ≡ Verdict.Enters p k
+        → (0 < exit.now.outflow.left) × (out_open (slice_get outs.now p) ≡ true)
+        × (turn_open (slice_get exit.now.turns k) ≡ true) }
 {
     let ready = match rider.last_entry() {
         Some(entry) => entry as u64 + exit.free as u64,
@@ -131,7 +134,8 @@ pub fn enter_at(line: &mut Line, outs: &mut [OutLink], place: usize, step: u32)
     requires open { out_open (slice_get outs.old place) ≡ true }
     requires fits { IfSome (slice_get outs.old place) (λ o. length o.batch < MOST_RIDERS) }
     ensures rest { line.new ≡ drop 1 line.old }
-    ensures entered { IfSome (slice_get line.old 0) (λ r. outs.new ≡ entered_at place step r outs.old) }
+    ensures entered { IfSome (slice_get line.old 0)
+        (λ r. outs.new ≡ entered_at place step r outs.old) }
 {
     let out = &mut outs[place];
     line.move_front_to(&mut out.batch, step);
@@ -152,9 +156,11 @@ pub fn advance(
     ensures links { out_links outs.new ≡ out_links outs.old }
     ensures waits { waitings outs.new ≡ waitings outs.old }
     ensures total { total line.new outs.new arrived.new ≤ total line.old outs.old arrived.old }
-    ensures goes { passed step line.old exit.old outs.old arrived.old ≡ passed step line.new exit.new outs.new arrived.new }
+    ensures goes { passed step line.old exit.old outs.old arrived.old
+        ≡ passed step line.new exit.new outs.new arrived.new }
     ensures shorter { IsTrue result → length line.new + 1 ≡ length line.old }
-    ensures done { result ≡ false → passed step line.new exit.new outs.new arrived.new ≡ record { line = line.new; exit = exit.new; outs = outs.new; arrived = arrived.new } }
+    ensures done { result ≡ false → passed step line.new exit.new outs.new arrived.new
+        ≡ record { line = line.new; exit = exit.new; outs = outs.new; arrived = arrived.new } }
 {
     let what = match line.front() {
         None => return false,
@@ -182,7 +188,8 @@ pub fn pass(line: &mut Line, exit: &mut Exit, outs: &mut [OutLink], arrived: &mu
     ensures links { out_links outs.new ≡ out_links outs.old }
     ensures waits { waitings outs.new ≡ waitings outs.old }
     ensures total { total line.new outs.new arrived.new ≤ total line.old outs.old arrived.old }
-    ensures done { passed step line.old exit.old outs.old arrived.old ≡ record { line = line.new; exit = exit.new; outs = outs.new; arrived = arrived.new } }
+    ensures done { passed step line.old exit.old outs.old arrived.old
+        ≡ record { line = line.new; exit = exit.new; outs = outs.new; arrived = arrived.new } }
 {
     while advance(line, exit, outs, arrived, step) {}
 }

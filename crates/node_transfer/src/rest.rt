@@ -64,10 +64,12 @@ fn rest_outs(outs: &mut [OutLink], delta: u32, steps: u32)
     }
 }
 
-/// Lets so many steps go by in which nobody moves. It looks at each limit once, however many steps there are.
+/// Lets so many steps go by in which nobody moves. It looks at each limit once, however many steps
+/// there are.
 pub fn rest_links(ins: &mut [InLink], outs: &mut [OutLink], delta: u32, steps: u32)
     requires { delta ≤ MOST_STEP }
-    ensures { (arrived : List RiderState) → rested steps (record { ins = ins.old; outs = outs.old; arrived = arrived; delta = delta })
+    ensures { (arrived : List RiderState)
+        → rested steps (record { ins = ins.old; outs = outs.old; arrived = arrived; delta = delta })
         ≡ record { ins = ins.new; outs = outs.new; arrived = arrived; delta = delta } }
 {
     if steps > 0 {
@@ -128,11 +130,13 @@ fn first_due(outs: &[OutLink]) -> u32
     first
 }
 
-/// The first step in which a head of the in-links is ready, or one who waits for the out-links is due. It looks at each link once.
+/// The first step in which a head of the in-links is ready, or one who waits for the out-links is
+/// due. It looks at each link once.
 pub fn first_step(ins: &[InLink], outs: &[OutLink]) -> u32
     ensures heads { (step : ℕ) → step < result → All (HeadIsLater step) ins.now }
     ensures waits { (step : ℕ) → step < result → All (WaitLater step) outs.now }
-    ensures least { result < NO_STEP → All (HeadIsLater result) ins.now → All (WaitLater result) outs.now → ⊥ }
+    ensures least { result < NO_STEP → All (HeadIsLater result) ins.now
+        → All (WaitLater result) outs.now → ⊥ }
 {
     first_ready(ins).min(first_due(outs))
 }

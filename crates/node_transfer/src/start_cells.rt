@@ -29,7 +29,10 @@ pub fn start_cells(
 ) -> Result<Vec<NodeCell>, Memory>
     requires sound { IsSound (plan_of loading.now) }
     requires lines { length lines.old ≡ length loading.now.net.now.links }
-    ensures { IfOk result (λ cells. cells.items ≡ taken_cells (plan_of loading.now) lines.old (numbers_below (length loading.now.net.now.nodes))) }
+    ensures { IfOk result
+        (λ cells. cells.items
+        ≡ taken_cells (plan_of loading.now) lines.old
+        (numbers_below (length loading.now.net.now.nodes))) }
 {
     let mut cells = Vec::new(alloc);
     for n in 0..loading.net.node_count() {
@@ -53,7 +56,8 @@ fn start_cell(
     requires node { node.0 < length loading.now.net.now.nodes }
     requires lines { length lines.old ≡ length loading.now.net.now.links }
     ensures cell { IfOk result (λ cell. cell ≡ taken_cell (plan_of loading.now) lines.old node.0) }
-    ensures left { OnOk result (lines.new ≡ lines_left lines.old (outs_of (plan_of loading.now) node.0)) }
+    ensures left { OnOk result (lines.new
+        ≡ lines_left lines.old (outs_of (plan_of loading.now) node.0)) }
     ensures count { length lines.new ≡ length lines.old }
 {
     let outs = loading.net.outs(node);
@@ -74,7 +78,9 @@ fn start_outs(
     requires sound { IsSound (plan_of loading.now) }
     requires links { All (λ l. l.0 < length loading.now.net.now.links) outs.now }
     requires lines { length lines.old ≡ length loading.now.net.now.links }
-    ensures taken { IfOk result (λ out_links. out_links.items ≡ taken_outs (plan_of loading.now) lines.old (link_numbers outs.now)) }
+    ensures taken { IfOk result
+        (λ out_links. out_links.items
+        ≡ taken_outs (plan_of loading.now) lines.old (link_numbers outs.now)) }
     ensures left { OnOk result (lines.new ≡ lines_left lines.old (link_numbers outs.now)) }
     ensures count { length lines.new ≡ length lines.old }
 {
@@ -109,7 +115,9 @@ fn start_ins(
     requires sound { IsSound (plan_of loading.now) }
     requires ins { All (λ l. l.0 < length loading.now.net.now.links) ins.now }
     requires outs { All (λ l. l.0 < length loading.now.net.now.links) outs.now }
-    ensures { IfOk result (λ in_links. in_links.items ≡ map (start_in (plan_of loading.now) (link_numbers outs.now)) (link_numbers ins.now)) }
+    ensures { IfOk result
+        (λ in_links. in_links.items
+        ≡ map (start_in (plan_of loading.now) (link_numbers outs.now)) (link_numbers ins.now)) }
 {
     let mut in_links = Vec::new(alloc);
     for i in 0..ins.len() {
@@ -133,7 +141,8 @@ fn start_in_link(
     requires sound { IsSound (plan_of loading.now) }
     requires link { link.0 < length loading.now.net.now.links }
     requires outs { All (λ l. l.0 < length loading.now.net.now.links) outs.now }
-    ensures { IfOk result (λ in_link. in_link ≡ start_in (plan_of loading.now) (link_numbers outs.now) link.0) }
+    ensures { IfOk result
+        (λ in_link. in_link ≡ start_in (plan_of loading.now) (link_numbers outs.now) link.0) }
 {
     let row = loading.net.link(link);
     let outflow = start_meter(loading, link);
@@ -150,7 +159,8 @@ fn start_in_link(
     })
 }
 
-// The turns of an in-link that have a penalty or a limit. Where its node lists no turn, each is free.
+// The turns of an in-link that have a penalty or a limit. Where its node lists no turn, each is
+// free.
 #[tactic(auto, using(crate::proofs::Starts::start_steps, crate::proofs::Starts::ends_there))]
 fn start_turns(
     alloc: Global,
@@ -161,7 +171,8 @@ fn start_turns(
     requires sound { IsSound (plan_of loading.now) }
     requires link { link.0 < length loading.now.net.now.links }
     requires outs { All (λ l. l.0 < length loading.now.net.now.links) outs.now }
-    ensures { IfOk result (λ turns. turns ≡ turns_at_start (plan_of loading.now) link.0 (link_numbers outs.now)) }
+    ensures { IfOk result
+        (λ turns. turns ≡ turns_at_start (plan_of loading.now) link.0 (link_numbers outs.now)) }
 {
     let mut list = Vec::new(alloc);
     let node = loading.net.link(link).to;

@@ -12,7 +12,8 @@ use link_queues::{Line, MOST_RIDERS, Rider};
 use net_core::Memory;
 use std::alloc::{AllocError, Global};
 
-/// The waiting line of each link before the first step: the vehicles whose routes begin there, in order of number.
+/// The waiting line of each link before the first step: the vehicles whose routes begin there, in
+/// order of number.
 pub fn waiting_lines(alloc: Global, loading: &Loading) -> Result<Vec<Line>, Memory>
     requires { IsSound (plan_of loading.now) }
     ensures { IfOk result (λ lines. lines.items ≡ lines_at_start (plan_of loading.now)) }
@@ -62,7 +63,8 @@ fn put_rider(
 ) -> Result<(), Memory>
     requires links { All (λ l. l < length lines.old) (link_numbers route.now) }
     requires fits { All (λ line. length line < MOST_RIDERS) lines.old }
-    ensures { OnOk result (lines.new ≡ put_last (setting_out number departure (link_numbers route.now)) lines.old) }
+    ensures { OnOk result (lines.new
+        ≡ put_last (setting_out number departure (link_numbers route.now)) lines.old) }
 {
     match route.as_slice().first() {
         None => Ok(()),

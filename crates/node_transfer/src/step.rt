@@ -17,8 +17,11 @@ pub fn step_links(
     step: u32,
 )
     requires delta { delta ≤ MOST_STEP }
-    requires can { CanTransfer (record { ins = ins.old; outs = outs.old; arrived = arrived.old; delta = delta }) }
-    ensures { transferred step (record { ins = ins.old; outs = outs.old; arrived = arrived.old; delta = delta }) ≡ record { ins = ins.new; outs = outs.new; arrived = arrived.new; delta = delta } }
+    requires can { CanTransfer
+        (record { ins = ins.old; outs = outs.old; arrived = arrived.old; delta = delta }) }
+    ensures { transferred step
+        (record { ins = ins.old; outs = outs.old; arrived = arrived.old; delta = delta })
+        ≡ record { ins = ins.new; outs = outs.new; arrived = arrived.new; delta = delta } }
 {
     open_outs(outs, delta, step);
     let start = start_place(step, ins.len());

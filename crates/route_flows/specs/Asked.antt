@@ -1,5 +1,6 @@
 -- What is asked before routes change, and how old routes are kept.
-use Rattle.std.specs.Prelude.{◌≡◌, ℕ, ◌<◌, ◌&&◌, Bool, true, false, List, length, Option, Some, slice_get}
+use Rattle.std.specs.Prelude.{◌≡◌, ℕ, ◌<◌, ◌&&◌, Bool, true, false, List, length, Option, Some}
+use Rattle.std.specs.Prelude.{slice_get}
 use Rattle.net_core.specs.declared.rows.LinkNo.{LinkNo}
 use Rattle.gap.specs.Gap.{has_route}
 use Rattle.route_flows.specs.Averages.{is_selected}
@@ -7,13 +8,16 @@ use Rattle.time_routes.specs.declared.reading.tell.Ask.{Ask}
 
 -- the walks of the first vehicles that are selected are asked for, and the least times of those
 -- that have routes, if these are wanted
-pub record AreAsked (least : Bool) (k : ℕ) (routes : List (Option (List LinkNo))) (count : ℕ) (asks : List Ask) : Type 0 where
+pub record AreAsked (least : Bool) (k : ℕ) (routes : List (Option (List LinkNo))) (count : ℕ)
+    (asks : List Ask) : Type 0 where
   pub as_many : length asks ≡ count
-  pub each : (v : ℕ) → v < count → slice_get asks v ≡ Some (record { least = least && has_route routes v; walk = is_selected v k })
+  pub each : (v : ℕ) → v < count → slice_get asks v
+      ≡ Some (record { least = least && has_route routes v; walk = is_selected v k })
 
 -- of the first vehicles those that aren't selected have their old routes, and all others what was
 -- there
-pub record Keeps (k : ℕ) (old : List (Option (List LinkNo))) (count : ℕ) (walks new : List (Option (List LinkNo))) : Type 0 where
+pub record Keeps (k : ℕ) (old : List (Option (List LinkNo))) (count : ℕ)
+    (walks new : List (Option (List LinkNo))) : Type 0 where
   pub as_many : length new ≡ length walks
   pub others : (v : ℕ) → v < count → is_selected v k ≡ false → slice_get new v ≡ slice_get old v
   pub selected : (v : ℕ) → is_selected v k ≡ true → slice_get new v ≡ slice_get walks v

@@ -14,5 +14,6 @@ ChosenAreDetermined =
 -- and the routes of an iteration have one list of next ones
 abbrev pub NextAreDetermined : Type 0
 NextAreDetermined =
-    (at : ℕ → ℕ → ℕ) (net : NetRows) (trips : List Trip) (k : ℕ) (old a b : List (Option (List LinkNo)))
+    (at : ℕ → ℕ → ℕ) (net : NetRows) (trips : List Trip) (k : ℕ)
+    (old a b : List (Option (List LinkNo)))
     → AreNextRoutes at net trips k old a → AreNextRoutes at net trips k old b → a ≡ b

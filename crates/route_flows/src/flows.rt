@@ -34,7 +34,9 @@ pub fn first_routes<R: AllocGlobal + Threads>(
     requires workers_least { 1 ≤ workers }
     requires workers_most { workers ≤ MOST_WORKERS }
     ensures first { IfOk result (AreFirstRoutes net.now trips.now) }
-    ensures table { (bucket : ℕ) → 1 ≤ bucket → IfOk result (AreChosenRoutes (time_at (free_table net.now bucket horizon)) net.now trips.now) }
+    ensures table { (bucket : ℕ) → 1 ≤ bucket
+        → IfOk result (AreChosenRoutes (time_at (free_table net.now bucket horizon)) net.now
+        trips.now) }
     ensures walks { IfOk result (AreWalks net.now trips.now) }
 {
     let alloc = rt.alloc();
@@ -98,8 +100,10 @@ pub fn gap_and_next_routes<R: AllocGlobal + Threads>(
     requires k_most { k ≤ MOST_ITERATION }
     requires workers_least { 1 ≤ workers }
     requires workers_most { workers ≤ MOST_WORKERS }
-    ensures gap { IfOk result (λ r. IsGapLine (time_at times.now) net.now trips.now routes.now r.0) }
-    ensures next { IfOk result (λ r. AreNextRoutes (time_at times.now) net.now trips.now k routes.now r.1) }
+    ensures gap { IfOk result (λ r. IsGapLine (time_at times.now) net.now trips.now routes.now
+        r.0) }
+    ensures next { IfOk result (λ r. AreNextRoutes (time_at times.now) net.now trips.now k
+        routes.now r.1) }
     ensures walks { IfOk result (λ r. AreWalks net.now trips.now r.1) }
 {
     let alloc = rt.alloc();

@@ -1,5 +1,6 @@
 // Old routes that are kept.
-ghost use Rattle.std.specs.Prelude.{◌≡◌, ◌<◌, ◌≤◌, length, cond, get_or, slice_set, None, IfOk, OnOk};
+ghost use Rattle.std.specs.Prelude.{◌≡◌, ◌<◌, ◌≤◌, length, cond, get_or, slice_set, None, IfOk};
+ghost use Rattle.std.specs.Prelude.{OnOk};
 ghost use Rattle.dta_model.specs.declared.trip.TheConstants.{MOST_TRIPS};
 ghost use Rattle.route_flows.specs.Asked.{Keeps};
 ghost use Rattle.route_flows.specs.Averages.{is_selected as selected_of};
@@ -31,7 +32,8 @@ fn keep(
     requires k { k ≤ MOST_ITERATION }
     requires vehicle { vehicle < length old.now }
     requires each { length walks.old.items ≡ length old.now }
-    ensures { OnOk result (walks.new.items ≡ cond (selected_of vehicle k) walks.old.items (slice_set walks.old.items vehicle (get_or old.now vehicle None))) }
+    ensures { OnOk result (walks.new.items ≡ cond (selected_of vehicle k) walks.old.items
+        (slice_set walks.old.items vehicle (get_or old.now vehicle None))) }
 {
     if !is_selected(vehicle, k) {
         walks[vehicle as usize] = copied(alloc, &old[vehicle as usize])?;

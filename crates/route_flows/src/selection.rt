@@ -53,7 +53,8 @@ pub(crate) fn asks_of(
 
 /// The walks of so many vehicles.
 pub(crate) fn all_walks(alloc: Global, count: usize) -> Result<Vec<Ask>, Memory>
-    ensures { IfOk result (λ asks. asks.items ≡ replicate count (record { least = false; walk = true })) }
+    ensures { IfOk result (λ asks. asks.items
+        ≡ replicate count (record { least = false; walk = true })) }
 {
     let mut asks = Vec::new(alloc);
     for _ in 0..count {

@@ -29,7 +29,18 @@ struct Case<'a> {
 
 // Whether two iterations of sixty steps of six seconds are as they are wanted.
 fn shows<R: AllocGlobal + Threads>(rt: &R, case: &Case) -> Result<bool, Fail>
-    requires { IsSound (record { net = record { nodes = case.now.nodes.now; links = case.now.links.now; turns = [] }; queue = queue.Point; delta = 6; horizon = 60; trips = case.now.trips.now; routes = map (λ trip. None) case.now.trips.now }) }
+    requires { IsSound (record {
+      net = record {
+        nodes = case.now.nodes.now;
+        links = case.now.links.now;
+        turns = [];
+      };
+      queue = queue.Point;
+      delta = 6;
+      horizon = 60;
+      trips = case.now.trips.now;
+      routes = map (λ trip. None) case.now.trips.now;
+    }) }
 {
     let alloc = rt.alloc();
     let net = Net::of(
@@ -54,8 +65,23 @@ fn shows<R: AllocGlobal + Threads>(rt: &R, case: &Case) -> Result<bool, Fail>
 
 // The link times of the plain loading over these routes.
 fn times_of(alloc: Global, net: &Net, trips: &[Trip], routes: &Routes) -> Result<LinkTimes, Memory>
-    requires { IsSound (record { net = net.now; queue = queue.Point; delta = 6; horizon = 60; trips = trips.now; routes = routes.now }) }
-    ensures table { IfOk result (λ times. times ≡ table_of (record { net = net.now; queue = queue.Point; delta = 6; horizon = 60; trips = trips.now; routes = routes.now }) 50) }
+    requires { IsSound (record {
+      net = net.now;
+      queue = queue.Point;
+      delta = 6;
+      horizon = 60;
+      trips = trips.now;
+      routes = routes.now;
+    }) }
+    ensures table { IfOk result (λ times. times
+        ≡ table_of (record {
+          net = net.now;
+          queue = queue.Point;
+          delta = 6;
+          horizon = 60;
+          trips = trips.now;
+          routes = routes.now;
+        }) 50) }
     ensures many { IfOk result (λ times. length times.free ≡ length net.now.links) }
     ensures short { IfOk result IsShort }
 {
@@ -122,7 +148,14 @@ fn node(id: u64, zone: u64) -> NodeRow
 }
 
 fn link(id: u64, from: u32, to: u32, free: u32, rate: u64) -> LinkRow
-    ensures { result ≡ record { id = id; from = record { 0 = from }; to = record { 0 = to }; free = free; storage = 125; rate = rate } }
+    ensures { result ≡ record {
+      id = id;
+      from = record { 0 = from };
+      to = record { 0 = to };
+      free = free;
+      storage = 125;
+      rate = rate;
+    } }
 {
     LinkRow {
         id,
@@ -135,7 +168,12 @@ fn link(id: u64, from: u32, to: u32, free: u32, rate: u64) -> LinkRow
 }
 
 fn trip(number: u32, destination: u64) -> Trip
-    ensures { result ≡ record { number = number; origin = 1; destination = destination; departure = 0 } }
+    ensures { result ≡ record {
+      number = number;
+      origin = 1;
+      destination = destination;
+      departure = 0;
+    } }
 {
     Trip {
         number,

@@ -60,7 +60,8 @@ fn run_steps(
 
 // Brings all cells to the horizon.
 fn rest_all(loading: &Loading, cells: &mut [NodeCell], clocks: &[Clock])
-    requires { (mail : List Mail) × AreBefore (plan_of loading.now) loading.now.horizon cells.old clocks.now mail }
+    requires { (mail : List Mail)
+        × AreBefore (plan_of loading.now) loading.now.horizon cells.old clocks.now mail }
     ensures { cells.new ≡ cells_before (plan_of loading.now) loading.now.horizon }
 {
     for n in 0..cells.len() {

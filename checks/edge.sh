@@ -1,0 +1,117 @@
+#!/bin/sh
+# edge.sh PROGRAM: runs the built program where the proofs end, and ends with 0 where each run ends
+# with the number that is wanted and writes what is wanted.
+[ $# -eq 1 ] || { echo "usage: edge.sh PROGRAM" >&2; exit 2; }
+program=$(realpath "$1")
+folder=$(mktemp -d)
+trap 'rm -rf "$folder"' EXIT
+cd "$folder" || exit 2
+failures=0
+
+# fails NAME: tells of a check that failed.
+fails() {
+    echo "FAILED: $1"
+    failures=$((failures + 1))
+}
+
+# ends NAME NUMBER COMMAND..: a command ends with this number.
+ends() {
+    name=$1
+    wanted=$2
+    shift 2
+    "$@"
+    status=$?
+    [ "$status" -eq "$wanted" ] || fails "$name ends with $status and not $wanted"
+}
+
+# has NAME FILE: a file has the text of standard input and no more.
+has() {
+    cat >wanted
+    cmp -s wanted "$2" || fails "$1: $2 has another text"
+}
+
+# tables VOLUME: two links in a line, over which so many vehicles go.
+tables() {
+    rm -f ./*.csv
+    printf 'node_id,zone_id\n1,1\n2,\n3,3\n' >node.csv
+    printf 'link_id,from_node_id,to_node_id,length,lanes,free_speed,capacity\n' >link.csv
+    printf '10,1,2,1,1,60,600\n20,2,3,1,1,60,600\n' >>link.csv
+    printf 'o_zone_id,d_zone_id,volume\n1,3,%s\n' "$1" >demand.csv
+}
+
+# Every option at once: all words are taken, Report goes to standard output and Watch to standard
+# error. The last vehicle is on the second link.
+tables 3
+ends 'every option' 0 "$program" assign --step 12 --jam 250 --length-unit km --speed-unit mph \
+    --horizon 36 --period 36 --iterations 2 --workers 3 --bucket 20 --queue spatial --watch 10 \
+    --plain >report 2>watch
+has 'every option' report <<'TEXT'
+nodes 3
+links 2
+vehicles 3
+unrouted 0
+iterations 2
+arrived 2
+running 1
+waiting 0
+route_steps 24
+least_steps 24
+gap_steps 0
+gap_ppm 0
+TEXT
+has 'every option' watch <<'TEXT'
+1,36,0,1,2,0,1,0,0
+2,36,0,1,2,0,1,0,0
+TEXT
+has 'every option' agent.csv <<'TEXT'
+agent_id,o_zone_id,d_zone_id,departure_step,arrival_step,status,link_ids,entry_steps
+0,1,3,6,14,arrived,10;20,6;10
+1,1,3,18,26,arrived,10;20,18;22
+2,1,3,30,,running,10;20,30;34
+TEXT
+
+# A file that takes the first part of a piece and then no more.
+tables 300
+ends 'ample room' 0 "$program" assign --length-unit km >report
+mv agent.csv whole
+partly() {
+    (
+        trap '' XFSZ
+        ulimit -f 1
+        exec "$program" assign --length-unit km 2>/dev/null
+    )
+}
+ends 'a file that is cut off' 5 partly >/dev/null
+size=$(wc -c <agent.csv)
+[ "$size" -gt 0 ] && [ "$size" -lt "$(wc -c <whole)" ] || fails "a file that is cut off: $size bytes"
+cmp -s -n "$size" agent.csv whole || fails 'a file that is cut off has another text'
+
+# Devices that are full.
+tables 3
+ends 'a full standard output' 5 "$program" assign --length-unit km >/dev/full
+[ -s gap.csv ] || fails 'a full standard output: no gap.csv'
+tables 3
+ends 'a full standard error' 5 "$program" assign --length-unit km --watch 10 >report 2>/dev/full
+[ ! -e agent.csv ] && [ ! -s report ] || fails 'a full standard error: something was put'
+
+# The other statuses.
+ends 'no command' 2 "$program" >report
+ends 'words that are no text' 1 "$program" "$(printf 'assign\377')" >/dev/null 2>&1
+tables 2000001
+ends 'too many vehicles' 7 "$program" assign >report
+has 'too many vehicles' report <<'TEXT'
+size: demand line 2 vehicles 2000001 limit 2000000
+TEXT
+tables x
+ends 'a volume that is no number' 3 "$program" assign >report
+has 'a volume that is no number' report <<'TEXT'
+demand line 2: E4 NotNumber volume
+TEXT
+rm node.csv
+ends 'no node table' 4 "$program" assign >report
+has 'no node table' report <<'TEXT'
+read fault in node
+TEXT
+
+[ "$failures" -eq 0 ] && echo 'all is as it should be'
+exit "$((failures > 0))"

@@ -1,0 +1,93 @@
+-- The nodes of a step may be taken in any order: the texts of an assignment are the same.
+use Rattle.std.proofs.Common.{◌≡◌, ℕ, ◌+◌, ◌-◌, List, [], ◌∷◌, length, refl, sym, ap, subst, ◌∙◌}
+use Rattle.std.specs.Prelude.{Some, slice_get}
+use Rattle.dta_model.specs.LinkTimes.{TimeTable, time_at}
+use Rattle.dta_model.specs.Loading.{journeys_of}
+use Rattle.dta_model.specs.State.{eight_after}
+use Rattle.dta_model.specs.declared.eight.Eight.{Eight}
+use Rattle.dta_model.specs.declared.loaded.Journey.{Journey}
+use Rattle.dta_model.proofs.AnyOrder.{any_order, same_journeys}
+use Rattle.link_times.proofs.AnyOrder.{same_times}
+use Rattle.gap.specs.Gap.{IsGapLine}
+use Rattle.gap.specs.declared.line.GapLine.{GapLine}
+use Rattle.reports.specs.Texts.{agent_text, gap_text, link_time_text, report_text}
+use Rattle.route_flows.specs.Averages.{AreNextRoutes}
+use Rattle.dta_words.specs.declared.command.Command.{Command}
+use Rattle.dta_words.specs.declared.command.Command.TheVariants as command
+use Rattle.dta_words.specs.declared.command.Settings.{Settings}
+use Rattle.desk_io.specs.declared.desk.Output.TheVariants as output
+use Rattle.dta.specs.Assignment.{AreIterations, AreIterationsBy, VehicleRoutes, end_of, times_of}
+use Rattle.dta.specs.Jobs.{JobRows, plan_of}
+use Rattle.dta.specs.Laws.{TextsInAnyOrder}
+use Rattle.dta.specs.Orders.{AreAssignedBy, AreNodeOrders, NodeOrders, end_by, journeys_by, summary_by}
+use Rattle.dta.specs.Orders.{texts_by, times_by}
+use Rattle.dta.specs.Outputs.{AreAssigned, OutText, but_watch, last_texts, summary_of, text_to}
+use Rattle.dta.proofs.Determined.{but-watch-assigned, lasts-by, same-lines, same-routes}
+
+-- iterations over equal tables of link times
+by-times : (job : JobRows) (times other : VehicleRoutes → TimeTable)
+    → ((r : VehicleRoutes) → times r ≡ other r) → (routes : List VehicleRoutes) (lines : List GapLine)
+    → AreIterationsBy times job routes lines → AreIterationsBy other job routes lines
+by-times job times other same routes lines it = record {
+  first = it.first;
+  next = λ i old new e f.
+      subst (λ (t : TimeTable). AreNextRoutes (time_at t) job.net job.trips (i + 1) old new) (same old)
+      (it.next i old new e f);
+  gaps = λ i r line e f.
+      subst (λ (t : TimeTable). IsGapLine (time_at t) job.net job.trips r line) (same r)
+      (it.gaps i r line e f);
+}
+
+module _ (s : Settings) (job : JobRows) (order : NodeOrders) (all : AreNodeOrders s job order) where
+  times-same : (r : VehicleRoutes) → times_by s job order r ≡ times_of s job r
+  times-same r = same_times (plan_of s job r) (order r) (all r) s.bucket
+
+  journeys-same : (r : VehicleRoutes) → journeys_by s job order r ≡ journeys_of (plan_of s job r)
+  journeys-same r = same_journeys (plan_of s job r) (order r) (all r)
+
+  end-same : (r : VehicleRoutes) → end_by s job order r ≡ end_of s job r
+  unfolding eight_after
+  end-same r = (any_order (plan_of s job r) (order r) (all r) s.horizon).eight
+
+  summary-same : (last : VehicleRoutes) (line : GapLine)
+      → summary_by s job order last line ≡ summary_of s job last line
+  summary-same last line =
+      ap (λ (e : Eight). record (summary_of s job last line) {
+        arrived = e.arrived;
+        running = e.running;
+        waiting = e.waiting;
+      }) (end-same last)
+
+  texts-same : (c : Command) (last : VehicleRoutes) (lines : List GapLine) (line : GapLine)
+      → texts_by c s job order last lines line ≡ but_watch (last_texts c s job last lines line)
+  texts-same command.Assign last lines line =
+      ap (λ (j : List Journey). text_to output.Agent (agent_text job.net job.trips last j)
+      ∷ text_to output.LinkTime (link_time_text job.net (times_by s job order last))
+      ∷ text_to output.Gap (gap_text lines)
+      ∷ text_to output.Report (report_text (summary_by s job order last line)) ∷ []) (journeys-same last)
+      ∙ ap (λ (t : TimeTable).
+      text_to output.Agent (agent_text job.net job.trips last (journeys_of (plan_of s job last)))
+      ∷ text_to output.LinkTime (link_time_text job.net t) ∷ text_to output.Gap (gap_text lines)
+      ∷ text_to output.Report (report_text (summary_by s job order last line)) ∷ []) (times-same last)
+      ∙ ap (λ x.
+      text_to output.Agent (agent_text job.net job.trips last (journeys_of (plan_of s job last)))
+      ∷ text_to output.LinkTime (link_time_text job.net (times_of s job last))
+      ∷ text_to output.Gap (gap_text lines) ∷ text_to output.Report (report_text x) ∷ [])
+      (summary-same last line)
+  texts-same (command.Demo n) last lines line =
+      ap (λ x. text_to output.Report (report_text x) ∷ []) (summary-same last line)
+  texts-same command.Freeflow last lines line =
+      ap (λ x. text_to output.Report (report_text x) ∷ []) (summary-same last line)
+
+pub texts_in_any_order : TextsInAnyOrder
+texts_in_any_order s job order all xs ys a b =
+    let it : AreIterations s job a.routes a.lines = by-times job (times_by s job order) (times_of s job)
+    (times-same s job order all) a.routes a.lines a.iterations in
+    let routes : a.routes ≡ b.routes = same-routes s job a.routes b.routes a.lines b.lines it b.iterations
+    (a.as_many ∙ sym b.as_many) in
+    let lines : a.lines ≡ b.lines = same-lines s job a.routes b.routes a.lines b.lines it b.iterations
+    routes (a.with_gaps ∙ sym a.as_many) (a.with_gaps ∙ sym b.with_gaps) in
+    a.texts_are ∙ texts-same s job order all s.command a.last a.lines a.line
+    ∙ ap but_watch (lasts-by s job a.routes b.routes a.lines b.lines a.last b.last a.line b.line routes
+    lines a.last_routes b.last_routes a.last_line b.last_line)
+    ∙ sym (but-watch-assigned s job ys b)
