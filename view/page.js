@@ -246,7 +246,7 @@ const Page = (() => {
     }
 
     function start() {
-        new Slots(document.querySelectorAll('.slot'), find('messages'), runsChanged);
+        new RunBoxes(document.querySelectorAll('.run-box'), find('messages'), runsChanged);
         find('measure').addEventListener('change', () => setMeasure(find('measure').value));
         find('worst-time').addEventListener('click', worstTime);
         find('worst-link').addEventListener('click', worstLink);

@@ -91,7 +91,7 @@ class Test:
         page.choose('#measure', 'delay')
         page.choose('#slider', 550)
         self.picture(['#bar', '#stage'], 'comparison.png')
-        page.click('.slot[data-slot="0"] .close')
+        page.click('.run-box[data-box="0"] .close')
         page.wait_for_runs(names[1:])
 
     def keys_lead_through_a_run(self):
@@ -173,7 +173,7 @@ class Test:
     def files_are_chosen_one_by_one(self):
         page, folder = self.page, self.path('two_routes')
         page.open()
-        page.find('.slot[data-slot="0"] .files').send_keys(
+        page.find('.run-box[data-box="0"] .files').send_keys(
             '\n'.join(os.path.join(folder, name) for name in ('node.csv', 'link.csv'))
         )
         page.wait_for_runs(['chosen files'])
