@@ -190,6 +190,19 @@ class Test:
         )
         check_totals(page, Told(folder))
 
+    def folders_are_chosen(self):
+        """By the buttons, and both at once by a drop."""
+        page, names = self.page, ['sioux_falls', 'two_routes']
+        page.open()
+        for box, name in enumerate(names):
+            page.find(f'.run-box[data-box="{box}"] .folder').send_keys(self.path(name))
+        page.wait_for_runs(names)
+        check_totals(page, Told(self.path(names[1])), 2)
+        page.open()
+        page.drop([self.path(name) for name in names])
+        page.wait_for_runs(names)
+        check_totals(page, Told(self.path(names[0])), 1)
+
     def a_small_window_holds_all(self):
         page = self.page
         self.open_run('sioux_falls')
@@ -318,6 +331,7 @@ TESTS = [
     'keys_lead_through_a_run',
     'the_map_answers_the_mouse',
     'files_are_chosen_one_by_one',
+    'folders_are_chosen',
     'a_small_window_holds_all',
     'tables_are_saved',
     'faults_are_told',
