@@ -7,13 +7,7 @@ const ChosenFiles = (() => {
     async function dropped(transfer) {
         // The items are gone once the event is over, so all of them are asked before any is
         // waited for.
-        const items = [...transfer.items]
-                          .filter((item) => item.kind === 'file')
-                          .map((item) => ({
-                                   handle: askHandle(item),
-                                   entry: item.webkitGetAsEntry ? item.webkitGetAsEntry() : null,
-                                   file: item.getAsFile(),
-                               }));
+        const items = [...transfer.items].filter((item) => item.kind === 'file').map(itemOf);
         const groups = [], loose = [];
         for (const item of items) {
             const folder = await folderOf(item);
@@ -24,6 +18,11 @@ const ChosenFiles = (() => {
         }
         if (loose.length > 0) groups.push({name: '', files: loose});
         return groups;
+    }
+
+    function itemOf(item) {
+        const entry = item.webkitGetAsEntry ? item.webkitGetAsEntry() : null;
+        return {handle: askHandle(item), entry, file: item.getAsFile()};
     }
 
     // A page that was opened from a folder may read a dropped folder by its handle; older ways

@@ -134,15 +134,12 @@ const Curves = (() => {
             const steps = Totals.tripSteps(other);
             return steps.length > 0 ? steps[steps.length - 1] : 1;
         })) * minutes;
-        const edges = Chart.marks(0, longest, 40);
-        while (edges.length < 2 || edges[edges.length - 1] <= longest) {
-            edges.push(
-                edges.length < 2 ? edges.length :
-                                   2 * edges[edges.length - 1] - edges[edges.length - 2]);
-        }
+        const [, wide] = Chart.marks(0, longest, 40);
+        const edges = [0];
+        while (edges[edges.length - 1] <= longest) edges.push(edges.length * wide);
         const values = new Array(edges.length - 1).fill(0);
         for (const steps of Totals.tripSteps(run)) {
-            values[Math.min(Math.floor(steps * minutes / edges[1] + 1e-9), values.length - 1)] +=
+            values[Math.min(Math.floor(steps * minutes / wide + 1e-9), values.length - 1)] +=
                 1;
         }
         return {

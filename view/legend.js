@@ -4,14 +4,16 @@
 class Legend {
     constructor(box) {
         this.box = box;
-        this.shown = null;
         this.counts = [];
     }
 
     show(scale, runs) {
         this.scale = scale;
-        this.runs = runs;
         this.counts = [];
+        if (!runs.some((run) => scale.measure.has(run))) {
+            this.box.replaceChildren('There are no results yet to colour links by.');
+            return;
+        }
         const parts = [];
         for (let place = 0; place <= scale.bounds.length + 1; place += 1) {
             const swatch = Elements.make('span', {className: 'swatch'});

@@ -20,18 +20,16 @@ class MapLabels {
     }
 
     draw(view) {
-        const worst = this.worst(view, 3);
-        const selected = this.map.run.linkPlaces.get(view.selected);
-        if (selected !== undefined && !worst.includes(selected)) worst.unshift(selected);
-        const {pen} = this.map;
+        const {pen, run, worst} = this.map, selected = run.linkPlaces.get(view.selected);
+        const isNamed = selected === undefined || worst.includes(selected);
         pen.font = '600 12px system-ui, sans-serif';
         pen.textAlign = 'left';
         pen.textBaseline = 'middle';
-        for (const link of worst) this.place(view, link);
+        for (const link of isNamed ? worst : [selected, ...worst]) this.place(view, link);
     }
 
-    worst(view, most) {
-        const {measure} = view.scale, {values, geometry, run} = this.map;
+    // The visible links of the greatest values, the greatest first.
+    static worst({values, geometry, run}, measure, most) {
         if (!measure.has(run)) return [];
         const found = [];
         for (let link = 0; link < run.links.count; link += 1) {

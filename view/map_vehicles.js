@@ -35,8 +35,14 @@ class MapVehicles {
         pen.lineWidth = 1;
         pen.stroke();
         pen.fill();
-        this.words = `${dots.toLocaleString('en')} vehicles as dots`
-            + (crowded > 0 ? `; ${crowded} links have too many to show: zoom in` : '') + '.';
+        this.words = MapVehicles.words(dots, crowded);
+    }
+
+    static words(dots, crowded) {
+        const shown = dots > 0 ? [`${Totals.format(dots)} vehicles as dots`] : [];
+        const links = crowded === 1 ? '1 link has' : `${Totals.format(crowded)} links have`;
+        const rest = crowded > 0 ? [`${links} too many vehicles for dots: zoom in`] : [];
+        return [...shown, ...rest].join('; ');
     }
 
     lengthOnScreen(link) {

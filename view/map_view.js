@@ -13,6 +13,9 @@ class MapView {
         this.pen = this.screenPen;
         this.run = null;
         this.hovered = -1;
+        this.width = 0;
+        this.height = 0;
+        canvas.width = 0;
         MapMoves.attach(this);
     }
 
@@ -28,16 +31,10 @@ class MapView {
         this.content = '';
     }
 
-    get width() {
-        return this.canvas.clientWidth;
-    }
-
-    get height() {
-        return this.canvas.clientHeight;
-    }
-
     // Takes over the canvas's size on the page, in the screen's own pixels.
     resize() {
+        this.width = this.canvas.clientWidth;
+        this.height = this.canvas.clientHeight;
         const share = window.devicePixelRatio || 1;
         const width = Math.round(this.width * share), height = Math.round(this.height * share);
         if (this.canvas.width === width && this.canvas.height === height) return;
@@ -58,8 +55,9 @@ class MapView {
     }
 
     draw(view) {
-        if (this.run === null || this.width === 0) return;
+        if (this.run === null) return;
         this.resize();
+        if (this.width === 0) return;
         if (this.camera.scale === undefined) this.fit();
         this.placeIfMoved();
         if (this.fillIfChanged(view)) this.drawLayer(view);
@@ -102,6 +100,7 @@ class MapView {
         this.content = content;
         Measures.fill(scale, this.run, step, settings, this.values, this.classes);
         this.sortByClass();
+        this.worst = MapLabels.worst(this, scale.measure, 3);
         return true;
     }
 

@@ -246,7 +246,7 @@ const Page = (() => {
     }
 
     function start() {
-        new Slots(document.querySelectorAll('.slot'), find('messages'), runsChanged);
+        new RunBoxes(document.querySelectorAll('.run-box'), find('messages'), runsChanged);
         find('measure').addEventListener('change', () => setMeasure(find('measure').value));
         find('worst-time').addEventListener('click', worstTime);
         find('worst-link').addEventListener('click', worstLink);
@@ -261,6 +261,10 @@ const Page = (() => {
         for (const name of ['step-seconds', 'unit', 'jam'])
             find(name).addEventListener('change', settingsChanged);
         document.addEventListener('keydown', key, true);
+        window.addEventListener('error', (event) => {
+            find('messages').append(Elements.make(
+                'p', {className: 'fault'}, `The page itself has a fault: ${event.message}.`));
+        });
         let later = 0;
         window.addEventListener('resize', () => {
             clearTimeout(later);

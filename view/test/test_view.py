@@ -91,7 +91,7 @@ class Test:
         page.choose('#measure', 'delay')
         page.choose('#slider', 550)
         self.picture(['#bar', '#stage'], 'comparison.png')
-        page.click('.slot[data-slot="0"] .close')
+        page.click('.run-box[data-box="0"] .close')
         page.wait_for_runs(names[1:])
 
     def keys_lead_through_a_run(self):
@@ -173,11 +173,12 @@ class Test:
     def files_are_chosen_one_by_one(self):
         page, folder = self.page, self.path('two_routes')
         page.open()
-        page.find('.slot[data-slot="0"] .files').send_keys(
+        page.find('.run-box[data-box="0"] .files').send_keys(
             '\n'.join(os.path.join(folder, name) for name in ('node.csv', 'link.csv'))
         )
         page.wait_for_runs(['chosen files'])
         check('the network alone' in page.text('#messages'), 'what is missing is told')
+        check('no results yet' in page.text('#legend'), 'the legend of a network alone')
         page.drop(
             [
                 os.path.join(folder, name)
@@ -188,6 +189,19 @@ class Test:
             lambda: 'Vehicle-hours lost on links' in page.text('#totals'), 'the added files'
         )
         check_totals(page, Told(folder))
+
+    def folders_are_chosen(self):
+        """By the buttons, and both at once by a drop."""
+        page, names = self.page, ['sioux_falls', 'two_routes']
+        page.open()
+        for box, name in enumerate(names):
+            page.find(f'.run-box[data-box="{box}"] .folder').send_keys(self.path(name))
+        page.wait_for_runs(names)
+        check_totals(page, Told(self.path(names[1])), 2)
+        page.open()
+        page.drop([self.path(name) for name in names])
+        page.wait_for_runs(names)
+        check_totals(page, Told(self.path(names[0])), 1)
 
     def a_small_window_holds_all(self):
         page = self.page
@@ -317,6 +331,7 @@ TESTS = [
     'keys_lead_through_a_run',
     'the_map_answers_the_mouse',
     'files_are_chosen_one_by_one',
+    'folders_are_chosen',
     'a_small_window_holds_all',
     'tables_are_saved',
     'faults_are_told',
