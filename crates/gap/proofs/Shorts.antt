@@ -14,6 +14,7 @@ use Rattle.dta_model.specs.TimedWalks.{arrival_after, penalty_steps}
 use Rattle.dta_model.specs.declared.loading.TheConstants.{MOST_HORIZON}
 use Rattle.gap.specs.Gap.{IsShort}
 use Rattle.time_routes.proofs.OfStates.RouterFacts.{penalty-in}
+use Rattle.time_routes.proofs.OfStates.LongestFacts.{late_same}
 
 either : (P : ℕ → Type 0) (t : Bool) (x y : ℕ) → P x → P y → P (cond t x y)
 either P true x y p q = p
@@ -39,20 +40,12 @@ time-short t l step s =
     (in_list MOST_HORIZON t.times (place_in (bucket_count t) l (step / t.bucket)) s.times)
     (in_list MOST_HORIZON t.free l s.free)
 
--- times stand still from the horizon on
-time-late : (t : TimeTable) (l a b : ℕ) → t.horizon ≤ a → t.horizon ≤ b → time_at t l a ≡ time_at t l b
-unfolding time_at
-time-late t l a b h k =
-    let p : nat_lt a t.horizon ≡ false = grind (arith, nat_tests) in
-    let q : nat_lt b t.horizon ≡ false = grind (arith, nat_tests) in
-    rw (p, q) refl
-
 pub time-capped : (t : TimeTable) (l step : ℕ) → time_at t l (min step t.horizon) ≡ time_at t l step
 time-capped t l step = by (cases_lt step t.horizon)
   where
     by : (step < t.horizon) ⊎ (t.horizon ≤ step) → time_at t l (min step t.horizon) ≡ time_at t l step
     by (inl b) = let same : min step t.horizon ≡ step = omega (arith, b) in ap (λ s. time_at t l s) same
-    by (inr b) = time-late t l (min step t.horizon) step (omega (arith, b)) b
+    by (inr b) = late_same t l (min step t.horizon) step (omega (arith, b)) b
 
 pub ruleset read = (time-short, time-capped)
 

@@ -15,6 +15,7 @@ use Rattle.dta_model.specs.declared.trip.Trip.{Trip}
 use Rattle.time_routes.specs.Destinations.{WalkOf}
 use Rattle.route_flows.specs.Averages.{is_selected}
 use Rattle.route_flows.specs.Laws.{ChosenAreDetermined, NextAreDetermined}
+use Rattle.time_routes.proofs.Basics.{some_same}
 
 -- ---- one walk comes first
 equal_both : (a b : Ordering) → is_le a ≡ true → is_le b ≡ true → a ≡ ordering_reverse b → a ≡ Equal
@@ -84,9 +85,6 @@ chosen_are_determined at net trips a b x y =
         let t = trip_at trips v (omega (arith, inside, long)) in
         walk_once at net (t.0) r s (x.each v (t.0) r (t.1) e) (y.each v (t.0) s (t.1) f)
 
-same_some : {X : Type 0} (x y : X) → Some x ≡ Some y → x ≡ y
-same_some x y h = cc
-
 pub next_are_determined : NextAreDetermined
 next_are_determined at net trips k old a b x y =
     same_lists a b (x.as_many ∙ sym y.as_many) one
@@ -100,4 +98,4 @@ next_are_determined at net trips k old a b x y =
             let long = x.as_many in
             let t = trip_at trips v (omega (arith, inside, long)) in
             walk_once at net (t.0) r s (x.selected v (t.0) r h (t.1) e) (y.selected v (t.0) s h (t.1) f)
-        by false h = same_some r s (sym e ∙ x.others v h ∙ sym (y.others v h) ∙ f)
+        by false h = some_same r s (sym e ∙ x.others v h ∙ sym (y.others v h) ∙ f)

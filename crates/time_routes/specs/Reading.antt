@@ -6,3 +6,4 @@ pub mod LabelsTo
 pub mod OfZone
 pub mod Paths
 pub mod Serves
+pub mod Tell

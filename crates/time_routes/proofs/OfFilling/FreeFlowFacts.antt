@@ -19,11 +19,6 @@ use Rattle.time_routes.specs.Filling.Labels.{most_span, far}
 use Rattle.time_routes.specs.declared.states.router.Router.{Router}
 use Rattle.time_routes.specs.States.RouterWays.{is_own, onwards}
 
-pub All_range : {X : Type 0} (P : X → Type 0) (xs : List X) (a b : ℕ) → a ≤ b → b ≤ length xs → All P xs → All P (slice_range xs a b)
-All_range P xs a b h k all i d within =
-    let n : i < b - a = grind (arith, common_steps) in
-    subst P (sym (get_or-take (b - a) (drop a xs) i d n ∙ get_or-drop a xs i d)) (all (a + i) d (omega arith))
-
 -- lower numbers give a lower least
 least_lower : (a b free : List ℕ) → ((k : ℕ) → get_or a k 0 ≤ get_or b k 0) → (ws : List Onward) → still_least a free ws ≤ still_least b free ws
 unfolding least_over over
@@ -132,3 +127,7 @@ known_few tail = let s = sum_by-le is_known 1 tail (λ k d h. one (get_or tail k
 
     one : (x : ℕ) → is_known x ≤ 1
     one x = by (nat_lt x far)
+
+pub ruleset lowering = (AreAbove_set, AreShort_set, sum_set_less)
+
+pub ruleset at_first = (start_low, start_above, start_short)

@@ -18,7 +18,7 @@ use Rattle.time_routes.specs.States.Routers.{ways_of}
 use Rattle.time_routes.specs.declared.states.onward.Onward.{Onward}
 use Rattle.time_routes.specs.declared.states.router.Router.{Router}
 use Rattle.time_routes.proofs.OfReading.Joined.{near}
-use Rattle.time_routes.proofs.OfFilling.WideRowFacts.{All_range}
+use Rattle.time_routes.proofs.Basics.{All_range}
 use Rattle.time_routes.proofs.OfFilling.FreeFlowFacts.{known_few}
 
 -- from the horizon on, the least is that of numbers that stand still

@@ -20,7 +20,7 @@ use Rattle.time_routes.specs.declared.states.router.Router.{Router}
 use Rattle.time_routes.proofs.OfReading.Joined.{near}
 use Rattle.time_routes.proofs.OfFilling.Joins.{either, free_late, in_all}
 use Rattle.time_routes.proofs.OfFilling.LeastOver.{least_over_le}
-use Rattle.time_routes.proofs.OfFilling.WideRowFacts.{All_range}
+use Rattle.time_routes.proofs.Basics.{All_range}
 
 -- from the horizon on, the least is the narrowed one of numbers that stand still
 narrow_stands : (at rest : ℕ → ℕ → ℕ) (free tail : List ℕ) (horizon count e : ℕ) → horizon ≤ e

@@ -8,7 +8,7 @@ use Rattle.time_routes.specs.declared.filling.slot_fill.Four.{Four}
 use Rattle.time_routes.specs.Filling.SlotRows.{narrow_far, slot_rest, slot_value, slot, IsSlotRowTo, AreSlotRows}
 use Rattle.time_routes.specs.States.Routers.{ways_of}
 use Rattle.time_routes.proofs.OfFilling.SlotFacts.{least_same}
-use Rattle.time_routes.proofs.OfFilling.WideRowFacts.{All_range}
+use Rattle.time_routes.proofs.Basics.{All_range}
 use Rattle.time_routes.specs.declared.states.router.Router.{Router}
 use Rattle.time_routes.specs.States.RouterWays.{is_own, onwards}
 

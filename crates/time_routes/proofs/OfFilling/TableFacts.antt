@@ -10,7 +10,8 @@ use Rattle.time_routes.specs.Filling.Rests.{span, least_over}
 use Rattle.time_routes.specs.Filling.WideRows.{IsRowTo, AreRows}
 use Rattle.time_routes.specs.States.Routers.{ways_of}
 use Rattle.time_routes.specs.declared.states.onward.Onward.{Onward}
-use Rattle.time_routes.proofs.OfFilling.WideRowFacts.{least_same, All_range}
+use Rattle.time_routes.proofs.OfFilling.WideRowFacts.{least_same}
+use Rattle.time_routes.proofs.Basics.{All_range}
 use Rattle.time_routes.specs.declared.states.router.Router.{Router}
 use Rattle.time_routes.specs.States.RouterWays.{is_own, onwards}
 

@@ -14,6 +14,7 @@ use Rattle.time_routes.specs.States.Routers.{ways_of}
 use Rattle.time_routes.specs.declared.states.onward.Onward.{Onward}
 use Rattle.time_routes.specs.declared.states.router.Router.{Router}
 use Rattle.time_routes.specs.States.RouterWays.{is_own, onwards}
+use Rattle.time_routes.proofs.Basics.{All_range}
 
 pub IsRowTo_none : (at : ℕ → ℕ → ℕ) (states horizon : ℕ) (labels : List ℕ) (back step : ℕ) (r : Router) (zone : ℕ) → All (λ x. x ≤ far) labels → IsRowTo at states horizon labels labels back step r zone 0
 IsRowTo_none at states horizon labels back step r zone low = record { as_many = refl; before = λ k h. refl; each = λ s h. absurd (omega arith); low = low }
@@ -60,14 +61,11 @@ IsRowTo_more at states horizon old now new back step r zone count sum some insid
         let same : least_over at far (rest_in states horizon now) step (onwards r count) ≡ least_over at far (rest_in states horizon old) step (onwards r count) = least_same at states horizon old now back step sum some row.before (onwards r count) to goes in
         rw here (stands ∙ ap (λ x. cond (is_own r zone count) 0 x) same)
 
-pub All_range : {X : Type 0} (P : X → Type 0) (xs : List X) (a b : ℕ) → a ≤ b → b ≤ length xs → All P xs → All P (slice_range xs a b)
-All_range P xs a b h k all i d within =
-    let n : i < b - a = grind (arith, common_steps) in
-    subst P (sym (get_or-take (b - a) (drop a xs) i d n ∙ get_or-drop a xs i d)) (all (a + i) d (omega arith))
-
 -- each way on takes time
 pub spans_some : (t : TimeTable) (e : ℕ) (ways : List Onward) → IsTimeTable t → All (λ w. w.link < length t.free) ways → All (λ w. 0 < span (time_at t) e w) ways
 spans_some t e ways sound link k d within =
     let w = get_or ways k d in
     let one = sound.least w.link (e + w.wait) (link k d within) in
     omega (arith, one)
+
+pub ruleset state_by_state = (IsRowTo_none, IsRowTo_more, All_range)

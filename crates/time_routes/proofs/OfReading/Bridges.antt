@@ -15,21 +15,13 @@ use Rattle.dta_model.specs.Walks.{IsWalk, begins_in, ends_in}
 use Rattle.time_routes.specs.Named.{zone_named}
 use Rattle.time_routes.specs.Reading.Paths.{later, path_after, path_time, IsLeastPath, IsChosenPath, lex_le}
 use Rattle.time_routes.specs.States.Routers.{wait_of, wait_between, begins_from, ends_to, ways_to}
+use Rattle.time_routes.proofs.Basics.{below, is_below, some_same}
 
 -- links that are in the table, with turns between them, the last of which is the first in the zone
 record IsOn (net : NetRows) (destination : ℕ) (w : List ℕ) : Type 0 where
   links : All (λ l. l < length net.links) w
   turns : (i a b : ℕ) → slice_get w i ≡ Some a → slice_get w (suc i) ≡ Some b → IsSome (turn net a b)
   ends : (i l : ℕ) → slice_get w i ≡ Some l → ends_in net destination l ≡ nat_eq (suc i) (length w)
-
-some_same : (a b : ℕ) → Some a ≡ Some b → a ≡ b
-some_same a b h = cc
-
-below : (a b : ℕ) → nat_lt a b ≡ true → a < b
-below a b e = search (rules, e)
-
-is_below : (a b : ℕ) → a < b → nat_lt a b ≡ true
-is_below a b h = grind (arith, nat_tests)
 
 both_so : (p q : Bool) → p ≡ true → q ≡ true → (p && q) ≡ true
 both_so p q a b = rw (a, b) refl

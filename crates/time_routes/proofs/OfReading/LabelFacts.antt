@@ -3,15 +3,13 @@ use Rattle.std.proofs.Common.{◌≡◌, ℕ, zero, suc, ◌+◌, ◌≤◌, ◌
 use Rattle.std.proofs.lemmas.Bool.Decides.{nat_tests}
 use Rattle.time_routes.specs.Reading.Paths.{Ways, later, path_after, lex_le}
 use Rattle.time_routes.specs.Reading.Follows.{Follows}
+use Rattle.time_routes.proofs.Basics.{some_same}
 
 -- labels that fit together: at the zone the link's own time; before it the least over the turns, which one of them gives
 pub record AreLabels (g : Ways) (label : ℕ → ℕ → Option ℕ) : Type 0 where
   pub at_end : (l e : ℕ) → g.ends l ≡ true → label l e ≡ Some (g.at l e)
   pub bound : (l e b wait k : ℕ) → g.ends l ≡ false → g.turn l b ≡ Some wait → label b (e + (g.at l e + wait)) ≡ Some k → (j : ℕ) × (label l e ≡ Some j) × (j ≤ g.at l e + wait + k)
   pub attained : (l e j : ℕ) → g.ends l ≡ false → label l e ≡ Some j → (b : ℕ) × (wait : ℕ) × (k : ℕ) × (g.turn l b ≡ Some wait) × (label b (e + (g.at l e + wait)) ≡ Some k) × (j ≡ g.at l e + wait + k)
-
-some_same : (a b : ℕ) → Some a ≡ Some b → a ≡ b
-some_same a b h = cc
 
 module _ (g : Ways) (label : ℕ → ℕ → Option ℕ) (fit : AreLabels g label) where
   -- the label at a link and step is at most m

@@ -15,15 +15,13 @@ use Rattle.time_routes.specs.declared.states.router.Router.{Router}
 use Rattle.time_routes.proofs.OfReading.LabelFacts.{AreLabels}
 use Rattle.time_routes.proofs.OfFilling.LeastOver.{are_labels, some_label}
 use Rattle.time_routes.proofs.OfReading.Joined.{least_is, none_is}
+use Rattle.time_routes.proofs.Basics.{some_same}
 
 pub LeastSoFar_none : (label : ℕ → Option ℕ) (firsts : List ℕ) → LeastSoFar label firsts 0 None
 LeastSoFar_none label firsts k l h s = absurd (omega arith)
 
-some_nat : (a b : ℕ) → Some a ≡ Some b → a ≡ b
-some_nat a b h = cc
-
 at_count : (firsts : List ℕ) (n k l c : ℕ) → slice_get firsts n ≡ Some c → slice_get firsts k ≡ Some l → k ≡ n → l ≡ c
-at_count firsts n k l c hc hl same = some_nat l c (sym hl ∙ ap (λ i. slice_get firsts i) same ∙ hc)
+at_count firsts n k l c hc hl same = some_same l c (sym hl ∙ ap (λ i. slice_get firsts i) same ∙ hc)
 
 module _ (label : ℕ → Option ℕ) (firsts : List ℕ) (n c : ℕ) (here : slice_get firsts n ≡ Some c) where
   -- what holds of the links before, and of this one
@@ -35,7 +33,7 @@ module _ (label : ℕ → Option ℕ) (firsts : List ℕ) (n c : ℕ) (here : sl
       by (inr i) = subst P (sym (at_count firsts n k l c here s (omega arith))) now
 
   new : (x : ℕ) → label c ≡ Some x → ((k l y : ℕ) → k < n → slice_get firsts k ≡ Some l → label l ≡ Some y → x ≤ y) → LeastSoFar label firsts (n + 1) (Some x)
-  new x e low = ((n, c, omega arith, here, e), λ k l y w s q. upto (λ l. (y : ℕ) → label l ≡ Some y → x ≤ y) (λ k l i s y q. low k l y i s q) (λ y q. omega (arith, some_nat x y (sym e ∙ q))) k l w s y q)
+  new x e low = ((n, c, omega arith, here, e), λ k l y w s q. upto (λ l. (y : ℕ) → label l ≡ Some y → x ≤ y) (λ k l i s y q. low k l y i s q) (λ y q. omega (arith, some_same x y (sym e ∙ q))) k l w s y q)
 
   kept : (m : ℕ) → LeastSoFar label firsts n (Some m) → ((y : ℕ) → label c ≡ Some y → m ≤ y) → LeastSoFar label firsts (n + 1) (Some m)
   kept m h low = ((h.0.0, h.0.1, omega (arith, h.0.2), h.0.3, h.0.4), λ k l y w s q. upto (λ l. (y : ℕ) → label l ≡ Some y → m ≤ y) (λ k l i s y q. h.1 k l y i s q) low k l w s y q)
@@ -51,7 +49,7 @@ module _ (label : ℕ → Option ℕ) (firsts : List ℕ) (n c : ℕ) (here : sl
     where
       by : (x < m) ⊎ (m ≤ x) → LeastSoFar label firsts (n + 1) (cond (nat_lt x m) (Some x) (Some m))
       by (inl i) = let t : cond (nat_lt x m) (Some x) (Some m) ≡ Some x = grind (arith, nat_tests) in subst (λ r. LeastSoFar label firsts (n + 1) r) (sym t) (new x e (λ k l y j s q. let low = h.1 k l y j s q in omega (arith, low, i)))
-      by (inr i) = let t : cond (nat_lt x m) (Some x) (Some m) ≡ Some m = grind (arith, nat_tests) in subst (λ r. LeastSoFar label firsts (n + 1) r) (sym t) (kept m h (λ y q. omega (arith, some_nat x y (sym e ∙ q), i)))
+      by (inr i) = let t : cond (nat_lt x m) (Some x) (Some m) ≡ Some m = grind (arith, nat_tests) in subst (λ r. LeastSoFar label firsts (n + 1) r) (sym t) (kept m h (λ y q. omega (arith, some_same x y (sym e ∙ q), i)))
 
   pub LeastSoFar_more : (a : Option ℕ) → LeastSoFar label firsts n a → LeastSoFar label firsts (n + 1) (lesser a (label c))
   LeastSoFar_more a h = more_by a (label c) refl h
@@ -75,3 +73,5 @@ module _ (net : NetRows) (zone : ℕ) (at rest : ℕ → ℕ → ℕ) (r : Route
 
 pub label_some : (near : Bool) (within : Bool) (x y : ℕ) → within ≡ true → near ≡ true → x ≡ y → Some x ≡ cond within (cond near (Some y) None) None
 label_some near within x y hw hn e = rw (hw, hn, e) refl
+
+pub ruleset least_so_far = (LeastSoFar_none, LeastSoFar_more)

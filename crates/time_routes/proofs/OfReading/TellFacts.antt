@@ -16,7 +16,8 @@ use Rattle.net_core.specs.declared.rows.ZoneNo.{ZoneNo}
 use Rattle.dta_model.specs.Least.{HaveNoWalk}
 use Rattle.dta_model.specs.Walks.{begins_in, ends_in, is_zone, zone_at}
 use Rattle.dta_model.specs.declared.trip.Trip.{Trip}
-use Rattle.time_routes.specs.Destinations.{asks_least, asks_walk, AreTold, IsRight, LeadsTo, LeadsToFirst, LeastOf, noted, Settles, Stands, StandsBefore, Tells, UnaskedAreNone, WalkOf, wanted, wanted_in, wanted_zone}
+use Rattle.time_routes.specs.Destinations.{asks_least, asks_walk, AreTold, IsRight, LeastOf, UnaskedAreNone, WalkOf}
+use Rattle.time_routes.specs.Reading.Tell.{LeadsTo, LeadsToFirst, noted, Settles, Stands, StandsBefore, Tells, wanted, wanted_in, wanted_zone}
 use Rattle.time_routes.specs.Named.{zone_named}
 use Rattle.time_routes.specs.States.Onwards.{zone_or_none}
 use Rattle.time_routes.specs.ToZone.{zone_numbers}
@@ -26,9 +27,7 @@ use Rattle.time_routes.specs.declared.reading.tell.Told.{Told}
 use Rattle.net_core.proofs.ZonesFacts.{zone-absent}
 use Rattle.time_routes.proofs.OfStates.OnwardFacts.{in_filter, of_filter, number_at, number_stands}
 use Rattle.time_routes.proofs.OfStates.ZoneFacts.{named}
-
-some_same : {X : Type 0} (a b : X) → Some a ≡ Some b → a ≡ b
-some_same a b h = cc
+use Rattle.time_routes.proofs.Basics.{equal_of, same_true, some_same}
 
 -- ---- zones that no node has
 no_node : (net : NetRows) (n zone : ℕ) → All (λ node. node.zone ≢ Some zone) net.nodes → is_zone zone (zone_at net n) ≡ true → ⊥
@@ -53,12 +52,6 @@ from_nowhere net o d none (l ∷ walk) w = no_node net (link_at net l).from.0 o 
 last_of : (l : ℕ) (walk : List ℕ) → (i : ℕ) × (b : ℕ) × (slice_get (l ∷ walk) i ≡ Some b) × (suc i ≡ length (l ∷ walk))
 last_of l [] = (zero, l, refl, refl)
 last_of l (b ∷ walk) = let r = last_of b walk in (suc (r.0), r.1, r.2, ap suc (r.3))
-
-equal_of : (a b : ℕ) → nat_eq a b ≡ true → a ≡ b
-equal_of a b h = search (rules, h)
-
-same_true : (a b : ℕ) → a ≡ b → nat_eq a b ≡ true
-same_true a b h = grind (arith, nat_tests)
 
 pub to_nowhere : (net : NetRows) (o d : ℕ) → All (λ node. node.zone ≢ Some d) net.nodes → HaveNoWalk net o d
 unfolding ends_in

@@ -14,9 +14,7 @@ use Rattle.time_routes.specs.States.RouterWays.{is_own, onwards, state_of}
 use Rattle.time_routes.specs.declared.states.onward.Onward.{Onward}
 use Rattle.time_routes.specs.declared.states.router.Router.{Router}
 use Rattle.time_routes.proofs.OfFilling.LeastOver.{choice_of, far_rest}
-
-some_nat : (a b : ℕ) → Some a ≡ Some b → a ≡ b
-some_nat a b h = cc
+use Rattle.time_routes.proofs.Basics.{some_same}
 
 pub append_nil : (xs : List ℕ) → xs ++ [] ≡ xs
 append_nil [] = refl
@@ -51,7 +49,7 @@ module _ (net : NetRows) (zone : ℕ) (at rest : ℕ → ℕ → ℕ) (r : Route
     follows_more others f =
         let a = v.routes.turns.allowed l p.place w small p.stands in
         let c = choice_of (ways_to at net zone) (is_own r zone) (state_of r) (onwards r) rest (length r.states.items) (length r.zones.items) far v.most v.longest v.routes.turns v.rests v.near v.short v.room l e w small (not_end l small own) near (v.routes.ordered (state_of r l) (v.routes.turns.narrow l small)) p in
-        let same : w.wait ≡ c.wait = some_nat w.wait c.wait (sym (a.0) ∙ c.way) in
+        let same : w.wait ≡ c.wait = some_same w.wait c.wait (sym (a.0) ∙ c.way) in
         let place : (e + at l e) + w.wait ≡ e + (at l e + c.wait) = omega (arith, same) in
         (c, subst (λ x. Follows (ways_to at net zone) (label_in at rest r) w.link x others) place f)
 

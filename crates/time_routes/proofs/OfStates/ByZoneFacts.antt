@@ -17,10 +17,8 @@ use Rattle.time_routes.specs.Named.{zone_named}
 use Rattle.time_routes.specs.States.Onwards.{begin_zone}
 use Rattle.time_routes.specs.States.Routers.{begins_from}
 use Rattle.time_routes.proofs.OfStates.OnwardFacts.{IsRising, in_filter, of_filter, rising_filter, numbers_rise, number_stands, number_at}
-use Rattle.time_routes.proofs.OfStates.ZoneFacts.{zone_same, is_less}
-
-differs : (a b : ℕ) → (a ≡ b → ⊥) → nat_eq a b ≡ false
-differs a b h = grind (arith, nat_tests)
+use Rattle.time_routes.proofs.OfStates.ZoneFacts.{zone_same}
+use Rattle.time_routes.proofs.Basics.{differs, is_below}
 
 -- an item of a list
 pub grouped_in : (lists : List (List ℕ)) (bound : ℕ) (number : ℕ → ℕ) (items : List ℕ) (item zone : ℕ) → number item ≡ zone → zone < bound → Grouped lists bound number items → Grouped (set lists zone (get_or lists zone [] ++ item ∷ [])) bound number (items ++ item ∷ [])
@@ -83,7 +81,7 @@ module _ (net : NetRows) (sound : IsNet net) (origin : ℕ) (small : origin < le
         (r.0, ap (λ xs. slice_get xs (r.0)) list_is ∙ r.1));
     starts = λ k l h. (
         let f = first_is k l h in
-        let less = is_less l (length net.links) (f.0) in
+        let less = is_below l (length net.links) (f.0) in
         let in_zone : is_zone (zone_named net origin) (zone_at net (link_at net l).from.0) ≡ true = sym (zone_same net (link_at net l).from.0 origin sound small) ∙ f.1 in
         rw (less, in_zone) refl);
   }

@@ -10,13 +10,11 @@ use Rattle.net_core.specs.declared.rows.Turn.{Turn}
 use Rattle.time_routes.specs.States.Onwards.{with_turn, ways_over}
 use Rattle.time_routes.specs.Filling.Rests.{AreOrdered}
 use Rattle.time_routes.specs.declared.states.onward.Onward.{Onward}
+use Rattle.time_routes.proofs.Basics.{some_same}
 
 -- numbers that rise
 abbrev pub IsRising : List ℕ → Type 0
 IsRising xs = (i k a b : ℕ) → i < k → slice_get xs i ≡ Some a → slice_get xs k ≡ Some b → a < b
-
-some_same : {X : Type 0} (a b : X) → Some a ≡ Some b → a ≡ b
-some_same a b h = cc
 
 -- where an element of a filtered list stands in the list, and the other way
 abbrev pub StandsPassing : {X : Type 0} → (X → Bool) → List X → X → Type 0

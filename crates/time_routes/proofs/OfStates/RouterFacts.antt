@@ -25,8 +25,9 @@ use Rattle.time_routes.specs.States.RouterWays.{is_own, onwards, state_of}
 use Rattle.time_routes.specs.States.Routers.{ways_of}
 use Rattle.time_routes.specs.declared.states.onward.Onward.{Onward}
 use Rattle.time_routes.specs.declared.states.router.Router.{Router}
-use Rattle.time_routes.proofs.OfStates.ZoneFacts.{zone_same, is_less, and_true}
+use Rattle.time_routes.proofs.OfStates.ZoneFacts.{zone_same, and_true}
 use Rattle.time_routes.proofs.OfStates.OnwardFacts.{way_is, is_way, ways_rise, out_is, is_out, outs_rise, link_stands, as_link_stands}
+use Rattle.time_routes.proofs.Basics.{is_below}
 
 -- penalties are in range
 found-in : (rows : List TurnRow) (p : TurnRow → Bool) (way : Turn) → All IsTurnInRange rows → as_turn (find p rows) ≡ Some way → way.penalty ≤ MOST_PENALTY_STEPS
@@ -231,7 +232,7 @@ router_is net leads r sound st o = record { many = st.many; few = (let n = o.zon
             let s = get_or r.states.items l 0 in
             let at_state = o.zone s (state_in l h) in
             let node = st.ends l h in
-            let p : nat_lt l (length net.links) ≡ true = is_less l (length net.links) (omega (arith, h, st.many)) in
+            let p : nat_lt l (length net.links) ≡ true = is_below l (length net.links) (omega (arith, h, st.many)) in
             ap (λ z. nat_eq z zone) (at_state ∙ ap (λ n. zone_or_none (zone_of net n.0)) node)
             ∙ zone_same net (link_at net l).to.0 zone sound small
             ∙ and_true (nat_lt l (length net.links)) (is_zone (zone_named net zone) (zone_at net (link_at net l).to.0)) p
@@ -266,3 +267,5 @@ router_is net leads r sound st o = record { many = st.many; few = (let n = o.zon
             let leads_in = st.leading s 0 (state_in l h) in
             let waits : wait_between net l b.0 ≡ Some t.penalty = sym (st.turns l b.0 h) ∙ waiting net a b.0 t leads_in (out.0) (i.4) in
             subst (λ x. (wait_between net l x.link ≡ Some x.wait) × (x.to ≡ get_or r.states.items x.link 0)) (sym (i.5)) (waits, refl)
+
+pub ruleset state_by_state = (AreOnwards_none, AreOnwards_more, router_is)

@@ -146,3 +146,7 @@ states_are net states leads led = record {
   ends = λ l h. (led.led l (omega (arith, h, led.many))).ends;
   turns = λ l b h. (led.led l (omega (arith, h, led.many))).turns b;
 }
+
+pub ruleset one_more_state = (led_last, at_more)
+
+pub ruleset link_by_link = (at_no_node, AreLed_more, states_are)

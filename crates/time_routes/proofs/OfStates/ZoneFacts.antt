@@ -17,21 +17,10 @@ use Rattle.dta_model.specs.Walks.{is_zone, zone_at}
 use Rattle.time_routes.specs.Named.{zone_named}
 use Rattle.time_routes.specs.States.Onwards.{zone_or_none}
 use Rattle.time_routes.specs.declared.states.zone_numbers.TheConstants.{NO_ZONE}
-
-pub is_less : (a b : ℕ) → a < b → nat_lt a b ≡ true
-is_less a b h = grind (arith, nat_tests)
+use Rattle.time_routes.proofs.Basics.{differs, equal_of, is_below, same_true}
 
 pub and_true : (p q : Bool) → p ≡ true → q ≡ (p && q)
 and_true p q h = rw h refl
-
-differs : (a b : ℕ) → (a ≡ b → ⊥) → nat_eq a b ≡ false
-differs a b h = grind (arith, nat_tests)
-
-same_so : (a b : ℕ) → a ≡ b → nat_eq a b ≡ true
-same_so a b h = grind (arith, nat_tests)
-
-equal : (a b : ℕ) → nat_eq a b ≡ true → a ≡ b
-equal a b h = search (rules, h)
 
 either_way : (p q : Bool) → (p ≡ true → q ≡ true) → (q ≡ true → p ≡ true) → p ≡ q
 either_way true q f g = sym (f refl)
@@ -43,16 +32,16 @@ module _ (ids : List ℕ) (id z : ℕ) (distinct : IsDistinct nat_eq ids) (small
   place_same None e =
       let none = list_any-absent (nat_eq id) ids e in
       either_way (nat_eq NO_ZONE z) (nat_eq id (get_or ids z 0))
-      (λ t. (let s = equal NO_ZONE z t in absurd (omega (arith, s, small, short))))
+      (λ t. (let s = equal_of NO_ZONE z t in absurd (omega (arith, s, small, short))))
       (λ t. absurd (let any = list_any_at (nat_eq id) ids z 0 small t in let q : true ≡ false = sym any ∙ none in cc))
   place_same (Some i) e =
       let p = position-Some (nat_eq id) ids i 0 e in
-      let here : id ≡ get_or ids i 0 = equal id (get_or ids i 0) (p.1) in
+      let here : id ≡ get_or ids i 0 = equal_of id (get_or ids i 0) (p.1) in
       either_way (nat_eq i z) (nat_eq id (get_or ids z 0))
-      (λ t. same_so id (get_or ids z 0) (here ∙ ap (λ n. get_or ids n 0) (equal i z t)))
-      (λ t. (let there : id ≡ get_or ids z 0 = equal id (get_or ids z 0) t in
-      let alike : nat_eq (get_or ids i 0) (get_or ids z 0) ≡ true = same_so (get_or ids i 0) (get_or ids z 0) (sym here ∙ there) in
-      same_so i z (one_place i (p.0) alike (cases_lt i z))))
+      (λ t. same_true id (get_or ids z 0) (here ∙ ap (λ n. get_or ids n 0) (equal_of i z t)))
+      (λ t. (let there : id ≡ get_or ids z 0 = equal_of id (get_or ids z 0) t in
+      let alike : nat_eq (get_or ids i 0) (get_or ids z 0) ≡ true = same_true (get_or ids i 0) (get_or ids z 0) (sym here ∙ there) in
+      same_true i z (one_place i (p.0) alike (cases_lt i z))))
     where
       one_place : (i : ℕ) → i < length ids → nat_eq (get_or ids i 0) (get_or ids z 0) ≡ true → (i < z) ⊎ (z ≤ i) → i ≡ z
       one_place i inside alike (inl before) = absurd (let apart = apart_from_distinct nat_eq ids i z 0 distinct before small in let q : true ≡ false = sym alike ∙ apart in cc)
@@ -60,7 +49,7 @@ module _ (ids : List ℕ) (id z : ℕ) (distinct : IsDistinct nat_eq ids) (small
         where
           by : (z < i) ⊎ (i ≤ z) → i ≡ z
           by (inl past) =
-              let turned : nat_eq (get_or ids z 0) (get_or ids i 0) ≡ true = same_so (get_or ids z 0) (get_or ids i 0) (sym (equal (get_or ids i 0) (get_or ids z 0) alike)) in
+              let turned : nat_eq (get_or ids z 0) (get_or ids i 0) ≡ true = same_true (get_or ids z 0) (get_or ids i 0) (sym (equal_of (get_or ids i 0) (get_or ids z 0) alike)) in
               absurd (let apart = apart_from_distinct nat_eq ids z i 0 distinct past inside in let q : true ≡ false = sym turned ∙ apart in cc)
           by (inr to) = omega (arith, to, after)
 
@@ -84,4 +73,4 @@ zone_same net n z sound small = by (slice_get net.nodes n)
 
 -- the identifier of a zone's number is the zone's
 pub named : (net : NetRows) (id z : ℕ) → zone_number net id ≡ Some z → (zone_named net z ≡ id) × (z < length (zones net.nodes))
-named net id z h = let p = position-Some (nat_eq id) (zones net.nodes) z 0 h in (sym (equal id (get_or (zones net.nodes) z 0) (p.1)), p.0)
+named net id z h = let p = position-Some (nat_eq id) (zones net.nodes) z 0 h in (sym (equal_of id (get_or (zones net.nodes) z 0) (p.1)), p.0)

@@ -53,7 +53,7 @@ fn value_of(tail: &[u64], free: &[u32], router: &Router, zone: u32, state: usize
 }
 
 // Lowers what is left from a state to what it ought to be, and says whether that changed it.
-#[tactic(auto, using(crate::proofs::OfFilling::FreeFlowFacts::AreAbove_set, crate::proofs::OfFilling::FreeFlowFacts::AreShort_set, crate::proofs::OfFilling::FreeFlowFacts::sum_set_less))]
+#[tactic(auto, using(crate::proofs::OfFilling::FreeFlowFacts::lowering))]
 fn relax(tail: &mut [u64], free: &[u32], router: &Router, zone: u32, state: usize) -> bool
     requires states { length router.now.zones.items ≡ length tail.old }
     requires links { length router.now.states.items ≡ length free.now }
@@ -147,7 +147,7 @@ pub(crate) fn free_steps(alloc: Global, times: &LinkTimes, links: u32) -> Result
 }
 
 /// The least free-flow times from each state to a zone.
-#[tactic(auto, using(crate::proofs::OfFilling::FreeFlowFacts::start_low, crate::proofs::OfFilling::FreeFlowFacts::start_above, crate::proofs::OfFilling::FreeFlowFacts::start_short))]
+#[tactic(auto, using(crate::proofs::OfFilling::FreeFlowFacts::at_first))]
 pub(crate) fn tail_of(
     alloc: Global,
     router: &Router,

@@ -98,7 +98,7 @@ fn fill_state(
 }
 
 // Writes the row of a step.
-#[tactic(auto, using(crate::proofs::OfFilling::WideRowFacts::IsRowTo_none, crate::proofs::OfFilling::WideRowFacts::IsRowTo_more, crate::proofs::OfFilling::WideRowFacts::All_range))]
+#[tactic(auto, using(crate::proofs::OfFilling::WideRowFacts::state_by_state))]
 fn fill_row(
     labels: &mut [u64],
     back: usize,

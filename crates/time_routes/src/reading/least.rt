@@ -38,7 +38,7 @@ fn smaller(a: Option<u64>, b: Option<u64>) -> Option<u64>
 }
 
 /// The least label of some links.
-#[tactic(auto, using(crate::proofs::OfReading::Leasts::LeastSoFar_none, crate::proofs::OfReading::Leasts::LeastSoFar_more))]
+#[tactic(auto, using(crate::proofs::OfReading::Leasts::least_so_far))]
 pub(crate) fn least_label(labels: &ZoneLabels, firsts: &[u32], step: u64) -> Option<u64>
     requires fit { AreFit labels.now }
     requires firsts { All (λ l. l < length labels.now.times.now.free) firsts.now }

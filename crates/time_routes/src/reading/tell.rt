@@ -5,10 +5,13 @@ ghost use Rattle.net_core.specs.Grouped.{Grouped};
 ghost use Rattle.net_core.specs.Network.{numbers_below, zone_number, zones as zones_of};
 ghost use Rattle.dta_model.specs.LinkTimes.{time_at};
 ghost use Rattle.dta_model.specs.Sound.{AreTrips};
-ghost use Rattle.time_routes.specs.Destinations.{asks_least, asks_walk, AreAsMany, AreTold};
-ghost use Rattle.time_routes.specs.Destinations.{IsRight, LeadsTo, LeadsToFirst, LeastOf, noted};
-ghost use Rattle.time_routes.specs.Destinations.{Settles, Stands, Tells, UnaskedAreNone, WalkOf};
-ghost use Rattle.time_routes.specs.Destinations.{wanted, wanted_zone};
+ghost use Rattle.time_routes.specs.Destinations.{asks_least, asks_walk, AreTold};
+ghost use Rattle.time_routes.specs.Reading.Tell.{AreAsMany};
+ghost use Rattle.time_routes.specs.Destinations.{IsRight, LeastOf};
+ghost use Rattle.time_routes.specs.Reading.Tell.{LeadsTo, LeadsToFirst, noted};
+ghost use Rattle.time_routes.specs.Destinations.{UnaskedAreNone, WalkOf};
+ghost use Rattle.time_routes.specs.Reading.Tell.{Settles, Stands, Tells};
+ghost use Rattle.time_routes.specs.Reading.Tell.{wanted, wanted_zone};
 ghost use Rattle.time_routes.specs.ToZone.{zone_numbers};
 
 use crate::reading::group_labels::{GroupLabels, MOST_GROUP};

@@ -52,7 +52,7 @@ impl Leads {
     }
 
     // The state in which a link ends, which is a new one where none serves.
-    #[tactic(auto, using(crate::proofs::OfStates::StateFacts::led_last, crate::proofs::OfStates::StateFacts::at_more))]
+    #[tactic(auto, using(crate::proofs::OfStates::StateFacts::one_more_state))]
     fn state_for(&mut self, net: &Net, link: LinkNo) -> Result<u32, Memory>
         requires net { IsNet net.now }
         requires link { link.0 < length net.now.links }
@@ -90,7 +90,7 @@ pub(crate) fn end_of(net: &Net, link: LinkNo) -> NodeNo
 }
 
 /// A state for each node where no turn is listed, and one for each link that ends at another.
-#[tactic(auto, using(crate::proofs::OfStates::StateFacts::at_no_node, crate::proofs::OfStates::StateFacts::AreLed_more, crate::proofs::OfStates::StateFacts::states_are))]
+#[tactic(auto, using(crate::proofs::OfStates::StateFacts::link_by_link))]
 pub(crate) fn states_of(alloc: Global, net: &Net) -> Result<States, Memory>
     ensures are { IfOk result (λ states. AreStates net.now states.of.items states.leads.items) }
     ensures net { IsNet net.now }

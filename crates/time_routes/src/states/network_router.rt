@@ -51,7 +51,7 @@ fn add_ways(ways: &mut Vec<Onward>, net: &Net, states: &[u32], link: LinkNo) -> 
 }
 
 /// The ways on from the links of a network.
-#[tactic(auto, using(crate::proofs::OfStates::RouterFacts::AreOnwards_none, crate::proofs::OfStates::RouterFacts::AreOnwards_more, crate::proofs::OfStates::RouterFacts::router_is))]
+#[tactic(auto, using(crate::proofs::OfStates::RouterFacts::state_by_state))]
 pub(crate) fn router_of(alloc: Global, net: &Net) -> Result<Router, Memory>
     ensures { IfOk result (λ r. IsRouter net.now r) }
 {

@@ -51,7 +51,7 @@ impl Router {
     }
 
     /// The ways on from a state.
-    #[tactic(auto, using(crate::proofs::OfFilling::WideRowFacts::All_range))]
+    #[tactic(auto, using(crate::proofs::Basics::All_range))]
     pub(crate) fn ways_on(&self, state: usize) -> &[Onward]
         requires { state < length self.now.zones.items }
         ensures are { result.now ≡ ways_of self.now.starts.items self.now.ways.items state }

@@ -6,7 +6,7 @@ use Rattle.time_routes.specs.Filling.Rests.{span}
 use Rattle.time_routes.specs.States.Spans.{AreNarrow, IsSpans}
 use Rattle.time_routes.specs.States.Routers.{ways_of}
 use Rattle.time_routes.proofs.OfFilling.SlotFacts.{IsSlotRowTo_next}
-use Rattle.time_routes.proofs.OfFilling.WideRowFacts.{All_range}
+use Rattle.time_routes.proofs.Basics.{All_range}
 use Rattle.time_routes.proofs.OfStates.SpanFacts.{IsSpans_range, spans_short, wide_inside}
 use Rattle.time_routes.proofs.filling.slot_fill.fill_row.Goals as goal
 

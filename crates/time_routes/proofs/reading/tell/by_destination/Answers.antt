@@ -1,7 +1,7 @@
 use Rattle.std.proofs.Common.{◌<◌, length, sym, ◌∙◌, subst}
 use Rattle.std.proofs.lemmas.Option.{slice_get-get_or}
 use Rattle.net_core.specs.Network.{zones}
-use Rattle.time_routes.specs.Destinations.{wanted_zone}
+use Rattle.time_routes.specs.Reading.Tell.{wanted_zone}
 use Rattle.time_routes.proofs.OfReading.TellFacts.{wanted_at}
 use Rattle.time_routes.proofs.OfStates.ByZoneFacts.{grouped_more}
 use Rattle.time_routes.proofs.reading.tell.by_destination.Goals as goal

@@ -1,7 +1,7 @@
 use Rattle.std.proofs.Common.{length}
 use Rattle.net_core.specs.Grouped.{Grouped}
 use Rattle.net_core.specs.Network.{numbers_below, zones}
-use Rattle.time_routes.specs.Destinations.{wanted_zone}
+use Rattle.time_routes.specs.Reading.Tell.{wanted_zone}
 use Rattle.time_routes.proofs.reading.tell.by_destination.Given as goal
 
 abbrev pub invariant-loop-v : goal.invariant-loop-v

@@ -1,6 +1,6 @@
 use Rattle.std.proofs.Common.{◌≡◌, ◌≢◌, ℕ, ◌+◌, ◌<◌, [], sym, ◌∙◌, subst, ap, get_or}
 use Rattle.std.specs.Prelude.{All}
-use Rattle.time_routes.specs.Destinations.{noted, Stands}
+use Rattle.time_routes.specs.Reading.Tell.{noted, Stands}
 use Rattle.time_routes.specs.ToZone.{zone_numbers}
 use Rattle.time_routes.proofs.OfReading.TellFacts.{found_below, found_each}
 use Rattle.time_routes.proofs.reading.tell.destinations.Goals as goal

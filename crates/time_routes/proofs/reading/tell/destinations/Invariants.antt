@@ -1,6 +1,6 @@
 use Rattle.std.proofs.Common.{◌≢◌, ℕ, ◌<◌, [], get_or}
 use Rattle.std.specs.Prelude.{All}
-use Rattle.time_routes.specs.Destinations.{Stands}
+use Rattle.time_routes.specs.Reading.Tell.{Stands}
 use Rattle.time_routes.specs.ToZone.{zone_numbers}
 use Rattle.time_routes.proofs.reading.tell.destinations.Given as goal
 

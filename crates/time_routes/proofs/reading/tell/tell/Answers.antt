@@ -1,7 +1,8 @@
 use Rattle.std.proofs.Common.{◌≢◌, ◌≤◌, ◌<◌, ℕ, [], length, arith, subst, get_or}
 use Rattle.dta_model.specs.LinkTimes.{time_at}
 use Rattle.net_core.specs.Network.{zones}
-use Rattle.time_routes.specs.Destinations.{asks_least, asks_walk, IsRight, LeadsToFirst, LeastOf, Stands, Tells, WalkOf}
+use Rattle.time_routes.specs.Destinations.{asks_least, asks_walk, IsRight, LeastOf, WalkOf}
+use Rattle.time_routes.specs.Reading.Tell.{LeadsToFirst, Stands, Tells}
 use Rattle.time_routes.specs.ToZone.{zone_numbers}
 use Rattle.time_routes.specs.declared.states.zone_numbers.TheConstants.{NO_ZONE}
 use Rattle.time_routes.proofs.OfReading.TellFacts.{all_told, asks_some_least, asks_some_walk, unasked_none}

@@ -2,7 +2,7 @@ use Rattle.std.proofs.Common.{◌≡◌, sym, ◌∙◌, subst, ap, get_or}
 use Rattle.std.specs.Prelude.{slice_index, All}
 use Rattle.std.proofs.lemmas.List.{get_or-map}
 use Rattle.dta_model.specs.LinkTimes.{time_at}
-use Rattle.time_routes.specs.Destinations.{LeadsTo, LeadsToFirst, Stands, Tells}
+use Rattle.time_routes.specs.Reading.Tell.{LeadsTo, LeadsToFirst, Stands, Tells}
 use Rattle.time_routes.proofs.OfReading.TellFacts.{first_more, tells_then, vehicles_lead}
 use Rattle.time_routes.proofs.reading.tell.tell_group.Goals as goal
 

@@ -1,4 +1,4 @@
-use Rattle.time_routes.specs.Destinations.{LeadsToFirst, Tells}
+use Rattle.time_routes.specs.Reading.Tell.{LeadsToFirst, Tells}
 use Rattle.dta_model.specs.LinkTimes.{time_at}
 use Rattle.time_routes.proofs.reading.tell.tell_group.Given as goal
 

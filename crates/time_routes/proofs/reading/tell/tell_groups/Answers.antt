@@ -1,6 +1,6 @@
 use Rattle.std.proofs.Common.{arith}
 use Rattle.dta_model.specs.LinkTimes.{time_at}
-use Rattle.time_routes.specs.Destinations.{LeadsToFirst}
+use Rattle.time_routes.specs.Reading.Tell.{LeadsToFirst}
 use Rattle.time_routes.proofs.OfReading.TellFacts.{group_more, tells_then}
 use Rattle.time_routes.proofs.reading.tell.tell_groups.Goals as goal
 

@@ -1,5 +1,5 @@
 use Rattle.std.proofs.Common.{◌-◌, ◌≤◌, length}
-use Rattle.time_routes.specs.Destinations.{LeadsToFirst, Tells}
+use Rattle.time_routes.specs.Reading.Tell.{LeadsToFirst, Tells}
 use Rattle.dta_model.specs.LinkTimes.{time_at}
 use Rattle.time_routes.proofs.reading.tell.tell_groups.Given as goal
 

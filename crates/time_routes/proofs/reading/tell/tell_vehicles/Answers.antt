@@ -1,5 +1,5 @@
 use Rattle.dta_model.specs.LinkTimes.{time_at}
-use Rattle.time_routes.specs.Destinations.{StandsBefore}
+use Rattle.time_routes.specs.Reading.Tell.{StandsBefore}
 use Rattle.time_routes.proofs.OfReading.TellFacts.{all_before, before_more, tells_fewer, tells_then}
 use Rattle.time_routes.proofs.reading.tell.tell_vehicles.Goals as goal
 

@@ -1,4 +1,4 @@
-use Rattle.time_routes.specs.Destinations.{StandsBefore, Tells}
+use Rattle.time_routes.specs.Reading.Tell.{StandsBefore, Tells}
 use Rattle.dta_model.specs.LinkTimes.{time_at}
 use Rattle.time_routes.proofs.reading.tell.tell_vehicles.Given as goal
 
