@@ -20,7 +20,7 @@ pub mod Gather
 pub mod Totals
 pub mod Starts
 pub mod Opened
-pub mod Counts
+pub mod Capped
 pub mod HandOver
 pub mod MailPlaces
 pub mod NoNodes
