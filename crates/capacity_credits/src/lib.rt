@@ -4,12 +4,15 @@
 //! vehicles of a step and carries the parts that are left over to the next one. Its promise is the
 //! closed form of the allowance: grant k + 1 with one rate is what the rate allows in step k.
 //! Whole vehicles that a step doesn't use aren't kept for later ones. [`Credit::skip`] lets many
-//! such steps go by at once. No call takes memory.
+//! such steps go by at once. A [`Meter`] is a rate with its credit, and what is left of the step's
+//! allowance. No call takes memory.
 #![tactic(auto)]
 
 mod credit;
+mod meter;
 
 pub use credit::Credit;
+pub use meter::Meter;
 
 #[cfg(test)]
 mod tests;

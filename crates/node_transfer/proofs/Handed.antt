@@ -13,7 +13,7 @@ use Rattle.node_transfer.specs.Hand.{Within, handed, riders_in}
 use Rattle.node_transfer.proofs.Hands.{all_split}
 use Rattle.node_transfer.specs.Contents.{away, cell_before}
 use Rattle.node_transfer.proofs.HandOver.{cells_hand_over, handed-length}
-use Rattle.node_transfer.specs.ByHand.{cells_before}
+use Rattle.node_transfer.specs.Driven.{cells_before}
 
 handed-append : (xs ys : List RiderState) (loaded : List Journey) → handed (xs ++ ys) loaded ≡ handed ys (handed xs loaded)
 unfolding handed

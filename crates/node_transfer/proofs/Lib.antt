@@ -22,7 +22,7 @@ pub mod AddUp
 pub mod TwoStages
 pub mod Starts
 pub mod Opened
-pub mod Counts
+pub mod Capped
 pub mod HandOver
 pub mod MailPlaces
 pub mod NoNodes

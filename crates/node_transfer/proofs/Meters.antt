@@ -11,7 +11,7 @@ use Rattle.dta_model.specs.Trace.{Move, leads_to, stands_on}
 use Rattle.dta_model.specs.declared.plan.Plan.{Plan}
 use Rattle.net_core.specs.declared.rows.Turn.{Turn}
 use Rattle.node_transfer.specs.Contents.{kept_turns, turn_by, turn_after, exit_after, meter_after, room_of}
-use Rattle.node_transfer.specs.Meter.{granted, closed}
+use Rattle.capacity_credits.specs.Meter.{granted, closed}
 use Rattle.node_transfer.specs.Outs.{capped_by, capped_at}
 use Rattle.node_transfer.specs.Pass.{opened_turn, closed_turn, opened_exit, closed_exit}
 use Rattle.node_transfer.proofs.Mid.{T, meter_mid, capped_room, turn_mid, exit_mid, takes}

@@ -10,7 +10,7 @@ use Rattle.dta_model.specs.Stages.{staying, waiting_for, arrived_before, arrive_
 use Rattle.dta_model.specs.Trace.{Move, queue_of}
 use Rattle.dta_model.specs.declared.plan.Plan.{Plan}
 use Rattle.node_transfer.specs.Contents.{kept_turns, turn_by, storage_by, exit_after, meter_after}
-use Rattle.node_transfer.specs.Meter.{MeterState}
+use Rattle.capacity_credits.specs.Meter.{MeterState}
 use Rattle.node_transfer.specs.declared.in_link.InLink.{InLink}
 use Rattle.node_transfer.specs.declared.mail.Mail.TheVariants.{Away, Batch}
 use Rattle.node_transfer.specs.declared.out_link.OutLink.{OutLink}

@@ -14,7 +14,7 @@ use Rattle.dta_model.proofs.Queues.{distinct}
 use Rattle.net_core.specs.declared.rows.Turn.{Turn}
 use Rattle.node_transfer.specs.Cells.{set_some}
 use Rattle.node_transfer.specs.Contents.{kept_turns, turn_by}
-use Rattle.node_transfer.specs.Meter.{passed_one}
+use Rattle.capacity_credits.specs.Meter.{passed_one}
 use Rattle.node_transfer.specs.Pass.{place_of, entered_at, entered_in, entered_out, used_at, used_in, used_turn, after_arrival, after_entry}
 use Rattle.node_transfer.specs.declared.out_link.OutLink.{OutLink}
 use Rattle.node_transfer.specs.declared.turn.LimitedTurn.{LimitedTurn}

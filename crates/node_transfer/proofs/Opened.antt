@@ -30,7 +30,7 @@ use Rattle.link_queues.specs.Riders.{setting_out}
 use Rattle.link_queues.specs.declared.line.TheConstants.{MOST_RIDERS}
 use Rattle.node_transfer.specs.Cells.{changed_at, set_some}
 use Rattle.node_transfer.specs.Contents.{away, cell_before, in_link, kept_turns, meter_after, out_link, turn_after, turn_by, waiting_parts}
-use Rattle.node_transfer.specs.Meter.{unused}
+use Rattle.capacity_credits.specs.Meter.{unused}
 use Rattle.node_transfer.specs.Pass.{place_of}
 use Rattle.node_transfer.specs.Start.{cells_at_start}
 use Rattle.node_transfer.specs.StartCells.{emptied, lines_left, start_in, start_out, taken_cell, taken_cells, taken_outs, turn_at_start, turns_at_start}

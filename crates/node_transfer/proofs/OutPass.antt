@@ -23,7 +23,7 @@ use Rattle.dta_model.proofs.Gathering.{kept_at, no-moves}
 use Rattle.dta_model.proofs.Pushes.{moves_made_is}
 use Rattle.dta_model.proofs.Queues.{absent, distinct}
 use Rattle.dta_model.proofs.Standing.{in-queue}
-use Rattle.node_transfer.specs.Meter.{MeterState, closed}
+use Rattle.capacity_credits.specs.Meter.{MeterState, closed}
 use Rattle.node_transfer.specs.Outs.{Admitted, admitted, closed_out, closed_with}
 use Rattle.node_transfer.specs.declared.mail.Mail.TheVariants.{Batch}
 use Rattle.node_transfer.specs.declared.out_link.OutLink.{OutLink}

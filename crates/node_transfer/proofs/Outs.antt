@@ -4,7 +4,7 @@ use Rattle.std.specs.Prelude.{slice_get}
 use Rattle.std.specs.Prelude.{nat_le, nat_lt}
 use Rattle.std.proofs.lemmas.Bool.Decides.{nat_tests}
 use Rattle.dta_model.specs.Riders.{RiderState, moved}
-use Rattle.node_transfer.specs.Meter.{MeterState, passed_one}
+use Rattle.capacity_credits.specs.Meter.{MeterState, passed_one}
 use Rattle.node_transfer.specs.Outs.{released, admitted}
 
 pub not_le : (a b : ℕ) → b < a → nat_le a b ≡ false

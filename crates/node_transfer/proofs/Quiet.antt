@@ -6,7 +6,7 @@ use Rattle.std.proofs.lemmas.List.{map-append, take-append-drop}
 use Rattle.std.proofs.lemmas.List.Elements.{All-drop, All-head, All-map, All-tail, All-take, All-weaker}
 use Rattle.dta_model.specs.Riders.{RiderState}
 use Rattle.node_transfer.specs.Cells.{CellState, finished, joined_behind, link_after, out_mail_put, passed_front, passed_link, passed_links, passed_rotated, put_first, start_at, transferred}
-use Rattle.node_transfer.specs.Meter.{MeterState, closed, granted}
+use Rattle.capacity_credits.specs.Meter.{MeterState, closed, granted}
 use Rattle.node_transfer.specs.Outs.{capped_by, closed_out, closed_with, opened_out, released}
 use Rattle.node_transfer.specs.Pass.{by_target, opened_exit, passed, penalty_of, place_of, turn_links, verdict, verdict_by}
 use Rattle.node_transfer.specs.Rest.{HeadIsLater, IsQuiet, WaitLater, rested, rested_in, rested_once, rested_out}

@@ -2,7 +2,7 @@
 use Rattle.std.specs.Prelude.{◌≡◌, ℕ, zero, suc, ◌+◌, ◌*◌, ◌<◌, ◌%◌, List, [], ◌∷◌, map, option_map, Option, None, Some}
 use Rattle.std.proofs.Common.{refl, ap, ◌∙◌, arith}
 use Rattle.node_transfer.specs.Cells.{CellState}
-use Rattle.node_transfer.specs.Meter.{MeterState, closed, granted, skipped}
+use Rattle.capacity_credits.specs.Meter.{MeterState, closed, granted, skipped}
 use Rattle.node_transfer.specs.Pass.{closed_turn, opened_turn}
 use Rattle.node_transfer.specs.Rest.{rested, rested_in, rested_once, rested_out}
 use Rattle.node_transfer.specs.Skip.{skipped_in, skipped_out, skipped_turn}

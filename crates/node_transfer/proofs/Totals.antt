@@ -24,7 +24,7 @@ use Rattle.dta_model.specs.Sound.{IsSound}
 use Rattle.dta_model.specs.State.{count_on}
 use Rattle.link_queues.specs.Lines.{due}
 use Rattle.node_transfer.specs.Counts.{counted, counts_at}
-use Rattle.node_transfer.specs.declared.places.TheConstants.{MOST_COUNT}
+use Rattle.node_transfer.specs.declared.counts.TheConstants.{MOST_COUNT}
 use Rattle.node_transfer.proofs.Crossings.{waiting_le}
 use Rattle.node_transfer.specs.Contents.{away, cell_before, in_link, out_link, waiting_parts}
 use Rattle.node_transfer.specs.Pass.{Rides, held, out_links as links_of, place_of}

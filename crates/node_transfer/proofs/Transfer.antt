@@ -16,7 +16,7 @@ use Rattle.dta_model.specs.declared.plan.Plan.{Plan}
 use Rattle.dta_model.proofs.OnePass.{one_pass_is_enough}
 use Rattle.node_transfer.specs.Cells.{CellState, transferred, finished, passed_rotated, start_at}
 use Rattle.node_transfer.specs.Contents.{away, batch_of, room_of, cell_after, cell_before, in_link, out_link, meter_after}
-use Rattle.node_transfer.specs.Meter.{granted}
+use Rattle.capacity_credits.specs.Meter.{granted}
 use Rattle.node_transfer.specs.Outs.{opened_out, capped_by}
 use Rattle.node_transfer.specs.declared.mail.Mail.TheVariants.{Away, Batch}
 use Rattle.node_transfer.proofs.Due.{waiting-opens, parts-after}

@@ -23,7 +23,7 @@ use Rattle.node_transfer.specs.declared.pass.Verdict.TheVariants.{Stays, Arrives
 use Rattle.node_transfer.specs.declared.turn.LimitedTurn.{LimitedTurn}
 use Rattle.node_transfer.proofs.Mid.{T, meter_mid, capped_room, turn_mid, exit_mid, out_mid}
 use Rattle.node_transfer.proofs.ByKey.{both_true}
-use Rattle.node_transfer.specs.Meter.{MeterState}
+use Rattle.capacity_credits.specs.Meter.{MeterState}
 use Rattle.node_transfer.proofs.ByKey.{get-at, find_kept}
 
 -- a turn that the network allows, to a link out of the node

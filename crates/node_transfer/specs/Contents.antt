@@ -11,7 +11,7 @@ use Rattle.dta_model.specs.declared.queue.Queue.{Queue}
 use Rattle.dta_model.specs.declared.queue.Queue.TheVariants as queue
 use Rattle.net_core.specs.declared.rows.Turn.{Turn}
 use Rattle.node_transfer.specs.Cells.{CellState}
-use Rattle.node_transfer.specs.Meter.{MeterState}
+use Rattle.capacity_credits.specs.Meter.{MeterState}
 use Rattle.node_transfer.specs.declared.in_link.InLink.{InLink}
 use Rattle.node_transfer.specs.declared.mail.Mail.{Mail}
 use Rattle.node_transfer.specs.declared.mail.Mail.TheVariants.{Away, Room, Batch}

@@ -12,7 +12,7 @@ use Rattle.dta_model.specs.Riders.{RiderState}
 use Rattle.node_transfer.specs.Cells.{line_length, waiting_length}
 use Rattle.node_transfer.specs.declared.in_link.InLink.{InLink}
 use Rattle.node_transfer.specs.declared.out_link.OutLink.{OutLink}
-use Rattle.node_transfer.specs.declared.places.TheConstants.{MOST_COUNT}
+use Rattle.node_transfer.specs.declared.counts.TheConstants.{MOST_COUNT}
 use Rattle.node_transfer.specs.declared.cell.CellCounts.{CellCounts}
 
 -- of node n after t steps: those who wait for its out-links and are due, those on its in-links, and

@@ -13,7 +13,7 @@ use Rattle.node_transfer.specs.Rest.{rested}
 use Rattle.node_transfer.specs.Start.{no_journey, no_journeys}
 use Rattle.node_transfer.specs.declared.in_link.InLink.{InLink}
 use Rattle.node_transfer.specs.declared.mail.Mail.TheVariants.{Away, Room}
-use Rattle.node_transfer.specs.declared.places.TheConstants.{MOST_COUNT}
+use Rattle.node_transfer.specs.declared.counts.TheConstants.{MOST_COUNT}
 
 most_count : MOST_COUNT ≡ 18446744073709551615
 most_count = refl

@@ -1,4 +1,3 @@
-pub mod Meter
 pub mod Pass
 pub mod Outs
 pub mod Cells
@@ -13,4 +12,4 @@ pub mod Rest
 pub mod Laws
 pub mod Exchange
 pub mod Examples
-pub mod ByHand
+pub mod Driven

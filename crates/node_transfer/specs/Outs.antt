@@ -1,7 +1,7 @@
 -- An out-link at the start and at the end of a step, on lists.
 use Rattle.std.specs.Prelude.{ℕ, cond, nat_lt, nat_le, List, [], ◌∷◌, ◌++◌, Option, None, Some}
 use Rattle.dta_model.specs.Riders.{RiderState, moved}
-use Rattle.node_transfer.specs.Meter.{MeterState, granted, passed_one, closed, capped}
+use Rattle.capacity_credits.specs.Meter.{MeterState, granted, passed_one, closed, capped}
 use Rattle.node_transfer.specs.declared.mail.Mail.{Mail}
 use Rattle.node_transfer.specs.declared.mail.Mail.TheVariants.{Away, Room, Batch}
 use Rattle.node_transfer.specs.declared.out_link.Waiting.{Waiting}

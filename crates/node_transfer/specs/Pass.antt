@@ -3,7 +3,7 @@ use Rattle.link_queues.specs.declared.line.TheConstants.{MOST_RIDERS}
 use Rattle.std.specs.Prelude.{◌≡◌, ℕ, ◌+◌, ◌<◌, ◌≤◌, Bool, true, false, cond, ◌&&◌, nat_lt, nat_le, nat_eq, List, [], ◌∷◌, ◌++◌, length, map, Option, None, Some, option_map, IfSome, All, slice_get, slice_set}
 use Rattle.std.specs.List.{sum_by, last_or}
 use Rattle.dta_model.specs.Riders.{RiderState, moved}
-use Rattle.node_transfer.specs.Meter.{MeterState, granted, passed_one, closed}
+use Rattle.capacity_credits.specs.Meter.{MeterState, granted, passed_one, closed}
 use Rattle.node_transfer.specs.declared.turn.LimitedTurn.{LimitedTurn}
 use Rattle.node_transfer.specs.declared.pass.Exit.{Exit}
 use Rattle.node_transfer.specs.declared.out_link.OutLink.{OutLink}

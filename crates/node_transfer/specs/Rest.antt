@@ -4,7 +4,7 @@ use Rattle.dta_model.specs.Stages.{batch_mail, room_mail}
 use Rattle.dta_model.specs.declared.plan.Plan.{Plan}
 use Rattle.node_transfer.specs.Cells.{CellState}
 use Rattle.node_transfer.specs.Contents.{IsStep, away, cell_after, cell_before}
-use Rattle.node_transfer.specs.Meter.{closed, granted}
+use Rattle.capacity_credits.specs.Meter.{closed, granted}
 use Rattle.node_transfer.specs.Pass.{closed_exit, opened_exit}
 use Rattle.node_transfer.specs.declared.in_link.InLink.{InLink}
 use Rattle.node_transfer.specs.declared.out_link.OutLink.{OutLink}

@@ -1,5 +1,5 @@
 -- Links whose allowances of so many steps were granted at once, and are lost.
-use Rattle.node_transfer.specs.Meter.{skipped}
+use Rattle.capacity_credits.specs.Meter.{skipped}
 use Rattle.node_transfer.specs.declared.in_link.InLink.{InLink}
 use Rattle.node_transfer.specs.declared.out_link.OutLink.{OutLink}
 use Rattle.node_transfer.specs.declared.pass.Exit.{Exit}

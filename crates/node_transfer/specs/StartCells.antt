@@ -5,7 +5,7 @@ use Rattle.dta_model.specs.Riders.{RiderState}
 use Rattle.dta_model.specs.declared.plan.Plan.{Plan}
 use Rattle.node_transfer.specs.Cells.{CellState, changed_at}
 use Rattle.node_transfer.specs.Contents.{is_kept, storage_by, turn_by}
-use Rattle.node_transfer.specs.Meter.{unused}
+use Rattle.capacity_credits.specs.Meter.{unused}
 use Rattle.node_transfer.specs.declared.in_link.InLink.{InLink}
 use Rattle.node_transfer.specs.declared.mail.Mail.TheVariants.{Away}
 use Rattle.node_transfer.specs.declared.out_link.OutLink.{OutLink}

@@ -12,11 +12,11 @@ ghost use Rattle.node_transfer.specs.Rest.{IsQuiet, rested};
 ghost use Rattle.node_transfer.specs.declared.rest.TheConstants.{NO_STEP};
 ghost use Rattle.std.specs.Prelude.{◌≡◌, ℕ, suc, ◌<◌, ◌≤◌, [], All, length, slice_get, IfOk, IfSome, Some};
 
+use crate::counts::count_parts;
 use crate::hand_over::hand_parts;
 use crate::in_link::{InLink, gather_links};
-use crate::mail::Mail;
+use crate::mail::{Mail, put_in_mail, put_out_mail, swap_in_mail, swap_out_mail};
 use crate::out_link::OutLink;
-use crate::places::{count_parts, put_in_mail, put_out_mail, swap_in_mail, swap_out_mail};
 use crate::rest::{first_step, rest_links};
 use crate::step::step_links;
 use dta_model::{Loaded, MOST_HORIZON};

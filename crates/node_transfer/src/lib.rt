@@ -10,22 +10,20 @@
 #![tactic(auto)]
 
 mod cell;
+mod counts;
 pub mod exchange;
 mod hand_over;
 mod in_link;
 mod laws;
 mod lists;
 mod mail;
-mod meter;
 mod out_link;
 mod pass;
-mod places;
 mod rest;
 mod start;
 mod start_cells;
 mod start_lines;
 mod step;
-mod threads;
 mod turn;
 
 pub use cell::{CellCounts, NodeCell};
@@ -38,9 +36,8 @@ pub use lists::{Cells, Mails, Opening};
 pub use mail::Mail;
 pub use rest::NO_STEP;
 pub use start::opening;
-pub use threads::cells_go_to_threads;
 
 #[cfg(test)]
-mod by_hand;
+mod driven;
 #[cfg(test)]
 mod tests;

@@ -1,4 +1,9 @@
-// Mail between nodes.
+// Mail between nodes, and its place at a link.
+ghost use Rattle.node_transfer.specs.Cells.{in_mailed, mail_of_in, mail_of_out, out_mailed};
+ghost use Rattle.std.specs.Prelude.{◌≡◌, ◌<◌, length, slice_get, Some, option_map};
+
+use crate::in_link::InLink;
+use crate::out_link::OutLink;
 use link_queues::Line;
 
 /// What one link's nodes hand to each other.
@@ -7,4 +12,38 @@ pub enum Mail {
     Away,
     Room { step: u32, room: Option<u32> },
     Batch { step: u32, line: Line },
+}
+
+/// Puts a mail into the place of an out-link.
+pub fn put_out_mail(outs: &mut [OutLink], place: usize, mail: Mail)
+    requires { place < length outs.old }
+    ensures { outs.new ≡ out_mailed place mail outs.old }
+{
+    outs[place].mail = mail;
+}
+
+/// Puts a mail into the place of an in-link.
+pub fn put_in_mail(ins: &mut [InLink], place: usize, mail: Mail)
+    requires { place < length ins.old }
+    ensures { ins.new ≡ in_mailed place mail ins.old }
+{
+    ins[place].mail = mail;
+}
+
+/// Takes the mail out of the place of an out-link.
+pub fn swap_out_mail(outs: &mut [OutLink], place: usize) -> Mail
+    requires { place < length outs.old }
+    ensures mail { option_map mail_of_out (slice_get outs.old place) ≡ Some result }
+    ensures away { outs.new ≡ out_mailed place Mail.Away outs.old }
+{
+    std::mem::replace(&mut outs[place].mail, Mail::Away)
+}
+
+/// Takes the mail out of the place of an in-link.
+pub fn swap_in_mail(ins: &mut [InLink], place: usize) -> Mail
+    requires { place < length ins.old }
+    ensures mail { option_map mail_of_in (slice_get ins.old place) ≡ Some result }
+    ensures away { ins.new ≡ in_mailed place Mail.Away ins.old }
+{
+    std::mem::replace(&mut ins[place].mail, Mail::Away)
 }

@@ -1,13 +1,13 @@
 // An out-link of a node.
 ghost use Rattle.std.specs.Prelude.{◌≡◌, ℕ, ◌+◌, ◌-◌, ◌<◌, ◌≤◌, List, [], ◌∷◌, ◌++◌, length, map, All, IsTrue, false, Option, None, Some, slice_get, IfSome, IsSomeAnd};
 ghost use Rattle.dta_model.specs.Riders.{RiderState, moved};
-ghost use Rattle.node_transfer.specs.Meter.{MeterState, granted, passed_one, closed, capped};
+ghost use Rattle.capacity_credits.specs.Meter.{MeterState, granted, passed_one, closed, capped};
 ghost use Rattle.node_transfer.specs.Pass.{place_of, out_links, held};
 ghost use Rattle.node_transfer.specs.Outs.{released, capped_at, capped_by, opened_out, Admitted, admitted, closed_with, closed_out};
 ghost use Rattle.node_transfer.specs.Cells.{UnderWay, Waits};
 
 use crate::mail::Mail;
-use crate::meter::Meter;
+use capacity_credits::Meter;
 use fixed_units::MOST_STEP;
 use link_queues::{Line, MOST_RIDERS};
 use net_core::LinkNo;

@@ -1,12 +1,12 @@
 // One pass over one in-link.
 ghost use Rattle.std.specs.Prelude.{◌≡◌, ℕ, ◌+◌, ◌-◌, ◌<◌, ◌≤◌, List, [], ◌∷◌, ◌++◌, length, IfSome, IsSomeAnd, nat_le, slice_get, slice_set, drop, All, IsTrue, true, false, map, Option, None, Some};
 ghost use Rattle.dta_model.specs.Riders.{RiderState, moved};
-ghost use Rattle.node_transfer.specs.Meter.{MeterState, granted, passed_one, closed};
+ghost use Rattle.capacity_credits.specs.Meter.{MeterState, granted, passed_one, closed};
 ghost use Rattle.node_transfer.specs.Pass.{Work, verdict, passed, CanPass, Rides, FitsAll, total, out_links, waitings, turn_links, used_at, entered_at, turn_open, out_open, is_entry, opened_exit, closed_exit, after_arrival, after_entry, place_of};
 
-use crate::meter::Meter;
 use crate::out_link::{OutLink, place_to};
 use crate::turn::{LimitedTurns, has_pass};
+use capacity_credits::Meter;
 use fixed_units::MOST_STEP;
 use link_queues::{Line, MOST_RIDERS, Rider};
 

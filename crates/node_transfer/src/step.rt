@@ -1,10 +1,9 @@
 // One step of a node's links.
-ghost use Rattle.std.specs.Prelude.{◌≡◌, ◌≤◌};
+ghost use Rattle.std.specs.Prelude.{◌≡◌, ◌≤◌, ◌%◌, cond, nat_eq};
 ghost use Rattle.node_transfer.specs.Cells.{CellState, transferred, CanTransfer};
 
 use crate::in_link::{InLink, pass_rotated};
 use crate::out_link::{OutLink, close_outs, open_outs};
-use crate::places::start_place;
 use fixed_units::MOST_STEP;
 use link_queues::Line;
 
@@ -27,4 +26,12 @@ pub fn step_links(
     let start = start_place(step, ins.len());
     pass_rotated(ins, outs, arrived, delta, step, start);
     close_outs(outs, step);
+}
+
+// The place of the in-link that begins in a step.
+fn start_place(step: u32, count: usize) -> usize
+    ensures value { result ≡ cond (nat_eq count 0) 0 (step % count) }
+    ensures within { result ≤ count }
+{
+    if count == 0 { 0 } else { step as usize % count }
 }

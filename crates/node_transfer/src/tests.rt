@@ -1,10 +1,19 @@
 ghost use Rattle.std.specs.Prelude.{◌≡◌, [], IfOk};
 
-use crate::opening;
+use crate::{Mail, NodeCell, opening};
 use dta_model::{Loading, Queue, Routes};
 use net_core::Net;
 use std::alloc::{AllocError, Global};
 use std::test::Fail;
+
+// A cell and a mail can be given to another thread.
+fn goes_to_threads<T: Send>() {}
+
+#[test]
+fn cells_go_to_threads() {
+    goes_to_threads::<NodeCell>();
+    goes_to_threads::<Mail>();
+}
 
 // A network without nodes.
 fn no_net(alloc: Global) -> Result<Net, AllocError>

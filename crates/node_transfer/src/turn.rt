@@ -1,11 +1,11 @@
 // Turns of an in-link.
 ghost use Rattle.std.specs.Prelude.{◌≡◌, ℕ, ◌+◌, ◌-◌, ◌<◌, ◌≤◌, length, map, slice_get, List, slice_index_or, slice_set, option_copied, Option, Some, None, IfSome, true, take, drop, ◌++◌};
-ghost use Rattle.node_transfer.specs.Meter.{MeterState, granted, passed_one, closed};
+ghost use Rattle.capacity_credits.specs.Meter.{MeterState, granted, passed_one, closed};
 ghost use Rattle.node_transfer.specs.Pass.{place_of, turn_links, opened_turn, closed_turn, used_turn, limit_open, used_at, turn_open};
 ghost use Rattle.node_transfer.specs.Skip.{skipped_turn};
 
-use crate::meter::Meter;
 use crate::rest::rest_turns;
+use capacity_credits::Meter;
 use fixed_units::MOST_STEP;
 use net_core::LinkNo;
 use std::marker::Model;

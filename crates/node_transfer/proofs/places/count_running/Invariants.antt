@@ -1,8 +1,0 @@
-use Rattle.std.proofs.Common.{◌≡◌, min, take}
-use Rattle.std.specs.List.{sum_by}
-use Rattle.node_transfer.specs.Cells.{line_length}
-use Rattle.node_transfer.specs.declared.places.TheConstants.{MOST_COUNT}
-use Rattle.node_transfer.proofs.places.count_running.Given as goal
-
-abbrev pub invariant-loop-link : goal.invariant-loop-link
-invariant-loop-link l = l.count ≡ min (sum_by line_length (take l.link-index l.ins)) MOST_COUNT
