@@ -1,4 +1,4 @@
-// The links that begin in each zone.
+// Numbers listed by zones: links by where they begin, vehicles by where they go.
 ghost use Rattle.std.specs.Prelude.{◌≡◌, ◌≢◌, ◌+◌, ◌<◌, ◌++◌, ◌∷◌, ℕ, List, [], length, replicate};
 ghost use Rattle.std.specs.Prelude.{set, get_or, All, IfOk, OnOk};
 ghost use Rattle.net_core.specs.Grouped.{Grouped};
@@ -10,7 +10,7 @@ use net_core::{LinkNo, Memory, Net, NodeNo};
 use std::alloc::Global;
 use std::marker::Model;
 
-/// The links that begin in each zone, in the order of their table.
+/// The numbers of links or vehicles that are listed for each zone, in order.
 #[derive(Drop)]
 pub(crate) struct ByZone {
     lists: Vec<Vec<u32>>,
@@ -25,7 +25,7 @@ impl Model for ByZone {
 }
 
 impl ByZone {
-    // So many zones without links.
+    /// So many zones without numbers.
     pub(crate) fn new(alloc: Global, count: u32) -> Result<Self, Memory>
         ensures { IfOk result (λ firsts. firsts ≡ replicate count []) }
     {
@@ -36,7 +36,7 @@ impl ByZone {
         Ok(ByZone { lists })
     }
 
-    /// The links that begin in a zone.
+    /// The numbers that are listed for a zone.
     pub(crate) fn get(&self, zone: u32) -> &[u32]
         requires { zone < length self.now }
         ensures { get_or self.now zone [] ≡ result.now }
@@ -44,7 +44,7 @@ impl ByZone {
         &self.lists[zone as usize]
     }
 
-    // Adds a link at the end of the list of a zone.
+    // Adds a number at the end of the list of a zone.
     #[tactic(auto, using(net_core::proofs::BucketsFacts::pushed))]
     fn push(&mut self, zone: u32, link: u32) -> Result<(), Memory>
         requires { zone < length self.old }
@@ -55,7 +55,7 @@ impl ByZone {
         Ok(())
     }
 
-    // Notes the zone in which a link begins, where it is in one.
+    /// Lists a number for a zone, where there is one.
     pub(crate) fn note(&mut self, zone: u32, link: u32) -> Result<(), Memory>
         requires zone { zone ≢ NO_ZONE → zone < length self.old }
         requires short { length self.old < NO_ZONE }
