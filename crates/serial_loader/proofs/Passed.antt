@@ -12,7 +12,7 @@ use Rattle.node_transfer.specs.Exchange.{ArePut, ChangesOnly}
 use Rattle.serial_loader.specs.Exchange.{AllBringBatches, AllHoldBatches, AllTellRooms, AreWoken, as_batch, put_batch, wake_by}
 use Rattle.serial_loader.specs.declared.clock.Clock.{Clock}
 use Rattle.serial_loader.proofs.Clocks.{more-woken, woken-by}
-use Rattle.node_transfer.proofs.Exchanges.{emptied-next, replaced, told-next}
+use Rattle.node_transfer.proofs.Exchanges.{emptied-next, filled-next, replaced, told-next}
 use Rattle.serial_loader.proofs.Mails.{hold-next, put-mail}
 use Rattle.node_transfer.proofs.Puts.{among-links, put-next}
 use Rattle.node_transfer.proofs.Parts.{IsMadeOf}
@@ -23,12 +23,16 @@ some_is P o v h e = subst (λ o. IfSome o P) e h
 
 module _ (p : Plan) (n t : ℕ) (ends : ℕ → ℕ) (links : List ℕ) (cell : (ℕ → Mail) → CellState) (put : ℕ → Mail → CellState → CellState) (told : ℕ → CellState → Option Mail)
     (made : IsMadeOf p n ends links cell put told) where
-  -- the mail of an in-link is the batch of the step
-  pub completed : (j b : ℕ) (m' d : Mail) (old ms : List Mail) → slice_get links j ≡ Some b → b < length ms → ArePut (batch_of p t) (take j links) old ms → AllBringBatches p t links old
-      → m' ≡ as_batch t (get_or ms b d) → ArePut (batch_of p t) (take (j + 1) links) old (slice_set ms b m')
-  completed j b m' d old ms e inside puts brings is =
-      let there : slice_get old b ≡ Some (get_or ms b d) = sym (puts.others.others b (not-before links j b made.once e)) ∙ slice_get-get_or ms b d inside in
-      put-next (batch_of p t) links j b m' old ms e inside (is ∙ brings b (get_or ms b d) (among-links links j b e) there) puts
+  -- the mail of an in-link is lent as the batch of the step
+  pub completed : (j b : ℕ) (d m' : Mail) (c c' : CellState) (old ms : List Mail) → slice_get links j ≡ Some b → b < length ms
+      → c ≡ cell (replaced (take j links) (batch_of p t) away) → ArePut away (take j links) old ms → AllBringBatches p t links old
+      → c' ≡ put j (as_batch t (get_or ms b d)) c → m' ≡ Away
+      → (c' ≡ cell (replaced (take (j + 1) links) (batch_of p t) away)) × ArePut away (take (j + 1) links) old (slice_set ms b m')
+  completed j b d m' c c' old ms e inside is puts brings now gone =
+      let there : slice_get old b ≡ Some (get_or ms b d) = sym (puts.others.others b (not-before links j b made.once e)) ∙ slice_get-get_or ms b d inside in (
+        filled-next p n ends links cell put told made (batch_of p t) j b (as_batch t (get_or ms b d)) c c' e is (brings b (get_or ms b d) (among-links links j b e) there) now,
+        put-next away links j b m' old ms e inside gone puts,
+      )
 
   -- a batch is taken out of the place of an out-link
   pub collected : (j b : ℕ) (first clocks clocks' : List Clock) (old ms ms' : List Mail) (c c' : CellState) → slice_get links j ≡ Some b

@@ -2,19 +2,20 @@
 // mail tells its room until somebody comes, and a batch with which nobody comes is dropped.
 ghost use Rattle.dta_model.specs.Lent.{plan_of};
 ghost use Rattle.dta_model.specs.Plans.{ins as ins_of, outs as outs_of};
-ghost use Rattle.node_transfer.specs.Cells.{out_mail, with_out_mail};
+ghost use Rattle.node_transfer.specs.Cells.{in_mail, out_mail, with_in_mail, with_out_mail};
 ghost use Rattle.node_transfer.specs.Contents.{IsStep, away, batch_of, cell_after, cell_before};
 ghost use Rattle.node_transfer.specs.Contents.{room_of};
 ghost use Rattle.node_transfer.specs.Exchange.{ArePut, ChangesOnly};
 ghost use Rattle.serial_loader.specs.Exchange.{AllBringBatches, AllHoldBatches, AllTellRooms};
 ghost use Rattle.serial_loader.specs.Exchange.{AreWoken, as_batch, brings, put_batch, told_room};
 ghost use Rattle.serial_loader.specs.Exchange.{wake_by, woken};
-ghost use Rattle.std.specs.Prelude.{◌≡◌, ◌<◌, length, IfSome};
+ghost use Rattle.std.specs.Prelude.{◌≡◌, ◌<◌, length, IfSome, Some};
 
 use crate::clock::Clock;
 use dta_model::Loading;
 use link_queues::Line;
 use net_core::{LinkNo, NodeNo};
+use node_transfer::exchange::lend_in;
 use node_transfer::{Mail, NodeCell};
 use std::alloc::Global;
 
@@ -124,26 +125,40 @@ fn wake(clock: &mut Clock, step: u32)
     clock.wake = clock.wake.min(step);
 }
 
-/// Makes the mail of a node's in-links the batches of a step: where no batch was put, it is one
+/// Fills the places of a node's in-links with the batches of a step: where no batch was put, with one
 /// with which nobody comes.
-pub fn complete_batches(
+pub fn lend_batches(
     alloc: Global,
     loading: &Loading,
     node: NodeNo,
     step: u32,
+    cell: &mut NodeCell,
     mail: &mut [Mail],
 )
     requires step { IsStep (plan_of loading.now) node.0 step }
     requires count { length mail.old ≡ length loading.now.net.now.links }
+    requires cell { cell.old ≡ cell_after (plan_of loading.now) node.0 step away away }
     requires batches { AllBringBatches (plan_of loading.now) step
         (ins_of (plan_of loading.now) node.0) mail.old }
-    ensures { ArePut (batch_of (plan_of loading.now) step) (ins_of (plan_of loading.now) node.0)
-        mail.old mail.new }
+    ensures cell { cell.new ≡ cell_after (plan_of loading.now) node.0 step
+        (batch_of (plan_of loading.now) step) away }
+    ensures lent { ArePut away (ins_of (plan_of loading.now) node.0) mail.old mail.new }
 {
     let ins = loading.net.ins(node);
     for place in 0..ins.len() {
-        complete_batch(alloc, step, &mut mail[ins[place].0 as usize]);
+        lend_batch(alloc, step, place, cell, &mut mail[ins[place].0 as usize]);
     }
+}
+
+// Lends the mail of an in-link to its place in a cell, as the batch of a step.
+fn lend_batch(alloc: Global, step: u32, place: usize, cell: &mut NodeCell, mail: &mut Mail)
+    requires there { place < length cell.old.ins }
+    requires away { in_mail place cell.old ≡ Some Mail.Away }
+    ensures cell { cell.new ≡ with_in_mail place (as_batch step mail.old) cell.old }
+    ensures mail { mail.new ≡ Mail.Away }
+{
+    complete_batch(alloc, step, mail);
+    lend_in(place, cell, mail);
 }
 
 // Makes a mail the batch of a step.

@@ -9,10 +9,10 @@ ghost use Rattle.serial_loader.specs.Phases.{IsBefore, Stands};
 ghost use Rattle.std.specs.Prelude.{◌≡◌, suc, IfSome, length, slice_get};
 
 use crate::clock::Clock;
-use crate::exchange::{collect_batches, complete_batches, lend_rooms};
+use crate::exchange::{collect_batches, lend_batches, lend_rooms};
 use dta_model::Loading;
 use net_core::NodeNo;
-use node_transfer::exchange::gather_unit;
+use node_transfer::exchange::collect_rooms;
 use node_transfer::{Mail, NodeCell};
 use std::alloc::Global;
 
@@ -72,8 +72,9 @@ pub fn gather_node(
         (ins_of (plan_of loading.now) node.0) mail.new }
 {
     cell.rest(step + 1 - clock.since);
-    complete_batches(alloc, loading, node, step, mail);
-    gather_unit(loading, node, step, cell, mail);
+    lend_batches(alloc, loading, node, step, cell, mail);
+    cell.gather(step);
+    collect_rooms(loading, node, step, cell, mail);
     *clock = Clock {
         since: step + 1,
         wake: cell.next_step(),
