@@ -4,6 +4,7 @@ pub mod Transfers
 pub mod MemDesk
 pub mod MemInside
 pub mod FileDesk
+pub mod State
 pub mod TallyDesk
 pub mod TallyInside
 pub mod Examples

@@ -1,9 +1,8 @@
 // Whole tables and whole texts over a desk.
-ghost use Rattle.std.specs.Prelude.{◌≡◌, ◌≤◌, length, IfOk, OnOk, OnErr};
+ghost use Rattle.std.specs.Prelude.{◌≡◌, ◌≤◌};
 ghost use Rattle.desk_io.specs.declared.transfers.ReadRefusal.TheVariants as refusal;
-ghost use Rattle.desk_io.specs.Desk.{grown};
-ghost use Rattle.desk_io.specs.Faults.{HasCause, Rose};
-ghost use Rattle.desk_io.specs.Transfers.{IsRead, IsBegun, IsLong, IsPartOut};
+ghost use Rattle.desk_io.specs.State.{state_of};
+ghost use Rattle.desk_io.specs.Transfers.{Puts, Reads};
 
 use crate::{Desk, Failed, Memory, Output, Table};
 use std::alloc::Global;
@@ -46,17 +45,8 @@ pub fn read_table<D: Desk>(
     table: Table,
     limit: u64,
 ) -> Result<Vec<u8>, ReadRefusal>
-    ensures whole { IfOk result (λ bytes.
-        IsRead table bytes.items (D.left desk.old) (D.left desk.new)) }
-    ensures short { IfOk result (λ bytes. length bytes.items ≤ limit) }
-    ensures begun { OnErr result (IsBegun table (D.left desk.old) (D.left desk.new)) }
-    ensures long { result ≡ Err refusal.TooLong
-        → IsLong table limit (D.left desk.old) (D.left desk.new) }
-    ensures failed { result ≡ Err refusal.Failed
-        → Rose (D.read_faults desk.old) (D.read_faults desk.new) }
-    ensures later { D.read_faults desk.old ≤ D.read_faults desk.new }
-    ensures taken { D.taken desk.new ≡ D.taken desk.old }
-    ensures puts { D.put_faults desk.new ≡ D.put_faults desk.old }
+    ensures { let state = state_of D.left D.taken D.read_faults D.put_faults in
+        Reads table limit (state desk.old) (state desk.new) result }
 {
     let mut bytes = Vec::new(alloc);
     let mut buf = [0; PIECE];
@@ -75,13 +65,8 @@ pub fn read_table<D: Desk>(
 /// Puts all of the bytes. On Failed a first part of them went out. It takes no memory.
 #[tactic(auto, using(crate::proofs::DeskFacts::desk_facts))]
 pub fn put_all<D: Desk>(desk: &mut D, output: Output, bytes: &[u8]) -> Result<(), Failed>
-    ensures whole { OnOk result (
-        D.taken desk.new ≡ grown output bytes.now (D.taken desk.old)) }
-    ensures refused { OnErr result (
-        IsPartOut output bytes.now (D.taken desk.old) (D.taken desk.new)) }
-    ensures left { D.left desk.new ≡ D.left desk.old }
-    ensures cause { HasCause (D.put_faults desk.old) (D.put_faults desk.new) result }
-    ensures reads { D.read_faults desk.new ≡ D.read_faults desk.old }
+    ensures { let state = state_of D.left D.taken D.read_faults D.put_faults in
+        Puts output bytes.now (state desk.old) (state desk.new) result }
 {
     let mut at = 0;
     while at < bytes.len() {

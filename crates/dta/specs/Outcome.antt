@@ -5,6 +5,7 @@ use Rattle.desk_io.specs.declared.desk.Table.{Table}
 use Rattle.desk_io.specs.declared.desk.Output.TheVariants as output
 use Rattle.desk_io.specs.Desk.{Left, Taken}
 use Rattle.desk_io.specs.Faults.{Rose}
+pub use Rattle.desk_io.specs.State.{DeskState, state_of}
 use Rattle.desk_io.specs.Transfers.{IsBegun, IsLong, IsOut}
 use Rattle.row_reader.specs.declared.faults.TableFault.{TableFault}
 use Rattle.vehicle_release.specs.Limits.{IsFirstAbove}
@@ -22,21 +23,6 @@ use Rattle.dta.specs.Outputs.{AreTexts, AreTextsSoFar, AreWatched, IsCutOff, Out
 use Rattle.dta.specs.Status.{refusal_status}
 use Rattle.dta.specs.Tables.{AreAccepted, ReachedAmong, IsFaulty, TableRows, no_rows}
 use Rattle.dta.specs.Verdict.{Verdict, Refused, Accepted}
-
--- all that a clause sees of a desk
-pub record DeskState : Type 0 where
-  pub left : Left
-  pub taken : Taken
-  pub read_faults : ℕ
-  pub put_faults : ℕ
-
-abbrev pub state_of : {D : Type 0} → (D → Left) → (D → Taken) → (D → ℕ) → (D → ℕ) → D → DeskState
-state_of left taken read_faults put_faults desk = record {
-  left = left desk;
-  taken = taken desk;
-  read_faults = read_faults desk;
-  put_faults = put_faults desk;
-}
 
 -- the count of failed reads rose, and that of failed puts
 abbrev pub ReadsFailed : DeskState → DeskState → Type 0

@@ -72,11 +72,16 @@ part-then o a b p q t0 t1 t2 x y =
 pub part-done : (o : Output) (text p : List ℕ) (t0 t1 t2 : Taken) → IsAdded o text [] p t0 t1 → IsPartOut o p t1 t2 → IsPartOut o text t0 t2
 part-done o text p t0 t1 t2 a b = rw a.rest (part-later o a.sent p t0 t1 t2 a.out b)
 
+-- a first part of what is pending went out where room was made, and so a first part of it with a
+-- text
+pub part-of-room : (o : Output) (text p : List ℕ) (t0 t1 : Taken) → IsPartOut o (p ++ []) t0 t1 → IsPartOut o (p ++ text) t0 t1
+part-of-room o text p t0 t1 b = part-longer o p text t0 t1 (rw (← append-nil p) b)
+
 -- making room
-pub ruleset rooms = (added-none, added-all)
+pub ruleset rooms = (added-none, added-all, part-longer)
 
 -- making room, and pushing a text after it
-pub ruleset pieces = (added-pushed, part-longer)
+pub ruleset pieces = (added-pushed, part-of-room)
 
 -- the length of a text that is pushed
 pub ruleset lengths = (append_assoc, length-append)

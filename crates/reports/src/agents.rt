@@ -1,11 +1,10 @@
 // The text of the vehicles.
 ghost use Rattle.std.specs.Prelude.{◌≡◌, ◌≤◌, ◌+◌, ◌++◌, IfSome, length, OnOk, OnErr, option_copied};
 ghost use Rattle.desk_io.specs.declared.desk.Output.TheVariants as output;
-ghost use Rattle.desk_io.specs.Desk.{grown};
-ghost use Rattle.desk_io.specs.Faults.{HasCause};
-ghost use Rattle.desk_io.specs.Transfers.{IsPartOut};
+ghost use Rattle.desk_io.specs.State.{state_of};
+ghost use Rattle.desk_io.specs.Transfers.{Puts};
 ghost use Rattle.reports.specs.declared.pending.TheConstants.{DIGITS, PIECE};
-ghost use Rattle.reports.specs.Sending.{IsAdded};
+ghost use Rattle.reports.specs.Sending.{Adds};
 ghost use Rattle.reports.specs.Texts.{agent_header, agent_line, agent_text, AreLinksOf, AreOnNet};
 ghost use Rattle.reports.specs.Texts.{ids_of, item, joined, number_or_nothing, trip_columns, way_columns};
 
@@ -74,15 +73,9 @@ fn add_trip<D: Desk>(
     arrival: Option<u32>,
     status: AgentStatus,
 ) -> Result<(), Failed>
-    ensures whole { OnOk result (
-        IsAdded output.Agent (trip_columns trip.now arrival status)
-        pending.old pending.new (D.taken desk.old) (D.taken desk.new)) }
-    ensures refused { OnErr result (
-        IsPartOut output.Agent (pending.old ++ trip_columns trip.now arrival status)
-        (D.taken desk.old) (D.taken desk.new)) }
-    ensures left { D.left desk.new ≡ D.left desk.old }
-    ensures cause { HasCause (D.put_faults desk.old) (D.put_faults desk.new) result }
-    ensures reads { D.read_faults desk.new ≡ D.read_faults desk.old }
+    ensures { let state = state_of D.left D.taken D.read_faults D.put_faults in
+        Adds output.Agent (trip_columns trip.now arrival status) pending.old pending.new
+        (state desk.old) (state desk.new) result }
 {
     pending.make_room(desk, Output::Agent, COLUMNS)?;
     push_trip(pending, trip, arrival, status);
@@ -109,15 +102,9 @@ fn add_item<D: Desk>(
     place: usize,
     number: u64,
 ) -> Result<(), Failed>
-    ensures whole { OnOk result (
-        IsAdded output.Agent (item place number)
-        pending.old pending.new (D.taken desk.old) (D.taken desk.new)) }
-    ensures refused { OnErr result (
-        IsPartOut output.Agent (pending.old ++ item place number)
-        (D.taken desk.old) (D.taken desk.new)) }
-    ensures left { D.left desk.new ≡ D.left desk.old }
-    ensures cause { HasCause (D.put_faults desk.old) (D.put_faults desk.new) result }
-    ensures reads { D.read_faults desk.new ≡ D.read_faults desk.old }
+    ensures { let state = state_of D.left D.taken D.read_faults D.put_faults in
+        Adds output.Agent (item place number) pending.old pending.new
+        (state desk.old) (state desk.new) result }
 {
     pending.make_room(desk, Output::Agent, ITEM)?;
     push_item(pending, place, number);
@@ -132,15 +119,9 @@ fn add_ids<D: Desk>(
     route: &[LinkNo],
 ) -> Result<(), Failed>
     requires { AreLinksOf net.now route.now }
-    ensures whole { OnOk result (
-        IsAdded output.Agent (joined (ids_of net.now route.now))
-        pending.old pending.new (D.taken desk.old) (D.taken desk.new)) }
-    ensures refused { OnErr result (
-        IsPartOut output.Agent (pending.old ++ joined (ids_of net.now route.now))
-        (D.taken desk.old) (D.taken desk.new)) }
-    ensures left { D.left desk.new ≡ D.left desk.old }
-    ensures cause { HasCause (D.put_faults desk.old) (D.put_faults desk.new) result }
-    ensures reads { D.read_faults desk.new ≡ D.read_faults desk.old }
+    ensures { let state = state_of D.left D.taken D.read_faults D.put_faults in
+        Adds output.Agent (joined (ids_of net.now route.now)) pending.old pending.new
+        (state desk.old) (state desk.new) result }
 {
     'each: for place in 0..route.len() {
         let row = net.link(route[place]);
@@ -151,15 +132,9 @@ fn add_ids<D: Desk>(
 
 // Adds steps, joined.
 fn add_steps<D: Desk>(pending: &mut Pending, desk: &mut D, steps: &[u32]) -> Result<(), Failed>
-    ensures whole { OnOk result (
-        IsAdded output.Agent (joined steps.now)
-        pending.old pending.new (D.taken desk.old) (D.taken desk.new)) }
-    ensures refused { OnErr result (
-        IsPartOut output.Agent (pending.old ++ joined steps.now)
-        (D.taken desk.old) (D.taken desk.new)) }
-    ensures left { D.left desk.new ≡ D.left desk.old }
-    ensures cause { HasCause (D.put_faults desk.old) (D.put_faults desk.new) result }
-    ensures reads { D.read_faults desk.new ≡ D.read_faults desk.old }
+    ensures { let state = state_of D.left D.taken D.read_faults D.put_faults in
+        Adds output.Agent (joined steps.now) pending.old pending.new
+        (state desk.old) (state desk.new) result }
 {
     'each: for place in 0..steps.len() {
         add_item(pending, desk, place, u64::from(steps[place]))?;
@@ -177,15 +152,9 @@ fn add_way<D: Desk>(
     steps: &[u32],
 ) -> Result<(), Failed>
     requires { AreLinksOf net.now route.now }
-    ensures whole { OnOk result (
-        IsAdded output.Agent (way_columns (ids_of net.now route.now) steps.now)
-        pending.old pending.new (D.taken desk.old) (D.taken desk.new)) }
-    ensures refused { OnErr result (
-        IsPartOut output.Agent (pending.old ++ way_columns (ids_of net.now route.now) steps.now)
-        (D.taken desk.old) (D.taken desk.new)) }
-    ensures left { D.left desk.new ≡ D.left desk.old }
-    ensures cause { HasCause (D.put_faults desk.old) (D.put_faults desk.new) result }
-    ensures reads { D.read_faults desk.new ≡ D.read_faults desk.old }
+    ensures { let state = state_of D.left D.taken D.read_faults D.put_faults in
+        Adds output.Agent (way_columns (ids_of net.now route.now) steps.now) pending.old pending.new
+        (state desk.old) (state desk.new) result }
 {
     add_ids(pending, desk, net, route)?;
     pending.add(desk, Output::Agent, ",")?;
@@ -204,15 +173,9 @@ fn add_agent<D: Desk>(
     journey: &Journey,
 ) -> Result<(), Failed>
     requires { IfSome (option_copied route) (AreLinksOf net.now) }
-    ensures whole { OnOk result (
-        IsAdded output.Agent (agent_line net.now trip.now (option_copied route.entry) journey.now)
-        pending.old pending.new (D.taken desk.old) (D.taken desk.new)) }
-    ensures refused { OnErr result (
-        IsPartOut output.Agent (pending.old ++ agent_line net.now trip.now (option_copied route.entry) journey.now)
-        (D.taken desk.old) (D.taken desk.new)) }
-    ensures left { D.left desk.new ≡ D.left desk.old }
-    ensures cause { HasCause (D.put_faults desk.old) (D.put_faults desk.new) result }
-    ensures reads { D.read_faults desk.new ≡ D.read_faults desk.old }
+    ensures { let state = state_of D.left D.taken D.read_faults D.put_faults in
+        Adds output.Agent (agent_line net.now trip.now (option_copied route.entry) journey.now)
+        pending.old pending.new (state desk.old) (state desk.new) result }
 {
     match route {
         None => {
@@ -246,15 +209,9 @@ pub fn put_agents<D: Desk>(
     requires routes { length routes.now ≡ length trips.now }
     requires journeys { length loaded.now ≡ length trips.now }
     requires on_net { AreOnNet net.now routes.now }
-    ensures whole { OnOk result (
-        D.taken desk.new ≡ grown output.Agent (agent_text net.now trips.now routes.now loaded.now)
-        (D.taken desk.old)) }
-    ensures refused { OnErr result (
-        IsPartOut output.Agent (agent_text net.now trips.now routes.now loaded.now)
-        (D.taken desk.old) (D.taken desk.new)) }
-    ensures left { D.left desk.new ≡ D.left desk.old }
-    ensures cause { HasCause (D.put_faults desk.old) (D.put_faults desk.new) result }
-    ensures reads { D.read_faults desk.new ≡ D.read_faults desk.old }
+    ensures { let state = state_of D.left D.taken D.read_faults D.put_faults in
+        Puts output.Agent (agent_text net.now trips.now routes.now loaded.now)
+        (state desk.old) (state desk.new) result }
 {
     let mut pending = header();
     'each: for v in 0..trips.len() as u32 {

@@ -1,11 +1,10 @@
 // The texts of `freeflow`.
 ghost use Rattle.std.specs.Prelude.{◌≡◌, ◌≤◌, ◌+◌, ◌++◌, length, OnOk, OnErr};
 ghost use Rattle.desk_io.specs.declared.desk.Output.TheVariants as output;
-ghost use Rattle.desk_io.specs.Desk.{grown};
-ghost use Rattle.desk_io.specs.Faults.{HasCause};
-ghost use Rattle.desk_io.specs.Transfers.{IsPartOut};
+ghost use Rattle.desk_io.specs.State.{state_of};
+ghost use Rattle.desk_io.specs.Transfers.{OnlyPuts, Puts};
 ghost use Rattle.reports.specs.declared.pending.TheConstants.{PIECE};
-ghost use Rattle.reports.specs.Sending.{IsAdded};
+ghost use Rattle.reports.specs.Sending.{Adds};
 ghost use Rattle.reports.specs.Texts.{free_link_line, free_link_time_header, free_link_time_text};
 ghost use Rattle.reports.specs.Texts.{free_report_text, IsFreeOut, IsCutShort};
 
@@ -43,15 +42,9 @@ fn push_link(pending: &mut Pending, row: LinkRow)
 // Adds the line of a link.
 #[tactic(auto, using(crate::proofs::SendingFacts::pieces))]
 fn add_link<D: Desk>(pending: &mut Pending, desk: &mut D, row: LinkRow) -> Result<(), Failed>
-    ensures whole { OnOk result (
-        IsAdded output.LinkTime (free_link_line row)
-        pending.old pending.new (D.taken desk.old) (D.taken desk.new)) }
-    ensures refused { OnErr result (
-        IsPartOut output.LinkTime (pending.old ++ free_link_line row)
-        (D.taken desk.old) (D.taken desk.new)) }
-    ensures left { D.left desk.new ≡ D.left desk.old }
-    ensures cause { HasCause (D.put_faults desk.old) (D.put_faults desk.new) result }
-    ensures reads { D.read_faults desk.new ≡ D.read_faults desk.old }
+    ensures { let state = state_of D.left D.taken D.read_faults D.put_faults in
+        Adds output.LinkTime (free_link_line row) pending.old pending.new
+        (state desk.old) (state desk.new) result }
 {
     pending.make_room(desk, Output::LinkTime, LINE)?;
     push_link(pending, row);
@@ -60,15 +53,9 @@ fn add_link<D: Desk>(pending: &mut Pending, desk: &mut D, row: LinkRow) -> Resul
 
 // Puts the table of the links.
 fn put_links<D: Desk>(desk: &mut D, links: &[LinkRow]) -> Result<(), Failed>
-    ensures whole { OnOk result (
-        D.taken desk.new ≡ grown output.LinkTime (free_link_time_text links.now)
-        (D.taken desk.old)) }
-    ensures refused { OnErr result (
-        IsPartOut output.LinkTime (free_link_time_text links.now)
-        (D.taken desk.old) (D.taken desk.new)) }
-    ensures left { D.left desk.new ≡ D.left desk.old }
-    ensures cause { HasCause (D.put_faults desk.old) (D.put_faults desk.new) result }
-    ensures reads { D.read_faults desk.new ≡ D.read_faults desk.old }
+    ensures { let state = state_of D.left D.taken D.read_faults D.put_faults in
+        Puts output.LinkTime (free_link_time_text links.now)
+        (state desk.old) (state desk.new) result }
 {
     let mut pending = header();
     'each: for row in links {
@@ -94,12 +81,9 @@ fn report(nodes: u32, links: u32) -> Pending
 /// Puts LinkTime of `freeflow`, and then its Report. On Failed a first part of one of them went
 /// out, of Report only where LinkTime is whole. It takes no memory.
 pub fn put_free<D: Desk>(desk: &mut D, net: &Net) -> Result<(), Failed>
-    ensures whole { OnOk result (IsFreeOut net.now (D.taken desk.old) (D.taken desk.new)) }
-    ensures refused { OnErr result (
-        IsCutShort net.now (D.taken desk.old) (D.taken desk.new)) }
-    ensures left { D.left desk.new ≡ D.left desk.old }
-    ensures cause { HasCause (D.put_faults desk.old) (D.put_faults desk.new) result }
-    ensures reads { D.read_faults desk.new ≡ D.read_faults desk.old }
+    ensures { let state = state_of D.left D.taken D.read_faults D.put_faults in
+        OnlyPuts (IsFreeOut net.now) (IsCutShort net.now)
+        (state desk.old) (state desk.new) result }
 {
     put_links(desk, net.links())?;
     report(net.node_count(), net.link_count()).put_out(desk, Output::Report)

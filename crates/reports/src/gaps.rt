@@ -1,11 +1,10 @@
 // The text of the gaps.
 ghost use Rattle.std.specs.Prelude.{◌≡◌, ◌≤◌, ◌+◌, ◌++◌, length, OnOk, OnErr};
 ghost use Rattle.desk_io.specs.declared.desk.Output.TheVariants as output;
-ghost use Rattle.desk_io.specs.Desk.{grown};
-ghost use Rattle.desk_io.specs.Faults.{HasCause};
-ghost use Rattle.desk_io.specs.Transfers.{IsPartOut};
+ghost use Rattle.desk_io.specs.State.{state_of};
+ghost use Rattle.desk_io.specs.Transfers.{Puts};
 ghost use Rattle.reports.specs.declared.pending.TheConstants.{PIECE};
-ghost use Rattle.reports.specs.Sending.{IsAdded};
+ghost use Rattle.reports.specs.Sending.{Adds};
 ghost use Rattle.reports.specs.Texts.{gap_header, gap_line, gap_text};
 
 use crate::pending::Pending;
@@ -52,15 +51,9 @@ fn add_gap<D: Desk>(
     iteration: u64,
     line: &GapLine,
 ) -> Result<(), Failed>
-    ensures whole { OnOk result (
-        IsAdded output.Gap (gap_line iteration line.now)
-        pending.old pending.new (D.taken desk.old) (D.taken desk.new)) }
-    ensures refused { OnErr result (
-        IsPartOut output.Gap (pending.old ++ gap_line iteration line.now)
-        (D.taken desk.old) (D.taken desk.new)) }
-    ensures left { D.left desk.new ≡ D.left desk.old }
-    ensures cause { HasCause (D.put_faults desk.old) (D.put_faults desk.new) result }
-    ensures reads { D.read_faults desk.new ≡ D.read_faults desk.old }
+    ensures { let state = state_of D.left D.taken D.read_faults D.put_faults in
+        Adds output.Gap (gap_line iteration line.now) pending.old pending.new
+        (state desk.old) (state desk.new) result }
 {
     pending.make_room(desk, Output::Gap, LINE)?;
     push_gap(pending, iteration, line);
@@ -70,13 +63,8 @@ fn add_gap<D: Desk>(
 /// Puts Gap: a line for each iteration, from 1. On Failed a first part of it went out. It takes
 /// no memory.
 pub fn put_gaps<D: Desk>(desk: &mut D, lines: &[GapLine]) -> Result<(), Failed>
-    ensures whole { OnOk result (
-        D.taken desk.new ≡ grown output.Gap (gap_text lines.now) (D.taken desk.old)) }
-    ensures refused { OnErr result (
-        IsPartOut output.Gap (gap_text lines.now) (D.taken desk.old) (D.taken desk.new)) }
-    ensures left { D.left desk.new ≡ D.left desk.old }
-    ensures cause { HasCause (D.put_faults desk.old) (D.put_faults desk.new) result }
-    ensures reads { D.read_faults desk.new ≡ D.read_faults desk.old }
+    ensures { let state = state_of D.left D.taken D.read_faults D.put_faults in
+        Puts output.Gap (gap_text lines.now) (state desk.old) (state desk.new) result }
 {
     let mut pending = header();
     'each: for place in 0..lines.len() {

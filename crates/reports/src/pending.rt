@@ -1,9 +1,8 @@
 // Text on its way out.
 ghost use Rattle.std.specs.Prelude.{◌≡◌, ◌≤◌, ◌+◌, ◌++◌, [], length, decimal, OnOk, OnErr};
-ghost use Rattle.desk_io.specs.Desk.{grown};
-ghost use Rattle.desk_io.specs.Faults.{HasCause};
-ghost use Rattle.desk_io.specs.Transfers.{IsPartOut};
-ghost use Rattle.reports.specs.Sending.{IsAdded};
+ghost use Rattle.desk_io.specs.State.{state_of};
+ghost use Rattle.desk_io.specs.Transfers.{Puts};
+ghost use Rattle.reports.specs.Sending.{Adds};
 
 use arrayvec::ArrayString;
 use desk_io::{Desk, Failed, Output, put_all};
@@ -73,13 +72,9 @@ impl Pending {
 
     /// Puts all that is pending. On Failed a first part of it went out.
     pub(crate) fn put_out<D: Desk>(&mut self, desk: &mut D, output: Output) -> Result<(), Failed>
-        ensures whole { OnOk result (D.taken desk.new ≡ grown output self.old (D.taken desk.old)) }
+        ensures puts { let state = state_of D.left D.taken D.read_faults D.put_faults in
+            Puts output self.old (state desk.old) (state desk.new) result }
         ensures none { OnOk result (self.new ≡ []) }
-        ensures refused { OnErr result (
-            IsPartOut output self.old (D.taken desk.old) (D.taken desk.new)) }
-        ensures left { D.left desk.new ≡ D.left desk.old }
-        ensures cause { HasCause (D.put_faults desk.old) (D.put_faults desk.new) result }
-        ensures reads { D.read_faults desk.new ≡ D.read_faults desk.old }
     {
         put_all(desk, output, self.text.as_str().as_bytes())?;
         self.text.clear();
@@ -96,13 +91,8 @@ impl Pending {
     ) -> Result<(), Failed>
         requires { room ≤ PIECE }
         ensures room { OnOk result (length self.new + room ≤ PIECE) }
-        ensures whole { OnOk result (
-            IsAdded output [] self.old self.new (D.taken desk.old) (D.taken desk.new)) }
-        ensures refused { OnErr result (
-            IsPartOut output self.old (D.taken desk.old) (D.taken desk.new)) }
-        ensures left { D.left desk.new ≡ D.left desk.old }
-        ensures cause { HasCause (D.put_faults desk.old) (D.put_faults desk.new) result }
-        ensures reads { D.read_faults desk.new ≡ D.read_faults desk.old }
+        ensures adds { let state = state_of D.left D.taken D.read_faults D.put_faults in
+            Adds output [] self.old self.new (state desk.old) (state desk.new) result }
     {
         if self.text.remaining_capacity() < room {
             self.put_out(desk, output)?;
@@ -119,13 +109,8 @@ impl Pending {
         text: &str,
     ) -> Result<(), Failed>
         requires { length text.now ≤ PIECE }
-        ensures whole { OnOk result (
-            IsAdded output text.now self.old self.new (D.taken desk.old) (D.taken desk.new)) }
-        ensures refused { OnErr result (
-            IsPartOut output (self.old ++ text.now) (D.taken desk.old) (D.taken desk.new)) }
-        ensures left { D.left desk.new ≡ D.left desk.old }
-        ensures cause { HasCause (D.put_faults desk.old) (D.put_faults desk.new) result }
-        ensures reads { D.read_faults desk.new ≡ D.read_faults desk.old }
+        ensures { let state = state_of D.left D.taken D.read_faults D.put_faults in
+            Adds output text.now self.old self.new (state desk.old) (state desk.new) result }
     {
         self.make_room(desk, output, text.len())?;
         self.push(text);

@@ -1,9 +1,8 @@
 // Refusals, and the limits that their lines print.
 ghost use Rattle.std.specs.Prelude.{◌≡◌, ◌≤◌, ◌+◌, ◌++◌, length, OnOk, OnErr};
 ghost use Rattle.desk_io.specs.declared.desk.Output.TheVariants as output;
-ghost use Rattle.desk_io.specs.Desk.{grown};
-ghost use Rattle.desk_io.specs.Faults.{HasCause};
-ghost use Rattle.desk_io.specs.Transfers.{IsPartOut};
+ghost use Rattle.desk_io.specs.State.{state_of};
+ghost use Rattle.desk_io.specs.Transfers.{Puts};
 ghost use Rattle.reports.specs.declared.pending.TheConstants.{PIECE};
 ghost use Rattle.reports.specs.Texts.{refusal_line};
 
@@ -90,13 +89,8 @@ fn line(refusal: &Refusal) -> Pending
 /// Puts the one line that Report has of a refusal. On Failed a first part of it went out. It takes
 /// no memory.
 pub fn put_refusal<D: Desk>(desk: &mut D, refusal: &Refusal) -> Result<(), Failed>
-    ensures whole { OnOk result (
-        D.taken desk.new ≡ grown output.Report (refusal_line refusal.now) (D.taken desk.old)) }
-    ensures refused { OnErr result (
-        IsPartOut output.Report (refusal_line refusal.now) (D.taken desk.old) (D.taken desk.new)) }
-    ensures left { D.left desk.new ≡ D.left desk.old }
-    ensures cause { HasCause (D.put_faults desk.old) (D.put_faults desk.new) result }
-    ensures reads { D.read_faults desk.new ≡ D.read_faults desk.old }
+    ensures { let state = state_of D.left D.taken D.read_faults D.put_faults in
+        Puts output.Report (refusal_line refusal.now) (state desk.old) (state desk.new) result }
 {
     line(refusal).put_out(desk, Output::Report)
 }

@@ -1,9 +1,8 @@
 // The report of a run.
 ghost use Rattle.std.specs.Prelude.{◌≡◌, ◌≤◌, ◌+◌, ◌++◌, length, OnOk, OnErr};
 ghost use Rattle.desk_io.specs.declared.desk.Output.TheVariants as output;
-ghost use Rattle.desk_io.specs.Desk.{grown};
-ghost use Rattle.desk_io.specs.Faults.{HasCause};
-ghost use Rattle.desk_io.specs.Transfers.{IsPartOut};
+ghost use Rattle.desk_io.specs.State.{state_of};
+ghost use Rattle.desk_io.specs.Transfers.{Puts};
 ghost use Rattle.reports.specs.declared.pending.TheConstants.{PIECE};
 ghost use Rattle.reports.specs.Texts.{count_lines, last_gap_lines, report_text};
 
@@ -76,13 +75,8 @@ fn push_last_gap(text: &mut Pending, line: &GapLine)
 /// Puts the twelve lines of Report. On Failed a first part of it went out. It takes no memory.
 #[tactic(auto, unfolding(crate::specs::Texts::report_text))]
 pub fn put_summary<D: Desk>(desk: &mut D, summary: &Summary) -> Result<(), Failed>
-    ensures whole { OnOk result (
-        D.taken desk.new ≡ grown output.Report (report_text summary.now) (D.taken desk.old)) }
-    ensures refused { OnErr result (
-        IsPartOut output.Report (report_text summary.now) (D.taken desk.old) (D.taken desk.new)) }
-    ensures left { D.left desk.new ≡ D.left desk.old }
-    ensures cause { HasCause (D.put_faults desk.old) (D.put_faults desk.new) result }
-    ensures reads { D.read_faults desk.new ≡ D.read_faults desk.old }
+    ensures { let state = state_of D.left D.taken D.read_faults D.put_faults in
+        Puts output.Report (report_text summary.now) (state desk.old) (state desk.new) result }
 {
     let mut text = counts(summary);
     push_last_gap(&mut text, &summary.gap);

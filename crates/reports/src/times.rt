@@ -1,13 +1,12 @@
 // The text of the link times.
 ghost use Rattle.std.specs.Prelude.{◌≡◌, ◌<◌, ◌≤◌, ◌+◌, ◌*◌, ◌++◌, length, min, OnOk, OnErr};
 ghost use Rattle.desk_io.specs.declared.desk.Output.TheVariants as output;
-ghost use Rattle.desk_io.specs.Desk.{grown};
-ghost use Rattle.desk_io.specs.Faults.{HasCause};
-ghost use Rattle.desk_io.specs.Transfers.{IsPartOut};
+ghost use Rattle.desk_io.specs.State.{state_of};
+ghost use Rattle.desk_io.specs.Transfers.{Puts};
 ghost use Rattle.dta_model.specs.LinkTimes.{bucket_count, free_steps};
 ghost use Rattle.net_core.specs.Network.{link_at};
 ghost use Rattle.reports.specs.declared.pending.TheConstants.{PIECE};
-ghost use Rattle.reports.specs.Sending.{IsAdded};
+ghost use Rattle.reports.specs.Sending.{Adds};
 ghost use Rattle.reports.specs.Texts.{bucket_line, link_lines, link_time_header, link_time_text};
 
 use crate::pending::Pending;
@@ -90,15 +89,9 @@ fn add_bucket<D: Desk>(
     requires free { times.now.free ≡ free_steps net.now }
     requires link { link.0 < length net.now.links }
     requires bucket { bucket < bucket_count times.now }
-    ensures whole { OnOk result (
-        IsAdded output.LinkTime (bucket_line net.now times.now link.0 bucket)
-        pending.old pending.new (D.taken desk.old) (D.taken desk.new)) }
-    ensures refused { OnErr result (
-        IsPartOut output.LinkTime (pending.old ++ bucket_line net.now times.now link.0 bucket)
-        (D.taken desk.old) (D.taken desk.new)) }
-    ensures left { D.left desk.new ≡ D.left desk.old }
-    ensures cause { HasCause (D.put_faults desk.old) (D.put_faults desk.new) result }
-    ensures reads { D.read_faults desk.new ≡ D.read_faults desk.old }
+    ensures { let state = state_of D.left D.taken D.read_faults D.put_faults in
+        Adds output.LinkTime (bucket_line net.now times.now link.0 bucket) pending.old pending.new
+        (state desk.old) (state desk.new) result }
 {
     pending.make_room(desk, Output::LinkTime, LINE)?;
     push_bucket(pending, net, times, link, bucket);
@@ -116,15 +109,9 @@ fn add_link<D: Desk>(
 ) -> Result<(), Failed>
     requires free { times.now.free ≡ free_steps net.now }
     requires link { link.0 < length net.now.links }
-    ensures whole { OnOk result (
-        IsAdded output.LinkTime (link_lines net.now times.now link.0)
-        pending.old pending.new (D.taken desk.old) (D.taken desk.new)) }
-    ensures refused { OnErr result (
-        IsPartOut output.LinkTime (pending.old ++ link_lines net.now times.now link.0)
-        (D.taken desk.old) (D.taken desk.new)) }
-    ensures left { D.left desk.new ≡ D.left desk.old }
-    ensures cause { HasCause (D.put_faults desk.old) (D.put_faults desk.new) result }
-    ensures reads { D.read_faults desk.new ≡ D.read_faults desk.old }
+    ensures { let state = state_of D.left D.taken D.read_faults D.put_faults in
+        Adds output.LinkTime (link_lines net.now times.now link.0) pending.old pending.new
+        (state desk.old) (state desk.new) result }
 {
     'each: for bucket in 0..times.buckets() {
         add_bucket(pending, desk, net, times, link, bucket)?;
@@ -136,15 +123,9 @@ fn add_link<D: Desk>(
 /// the network's links. On Failed a first part of it went out. It takes no memory.
 pub fn put_link_times<D: Desk>(desk: &mut D, net: &Net, times: &LinkTimes) -> Result<(), Failed>
     requires { times.now.free ≡ free_steps net.now }
-    ensures whole { OnOk result (
-        D.taken desk.new ≡ grown output.LinkTime (link_time_text net.now times.now)
-        (D.taken desk.old)) }
-    ensures refused { OnErr result (
-        IsPartOut output.LinkTime (link_time_text net.now times.now)
-        (D.taken desk.old) (D.taken desk.new)) }
-    ensures left { D.left desk.new ≡ D.left desk.old }
-    ensures cause { HasCause (D.put_faults desk.old) (D.put_faults desk.new) result }
-    ensures reads { D.read_faults desk.new ≡ D.read_faults desk.old }
+    ensures { let state = state_of D.left D.taken D.read_faults D.put_faults in
+        Puts output.LinkTime (link_time_text net.now times.now)
+        (state desk.old) (state desk.new) result }
 {
     let mut pending = header();
     'each: for link in 0..net.link_count() {

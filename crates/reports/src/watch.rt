@@ -1,9 +1,8 @@
 // The watch lines.
 ghost use Rattle.std.specs.Prelude.{◌≡◌, ◌≤◌, ◌+◌, ◌++◌, length, OnOk, OnErr};
 ghost use Rattle.desk_io.specs.declared.desk.Output.TheVariants as output;
-ghost use Rattle.desk_io.specs.Desk.{grown};
-ghost use Rattle.desk_io.specs.Faults.{HasCause};
-ghost use Rattle.desk_io.specs.Transfers.{IsPartOut};
+ghost use Rattle.desk_io.specs.State.{state_of};
+ghost use Rattle.desk_io.specs.Transfers.{Puts};
 ghost use Rattle.reports.specs.Texts.{watch_line};
 
 use crate::pending::Pending;
@@ -40,14 +39,9 @@ fn line(iteration: u32, eight: &Eight) -> Pending
 /// Puts a watch line: an iteration, and a state of its loading. On Failed a first part of it went
 /// out. It takes no memory.
 pub fn put_watch<D: Desk>(desk: &mut D, iteration: u32, eight: &Eight) -> Result<(), Failed>
-    ensures whole { OnOk result (
-        D.taken desk.new ≡ grown output.Watch (watch_line iteration eight.now) (D.taken desk.old)) }
-    ensures refused { OnErr result (
-        IsPartOut output.Watch (watch_line iteration eight.now)
-        (D.taken desk.old) (D.taken desk.new)) }
-    ensures left { D.left desk.new ≡ D.left desk.old }
-    ensures cause { HasCause (D.put_faults desk.old) (D.put_faults desk.new) result }
-    ensures reads { D.read_faults desk.new ≡ D.read_faults desk.old }
+    ensures { let state = state_of D.left D.taken D.read_faults D.put_faults in
+        Puts output.Watch (watch_line iteration eight.now)
+        (state desk.old) (state desk.new) result }
 {
     line(iteration, eight).put_out(desk, Output::Watch)
 }

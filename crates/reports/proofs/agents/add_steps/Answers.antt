@@ -5,11 +5,17 @@ use Rattle.desk_io.specs.declared.desk.Output.TheVariants as output
 use Rattle.reports.proofs.TextsFacts.{added-item, part-item, added-items}
 use Rattle.reports.proofs.agents.add_steps.Goals as goal
 
-pub returns-in_err-add_item-clause-refused : goal.returns-in_err-add_item-clause-refused
-returns-in_err-add_item-clause-refused g c =
+pub returns-in_err-add_item : goal.returns-in_err-add_item
+returns-in_err-add_item g c =
     let p = err_from_is_err_and c.from_residual.result c.from_residual.ensures.1 in
-    rw p.1 (part-item output.Agent c.args.steps.now c.each.place _ c.args.pending.now c.each.pending _ _ _
-    c.each-test.true c.from.ensures c.each.invariant.added c.in_err-add_item.ensures.refused)
+    rw p.1 (record {
+      whole = tt;
+      refused = (part-item output.Agent c.args.steps.now c.each.place _ c.args.pending.now c.each.pending _ _ _
+          c.each-test.true c.from.ensures c.each.invariant.added c.in_err-add_item.ensures.refused);
+      cause = record { later = grind (arith, common_steps); failed = grind (arith, common_steps) };
+      left = grind (arith, common_steps);
+      reads = grind (arith, common_steps);
+    })
 
 pub each-preserved : goal.each-preserved
 each-preserved g c = record {
@@ -20,5 +26,12 @@ each-preserved g c = record {
   reads = search rules;
 }
 
-pub returns-clause-whole : goal.returns-clause-whole
-returns-clause-whole g c = added-items output.Agent c.args.steps.now c.each.place c.args.pending.now c.each.pending _ _ c.each-test.false c.each.invariant.added
+pub returns : goal.returns
+returns g c =
+    record {
+      whole = added-items output.Agent c.args.steps.now c.each.place c.args.pending.now c.each.pending _ _ c.each-test.false c.each.invariant.added;
+      refused = search rules;
+      cause = record { later = grind (arith, common_steps); failed = grind (arith, common_steps) };
+      left = search rules;
+      reads = search rules;
+    }

@@ -1,4 +1,5 @@
-use Rattle.std.proofs.Common.{◌++◌}
+use Rattle.std.proofs.Common.{◌++◌, rules, arith}
+use Rattle.std.proofs.lemmas.Grind.{common_steps}
 use Rattle.std.specs.Prelude.{codes}
 use Rattle.std.proofs.lemmas.Result.{on_err_weaker, on_ok_weaker, err_from_is_err_and}
 use Rattle.desk_io.specs.declared.desk.Output.TheVariants as output
@@ -8,43 +9,56 @@ use Rattle.reports.specs.Texts.{ids_of, joined, way_columns}
 use Rattle.reports.proofs.SendingFacts.{added-then, part-first, part-then}
 use Rattle.reports.proofs.agents.add_way.Goals as goal
 
-pub returns-in_err-add-clause-refused : goal.returns-in_err-add-clause-refused
+pub returns-in_err-add : goal.returns-in_err-add
 unfolding way_columns
-returns-in_err-add-clause-refused g c =
+returns-in_err-add g c =
     let p = err_from_is_err_and c.from_residual-in_err-add.result c.from_residual-in_err-add.ensures.1 in
-    rw p.1 (part-first output.Agent (((joined (ids_of c.args.net.now c.args.route.now)) ++ codes ",") ++ joined c.args.steps.now) (codes "\n") _ _ _
-    (part-first output.Agent ((joined (ids_of c.args.net.now c.args.route.now)) ++ codes ",") (joined c.args.steps.now) _ _ _
-    (part-then output.Agent (joined (ids_of c.args.net.now c.args.route.now)) (codes ",") _ _ _ _ _ c.in_ok-add_ids.ensures.whole c.in_err-add.ensures.refused)))
+    rw p.1 (record {
+      whole = tt;
+      refused = (part-first output.Agent (((joined (ids_of c.args.net.now c.args.route.now)) ++ codes ",") ++ joined c.args.steps.now) (codes "\n") _ _ _
+          (part-first output.Agent ((joined (ids_of c.args.net.now c.args.route.now)) ++ codes ",") (joined c.args.steps.now) _ _ _
+          (part-then output.Agent (joined (ids_of c.args.net.now c.args.route.now)) (codes ",") _ _ _ _ _ c.in_ok-add_ids.ensures.whole c.in_err-add.ensures.refused)));
+      cause = record { later = grind (arith, common_steps); failed = grind (arith, common_steps) };
+      left = grind (arith, common_steps);
+      reads = grind (arith, common_steps);
+    })
 
-pub returns-in_err-add_steps-clause-refused : goal.returns-in_err-add_steps-clause-refused
+pub returns-in_err-add_steps : goal.returns-in_err-add_steps
 unfolding way_columns
-returns-in_err-add_steps-clause-refused g c =
+returns-in_err-add_steps g c =
     let p = err_from_is_err_and c.from_residual-in_err-add_steps.result c.from_residual-in_err-add_steps.ensures.1 in
-    rw p.1 (part-first output.Agent (((joined (ids_of c.args.net.now c.args.route.now)) ++ codes ",") ++ joined c.args.steps.now) (codes "\n") _ _ _
-    (part-then output.Agent ((joined (ids_of c.args.net.now c.args.route.now)) ++ codes ",") (joined c.args.steps.now) _ _ _ _ _
-    (added-then output.Agent (joined (ids_of c.args.net.now c.args.route.now)) (codes ",") _ _ _ _ _ _ c.in_ok-add_ids.ensures.whole c.in_ok-add.ensures.whole)
-    c.in_err-add_steps.ensures.refused))
+    rw p.1 (record {
+      whole = tt;
+      refused = (part-first output.Agent (((joined (ids_of c.args.net.now c.args.route.now)) ++ codes ",") ++ joined c.args.steps.now) (codes "\n") _ _ _
+          (part-then output.Agent ((joined (ids_of c.args.net.now c.args.route.now)) ++ codes ",") (joined c.args.steps.now) _ _ _ _ _
+          (added-then output.Agent (joined (ids_of c.args.net.now c.args.route.now)) (codes ",") _ _ _ _ _ _ c.in_ok-add_ids.ensures.whole c.in_ok-add.ensures.whole)
+          c.in_err-add_steps.ensures.refused));
+      cause = record { later = grind (arith, common_steps); failed = grind (arith, common_steps) };
+      left = grind (arith, common_steps);
+      reads = grind (arith, common_steps);
+    })
 
-pub returns-clause-whole : goal.returns-clause-whole
+pub returns : goal.returns
 unfolding way_columns
-returns-clause-whole g c =
-    let all : IsAdded output.Agent (codes "\n") c.add_steps.new.pending c.add-2.new.self (g.D.Desk.taken c.add_steps.new.desk) (g.D.Desk.taken c.add-2.new.desk)
-    → IsAdded output.Agent (way_columns (ids_of c.args.net.now c.args.route.now) c.args.steps.now) c.args.pending.now c.add-2.new.self (g.D.Desk.taken c.args.desk.now) (g.D.Desk.taken c.add-2.new.desk)
-    = λ last. added-then output.Agent (((joined (ids_of c.args.net.now c.args.route.now)) ++ codes ",") ++ joined c.args.steps.now) (codes "\n") _ _ _ _ _ _
-    (added-then output.Agent ((joined (ids_of c.args.net.now c.args.route.now)) ++ codes ",") (joined c.args.steps.now) _ _ _ _ _ _
-    (added-then output.Agent (joined (ids_of c.args.net.now c.args.route.now)) (codes ",") _ _ _ _ _ _ c.in_ok-add_ids.ensures.whole c.in_ok-add.ensures.whole)
-    c.in_ok-add_steps.ensures.whole)
-    last in
-    on_ok_weaker _ all c.add-2.ensures.whole
-
-pub returns-clause-refused : goal.returns-clause-refused
-unfolding way_columns
-returns-clause-refused g c =
-    let some : IsPartOut output.Agent (c.add_steps.new.pending ++ codes "\n") (g.D.Desk.taken c.add_steps.new.desk) (g.D.Desk.taken c.add-2.new.desk)
-    → IsPartOut output.Agent (c.args.pending.now ++ (way_columns (ids_of c.args.net.now c.args.route.now) c.args.steps.now)) (g.D.Desk.taken c.args.desk.now) (g.D.Desk.taken c.add-2.new.desk)
-    = λ last. part-then output.Agent (((joined (ids_of c.args.net.now c.args.route.now)) ++ codes ",") ++ joined c.args.steps.now) (codes "\n") _ _ _ _ _
-    (added-then output.Agent ((joined (ids_of c.args.net.now c.args.route.now)) ++ codes ",") (joined c.args.steps.now) _ _ _ _ _ _
-    (added-then output.Agent (joined (ids_of c.args.net.now c.args.route.now)) (codes ",") _ _ _ _ _ _ c.in_ok-add_ids.ensures.whole c.in_ok-add.ensures.whole)
-    c.in_ok-add_steps.ensures.whole)
-    last in
-    on_err_weaker _ some c.add-2.ensures.refused
+returns g c =
+    record {
+      whole = (let all : IsAdded output.Agent (codes "\n") c.add_steps.new.pending c.add-2.new.self (g.D.Desk.taken c.add_steps.new.desk) (g.D.Desk.taken c.add-2.new.desk)
+          → IsAdded output.Agent (way_columns (ids_of c.args.net.now c.args.route.now) c.args.steps.now) c.args.pending.now c.add-2.new.self (g.D.Desk.taken c.args.desk.now) (g.D.Desk.taken c.add-2.new.desk)
+          = λ last. added-then output.Agent (((joined (ids_of c.args.net.now c.args.route.now)) ++ codes ",") ++ joined c.args.steps.now) (codes "\n") _ _ _ _ _ _
+          (added-then output.Agent ((joined (ids_of c.args.net.now c.args.route.now)) ++ codes ",") (joined c.args.steps.now) _ _ _ _ _ _
+          (added-then output.Agent (joined (ids_of c.args.net.now c.args.route.now)) (codes ",") _ _ _ _ _ _ c.in_ok-add_ids.ensures.whole c.in_ok-add.ensures.whole)
+          c.in_ok-add_steps.ensures.whole)
+          last in
+          on_ok_weaker _ all c.add-2.ensures.whole);
+      refused = (let some : IsPartOut output.Agent (c.add_steps.new.pending ++ codes "\n") (g.D.Desk.taken c.add_steps.new.desk) (g.D.Desk.taken c.add-2.new.desk)
+          → IsPartOut output.Agent (c.args.pending.now ++ (way_columns (ids_of c.args.net.now c.args.route.now) c.args.steps.now)) (g.D.Desk.taken c.args.desk.now) (g.D.Desk.taken c.add-2.new.desk)
+          = λ last. part-then output.Agent (((joined (ids_of c.args.net.now c.args.route.now)) ++ codes ",") ++ joined c.args.steps.now) (codes "\n") _ _ _ _ _
+          (added-then output.Agent ((joined (ids_of c.args.net.now c.args.route.now)) ++ codes ",") (joined c.args.steps.now) _ _ _ _ _ _
+          (added-then output.Agent (joined (ids_of c.args.net.now c.args.route.now)) (codes ",") _ _ _ _ _ _ c.in_ok-add_ids.ensures.whole c.in_ok-add.ensures.whole)
+          c.in_ok-add_steps.ensures.whole)
+          last in
+          on_err_weaker _ some c.add-2.ensures.refused);
+      cause = record { later = grind (arith, common_steps); failed = grind (arith, common_steps) };
+      left = search rules;
+      reads = search rules;
+    }

@@ -10,12 +10,18 @@ use Rattle.reports.specs.Texts.{gap_header, gap_text, numbered_line}
 use Rattle.reports.proofs.TextsFacts.{added-line, part-line, lines-done, lines-part-done, gap-there}
 use Rattle.reports.proofs.gaps.put_gaps.Goals as goal
 
-pub returns-in_err-add_gap-clause-refused : goal.returns-in_err-add_gap-clause-refused
+pub returns-in_err-add_gap : goal.returns-in_err-add_gap
 unfolding gap_text
-returns-in_err-add_gap-clause-refused g c =
+returns-in_err-add_gap g c =
     let p = err_from_is_err_and c.from_residual.result c.from_residual.ensures.1 in
-    rw p.1 (part-line output.Gap numbered_line gap_header (enumerate_from 1 c.args.lines.now) c.each.place (0, _) _ [] c.each.pending _ _ _
-    (rw (length-enumerate_from 1 c.args.lines.now) c.each-test.true) (gap-there c.args.lines.now c.each.place _ c.each-test.true) c.each.invariant.added c.in_err-add_gap.ensures.refused)
+    rw p.1 (record {
+      whole = tt;
+      refused = (part-line output.Gap numbered_line gap_header (enumerate_from 1 c.args.lines.now) c.each.place (0, _) _ [] c.each.pending _ _ _
+          (rw (length-enumerate_from 1 c.args.lines.now) c.each-test.true) (gap-there c.args.lines.now c.each.place _ c.each-test.true) c.each.invariant.added c.in_err-add_gap.ensures.refused);
+      cause = record { later = grind (arith, common_steps); failed = grind (arith, common_steps) };
+      left = grind (arith, common_steps);
+      reads = grind (arith, common_steps);
+    })
 
 pub each-preserved : goal.each-preserved
 each-preserved g c = record {
@@ -26,18 +32,19 @@ each-preserved g c = record {
   reads = search rules;
 }
 
-pub returns-clause-whole : goal.returns-clause-whole
+pub returns : goal.returns
 unfolding gap_text
-returns-clause-whole g c =
-    let all : g.D.Desk.taken c.put_out.new.desk ≡ grown output.Gap c.each.pending (g.D.Desk.taken c.each.desk)
-    → g.D.Desk.taken c.put_out.new.desk ≡ grown output.Gap (gap_text c.args.lines.now) (g.D.Desk.taken c.args.desk.now)
-    = λ out. lines-done output.Gap numbered_line gap_header (enumerate_from 1 c.args.lines.now) c.each.place c.each.pending _ _ _ (rw (length-enumerate_from 1 c.args.lines.now) c.each-test.false) c.each.invariant.added out in
-    on_ok_weaker _ all c.put_out.ensures.whole
-
-pub returns-clause-refused : goal.returns-clause-refused
-unfolding gap_text
-returns-clause-refused g c =
-    let some : IsPartOut output.Gap c.each.pending (g.D.Desk.taken c.each.desk) (g.D.Desk.taken c.put_out.new.desk)
-    → IsPartOut output.Gap (gap_text c.args.lines.now) (g.D.Desk.taken c.args.desk.now) (g.D.Desk.taken c.put_out.new.desk)
-    = λ part. lines-part-done output.Gap numbered_line gap_header (enumerate_from 1 c.args.lines.now) c.each.place c.each.pending _ _ _ (rw (length-enumerate_from 1 c.args.lines.now) c.each-test.false) c.each.invariant.added part in
-    on_err_weaker _ some c.put_out.ensures.refused
+returns g c =
+    record {
+      whole = (let all : g.D.Desk.taken c.put_out.new.desk ≡ grown output.Gap c.each.pending (g.D.Desk.taken c.each.desk)
+          → g.D.Desk.taken c.put_out.new.desk ≡ grown output.Gap (gap_text c.args.lines.now) (g.D.Desk.taken c.args.desk.now)
+          = λ out. lines-done output.Gap numbered_line gap_header (enumerate_from 1 c.args.lines.now) c.each.place c.each.pending _ _ _ (rw (length-enumerate_from 1 c.args.lines.now) c.each-test.false) c.each.invariant.added out in
+          on_ok_weaker _ all c.put_out.ensures.puts.whole);
+      refused = (let some : IsPartOut output.Gap c.each.pending (g.D.Desk.taken c.each.desk) (g.D.Desk.taken c.put_out.new.desk)
+          → IsPartOut output.Gap (gap_text c.args.lines.now) (g.D.Desk.taken c.args.desk.now) (g.D.Desk.taken c.put_out.new.desk)
+          = λ part. lines-part-done output.Gap numbered_line gap_header (enumerate_from 1 c.args.lines.now) c.each.place c.each.pending _ _ _ (rw (length-enumerate_from 1 c.args.lines.now) c.each-test.false) c.each.invariant.added part in
+          on_err_weaker _ some c.put_out.ensures.puts.refused);
+      cause = record { later = grind (arith, common_steps); failed = grind (arith, common_steps) };
+      left = search rules;
+      reads = search rules;
+    }

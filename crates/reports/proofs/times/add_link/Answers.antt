@@ -9,12 +9,18 @@ use Rattle.reports.specs.Texts.{bucket_line, link_lines}
 use Rattle.reports.proofs.TextsFacts.{added-line, part-line, added-lines, number-there}
 use Rattle.reports.proofs.times.add_link.Goals as goal
 
-pub returns-in_err-add_bucket-clause-refused : goal.returns-in_err-add_bucket-clause-refused
+pub returns-in_err-add_bucket : goal.returns-in_err-add_bucket
 unfolding link_lines
-returns-in_err-add_bucket-clause-refused g c =
+returns-in_err-add_bucket g c =
     let p = err_from_is_err_and c.from_residual.result c.from_residual.ensures.1 in
-    rw p.1 (part-line output.LinkTime (bucket_line c.args.net.now c.args.times.now c.args.link.0) [] (numbers_below (bucket_count c.args.times.now)) c.each.bucket 0 _ c.args.pending.now c.each.pending _ _ _
-    (rw (length-range_with_len 0 (bucket_count c.args.times.now)) (omega arith)) (number-there (bucket_line c.args.net.now c.args.times.now c.args.link.0) (bucket_count c.args.times.now) c.each.bucket (omega arith)) c.each.invariant.added c.in_err-add_bucket.ensures.refused)
+    rw p.1 (record {
+      whole = tt;
+      refused = (part-line output.LinkTime (bucket_line c.args.net.now c.args.times.now c.args.link.0) [] (numbers_below (bucket_count c.args.times.now)) c.each.bucket 0 _ c.args.pending.now c.each.pending _ _ _
+          (rw (length-range_with_len 0 (bucket_count c.args.times.now)) (omega arith)) (number-there (bucket_line c.args.net.now c.args.times.now c.args.link.0) (bucket_count c.args.times.now) c.each.bucket (omega arith)) c.each.invariant.added c.in_err-add_bucket.ensures.refused);
+      cause = record { later = grind (arith, common_steps); failed = grind (arith, common_steps) };
+      left = grind (arith, common_steps);
+      reads = grind (arith, common_steps);
+    })
 
 pub each-preserved : goal.each-preserved
 each-preserved g c = record {
@@ -25,6 +31,13 @@ each-preserved g c = record {
   reads = search rules;
 }
 
-pub returns-clause-whole : goal.returns-clause-whole
+pub returns : goal.returns
 unfolding link_lines
-returns-clause-whole g c = added-lines output.LinkTime (bucket_line c.args.net.now c.args.times.now c.args.link.0) [] (numbers_below (bucket_count c.args.times.now)) c.each.bucket c.args.pending.now c.each.pending _ _ (rw (length-range_with_len 0 (bucket_count c.args.times.now)) (omega arith)) c.each.invariant.added
+returns g c =
+    record {
+      whole = added-lines output.LinkTime (bucket_line c.args.net.now c.args.times.now c.args.link.0) [] (numbers_below (bucket_count c.args.times.now)) c.each.bucket c.args.pending.now c.each.pending _ _ (rw (length-range_with_len 0 (bucket_count c.args.times.now)) (omega arith)) c.each.invariant.added;
+      refused = search rules;
+      cause = record { later = grind (arith, common_steps); failed = grind (arith, common_steps) };
+      left = search rules;
+      reads = search rules;
+    }

@@ -10,12 +10,18 @@ use Rattle.reports.specs.Texts.{link_lines, link_time_header, link_time_text}
 use Rattle.reports.proofs.TextsFacts.{added-line, part-line, lines-done, lines-part-done, number-there}
 use Rattle.reports.proofs.times.put_link_times.Goals as goal
 
-pub returns-in_err-add_link-clause-refused : goal.returns-in_err-add_link-clause-refused
+pub returns-in_err-add_link : goal.returns-in_err-add_link
 unfolding link_time_text
-returns-in_err-add_link-clause-refused g c =
+returns-in_err-add_link g c =
     let p = err_from_is_err_and c.from_residual.result c.from_residual.ensures.1 in
-    rw p.1 (part-line output.LinkTime (link_lines c.args.net.now c.args.times.now) link_time_header (numbers_below (length c.args.net.now.links)) c.each.link 0 _ [] c.each.pending _ _ _
-    (rw (length-range_with_len 0 (length c.args.net.now.links)) (omega arith)) (number-there (link_lines c.args.net.now c.args.times.now) (length c.args.net.now.links) c.each.link (omega arith)) c.each.invariant.added c.in_err-add_link.ensures.refused)
+    rw p.1 (record {
+      whole = tt;
+      refused = (part-line output.LinkTime (link_lines c.args.net.now c.args.times.now) link_time_header (numbers_below (length c.args.net.now.links)) c.each.link 0 _ [] c.each.pending _ _ _
+          (rw (length-range_with_len 0 (length c.args.net.now.links)) (omega arith)) (number-there (link_lines c.args.net.now c.args.times.now) (length c.args.net.now.links) c.each.link (omega arith)) c.each.invariant.added c.in_err-add_link.ensures.refused);
+      cause = record { later = grind (arith, common_steps); failed = grind (arith, common_steps) };
+      left = grind (arith, common_steps);
+      reads = grind (arith, common_steps);
+    })
 
 pub each-preserved : goal.each-preserved
 each-preserved g c = record {
@@ -26,18 +32,19 @@ each-preserved g c = record {
   reads = search rules;
 }
 
-pub returns-clause-whole : goal.returns-clause-whole
+pub returns : goal.returns
 unfolding link_time_text
-returns-clause-whole g c =
-    let all : g.D.Desk.taken c.put_out.new.desk ≡ grown output.LinkTime c.each.pending (g.D.Desk.taken c.each.desk)
-    → g.D.Desk.taken c.put_out.new.desk ≡ grown output.LinkTime (link_time_text c.args.net.now c.args.times.now) (g.D.Desk.taken c.args.desk.now)
-    = λ out. lines-done output.LinkTime (link_lines c.args.net.now c.args.times.now) link_time_header (numbers_below (length c.args.net.now.links)) c.each.link c.each.pending _ _ _ (rw (length-range_with_len 0 (length c.args.net.now.links)) (omega arith)) c.each.invariant.added out in
-    on_ok_weaker _ all c.put_out.ensures.whole
-
-pub returns-clause-refused : goal.returns-clause-refused
-unfolding link_time_text
-returns-clause-refused g c =
-    let some : IsPartOut output.LinkTime c.each.pending (g.D.Desk.taken c.each.desk) (g.D.Desk.taken c.put_out.new.desk)
-    → IsPartOut output.LinkTime (link_time_text c.args.net.now c.args.times.now) (g.D.Desk.taken c.args.desk.now) (g.D.Desk.taken c.put_out.new.desk)
-    = λ part. lines-part-done output.LinkTime (link_lines c.args.net.now c.args.times.now) link_time_header (numbers_below (length c.args.net.now.links)) c.each.link c.each.pending _ _ _ (rw (length-range_with_len 0 (length c.args.net.now.links)) (omega arith)) c.each.invariant.added part in
-    on_err_weaker _ some c.put_out.ensures.refused
+returns g c =
+    record {
+      whole = (let all : g.D.Desk.taken c.put_out.new.desk ≡ grown output.LinkTime c.each.pending (g.D.Desk.taken c.each.desk)
+          → g.D.Desk.taken c.put_out.new.desk ≡ grown output.LinkTime (link_time_text c.args.net.now c.args.times.now) (g.D.Desk.taken c.args.desk.now)
+          = λ out. lines-done output.LinkTime (link_lines c.args.net.now c.args.times.now) link_time_header (numbers_below (length c.args.net.now.links)) c.each.link c.each.pending _ _ _ (rw (length-range_with_len 0 (length c.args.net.now.links)) (omega arith)) c.each.invariant.added out in
+          on_ok_weaker _ all c.put_out.ensures.puts.whole);
+      refused = (let some : IsPartOut output.LinkTime c.each.pending (g.D.Desk.taken c.each.desk) (g.D.Desk.taken c.put_out.new.desk)
+          → IsPartOut output.LinkTime (link_time_text c.args.net.now c.args.times.now) (g.D.Desk.taken c.args.desk.now) (g.D.Desk.taken c.put_out.new.desk)
+          = λ part. lines-part-done output.LinkTime (link_lines c.args.net.now c.args.times.now) link_time_header (numbers_below (length c.args.net.now.links)) c.each.link c.each.pending _ _ _ (rw (length-range_with_len 0 (length c.args.net.now.links)) (omega arith)) c.each.invariant.added part in
+          on_err_weaker _ some c.put_out.ensures.puts.refused);
+      cause = record { later = grind (arith, common_steps); failed = grind (arith, common_steps) };
+      left = search rules;
+      reads = search rules;
+    }
