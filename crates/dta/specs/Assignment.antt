@@ -23,8 +23,8 @@ times_of s job routes = table_of (plan_of s job routes) s.bucket
 abbrev pub end_of : Settings → JobRows → VehicleRoutes → Eight
 end_of s job routes = eight_after (plan_of s job routes) s.horizon
 
--- the routes of iterations one after another, and their gaps, where the loading over routes has these
--- link times
+-- the routes of iterations one after another, and their gaps, where the loading over routes has
+-- these link times
 pub record AreIterationsBy (times : VehicleRoutes → TimeTable) (job : JobRows)
     (routes : List VehicleRoutes) (lines : List GapLine) : Type 0 where
   -- the first routes are the chosen walks by free-flow steps

@@ -24,7 +24,8 @@ NodeOrders = VehicleRoutes → ℕ → List ℕ
 
 -- each takes all nodes
 abbrev pub AreNodeOrders : Settings → JobRows → NodeOrders → Type 0
-AreNodeOrders s job order = (routes : VehicleRoutes) → AreOrders (plan_of s job routes) (order routes)
+AreNodeOrders s job order =
+    (routes : VehicleRoutes) → AreOrders (plan_of s job routes) (order routes)
 
 -- the trace of the loading over routes that takes the nodes so
 abbrev pub trace_by : Settings → JobRows → NodeOrders → VehicleRoutes → List Move
@@ -50,7 +51,8 @@ summary_by s job order last line = record (summary_of s job last line) {
 
 -- the texts after the last iteration
 abbrev pub texts_by :
-    Command → Settings → JobRows → NodeOrders → VehicleRoutes → List GapLine → GapLine → List OutText
+    Command → Settings → JobRows → NodeOrders → VehicleRoutes → List GapLine → GapLine
+    → List OutText
 texts_by command.Assign s job order last lines line =
     text_to output.Agent (agent_text job.net job.trips last (journeys_by s job order last))
     ∷ text_to output.LinkTime (link_time_text job.net (times_by s job order last))

@@ -65,8 +65,8 @@ pub record IsLast (s : Settings) (job : JobRows) (routes : VehicleRoutes) (loade
 -- all iterations are done: these are the last one's routes, journeys, link times, last state and
 -- gap, and the gaps of all
 pub record IsAssigned (s : Settings) (job : JobRows) (routes : VehicleRoutes)
-    (loaded : List Journey) (times : TimeTable) (end : Eight) (lines : List GapLine) (line : GapLine) (start now : Taken)
-    : Type 0 where
+    (loaded : List Journey) (times : TimeTable) (end : Eight) (lines : List GapLine)
+    (line : GapLine) (start now : Taken) : Type 0 where
   pub done : List VehicleRoutes
   pub as_many : length done + 1 ≡ s.iterations
   pub before : List GapLine

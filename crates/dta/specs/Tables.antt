@@ -92,7 +92,8 @@ AreAccepted units (t ∷ others) rows more before after =
 
 -- a table was reached, since those before it were accepted, and this was so of it
 abbrev pub ReachedAmong :
-    Units → List Table → Table → (TableRows → Left → Left → Type 0) → TableRows → Left → Left → Type 0
+    Units → List Table → Table → (TableRows → Left → Left → Type 0) → TableRows → Left → Left
+    → Type 0
 ReachedAmong units [] t Part rows before after = ⊥
 ReachedAmong units (first ∷ others) t Part rows before after =
     ((first ≡ t) × Part rows before after)

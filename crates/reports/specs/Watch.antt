@@ -11,8 +11,8 @@ abbrev pub multiples : ℕ → ℕ → ℕ
 multiples every steps = steps / every
 
 -- the steps after which a loading with this horizon is told, where it is watched every so many:
--- they rise from 0, each but the last has more whole multiples of `every` than the one before it, or
--- than 0, and the last is the horizon
+-- they rise from 0, each but the last has more whole multiples of `every` than the one before it,
+-- or than 0, and the last is the horizon
 pub record AreWatchSteps (every horizon : ℕ) (steps : List ℕ) : Type 0 where
   pub before : List ℕ
   pub ends : steps ≡ before ++ horizon ∷ []
