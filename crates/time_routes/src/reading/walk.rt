@@ -94,18 +94,16 @@ fn follow(
     ensures { IfOk result (λ v. IsFollowed (ways_to (time_at labels.now.times.now) net.now zone)
         (label_to labels.now) first step (link_numbers v.items)) }
 {
+    let router = labels.router;
     let mut route = Vec::new(alloc);
     route.push(LinkNo(first))?;
     let mut link = first;
     let mut entry = step;
-    while !labels
-        .router
-        .is_in(labels.router.state(link) as usize, zone)
-    {
-        let state = labels.router.state(link);
+    while !router.is_in(router.state(link) as usize, zone) {
+        let state = router.state(link);
         let start = entry + labels.times.at(LinkNo(link), entry) as u64;
         let left = labels.table.rest_at(labels.place, state, start);
-        let way = next_way(labels, labels.router.ways_on(state as usize), start, left);
+        let way = next_way(labels, router.ways_on(state as usize), start, left);
         link = way.link;
         entry = start + way.wait as u64;
         route.push(LinkNo(link))?;

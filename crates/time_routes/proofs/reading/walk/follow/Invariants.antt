@@ -9,12 +9,12 @@ use Rattle.time_routes.specs.States.RouterWays.{state_of}
 use Rattle.time_routes.specs.Filling.Tables.{rests}
 use Rattle.time_routes.proofs.reading.walk.follow.Given as goal
 
-abbrev pub invariant-loop-state : goal.invariant-loop-state
-invariant-loop-state l =
+abbrev pub invariant-loop-router : goal.invariant-loop-router
+invariant-loop-router l =
     (l.link < length l.labels.router.now.states.items)
     × (rests l.labels.table.now l.labels.place (state_of l.labels.router.now l.link) (l.entry + time_at l.labels.times.now l.link l.entry) < far)
     × (l.entry + time_at l.labels.times.now l.link l.entry + rests l.labels.table.now l.labels.place (state_of l.labels.router.now l.link) (l.entry + time_at l.labels.times.now l.link l.entry) < 2 ^ 63)
     × ((others : List ℕ) → Follows (ways_to (time_at l.labels.times.now) l.net l.zone) (label_in (time_at l.labels.times.now) (rests l.labels.table.now l.labels.place) l.labels.router.now) l.link l.entry others → IsFollowed (ways_to (time_at l.labels.times.now) l.net l.zone) (label_in (time_at l.labels.times.now) (rests l.labels.table.now l.labels.place) l.labels.router.now) l.fn.first l.fn.step (link_numbers l.route.items ++ others))
 
-abbrev pub decreases-loop-state : goal.decreases-loop-state
-decreases-loop-state l = rests l.labels.table.now l.labels.place (state_of l.labels.router.now l.link) (l.entry + time_at l.labels.times.now l.link l.entry)
+abbrev pub decreases-loop-router : goal.decreases-loop-router
+decreases-loop-router l = rests l.labels.table.now l.labels.place (state_of l.labels.router.now l.link) (l.entry + time_at l.labels.times.now l.link l.entry)
