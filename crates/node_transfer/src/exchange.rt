@@ -2,8 +2,8 @@
 //!
 //! A node takes part in a step twice: [`transfer_unit`] lends its cell the rooms of its out-links
 //! and collects their batches, [`gather_unit`] lends it the batches of its in-links and collects
-//! their next rooms. Each call changes the mail of the node's own links alone, so the nodes may come
-//! in any order.
+//! their next rooms. Each call changes the mail of the node's own links alone, so the nodes may
+//! come in any order.
 ghost use Rattle.dta_model.specs.Lent.{plan_of};
 ghost use Rattle.dta_model.specs.Plans.{ins as ins_of, outs as outs_of};
 ghost use Rattle.node_transfer.specs.Cells.{in_mail, out_mail, with_in_mail, with_out_mail};

@@ -80,8 +80,8 @@ fn hand_outs(outs: &mut [OutLink], loaded: &mut Loaded)
     }
 }
 
-/// Sets the journeys of those on the in-links, of those who wait for the out-links, and of those who
-/// arrived.
+/// Sets the journeys of those on the in-links, of those who wait for the out-links, and of those
+/// who arrived.
 pub fn hand_parts(ins: &mut [InLink], outs: &mut [OutLink], arrived: &mut Line, loaded: &mut Loaded)
     requires { All (Within (length loaded.old))
         (flat_map line_of ins.old ++ (flat_map waiting_of outs.old ++ arrived.old)) }

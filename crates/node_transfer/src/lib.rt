@@ -2,11 +2,11 @@
 //! memory.
 //!
 //! A [`NodeCell`] holds what a node needs of a loading, and a place for the [`Mail`] of each of its
-//! links. In each step it first transfers, which makes the node's moves and writes the batch of each
-//! out-link; then it gathers the batches of its in-links. The promise of each call is the content of
-//! the cell at the next stage, for every loading of which it has the content before. [`exchange`]
-//! lends the cell of a node the mail of its links and collects it. [`opening`] alone takes memory. A
-//! cell can go to another thread and come back.
+//! links. In each step it first transfers, which makes the node's moves and writes the batch of
+//! each out-link; then it gathers the batches of its in-links. The promise of each call is the
+//! content of the cell at the next stage, for every loading of which it has the content before.
+//! [`exchange`] lends the cell of a node the mail of its links and collects it. [`opening`] alone
+//! takes memory. A cell can go to another thread and come back.
 #![tactic(auto)]
 
 mod cell;

@@ -125,8 +125,8 @@ fn wake(clock: &mut Clock, step: u32)
     clock.wake = clock.wake.min(step);
 }
 
-/// Fills the places of a node's in-links with the batches of a step: where no batch was put, with one
-/// with which nobody comes.
+/// Fills the places of a node's in-links with the batches of a step: where no batch was put, with
+/// one with which nobody comes.
 pub fn lend_batches(
     alloc: Global,
     loading: &Loading,
