@@ -68,7 +68,8 @@ const TWO_VEHICLES: &str = "o_zone_id,d_zone_id,volume\n1,3,2\n";
 
 const FOUR_VEHICLES: &str = "o_zone_id,d_zone_id,volume\n1,3,4\n";
 
-static CASES: [Case; 25] = [
+// By every number of workers, and by the plain loader.
+static WORKERS: [Case; 5] = [
     Case {
         name: "two links --workers 1",
         words: "assign --period 30 --horizon 60 --workers 1",
@@ -94,6 +95,10 @@ static CASES: [Case; 25] = [
         words: "assign --period 30 --horizon 60 --plain",
         ..TWO_LINKS
     },
+];
+
+// Vehicles that arrive, run, wait and have no route.
+static VEHICLES: [Case; 6] = [
     Case {
         name: "two iterations with a watch",
         words: "assign --period 30 --horizon 60 --watch 10 --iterations 2",
@@ -172,6 +177,10 @@ agent_id,o_zone_id,d_zone_id,departure_step,arrival_step,status,link_ids,entry_s
 running 0\nwaiting 0\nroute_steps 0\nleast_steps 0\ngap_steps 0\ngap_ppm 0\n",
         ..TWO_LINKS
     },
+];
+
+// Room on links, and links that merge.
+static ROOM: [Case; 4] = [
     // Ten vehicles have room on the second link. What leaves it in a step makes room in the
     // next.
     Case {
@@ -244,6 +253,10 @@ agent_id,o_zone_id,d_zone_id,departure_step,arrival_step,status,link_ids,entry_s
 running 0\nwaiting 0\nroute_steps 14\nleast_steps 14\ngap_steps 0\ngap_ppm 0\n",
         ..TWO_LINKS
     },
+];
+
+// Routes by iterations, and turns.
+static ROUTES: [Case; 4] = [
     Case {
         name: "a narrow link and a way round",
         words: "assign --period 1 --horizon 60 --iterations 2",
@@ -312,6 +325,10 @@ agent_id,o_zone_id,d_zone_id,departure_step,arrival_step,status,link_ids,entry_s
 running 0\nwaiting 0\nroute_steps 63\nleast_steps 63\ngap_steps 0\ngap_ppm 0\n",
         ..TWO_LINKS
     },
+];
+
+// Steps and units.
+static UNITS: [Case; 4] = [
     // A link takes 60 seconds.
     Case {
         name: "steps of twelve seconds",
@@ -364,6 +381,10 @@ agent_id,o_zone_id,d_zone_id,departure_step,arrival_step,status,link_ids,entry_s
 running 0\nwaiting 0\nroute_steps 42\nleast_steps 42\ngap_steps 0\ngap_ppm 0\n",
         ..TWO_LINKS
     },
+];
+
+// Buckets, and every option.
+static OPTIONS: [Case; 2] = [
     Case {
         name: "buckets of twenty steps",
         words: "assign --period 30 --horizon 60 --bucket 20",
@@ -439,15 +460,63 @@ fn another_text(case: &Case, desk: &MemDesk) -> Option<Output> {
     None
 }
 
-// Each case ends with status 0, and puts what is wanted and nothing else.
-#[test]
-fn worked_cases(rt: HostRuntime) -> Result<(), Fail> {
-    for case in &CASES {
-        let name = case.name;
+// The name of the first case that doesn't end with status 0, or that puts something else than what
+// is wanted, with the first such output.
+fn first_failure<R: AllocGlobal + Threads + Wait>(
+    rt: &R,
+    cases: &[Case],
+) -> Result<Option<(&'static str, Option<Output>)>, Fail> {
+    for case in cases {
         let mut desk = desk_with(rt.alloc(), case)?;
-        assert!(rt; is_done(&rt, case, &mut desk)?, "{name}");
-        let other = another_text(case, &desk);
-        assert!(rt; other == None, "{name}: {other:?}");
+        if !is_done(rt, case, &mut desk)? {
+            return Ok(Some((case.name, None)));
+        }
+        if let Some(output) = another_text(case, &desk) {
+            return Ok(Some((case.name, Some(output))));
+        }
     }
+    Ok(None)
+}
+
+// Each table in a test of its own: the proof of a test grows with the cases that it names.
+#[test]
+fn cases_of_workers(rt: HostRuntime) -> Result<(), Fail> {
+    let failure = first_failure(&rt, &WORKERS)?;
+    assert!(rt; failure.is_none(), "{failure:?}");
+    Ok(())
+}
+
+#[test]
+fn cases_of_vehicles(rt: HostRuntime) -> Result<(), Fail> {
+    let failure = first_failure(&rt, &VEHICLES)?;
+    assert!(rt; failure.is_none(), "{failure:?}");
+    Ok(())
+}
+
+#[test]
+fn cases_of_room(rt: HostRuntime) -> Result<(), Fail> {
+    let failure = first_failure(&rt, &ROOM)?;
+    assert!(rt; failure.is_none(), "{failure:?}");
+    Ok(())
+}
+
+#[test]
+fn cases_of_routes(rt: HostRuntime) -> Result<(), Fail> {
+    let failure = first_failure(&rt, &ROUTES)?;
+    assert!(rt; failure.is_none(), "{failure:?}");
+    Ok(())
+}
+
+#[test]
+fn cases_of_units(rt: HostRuntime) -> Result<(), Fail> {
+    let failure = first_failure(&rt, &UNITS)?;
+    assert!(rt; failure.is_none(), "{failure:?}");
+    Ok(())
+}
+
+#[test]
+fn cases_of_options(rt: HostRuntime) -> Result<(), Fail> {
+    let failure = first_failure(&rt, &OPTIONS)?;
+    assert!(rt; failure.is_none(), "{failure:?}");
     Ok(())
 }
