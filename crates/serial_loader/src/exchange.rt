@@ -15,7 +15,6 @@ use crate::clock::Clock;
 use dta_model::Loading;
 use link_queues::Line;
 use net_core::{LinkNo, NodeNo};
-use node_transfer::exchange::lend_in;
 use node_transfer::{Mail, NodeCell};
 use std::alloc::Global;
 
@@ -157,21 +156,19 @@ fn lend_batch(alloc: Global, step: u32, place: usize, cell: &mut NodeCell, mail:
     ensures cell { cell.new ≡ with_in_mail place (as_batch step mail.old) cell.old }
     ensures mail { mail.new ≡ Mail.Away }
 {
-    complete_batch(alloc, step, mail);
-    lend_in(place, cell, mail);
+    let there = std::mem::replace(mail, Mail::Away);
+    cell.take_in(place, to_batch(alloc, step, there));
 }
 
-// Makes a mail the batch of a step.
-fn complete_batch(alloc: Global, step: u32, mail: &mut Mail)
-    ensures { mail.new ≡ as_batch step mail.old }
+// A mail as the batch of a step.
+fn to_batch(alloc: Global, step: u32, mail: Mail) -> Mail
+    ensures { result ≡ as_batch step mail }
 {
     match mail {
-        Mail::Batch { .. } => {}
-        _ => {
-            *mail = Mail::Batch {
-                step,
-                line: Line::new(alloc),
-            }
-        }
+        Mail::Batch { step, line } => Mail::Batch { step, line },
+        _ => Mail::Batch {
+            step,
+            line: Line::new(alloc),
+        },
     }
 }
