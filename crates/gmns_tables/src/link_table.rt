@@ -3,8 +3,7 @@ ghost use Rattle.std.specs.Prelude.{◌≡◌, ◌≤◌, All, None, IfOk};
 ghost use Rattle.fixed_units.specs.Units.{free_steps_of};
 ghost use Rattle.fixed_units.specs.declared.link.TheConstants.{MOST_FREE_STEPS, MOST_LANES, MOST_STEP};
 ghost use Rattle.fixed_units.specs.declared.quantity.TheConstants.{MOST_THOUSANDTHS};
-ghost use Rattle.desk_io.specs.declared.desk.Table.TheVariants as table;
-ghost use Rattle.row_reader.specs.FirstFault.{Tells, rows_of};
+ghost use Rattle.row_reader.specs.FirstFault.{Tells};
 ghost use Rattle.row_reader.specs.Records.{records};
 ghost use Rattle.net_core.specs.Ids.{place_of};
 ghost use Rattle.net_core.specs.Rows.{AreLinks, IsBetween, IsLinkInRange, link_ids};
@@ -23,9 +22,9 @@ use fixed_units::{
 };
 use net_core::{LinkRow, MOST_LINKS};
 use row_reader::{
-    Accepted, Code, Column, Complaint, Row, RowRefusal, Rows, TableRefusal, accept_all, complain,
-    header_refusal, identifier, open_table, optional_column, optional_quantity, quantity,
-    quantity_or, required_column, unless, within,
+    Accepted, Code, Column, Complaint, Row, RowRefusal, Rows, TableRefusal, complain, identifier,
+    optional_column, optional_quantity, quantity, quantity_or, read_rows, required_column, unless,
+    within,
 };
 use std::alloc::Global;
 
@@ -81,7 +80,6 @@ impl LinkPlaces {
 struct LinkTable<'a> {
     nodes: &'a NodeRows,
     units: Units,
-    places: LinkPlaces,
     rows: LinkRows,
     ghost sound: { IsUnits units },
 }
@@ -89,13 +87,12 @@ struct LinkTable<'a> {
 impl LinkTable<'_> {
     // The link of a record, or the first check that fails.
     #[tactic(auto, unfolding(crate::specs::Links::link_of))]
-    fn row(&self, row: &Row) -> Result<LinkRow, Complaint>
-        ensures row { result ≡ link_of self.now.nodes.now self.now.units self.now.places
+    fn row(&self, places: LinkPlaces, row: &Row) -> Result<LinkRow, Complaint>
+        ensures row { result ≡ link_of self.now.nodes.now self.now.units places
             self.now.rows row.now.fields }
         ensures range { IfOk result IsLinkInRange }
         ensures new { IfOk result (λ link. place_of (link_ids self.now.rows) link.id ≡ None) }
     {
-        let places = &self.places;
         let units = &self.units;
         let id = identifier(Column::LinkId, row.cell(Some(places.id)))?;
         unless(self.rows.contains(id), Code::E6, Column::LinkId)?;
@@ -121,20 +118,30 @@ impl LinkTable<'_> {
 }
 
 impl Accepted for LinkTable<'_> {
+    type Places = LinkPlaces;
+
     type Item = LinkRow;
 
     ghost limit = { MOST_LINKS };
 
+    ghost columns = { link_places };
+
     ghost rows = { λ t. t.rows };
 
-    ghost judge = { λ t. link_of t.nodes.now t.units t.places };
+    ghost judge = { λ t. link_of t.nodes.now t.units };
+
+    fn find_columns(table: &Rows<'_>) -> Result<LinkPlaces, Complaint>
+        ensures { result ≡ link_places table.now.header }
+    {
+        LinkPlaces::of(table)
+    }
 
     fn is_full(&self) -> bool {
         self.rows.as_slice().len() >= MOST_LINKS
     }
 
-    fn accept(&mut self, row: &Row) -> Result<(), RowRefusal> {
-        match self.row(row) {
+    fn accept(&mut self, places: LinkPlaces, row: &Row) -> Result<(), RowRefusal> {
+        match self.row(places, row) {
             Ok(link) => match self.rows.push(link) {
                 Ok(()) => Ok(()),
                 Err(_) => Err(RowRefusal::Memory),
@@ -160,39 +167,15 @@ pub fn read_links(
     ensures sound { IfOk result AreLinks }
     ensures between { IfOk result (All (IsBetween nodes.now)) }
 {
-    match open_table(alloc, Table::Link, text) {
-        Ok(mut rows) => accept_links(alloc, nodes, *units, &mut rows),
-        Err(refusal) => Err(refusal),
-    }
-}
-
-// The links of the records below a header.
-fn accept_links(
-    alloc: Global,
-    nodes: &NodeRows,
-    units: Units,
-    rows: &mut Rows<'_>,
-) -> Result<LinkRows, TableRefusal>
-    requires sound { IsUnits units }
-    requires running { rows.old.fault ≡ None }
-    requires line { rows.old.line ≡ 1 }
-    ensures rows { Tells (rows_of table.Link MOST_LINKS link_places (link_of nodes.now units)
-        rows.old.header rows.old.rest) result }
-    ensures sound { IfOk result AreLinks }
-{
-    let places = match LinkPlaces::of(rows) {
-        Ok(places) => places,
-        Err(complaint) => return Err(header_refusal(Table::Link, complaint)),
-    };
-    let mut table = LinkTable {
+    let table = LinkTable {
         nodes,
-        units,
-        places,
+        units: *units,
         rows: LinkRows::new(alloc),
     };
-    match accept_all(Table::Link, rows, &mut table) {
-        Ok(()) => {
-            let _sound = table.rows.as_slice();
+    match read_rows(alloc, Table::Link, text, table) {
+        Ok(table) => {
+            // What holds of all accepted links is known where they are seen.
+            let _seen = table.rows.as_slice();
             Ok(table.rows)
         }
         Err(refusal) => Err(refusal),

@@ -3,8 +3,7 @@ ghost use Rattle.std.specs.Prelude.{◌≡◌, ◌≤◌, ◌<◌, All, length, 
 ghost use Rattle.fixed_units.specs.Units.{turn_rate_of};
 ghost use Rattle.fixed_units.specs.declared.quantity.TheConstants.{MOST_THOUSANDTHS};
 ghost use Rattle.fixed_units.specs.declared.turn.TheConstants.{MOST_PENALTY};
-ghost use Rattle.desk_io.specs.declared.desk.Table.TheVariants as table;
-ghost use Rattle.row_reader.specs.FirstFault.{Tells, rows_of};
+ghost use Rattle.row_reader.specs.FirstFault.{Tells};
 ghost use Rattle.row_reader.specs.Records.{records};
 ghost use Rattle.net_core.specs.Ids.{place_of_pair};
 ghost use Rattle.net_core.specs.Rows.{AreTurns, IsTurnInRange, IsTurning, turn_pairs};
@@ -21,9 +20,8 @@ use desk_io::Table;
 use fixed_units::{MOST_PENALTY, penalty_steps, turn_rate};
 use net_core::{LinkNo, MOST_TURNS, NodeNo, TurnRow};
 use row_reader::{
-    Accepted, Code, Column, Complaint, Row, RowRefusal, Rows, TableRefusal, accept_all, complain,
-    header_refusal, identifier, open_table, optional_column, optional_quantity, quantity_or,
-    required_column, unless, within,
+    Accepted, Code, Column, Complaint, Row, RowRefusal, Rows, TableRefusal, optional_column,
+    optional_quantity, quantity_or, read_rows, required_column, unless, within,
 };
 use std::alloc::Global;
 
@@ -64,7 +62,6 @@ struct TurnTable<'a> {
     nodes: &'a NodeRows,
     links: &'a LinkRows,
     units: Units,
-    places: TurnPlaces,
     rows: TurnRows,
     ghost sound: { IsUnits units },
 }
@@ -72,14 +69,13 @@ struct TurnTable<'a> {
 impl TurnTable<'_> {
     // The turn of a record, or the first check that fails.
     #[tactic(auto, unfolding(crate::specs::Movements::turn_of))]
-    fn row(&self, row: &Row) -> Result<TurnRow, Complaint>
+    fn row(&self, places: TurnPlaces, row: &Row) -> Result<TurnRow, Complaint>
         ensures row { result ≡ turn_of self.now.nodes.now self.now.links.now self.now.units
-            self.now.places self.now.rows row.now.fields }
+            places self.now.rows row.now.fields }
         ensures range { IfOk result IsTurnInRange }
         ensures new { IfOk result (λ turn.
             place_of_pair (turn_pairs self.now.rows) turn.a.0 turn.b.0 ≡ None) }
     {
-        let places = &self.places;
         let links = self.links;
         let node = known_node(self.nodes, Column::NodeId, row.cell(Some(places.node)))?;
         let a = known_link(links, Column::IbLinkId, row.cell(Some(places.from)))?;
@@ -99,20 +95,30 @@ impl TurnTable<'_> {
 }
 
 impl Accepted for TurnTable<'_> {
+    type Places = TurnPlaces;
+
     type Item = TurnRow;
 
     ghost limit = { MOST_TURNS };
 
+    ghost columns = { turn_places };
+
     ghost rows = { λ t. t.rows };
 
-    ghost judge = { λ t. turn_of t.nodes.now t.links.now t.units t.places };
+    ghost judge = { λ t. turn_of t.nodes.now t.links.now t.units };
+
+    fn find_columns(table: &Rows<'_>) -> Result<TurnPlaces, Complaint>
+        ensures { result ≡ turn_places table.now.header }
+    {
+        TurnPlaces::of(table)
+    }
 
     fn is_full(&self) -> bool {
         self.rows.as_slice().len() >= MOST_TURNS
     }
 
-    fn accept(&mut self, row: &Row) -> Result<(), RowRefusal> {
-        match self.row(row) {
+    fn accept(&mut self, places: TurnPlaces, row: &Row) -> Result<(), RowRefusal> {
+        match self.row(places, row) {
             Ok(turn) => match self.rows.push(turn) {
                 Ok(()) => Ok(()),
                 Err(_) => Err(RowRefusal::Memory),
@@ -139,41 +145,16 @@ pub fn read_movements(
     ensures sound { IfOk result AreTurns }
     ensures turning { IfOk result (All (IsTurning links.now)) }
 {
-    match open_table(alloc, Table::Movement, text) {
-        Ok(mut rows) => accept_movements(alloc, nodes, links, *units, &mut rows),
-        Err(refusal) => Err(refusal),
-    }
-}
-
-// The turns of the records below a header.
-fn accept_movements(
-    alloc: Global,
-    nodes: &NodeRows,
-    links: &LinkRows,
-    units: Units,
-    rows: &mut Rows<'_>,
-) -> Result<TurnRows, TableRefusal>
-    requires sound { IsUnits units }
-    requires running { rows.old.fault ≡ None }
-    requires line { rows.old.line ≡ 1 }
-    ensures rows { Tells (rows_of table.Movement MOST_TURNS turn_places
-        (turn_of nodes.now links.now units) rows.old.header rows.old.rest) result }
-    ensures sound { IfOk result AreTurns }
-{
-    let places = match TurnPlaces::of(rows) {
-        Ok(places) => places,
-        Err(complaint) => return Err(header_refusal(Table::Movement, complaint)),
-    };
-    let mut table = TurnTable {
+    let table = TurnTable {
         nodes,
         links,
-        units,
-        places,
+        units: *units,
         rows: TurnRows::new(alloc),
     };
-    match accept_all(Table::Movement, rows, &mut table) {
-        Ok(()) => {
-            let _sound = table.rows.as_slice();
+    match read_rows(alloc, Table::Movement, text, table) {
+        Ok(table) => {
+            // What holds of all accepted turns is known where they are seen.
+            let _seen = table.rows.as_slice();
             Ok(table.rows)
         }
         Err(refusal) => Err(refusal),

@@ -1,8 +1,7 @@
 // Node tables.
 ghost use Rattle.std.specs.Prelude.{◌≡◌, None, IfOk};
 ghost use Rattle.fixed_units.specs.Zone.{zone_of};
-ghost use Rattle.desk_io.specs.declared.desk.Table.TheVariants as table;
-ghost use Rattle.row_reader.specs.FirstFault.{Tells, rows_of};
+ghost use Rattle.row_reader.specs.FirstFault.{Tells};
 ghost use Rattle.row_reader.specs.Records.{records};
 ghost use Rattle.net_core.specs.Ids.{place_of};
 ghost use Rattle.net_core.specs.Rows.{AreNodes, node_ids};
@@ -14,8 +13,8 @@ use desk_io::Table;
 use fixed_units::zone;
 use net_core::{MOST_NODES, NodeRow};
 use row_reader::{
-    Accepted, Code, Column, Complaint, Row, RowRefusal, Rows, TableRefusal, accept_all,
-    header_refusal, identifier, not_a_number, open_table, optional_column, required_column, unless,
+    Accepted, Code, Column, Complaint, Row, RowRefusal, Rows, TableRefusal, identifier,
+    not_a_number, optional_column, read_rows, required_column, unless,
 };
 use std::alloc::Global;
 
@@ -42,39 +41,46 @@ impl NodePlaces {
 // A node table that is being read.
 #[derive(Drop)]
 struct NodeTable {
-    places: NodePlaces,
     rows: NodeRows,
 }
 
 impl NodeTable {
     // The node of a record, or the first check that fails.
     #[tactic(auto, unfolding(crate::specs::Nodes::node_of))]
-    fn row(&self, row: &Row) -> Result<NodeRow, Complaint>
-        ensures row { result ≡ node_of self.now.places self.now.rows row.now.fields }
+    fn row(&self, places: NodePlaces, row: &Row) -> Result<NodeRow, Complaint>
+        ensures row { result ≡ node_of places self.now.rows row.now.fields }
         ensures new { IfOk result (λ node. place_of (node_ids self.now.rows) node.id ≡ None) }
     {
-        let id = identifier(Column::NodeId, row.cell(Some(self.places.id)))?;
+        let id = identifier(Column::NodeId, row.cell(Some(places.id)))?;
         unless(self.rows.contains(id), Code::E6, Column::NodeId)?;
-        let zone = zone_field(row.cell(self.places.zone))?;
+        let zone = zone_field(row.cell(places.zone))?;
         Ok(NodeRow { id, zone })
     }
 }
 
 impl Accepted for NodeTable {
+    type Places = NodePlaces;
+
     type Item = NodeRow;
 
     ghost limit = { MOST_NODES };
 
+    ghost columns = { node_places };
+
     ghost rows = { λ t. t.rows };
 
-    ghost judge = { λ t. node_of t.places };
+    ghost judge = { λ _. node_of };
+
+    fn find_columns(table: &Rows<'_>) -> Result<NodePlaces, Complaint> {
+        NodePlaces::of(table)
+    }
 
     fn is_full(&self) -> bool {
         self.rows.as_slice().len() >= MOST_NODES
     }
 
-    fn accept(&mut self, row: &Row) -> Result<(), RowRefusal> {
-        match self.row(row) {
+    fn accept(&mut self, places: NodePlaces, row: &Row) -> Result<(), RowRefusal> {
+        match self.row(places, row) {
             Ok(node) => match self.rows.push(node) {
                 Ok(()) => Ok(()),
                 Err(_) => Err(RowRefusal::Memory),
@@ -91,31 +97,13 @@ pub fn read_nodes(alloc: Global, text: &[u8]) -> Result<NodeRows, TableRefusal>
     ensures rows { Tells (node_verdict (records text.now)) result }
     ensures sound { IfOk result AreNodes }
 {
-    match open_table(alloc, Table::Node, text) {
-        Ok(mut rows) => accept_nodes(alloc, &mut rows),
-        Err(refusal) => Err(refusal),
-    }
-}
-
-// The nodes of the records below a header.
-fn accept_nodes(alloc: Global, rows: &mut Rows<'_>) -> Result<NodeRows, TableRefusal>
-    requires running { rows.old.fault ≡ None }
-    requires line { rows.old.line ≡ 1 }
-    ensures rows { Tells (rows_of table.Node MOST_NODES node_places node_of
-        rows.old.header rows.old.rest) result }
-    ensures sound { IfOk result AreNodes }
-{
-    let places = match NodePlaces::of(rows) {
-        Ok(places) => places,
-        Err(complaint) => return Err(header_refusal(Table::Node, complaint)),
-    };
-    let mut table = NodeTable {
-        places,
+    let table = NodeTable {
         rows: NodeRows::new(alloc),
     };
-    match accept_all(Table::Node, rows, &mut table) {
-        Ok(()) => {
-            let _sound = table.rows.as_slice();
+    match read_rows(alloc, Table::Node, text, table) {
+        Ok(table) => {
+            // What holds of all accepted nodes is known where they are seen.
+            let _seen = table.rows.as_slice();
             Ok(table.rows)
         }
         Err(refusal) => Err(refusal),

@@ -49,12 +49,15 @@ module _ {R : Type 0} (table : Table) (limit : ℕ) (columns : Judge R) (first :
   pub at-end : Steps rows next (Ok None) → rows_from table (judged first.header limit columns) start first.rest ≡ Ok before
   at-end e = s.same ∙ from-end table (judged first.header limit columns) before rows.rest e.0
 
+  -- the line of the next record
+  pub next-line : (row : RowView) → Steps rows next (Ok (Some row)) → row.line ≡ length before + 2
+  next-line row e = let a = e.2 in let b = s.line in omega arith
+
   told : (row : RowView) (c : Complaint) → Steps rows next (Ok (Some row)) → judged first.header limit columns before row.fields ≡ Err c
       → rows_from table (judged first.header limit columns) start first.rest ≡ Err (fault_of table row.line c)
   told row c e j =
-      let n : row.line ≡ length before + 2 = (let a = e.2 in let b = s.line in omega arith) in
       s.same ∙ from-err table (judged first.header limit columns) before rows.rest next.rest row.fields c e.0 j
-      ∙ ap (λ k. Err (fault_of table k c)) (sym n)
+      ∙ ap (λ k. Err (fault_of table k c)) (sym (next-line row e))
 
   good-row : (row : RowView) → Steps rows next (Ok (Some row)) → is_good first.header row.fields ≡ true
   good-row row e = rw s.header at e.1
@@ -108,6 +111,16 @@ module _ {P R : Type 0} (table : Table) (limit : ℕ) (places : Record → Resul
   pub header-told : (all : List Record) (e : TableRefusal) → TellsHeader table all e → Tells (verdict table limit places columns all) (Err e)
   header-told all (refusal.Fault f) h = bad-verdict all h.0 ∙ ap Err (sym h.1)
   header-told all refusal.Memory h = tt
+
+  -- what it tells where a column is missing
+  pub columns-told : (all : List Record) (rows : RowsView) → OpensAs all rows → (c : Complaint)
+      → places rows.header ≡ Err c → verdict table limit places columns all ≡ Err (fault_of table 1 c)
+  columns-told all rows o c e = opened-verdict all rows o ∙ rw e refl
+
+  -- what it tells by the records below the header
+  pub below-told : (all : List Record) (rows : RowsView) → OpensAs all rows → (p : P) → places rows.header ≡ Ok p → (none : List R) → none ≡ []
+      → verdict table limit places columns all ≡ rows_from table (judged rows.header limit (columns p)) none rows.rest
+  below-told all rows o p e none n = opened-verdict all rows o ∙ rw (e, n) refl
 
 -- rows that opened have no fault, and stand at the first line
 pub opened-runs : (all : List Record) (rows : RowsView) → OpensAs all rows → (rows.fault ≡ None) × (rows.line ≡ 1)

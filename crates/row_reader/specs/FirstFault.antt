@@ -69,6 +69,11 @@ Tells told (Ok rows) = told ≡ Ok rows
 Tells told (Err (refusal.Fault f)) = told ≡ Err f
 Tells told (Err refusal.Memory) = ⊤
 
+-- the rows in a reader's answer
+abbrev pub rows_in : {A R : Type 0} → (A → List R) → Result A TableRefusal → Result (List R) TableRefusal
+rows_in rows (Ok answer) = Ok (rows answer)
+rows_in rows (Err refusal) = Err refusal
+
 -- why a table isn't opened: its header isn't text, or want of memory
 abbrev pub TellsHeader : Table → List Record → TableRefusal → Type 0
 TellsHeader table all (refusal.Fault f) =

@@ -1,10 +1,10 @@
 //! The records of a table, one at a time, and its rows or its first fault.
 //!
 //! [`Rows`] reads a table's records in order and answers each with its line, the end exactly at the
-//! end, or the first record that isn't text or isn't as long as the header. [`accept_all`] makes
-//! rows of the records that are left, or answers the first fault: the least line at which a check
-//! fails, and there the first check that fails. A table supplies its checks of a line as an
-//! [`Accepted`], and makes them of the field checks here.
+//! end, or the first record that isn't text or isn't as long as the header. [`read_rows`] makes
+//! rows of a table's records, or answers the first fault: the least line at which a check fails,
+//! and there the first check that fails. A table supplies its columns and its checks of a line as
+//! an [`Accepted`], and makes them of the field checks here.
 #![tactic(auto)]
 
 mod accepted;
@@ -15,7 +15,7 @@ mod laws;
 mod opening;
 mod rows;
 
-pub use accepted::{Accepted, RowRefusal, accept_all};
+pub use accepted::{Accepted, RowRefusal, read_rows};
 pub use faults::{
     Code, Column, Complaint, TableFault, TableRefusal, code_name, column_name, table_name,
 };
@@ -24,7 +24,6 @@ pub use fields::{
     required_column, unless, within,
 };
 pub use laws::{accepted_rows_are_those_of_all_records, the_fault_is_that_of_the_least_line};
-pub use opening::{header_refusal, open_table};
 pub use rows::{Row, RowFault, Rows};
 
 #[cfg(test)]

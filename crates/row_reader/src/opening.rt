@@ -12,8 +12,12 @@ use crate::rows::{RowFault, Rows};
 use desk_io::Table;
 use std::alloc::Global;
 
-/// Reads the header of a table. A header that isn't UTF-8 is E2 at line 1, without a column.
-pub fn open_table<'a>(alloc: Global, table: Table, text: &'a [u8]) -> Result<Rows<'a>, TableRefusal>
+// Reads the header of a table. A header that isn't UTF-8 is E2 at line 1, without a column.
+pub(crate) fn open_table<'a>(
+    alloc: Global,
+    table: Table,
+    text: &'a [u8],
+) -> Result<Rows<'a>, TableRefusal>
     ensures opens { IfOk result (OpensAs (records text.now)) }
     ensures first { IfOk result (λ rows. (rows.fault ≡ None) × (rows.line ≡ 1)) }
     ensures refused { IfErr result (TellsHeader table (records text.now)) }
@@ -27,8 +31,8 @@ pub fn open_table<'a>(alloc: Global, table: Table, text: &'a [u8]) -> Result<Row
     }
 }
 
-/// What a complaint about the header refuses: it stands at line 1.
-pub fn header_refusal(table: Table, complaint: Complaint) -> TableRefusal
+// What a complaint about the header refuses: it stands at line 1.
+pub(crate) fn header_refusal(table: Table, complaint: Complaint) -> TableRefusal
     ensures { result ≡ refusal.Fault (fault_of table 1 complaint) }
 {
     refusal_at(table, 1, complaint)

@@ -1,13 +1,13 @@
 // Tables read past their end, and the rows or the first fault of tables, where memory is ample.
 ghost use Rattle.std.specs.Prelude.{◌≡◌, ◌==◌, List, ℕ, length, nat_eq, Result, Ok, Err, Some, if◌then◌else◌};
 ghost use Rattle.row_reader.specs.Columns.{cell};
-ghost use Rattle.row_reader.specs.Fields.{complain as complain_of};
+ghost use Rattle.row_reader.specs.Fields.{complain as complain_of, required_column as required_column_of};
 ghost use Rattle.row_reader.specs.declared.faults.Code.TheVariants as code;
 ghost use Rattle.row_reader.specs.declared.faults.Column.TheVariants as column;
 
 use crate::{
-    Accepted, Code, Column, Row, RowFault, RowRefusal, Rows, TableFault, TableRefusal, accept_all,
-    accepted_rows_are_those_of_all_records, complain, header_refusal, open_table, required_column,
+    Accepted, Code, Column, Complaint, Row, RowFault, RowRefusal, Rows, TableFault, TableRefusal,
+    accepted_rows_are_those_of_all_records, complain, read_rows, required_column,
     the_fault_is_that_of_the_least_line,
 };
 use desk_io::Table;
@@ -19,26 +19,33 @@ use std::test::Fail;
 // The widths of the names in a table: at most two, and none is 0.
 #[derive(Drop)]
 struct Widths {
-    place: usize,
     items: Vec<usize>,
 }
 
 impl Accepted for Widths {
+    type Places = usize;
+
     type Item = usize;
 
     ghost limit = { 2 };
 
+    ghost columns = { λ header. required_column_of header column.NodeId };
+
     ghost rows = { λ s. s.items.items };
 
-    ghost judge = { λ s before r. let width = length (cell r (Some s.place)) in
+    ghost judge = { λ s place before r. let width = length (cell r (Some place)) in
         if nat_eq width 0 then Err (complain_of code.E3 column.NodeId) else Ok width };
+
+    fn find_columns(table: &Rows<'_>) -> Result<usize, Complaint> {
+        required_column(table, Column::NodeId)
+    }
 
     fn is_full(&self) -> bool {
         self.items.len() >= 2
     }
 
-    fn accept(&mut self, row: &Row) -> Result<(), RowRefusal> {
-        let width = row.cell(Some(self.place)).len();
+    fn accept(&mut self, place: usize, row: &Row) -> Result<(), RowRefusal> {
+        let width = row.cell(Some(place)).len();
         if width == 0 {
             return Err(RowRefusal::Complaint(complain(Code::E3, Column::NodeId)));
         }
@@ -129,17 +136,11 @@ fn columns_by_name(rt: HostRuntime) {
 
 // The widths that a table's records give.
 fn widths_of(alloc: Global, text: &[u8]) -> Result<Vec<usize>, TableRefusal> {
-    let mut rows = open_table(alloc, Table::Node, text)?;
-    let place = match required_column(&rows, Column::NodeId) {
-        Ok(place) => place,
-        Err(complaint) => return Err(header_refusal(Table::Node, complaint)),
-    };
-    let mut accepted = Widths {
-        place,
+    let none = Widths {
         items: Vec::new(alloc),
     };
-    accept_all(Table::Node, &mut rows, &mut accepted)?;
-    Ok(accepted.items)
+    let widths = read_rows(alloc, Table::Node, text, none)?;
+    Ok(widths.items)
 }
 
 #[test]

@@ -1,5 +1,5 @@
+use Rattle.std.specs.Prelude.{Ok}
 use Rattle.desk_io.specs.declared.desk.Table.TheVariants as table
-use Rattle.row_reader.proofs.FirstFaultFacts.{opened-verdict, header-told}
 use Rattle.net_core.specs.Rows.{IsTurning}
 use Rattle.net_core.specs.declared.rows.TheConstants.{MOST_TURNS}
 use Rattle.gmns_tables.specs.Movements.{turn_of, turn_places}
@@ -7,16 +7,7 @@ use Rattle.gmns_tables.proofs.TurningFacts.{turn_of-turning}
 use Rattle.gmns_tables.proofs.TableFacts.{tells-all}
 use Rattle.gmns_tables.proofs.movement_table.read_movements.Goals as goal
 
-pub returns-in-Ok-clause-rows : goal.returns-in-Ok-clause-rows
-returns-in-Ok-clause-rows c =
-    rw (opened-verdict table.Movement MOST_TURNS turn_places (turn_of c.args.nodes.now c.args.links.now c.args.units.now) _ c.in-Ok.rows c.in-Ok.ensures.opens)
-    c.accept_movements.ensures.rows
-
 pub returns-in-Ok-clause-turning : goal.returns-in-Ok-clause-turning
 returns-in-Ok-clause-turning c =
     tells-all (IsTurning c.args.links.now) table.Movement MOST_TURNS turn_places (turn_of c.args.nodes.now c.args.links.now c.args.units.now)
-    (turn_of-turning c.args.nodes.now c.args.links.now c.args.units.now) _ c.accept_movements.result (returns-in-Ok-clause-rows c)
-
-pub returns-in-Err-clause-rows : goal.returns-in-Err-clause-rows
-returns-in-Err-clause-rows c =
-    header-told table.Movement MOST_TURNS turn_places (turn_of c.args.nodes.now c.args.links.now c.args.units.now) _ c.in-Err.refusal c.in-Err.ensures.refused
+    (turn_of-turning c.args.nodes.now c.args.links.now c.args.units.now) _ (Ok c.in-Ok.table.rows) c.in-Ok.ensures

@@ -23,7 +23,7 @@ returns-in-Err-Complaint-clause-refused g c =
     let n : length (g.A.Accepted.rows c.each.accepted) < g.A.Accepted.limit = let b : nat_le g.A.Accepted.limit (length (g.A.Accepted.rows c.each.accepted)) ≡ false = sym c.is_full.ensures ∙ c.if-is_full.false in search (rules, b) in
     let j = rw c.each.invariant.judge at (c.accept.ensures.complaint c.in-Err-Complaint.c (c.in-Err-Complaint.is ∙ ap Err c.in-Err-Complaint.field-0-is)) in
     let m = complains _ _ _ _ _ _ _ _ c.each.invariant.state c.in-Ok-Some.row c.in-Err-Complaint.c e n j in
-    rw (c.refusal_at-in-Err-Complaint.ensures, c.line-in-Err-Complaint.ensures) m
+    rw (c.refusal_at-in-Err-Complaint.ensures, c.line-in-Err-Complaint.ensures, c.in-Err-Complaint.field-0-is) m
 
 pub each-preserved : goal.each-preserved
 each-preserved g c =
@@ -41,4 +41,4 @@ pub returns-in-Err-BadRecord-clause-refused : goal.returns-in-Err-BadRecord-clau
 returns-in-Err-BadRecord-clause-refused g c =
     let e : Steps c.each.rows c.next.new.self (Err (fault.BadRecord c.in-Err-BadRecord.line)) = rw (c.in-Err-BadRecord.is, c.in-Err-BadRecord.field-0-is) at (c.next.ensures.steps (rw c.each.invariant.state.running refl)) in
     let m = bad _ _ _ _ _ _ c.next.new.self _ c.each.invariant.state c.in-Err-BadRecord.line e in
-    rw (c.refusal_at-in-Err-BadRecord.ensures, c.complain-in-Err-BadRecord.ensures) m
+    rw (c.refusal_at-in-Err-BadRecord.ensures, c.complain-in-Err-BadRecord.ensures, c.in-Err-BadRecord.field-0-is) m
