@@ -6,7 +6,7 @@ use Rattle.std.proofs.lemmas.List.{map-append}
 use Rattle.std.proofs.lemmas.List.Elements.{All-push}
 use Rattle.fixed_units.specs.declared.quantity.TheConstants.{MOST_THOUSANDTHS}
 use Rattle.dta_model.specs.declared.trip.DemandCell.{DemandCell}
-use Rattle.demand.specs.Cells.{AreCells}
+use Rattle.demand.specs.DemandRows.{AreCells}
 use Rattle.demand.specs.declared.cells.TheConstants.{FIRST_LINE, MOST_CELLS}
 
 one_number_more : (n a b : ℕ) → a + n ≡ b

@@ -8,7 +8,7 @@ use Rattle.row_reader.specs.declared.faults.Column.{Column}
 use Rattle.row_reader.specs.declared.faults.Column.TheVariants as column
 use Rattle.row_reader.specs.declared.faults.TableFault.{TableFault}
 use Rattle.dta_model.specs.declared.trip.DemandCell.{DemandCell}
-use Rattle.demand.specs.Cells.{demand_verdict}
+use Rattle.demand.specs.DemandRows.{demand_verdict}
 use Rattle.demand.specs.OnLiterals.{cells_on_literals}
 use Rattle.demand.specs.declared.cells.TheConstants.{FIRST_LINE, MOST_CELLS}
 

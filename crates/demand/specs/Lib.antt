@@ -1,3 +1,3 @@
-pub mod Cells
+pub mod DemandRows
 pub mod OnLiterals
 pub mod Examples

@@ -1,7 +1,7 @@
 // The cells of a table that was accepted.
 ghost use Rattle.std.specs.Prelude.{◌≡◌, ◌+◌, ◌<◌, ◌≤◌, ◌++◌, ◌∷◌, [], length, OnOk};
 ghost use Rattle.fixed_units.specs.declared.quantity.TheConstants.{MOST_THOUSANDTHS};
-ghost use Rattle.demand.specs.Cells.{AreCells};
+ghost use Rattle.demand.specs.DemandRows.{AreCells};
 ghost use Rattle.demand.specs.declared.cells.TheConstants.{FIRST_LINE, MOST_CELLS};
 
 use dta_model::DemandCell;
@@ -22,7 +22,7 @@ pub(crate) struct CellRows {
 
 impl Model for CellRows {
     ghost use Rattle.std.specs.Prelude.{List};
-    ghost use Rattle.demand.specs.Cells.{AreCells};
+    ghost use Rattle.demand.specs.DemandRows.{AreCells};
     ghost use Rattle.dta_model.specs.declared.trip.DemandCell.{DemandCell};
 
     ghost Value = { List DemandCell };

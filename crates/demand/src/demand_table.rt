@@ -3,7 +3,7 @@ ghost use Rattle.std.specs.Prelude.{◌≡◌, ◌+◌, ◌≤◌, length, Ok, E
 ghost use Rattle.fixed_units.specs.declared.quantity.TheConstants.{MOST_THOUSANDTHS};
 ghost use Rattle.row_reader.specs.FirstFault.{Tells};
 ghost use Rattle.row_reader.specs.Records.{records};
-ghost use Rattle.demand.specs.Cells.{AreCells, cell_of, cell_places, demand_verdict};
+ghost use Rattle.demand.specs.DemandRows.{AreCells, cell_of, cell_places, demand_verdict};
 ghost use Rattle.demand.specs.declared.cells.TheConstants.{FIRST_LINE, MOST_CELLS};
 
 use crate::cells::{CellRows, MOST_CELLS};
@@ -24,7 +24,7 @@ struct CellPlaces {
 }
 
 impl CellPlaces {
-    #[tactic(auto, unfolding(crate::specs::Cells::cell_places))]
+    #[tactic(auto, unfolding(crate::specs::DemandRows::cell_places))]
     fn of(rows: &Rows<'_>) -> Result<Self, Complaint>
         ensures { result ≡ cell_places rows.now.header }
     {
@@ -47,16 +47,16 @@ struct CellTable {
 
 impl CellTable {
     // The cell of a record, or the first check that fails.
-    #[tactic(auto, unfolding(crate::specs::Cells::cell_of))]
+    #[tactic(auto, unfolding(crate::specs::DemandRows::cell_of))]
     fn row(&self, places: CellPlaces, row: &Row) -> Result<DemandCell, Complaint>
         requires below { row.now.line ≡ length self.now.rows + FIRST_LINE }
         ensures row { result ≡ cell_of places self.now.rows row.now.fields }
         ensures line { IfOk result (λ cell. cell.line ≡ length self.now.rows + FIRST_LINE) }
         ensures volume { IfOk result (λ cell. cell.volume ≤ MOST_THOUSANDTHS) }
     {
-        let origin = identifier(Column::OZoneId, row.cell(Some(places.origin)))?;
-        let destination = identifier(Column::DZoneId, row.cell(Some(places.destination)))?;
-        let volume = quantity(Column::Volume, row.cell(Some(places.volume)))?;
+        let origin = identifier(Column::OZoneId, row.field_in(Some(places.origin)))?;
+        let destination = identifier(Column::DZoneId, row.field_in(Some(places.destination)))?;
+        let volume = quantity(Column::Volume, row.field_in(Some(places.volume)))?;
         Ok(DemandCell {
             line: row.line(),
             origin,

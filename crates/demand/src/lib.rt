@@ -3,7 +3,7 @@
 //! This crate carries the promise that a demand table is accepted or refused with its first fault:
 //! [`read_demand`] answers exactly the cells that the table's records give, or exactly the least
 //! line at which a check fails and the first check that fails there. The checks of a line stand in
-//! specs/Cells, a line a column.
+//! specs/DemandRows, a line a column.
 #![tactic(auto)]
 
 mod cells;

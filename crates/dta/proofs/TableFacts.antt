@@ -16,10 +16,10 @@ use Rattle.row_reader.specs.declared.faults.TableRefusal.{TableRefusal}
 use Rattle.row_reader.specs.declared.faults.TableRefusal.TheVariants as refusal
 use Rattle.net_core.specs.declared.rows.TheConstants.{MOST_LINKS, MOST_NODES, MOST_TURNS}
 use Rattle.gmns_tables.specs.Links.{link_of, link_places, link_verdict}
-use Rattle.gmns_tables.specs.Movements.{turn_of, turn_places}
+use Rattle.gmns_tables.specs.Movements.{movement_of, movement_places}
 use Rattle.gmns_tables.specs.Nodes.{node_of, node_places, node_verdict}
 use Rattle.gmns_tables.specs.declared.units.Units.{Units}
-use Rattle.demand.specs.Cells.{cell_of, cell_places, demand_verdict}
+use Rattle.demand.specs.DemandRows.{cell_of, cell_places, demand_verdict}
 use Rattle.demand.specs.declared.cells.TheConstants.{MOST_CELLS}
 use Rattle.reports.specs.declared.refusal.TheConstants.{TABLE_LIMIT}
 use Rattle.dta.specs.Outcome.{DeskState}
@@ -76,7 +76,7 @@ links-told units rows bytes refusal.Memory told = tt
 turns-table : (units : Units) (rows : TableRows) (bytes : List ℕ) (f : TableFault) → turns_of units rows bytes ≡ Err f → f.table ≡ table.Movement
 turns-table units rows [] f told = absurd cc
 turns-table units rows (b ∷ bytes) f told =
-    verdict-table table.Movement MOST_TURNS turn_places (turn_of rows.nodes rows.links units) (records (b ∷ bytes)) f told
+    verdict-table table.Movement MOST_TURNS movement_places (movement_of rows.nodes rows.links units) (records (b ∷ bytes)) f told
 
 turns-told : (units : Units) (rows : TableRows) (bytes : List ℕ) (why : TableRefusal) → Tells (turns_of units rows bytes) (Err why)
     → IsToldBy units table.Movement rows bytes why

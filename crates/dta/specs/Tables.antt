@@ -13,9 +13,9 @@ use Rattle.net_core.specs.declared.rows.TurnRow.{TurnRow}
 use Rattle.dta_model.specs.declared.trip.DemandCell.{DemandCell}
 use Rattle.gmns_tables.specs.Nodes.{node_verdict}
 use Rattle.gmns_tables.specs.Links.{link_verdict}
-use Rattle.gmns_tables.specs.Movements.{turn_verdict}
+use Rattle.gmns_tables.specs.Movements.{movement_verdict}
 use Rattle.gmns_tables.specs.declared.units.Units.{Units}
-use Rattle.demand.specs.Cells.{demand_verdict}
+use Rattle.demand.specs.DemandRows.{demand_verdict}
 use Rattle.reports.specs.declared.refusal.TheConstants.{TABLE_LIMIT}
 
 -- the tables of a network's nodes and links, and all tables, in the order in which they are read
@@ -52,7 +52,7 @@ rows_of nodes links turns cells = record {
 abbrev pub turns_of : Units → TableRows → List ℕ → Result (List TurnRow) TableFault
 turns_of units rows [] = Ok []
 turns_of units rows (byte ∷ bytes) =
-    turn_verdict rows.nodes rows.links units (records (byte ∷ bytes))
+    movement_verdict rows.nodes rows.links units (records (byte ∷ bytes))
 
 -- the rows with those of one more table, or that table's first fault
 abbrev pub with_table : Units → TableRows → Table → List ℕ → Result TableRows TableFault

@@ -1,7 +1,7 @@
 // The job of a run: what its settings and its tables come to.
 ghost use Rattle.std.specs.Prelude.{◌≡◌, ◌≢◌, ◌≤◌, ◌*◌, length, IfOk, IfErr, OnOk};
 ghost use Rattle.desk_io.specs.Desk.{Left};
-ghost use Rattle.demand.specs.Cells.{AreCells};
+ghost use Rattle.demand.specs.DemandRows.{AreCells};
 ghost use Rattle.dta_model.specs.Lent.{plan_of as loading_plan};
 ghost use Rattle.dta_model.specs.Release.{trips_of};
 ghost use Rattle.dta_words.specs.Ranges.{AreSettings};

@@ -2,7 +2,7 @@
 ghost use Rattle.std.specs.Prelude.{◌≡◌, ◌≤◌, [], All, length, Ok, Err, IfOk, IfErr};
 ghost use Rattle.desk_io.specs.declared.desk.Table.TheVariants as table;
 ghost use Rattle.desk_io.specs.Transfers.{IsRead};
-ghost use Rattle.demand.specs.Cells.{AreCells};
+ghost use Rattle.demand.specs.DemandRows.{AreCells};
 ghost use Rattle.gmns_tables.specs.Net.{listed_turns, net_of};
 ghost use Rattle.gmns_tables.specs.declared.units.Units.{Units};
 ghost use Rattle.gmns_tables.specs.Units.{IsUnits};

@@ -3,7 +3,7 @@ use Rattle.std.proofs.Common.{ℕ, ◌<◌, List, length, refl}
 use Rattle.std.specs.Prelude.{IfOk, Some, is_some}
 use Rattle.std.proofs.lemmas.List.{length-map}
 use Rattle.fixed_units.specs.Units.{length_of, free_steps_of}
-use Rattle.row_reader.specs.Columns.{cell}
+use Rattle.row_reader.specs.Columns.{field_in}
 use Rattle.row_reader.specs.Fields.{identifier, quantity, unless}
 use Rattle.row_reader.specs.Records.{Record}
 use Rattle.row_reader.specs.declared.faults.Code.TheVariants as code
@@ -32,17 +32,17 @@ pub link_of-between : (nodes : List NodeRow) (units : Units) (places : LinkPlace
     → IfOk (link_of nodes units places before r) (IsBetween nodes)
 unfolding link_of
 link_of-between nodes units places before r =
-    passes (IsBetween nodes) (identifier column.LinkId (cell r (Some places.id))) _ (λ id _.
+    passes (IsBetween nodes) (identifier column.LinkId (field_in r (Some places.id))) _ (λ id _.
     passes (IsBetween nodes) (unless (is_some (place_of (link_ids before) id)) code.E6 column.LinkId) _ (λ _ _.
-    passes (IsBetween nodes) (known_node nodes column.FromNodeId (cell r (Some places.from))) _ (λ from from-is.
-    passes (IsBetween nodes) (known_node nodes column.ToNodeId (cell r (Some places.to))) _ (λ to to-is.
-    passes (IsBetween nodes) (unless (is_undirected (cell r places.directed)) code.E10 column.Directed) _ (λ _ _.
-    passes (IsBetween nodes) (quantity column.Length (cell r (Some places.length))) _ (λ size _.
-    passes (IsBetween nodes) (lanes_of (cell r places.lanes)) _ (λ lanes _.
-    passes (IsBetween nodes) (free_speed_of units.speed (cell r places.free_speed)) _ (λ speed _.
+    passes (IsBetween nodes) (known_node nodes column.FromNodeId (field_in r (Some places.from))) _ (λ from from-is.
+    passes (IsBetween nodes) (known_node nodes column.ToNodeId (field_in r (Some places.to))) _ (λ to to-is.
+    passes (IsBetween nodes) (unless (is_undirected (field_in r places.directed)) code.E10 column.Directed) _ (λ _ _.
+    passes (IsBetween nodes) (quantity column.Length (field_in r (Some places.length))) _ (λ size _.
+    passes (IsBetween nodes) (lanes_of (field_in r places.lanes)) _ (λ lanes _.
+    passes (IsBetween nodes) (free_speed_of units.speed (field_in r places.free_speed)) _ (λ speed _.
     passes (IsBetween nodes) (steps_told (free_steps_of (length_of size units.length) speed units.delta)) _ (λ free _.
-    passes (IsBetween nodes) (capacity_of (cell r places.capacity)) _ (λ capacity _.
+    passes (IsBetween nodes) (capacity_of (field_in r places.capacity)) _ (λ capacity _.
     record {
-      from = if_ok (λ (node : NodeNo). node.0 < length nodes) from-is (known_node-below nodes column.FromNodeId (cell r (Some places.from)));
-      to = if_ok (λ (node : NodeNo). node.0 < length nodes) to-is (known_node-below nodes column.ToNodeId (cell r (Some places.to)));
+      from = if_ok (λ (node : NodeNo). node.0 < length nodes) from-is (known_node-below nodes column.FromNodeId (field_in r (Some places.from)));
+      to = if_ok (λ (node : NodeNo). node.0 < length nodes) to-is (known_node-below nodes column.ToNodeId (field_in r (Some places.to)));
     }))))))))))

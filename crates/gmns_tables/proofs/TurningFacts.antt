@@ -2,7 +2,7 @@
 use Rattle.std.proofs.Common.{◌≡◌, ℕ, ◌<◌, List, length, refl, ap, rules, true, false, not, nat_eq}
 use Rattle.std.specs.Prelude.{IfOk, Some, is_some}
 use Rattle.std.proofs.lemmas.List.{length-map}
-use Rattle.row_reader.specs.Columns.{cell}
+use Rattle.row_reader.specs.Columns.{field_in}
 use Rattle.row_reader.specs.Fields.{identifier, optional_quantity, unless}
 use Rattle.row_reader.specs.Records.{Record}
 use Rattle.row_reader.specs.declared.faults.Code.TheVariants as code
@@ -16,8 +16,8 @@ use Rattle.net_core.specs.declared.rows.NodeNo.{NodeNo}
 use Rattle.net_core.specs.declared.rows.NodeRow.{NodeRow}
 use Rattle.net_core.specs.declared.rows.TurnRow.{TurnRow}
 use Rattle.gmns_tables.specs.Names.{known_link, known_node}
-use Rattle.gmns_tables.specs.Movements.{begins_at, ends_at, penalty_of, turn_of}
-use Rattle.gmns_tables.specs.declared.movement_table.TurnPlaces.{TurnPlaces}
+use Rattle.gmns_tables.specs.Movements.{begins_at, ends_at, penalty_of, movement_of}
+use Rattle.gmns_tables.specs.declared.movement_table.MovementPlaces.{MovementPlaces}
 use Rattle.gmns_tables.specs.declared.units.Units.{Units}
 use Rattle.gmns_tables.proofs.ChainFacts.{found-below, if_ok, passes, unless-ok}
 
@@ -37,21 +37,21 @@ same_node a b node f g =
     ap (λ n. let no : NodeNo = record { 0 = n } in no) k
 
 -- each turn that a record gives leads from a link to another that begins where the first ends
-pub turn_of-turning : (nodes : List NodeRow) (links : List LinkRow) (units : Units) (places : TurnPlaces) (before : List TurnRow) (r : Record)
-    → IfOk (turn_of nodes links units places before r) (IsTurning links)
-unfolding turn_of
-turn_of-turning nodes links units places before r =
-    passes (IsTurning links) (known_node nodes column.NodeId (cell r (Some places.node))) _ (λ node _.
-    passes (IsTurning links) (known_link links column.IbLinkId (cell r (Some places.from))) _ (λ a a-is.
+pub movement_of-turning : (nodes : List NodeRow) (links : List LinkRow) (units : Units) (places : MovementPlaces) (before : List TurnRow) (r : Record)
+    → IfOk (movement_of nodes links units places before r) (IsTurning links)
+unfolding movement_of
+movement_of-turning nodes links units places before r =
+    passes (IsTurning links) (known_node nodes column.NodeId (field_in r (Some places.node))) _ (λ node _.
+    passes (IsTurning links) (known_link links column.IbLinkId (field_in r (Some places.from))) _ (λ a a-is.
     passes (IsTurning links) (unless (not (ends_at links a node)) code.E9 column.IbLinkId) _ (λ _ ends.
-    passes (IsTurning links) (known_link links column.ObLinkId (cell r (Some places.to))) _ (λ b b-is.
+    passes (IsTurning links) (known_link links column.ObLinkId (field_in r (Some places.to))) _ (λ b b-is.
     passes (IsTurning links) (unless (not (begins_at links b node)) code.E9 column.ObLinkId) _ (λ _ begins.
     passes (IsTurning links) (unless (is_some (place_of_pair (turn_pairs before) a.0 b.0)) code.E6 column.ObLinkId) _ (λ _ _.
-    passes (IsTurning links) (penalty_of (cell r places.penalty)) _ (λ penalty _.
-    passes (IsTurning links) (optional_quantity column.Capacity (cell r places.capacity)) _ (λ capacity _.
+    passes (IsTurning links) (penalty_of (field_in r places.penalty)) _ (λ penalty _.
+    passes (IsTurning links) (optional_quantity column.Capacity (field_in r places.capacity)) _ (λ capacity _.
     record {
-      from = if_ok (λ (link : LinkNo). link.0 < length links) a-is (known_link-below links column.IbLinkId (cell r (Some places.from)));
-      to = if_ok (λ (link : LinkNo). link.0 < length links) b-is (known_link-below links column.ObLinkId (cell r (Some places.to)));
+      from = if_ok (λ (link : LinkNo). link.0 < length links) a-is (known_link-below links column.IbLinkId (field_in r (Some places.from)));
+      to = if_ok (λ (link : LinkNo). link.0 < length links) b-is (known_link-below links column.ObLinkId (field_in r (Some places.to)));
       meets = same_node (link_in links a.0).to (link_in links b.0).from node
           (unless-ok (not (ends_at links a node)) code.E9 column.IbLinkId ends)
           (unless-ok (not (begins_at links b node)) code.E9 column.ObLinkId begins);

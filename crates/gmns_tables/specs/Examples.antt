@@ -14,7 +14,7 @@ use Rattle.net_core.specs.declared.rows.LinkRow.{LinkRow}
 use Rattle.net_core.specs.declared.rows.NodeRow.{NodeRow}
 use Rattle.net_core.specs.declared.rows.TurnRow.{TurnRow}
 use Rattle.gmns_tables.specs.Links.{link_verdict}
-use Rattle.gmns_tables.specs.Movements.{turn_verdict}
+use Rattle.gmns_tables.specs.Movements.{movement_verdict}
 use Rattle.gmns_tables.specs.Net.{net_verdict}
 use Rattle.gmns_tables.specs.Nodes.{node_verdict}
 use Rattle.gmns_tables.specs.OnLiterals.{networks_on_literals}
@@ -61,7 +61,7 @@ links_of : List ℕ → Result (List LinkRow) TableFault
 links_of text = link_verdict nodes metric (records text)
 
 turns_of : List ℕ → Result (List TurnRow) TableFault
-turns_of text = turn_verdict nodes links metric (records text)
+turns_of text = movement_verdict nodes links metric (records text)
 
 -- a fault at a line
 fault : {A : Type 0} → Table → ℕ → Code → Column → Result A TableFault

@@ -10,7 +10,7 @@ use Rattle.fixed_units.specs.declared.measure.SpeedUnit.TheVariants.{Kmh}
 use Rattle.fixed_units.specs.declared.quantity.TheConstants.{MOST_THOUSANDTHS}
 use Rattle.desk_io.specs.declared.desk.Table.TheVariants as table
 use Rattle.row_reader.specs.Records.{Record}
-use Rattle.row_reader.specs.Columns.{cell}
+use Rattle.row_reader.specs.Columns.{field_in}
 use Rattle.row_reader.specs.FirstFault.{then_with, verdict}
 use Rattle.row_reader.specs.Fields.{complain, identifier, optional_column, optional_quantity, quantity, quantity_or, required_column, unless, within}
 use Rattle.row_reader.specs.declared.faults.Code.TheVariants as code
@@ -81,16 +81,16 @@ capacity_of text = quantity_or DEFAULT_CAPACITY column.Capacity text
 unfoldable pub link_of : List NodeRow → Units → LinkPlaces → List LinkRow → Record
     → Result LinkRow Complaint
 link_of nodes units places before r =
-    then_with (identifier column.LinkId (cell r (Some places.id))) (λ id.
+    then_with (identifier column.LinkId (field_in r (Some places.id))) (λ id.
     then_with (unless (is_some (place_of (link_ids before) id)) code.E6 column.LinkId) (λ _.
-    then_with (known_node nodes column.FromNodeId (cell r (Some places.from))) (λ from.
-    then_with (known_node nodes column.ToNodeId (cell r (Some places.to))) (λ to.
-    then_with (unless (is_undirected (cell r places.directed)) code.E10 column.Directed) (λ _.
-    then_with (quantity column.Length (cell r (Some places.length))) (λ length.
-    then_with (lanes_of (cell r places.lanes)) (λ lanes.
-    then_with (free_speed_of units.speed (cell r places.free_speed)) (λ speed.
+    then_with (known_node nodes column.FromNodeId (field_in r (Some places.from))) (λ from.
+    then_with (known_node nodes column.ToNodeId (field_in r (Some places.to))) (λ to.
+    then_with (unless (is_undirected (field_in r places.directed)) code.E10 column.Directed) (λ _.
+    then_with (quantity column.Length (field_in r (Some places.length))) (λ length.
+    then_with (lanes_of (field_in r places.lanes)) (λ lanes.
+    then_with (free_speed_of units.speed (field_in r places.free_speed)) (λ speed.
     then_with (steps_told (free_steps_of (length_of length units.length) speed units.delta)) (λ free.
-    then_with (capacity_of (cell r places.capacity)) (λ capacity.
+    then_with (capacity_of (field_in r places.capacity)) (λ capacity.
     Ok (record {
       id = id;
       from = from;

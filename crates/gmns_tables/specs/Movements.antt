@@ -4,7 +4,7 @@ use Rattle.fixed_units.specs.Units.{penalty_steps_of, turn_rate_of}
 use Rattle.fixed_units.specs.declared.turn.TheConstants.{MOST_PENALTY}
 use Rattle.desk_io.specs.declared.desk.Table.TheVariants as table
 use Rattle.row_reader.specs.Records.{Record}
-use Rattle.row_reader.specs.Columns.{cell}
+use Rattle.row_reader.specs.Columns.{field_in}
 use Rattle.row_reader.specs.FirstFault.{then_with, verdict}
 use Rattle.row_reader.specs.Fields.{optional_column, optional_quantity, quantity_or, required_column, unless, within}
 use Rattle.row_reader.specs.declared.faults.Code.TheVariants as code
@@ -21,12 +21,12 @@ use Rattle.net_core.specs.declared.rows.TheConstants.{MOST_TURNS}
 use Rattle.net_core.specs.declared.rows.TurnRow.{TurnRow}
 use Rattle.gmns_tables.specs.Names.{known_link, known_node}
 use Rattle.gmns_tables.specs.declared.movement_table.TheConstants.{DEFAULT_PENALTY}
-use Rattle.gmns_tables.specs.declared.movement_table.TurnPlaces.{TurnPlaces}
+use Rattle.gmns_tables.specs.declared.movement_table.MovementPlaces.{MovementPlaces}
 use Rattle.gmns_tables.specs.declared.units.Units.{Units}
 
 -- the columns of a movement table, or the first required one that is missing
-unfoldable pub turn_places : Record → Result TurnPlaces Complaint
-turn_places header =
+unfoldable pub movement_places : Record → Result MovementPlaces Complaint
+movement_places header =
     then_with (required_column header column.NodeId) (λ node.
     then_with (required_column header column.IbLinkId) (λ from.
     then_with (required_column header column.ObLinkId) (λ to.
@@ -51,17 +51,17 @@ penalty_of text =
     then_with (quantity_or DEFAULT_PENALTY column.Penalty text) (within column.Penalty 0 MOST_PENALTY)
 
 -- the turn of a record after the turns before it, or the first check that fails
-unfoldable pub turn_of : List NodeRow → List LinkRow → Units → TurnPlaces → List TurnRow → Record
+unfoldable pub movement_of : List NodeRow → List LinkRow → Units → MovementPlaces → List TurnRow → Record
     → Result TurnRow Complaint
-turn_of nodes links units places before r =
-    then_with (known_node nodes column.NodeId (cell r (Some places.node))) (λ node.
-    then_with (known_link links column.IbLinkId (cell r (Some places.from))) (λ a.
+movement_of nodes links units places before r =
+    then_with (known_node nodes column.NodeId (field_in r (Some places.node))) (λ node.
+    then_with (known_link links column.IbLinkId (field_in r (Some places.from))) (λ a.
     then_with (unless (not (ends_at links a node)) code.E9 column.IbLinkId) (λ _.
-    then_with (known_link links column.ObLinkId (cell r (Some places.to))) (λ b.
+    then_with (known_link links column.ObLinkId (field_in r (Some places.to))) (λ b.
     then_with (unless (not (begins_at links b node)) code.E9 column.ObLinkId) (λ _.
     then_with (unless (is_some (place_of_pair (turn_pairs before) a.0 b.0)) code.E6 column.ObLinkId) (λ _.
-    then_with (penalty_of (cell r places.penalty)) (λ penalty.
-    then_with (optional_quantity column.Capacity (cell r places.capacity)) (λ capacity.
+    then_with (penalty_of (field_in r places.penalty)) (λ penalty.
+    then_with (optional_quantity column.Capacity (field_in r places.capacity)) (λ capacity.
     Ok (record {
       a = a;
       b = b;
@@ -70,7 +70,7 @@ turn_of nodes links units places before r =
     })))))))))
 
 -- a movement table's rows over these nodes and links, or its first fault
-abbrev pub turn_verdict : List NodeRow → List LinkRow → Units → List Record
+abbrev pub movement_verdict : List NodeRow → List LinkRow → Units → List Record
     → Result (List TurnRow) TableFault
-turn_verdict nodes links units records =
-    verdict table.Movement MOST_TURNS turn_places (turn_of nodes links units) records
+movement_verdict nodes links units records =
+    verdict table.Movement MOST_TURNS movement_places (movement_of nodes links units) records

@@ -10,7 +10,7 @@ use Rattle.net_core.specs.declared.rows.NetRows.{NetRows}
 use Rattle.net_core.specs.declared.rows.NodeRow.{NodeRow}
 use Rattle.net_core.specs.declared.rows.TurnRow.{TurnRow}
 use Rattle.gmns_tables.specs.Links.{link_verdict}
-use Rattle.gmns_tables.specs.Movements.{turn_verdict}
+use Rattle.gmns_tables.specs.Movements.{movement_verdict}
 use Rattle.gmns_tables.specs.Nodes.{node_verdict}
 use Rattle.gmns_tables.specs.declared.units.Units.{Units}
 
@@ -27,7 +27,7 @@ net_of nodes links turns = record { nodes = nodes; links = links; turns = listed
 abbrev pub listed_verdict : List NodeRow → List LinkRow → Units → Option (List Record)
     → Result (List TurnRow) TableFault
 listed_verdict nodes links units None = Ok []
-listed_verdict nodes links units (Some records) = turn_verdict nodes links units records
+listed_verdict nodes links units (Some records) = movement_verdict nodes links units records
 
 -- a network's rows, or the first fault of its first table that has one: nodes, then links, then
 -- movements

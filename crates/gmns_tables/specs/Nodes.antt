@@ -4,7 +4,7 @@ use Rattle.fixed_units.specs.Zone.{zone_of}
 use Rattle.fixed_units.specs.declared.fault.NumberFault.{NumberFault}
 use Rattle.desk_io.specs.declared.desk.Table.TheVariants as table
 use Rattle.row_reader.specs.Records.{Record}
-use Rattle.row_reader.specs.Columns.{cell}
+use Rattle.row_reader.specs.Columns.{field_in}
 use Rattle.row_reader.specs.FirstFault.{then_with, verdict}
 use Rattle.row_reader.specs.Fields.{identifier, not_a_number, optional_column, required_column, unless}
 use Rattle.row_reader.specs.declared.faults.Code.TheVariants as code
@@ -31,9 +31,9 @@ zone_told (Err fault) = Err (not_a_number column.ZoneId fault)
 -- the node of a record after the nodes before it, or the first check that fails
 unfoldable pub node_of : NodePlaces → List NodeRow → Record → Result NodeRow Complaint
 node_of places before r =
-    then_with (identifier column.NodeId (cell r (Some places.id))) (λ id.
+    then_with (identifier column.NodeId (field_in r (Some places.id))) (λ id.
     then_with (unless (is_some (place_of (node_ids before) id)) code.E6 column.NodeId) (λ _.
-    then_with (zone_told (zone_of (cell r places.zone))) (λ zone.
+    then_with (zone_told (zone_of (field_in r places.zone))) (λ zone.
     Ok (record { id = id; zone = zone }))))
 
 -- a node table's rows, or its first fault

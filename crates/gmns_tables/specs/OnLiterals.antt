@@ -5,12 +5,12 @@ use Rattle.row_reader.specs.Fields.{identifier, optional_quantity, quantity, qua
 use Rattle.row_reader.specs.OnLiterals.{tables_on_literals}
 use Rattle.net_core.specs.Rows.{link_in}
 use Rattle.gmns_tables.specs.Links.{free_speed_of, is_undirected, link_of, link_places}
-use Rattle.gmns_tables.specs.Movements.{turn_of, turn_places}
+use Rattle.gmns_tables.specs.Movements.{movement_of, movement_places}
 use Rattle.gmns_tables.specs.Names.{known_link, known_node}
 use Rattle.gmns_tables.specs.Net.{net_verdict}
 use Rattle.gmns_tables.specs.Nodes.{node_of, node_places}
 
 unfoldable pub networks_on_literals : ⊤
 unfolding tables_on_literals number identifier quantity quantity_or optional_quantity known_node known_link link_in
-    node_places node_of link_places is_undirected free_speed_of link_of turn_places turn_of net_verdict
+    node_places node_of link_places is_undirected free_speed_of link_of movement_places movement_of net_verdict
 networks_on_literals = tt

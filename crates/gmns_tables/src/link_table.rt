@@ -94,18 +94,22 @@ impl LinkTable<'_> {
         ensures new { IfOk result (λ link. place_of (link_ids self.now.rows) link.id ≡ None) }
     {
         let units = &self.units;
-        let id = identifier(Column::LinkId, row.cell(Some(places.id)))?;
+        let id = identifier(Column::LinkId, row.field_in(Some(places.id)))?;
         unless(self.rows.contains(id), Code::E6, Column::LinkId)?;
-        let from = known_node(self.nodes, Column::FromNodeId, row.cell(Some(places.from)))?;
-        let to = known_node(self.nodes, Column::ToNodeId, row.cell(Some(places.to)))?;
-        let both_ways = is_undirected(row.cell(places.directed));
+        let from = known_node(
+            self.nodes,
+            Column::FromNodeId,
+            row.field_in(Some(places.from)),
+        )?;
+        let to = known_node(self.nodes, Column::ToNodeId, row.field_in(Some(places.to)))?;
+        let both_ways = is_undirected(row.field_in(places.directed));
         unless(both_ways, Code::E10, Column::Directed)?;
-        let size = quantity(Column::Length, row.cell(Some(places.length)))?;
+        let size = quantity(Column::Length, row.field_in(Some(places.length)))?;
         let size = length(size, units.length);
-        let lanes = lanes(row.cell(places.lanes))?;
-        let speed = free_speed(units.speed, row.cell(places.free_speed))?;
+        let lanes = lanes(row.field_in(places.lanes))?;
+        let speed = free_speed(units.speed, row.field_in(places.free_speed))?;
         let free = free_steps(size, speed, units.delta)?;
-        let capacity = capacity(row.cell(places.capacity))?;
+        let capacity = capacity(row.field_in(places.capacity))?;
         Ok(LinkRow {
             id,
             from,

@@ -8,7 +8,8 @@ ghost use Rattle.row_reader.specs.Records.{records};
 ghost use Rattle.net_core.specs.Ids.{place_of_pair};
 ghost use Rattle.net_core.specs.Rows.{AreTurns, IsTurnInRange, IsTurning, turn_pairs};
 ghost use Rattle.net_core.specs.declared.rows.TheConstants.{MOST_RATE, MOST_TURNS};
-ghost use Rattle.gmns_tables.specs.Movements.{begins_at as begins_at_of, ends_at as ends_at_of, penalty_of, turn_of, turn_places, turn_verdict};
+ghost use Rattle.gmns_tables.specs.Movements.{begins_at as begins_at_of, ends_at as ends_at_of};
+ghost use Rattle.gmns_tables.specs.Movements.{movement_of, movement_places, movement_verdict, penalty_of};
 ghost use Rattle.gmns_tables.specs.Units.{IsUnits};
 
 use crate::links::LinkRows;
@@ -30,7 +31,7 @@ const DEFAULT_PENALTY: u64 = 0;
 
 // Where the columns of a movement table are.
 #[derive(Clone, Copy)]
-struct TurnPlaces {
+struct MovementPlaces {
     node: usize,
     from: usize,
     to: usize,
@@ -38,15 +39,15 @@ struct TurnPlaces {
     capacity: Option<usize>,
 }
 
-impl TurnPlaces {
-    #[tactic(auto, unfolding(crate::specs::Movements::turn_places))]
+impl MovementPlaces {
+    #[tactic(auto, unfolding(crate::specs::Movements::movement_places))]
     fn of(rows: &Rows<'_>) -> Result<Self, Complaint>
-        ensures { result ≡ turn_places rows.now.header }
+        ensures { result ≡ movement_places rows.now.header }
     {
         let node = required_column(rows, Column::NodeId)?;
         let from = required_column(rows, Column::IbLinkId)?;
         let to = required_column(rows, Column::ObLinkId)?;
-        Ok(TurnPlaces {
+        Ok(MovementPlaces {
             node,
             from,
             to,
@@ -58,7 +59,7 @@ impl TurnPlaces {
 
 // A movement table that is being read.
 #[derive(Drop)]
-struct TurnTable<'a> {
+struct MovementTable<'a> {
     nodes: &'a NodeRows,
     links: &'a LinkRows,
     units: Units,
@@ -66,25 +67,25 @@ struct TurnTable<'a> {
     ghost sound: { IsUnits units },
 }
 
-impl TurnTable<'_> {
+impl MovementTable<'_> {
     // The turn of a record, or the first check that fails.
-    #[tactic(auto, unfolding(crate::specs::Movements::turn_of))]
-    fn row(&self, places: TurnPlaces, row: &Row) -> Result<TurnRow, Complaint>
-        ensures row { result ≡ turn_of self.now.nodes.now self.now.links.now self.now.units
+    #[tactic(auto, unfolding(crate::specs::Movements::movement_of))]
+    fn row(&self, places: MovementPlaces, row: &Row) -> Result<TurnRow, Complaint>
+        ensures row { result ≡ movement_of self.now.nodes.now self.now.links.now self.now.units
             places self.now.rows row.now.fields }
         ensures range { IfOk result IsTurnInRange }
         ensures new { IfOk result (λ turn.
             place_of_pair (turn_pairs self.now.rows) turn.a.0 turn.b.0 ≡ None) }
     {
         let links = self.links;
-        let node = known_node(self.nodes, Column::NodeId, row.cell(Some(places.node)))?;
-        let a = known_link(links, Column::IbLinkId, row.cell(Some(places.from)))?;
+        let node = known_node(self.nodes, Column::NodeId, row.field_in(Some(places.node)))?;
+        let a = known_link(links, Column::IbLinkId, row.field_in(Some(places.from)))?;
         unless(!ends_at(links, a, node), Code::E9, Column::IbLinkId)?;
-        let b = known_link(links, Column::ObLinkId, row.cell(Some(places.to)))?;
+        let b = known_link(links, Column::ObLinkId, row.field_in(Some(places.to)))?;
         unless(!begins_at(links, b, node), Code::E9, Column::ObLinkId)?;
         unless(self.rows.contains(a, b), Code::E6, Column::ObLinkId)?;
-        let penalty = penalty(row.cell(places.penalty))?;
-        let capacity = optional_quantity(Column::Capacity, row.cell(places.capacity))?;
+        let penalty = penalty(row.field_in(places.penalty))?;
+        let capacity = optional_quantity(Column::Capacity, row.field_in(places.capacity))?;
         Ok(TurnRow {
             a,
             b,
@@ -94,30 +95,30 @@ impl TurnTable<'_> {
     }
 }
 
-impl Accepted for TurnTable<'_> {
-    type Places = TurnPlaces;
+impl Accepted for MovementTable<'_> {
+    type Places = MovementPlaces;
 
     type Item = TurnRow;
 
     ghost limit = { MOST_TURNS };
 
-    ghost columns = { turn_places };
+    ghost columns = { movement_places };
 
     ghost rows = { λ t. t.rows };
 
-    ghost judge = { λ t. turn_of t.nodes.now t.links.now t.units };
+    ghost judge = { λ t. movement_of t.nodes.now t.links.now t.units };
 
-    fn find_columns(table: &Rows<'_>) -> Result<TurnPlaces, Complaint>
-        ensures { result ≡ turn_places table.now.header }
+    fn find_columns(table: &Rows<'_>) -> Result<MovementPlaces, Complaint>
+        ensures { result ≡ movement_places table.now.header }
     {
-        TurnPlaces::of(table)
+        MovementPlaces::of(table)
     }
 
     fn is_full(&self) -> bool {
         self.rows.as_slice().len() >= MOST_TURNS
     }
 
-    fn accept(&mut self, places: TurnPlaces, row: &Row) -> Result<(), RowRefusal> {
+    fn accept(&mut self, places: MovementPlaces, row: &Row) -> Result<(), RowRefusal> {
         match self.row(places, row) {
             Ok(turn) => match self.rows.push(turn) {
                 Ok(()) => Ok(()),
@@ -141,11 +142,11 @@ pub fn read_movements(
 ) -> Result<TurnRows, TableRefusal>
     requires units { IsUnits units.now }
     requires there { 1 ≤ length text.now }
-    ensures rows { Tells (turn_verdict nodes.now links.now units.now (records text.now)) result }
+    ensures rows { Tells (movement_verdict nodes.now links.now units.now (records text.now)) result }
     ensures sound { IfOk result AreTurns }
     ensures turning { IfOk result (All (IsTurning links.now)) }
 {
-    let table = TurnTable {
+    let table = MovementTable {
         nodes,
         links,
         units: *units,

@@ -51,9 +51,9 @@ impl NodeTable {
         ensures row { result ≡ node_of places self.now.rows row.now.fields }
         ensures new { IfOk result (λ node. place_of (node_ids self.now.rows) node.id ≡ None) }
     {
-        let id = identifier(Column::NodeId, row.cell(Some(places.id)))?;
+        let id = identifier(Column::NodeId, row.field_in(Some(places.id)))?;
         unless(self.rows.contains(id), Code::E6, Column::NodeId)?;
-        let zone = zone_field(row.cell(places.zone))?;
+        let zone = zone_field(row.field_in(places.zone))?;
         Ok(NodeRow { id, zone })
     }
 }

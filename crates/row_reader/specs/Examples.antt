@@ -8,7 +8,7 @@ use Rattle.desk_io.specs.declared.desk.Table.TheVariants as table
 use Rattle.fixed_units.specs.Quantity.{number}
 use Rattle.row_reader.specs.Records.{Record, records, is_good}
 use Rattle.row_reader.specs.Trimmed.{trimmed}
-use Rattle.row_reader.specs.Columns.{column_of, cell}
+use Rattle.row_reader.specs.Columns.{column_of, field_in}
 use Rattle.row_reader.specs.Fields.{unless, within, identifier, quantity, quantity_or, optional_quantity, required_column}
 use Rattle.row_reader.specs.FirstFault.{Judge, then_with, verdict}
 use Rattle.row_reader.specs.declared.faults.Code.{Code}
@@ -74,16 +74,16 @@ unfolding tables_on_literals header
 no_place = refl
 
 -- a field that is there, a place past the record, and a column that is missing
-cell_there : cell (codes "1" ∷ (32 ∷ codes "7") ∷ []) (Some 1) ≡ codes "7"
+field_there : field_in (codes "1" ∷ (32 ∷ codes "7") ∷ []) (Some 1) ≡ codes "7"
 unfolding tables_on_literals
-cell_there = refl
+field_there = refl
 
-cell_past : cell (codes "1" ∷ codes "7" ∷ []) (Some 2) ≡ []
+field_past : field_in (codes "1" ∷ codes "7" ∷ []) (Some 2) ≡ []
 unfolding tables_on_literals
-cell_past = refl
+field_past = refl
 
-cell_missing : cell (codes "1" ∷ codes "7" ∷ []) None ≡ []
-cell_missing = refl
+field_missing : field_in (codes "1" ∷ codes "7" ∷ []) None ≡ []
+field_missing = refl
 
 -- a record of another length than the header, and one that isn't text
 too_short : is_good (codes "id" ∷ codes "zone" ∷ []) (codes "1" ∷ []) ≡ false
@@ -108,9 +108,9 @@ names = verdict table.Node 2 name_place name_of
 
     name_of : ℕ → Judge (List ℕ)
     name_of place before r =
-        then_with (unless (nat_eq (length (cell r (Some place))) 0) code.E3 column.NodeId) (λ filled.
-        then_with (unless (list_any (bytes_eq (cell r (Some place))) before) code.E6 column.NodeId) (λ new.
-        Ok (cell r (Some place))))
+        then_with (unless (nat_eq (length (field_in r (Some place))) 0) code.E3 column.NodeId) (λ filled.
+        then_with (unless (list_any (bytes_eq (field_in r (Some place))) before) code.E6 column.NodeId) (λ new.
+        Ok (field_in r (Some place))))
 
 -- a fault of that table
 fault : ℕ → Code → Column → TableFault

@@ -2,7 +2,7 @@
 ghost use Rattle.std.specs.Prelude.{◌≡◌, ◌<◌, ◌↔◌, ℕ, length, IfOk, IfErr, IfSome, IsNone, IsTrue, option_map};
 ghost use Rattle.csv.specs.Reading.{error_kind};
 ghost use Rattle.csv.specs.Records.{field_at};
-ghost use Rattle.row_reader.specs.Columns.{cell, column_of};
+ghost use Rattle.row_reader.specs.Columns.{column_of, field_in};
 ghost use Rattle.row_reader.specs.Faults.{fault_of_kind};
 ghost use Rattle.row_reader.specs.Records.{records};
 ghost use Rattle.row_reader.specs.Rows.{OpensAs, HasBadHeader, Steps};
@@ -57,15 +57,15 @@ impl Row {
     /// The field of this column, without the spaces and tabs at its ends.
     pub fn field(&self, column: usize) -> &[u8]
         requires { column < length self.now.fields }
-        ensures { result.now ≡ cell self.now.fields (Some column) }
+        ensures { result.now ≡ field_in self.now.fields (Some column) }
     {
-        self.cell(Some(column))
+        self.field_in(Some(column))
     }
 
-    /// The field of a column that may be missing, without the spaces and tabs at its ends.
+    /// The field in a column that may be missing, without the spaces and tabs at its ends.
     /// Empty where there is no such column.
-    pub fn cell(&self, column: Option<usize>) -> &[u8]
-        ensures { result.now ≡ cell self.now.fields column }
+    pub fn field_in(&self, column: Option<usize>) -> &[u8]
+        ensures { result.now ≡ field_in self.now.fields column }
     {
         match column {
             Some(place) => match self.fields.get(place) {

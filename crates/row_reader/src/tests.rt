@@ -1,6 +1,6 @@
 // Tables read past their end, and the rows or the first fault of tables, where memory is ample.
 ghost use Rattle.std.specs.Prelude.{◌≡◌, ◌==◌, List, ℕ, length, nat_eq, Result, Ok, Err, Some, if◌then◌else◌};
-ghost use Rattle.row_reader.specs.Columns.{cell};
+ghost use Rattle.row_reader.specs.Columns.{field_in};
 ghost use Rattle.row_reader.specs.Fields.{complain as complain_of, required_column as required_column_of};
 ghost use Rattle.row_reader.specs.declared.faults.Code.TheVariants as code;
 ghost use Rattle.row_reader.specs.declared.faults.Column.TheVariants as column;
@@ -33,7 +33,7 @@ impl Accepted for Widths {
 
     ghost rows = { λ s. s.items.items };
 
-    ghost judge = { λ s place before r. let width = length (cell r (Some place)) in
+    ghost judge = { λ s place before r. let width = length (field_in r (Some place)) in
         if nat_eq width 0 then Err (complain_of code.E3 column.NodeId) else Ok width };
 
     fn find_columns(table: &Rows<'_>) -> Result<usize, Complaint> {
@@ -45,7 +45,7 @@ impl Accepted for Widths {
     }
 
     fn accept(&mut self, place: usize, row: &Row) -> Result<(), RowRefusal> {
-        let width = row.cell(Some(place)).len();
+        let width = row.field_in(Some(place)).len();
         if width == 0 {
             return Err(RowRefusal::Complaint(complain(Code::E3, Column::NodeId)));
         }

@@ -2,12 +2,12 @@ use Rattle.std.specs.Prelude.{Ok}
 use Rattle.desk_io.specs.declared.desk.Table.TheVariants as table
 use Rattle.net_core.specs.Rows.{IsTurning}
 use Rattle.net_core.specs.declared.rows.TheConstants.{MOST_TURNS}
-use Rattle.gmns_tables.specs.Movements.{turn_of, turn_places}
-use Rattle.gmns_tables.proofs.TurningFacts.{turn_of-turning}
+use Rattle.gmns_tables.specs.Movements.{movement_of, movement_places}
+use Rattle.gmns_tables.proofs.TurningFacts.{movement_of-turning}
 use Rattle.gmns_tables.proofs.TableFacts.{tells-all}
 use Rattle.gmns_tables.proofs.movement_table.read_movements.Goals as goal
 
 pub returns-in-Ok-clause-turning : goal.returns-in-Ok-clause-turning
 returns-in-Ok-clause-turning c =
-    tells-all (IsTurning c.args.links.now) table.Movement MOST_TURNS turn_places (turn_of c.args.nodes.now c.args.links.now c.args.units.now)
-    (turn_of-turning c.args.nodes.now c.args.links.now c.args.units.now) _ (Ok c.in-Ok.table.rows) c.in-Ok.ensures
+    tells-all (IsTurning c.args.links.now) table.Movement MOST_TURNS movement_places (movement_of c.args.nodes.now c.args.links.now c.args.units.now)
+    (movement_of-turning c.args.nodes.now c.args.links.now c.args.units.now) _ (Ok c.in-Ok.table.rows) c.in-Ok.ensures

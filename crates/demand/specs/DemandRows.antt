@@ -4,7 +4,7 @@ use Rattle.std.specs.List.{range_with_len}
 use Rattle.fixed_units.specs.declared.quantity.TheConstants.{MOST_THOUSANDTHS}
 use Rattle.desk_io.specs.declared.desk.Table.TheVariants as table
 use Rattle.row_reader.specs.Records.{Record}
-use Rattle.row_reader.specs.Columns.{cell}
+use Rattle.row_reader.specs.Columns.{field_in}
 use Rattle.row_reader.specs.FirstFault.{then_with, verdict}
 use Rattle.row_reader.specs.Fields.{identifier, quantity, required_column}
 use Rattle.row_reader.specs.declared.faults.Column.TheVariants as column
@@ -26,9 +26,9 @@ cell_places header =
 -- each record has a line, and the header and the cells before have those above
 unfoldable pub cell_of : CellPlaces → List DemandCell → Record → Result DemandCell Complaint
 cell_of places before r =
-    then_with (identifier column.OZoneId (cell r (Some places.origin))) (λ origin.
-    then_with (identifier column.DZoneId (cell r (Some places.destination))) (λ destination.
-    then_with (quantity column.Volume (cell r (Some places.volume))) (λ volume.
+    then_with (identifier column.OZoneId (field_in r (Some places.origin))) (λ origin.
+    then_with (identifier column.DZoneId (field_in r (Some places.destination))) (λ destination.
+    then_with (quantity column.Volume (field_in r (Some places.volume))) (λ volume.
     Ok (record {
       line = length before + FIRST_LINE;
       origin = origin;

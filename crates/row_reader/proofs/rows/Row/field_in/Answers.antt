@@ -2,7 +2,7 @@ use Rattle.std.proofs.Common.{refl, ◌≡◌}
 use Rattle.std.specs.Prelude.{None}
 use Rattle.csv.specs.Records.{field_at}
 use Rattle.row_reader.specs.Trimmed.{drop_blanks}
-use Rattle.row_reader.proofs.rows.Row.cell.Goals as goal
+use Rattle.row_reader.proofs.rows.Row.field_in.Goals as goal
 
 pub returns-in-None-get : goal.returns-in-None-get
 unfolding drop_blanks
