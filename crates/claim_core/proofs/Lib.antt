@@ -1,0 +1,9 @@
+pub mod Sums
+pub mod Cuts
+pub mod Phases
+pub mod Claimed
+pub mod Counts
+pub mod Events
+pub mod Stages
+pub mod Slots
+pub mod Always
