@@ -7,3 +7,4 @@ pub mod Events
 pub mod Stages
 pub mod Slots
 pub mod Always
+pub mod Apart

@@ -9,10 +9,10 @@ use native.Mathlib.Decide.{dec_le}
 use Rattle.dta_model.specs.Units.{Transfer, Gather, Posting, phase_begins, phase_ends, phase_start, phase_end, task_of}
 
 -- the same by the place in the step
-abbrev starts : ℕ → ℕ → ℕ → ℕ
+abbrev pub starts : ℕ → ℕ → ℕ → ℕ
 starts n b r = cond (nat_lt r n) b (cond (nat_lt r (n + n)) (b + n) (b + (n + n)))
 
-abbrev stops : ℕ → ℕ → ℕ → ℕ
+abbrev pub stops : ℕ → ℕ → ℕ → ℕ
 stops n b r = cond (nat_lt r n) (b + n) (cond (nat_lt r (n + n)) (b + (n + n)) (b + (n + n + 1)))
 
 begins_by : (n b x y : ℕ) (c d : Bool) → b + phase_begins n (cond c (Transfer x) (cond d (Gather y) Posting)) ≡ cond c b (cond d (b + n) (b + (n + n)))
@@ -53,11 +53,11 @@ module _ (k : ℕ) where
   in_step : (u : ℕ) → u % W < W
   in_step u = mod-lt u (omega arith)
 
-  start_is : (u : ℕ) → phase_start k u ≡ starts k (u / W * W) (u % W)
+  pub start_is : (u : ℕ) → phase_start k u ≡ starts k (u / W * W) (u % W)
   unfolding phase_start task_of
   start_is u = begins_by k (u / W * W) (u % W) (u % W - k) (nat_lt (u % W) k) (nat_lt (u % W) (k + k))
 
-  stop_is : (u : ℕ) → phase_end k u ≡ stops k (u / W * W) (u % W)
+  pub stop_is : (u : ℕ) → phase_end k u ≡ stops k (u / W * W) (u % W)
   unfolding phase_end task_of
   stop_is u = ends_by k (u / W * W) (u % W) (u % W - k) (nat_lt (u % W) k) (nat_lt (u % W) (k + k))
 

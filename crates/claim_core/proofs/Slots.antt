@@ -161,7 +161,7 @@ module _ (p : Plan) (k : ℕ) where
       let third : at_place (n + n) ≡ in_task Posting = ap (λ task. in_task task) (posts n) in
       omega (arith, split, whole, first, second, third)
 
-once : (y m : ℕ) → y < m → below m (λ x. is_at x y) ≡ 1
+pub once : (y m : ℕ) → y < m → below m (λ x. is_at x y) ≡ 1
 once y m h = omega (arith, below_at y m h, below_at_le y m)
 
 module _ (p : Plan) where
