@@ -8,3 +8,4 @@ pub mod Stages
 pub mod Slots
 pub mod Always
 pub mod Apart
+pub mod ByPlace

@@ -1,3 +1,4 @@
 pub mod Sums
 pub mod Parts
+pub mod Kinds
 pub mod Laws

@@ -8,9 +8,11 @@
 #![tactic(auto)]
 
 mod laws;
+mod units;
 
 pub use dta_model::{Event, Outcome};
 pub use laws::{
     earlier_units_are_finished, held_units_were_given, later_units_are_not, numbers_rise,
     open_units_are_of_the_phase, parts_are_of_whole_steps, units_are_held_once,
 };
+pub use units::{UnitKind, Units};
