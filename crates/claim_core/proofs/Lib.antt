@@ -9,3 +9,4 @@ pub mod Slots
 pub mod Always
 pub mod Apart
 pub mod ByPlace
+pub mod Working

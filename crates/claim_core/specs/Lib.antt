@@ -2,3 +2,4 @@ pub mod Sums
 pub mod Parts
 pub mod Kinds
 pub mod Laws
+pub mod Work

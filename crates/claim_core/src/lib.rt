@@ -9,6 +9,7 @@
 
 mod laws;
 mod units;
+mod work;
 
 pub use dta_model::{Event, Outcome};
 pub use laws::{
