@@ -38,13 +38,12 @@ band_last : (k b r j : ℕ) → r < k + k + 1 → j < k + k + 1 → starts k b r
 band_last k b r j hr hj lo hi h = grind (arith, nat_tests)
 
 -- a slot of a node's cell or of a mail
-pub IsPart : Plan → ℕ → Type 0
+abbrev pub IsPart : Plan → ℕ → Type 0
 IsPart p k = (k < node_count p) ⊎ ((l : ℕ) × (l < length p.net.links) × (k ≡ mail_slot p l))
 
 module _ (p : Plan) where
   -- no slot is moved by two transfers, or by two gathers
   two_transfers : (k : ℕ) → IsPart p k → (a b : ℕ) → a < node_count p → b < node_count p → a ≢ b → 1 ≤ in_task p k (Transfer b) → in_task p k (Transfer a) ≡ 0
-  unfolding IsPart
   two_transfers k (inl h) a b ha hb apart own =
       let same : k ≡ b = at_is k b (omega (arith, own, cell_of p b (outs p b) k h)) in
       cell_of p a (outs p a) k h ∙ at_other k a (λ e. apart (sym e ∙ same))
@@ -57,7 +56,6 @@ module _ (p : Plan) where
       at a ha ∙ at_other a (link_at p l).from.0 (λ q. apart (q ∙ sym same))
 
   two_gathers : (k : ℕ) → IsPart p k → (a b : ℕ) → a < node_count p → b < node_count p → a ≢ b → 1 ≤ in_task p k (Gather b) → in_task p k (Gather a) ≡ 0
-  unfolding IsPart
   two_gathers k (inl h) a b ha hb apart own =
       let same : k ≡ b = at_is k b (omega (arith, own, cell_of p b (ins p b) k h)) in
       cell_of p a (ins p a) k h ∙ at_other k a (λ e. apart (sym e ∙ same))

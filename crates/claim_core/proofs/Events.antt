@@ -33,7 +33,7 @@ claimed_same N g n g' n' D H D' H' k ge ne d h = record {
 
 -- the same numbers are drawn and held
 module _ (p : Plan) (s s' : Claims) (g : drawn_in p s' ≡ drawn_in p s) (h : (x : ℕ) → held_in s' x ≡ held_in s x) where
-  done_stays : (x : ℕ) → done_in p s' x ≡ done_in p s x
+  pub done_stays : (x : ℕ) → done_in p s' x ≡ done_in p s x
   done_stays x = omega (arith, done_is p s x, done_is p s' x, h x, ap (λ b. once_below x b) g)
 
   finished_stays : finished p s' ≡ finished p s
@@ -82,7 +82,7 @@ module _ (p : Plan) (s : Claims) (k : Kept p s) (w : ℕ) where
     draws : Claimed (node_count p) (suc (drawn_in p s)) (finished p s) (done_in p s) (held_in drawn_now)
     draws = draw (node_count p) (drawn_in p s) (finished p s) (done_in p s) (held_in s) k.claimed (held_in drawn_now) held_more
 
-    done_same : (x : ℕ) → done_in p drawn_now x ≡ done_in p s x
+    pub done_same : (x : ℕ) → done_in p drawn_now x ≡ done_in p s x
     done_same x = omega (arith, done_is p drawn_now x, ap (λ b. once_below x b) next, draws.once x)
 
     finished_same : finished p drawn_now ≡ finished p s

@@ -10,3 +10,6 @@ pub mod Always
 pub mod Apart
 pub mod ByPlace
 pub mod Working
+pub mod Effects
+pub mod Ended
+pub mod Inside

@@ -125,7 +125,7 @@ task_gather n i a e = by (nat_lt i n) (nat_lt i (n + n)) refl refl e
 
 -- of a sound loading
 module _ (p : Plan) (sound : IsSound p) (c a : ℕ) where
-  moves_by : (task : Task) → task_of (node_count p) c ≡ task → (k : ℕ) → moves p k c ≡ in_task p k task
+  pub moves_by : (task : Task) → task_of (node_count p) c ≡ task → (k : ℕ) → moves p k c ≡ in_task p k task
   unfolding moved_by
   moves_by task e k = ap (λ x. in_task p k x) e
 
@@ -176,7 +176,7 @@ posting_kind (Transfer a) e = cc
 posting_kind (Gather a) e = cc
 posting_kind Posting e = refl
 
-index_of : {A : Type 0} (xs : List A) (i : ℕ) (x d : A) → slice_get xs i ≡ Some x → slice_index_or xs i d ≡ x
+pub index_of : {A : Type 0} (xs : List A) (i : ℕ) (x d : A) → slice_get xs i ≡ Some x → slice_index_or xs i d ≡ x
 index_of [] i x d e = cc
 index_of {A} (y ∷ xs) zero x d e = same y x e
   where
@@ -271,3 +271,7 @@ module _ (p : Plan) (sound : IsSound p) (u N t : ℕ) (few : u < unit_count p) (
       other_cells = λ n h z. refl;
       other_mail = λ l h z. refl;
     }
+
+pub count_is_all : (p : Plan) (H N : ℕ) → H ≡ p.horizon → N ≡ node_count p → H * step_units N ≡ unit_count p
+unfolding unit_count
+count_is_all p H N h n = ap (λ x. x * step_units N) h ∙ ap (λ x. p.horizon * step_units x) n

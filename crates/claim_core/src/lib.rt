@@ -7,7 +7,9 @@
 //! those of the plain loading.
 #![tactic(auto)]
 
+mod claims;
 mod laws;
+mod machine;
 mod units;
 mod work;
 
@@ -16,4 +18,5 @@ pub use laws::{
     earlier_units_are_finished, held_units_were_given, later_units_are_not, numbers_rise,
     open_units_are_of_the_phase, parts_are_of_whole_steps, units_are_held_once,
 };
+pub use machine::Machine;
 pub use units::{UnitKind, Units};

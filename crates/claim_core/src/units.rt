@@ -4,7 +4,7 @@ ghost use Rattle.dta_model.specs.Lent.{plan_of};
 ghost use Rattle.dta_model.specs.Units.{phase_start as start_of, step_of as step_at};
 ghost use Rattle.dta_model.specs.Units.{step_units, task_of};
 ghost use Rattle.dta_model.specs.declared.loading.TheConstants.{MOST_HORIZON};
-ghost use Rattle.std.specs.Prelude.{◌≡◌, ◌≤◌, ◌<◌, ◌*◌, length};
+ghost use Rattle.std.specs.Prelude.{◌≡◌, ◌≤◌, ◌<◌, ◌*◌, ◌^◌, length};
 
 use dta_model::Loading;
 use net_core::NodeNo;
@@ -49,7 +49,8 @@ impl Units {
     /// How many there are.
     pub fn count(self) -> u64
         requires { self.horizon ≤ MOST_HORIZON }
-        ensures { result ≡ self.horizon * step_units self.nodes }
+        ensures value { result ≡ self.horizon * step_units self.nodes }
+        ensures small { result < 2 ^ 50 }
     {
         self.horizon as u64 * self.in_step()
     }
