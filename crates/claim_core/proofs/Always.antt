@@ -1,0 +1,208 @@
+-- The laws of the claims, after every list of events.
+use Rattle.std.specs.Prelude.{nat_lt, slice_get}
+use Rattle.std.specs.List.{flat_map}
+use Rattle.std.proofs.Common.{◌≡◌, ℕ, suc, ◌+◌, ◌*◌, ◌<◌, ◌≤◌, min, Bool, true, false, cond, List, [], ◌∷◌, ◌++◌, length, refl, ap, sym, ◌∙◌, arith, Option, Some, None}
+use Rattle.std.proofs.lemmas.Bool.Decides.{nat_tests}
+use Rattle.std.proofs.lemmas.List.{append_assoc, append-nil}
+use Rattle.net_core.specs.Network.{numbers_below}
+use Rattle.dta_model.specs.Machine.{Claims, Effect, all_idle, claim_by, effect_of, finish_by, finished, is_finished, may_open, open_by, outcome, outcomes_of, run_machine, step_machine, with_stage}
+use Rattle.dta_model.specs.Sound.{IsSound}
+use Rattle.dta_model.specs.Units.{mail_slot, node_count, phase_start, step_units, unit_count}
+use Rattle.dta_model.specs.declared.plan.Plan.{Plan}
+use Rattle.dta_model.specs.declared.machine.Event.{Event}
+use Rattle.dta_model.specs.declared.machine.Event.TheVariants as event
+use Rattle.dta_model.specs.declared.machine.Outcome.TheVariants as outcomes
+use Rattle.dta_model.specs.declared.machine.Stage.{Stage}
+use Rattle.dta_model.specs.declared.machine.Stage.TheVariants as stage
+use Rattle.node_transfer.specs.Contents.{away, cell_at, cell_before, mail_at, room_of}
+use Rattle.node_transfer.proofs.TwoStages.{steps_have_two_stages}
+use Rattle.claim_core.specs.Laws.{Always, EarlierAreFinished, HeldWereGiven, IsHeldOnce, LaterAreNot, NumbersRise, OpenAreOfThePhase, PartsAreOfWholeSteps, number_given}
+use Rattle.claim_core.specs.Parts.{done_in, moves, stage_in, stage_of}
+use Rattle.claim_core.specs.Sums.{below, once_below, one_if}
+use Rattle.claim_core.proofs.Claimed.{finished_le}
+use Rattle.claim_core.proofs.Counts.{drawn_in, held_in, min_high, min_low, none_past, range_more}
+use Rattle.claim_core.proofs.Cuts.{below_cut}
+use Rattle.claim_core.proofs.Events.{Kept, always_kept, in_phase}
+use Rattle.claim_core.proofs.Phases.{whole_start}
+use Rattle.claim_core.proofs.Slots.{at_place, of_whole_steps, step_cell, step_mail}
+use Rattle.claim_core.proofs.Stages.{others_none}
+
+once_le : (x g : ℕ) → once_below x g ≤ 1
+once_le x g = grind (arith, nat_tests)
+
+once_in : (x g : ℕ) → 1 ≤ once_below x g → x < g
+once_in x g h = grind (arith, nat_tests)
+
+is_one : (b : Bool) → 1 ≤ one_if b → b ≡ true
+is_one true h = refl
+is_one false h = absurd (omega arith)
+
+is_zero : (b : Bool) → one_if b ≡ 0 → b ≡ false
+is_zero true h = absurd (omega (arith, h))
+is_zero false h = refl
+
+module _ (p : Plan) (s : Claims) (k : Kept p s) where
+  held_once : IsHeldOnce p s
+  held_once c = omega (arith, k.claimed.once c, once_le c (drawn_in p s))
+
+  held_given : HeldWereGiven p s
+  held_given c h = once_in c (drawn_in p s) (omega (arith, k.claimed.once c, h))
+
+  earlier : EarlierAreFinished p s
+  earlier u l = is_one (is_finished p s u) (k.claimed.before u l)
+
+  later : LaterAreNot p s
+  later u l = is_zero (is_finished p s u) (k.claimed.after u l)
+
+  in_the_phase : OpenAreOfThePhase p s
+  in_the_phase w c e = in_phase p s k w c e
+
+  -- where whole steps are finished
+  module _ (t : ℕ) (whole : finished p s ≡ t * step_units (node_count p)) where
+    abbrev m : ℕ
+    m = t * step_units (node_count p)
+
+    abbrev g : ℕ
+    g = drawn_in p s
+
+    drawn_most : m ≤ g
+    drawn_most = omega (arith, whole, finished_le (node_count p) g (finished p s) (done_in p s) (held_in s) k.claimed)
+
+    all_done : (x : ℕ) → x < m → done_in p s x ≡ 1
+    all_done x l = omega (arith, k.claimed.before x (omega (arith, l, ap (λ n. phase_start (node_count p) n) whole, whole_start (node_count p) t)), k.claimed.once x, once_le x g)
+
+    no_other : (x : ℕ) → m ≤ x → done_in p s x ≡ 0
+    no_other x le = by_bound (nat_lt x g) refl
+      where
+        below_of : (a b : ℕ) → nat_lt a b ≡ true → a < b
+        below_of a b h = grind (arith, nat_tests)
+
+        past_of : (a b : ℕ) → nat_lt a b ≡ false → b ≤ a
+        past_of a b h = grind (arith, nat_tests)
+
+        by_bound : (b : Bool) → nat_lt x g ≡ b → done_in p s x ≡ 0
+        by_bound true e = others_none (done_in p s) m g drawn_most (λ y l. omega (arith, all_done y l)) (sym (k.claimed.sum) ∙ whole) x le (below_of x g e)
+        by_bound false e = none_past p s x (past_of x g e)
+
+    pub whole_stage : (slot : ℕ) → stage_in p s slot ≡ t * below (step_units (node_count p)) (at_place p slot)
+    unfolding stage_of
+    whole_stage slot =
+        below_cut (λ u. moves p slot u * done_in p s u) (moves p slot) m (unit_count p) (omega (arith, drawn_most))
+        (λ x l. ap (λ d. moves p slot x * d) (all_done x l) ∙ omega arith)
+        (λ x le. ap (λ d. moves p slot x * d) (no_other x le) ∙ omega arith)
+        ∙ of_whole_steps p slot t
+
+    twice : (slot : ℕ) → below (step_units (node_count p)) (at_place p slot) ≡ 2 → stage_in p s slot ≡ 2 * t
+    twice slot e = whole_stage slot ∙ ap (λ b. t * b) e ∙ omega arith
+
+    cells_then : (n : ℕ) → n < node_count p → cell_at p n (stage_in p s n) ≡ cell_before p n t away away
+    cells_then n h = ap (λ k. cell_at p n k) (twice n (step_cell p n h)) ∙ (steps_have_two_stages p t).0.cell n
+
+    mail_then : IsSound p → (l : ℕ) → l < length p.net.links → mail_at p l (stage_in p s (mail_slot p l)) ≡ room_of p t l
+    mail_then sound l h = ap (λ k. mail_at p l k) (twice (mail_slot p l) (step_mail p sound l h)) ∙ (steps_have_two_stages p t).0.mail l
+
+  whole_parts : PartsAreOfWholeSteps p s
+  whole_parts t sound e = (cells_then t e, mail_then t e sound)
+
+pub none_held_twice : Always IsHeldOnce
+none_held_twice p workers events = held_once p (run_machine p events (all_idle workers)) (always_kept p workers events)
+
+pub held_were_given : Always HeldWereGiven
+held_were_given p workers events = held_given p (run_machine p events (all_idle workers)) (always_kept p workers events)
+
+pub earlier_are_finished : Always EarlierAreFinished
+earlier_are_finished p workers events = earlier p (run_machine p events (all_idle workers)) (always_kept p workers events)
+
+pub later_are_not : Always LaterAreNot
+later_are_not p workers events = later p (run_machine p events (all_idle workers)) (always_kept p workers events)
+
+pub open_are_of_the_phase : Always OpenAreOfThePhase
+open_are_of_the_phase p workers events = in_the_phase p (run_machine p events (all_idle workers)) (always_kept p workers events)
+
+pub parts_are_of_whole_steps : Always PartsAreOfWholeSteps
+parts_are_of_whole_steps p workers events = whole_parts p (run_machine p events (all_idle workers)) (always_kept p workers events)
+
+-- numbers rise
+module _ (p : Plan) (s : Claims) where
+  same_numbers : numbers_below (drawn_in p s) ++ [] ≡ numbers_below (drawn_in p s)
+  same_numbers = append-nil (numbers_below (drawn_in p s))
+
+  abbrev given : ℕ → Effect
+  given w = record {
+    claims = record (with_stage s w (stage.Held s.drawn)) { drawn = suc s.drawn };
+    outcome = outcomes.Given s.drawn;
+  }
+
+  abbrev over : ℕ → Effect
+  over w = record {
+    claims = record (with_stage s w stage.Ended) { drawn = suc s.drawn };
+    outcome = outcomes.Over s.drawn;
+  }
+
+  abbrev opens : ℕ → ℕ → Effect
+  opens w c = record { claims = with_stage s w (stage.Open c); outcome = outcomes.Done }
+
+  abbrev waits : Effect
+  waits = record { claims = s; outcome = outcomes.NotYet (finished p s) }
+
+  claim_gives : (w : ℕ) (o : Option Stage) → numbers_below (drawn_in p s) ++ number_given (claim_by p s w o).outcome ≡ numbers_below (drawn_in p (claim_by p s w o).claims)
+  claim_gives w None = same_numbers
+  claim_gives w (Some stage.Idle) = by (nat_lt s.drawn (unit_count p)) (λ b. below_of s.drawn (unit_count p) b) (λ b. past_of s.drawn (unit_count p) b)
+    where
+      below_of : (a b : ℕ) → nat_lt a b ≡ true → a < b
+      below_of a b h = grind (arith, nat_tests)
+
+      past_of : (a b : ℕ) → nat_lt a b ≡ false → b ≤ a
+      past_of a b h = grind (arith, nat_tests)
+
+      by : (b : Bool) → (b ≡ true → s.drawn < unit_count p) → (b ≡ false → unit_count p ≤ s.drawn)
+          → numbers_below (drawn_in p s) ++ number_given (cond b (given w) (over w)).outcome ≡ numbers_below (drawn_in p (cond b (given w) (over w)).claims)
+      by true few all =
+          let l = few refl in
+          let low : drawn_in p s ≡ s.drawn = min_low s.drawn (unit_count p) (omega (arith, l)) in
+          let next : min (suc s.drawn) (unit_count p) ≡ suc s.drawn = min_low (suc s.drawn) (unit_count p) (omega (arith, l)) in
+          let zero_on : 0 + s.drawn ≡ s.drawn = omega arith in
+          ap (λ x. numbers_below x ++ s.drawn ∷ []) low ∙ sym (range_more s.drawn 0 ∙ ap (λ x. numbers_below s.drawn ++ x ∷ []) zero_on) ∙ ap (λ x. numbers_below x) (sym next)
+      by false few all =
+          let l = all refl in
+          same_numbers ∙ ap (λ x. numbers_below x) (min_high s.drawn (unit_count p) l ∙ sym (min_high (suc s.drawn) (unit_count p) (omega (arith, l))))
+  claim_gives w (Some (stage.Held c)) = same_numbers
+  claim_gives w (Some (stage.Open c)) = same_numbers
+  claim_gives w (Some stage.Ended) = same_numbers
+
+  open_gives : (w : ℕ) (o : Option Stage) → numbers_below (drawn_in p s) ++ number_given (open_by p s w o).outcome ≡ numbers_below (drawn_in p (open_by p s w o).claims)
+  open_gives w None = same_numbers
+  open_gives w (Some stage.Idle) = same_numbers
+  open_gives w (Some (stage.Held c)) = by (may_open p s c)
+    where
+      by : (b : Bool) → numbers_below (drawn_in p s) ++ number_given (cond b (opens w c) waits).outcome ≡ numbers_below (drawn_in p (cond b (opens w c) waits).claims)
+      by true = same_numbers
+      by false = same_numbers
+  open_gives w (Some (stage.Open c)) = same_numbers
+  open_gives w (Some stage.Ended) = same_numbers
+
+  finish_gives : (w : ℕ) (o : Option Stage) → numbers_below (drawn_in p s) ++ number_given (finish_by s w o).outcome ≡ numbers_below (drawn_in p (finish_by s w o).claims)
+  finish_gives w None = same_numbers
+  finish_gives w (Some stage.Idle) = same_numbers
+  finish_gives w (Some (stage.Held c)) = same_numbers
+  finish_gives w (Some (stage.Open c)) = same_numbers
+  finish_gives w (Some stage.Ended) = same_numbers
+
+  step_gives : (e : Event) → numbers_below (drawn_in p s) ++ number_given (outcome p s e) ≡ numbers_below (drawn_in p (step_machine p s e))
+  unfolding effect_of
+  step_gives (event.Claim w) = claim_gives w (slice_get s.stages w)
+  step_gives (event.Open w) = open_gives w (slice_get s.stages w)
+  step_gives (event.Finish w) = finish_gives w (slice_get s.stages w)
+
+run_gives : (p : Plan) (events : List Event) (s : Claims) → numbers_below (drawn_in p s) ++ flat_map number_given (outcomes_of p events s) ≡ numbers_below (drawn_in p (run_machine p events s))
+unfolding outcomes_of run_machine
+run_gives p [] s = same_numbers p s
+run_gives p (e ∷ events) s =
+    sym (append_assoc (numbers_below (drawn_in p s)) (number_given (outcome p s e)) (flat_map number_given (outcomes_of p events (step_machine p s e))))
+    ∙ ap (λ xs. xs ++ flat_map number_given (outcomes_of p events (step_machine p s e))) (step_gives p s e)
+    ∙ run_gives p events (step_machine p s e)
+
+pub numbers_rise : NumbersRise
+numbers_rise p workers events =
+    let start : drawn_in p (all_idle workers) ≡ 0 = min_low 0 (unit_count p) (omega arith) in
+    ap (λ x. numbers_below x ++ flat_map number_given (outcomes_of p events (all_idle workers))) (sym start) ∙ run_gives p events (all_idle workers)

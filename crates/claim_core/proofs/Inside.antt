@@ -1,0 +1,221 @@
+-- What every event keeps of a machine.
+use Rattle.std.specs.Prelude.{nat_le, nat_lt, slice_get, slice_set}
+use Rattle.std.specs.List.{repeat}
+use Rattle.std.proofs.Common.{◌≡◌, ℕ, zero, suc, ◌+◌, ◌*◌, ◌<◌, ◌≤◌, ◌^◌, Bool, true, false, cond, List, [], ◌∷◌, ◌++◌, length, map, take, drop, refl, ap, sym, ◌∙◌, subst, arith, Option, Some, None}
+use Rattle.std.proofs.lemmas.Bool.Decides.{nat_tests}
+use Rattle.dta_model.specs.Machine.{Claims, Effect, all_idle, claim_by, effect_of, finish_by, finished, is_finished, may_open, open_by, run_machine, step_machine, with_stage}
+use Rattle.dta_model.specs.Sound.{IsSound}
+use Rattle.dta_model.specs.Units.{mail_slot, unit_count}
+use Rattle.dta_model.specs.declared.plan.Plan.{Plan}
+use Rattle.dta_model.specs.declared.machine.Event.{Event}
+use Rattle.dta_model.specs.declared.machine.Event.TheVariants as event
+use Rattle.dta_model.specs.declared.machine.Outcome.{Outcome}
+use Rattle.dta_model.specs.declared.machine.Outcome.TheVariants as outcomes
+use Rattle.dta_model.specs.declared.machine.Stage.{Stage}
+use Rattle.dta_model.specs.declared.machine.Stage.TheVariants as stage
+use Rattle.node_transfer.specs.Cells.{CellState}
+use Rattle.node_transfer.specs.Contents.{cell_at, mail_at}
+use Rattle.node_transfer.specs.declared.mail.Mail.{Mail}
+use Rattle.claim_core.specs.Machine.{AreReached, HasParts, IsMachine, MachineState}
+use Rattle.claim_core.specs.Parts.{done_in, moves, stage_in, stage_of}
+use Rattle.claim_core.specs.Sums.{below, one_if, is_at}
+use Rattle.claim_core.specs.Work.{AreAtStages, PartsState}
+use Rattle.claim_core.proofs.Counts.{count_below, drawn_in, held_in, held_set, min_high}
+use Rattle.claim_core.proofs.Cuts.{below_same}
+use Rattle.claim_core.proofs.Effects.{kept_of}
+use Rattle.claim_core.proofs.Ended.{drawn_most}
+use Rattle.claim_core.proofs.Events.{Kept, done_same, done_stays}
+
+below_of : (a b : ℕ) → nat_lt a b ≡ true → a < b
+below_of a b h = grind (arith, nat_tests)
+
+past_of : (a b : ℕ) → nat_lt a b ≡ false → b ≤ a
+past_of a b h = grind (arith, nat_tests)
+
+set_count : (xs : List Stage) (i : ℕ) (x : Stage) → length (slice_set xs i x) ≡ length xs
+set_count [] i x = refl
+set_count (y ∷ xs) zero x = refl
+set_count (y ∷ xs) (suc i) x = ap (λ k. suc k) (set_count xs i x)
+
+module _ (p : Plan) (s : Claims) (k : Kept p s) where
+  -- a claim and an open finish nothing
+  claim_done : (w : ℕ) (o : Option Stage) → slice_get s.stages w ≡ o → (x : ℕ) → done_in p (claim_by p s w o).claims x ≡ done_in p s x
+  claim_done w None e x = refl
+  claim_done w (Some stage.Idle) e x = by (nat_lt s.drawn (unit_count p)) (λ b. below_of s.drawn (unit_count p) b) (λ b. past_of s.drawn (unit_count p) b)
+    where
+      by : (b : Bool) → (b ≡ true → s.drawn < unit_count p) → (b ≡ false → unit_count p ≤ s.drawn)
+          → done_in p (cond {A = Effect} b (record { claims = record (with_stage s w (stage.Held s.drawn)) { drawn = suc s.drawn }; outcome = outcomes.Given s.drawn }) (record { claims = record (with_stage s w stage.Ended) { drawn = suc s.drawn }; outcome = outcomes.Over s.drawn })).claims x ≡ done_in p s x
+      by true few all = done_same p s k w e (few refl) x
+      by false few all =
+          let s' : Claims = record (with_stage s w stage.Ended) { drawn = suc s.drawn } in
+          let l = all refl in
+          done_stays p s s' (min_high (suc s.drawn) (unit_count p) (omega (arith, l)) ∙ sym (min_high s.drawn (unit_count p) l))
+              (λ y. (let q : held_in s' y + 0 ≡ held_in s y + 0 = held_set s.stages w stage.Idle stage.Ended y e in omega (arith, q))) x
+  claim_done w (Some (stage.Held c)) e x = refl
+  claim_done w (Some (stage.Open c)) e x = refl
+  claim_done w (Some stage.Ended) e x = refl
+
+  open_done : (w : ℕ) (o : Option Stage) → slice_get s.stages w ≡ o → (x : ℕ) → done_in p (open_by p s w o).claims x ≡ done_in p s x
+  open_done w None e x = refl
+  open_done w (Some stage.Idle) e x = refl
+  open_done w (Some (stage.Held c)) e x = by (may_open p s c)
+    where
+      by : (b : Bool) → done_in p (cond {A = Effect} b (record { claims = with_stage s w (stage.Open c); outcome = outcomes.Done }) (record { claims = s; outcome = outcomes.NotYet (finished p s) })).claims x ≡ done_in p s x
+      by true = done_stays p s (with_stage s w (stage.Open c)) refl
+          (λ y. (let q : held_in (with_stage s w (stage.Open c)) y + is_at y c ≡ held_in s y + is_at y c = held_set s.stages w (stage.Held c) (stage.Open c) y e in omega (arith, q))) x
+      by false = refl
+  open_done w (Some (stage.Open c)) e x = refl
+  open_done w (Some stage.Ended) e x = refl
+
+-- no event changes the number of workers
+module _ (p : Plan) (s : Claims) where
+  claim_count : (w : ℕ) (o : Option Stage) → length (claim_by p s w o).claims.stages ≡ length s.stages
+  claim_count w None = refl
+  claim_count w (Some stage.Idle) = by (nat_lt s.drawn (unit_count p))
+    where
+      by : (b : Bool) → length (cond {A = Effect} b (record { claims = record (with_stage s w (stage.Held s.drawn)) { drawn = suc s.drawn }; outcome = outcomes.Given s.drawn }) (record { claims = record (with_stage s w stage.Ended) { drawn = suc s.drawn }; outcome = outcomes.Over s.drawn })).claims.stages ≡ length s.stages
+      by true = set_count s.stages w (stage.Held s.drawn)
+      by false = set_count s.stages w stage.Ended
+  claim_count w (Some (stage.Held c)) = refl
+  claim_count w (Some (stage.Open c)) = refl
+  claim_count w (Some stage.Ended) = refl
+
+  open_count : (w : ℕ) (o : Option Stage) → length (open_by p s w o).claims.stages ≡ length s.stages
+  open_count w None = refl
+  open_count w (Some stage.Idle) = refl
+  open_count w (Some (stage.Held c)) = by (may_open p s c)
+    where
+      by : (b : Bool) → length (cond {A = Effect} b (record { claims = with_stage s w (stage.Open c); outcome = outcomes.Done }) (record { claims = s; outcome = outcomes.NotYet (finished p s) })).claims.stages ≡ length s.stages
+      by true = set_count s.stages w (stage.Open c)
+      by false = refl
+  open_count w (Some (stage.Open c)) = refl
+  open_count w (Some stage.Ended) = refl
+
+  finish_count : (w : ℕ) (o : Option Stage) → length (finish_by s w o).claims.stages ≡ length s.stages
+  finish_count w None = refl
+  finish_count w (Some stage.Idle) = refl
+  finish_count w (Some (stage.Held c)) = refl
+  finish_count w (Some (stage.Open c)) = set_count s.stages w stage.Idle
+  finish_count w (Some stage.Ended) = refl
+
+  step_count : (e : Event) → length (step_machine p s e).stages ≡ length s.stages
+  unfolding effect_of
+  step_count (event.Claim w) = claim_count w (slice_get s.stages w)
+  step_count (event.Open w) = open_count w (slice_get s.stages w)
+  step_count (event.Finish w) = finish_count w (slice_get s.stages w)
+
+run_snoc : (p : Plan) (events : List Event) (s : Claims) (e : Event) → run_machine p (events ++ e ∷ []) s ≡ step_machine p (run_machine p events s) e
+unfolding run_machine
+run_snoc p [] s e = refl
+run_snoc p (d ∷ events) s e = run_snoc p events (step_machine p s d) e
+
+pub next_reached : (p : Plan) (s : Claims) → AreReached p s → (e : Event) → AreReached p (step_machine p s e)
+next_reached p s r e = record {
+  workers = r.workers;
+  events = r.events ++ e ∷ [];
+  claims = ap (λ x. step_machine p x e) r.claims ∙ sym (run_snoc p r.events (all_idle r.workers) e);
+}
+
+-- the same units are done
+module _ (p : Plan) (s s' : Claims) (same : (x : ℕ) → done_in p s' x ≡ done_in p s x) where
+  same_finished : finished p s ≡ finished p s'
+  unfolding finished
+  same_finished = count_below (is_finished p s) (unit_count p) ∙ below_same (done_in p s) (done_in p s') (unit_count p) (λ x l. sym (same x)) ∙ sym (count_below (is_finished p s') (unit_count p))
+
+  same_stage : (slot : ℕ) → stage_in p s slot ≡ stage_in p s' slot
+  unfolding stage_of
+  same_stage slot = below_same (λ x. moves p slot x * done_in p s x) (λ x. moves p slot x * done_in p s' x) (unit_count p) (λ x l. ap (λ d. moves p slot x * d) (sym (same x)))
+
+  same_parts : (parts : PartsState) → AreAtStages p (stage_in p s) parts → AreAtStages p (stage_in p s') parts
+  same_parts parts at = record {
+    counted = at.counted;
+    cells = λ n h. at.cells n h ∙ ap (λ x. Some (cell_at p n x)) (same_stage n);
+    mail = λ l h. at.mail l h ∙ ap (λ x. Some (mail_at p l x)) (same_stage (mail_slot p l));
+  }
+
+module _ (p : Plan) (s : Claims) (parts : PartsState) (n : ℕ) (m : IsMachine (record { plan = p; claims = s; parts = parts }) n) where
+  pub room_left : (w : ℕ) → s.drawn ≤ unit_count p + 2 ^ 32
+  room_left w = omega (arith, drawn_most p s m.reached, m.few)
+
+  keeps : (e : Event) (new : Claims) (outcome : Outcome) (parts' : PartsState) (n' : ℕ) → record { claims = new; outcome = outcome } ≡ effect_of p s e
+      → AreAtStages p (stage_in p new) parts' → n' ≡ finished p new → IsMachine (record { plan = p; claims = new; parts = parts' }) n'
+  keeps e new outcome parts' n' made at count =
+      let is : new ≡ step_machine p s e = ap (λ x. x.claims) made in
+      record {
+        sound = m.sound;
+        reached = subst (λ x. AreReached p x) (sym is) (next_reached p s m.reached e);
+        parts = at;
+        counted = count;
+        few = let q = ap (λ (x : Claims). length x.stages) is in let c = step_count p s e in let f = m.few in omega (arith, q, c, f);
+      }
+
+  pub finish_keeps : (w : ℕ) (new : Claims) (outcome : Outcome) (parts' : PartsState) (n' : ℕ) → record { claims = new; outcome = outcome } ≡ effect_of p s (event.Finish w)
+      → AreAtStages p (stage_in p new) parts' → n' ≡ finished p new → IsMachine (record { plan = p; claims = new; parts = parts' }) n'
+  finish_keeps w = keeps (event.Finish w)
+
+  pub claim_keeps : (w : ℕ) (new : Claims) (outcome : Outcome) → record { claims = new; outcome = outcome } ≡ effect_of p s (event.Claim w) → IsMachine (record { plan = p; claims = new; parts = parts }) n
+  unfolding effect_of
+  claim_keeps w new outcome made =
+      let is : new ≡ (claim_by p s w (slice_get s.stages w)).claims = ap (λ x. x.claims) made in
+      let same : (x : ℕ) → done_in p new x ≡ done_in p s x = λ x. ap (λ y. done_in p y x) is ∙ claim_done p s (kept_of p s m.reached) w (slice_get s.stages w) refl x in
+      keeps (event.Claim w) new outcome parts n made (same_parts p s new same parts m.parts) (m.counted ∙ same_finished p s new same)
+
+  pub open_keeps : (w : ℕ) (new : Claims) (outcome : Outcome) → record { claims = new; outcome = outcome } ≡ effect_of p s (event.Open w) → IsMachine (record { plan = p; claims = new; parts = parts }) n
+  unfolding effect_of
+  open_keeps w new outcome made =
+      let is : new ≡ (open_by p s w (slice_get s.stages w)).claims = ap (λ x. x.claims) made in
+      let same : (x : ℕ) → done_in p new x ≡ done_in p s x = λ x. ap (λ y. done_in p y x) is ∙ open_done p s (kept_of p s m.reached) w (slice_get s.stages w) refl x in
+      keeps (event.Open w) new outcome parts n made (same_parts p s new same parts m.parts) (m.counted ∙ same_finished p s new same)
+
+-- a list that was lent whole comes back whole
+none_taken : {A : Type 0} (n : ℕ) (old : List A) → length old ≡ n → n ≡ 0 → take n (drop 0 old) ≡ []
+none_taken zero old h z = refl
+none_taken (suc n) old h z = absurd (omega (arith, z))
+
+back : {A : Type 0} (n : ℕ) (new old : List A) → length new ≡ n → length old ≡ n → take n (new ++ drop (length new) old) ≡ new
+back n [] old e h = none_taken n old h (sym e)
+back n (x ∷ new) [] e h = absurd (omega (arith, e, h))
+back zero (x ∷ new) (y ∷ old) e h = absurd (omega (arith, e))
+back (suc n) (x ∷ new) (y ∷ old) e h = ap (λ xs. x ∷ xs) (back n new old (omega (arith, e)) (omega (arith, h)))
+
+module _ (p : Plan) (drawn : ℕ) (items lent : List Stage) (value : lent ≡ items) (len : ℕ) (fits : length items ≡ len) (w : ℕ) (o : Outcome) (drawn' : ℕ) (new : List Stage) where
+  abbrev whole : List Stage
+  whole = take len (new ++ drop (length new) items)
+
+  module _ (e : Event) (made : record { claims = record { drawn = drawn'; stages = new }; outcome = o } ≡ effect_of p (record { drawn = drawn; stages = lent }) e) where
+    made_of : record { claims = record { drawn = drawn'; stages = new }; outcome = o } ≡ effect_of p (record { drawn = drawn; stages = items }) e
+    made_of = subst (λ (xs : List Stage). record { claims = record { drawn = drawn'; stages = new }; outcome = o } ≡ effect_of p (record { drawn = drawn; stages = xs }) e) value made
+
+    same_count : length new ≡ len
+    same_count = ap (λ (x : Effect). length x.claims.stages) made_of ∙ step_count p (record { drawn = drawn; stages = items }) e ∙ fits
+
+    pub whole_is : whole ≡ new
+    whole_is = back len new items same_count fits
+
+    pub whole_made : record { claims = record { drawn = drawn'; stages = whole }; outcome = o } ≡ effect_of p (record { drawn = drawn; stages = items }) e
+    whole_made = subst (λ (xs : List Stage). record { claims = record { drawn = drawn'; stages = xs }; outcome = o } ≡ effect_of p (record { drawn = drawn; stages = items }) e) (sym whole_is) made_of
+
+  module _ (parts : PartsState) (n : ℕ) (m : IsMachine (record { plan = p; claims = record { drawn = drawn; stages = items }; parts = parts }) n) where
+    pub claim_closes : record { claims = record { drawn = drawn'; stages = new }; outcome = o } ≡ effect_of p (record { drawn = drawn; stages = lent }) (event.Claim w) → IsMachine (record { plan = p; claims = record { drawn = drawn'; stages = whole }; parts = parts }) n
+    claim_closes made = claim_keeps p (record { drawn = drawn; stages = items }) parts n m w (record { drawn = drawn'; stages = whole }) o (whole_made (event.Claim w) made)
+
+    pub open_closes : record { claims = record { drawn = drawn'; stages = new }; outcome = o } ≡ effect_of p (record { drawn = drawn; stages = lent }) (event.Open w) → IsMachine (record { plan = p; claims = record { drawn = drawn'; stages = whole }; parts = parts }) n
+    open_closes made = open_keeps p (record { drawn = drawn; stages = items }) parts n m w (record { drawn = drawn'; stages = whole }) o (whole_made (event.Open w) made)
+
+    pub finish_closes : record { claims = record { drawn = drawn'; stages = new }; outcome = o } ≡ effect_of p (record { drawn = drawn; stages = lent }) (event.Finish w)
+        → (new_parts : PartsState) (n' cell_len mail_len : ℕ) → AreAtStages p (stage_in p (record { drawn = drawn'; stages = new })) new_parts → n' ≡ finished p (record { drawn = drawn'; stages = new })
+        → length parts.cells ≡ cell_len → length parts.mail ≡ mail_len
+        → IsMachine (record { plan = p; claims = record { drawn = drawn'; stages = whole }; parts = record { cells = take cell_len (new_parts.cells ++ drop (length new_parts.cells) parts.cells); mail = take mail_len (new_parts.mail ++ drop (length new_parts.mail) parts.mail) } }) n'
+    finish_closes made new_parts n' cell_len mail_len at count cells mail =
+        let made' = whole_made (event.Finish w) made in
+        let is = whole_is (event.Finish w) made in
+        let cells_back : take cell_len (new_parts.cells ++ drop (length new_parts.cells) parts.cells) ≡ new_parts.cells = back cell_len new_parts.cells parts.cells (at.counted.cells ∙ sym m.parts.counted.cells ∙ cells) cells in
+        let mail_back : take mail_len (new_parts.mail ++ drop (length new_parts.mail) parts.mail) ≡ new_parts.mail = back mail_len new_parts.mail parts.mail (at.counted.mail ∙ sym m.parts.counted.mail ∙ mail) mail in
+        let there : AreAtStages p (stage_in p (record { drawn = drawn'; stages = whole })) new_parts = subst (λ (xs : List Stage). AreAtStages p (stage_in p (record { drawn = drawn'; stages = xs })) new_parts) (sym is) at in
+        let counted : n' ≡ finished p (record { drawn = drawn'; stages = whole }) = count ∙ ap (λ (xs : List Stage). finished p (record { drawn = drawn'; stages = xs })) (sym is) in
+        let with_cells : AreAtStages p (stage_in p (record { drawn = drawn'; stages = whole })) (record { cells = take cell_len (new_parts.cells ++ drop (length new_parts.cells) parts.cells); mail = new_parts.mail }) =
+            subst (λ (xs : List CellState). AreAtStages p (stage_in p (record { drawn = drawn'; stages = whole })) (record { cells = xs; mail = new_parts.mail })) (sym cells_back) there in
+        let with_both : AreAtStages p (stage_in p (record { drawn = drawn'; stages = whole })) (record { cells = take cell_len (new_parts.cells ++ drop (length new_parts.cells) parts.cells); mail = take mail_len (new_parts.mail ++ drop (length new_parts.mail) parts.mail) }) =
+            subst (λ (xs : List Mail). AreAtStages p (stage_in p (record { drawn = drawn'; stages = whole })) (record { cells = take cell_len (new_parts.cells ++ drop (length new_parts.cells) parts.cells); mail = xs })) (sym mail_back) with_cells in
+        finish_keeps p (record { drawn = drawn; stages = items }) parts n m w (record { drawn = drawn'; stages = whole }) o
+            (record { cells = take cell_len (new_parts.cells ++ drop (length new_parts.cells) parts.cells); mail = take mail_len (new_parts.mail ++ drop (length new_parts.mail) parts.mail) }) n' made' with_both counted

@@ -1,0 +1,15 @@
+pub mod Sums
+pub mod Cuts
+pub mod Phases
+pub mod Claimed
+pub mod Counts
+pub mod Events
+pub mod Stages
+pub mod Slots
+pub mod Always
+pub mod Apart
+pub mod ByPlace
+pub mod Working
+pub mod Effects
+pub mod Ended
+pub mod Inside

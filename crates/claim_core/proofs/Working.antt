@@ -1,0 +1,277 @@
+-- The work of a transfer and of a gather.
+use Rattle.std.specs.Prelude.{nat_eq, nat_lt, slice_get, slice_index_or, slice_set}
+use Rattle.std.proofs.lemmas.Nat.{div-add-mod'}
+use Rattle.std.proofs.Common.{◌≡◌, ◌≢◌, ℕ, zero, suc, ◌+◌, ◌-◌, ◌*◌, ◌/◌, ◌%◌, ◌<◌, ◌≤◌, Bool, true, false, cond, List, [], ◌∷◌, length, map, refl, ap, sym, ◌∙◌, subst, arith, lt_of_not-le, Option, Some, None, add-one, mul-le-mul_right}
+use Rattle.std.proofs.lemmas.Bool.Decides.{nat_tests}
+use mathlib.Core.Logic.{dite}
+use native.Mathlib.Decide.{dec_le, ℕ_discrete}
+use Rattle.net_core.specs.declared.rows.NodeNo.{NodeNo}
+use Rattle.dta_model.specs.Plans.{ins, link_at, outs}
+use Rattle.dta_model.specs.Sound.{IsSound}
+use Rattle.dta_model.specs.Units.{Gather, Posting, Task, Transfer, mail_slot, moved_by, moved_in, node_count, posting_slot, step_of, step_units, task_at, task_of, position_of, unit_count}
+use Rattle.dta_model.specs.declared.plan.Plan.{Plan}
+use Rattle.node_transfer.specs.Cells.{CellState}
+use Rattle.node_transfer.specs.Contents.{IsStep, away, batch_of, cell_after, cell_at, cell_before, mail_at, room_of}
+use Rattle.node_transfer.specs.Exchange.{AreMail, ArePut, is_among}
+use Rattle.node_transfer.specs.declared.mail.Mail.{Mail}
+use Rattle.node_transfer.proofs.Parts.{ins-among, ins-member, outs-among, outs-member}
+use Rattle.node_transfer.proofs.TwoStages.{steps_have_two_stages}
+use Rattle.claim_core.specs.Kinds.{kind_by}
+use Rattle.claim_core.specs.Parts.{moves, stage_before}
+use Rattle.claim_core.specs.Sums.{is_at, one_if, times}
+use Rattle.claim_core.specs.Work.{AreCounted, AreMoved, AreReady, PartsState}
+use Rattle.claim_core.specs.declared.units.UnitKind.{UnitKind}
+use Rattle.claim_core.specs.declared.units.UnitKind.TheVariants as kind
+use Rattle.claim_core.proofs.Apart.{before_gather, before_transfer, cell_once, mail_once}
+use Rattle.claim_core.proofs.Slots.{at_is, cell_of, in_task, mail_of, step_cell, step_mail, times_ins, times_outs}
+
+-- what the parts of a unit of one node are, all at stage s
+pub record IsOfNode (p : Plan) (c a : ℕ) (links : List ℕ) (s : ℕ) : Type 0 where
+  pub node : a < node_count p
+  pub cell_moves : (n : ℕ) → n < node_count p → moves p n c ≡ is_at n a
+  pub mail_moves : (l : ℕ) → l < length p.net.links → moves p (mail_slot p l) c ≡ one_if (is_among links l)
+  pub among : (l : ℕ) → is_among links l ≡ true → l < length p.net.links
+  pub cell_stage : (n : ℕ) → n < node_count p → stage_before p c n ≡ s
+  pub mail_stage : (l : ℕ) → l < length p.net.links → stage_before p c (mail_slot p l) ≡ s
+
+is_one : (b : Bool) → 1 ≤ one_if b → b ≡ true
+is_one true h = refl
+is_one false h = absurd (omega arith)
+
+is_zero : (b : Bool) → one_if b ≡ 0 → b ≡ false
+is_zero true h = absurd (omega (arith, h))
+is_zero false h = refl
+
+one_is : (b : Bool) → b ≡ true → 1 ≤ one_if b
+one_is true h = omega arith
+one_is false h = cc
+
+at_self : (y : ℕ) → is_at y y ≡ 1
+at_self y = grind (arith, nat_tests)
+
+set_here : {A : Type 0} (xs : List A) (i : ℕ) (x : A) → i < length xs → slice_get (slice_set xs i x) i ≡ Some x
+set_here [] i x h = absurd (omega (arith, h))
+set_here (y ∷ xs) zero x h = refl
+set_here (y ∷ xs) (suc i) x h = set_here xs i x (omega (arith, h))
+
+set_else : {A : Type 0} (xs : List A) (i j : ℕ) (x : A) → j ≢ i → slice_get (slice_set xs i x) j ≡ slice_get xs j
+set_else [] i j x h = refl
+set_else (y ∷ xs) zero zero x h = absurd (h refl)
+set_else (y ∷ xs) zero (suc j) x h = refl
+set_else (y ∷ xs) (suc i) zero x h = refl
+set_else (y ∷ xs) (suc i) (suc j) x h = set_else xs i j x (λ e. h (ap (λ k. suc k) e))
+
+set_count : {A : Type 0} (xs : List A) (i : ℕ) (x : A) → length (slice_set xs i x) ≡ length xs
+set_count [] i x = refl
+set_count (y ∷ xs) zero x = refl
+set_count (y ∷ xs) (suc i) x = ap (λ k. suc k) (set_count xs i x)
+
+module _ (p : Plan) (c a : ℕ) (links : List ℕ) (s : ℕ) (m : IsOfNode p c a links s) (cells : List CellState) (mail : List Mail) (r : AreReady p c (record { cells = cells; mail = mail })) where
+  pub cell_inside : a < length cells
+  cell_inside = omega (arith, r.counted.cells, m.node)
+
+  pub cell_ready : slice_get cells a ≡ Some (cell_at p a s)
+  cell_ready = r.cells a m.node (omega (arith, m.cell_moves a m.node, at_self a)) ∙ ap (λ k. Some (cell_at p a k)) (m.cell_stage a m.node)
+
+  pub mail_ready : (l : ℕ) → is_among links l ≡ true → slice_get mail l ≡ Some (mail_at p l s)
+  mail_ready l is_in =
+      let h = m.among l is_in in
+      r.mail l h (omega (arith, m.mail_moves l h, one_is (is_among links l) is_in)) ∙ ap (λ k. Some (mail_at p l k)) (m.mail_stage l h)
+
+  pub parts_moved : (cell : CellState) (mail' : List Mail) → cell ≡ cell_at p a (suc s) → ((l : ℕ) → is_among links l ≡ true → slice_get mail' l ≡ Some (mail_at p l (suc s)))
+      → length mail' ≡ length mail → ((l : ℕ) → is_among links l ≡ false → slice_get mail' l ≡ slice_get mail l)
+      → AreMoved p c (record { cells = cells; mail = mail }) (record { cells = slice_set cells a cell; mail = mail' })
+  parts_moved cell mail' e own count others = record {
+    counted = record { cells = set_count cells a cell ∙ r.counted.cells; mail = count ∙ r.counted.mail };
+    cells = λ n h one. (let same : n ≡ a = at_is n a (omega (arith, one, m.cell_moves n h)) in
+        subst (λ (x : ℕ). slice_get (slice_set cells a cell) x ≡ Some (cell_at p x (suc (stage_before p c x)))) (sym same)
+            (set_here cells a cell cell_inside ∙ ap (λ y. Some y) (e ∙ ap (λ k. cell_at p a (suc k)) (sym (m.cell_stage a m.node)))));
+    mail = λ l h one. own l (is_one (is_among links l) (omega (arith, one, m.mail_moves l h))) ∙ ap (λ k. Some (mail_at p l (suc k))) (sym (m.mail_stage l h));
+    other_cells = λ n h zero_moves. set_else cells a n cell (λ same. (let one : is_at n a ≡ 1 = ap (λ x. is_at x a) same ∙ at_self a in absurd (omega (arith, zero_moves, m.cell_moves n h, one))));
+    other_mail = λ l h zero_moves. others l (is_zero (is_among links l) (omega (arith, zero_moves, m.mail_moves l h)));
+  }
+
+-- the tasks
+task_node : (n i a : ℕ) → task_at n i ≡ Transfer a → a < n
+task_node n i a e = by (nat_lt i n) (nat_lt i (n + n)) refl e
+  where
+    below_of : (x y : ℕ) → nat_lt x y ≡ true → x < y
+    below_of x y h = grind (arith, nat_tests)
+
+    same_node : Transfer i ≡ Transfer a → i ≡ a
+    same_node q = cc
+
+    by : (b d : Bool) → nat_lt i n ≡ b → cond b (Transfer i) (cond d (Gather (i - n)) Posting) ≡ Transfer a → a < n
+    by true d t q = omega (arith, same_node q, below_of i n t)
+    by false true t q = cc
+    by false false t q = cc
+
+task_gather : (n i a : ℕ) → task_at n i ≡ Gather a → a < n
+task_gather n i a e = by (nat_lt i n) (nat_lt i (n + n)) refl refl e
+  where
+    below_of : (x y : ℕ) → nat_lt x y ≡ true → x < y
+    below_of x y h = grind (arith, nat_tests)
+
+    past_of : (x y : ℕ) → nat_lt x y ≡ false → y ≤ x
+    past_of x y h = grind (arith, nat_tests)
+
+    same_node : Gather (i - n) ≡ Gather a → i - n ≡ a
+    same_node q = cc
+
+    by : (b d : Bool) → nat_lt i n ≡ b → nat_lt i (n + n) ≡ d → cond b (Transfer i) (cond d (Gather (i - n)) Posting) ≡ Gather a → a < n
+    by true d t u q = cc
+    by false true t u q = omega (arith, same_node q, past_of i n t, below_of i (n + n) u)
+    by false false t u q = cc
+
+-- of a sound loading
+module _ (p : Plan) (sound : IsSound p) (c a : ℕ) where
+  pub moves_by : (task : Task) → task_of (node_count p) c ≡ task → (k : ℕ) → moves p k c ≡ in_task p k task
+  unfolding moved_by
+  moves_by task e k = ap (λ x. in_task p k x) e
+
+  pub transfer_of : task_of (node_count p) c ≡ Transfer a → IsOfNode p c a (outs p a) (2 * step_of (node_count p) c)
+  unfolding task_of
+  transfer_of e =
+      let node : a < node_count p = task_node (node_count p) (position_of (node_count p) c) a e in
+      record {
+        node = node;
+        cell_moves = λ n h. moves_by (Transfer a) e n ∙ cell_of p a (outs p a) n h;
+        mail_moves = λ l h. moves_by (Transfer a) e (mail_slot p l) ∙ mail_of p a (outs p a) node l ∙ times_outs p a l h ∙ ap (λ b. one_if b) (sym (outs-member p a l h));
+        among = outs-among p a;
+        cell_stage = λ n h. before_transfer p n c (step_cell p n h) a e;
+        mail_stage = λ l h. before_transfer p (mail_slot p l) c (step_mail p sound l h) a e;
+      }
+
+  pub gather_of : task_of (node_count p) c ≡ Gather a → IsOfNode p c a (ins p a) (2 * step_of (node_count p) c + 1)
+  unfolding task_of
+  gather_of e =
+      let node : a < node_count p = task_gather (node_count p) (position_of (node_count p) c) a e in
+      record {
+        node = node;
+        cell_moves = λ n h. moves_by (Gather a) e n ∙ cell_of p a (ins p a) n h;
+        mail_moves = λ l h. moves_by (Gather a) e (mail_slot p l) ∙ mail_of p a (ins p a) node l ∙ times_ins p a l h ∙ ap (λ b. one_if b) (sym (ins-member p a l h));
+        among = ins-among p a;
+        cell_stage = λ n h. before_gather p n c (step_cell p n h) a (cell_once p n h) e;
+        mail_stage = λ l h. before_gather p (mail_slot p l) c (step_mail p sound l h) a (mail_once p sound l h) e;
+      }
+
+pub transfer_kind : (task : Task) (node : NodeNo) → kind_by task ≡ kind.Transfer node → task ≡ Transfer node.0
+transfer_kind (Transfer a) node e = ap (λ n. Transfer n.0) (same (record { 0 = a }) node e)
+  where
+    same : (x y : NodeNo) → kind.Transfer x ≡ kind.Transfer y → x ≡ y
+    same x y e = cc
+transfer_kind (Gather a) node e = cc
+transfer_kind Posting node e = cc
+
+pub gather_kind : (task : Task) (node : NodeNo) → kind_by task ≡ kind.Gather node → task ≡ Gather node.0
+gather_kind (Transfer a) node e = cc
+gather_kind (Gather a) node e = ap (λ n. Gather n.0) (same (record { 0 = a }) node e)
+  where
+    same : (x y : NodeNo) → kind.Gather x ≡ kind.Gather y → x ≡ y
+    same x y e = cc
+gather_kind Posting node e = cc
+
+pub posting_kind : (task : Task) → kind_by task ≡ kind.Posting → task ≡ Posting
+posting_kind (Transfer a) e = cc
+posting_kind (Gather a) e = cc
+posting_kind Posting e = refl
+
+pub index_of : {A : Type 0} (xs : List A) (i : ℕ) (x d : A) → slice_get xs i ≡ Some x → slice_index_or xs i d ≡ x
+index_of [] i x d e = cc
+index_of {A} (y ∷ xs) zero x d e = same y x e
+  where
+    same : (a b : A) → Some a ≡ Some b → a ≡ b
+    same a b q = cc
+index_of (y ∷ xs) (suc i) x d e = index_of xs i x d e
+
+pub in_count : (p : Plan) (u H N : ℕ) → H ≡ p.horizon → N ≡ node_count p → u < unit_count p → u < H * step_units N
+unfolding unit_count
+in_count p u H N h n l = let e : H * step_units N ≡ p.horizon * step_units (node_count p) = ap (λ x. x * step_units N) h ∙ ap (λ x. p.horizon * step_units x) n in omega (arith, l, e)
+
+in_time : (W H u : ℕ) → 1 ≤ W → u < H * W → u / W < H
+in_time W H u one l = dite (dec_le H (u / W))
+    (λ le. let m : H * W ≤ u / W * W = mul-le-mul_right W le in absurd (omega (arith, m, l, div-add-mod' u W)))
+    (λ n. lt_of_not-le n)
+
+-- what is known where the work is done: the number of nodes, the step, and what is done
+module _ (p : Plan) (sound : IsSound p) (u N t : ℕ) (few : u < unit_count p) (nodes : N ≡ node_count p) (step : t ≡ step_of N u) where
+  now_step : step_of (node_count p) u ≡ t
+  now_step = ap (λ n. step_of n u) (sym nodes) ∙ sym step
+
+  before_end : t < p.horizon
+  unfolding unit_count
+  before_end = let l : u / step_units (node_count p) < p.horizon = in_time (step_units (node_count p)) p.horizon u (omega arith) few in omega (arith, l, now_step)
+
+  module _ (node : NodeNo) (k : UnitKind) (is_kind : k ≡ kind_by (task_of N u)) (is_now : k ≡ kind.Transfer node) where
+    pub transfer_now : IsOfNode p u node.0 (outs p node.0) (2 * t)
+    transfer_now = subst (λ (x : ℕ). IsOfNode p u node.0 (outs p node.0) (2 * x)) now_step
+        (transfer_of p sound u node.0 (transfer_kind (task_of (node_count p) u) node (ap (λ n. kind_by (task_of n u)) (sym nodes) ∙ sym is_kind ∙ is_now)))
+
+    pub transfer_step : IsStep p node.0 t
+    transfer_step = record { sound = sound; node = transfer_now.node; step = before_end }
+
+    module _ (cells : List CellState) (mail : List Mail) (r : AreReady p u (record { cells = cells; mail = mail })) where
+      pub transfer_inside : node.0 < length cells
+      transfer_inside = cell_inside p u node.0 (outs p node.0) (2 * t) transfer_now cells mail r
+
+      pub transfer_cell : (d : CellState) → slice_index_or cells node.0 d ≡ cell_before p node.0 t away away
+      transfer_cell d = index_of cells node.0 (cell_before p node.0 t away away) d (cell_ready p u node.0 (outs p node.0) (2 * t) transfer_now cells mail r ∙ ap (λ x. Some x) ((steps_have_two_stages p t).0.cell node.0))
+
+      pub transfer_rooms : AreMail (room_of p t) (outs p node.0) mail
+      transfer_rooms l is_in = mail_ready p u node.0 (outs p node.0) (2 * t) transfer_now cells mail r l is_in ∙ ap (λ x. Some x) ((steps_have_two_stages p t).0.mail l)
+
+      pub transfer_done : (cell : CellState) (mail' : List Mail) → cell ≡ cell_after p node.0 t away away → ArePut (batch_of p t) (outs p node.0) mail mail'
+          → AreMoved p u (record { cells = cells; mail = mail }) (record { cells = slice_set cells node.0 cell; mail = mail' })
+      transfer_done cell mail' e put =
+          let next : 2 * t + 1 ≡ suc (2 * t) = add-one (2 * t) in
+          parts_moved p u node.0 (outs p node.0) (2 * t) transfer_now cells mail r cell mail'
+              (e ∙ sym ((steps_have_two_stages p t).1.cell node.0) ∙ ap (λ x. cell_at p node.0 x) next)
+              (λ l is_in. put.own l is_in ∙ ap (λ x. Some x) (sym ((steps_have_two_stages p t).1.mail l) ∙ ap (λ x. mail_at p l x) next))
+              put.others.count put.others.others
+
+  module _ (node : NodeNo) (k : UnitKind) (is_kind : k ≡ kind_by (task_of N u)) (is_now : k ≡ kind.Gather node) where
+    pub gather_now : IsOfNode p u node.0 (ins p node.0) (2 * t + 1)
+    gather_now = subst (λ (x : ℕ). IsOfNode p u node.0 (ins p node.0) (2 * x + 1)) now_step
+        (gather_of p sound u node.0 (gather_kind (task_of (node_count p) u) node (ap (λ n. kind_by (task_of n u)) (sym nodes) ∙ sym is_kind ∙ is_now)))
+
+    pub gather_step : IsStep p node.0 t
+    gather_step = record { sound = sound; node = gather_now.node; step = before_end }
+
+    module _ (cells : List CellState) (mail : List Mail) (r : AreReady p u (record { cells = cells; mail = mail })) where
+      pub gather_inside : node.0 < length cells
+      gather_inside = cell_inside p u node.0 (ins p node.0) (2 * t + 1) gather_now cells mail r
+
+      pub gather_cell : (d : CellState) → slice_index_or cells node.0 d ≡ cell_after p node.0 t away away
+      gather_cell d = index_of cells node.0 (cell_after p node.0 t away away) d (cell_ready p u node.0 (ins p node.0) (2 * t + 1) gather_now cells mail r ∙ ap (λ x. Some x) ((steps_have_two_stages p t).1.cell node.0))
+
+      pub gather_batches : AreMail (batch_of p t) (ins p node.0) mail
+      gather_batches l is_in = mail_ready p u node.0 (ins p node.0) (2 * t + 1) gather_now cells mail r l is_in ∙ ap (λ x. Some x) ((steps_have_two_stages p t).1.mail l)
+
+      pub gather_done : (cell : CellState) (mail' : List Mail) → cell ≡ cell_before p node.0 (suc t) away away → ArePut (room_of p (suc t)) (ins p node.0) mail mail'
+          → AreMoved p u (record { cells = cells; mail = mail }) (record { cells = slice_set cells node.0 cell; mail = mail' })
+      gather_done cell mail' e put =
+          let next : 2 * suc t ≡ suc (2 * t + 1) = omega arith in
+          parts_moved p u node.0 (ins p node.0) (2 * t + 1) gather_now cells mail r cell mail'
+              (e ∙ sym ((steps_have_two_stages p (suc t)).0.cell node.0) ∙ ap (λ x. cell_at p node.0 x) next)
+              (λ l is_in. put.own l is_in ∙ ap (λ x. Some x) (sym ((steps_have_two_stages p (suc t)).0.mail l) ∙ ap (λ x. mail_at p l x) next))
+              put.others.count put.others.others
+
+  module _ (k : UnitKind) (is_kind : k ≡ kind_by (task_of N u)) (is_now : k ≡ kind.Posting) where
+    posts_now : (slot : ℕ) → moves p slot u ≡ in_task p slot Posting
+    posts_now slot = moves_by p sound u 0 Posting (posting_kind (task_of (node_count p) u) (ap (λ n. kind_by (task_of n u)) (sym nodes) ∙ sym is_kind ∙ is_now)) slot
+
+    no_part : (x y : ℕ) → x < y → is_at x y ≡ 0
+    no_part x y h = grind (arith, nat_tests)
+
+    pub posting_done : (parts : PartsState) → AreReady p u parts → AreMoved p u parts parts
+    posting_done parts r = record {
+      counted = r.counted;
+      cells = λ n h one. absurd (omega (arith, one, posts_now n, no_part n (posting_slot p) (omega (arith, h))));
+      mail = λ l h one. absurd (omega (arith, one, posts_now (mail_slot p l), no_part (mail_slot p l) (posting_slot p) (omega (arith, h))));
+      other_cells = λ n h z. refl;
+      other_mail = λ l h z. refl;
+    }
+
+pub count_is_all : (p : Plan) (H N : ℕ) → H ≡ p.horizon → N ≡ node_count p → H * step_units N ≡ unit_count p
+unfolding unit_count
+count_is_all p H N h n = ap (λ x. x * step_units N) h ∙ ap (λ x. p.horizon * step_units x) n

@@ -1,0 +1,6 @@
+pub mod Sums
+pub mod Machine
+pub mod Parts
+pub mod Kinds
+pub mod Laws
+pub mod Work

@@ -1,0 +1,27 @@
+-- The stages of what the units of a loading work on: how often finished units took it to its next
+-- stage. Two of a step's units do so with each cell and each mail, and one with what posts the state.
+use Rattle.std.specs.Prelude.{ℕ, ◌*◌}
+use Rattle.dta_model.specs.Machine.{Claims, is_finished}
+use Rattle.dta_model.specs.Units.{moved_by, node_count, phase_start, unit_count}
+use Rattle.dta_model.specs.declared.plan.Plan.{Plan}
+use Rattle.claim_core.specs.Sums.{below, one_if, times}
+
+-- how often unit u takes a slot to its next stage
+abbrev pub moves : Plan → ℕ → ℕ → ℕ
+moves p slot u = times slot (moved_by p u)
+
+-- the stage of a slot, by how often each unit is done
+unfoldable pub stage_of : Plan → (ℕ → ℕ) → ℕ → ℕ
+stage_of p done slot = below (unit_count p) (λ u. moves p slot u * done u)
+
+-- the stage of a slot where all units before the phase of unit c are done, and no other
+unfoldable pub stage_before : Plan → ℕ → ℕ → ℕ
+stage_before p c slot = below (phase_start (node_count p) c) (moves p slot)
+
+-- by these claims a unit is done once, or not
+abbrev pub done_in : Plan → Claims → ℕ → ℕ
+done_in p s u = one_if (is_finished p s u)
+
+-- the stage of a slot by these claims
+abbrev pub stage_in : Plan → Claims → ℕ → ℕ
+stage_in p s slot = stage_of p (done_in p s) slot
