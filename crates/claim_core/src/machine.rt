@@ -42,6 +42,26 @@ impl<'a> Model for Machine<'a> {
 }
 
 impl<'a> Machine<'a> {
+    /// The machine of a loading at the start, with so many workers, all idle.
+    pub fn new(alloc: Global, loading: &Loading<'a>, workers: u32) -> Result<Self, Memory>
+        requires sound { IsSound (plan_of loading.now) }
+        requires workers { 1 ≤ workers }
+        ensures plan { IfOk result (λ m. m.plan ≡ plan_of loading.now) }
+        ensures claims { IfOk result (λ m. m.claims ≡ all_idle workers) }
+        ensures parts { IfOk result HasParts }
+    {
+        let start = opening(alloc, loading)?;
+        let stages = idle_stages(alloc, workers)?;
+        Ok(Machine {
+            loading: *loading,
+            drawn: 0,
+            finished: 0,
+            stages,
+            cells: start.cells.into_vec(),
+            mail: start.mail.into_vec(),
+        })
+    }
+
     /// What a worker is answered to an event. One that doesn't fit what the worker has changes
     /// nothing.
     pub fn apply(&mut self, event: Event) -> Outcome
@@ -74,4 +94,18 @@ impl<'a> Machine<'a> {
             ),
         }
     }
+}
+
+// So many workers without a unit.
+fn idle_stages(alloc: Global, workers: u32) -> Result<Vec<Stage>, Memory>
+    ensures { IfOk result (λ stages. stages.items ≡ (all_idle workers).stages) }
+{
+    let mut stages = Vec::new(alloc);
+    for _ in 0..workers {
+        match stages.push(Stage::Idle) {
+            Ok(()) => {}
+            Err(_) => return Err(AllocError),
+        }
+    }
+    Ok(stages)
 }
