@@ -1,7 +1,7 @@
 -- A machine at the start.
 use Rattle.std.specs.Prelude.{slice_get}
 use Rattle.std.specs.List.{range_with_len, repeat}
-use Rattle.std.proofs.Common.{◌≡◌, ℕ, zero, suc, ◌+◌, ◌*◌, ◌<◌, ◌≤◌, ◌^◌, List, [], ◌∷◌, ◌++◌, length, map, refl, ap, sym, ◌∙◌, subst, arith, add-one, Some}
+use Rattle.std.proofs.Common.{◌≡◌, ℕ, zero, suc, ◌+◌, ◌*◌, ◌<◌, ◌^◌, List, [], ◌∷◌, ◌++◌, length, map, refl, ap, sym, ◌∙◌, subst, arith, add-one, Some}
 use Rattle.std.proofs.lemmas.List.{length-map}
 use Rattle.net_core.specs.Network.{numbers_below}
 use Rattle.dta_model.specs.Machine.{Claims, all_idle, finished, run_machine}
@@ -16,10 +16,9 @@ use Rattle.node_transfer.specs.Contents.{away, cell_at, cell_before, mail_at, ro
 use Rattle.node_transfer.specs.Start.{cells_at_start, rooms_at_start}
 use Rattle.node_transfer.specs.declared.mail.Mail.{Mail}
 use Rattle.node_transfer.proofs.TwoStages.{steps_have_two_stages}
-use Rattle.claim_core.specs.Machine.{AreReached, IsMachine, MachineState}
+use Rattle.claim_core.specs.Machine.{AreReached, IsMachine}
 use Rattle.claim_core.specs.Parts.{done_in, moves, stage_in, stage_of}
 use Rattle.claim_core.specs.Sums.{below}
-use Rattle.claim_core.specs.Work.{AreAtStages, PartsState}
 use Rattle.claim_core.proofs.Counts.{drawn_in, min_low, none_past, sum_of}
 use Rattle.claim_core.proofs.Cuts.{below_none}
 

@@ -29,15 +29,15 @@ impl<'a> Model for Machine<'a> {
     ghost Value = { MachineState };
 
     ghost view = { λ m. record {
-        plan = plan_of m.loading;
-        claims = record { drawn = m.drawn; stages = m.stages.items };
-        parts = record { cells = m.cells.items; mail = m.mail.items };
+      plan = plan_of m.loading;
+      claims = record { drawn = m.drawn; stages = m.stages.items };
+      parts = record { cells = m.cells.items; mail = m.mail.items };
     } };
 
     ghost invariant = { λ m. IsMachine (record {
-        plan = plan_of m.loading;
-        claims = record { drawn = m.drawn; stages = m.stages.items };
-        parts = record { cells = m.cells.items; mail = m.mail.items };
+      plan = plan_of m.loading;
+      claims = record { drawn = m.drawn; stages = m.stages.items };
+      parts = record { cells = m.cells.items; mail = m.mail.items };
     }) m.finished };
 }
 

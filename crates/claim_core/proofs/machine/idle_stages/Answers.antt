@@ -1,4 +1,4 @@
-use Rattle.std.proofs.Common.{◌≡◌, ◌++◌, [], ◌∷◌, ap, ◌∙◌}
+use Rattle.std.proofs.Common.{◌++◌, [], ◌∷◌, ap, ◌∙◌}
 use Rattle.dta_model.specs.declared.machine.Stage.TheVariants as stage
 use Rattle.claim_core.proofs.AtStart.{one_idle_more}
 use Rattle.claim_core.proofs.machine.idle_stages.Goals as goal
