@@ -193,6 +193,9 @@ module _ (p : Plan) (drawn : ℕ) (items lent : List Stage) (value : lent ≡ it
     pub whole_made : record { claims = record { drawn = drawn'; stages = whole }; outcome = o } ≡ effect_of p (record { drawn = drawn; stages = items }) e
     whole_made = subst (λ (xs : List Stage). record { claims = record { drawn = drawn'; stages = xs }; outcome = o } ≡ effect_of p (record { drawn = drawn; stages = items }) e) (sym whole_is) made_of
 
+    pub workers_stay : length whole ≡ length items
+    workers_stay = ap (λ (x : Effect). length x.claims.stages) whole_made ∙ step_count p (record { drawn = drawn; stages = items }) e
+
   module _ (parts : PartsState) (n : ℕ) (m : IsMachine (record { plan = p; claims = record { drawn = drawn; stages = items }; parts = parts }) n) where
     pub claim_closes : record { claims = record { drawn = drawn'; stages = new }; outcome = o } ≡ effect_of p (record { drawn = drawn; stages = lent }) (event.Claim w) → IsMachine (record { plan = p; claims = record { drawn = drawn'; stages = whole }; parts = parts }) n
     claim_closes made = claim_keeps p (record { drawn = drawn; stages = items }) parts n m w (record { drawn = drawn'; stages = whole }) o (whole_made (event.Claim w) made)

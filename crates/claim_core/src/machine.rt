@@ -67,6 +67,7 @@ impl<'a> Machine<'a> {
     pub fn apply(&mut self, event: Event) -> Outcome
         requires { worker_of event < length self.old.claims.stages }
         ensures plan { self.new.plan ≡ self.old.plan }
+        ensures workers { length self.new.claims.stages ≡ length self.old.claims.stages }
         ensures claims { self.new.claims ≡ step_machine self.old.plan self.old.claims event }
         ensures outcome { result ≡ outcome self.old.plan self.old.claims event }
         ensures reached { AreReached self.new.plan self.new.claims }
