@@ -1,6 +1,5 @@
 -- Units of one phase move different slots, and what a held unit finds at its slots.
-use Rattle.std.specs.Prelude.{nat_lt}
-use Rattle.std.proofs.Common.{◌≡◌, ◌≢◌, ℕ, zero, suc, ◌+◌, ◌-◌, ◌*◌, ◌/◌, ◌%◌, ◌<◌, ◌≤◌, Bool, true, false, cond, List, [], ◌∷◌, length, map, refl, ap, sym, ◌∙◌, subst, arith, lt_of_not-le, ◌⊎◌, inl, inr}
+use Rattle.std.proofs.Common.{◌≡◌, ◌≢◌, ℕ, ◌+◌, ◌-◌, ◌*◌, ◌/◌, ◌%◌, ◌<◌, ◌≤◌, length, ap, sym, ◌∙◌, subst, arith, lt_of_not-le, ◌⊎◌, inl, inr}
 use Rattle.std.proofs.lemmas.Bool.Decides.{nat_tests}
 use Rattle.std.proofs.lemmas.Nat.{div-add-mod'}
 use Rattle.std.proofs.Math.Nat.{mod-lt}
@@ -8,14 +7,14 @@ use mathlib.Core.Logic.{dite}
 use native.Mathlib.Decide.{dec_le}
 use Rattle.dta_model.specs.Plans.{ins, link_at, outs}
 use Rattle.dta_model.specs.Sound.{IsSound}
-use Rattle.dta_model.specs.Units.{Gather, Posting, Task, Transfer, mail_slot, moved_in, node_count, phase_begins, phase_end, phase_start, posting_slot, position_of, step_of, step_units, task_at, task_of}
+use Rattle.dta_model.specs.Units.{Gather, Transfer, mail_slot, node_count, phase_begins, phase_end, phase_start, step_of, step_units, task_at, task_of}
 use Rattle.dta_model.specs.declared.plan.Plan.{Plan}
-use Rattle.node_transfer.proofs.Finished.{from-below, to-below}
-use Rattle.claim_core.specs.Parts.{moves, stage_before, stage_of}
-use Rattle.claim_core.specs.Sums.{below, is_at, once_below, one_if, times}
+use Rattle.node_transfer.proofs.Finished.{from-below}
+use Rattle.claim_core.specs.Parts.{moves, stage_before}
+use Rattle.claim_core.specs.Sums.{below, is_at}
 use Rattle.claim_core.proofs.Cuts.{below_same}
 use Rattle.claim_core.proofs.Phases.{same_step, start_is, starts, stop_is, stops}
-use Rattle.claim_core.proofs.Slots.{at_is, at_place, cell_of, gathers, in_task, mail_of, moves_is, once, posts, step_cell, step_mail, times_ins, times_outs, transfers}
+use Rattle.claim_core.proofs.Slots.{at_is, at_place, cell_of, gathers, in_task, mail_of, moves_is, once, times_ins, times_outs, transfers}
 use Rattle.claim_core.proofs.Stages.{in_step}
 
 at_other : (x y : ℕ) → x ≢ y → is_at x y ≡ 0
@@ -51,7 +50,7 @@ module _ (p : Plan) where
       let l : ℕ = part.0 in
       let e : k ≡ mail_slot p l = part.2 in
       let at : (n : ℕ) → n < node_count p → in_task p k (Transfer n) ≡ is_at n (link_at p l).from.0 =
-          λ n h. ap (λ x. in_task p x (Transfer n)) e ∙ mail_of p n (outs p n) h l ∙ times_outs p n l part.1 in
+      λ n h. ap (λ x. in_task p x (Transfer n)) e ∙ mail_of p n (outs p n) h l ∙ times_outs p n l part.1 in
       let same : b ≡ (link_at p l).from.0 = at_is b (link_at p l).from.0 (omega (arith, own, at b hb)) in
       at a ha ∙ at_other a (link_at p l).from.0 (λ q. apart (q ∙ sym same))
 
@@ -63,7 +62,7 @@ module _ (p : Plan) where
       let l : ℕ = part.0 in
       let e : k ≡ mail_slot p l = part.2 in
       let at : (n : ℕ) → n < node_count p → in_task p k (Gather n) ≡ is_at n (link_at p l).to.0 =
-          λ n h. ap (λ x. in_task p x (Gather n)) e ∙ mail_of p n (ins p n) h l ∙ times_ins p n l part.1 in
+      λ n h. ap (λ x. in_task p x (Gather n)) e ∙ mail_of p n (ins p n) h l ∙ times_ins p n l part.1 in
       let same : b ≡ (link_at p l).to.0 = at_is b (link_at p l).to.0 (omega (arith, own, at b hb)) in
       at a ha ∙ at_other a (link_at p l).to.0 (λ q. apart (q ∙ sym same))
 
@@ -85,19 +84,19 @@ module _ (p : Plan) where
       let apart : j ≢ r = λ e. other (sym here ∙ ap (λ y. b + y) e ∙ there) in
       let mine : 1 ≤ at_place p k r = omega (arith, own, moves_is p k c) in
       moves_is p k x ∙ dite (dec_le N r)
-          (λ past. dite (dec_le (N + N) r)
-              (λ last. absurd (apart (band_last N b r j hr hj lo' hi' last)))
-              (λ mid. let mid' : r < N + N = lt_of_not-le mid in
-                  let low : N ≤ j = band_low N b r j hr hj lo' hi' past mid' in
-                  let high : j < N + N = band_high N b r j hr hj lo' hi' past mid' in
-                  let at_r : in_task p k (task_at N r) ≡ in_task p k (Gather (r - N)) = ap (λ i. in_task p k (task_at N i)) (let e : r ≡ N + (r - N) = omega arith in e) ∙ ap (λ task. in_task p k task) (gathers N (r - N) (omega arith)) in
-                  let at_j : in_task p k (task_at N j) ≡ in_task p k (Gather (j - N)) = ap (λ i. in_task p k (task_at N i)) (let e : j ≡ N + (j - N) = omega arith in e) ∙ ap (λ task. in_task p k task) (gathers N (j - N) (omega arith)) in
-                  at_j ∙ two_gathers k part (j - N) (r - N) (omega arith) (omega arith) (λ e. apart (omega (arith, e))) (omega (arith, mine, at_r))))
-          (λ first. let first' : r < N = lt_of_not-le first in
-              let low : j < N = band N b r j hr hj lo' hi' first' in
-              let at_r : in_task p k (task_at N r) ≡ in_task p k (Transfer r) = ap (λ task. in_task p k task) (transfers N r first') in
-              let at_j : in_task p k (task_at N j) ≡ in_task p k (Transfer j) = ap (λ task. in_task p k task) (transfers N j low) in
-              at_j ∙ two_transfers k part j r low first' apart (omega (arith, mine, at_r)))
+      (λ past. dite (dec_le (N + N) r)
+      (λ last. absurd (apart (band_last N b r j hr hj lo' hi' last)))
+      (λ mid. let mid' : r < N + N = lt_of_not-le mid in
+      let low : N ≤ j = band_low N b r j hr hj lo' hi' past mid' in
+      let high : j < N + N = band_high N b r j hr hj lo' hi' past mid' in
+      let at_r : in_task p k (task_at N r) ≡ in_task p k (Gather (r - N)) = ap (λ i. in_task p k (task_at N i)) (let e : r ≡ N + (r - N) = omega arith in e) ∙ ap (λ task. in_task p k task) (gathers N (r - N) (omega arith)) in
+      let at_j : in_task p k (task_at N j) ≡ in_task p k (Gather (j - N)) = ap (λ i. in_task p k (task_at N i)) (let e : j ≡ N + (j - N) = omega arith in e) ∙ ap (λ task. in_task p k task) (gathers N (j - N) (omega arith)) in
+      at_j ∙ two_gathers k part (j - N) (r - N) (omega arith) (omega arith) (λ e. apart (omega (arith, e))) (omega (arith, mine, at_r))))
+      (λ first. let first' : r < N = lt_of_not-le first in
+      let low : j < N = band N b r j hr hj lo' hi' first' in
+      let at_r : in_task p k (task_at N r) ≡ in_task p k (Transfer r) = ap (λ task. in_task p k task) (transfers N r first') in
+      let at_j : in_task p k (task_at N j) ≡ in_task p k (Transfer j) = ap (λ task. in_task p k task) (transfers N j low) in
+      at_j ∙ two_transfers k part j r low first' apart (omega (arith, mine, at_r)))
 
   -- the transfers of a step move each cell and each mail once
   pub cell_once : (n : ℕ) → n < node_count p → below (node_count p) (at_place p n) ≡ 1

@@ -1,9 +1,9 @@
 -- Tasks and phases by the place of a unit in its step.
 use Rattle.std.specs.Prelude.{nat_lt}
-use Rattle.std.proofs.Common.{◌≡◌, ℕ, suc, ◌+◌, ◌-◌, ◌*◌, ◌/◌, ◌%◌, ◌<◌, ◌≤◌, Bool, true, false, cond, refl, ap, sym, ◌∙◌, subst, arith, lt_of_not-le}
+use Rattle.std.proofs.Common.{◌≡◌, ℕ, ◌+◌, ◌-◌, ◌*◌, ◌/◌, ◌%◌, ◌<◌, ◌≤◌, true, false, cond, ap, sym, ◌∙◌, subst, arith}
 use Rattle.std.proofs.lemmas.Bool.Decides.{nat_tests}
 use Rattle.std.proofs.lemmas.Nat.{div-add-mod'}
-use Rattle.dta_model.specs.Units.{Gather, Posting, Task, Transfer, phase_start, step_units, task_at, task_of}
+use Rattle.dta_model.specs.Units.{Gather, Posting, Transfer, phase_start, step_units, task_at, task_of}
 use Rattle.claim_core.specs.Kinds.{kind_by}
 use Rattle.claim_core.specs.declared.units.UnitKind.TheVariants as kind
 use Rattle.claim_core.proofs.Phases.{start_is, starts}

@@ -1,13 +1,13 @@
 -- What the three events make, by what their worker has.
 use Rattle.std.specs.Prelude.{nat_le, nat_lt, slice_get, slice_index_or, slice_set}
-use Rattle.std.proofs.Common.{◌≡◌, ◌≢◌, ℕ, zero, suc, ◌+◌, ◌*◌, ◌<◌, ◌≤◌, Bool, true, false, cond, List, [], ◌∷◌, length, refl, ap, sym, ◌∙◌, subst, arith, lt_of_not-le, Option, Some, None, ◌⊎◌, inl, inr, add-one}
+use Rattle.std.proofs.Common.{◌≡◌, ℕ, suc, ◌+◌, ◌<◌, ◌≤◌, Bool, true, false, cond, List, length, refl, ap, sym, ◌∙◌, subst, arith, lt_of_not-le, Option, Some, None, inl, inr, add-one}
 use Rattle.std.proofs.lemmas.Bool.Decides.{nat_tests}
 use Rattle.std.proofs.lemmas.Option.{slice_get-get_or}
 use mathlib.Core.Logic.{dite}
 use native.Mathlib.Decide.{dec_le}
-use Rattle.dta_model.specs.Machine.{Claims, Effect, all_idle, claim_by, effect_of, finish_by, finished, may_open, misplaced, open_by, run_machine, with_stage}
+use Rattle.dta_model.specs.Machine.{Claims, Effect, claim_by, effect_of, finish_by, finished, misplaced, open_by, with_stage}
 use Rattle.dta_model.specs.Sound.{IsSound}
-use Rattle.dta_model.specs.Units.{Gather, Posting, Task, Transfer, mail_slot, node_count, phase_end, phase_start, posting_slot, step_units, task_of, unit_count}
+use Rattle.dta_model.specs.Units.{Gather, Posting, Task, Transfer, mail_slot, node_count, phase_end, phase_start, posting_slot, task_of, unit_count}
 use Rattle.dta_model.specs.declared.plan.Plan.{Plan}
 use Rattle.dta_model.specs.declared.machine.Event.TheVariants as event
 use Rattle.dta_model.specs.declared.machine.Outcome.TheVariants as outcomes
@@ -180,7 +180,7 @@ module _ (p : Plan) (sound : IsSound p) (s : Claims) (k : Kept p s) (w c : ℕ) 
       let from : phase_start N c ≡ phase_start N n = same_start N n c low high in
       let to : phase_end N c ≡ phase_end N n = same_stop N n c low high in
       stage_held (unit_count p) N (drawn_in p s) n (done_in p s) (held_in s) k.claimed (omega arith) (moves p slot) c held_now low high
-          (λ x lo hi other. alone p c x slot part (omega (arith, lo, from)) (omega (arith, hi, to)) other own)
+      (λ x lo hi other. alone p c x slot part (omega (arith, lo, from)) (omega (arith, hi, to)) other own)
 
   stage_next : (slot : ℕ) → stage_in p then_claims slot ≡ stage_in p s slot + moves p slot c
   unfolding stage_of
@@ -205,14 +205,14 @@ module _ (p : Plan) (sound : IsSound p) (s : Claims) (k : Kept p s) (w c : ℕ) 
       counted = moved.counted;
       cells = λ n h. dite (dec_le 1 (moves p n c))
           (λ one. let e : suc (stage_before p c n) ≡ stage_in p then_claims n = omega (arith, stage_next n, stage_now n (cell_part n h) one, cell_most p sound c n h, one) in
-              moved.cells n h one ∙ ap (λ x. Some (cell_at p n x)) e)
+          moved.cells n h one ∙ ap (λ x. Some (cell_at p n x)) e)
           (λ other. let z : moves p n c ≡ 0 = (let l = lt_of_not-le other in omega (arith, l)) in
-              let e : stage_in p s n ≡ stage_in p then_claims n = omega (arith, stage_next n, z) in
-              moved.other_cells n h z ∙ at.cells n h ∙ ap (λ x. Some (cell_at p n x)) e);
+          let e : stage_in p s n ≡ stage_in p then_claims n = omega (arith, stage_next n, z) in
+          moved.other_cells n h z ∙ at.cells n h ∙ ap (λ x. Some (cell_at p n x)) e);
       mail = λ l h. dite (dec_le 1 (moves p (mail_slot p l) c))
           (λ one. let e : suc (stage_before p c (mail_slot p l)) ≡ stage_in p then_claims (mail_slot p l) = omega (arith, stage_next (mail_slot p l), stage_now (mail_slot p l) (mail_part l h) one, mail_most p sound c l h, one) in
-              moved.mail l h one ∙ ap (λ x. Some (mail_at p l x)) e)
+          moved.mail l h one ∙ ap (λ x. Some (mail_at p l x)) e)
           (λ other. let z : moves p (mail_slot p l) c ≡ 0 = (let l = lt_of_not-le other in omega (arith, l)) in
-              let e : stage_in p s (mail_slot p l) ≡ stage_in p then_claims (mail_slot p l) = omega (arith, stage_next (mail_slot p l), z) in
-              moved.other_mail l h z ∙ at.mail l h ∙ ap (λ x. Some (mail_at p l x)) e);
+          let e : stage_in p s (mail_slot p l) ≡ stage_in p then_claims (mail_slot p l) = omega (arith, stage_next (mail_slot p l), z) in
+          moved.other_mail l h z ∙ at.mail l h ∙ ap (λ x. Some (mail_at p l x)) e);
     }

@@ -1,11 +1,11 @@
 -- How many numbers are drawn: those of units, and one for each worker that has ended. And what a claim
 -- and an open leave as it is.
-use Rattle.std.specs.Prelude.{nat_le, nat_lt, slice_get, slice_set}
+use Rattle.std.specs.Prelude.{nat_lt, slice_get, slice_set}
 use Rattle.std.specs.List.{repeat}
-use Rattle.std.proofs.Common.{◌≡◌, ℕ, zero, suc, ◌+◌, ◌<◌, ◌≤◌, min, Bool, true, false, cond, List, [], ◌∷◌, ◌++◌, length, refl, ap, sym, ◌∙◌, subst, arith, Option, Some, None}
+use Rattle.std.proofs.Common.{◌≡◌, ℕ, zero, suc, ◌+◌, ◌<◌, ◌≤◌, Bool, true, false, cond, List, [], ◌∷◌, length, refl, sym, subst, arith, Option, Some, None}
 use Rattle.std.proofs.lemmas.Bool.Decides.{nat_tests}
-use Rattle.dta_model.specs.Machine.{Claims, Effect, all_idle, claim_by, effect_of, finish_by, finished, is_finished, may_open, open_by, run_machine, step_machine, with_stage}
-use Rattle.dta_model.specs.Units.{node_count, unit_count}
+use Rattle.dta_model.specs.Machine.{Claims, Effect, all_idle, claim_by, effect_of, finish_by, finished, may_open, open_by, run_machine, step_machine, with_stage}
+use Rattle.dta_model.specs.Units.{unit_count}
 use Rattle.dta_model.specs.declared.plan.Plan.{Plan}
 use Rattle.dta_model.specs.declared.machine.Event.{Event}
 use Rattle.dta_model.specs.declared.machine.Event.TheVariants as event
@@ -13,11 +13,8 @@ use Rattle.dta_model.specs.declared.machine.Outcome.TheVariants as outcomes
 use Rattle.dta_model.specs.declared.machine.Stage.{Stage}
 use Rattle.dta_model.specs.declared.machine.Stage.TheVariants as stage
 use Rattle.claim_core.specs.Machine.{AreReached}
-use Rattle.claim_core.specs.Parts.{done_in, moves, stage_in, stage_of}
-use Rattle.claim_core.specs.Sums.{below, one_if, total}
-use Rattle.claim_core.proofs.Counts.{count_below, drawn_in, held_in, held_set, min_high, min_low, total_slice}
-use Rattle.claim_core.proofs.Cuts.{below_same}
-use Rattle.claim_core.proofs.Events.{Kept, done_same, done_stays}
+use Rattle.claim_core.specs.Sums.{total}
+use Rattle.claim_core.proofs.Counts.{drawn_in, min_high, min_low, total_slice}
 
 abbrev has_ended : Stage → ℕ
 has_ended stage.Idle = 0

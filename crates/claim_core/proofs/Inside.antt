@@ -1,10 +1,8 @@
 -- What every event keeps of a machine.
-use Rattle.std.specs.Prelude.{nat_le, nat_lt, slice_get, slice_set}
-use Rattle.std.specs.List.{repeat}
-use Rattle.std.proofs.Common.{◌≡◌, ℕ, zero, suc, ◌+◌, ◌*◌, ◌<◌, ◌≤◌, ◌^◌, Bool, true, false, cond, List, [], ◌∷◌, ◌++◌, length, map, take, drop, refl, ap, sym, ◌∙◌, subst, arith, Option, Some, None}
+use Rattle.std.specs.Prelude.{nat_lt, slice_get, slice_set}
+use Rattle.std.proofs.Common.{◌≡◌, ℕ, zero, suc, ◌+◌, ◌*◌, ◌<◌, ◌≤◌, ◌^◌, Bool, true, false, cond, List, [], ◌∷◌, ◌++◌, length, take, drop, refl, ap, sym, ◌∙◌, subst, arith, Option, Some, None}
 use Rattle.std.proofs.lemmas.Bool.Decides.{nat_tests}
 use Rattle.dta_model.specs.Machine.{Claims, Effect, all_idle, claim_by, effect_of, finish_by, finished, is_finished, may_open, open_by, run_machine, step_machine, with_stage}
-use Rattle.dta_model.specs.Sound.{IsSound}
 use Rattle.dta_model.specs.Units.{mail_slot, unit_count}
 use Rattle.dta_model.specs.declared.plan.Plan.{Plan}
 use Rattle.dta_model.specs.declared.machine.Event.{Event}
@@ -16,11 +14,11 @@ use Rattle.dta_model.specs.declared.machine.Stage.TheVariants as stage
 use Rattle.node_transfer.specs.Cells.{CellState}
 use Rattle.node_transfer.specs.Contents.{cell_at, mail_at}
 use Rattle.node_transfer.specs.declared.mail.Mail.{Mail}
-use Rattle.claim_core.specs.Machine.{AreReached, HasParts, IsMachine, MachineState}
+use Rattle.claim_core.specs.Machine.{AreReached, IsMachine}
 use Rattle.claim_core.specs.Parts.{done_in, moves, stage_in, stage_of}
-use Rattle.claim_core.specs.Sums.{below, one_if, is_at}
+use Rattle.claim_core.specs.Sums.{is_at}
 use Rattle.claim_core.specs.Work.{AreAtStages, PartsState}
-use Rattle.claim_core.proofs.Counts.{count_below, drawn_in, held_in, held_set, min_high}
+use Rattle.claim_core.proofs.Counts.{count_below, held_in, held_set, min_high}
 use Rattle.claim_core.proofs.Cuts.{below_same}
 use Rattle.claim_core.proofs.Effects.{kept_of}
 use Rattle.claim_core.proofs.Ended.{drawn_most}
@@ -50,7 +48,7 @@ module _ (p : Plan) (s : Claims) (k : Kept p s) where
           let s' : Claims = record (with_stage s w stage.Ended) { drawn = suc s.drawn } in
           let l = all refl in
           done_stays p s s' (min_high (suc s.drawn) (unit_count p) (omega (arith, l)) ∙ sym (min_high s.drawn (unit_count p) l))
-              (λ y. (let q : held_in s' y + 0 ≡ held_in s y + 0 = held_set s.stages w stage.Idle stage.Ended y e in omega (arith, q))) x
+          (λ y. (let q : held_in s' y + 0 ≡ held_in s y + 0 = held_set s.stages w stage.Idle stage.Ended y e in omega (arith, q))) x
   claim_done w (Some (stage.Held c)) e x = refl
   claim_done w (Some (stage.Open c)) e x = refl
   claim_done w (Some stage.Ended) e x = refl
@@ -195,6 +193,9 @@ module _ (p : Plan) (drawn : ℕ) (items lent : List Stage) (value : lent ≡ it
     pub whole_made : record { claims = record { drawn = drawn'; stages = whole }; outcome = o } ≡ effect_of p (record { drawn = drawn; stages = items }) e
     whole_made = subst (λ (xs : List Stage). record { claims = record { drawn = drawn'; stages = xs }; outcome = o } ≡ effect_of p (record { drawn = drawn; stages = items }) e) (sym whole_is) made_of
 
+    pub workers_stay : length whole ≡ length items
+    workers_stay = ap (λ (x : Effect). length x.claims.stages) whole_made ∙ step_count p (record { drawn = drawn; stages = items }) e
+
   module _ (parts : PartsState) (n : ℕ) (m : IsMachine (record { plan = p; claims = record { drawn = drawn; stages = items }; parts = parts }) n) where
     pub claim_closes : record { claims = record { drawn = drawn'; stages = new }; outcome = o } ≡ effect_of p (record { drawn = drawn; stages = lent }) (event.Claim w) → IsMachine (record { plan = p; claims = record { drawn = drawn'; stages = whole }; parts = parts }) n
     claim_closes made = claim_keeps p (record { drawn = drawn; stages = items }) parts n m w (record { drawn = drawn'; stages = whole }) o (whole_made (event.Claim w) made)
@@ -214,8 +215,8 @@ module _ (p : Plan) (drawn : ℕ) (items lent : List Stage) (value : lent ≡ it
         let there : AreAtStages p (stage_in p (record { drawn = drawn'; stages = whole })) new_parts = subst (λ (xs : List Stage). AreAtStages p (stage_in p (record { drawn = drawn'; stages = xs })) new_parts) (sym is) at in
         let counted : n' ≡ finished p (record { drawn = drawn'; stages = whole }) = count ∙ ap (λ (xs : List Stage). finished p (record { drawn = drawn'; stages = xs })) (sym is) in
         let with_cells : AreAtStages p (stage_in p (record { drawn = drawn'; stages = whole })) (record { cells = take cell_len (new_parts.cells ++ drop (length new_parts.cells) parts.cells); mail = new_parts.mail }) =
-            subst (λ (xs : List CellState). AreAtStages p (stage_in p (record { drawn = drawn'; stages = whole })) (record { cells = xs; mail = new_parts.mail })) (sym cells_back) there in
+        subst (λ (xs : List CellState). AreAtStages p (stage_in p (record { drawn = drawn'; stages = whole })) (record { cells = xs; mail = new_parts.mail })) (sym cells_back) there in
         let with_both : AreAtStages p (stage_in p (record { drawn = drawn'; stages = whole })) (record { cells = take cell_len (new_parts.cells ++ drop (length new_parts.cells) parts.cells); mail = take mail_len (new_parts.mail ++ drop (length new_parts.mail) parts.mail) }) =
-            subst (λ (xs : List Mail). AreAtStages p (stage_in p (record { drawn = drawn'; stages = whole })) (record { cells = take cell_len (new_parts.cells ++ drop (length new_parts.cells) parts.cells); mail = xs })) (sym mail_back) with_cells in
+        subst (λ (xs : List Mail). AreAtStages p (stage_in p (record { drawn = drawn'; stages = whole })) (record { cells = take cell_len (new_parts.cells ++ drop (length new_parts.cells) parts.cells); mail = xs })) (sym mail_back) with_cells in
         finish_keeps p (record { drawn = drawn; stages = items }) parts n m w (record { drawn = drawn'; stages = whole }) o
-            (record { cells = take cell_len (new_parts.cells ++ drop (length new_parts.cells) parts.cells); mail = take mail_len (new_parts.mail ++ drop (length new_parts.mail) parts.mail) }) n' made' with_both counted
+        (record { cells = take cell_len (new_parts.cells ++ drop (length new_parts.cells) parts.cells); mail = take mail_len (new_parts.mail ++ drop (length new_parts.mail) parts.mail) }) n' made' with_both counted

@@ -13,3 +13,4 @@ pub mod Working
 pub mod Effects
 pub mod Ended
 pub mod Inside
+pub mod AtStart

@@ -1,14 +1,14 @@
 -- The work of a transfer and of a gather.
-use Rattle.std.specs.Prelude.{nat_eq, nat_lt, slice_get, slice_index_or, slice_set}
+use Rattle.std.specs.Prelude.{nat_lt, slice_get, slice_index_or, slice_set}
 use Rattle.std.proofs.lemmas.Nat.{div-add-mod'}
-use Rattle.std.proofs.Common.{◌≡◌, ◌≢◌, ℕ, zero, suc, ◌+◌, ◌-◌, ◌*◌, ◌/◌, ◌%◌, ◌<◌, ◌≤◌, Bool, true, false, cond, List, [], ◌∷◌, length, map, refl, ap, sym, ◌∙◌, subst, arith, lt_of_not-le, Option, Some, None, add-one, mul-le-mul_right}
+use Rattle.std.proofs.Common.{◌≡◌, ◌≢◌, ℕ, zero, suc, ◌+◌, ◌-◌, ◌*◌, ◌/◌, ◌<◌, ◌≤◌, Bool, true, false, cond, List, [], ◌∷◌, length, refl, ap, sym, ◌∙◌, subst, arith, lt_of_not-le, Some, add-one, mul-le-mul_right}
 use Rattle.std.proofs.lemmas.Bool.Decides.{nat_tests}
 use mathlib.Core.Logic.{dite}
-use native.Mathlib.Decide.{dec_le, ℕ_discrete}
+use native.Mathlib.Decide.{dec_le}
 use Rattle.net_core.specs.declared.rows.NodeNo.{NodeNo}
-use Rattle.dta_model.specs.Plans.{ins, link_at, outs}
+use Rattle.dta_model.specs.Plans.{ins, outs}
 use Rattle.dta_model.specs.Sound.{IsSound}
-use Rattle.dta_model.specs.Units.{Gather, Posting, Task, Transfer, mail_slot, moved_by, moved_in, node_count, posting_slot, step_of, step_units, task_at, task_of, position_of, unit_count}
+use Rattle.dta_model.specs.Units.{Gather, Posting, Task, Transfer, mail_slot, moved_by, node_count, posting_slot, step_of, step_units, task_at, task_of, position_of, unit_count}
 use Rattle.dta_model.specs.declared.plan.Plan.{Plan}
 use Rattle.node_transfer.specs.Cells.{CellState}
 use Rattle.node_transfer.specs.Contents.{IsStep, away, batch_of, cell_after, cell_at, cell_before, mail_at, room_of}
@@ -18,8 +18,8 @@ use Rattle.node_transfer.proofs.Parts.{ins-among, ins-member, outs-among, outs-m
 use Rattle.node_transfer.proofs.TwoStages.{steps_have_two_stages}
 use Rattle.claim_core.specs.Kinds.{kind_by}
 use Rattle.claim_core.specs.Parts.{moves, stage_before}
-use Rattle.claim_core.specs.Sums.{is_at, one_if, times}
-use Rattle.claim_core.specs.Work.{AreCounted, AreMoved, AreReady, PartsState}
+use Rattle.claim_core.specs.Sums.{is_at, one_if}
+use Rattle.claim_core.specs.Work.{AreMoved, AreReady, PartsState}
 use Rattle.claim_core.specs.declared.units.UnitKind.{UnitKind}
 use Rattle.claim_core.specs.declared.units.UnitKind.TheVariants as kind
 use Rattle.claim_core.proofs.Apart.{before_gather, before_transfer, cell_once, mail_once}
@@ -85,7 +85,7 @@ module _ (p : Plan) (c a : ℕ) (links : List ℕ) (s : ℕ) (m : IsOfNode p c a
     counted = record { cells = set_count cells a cell ∙ r.counted.cells; mail = count ∙ r.counted.mail };
     cells = λ n h one. (let same : n ≡ a = at_is n a (omega (arith, one, m.cell_moves n h)) in
         subst (λ (x : ℕ). slice_get (slice_set cells a cell) x ≡ Some (cell_at p x (suc (stage_before p c x)))) (sym same)
-            (set_here cells a cell cell_inside ∙ ap (λ y. Some y) (e ∙ ap (λ k. cell_at p a (suc k)) (sym (m.cell_stage a m.node)))));
+        (set_here cells a cell cell_inside ∙ ap (λ y. Some y) (e ∙ ap (λ k. cell_at p a (suc k)) (sym (m.cell_stage a m.node)))));
     mail = λ l h one. own l (is_one (is_among links l) (omega (arith, one, m.mail_moves l h))) ∙ ap (λ k. Some (mail_at p l (suc k))) (sym (m.mail_stage l h));
     other_cells = λ n h zero_moves. set_else cells a n cell (λ same. (let one : is_at n a ≡ 1 = ap (λ x. is_at x a) same ∙ at_self a in absurd (omega (arith, zero_moves, m.cell_moves n h, one))));
     other_mail = λ l h zero_moves. others l (is_zero (is_among links l) (omega (arith, zero_moves, m.mail_moves l h)));
@@ -225,9 +225,9 @@ module _ (p : Plan) (sound : IsSound p) (u N t : ℕ) (few : u < unit_count p) (
       transfer_done cell mail' e put =
           let next : 2 * t + 1 ≡ suc (2 * t) = add-one (2 * t) in
           parts_moved p u node.0 (outs p node.0) (2 * t) transfer_now cells mail r cell mail'
-              (e ∙ sym ((steps_have_two_stages p t).1.cell node.0) ∙ ap (λ x. cell_at p node.0 x) next)
-              (λ l is_in. put.own l is_in ∙ ap (λ x. Some x) (sym ((steps_have_two_stages p t).1.mail l) ∙ ap (λ x. mail_at p l x) next))
-              put.others.count put.others.others
+          (e ∙ sym ((steps_have_two_stages p t).1.cell node.0) ∙ ap (λ x. cell_at p node.0 x) next)
+          (λ l is_in. put.own l is_in ∙ ap (λ x. Some x) (sym ((steps_have_two_stages p t).1.mail l) ∙ ap (λ x. mail_at p l x) next))
+          put.others.count put.others.others
 
   module _ (node : NodeNo) (k : UnitKind) (is_kind : k ≡ kind_by (task_of N u)) (is_now : k ≡ kind.Gather node) where
     pub gather_now : IsOfNode p u node.0 (ins p node.0) (2 * t + 1)
@@ -252,9 +252,9 @@ module _ (p : Plan) (sound : IsSound p) (u N t : ℕ) (few : u < unit_count p) (
       gather_done cell mail' e put =
           let next : 2 * suc t ≡ suc (2 * t + 1) = omega arith in
           parts_moved p u node.0 (ins p node.0) (2 * t + 1) gather_now cells mail r cell mail'
-              (e ∙ sym ((steps_have_two_stages p (suc t)).0.cell node.0) ∙ ap (λ x. cell_at p node.0 x) next)
-              (λ l is_in. put.own l is_in ∙ ap (λ x. Some x) (sym ((steps_have_two_stages p (suc t)).0.mail l) ∙ ap (λ x. mail_at p l x) next))
-              put.others.count put.others.others
+          (e ∙ sym ((steps_have_two_stages p (suc t)).0.cell node.0) ∙ ap (λ x. cell_at p node.0 x) next)
+          (λ l is_in. put.own l is_in ∙ ap (λ x. Some x) (sym ((steps_have_two_stages p (suc t)).0.mail l) ∙ ap (λ x. mail_at p l x) next))
+          put.others.count put.others.others
 
   module _ (k : UnitKind) (is_kind : k ≡ kind_by (task_of N u)) (is_now : k ≡ kind.Posting) where
     posts_now : (slot : ℕ) → moves p slot u ≡ in_task p slot Posting

@@ -1,5 +1,5 @@
 -- The stages of what the units of a loading work on: how often finished units took it to its next
--- stage. Two of a step's units do so with each cell and each mail, and one with what posts the state.
+-- stage. Two of a step's units do so with each cell and each mail, and one with what posts.
 use Rattle.std.specs.Prelude.{ℕ, ◌*◌}
 use Rattle.dta_model.specs.Machine.{Claims, is_finished}
 use Rattle.dta_model.specs.Units.{moved_by, node_count, phase_start, unit_count}

@@ -24,7 +24,8 @@ pub(crate) fn claim_unit(
     requires worker { worker < length stages.old }
     requires room { drawn.old ≤ unit_count (plan_of loading.now) + 2 ^ 32 }
     ensures { record {
-        claims = record { drawn = drawn.new; stages = stages.new }; outcome = result
+      claims = record { drawn = drawn.new; stages = stages.new };
+      outcome = result;
     } ≡ effect_of (plan_of loading.now) (record { drawn = drawn.old; stages = stages.old })
         (Event.Claim worker) }
 {
@@ -56,7 +57,8 @@ pub(crate) fn open_unit(
     requires count { finished ≡ finished_in (plan_of loading.now)
         (record { drawn = drawn; stages = stages.old }) }
     ensures { record {
-        claims = record { drawn = drawn; stages = stages.new }; outcome = result
+      claims = record { drawn = drawn; stages = stages.new };
+      outcome = result;
     } ≡ effect_of (plan_of loading.now) (record { drawn = drawn; stages = stages.old })
         (Event.Open worker) }
 {
@@ -92,7 +94,8 @@ pub(crate) fn finish_unit(
         (stage_in (plan_of loading.now) (record { drawn = drawn; stages = stages.old }))
         (record { cells = cells.old; mail = mail.old }) }
     ensures effect { record {
-        claims = record { drawn = drawn; stages = stages.new }; outcome = result
+      claims = record { drawn = drawn; stages = stages.new };
+      outcome = result;
     } ≡ effect_of (plan_of loading.now) (record { drawn = drawn; stages = stages.old })
         (Event.Finish worker) }
     ensures count { finished.new ≡ finished_in (plan_of loading.now)

@@ -33,8 +33,8 @@ pub fn numbers_rise()
     ensures { NumbersRise }
 {}
 
-/// Where exactly t whole steps are finished, all cells and mail are those of the plain loading after
-/// t steps.
+/// Where exactly t whole steps are finished, all cells and mail are those of the plain loading
+/// after t steps.
 pub fn parts_are_of_whole_steps()
     ensures { Always PartsAreOfWholeSteps }
 {}

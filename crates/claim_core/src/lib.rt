@@ -1,6 +1,6 @@
 //! The units of a loading, claimed by workers.
 //!
-//! Each step of a loading has a unit for the transfer of each node, one for the gather of each node,
+//! Each step of a loading has a unit for the transfer of each node, one for each node's gather,
 //! and one for the posting of the state. Workers claim them by number, in any order of events. The
 //! laws say what holds after every list of events: each unit is given once, no phase of a step
 //! begins before the earlier ones are finished, and where whole steps are finished the parts are

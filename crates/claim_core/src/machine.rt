@@ -29,24 +29,45 @@ impl<'a> Model for Machine<'a> {
     ghost Value = { MachineState };
 
     ghost view = { λ m. record {
-        plan = plan_of m.loading;
-        claims = record { drawn = m.drawn; stages = m.stages.items };
-        parts = record { cells = m.cells.items; mail = m.mail.items };
+      plan = plan_of m.loading;
+      claims = record { drawn = m.drawn; stages = m.stages.items };
+      parts = record { cells = m.cells.items; mail = m.mail.items };
     } };
 
     ghost invariant = { λ m. IsMachine (record {
-        plan = plan_of m.loading;
-        claims = record { drawn = m.drawn; stages = m.stages.items };
-        parts = record { cells = m.cells.items; mail = m.mail.items };
+      plan = plan_of m.loading;
+      claims = record { drawn = m.drawn; stages = m.stages.items };
+      parts = record { cells = m.cells.items; mail = m.mail.items };
     }) m.finished };
 }
 
 impl<'a> Machine<'a> {
+    /// The machine of a loading at the start, with so many workers, all idle.
+    pub fn new(alloc: Global, loading: &Loading<'a>, workers: u32) -> Result<Self, Memory>
+        requires sound { IsSound (plan_of loading.now) }
+        requires workers { 1 ≤ workers }
+        ensures plan { IfOk result (λ m. m.plan ≡ plan_of loading.now) }
+        ensures claims { IfOk result (λ m. m.claims ≡ all_idle workers) }
+        ensures parts { IfOk result HasParts }
+    {
+        let start = opening(alloc, loading)?;
+        let stages = idle_stages(alloc, workers)?;
+        Ok(Machine {
+            loading: *loading,
+            drawn: 0,
+            finished: 0,
+            stages,
+            cells: start.cells.into_vec(),
+            mail: start.mail.into_vec(),
+        })
+    }
+
     /// What a worker is answered to an event. One that doesn't fit what the worker has changes
     /// nothing.
     pub fn apply(&mut self, event: Event) -> Outcome
         requires { worker_of event < length self.old.claims.stages }
         ensures plan { self.new.plan ≡ self.old.plan }
+        ensures workers { length self.new.claims.stages ≡ length self.old.claims.stages }
         ensures claims { self.new.claims ≡ step_machine self.old.plan self.old.claims event }
         ensures outcome { result ≡ outcome self.old.plan self.old.claims event }
         ensures reached { AreReached self.new.plan self.new.claims }
@@ -74,4 +95,18 @@ impl<'a> Machine<'a> {
             ),
         }
     }
+}
+
+// So many workers without a unit.
+fn idle_stages(alloc: Global, workers: u32) -> Result<Vec<Stage>, Memory>
+    ensures { IfOk result (λ stages. stages.items ≡ (all_idle workers).stages) }
+{
+    let mut stages = Vec::new(alloc);
+    for _ in 0..workers {
+        match stages.push(Stage::Idle) {
+            Ok(()) => {}
+            Err(_) => return Err(AllocError),
+        }
+    }
+    Ok(stages)
 }

@@ -1,6 +1,5 @@
-use Rattle.std.proofs.Common.{◌≡◌, ◌*◌, arith, ap, sym, ◌∙◌}
+use Rattle.std.proofs.Common.{arith}
 use Rattle.dta_model.specs.Lent.{plan_of}
-use Rattle.dta_model.specs.Units.{unit_count}
 use Rattle.dta_model.specs.declared.machine.Stage.TheVariants as stage
 use Rattle.claim_core.proofs.Effects.{claim_given, claim_misplaced, claim_over, has}
 use Rattle.claim_core.proofs.Working.{count_is_all}

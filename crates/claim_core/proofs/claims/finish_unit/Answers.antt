@@ -1,4 +1,4 @@
-use Rattle.std.proofs.Common.{◌≡◌, arith, ap, sym, ◌∙◌}
+use Rattle.std.proofs.Common.{arith}
 use Rattle.dta_model.specs.Lent.{plan_of}
 use Rattle.dta_model.specs.declared.machine.Stage.TheVariants as stage
 use Rattle.claim_core.proofs.Effects.{count_fits, finish_done, finish_misplaced, has, is_unit, kept_of, next_count, parts_ready, parts_then}

@@ -1,4 +1,4 @@
-use Rattle.std.proofs.Common.{◌≡◌, arith, ap, sym, ◌∙◌}
+use Rattle.std.proofs.Common.{arith, ap}
 use Rattle.dta_model.specs.Lent.{plan_of}
 use Rattle.dta_model.specs.Units.{phase_start}
 use Rattle.dta_model.specs.declared.machine.Stage.TheVariants as stage

@@ -1,4 +1,3 @@
-use Rattle.std.proofs.Common.{arith}
 use Rattle.claim_core.proofs.ByPlace.{is_gather, is_posting, is_transfer}
 use Rattle.claim_core.proofs.units.Units.kind_of.Goals as goal
 

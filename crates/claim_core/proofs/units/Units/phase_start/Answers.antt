@@ -1,4 +1,3 @@
-use Rattle.std.proofs.Common.{arith}
 use Rattle.claim_core.proofs.ByPlace.{starts_first, starts_last, starts_mid}
 use Rattle.claim_core.proofs.units.Units.phase_start.Goals as goal
 
