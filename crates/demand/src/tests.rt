@@ -4,7 +4,7 @@ use desk_io::Table;
 use dta_model::DemandCell;
 use row_reader::{Code, Column, TableFault, TableRefusal};
 
-fn field_in(line: u64, origin: u64, destination: u64, volume: u64) -> DemandCell {
+fn cell(line: u64, origin: u64, destination: u64, volume: u64) -> DemandCell {
     DemandCell {
         line,
         origin,
