@@ -34,7 +34,7 @@ count_range : (n a : ℕ) → length (range_with_len a n) ≡ n
 count_range zero a = refl
 count_range (suc n) a = ap (λ k. suc k) (count_range n (a + 1))
 
-idle_count : (workers : ℕ) → length (repeat workers (stage.Idle ∷ [])) ≡ workers
+pub idle_count : (workers : ℕ) → length (repeat workers (stage.Idle ∷ [])) ≡ workers
 idle_count zero = refl
 idle_count (suc workers) = ap (λ k. suc k) (idle_count workers)
 

@@ -20,3 +20,6 @@ pub use laws::{
 };
 pub use machine::Machine;
 pub use units::{UnitKind, Units};
+
+#[cfg(test)]
+mod tests;

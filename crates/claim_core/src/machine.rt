@@ -13,6 +13,7 @@ use std::alloc::{AllocError, Global};
 use std::marker::Model;
 
 /// A loading whose units are claimed by workers, as a machine of three events.
+#[derive(Drop)]
 pub struct Machine<'a> {
     loading: Loading<'a>,
     drawn: u64,
