@@ -1,7 +1,8 @@
 #!/bin/sh
 # Builds a program that measures a crate: `bench/build.sh NAME FOLDER` builds bench/NAME/program.txt, a main.rt, over the
-# libraries that bench/NAME/uses lists in one line, and prints the built program's path. It is built in FOLDER, outside the
-# repository, over a copy of the crates: the gate reads every .rt file, and nothing of bench/ is proved or timed in it.
+# libraries that bench/NAME/uses lists in one line, and prints the built program's path. The invariants of a function's loops are
+# bench/NAME/proofs/FUNCTION.txt. It is built in FOLDER, outside the repository, over a copy of the crates: the gate reads every
+# .rt and .antt file, and nothing of bench/ is proved or timed in it.
 set -e
 bench=$(dirname "$(readlink -f "$0")")
 name=$1
@@ -15,6 +16,12 @@ for crate in "$bench"/../crates/*/; do
     done
 done
 cp "$bench/$name/program.txt" "$work/crates/$name/src/main.rt"
+for part in "$bench/$name/proofs"/*.txt; do
+    [ -e "$part" ] || continue
+    function=$work/crates/$name/proofs/$(basename "$part" .txt)
+    mkdir -p "$function"
+    cp "$part" "$function/Invariants.antt"
+done
 cp "$bench/../HANDLES" "$work/HANDLES"
 {
     cat "$bench/../crates.txt"
