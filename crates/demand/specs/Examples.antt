@@ -127,12 +127,14 @@ destination_out_of_range :
 unfolding cells_on_literals refused
 destination_out_of_range = refl
 
-volume_out_of_range : demand_verdict (records (codes "o_zone_id,d_zone_id,volume\n1,3,1000000000.001\n"))
+volume_out_of_range :
+    demand_verdict (records (codes "o_zone_id,d_zone_id,volume\n1,3,1000000000.001\n"))
     ≡ refused 2 code.E5 column.Volume
 unfolding cells_on_literals refused
 volume_out_of_range = refl
 
--- of two faults that of the lesser line is told, and in one line that of the column that comes first
+-- of two faults that of the lesser line is told, and in one line that of the column that comes
+-- first
 two_lines : demand_verdict (records (codes "o_zone_id,d_zone_id,volume\n1,3,1\n1,3,-1\n,3,1\n"))
     ≡ refused 3 code.E5 column.Volume
 unfolding cells_on_literals refused

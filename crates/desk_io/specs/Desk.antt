@@ -1,4 +1,5 @@
--- What a desk has left of each table and has taken of each output. `None` stands for bytes that are not told.
+-- What a desk has left of each table and has taken of each output. `None` stands for bytes that are
+-- not told.
 use Rattle.std.specs.Prelude.{ℕ, List, Option}
 use Rattle.std.specs.Io.KnownBytes.{prepend_known, append_known}
 use Rattle.desk_io.specs.declared.desk.Table.{Table}

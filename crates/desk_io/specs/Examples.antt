@@ -10,11 +10,13 @@ use Rattle.desk_io.specs.TallyDesk.{count_of, counted, no_counts}
 use Rattle.desk_io.specs.Transfers.{IsPartOut}
 
 -- a desk with the texts "n" and "link" had handed out "li" when "nk" was left
-a-link-table-half-read : all_left (codes "n") (codes "link") [] [] ≡ before_left Link (codes "li") (all_left (codes "n") (codes "nk") [] [])
+a-link-table-half-read : all_left (codes "n") (codes "link") [] []
+    ≡ before_left Link (codes "li") (all_left (codes "n") (codes "nk") [] [])
 a-link-table-half-read = refl
 
 -- Report has taken "nodes 3" and then a line feed
-two-puts : grown Report (codes "\n") (grown Report (codes "nodes 3") (all_taken [] [] [] [] [])) ≡ all_taken [] [] [] (codes "nodes 3\n") []
+two-puts : grown Report (codes "\n") (grown Report (codes "nodes 3") (all_taken [] [] [] [] []))
+    ≡ all_taken [] [] [] (codes "nodes 3\n") []
 two-puts = refl
 
 -- the second call is listed
@@ -42,7 +44,8 @@ at-the-last : Rose last_count last_count
 at-the-last = le_refl last_count
 
 -- of "usage" the first part "us" went out to Report
-us-of-usage : IsPartOut Report (codes "usage") (all_taken [] [] [] (codes "a") []) (all_taken [] [] [] (codes "aus") [])
+us-of-usage : IsPartOut Report (codes "usage")
+    (all_taken [] [] [] (codes "a") []) (all_taken [] [] [] (codes "aus") [])
 us-of-usage = record { count = 2; within = le-add_right 2 3; out = refl }
 
 -- Watch took 3 bytes and then 2
@@ -54,5 +57,6 @@ another-output : count_of Report (counted Watch 3 no_counts) ≡ 0
 another-output = refl
 
 -- a count near its last value stops there
-at-the-last-byte : count_of Report (counted Report 7 (counted Report (last_count - 1) no_counts)) ≡ last_count
+at-the-last-byte :
+    count_of Report (counted Report 7 (counted Report (last_count - 1) no_counts)) ≡ last_count
 at-the-last-byte = refl

@@ -1,5 +1,6 @@
 -- A desk in memory as a clause sees it.
-use Rattle.std.specs.Prelude.{ℕ, ◌+◌, ◌^◌, ◌==◌, nat_lt, Bool, false, List, Option, None, Some, if◌then◌else◌}
+use Rattle.std.specs.Prelude.{ℕ, ◌+◌, ◌^◌, ◌==◌, nat_lt, Bool, false, List, Option, None, Some}
+use Rattle.std.specs.Prelude.{if◌then◌else◌}
 use Rattle.std.specs.List.{list_any}
 use Rattle.desk_io.specs.Desk.{Left, Taken}
 
@@ -10,7 +11,8 @@ pub record MemView : Type 0 where
   pub put_faults : ℕ
   -- how many puts found no memory
   pub starved : ℕ
-  -- the number of the next read and of the next put, counted from 1: none past the last value of a counter
+  -- the number of the next read and of the next put, counted from 1: none past the last value of a
+  -- counter
   pub next_read : Option ℕ
   pub next_put : Option ℕ
   -- the numbers of the reads and puts that are listed to fail
@@ -31,7 +33,18 @@ number_after (Some number) = if nat_lt (number + 1) (2 ^ 64) then Some (number +
 
 -- every text is told, and no output has taken anything
 abbrev pub all_left : List ℕ → List ℕ → List ℕ → List ℕ → Left
-all_left node link movement demand = record { node = Some node; link = Some link; movement = Some movement; demand = Some demand }
+all_left node link movement demand = record {
+  node = Some node;
+  link = Some link;
+  movement = Some movement;
+  demand = Some demand;
+}
 
 abbrev pub all_taken : List ℕ → List ℕ → List ℕ → List ℕ → List ℕ → Taken
-all_taken agent link_time gap report watch = record { agent = Some agent; link_time = Some link_time; gap = Some gap; report = Some report; watch = Some watch }
+all_taken agent link_time gap report watch = record {
+  agent = Some agent;
+  link_time = Some link_time;
+  gap = Some gap;
+  report = Some report;
+  watch = Some watch;
+}

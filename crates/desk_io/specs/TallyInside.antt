@@ -6,5 +6,11 @@ use Rattle.desk_io.specs.declared.tally_desk.TallyDesk.TheInside as tally
 abbrev pub tally_view : tally.Inside → TallyView
 tally_view d = record {
   left = all_left d.node d.link d.movement d.demand;
-  counts = record { agent = d.agent; link_time = d.link_time; gap = d.gap; report = d.report; watch = d.watch };
+  counts = record {
+    agent = d.agent;
+    link_time = d.link_time;
+    gap = d.gap;
+    report = d.report;
+    watch = d.watch;
+  };
 }

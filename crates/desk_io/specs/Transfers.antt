@@ -1,5 +1,6 @@
 -- What was read of a table, and what went out to an output.
-use Rattle.std.specs.Prelude.{ℕ, ◌≡◌, ◌≤◌, ◌<◌, ◌⊎◌, List, length, take, Result, Err, IfOk, OnOk, OnErr}
+use Rattle.std.specs.Prelude.{ℕ, ◌≡◌, ◌≤◌, ◌<◌, ◌⊎◌, List, length, take, Result, Err, IfOk, OnOk}
+use Rattle.std.specs.Prelude.{OnErr}
 use Rattle.std.proofs.Common.{Vec}
 use Rattle.std.specs.declared.alloc.Global.{Global}
 use Rattle.std.specs.Io.KnownBytes.{IsAtEnd}
@@ -36,11 +37,13 @@ pub record IsPartOut (output : Output) (text : List ℕ) (before after : Taken) 
 -- a text went out whole, or where the count of failed puts rose, a first part of it
 abbrev pub IsOut : Output → List ℕ → Taken → Taken → ℕ → ℕ → Type 0
 IsOut output text before after faults_before faults_after =
-    (after ≡ grown output text before) ⊎ (IsPartOut output text before after × Rose faults_before faults_after)
+    (after ≡ grown output text before)
+    ⊎ (IsPartOut output text before after × Rose faults_before faults_after)
 
 -- a call that puts to outputs and does nothing else to a desk: what they took where it is done and
 -- where it is refused. A refusal comes only where the count of failed puts rose
-pub record OnlyPuts {T E : Type 0} (Done Refused : Taken → Taken → Type 0) (before after : DeskState) (result : Result T E) : Type 0 where
+pub record OnlyPuts {T E : Type 0} (Done Refused : Taken → Taken → Type 0)
+    (before after : DeskState) (result : Result T E) : Type 0 where
   pub whole : OnOk result (Done before.taken after.taken)
   pub refused : OnErr result (Refused before.taken after.taken)
   pub cause : HasCause before.put_faults after.put_faults result
@@ -55,7 +58,8 @@ Puts output text before after result =
 -- a call that reads a table: it was read to its end and has at most so many bytes, or on a refusal
 -- it was begun; as too long, where more bytes were there, and as failed, where the count of failed
 -- reads rose. No other table was read and nothing was put
-pub record Reads (table : Table) (limit : ℕ) (before after : DeskState) (result : Result (Vec ℕ Global) ReadRefusal) : Type 0 where
+pub record Reads (table : Table) (limit : ℕ) (before after : DeskState)
+    (result : Result (Vec ℕ Global) ReadRefusal) : Type 0 where
   pub whole : IfOk result (λ bytes. IsRead table bytes.items before.left after.left)
   pub short : IfOk result (λ bytes. length bytes.items ≤ limit)
   pub begun : OnErr result (IsBegun table before.left after.left)

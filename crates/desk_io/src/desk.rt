@@ -26,7 +26,8 @@ pub enum Output {
 #[derive(Clone, Copy, Debug, PartialEq, Eq)]
 pub struct Failed;
 
-/// What the program reads from and puts to. Bytes are told or not told: a desk over files knows nothing of its contents.
+/// What the program reads from and puts to. Bytes are told or not told: a desk over files knows
+/// nothing of its contents.
 pub trait Desk {
     /// The bytes of each table that are not read yet.
     ghost left: { Self → Left };
@@ -40,8 +41,8 @@ pub trait Desk {
     /// How many puts failed. It never falls, and stands still at the last value of a counter.
     ghost put_faults: { Self → ℕ };
 
-    /// Moves the first bytes that are left of a table into the buffer, and answers how many. For a buffer that isn't empty, 0
-    /// means the end of the table. On Failed nothing is moved.
+    /// Moves the first bytes that are left of a table into the buffer, and answers how many. For a
+    /// buffer that isn't empty, 0 means the end of the table. On Failed nothing is moved.
     fn read(&mut self, table: Table, buf: &mut [u8]) -> Result<usize, Failed>
         ensures count { IfOk result (λ n. n ≤ length buf.new) }
         ensures bytes { IfOk result (λ n.
@@ -53,8 +54,8 @@ pub trait Desk {
         ensures cause { HasCause (read_faults self.old) (read_faults self.new) result }
         ensures puts { put_faults self.new ≡ put_faults self.old };
 
-    /// Takes a first part of the piece, and answers its length, at least 1 for a piece that isn't empty. On Failed nothing is
-    /// taken.
+    /// Takes a first part of the piece, and answers its length, at least 1 for a piece that isn't
+    /// empty. On Failed nothing is taken.
     fn put(&mut self, output: Output, piece: &[u8]) -> Result<usize, Failed>
         ensures count { IfOk result (λ n. n ≤ length piece.now) }
         ensures some { IfOk result (λ n. 0 < length piece.now → 0 < n) }

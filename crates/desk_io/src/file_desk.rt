@@ -16,10 +16,10 @@ enum TableFile {
 }
 
 /// A desk over the current folder. It reads `node.csv`, `link.csv`, `movement.csv` and
-/// `demand.csv`, and puts to `agent.csv`, `link_performance.csv`, `gap.csv`, a stream for Report and
-/// one for Watch: standard output and standard error. A `movement.csv` that doesn't exist reads as
-/// zero bytes; another missing file fails. A file is made, and an older one emptied, at its first
-/// put of a piece that isn't empty. It tells nothing of contents, and counts each failure.
+/// `demand.csv`, and puts to `agent.csv`, `link_performance.csv`, `gap.csv`, a stream for Report
+/// and one for Watch: standard output and standard error. A `movement.csv` that doesn't exist reads
+/// as zero bytes; another missing file fails. A file is made, and an older one emptied, at its
+/// first put of a piece that isn't empty. It tells nothing of contents, and counts each failure.
 #[derive(Drop)]
 pub struct FileDesk<R, W> {
     rt: HostRuntime,
@@ -159,7 +159,8 @@ impl<R: Write, W: Write> Desk for FileDesk<R, W> {
             return Ok(0);
         }
         match self.write(output, piece) {
-            // A file that takes nothing of a piece has failed: the caller would put the piece for ever.
+            // A file that takes nothing of a piece has failed: the caller would put the piece for
+            // ever.
             Ok(count) if count > 0 => Ok(count),
             _ => {
                 self.put_faults = self.put_faults.saturating_add(1);

@@ -1,4 +1,5 @@
-ghost use Rattle.std.specs.Prelude.{◌≡◌, ◌<◌, ◌≤◌, ◌+◌, ◌++◌, ◌∷◌, [], length, take, min, if◌then◌else◌};
+ghost use Rattle.std.specs.Prelude.{◌≡◌, ◌<◌, ◌≤◌, ◌+◌, ◌++◌, ◌∷◌, [], length, take, min};
+ghost use Rattle.std.specs.Prelude.{if◌then◌else◌};
 ghost use Rattle.std.specs.Prelude.{IsTrue, IsErr, is_err, IfOk, IfSome, OnOk, OnErr, None, Some};
 ghost use Rattle.std.specs.Io.KnownBytes.{IsAtEnd};
 ghost use Rattle.desk_io.specs.Desk.{left_of, before_left, taken_of, grown};
@@ -10,7 +11,8 @@ use crate::{Desk, Failed, Memory, Output, Table};
 use std::alloc::Global;
 use std::marker::Model;
 
-/// A desk in memory: four texts to read and five outputs that grow. It tells all, and calls can be listed to fail.
+/// A desk in memory: four texts to read and five outputs that grow. It tells all, and calls can be
+/// listed to fail.
 #[derive(Drop)]
 pub struct MemDesk {
     node: Source,
@@ -45,7 +47,8 @@ impl Model for MemDesk {
 }
 
 impl MemDesk {
-    /// A desk with these texts, of which no call is listed to fail and no call has a bound on its bytes.
+    /// A desk with these texts, of which no call is listed to fail and no call has a bound on its
+    /// bytes.
     pub fn new(
         alloc: Global,
         node: Vec<u8>,
@@ -177,7 +180,8 @@ impl Desk for MemDesk {
 
     fn read(&mut self, table: Table, buf: &mut [u8]) -> Result<usize, Failed>
         ensures count { IfOk result (λ n. n ≤ length buf.new) }
-        ensures bytes { IfOk result (λ n. self.old.left ≡ before_left table (take n buf.new) self.new.left) }
+        ensures bytes { IfOk result (λ n.
+            self.old.left ≡ before_left table (take n buf.new) self.new.left) }
         ensures end { IfOk result (λ n.
             n ≡ 0 → 0 < length buf.new → IsAtEnd (left_of table self.new.left)) }
         ensures refused { OnErr result (self.new.left ≡ self.old.left) }
@@ -185,7 +189,8 @@ impl Desk for MemDesk {
         ensures cause { HasCause self.old.read_faults self.new.read_faults result }
         ensures puts { self.new.put_faults ≡ self.old.put_faults }
 
-        // More than the trait promises: when a read fails, how much it moves, and what else changes.
+        // More than the trait promises: when a read fails, how much it moves, and what else
+        // changes.
         ensures fails { is_err result ≡ is_listed self.old.failing_reads self.old.next_read }
         ensures many { IfOk result (λ n. IfSome (left_of table self.old.left) (λ bytes.
             n ≡ min (min (length bytes) (length buf.new)) self.old.most)) }
@@ -215,7 +220,8 @@ impl Desk for MemDesk {
     fn put(&mut self, output: Output, piece: &[u8]) -> Result<usize, Failed>
         ensures count { IfOk result (λ n. n ≤ length piece.now) }
         ensures some { IfOk result (λ n. 0 < length piece.now → 0 < n) }
-        ensures bytes { IfOk result (λ n. self.new.taken ≡ grown output (take n piece.now) self.old.taken) }
+        ensures bytes { IfOk result (λ n.
+            self.new.taken ≡ grown output (take n piece.now) self.old.taken) }
         ensures refused { OnErr result (self.new.taken ≡ self.old.taken) }
         ensures left { self.new.left ≡ self.old.left }
         ensures cause { HasCause self.old.put_faults self.new.put_faults result }

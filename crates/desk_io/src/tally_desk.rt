@@ -9,8 +9,8 @@ use crate::source::Source;
 use crate::{Desk, Failed, Output, Table};
 use std::marker::Model;
 
-/// A desk that reads four texts from memory, and of what it is given keeps the number of bytes alone. It never fails and takes
-/// no memory. It tells what is left, and no bytes that were put.
+/// A desk that reads four texts from memory, and of what it is given keeps the number of bytes
+/// alone. It never fails and takes no memory. It tells what is left, and no bytes that were put.
 #[derive(Drop)]
 pub struct TallyDesk {
     node: Source,
@@ -78,11 +78,13 @@ impl Desk for TallyDesk {
 
     fn read(&mut self, table: Table, buf: &mut [u8]) -> Result<usize, Failed>
         ensures count { IfOk result (λ n. n ≤ length buf.new) }
-        ensures bytes { IfOk result (λ n. self.old.left ≡ before_left table (take n buf.new) self.new.left) }
+        ensures bytes { IfOk result (λ n.
+            self.old.left ≡ before_left table (take n buf.new) self.new.left) }
         ensures end { IfOk result (λ n.
             n ≡ 0 → 0 < length buf.new → IsAtEnd (left_of table self.new.left)) }
 
-        // More than the trait promises: it never fails, fills the buffer where it can, and changes no count.
+        // More than the trait promises: it never fails, fills the buffer where it can, and changes
+        // no count.
         ensures never { IsOk result }
         ensures many { IfOk result (λ n. IfSome (left_of table self.old.left) (λ bytes.
             n ≡ min (length bytes) (length buf.new))) }

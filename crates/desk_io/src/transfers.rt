@@ -37,7 +37,8 @@ impl From<Memory> for ReadRefusal {
     }
 }
 
-/// Reads a table to its end, at most `limit` bytes. After a refusal some of its bytes have been read.
+/// Reads a table to its end, at most `limit` bytes. After a refusal some of its bytes have been
+/// read.
 #[tactic(auto, using(crate::proofs::DeskFacts::desk_facts))]
 pub fn read_table<D: Desk>(
     alloc: Global,

@@ -5,11 +5,13 @@ use Rattle.fixed_units.specs.declared.measure.LengthUnit.TheVariants.{Metre, Mil
 use Rattle.fixed_units.specs.declared.measure.SpeedUnit.TheVariants.{Kmh}
 use Rattle.fixed_units.specs.declared.identifier.TheConstants.{GREATEST_IDENTIFIER}
 use Rattle.fixed_units.specs.declared.quantity.TheConstants.{MOST_BYTES, MOST_THOUSANDTHS}
-use Rattle.fixed_units.specs.declared.link.TheConstants.{MOST_STEP, MOST_FREE_STEPS, MOST_STORAGE, MOST_LANES, MOST_JAM}
+use Rattle.fixed_units.specs.declared.link.TheConstants.{MOST_STEP, MOST_FREE_STEPS, MOST_STORAGE}
+use Rattle.fixed_units.specs.declared.link.TheConstants.{MOST_LANES, MOST_JAM}
 use Rattle.fixed_units.specs.declared.turn.TheConstants.{MOST_PENALTY, MOST_PENALTY_STEPS}
 use Rattle.fixed_units.specs.Quantity.{number, whole_of, milli_of}
 use Rattle.fixed_units.specs.Spelling.{text_of, plus, minus, power}
-use Rattle.fixed_units.specs.Units.{length_of, speed_of, free_steps_of, storage_of, penalty_steps_of, link_rate_of, turn_rate_of}
+use Rattle.fixed_units.specs.Units.{length_of, speed_of, free_steps_of, storage_of}
+use Rattle.fixed_units.specs.Units.{penalty_steps_of, link_rate_of, turn_rate_of}
 
 -- ---- quantities
 -- 1.0 times 1000
@@ -180,7 +182,8 @@ no_length : free_steps_of (length_of 0 Metre) (speed_of 60000 Kmh) 6 ≡ Ok 1
 no_length = refl
 
 -- 1000 miles at 1 km/h take 5,793,638.4 s
-too_slow : free_steps_of (length_of 1000000 Mile) (speed_of 1000 Kmh) 6 ≡ Err (record { steps = 965607 })
+too_slow : free_steps_of (length_of 1000000 Mile) (speed_of 1000 Kmh) 6
+    ≡ Err (record { steps = 965607 })
 too_slow = refl
 
 -- 1000 m of one lane at 125 vehicles per kilometre

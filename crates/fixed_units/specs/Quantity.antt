@@ -1,5 +1,7 @@
 -- Numbers as the fields of a table spell them.
-use Rattle.std.specs.Prelude.{ℕ, ◌+◌, ◌-◌, ◌*◌, ◌/◌, ◌^◌, ◌==◌, ◌&&◌, ◌||◌, not, nat_le, Bool, false, IsTrue, List, [], ◌∷◌, ◌++◌, length, if◌then◌else◌, Result, Ok, Err, is_some, position}
+use Rattle.std.specs.Prelude.{ℕ, ◌+◌, ◌-◌, ◌*◌, ◌/◌, ◌^◌, ◌==◌, ◌&&◌, ◌||◌, not, nat_le, Bool}
+use Rattle.std.specs.Prelude.{false, IsTrue, List, [], ◌∷◌, ◌++◌, length, if◌then◌else◌, Result, Ok}
+use Rattle.std.specs.Prelude.{Err, is_some, position}
 use Rattle.std.specs.List.{list_all, before_first, after_first}
 use Rattle.fixed_units.specs.declared.fault.NumberFault.{NumberFault}
 use Rattle.fixed_units.specs.declared.fault.NumberFault.TheVariants.{NotNumber, OutOfRange}
@@ -125,7 +127,8 @@ numerator text = number (digits_of text) * 10 ^ tens_up (exponent text)
 abbrev pub denominator : List ℕ → ℕ
 denominator text = 10 ^ (length (fraction_part (mantissa text)) + tens_down (exponent text))
 
--- the floor of a thousand times an exact value, where the value is not below 0 and the floor in range
+-- the floor of a thousand times an exact value, where the value is not below 0 and the floor in
+-- range
 abbrev pub thousandths : Bool → ℕ → ℕ → Result ℕ NumberFault
 thousandths minus numerator denominator =
     if minus && not (numerator == 0)

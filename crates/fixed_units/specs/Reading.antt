@@ -1,10 +1,12 @@
 -- What the reader of a number has found when it stands at a place of the text.
-use Rattle.std.specs.Prelude.{◌≡◌, ℕ, ◌/◌, ◌^◌, ◌≤◌, ◌<◌, ◌⊎◌, Bool, true, false, List, [], ◌∷◌, ◌++◌, if◌then◌else◌, ◌&&◌, Option, Some, None}
+use Rattle.std.specs.Prelude.{◌≡◌, ℕ, ◌/◌, ◌^◌, ◌≤◌, ◌<◌, ◌⊎◌, Bool, true, false, List, [], ◌∷◌}
+use Rattle.std.specs.Prelude.{◌++◌, if◌then◌else◌, ◌&&◌, Option, Some, None}
 use Rattle.std.specs.List.{list_all}
 use Rattle.fixed_units.specs.declared.exponent.Tens.{Tens}
 use Rattle.fixed_units.specs.declared.leading.Leading.{Leading}
 use Rattle.fixed_units.specs.declared.leading.TheConstants.{ENOUGH}
-use Rattle.fixed_units.specs.Quantity.{is_digit, is_point, is_exponent_mark, is_exponent, are_zeros, tens_up, tens_down}
+use Rattle.fixed_units.specs.Quantity.{is_digit, is_point, is_exponent_mark, is_exponent, are_zeros}
+use Rattle.fixed_units.specs.Quantity.{tens_up, tens_down}
 
 -- the leading digits of a number: all of them, or enough and the count of the others
 pub record IsLeading (whole : ℕ) (leading : Leading) : Type 0 where
@@ -30,7 +32,9 @@ abbrev pub end_of : List ℕ → Option Tens
 end_of [] = Some (record { up = 0; down = 0 })
 end_of (mark ∷ text) =
     if is_exponent_mark mark
-    then (if is_exponent text then Some (record { up = tens_up text; down = tens_down text }) else None)
+    then (if is_exponent text
+      then Some (record { up = tens_up text; down = tens_down text })
+      else None)
     else None
 
 -- what may stand after an identifier's digits: nothing, or a point and zeros

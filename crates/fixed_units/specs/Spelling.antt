@@ -1,9 +1,11 @@
 -- The grammar of a quantity: the pieces that its text is made of, and what they are worth.
-use Rattle.std.specs.Prelude.{◌≡◌, ℕ, ◌+◌, ◌*◌, ◌^◌, ◌≤◌, ◌<◌, Bool, true, false, List, [], ◌∷◌, ◌++◌, length, if◌then◌else◌, Result}
+use Rattle.std.specs.Prelude.{◌≡◌, ℕ, ◌+◌, ◌*◌, ◌^◌, ◌≤◌, ◌<◌, Bool, true, false, List, [], ◌∷◌}
+use Rattle.std.specs.Prelude.{◌++◌, length, if◌then◌else◌, Result}
 use Rattle.std.specs.List.{list_all}
 use Rattle.fixed_units.specs.declared.fault.NumberFault.{NumberFault}
 use Rattle.fixed_units.specs.declared.quantity.TheConstants.{MOST_BYTES}
-use Rattle.fixed_units.specs.Quantity.{is_digit, is_exponent_mark, are_few_digits, number, thousandths, IsQuantity, milli_of}
+use Rattle.fixed_units.specs.Quantity.{is_digit, is_exponent_mark, are_few_digits, number}
+use Rattle.fixed_units.specs.Quantity.{thousandths, IsQuantity, milli_of}
 
 -- a sign, if there is one
 pub data Sign : Type 0 where
@@ -82,7 +84,8 @@ value_of s =
 -- each spelling that is not too long is read by its exact value
 abbrev pub SpellingsAreRead : Type 0
 SpellingsAreRead =
-    (s : Spelling) → IsSpelling s → length (text_of s) ≤ MOST_BYTES → milli_of (text_of s) ≡ value_of s
+    (s : Spelling) → IsSpelling s → length (text_of s) ≤ MOST_BYTES
+    → milli_of (text_of s) ≡ value_of s
 
 -- each quantity has a spelling
 abbrev pub QuantitiesAreSpelled : Type 0

@@ -1,6 +1,7 @@
 // The end of a quantity: its exponent, if it has one.
 ghost use Rattle.std.specs.Prelude.{◌≡◌, ◌<◌, IfSome, if◌then◌else◌};
-ghost use Rattle.fixed_units.specs.Quantity.{number, are_few_digits, is_exponent, tens_up, tens_down};
+ghost use Rattle.fixed_units.specs.Quantity.{number, are_few_digits, is_exponent, tens_up};
+ghost use Rattle.fixed_units.specs.Quantity.{tens_down};
 ghost use Rattle.fixed_units.specs.Reading.{end_of};
 
 use crate::leading::{Leading, walk};

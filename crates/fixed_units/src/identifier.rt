@@ -2,7 +2,8 @@
 ghost use Rattle.std.specs.Prelude.{◌≡◌, ◌≤◌, ◌==◌, IfOk, if◌then◌else◌};
 ghost use Rattle.std.specs.List.{list_all};
 ghost use Rattle.fixed_units.specs.declared.fault.NumberFault.TheVariants as fault;
-ghost use Rattle.fixed_units.specs.Quantity.{is_identifier, are_zeros as are_zeros_of, number, whole_part, within, whole_of};
+ghost use Rattle.fixed_units.specs.Quantity.{is_identifier, are_zeros as are_zeros_of, number};
+ghost use Rattle.fixed_units.specs.Quantity.{whole_part, within, whole_of};
 ghost use Rattle.fixed_units.specs.Reading.{is_identifier_end as is_identifier_end_of};
 
 use crate::fault::NumberFault;
@@ -86,7 +87,7 @@ mod tests {
             (b"2.000", Ok(2)),
             (b"9223372036854775807", Ok(9_223_372_036_854_775_807)),
             (
-                b"00000000000000000000000000000000000000000000000000000000000000000000000000000000000000001",
+                b"0000000000000000000000000000000000000000000000000000000000000000000000000000001",
                 Ok(1),
             ),
             (b"9223372036854775808", Err(OutOfRange)),

@@ -1,5 +1,6 @@
 // The leading digits of a number, which are all that its value or its refusal needs.
-ghost use Rattle.std.specs.Prelude.{◌≡◌, ◌≤◌, ◌<◌, ◌+◌, ◌*◌, ◌^◌, ◌++◌, ◌==◌, ℕ, true, false, length};
+ghost use Rattle.std.specs.Prelude.{◌≡◌, ◌≤◌, ◌<◌, ◌+◌, ◌*◌, ◌^◌, ◌++◌, ◌==◌, ℕ, true, false};
+ghost use Rattle.std.specs.Prelude.{length};
 ghost use Rattle.std.specs.List.{list_all};
 ghost use Rattle.fixed_units.specs.Quantity.{is_digit as is_digit_of, number};
 ghost use Rattle.fixed_units.specs.Reading.{IsLeading, begins_with};

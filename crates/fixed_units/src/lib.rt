@@ -1,9 +1,9 @@
 //! Numbers and units: what the number fields of a network's tables mean, exactly.
 //!
-//! The crate reads identifiers and quantities from text, and turns quantities into the whole numbers
-//! that a network is made of: lengths, speeds, free-flow steps, storage, penalties and rates.
-//! Its promise is that every number is read exactly. A text is refused exactly where the grammar
-//! and the ranges of specs/Quantity.antt refuse it, and each unit follows its formula in
+//! The crate reads identifiers and quantities from text, and turns quantities into the whole
+//! numbers that a network is made of: lengths, speeds, free-flow steps, storage, penalties and
+//! rates. Its promise is that every number is read exactly. A text is refused exactly where the
+//! grammar and the ranges of specs/Quantity.antt refuse it, and each unit follows its formula in
 //! specs/Units.antt over exact whole numbers. No call takes memory.
 #![tactic(auto)]
 

@@ -1,7 +1,8 @@
 // Quantities: lengths, lanes, speeds, capacities, penalties and volumes as tables spell them.
 ghost use Rattle.std.specs.Prelude.{◌≡◌, ◌≤◌, ◌↔◌, IfOk, if◌then◌else◌};
 ghost use Rattle.fixed_units.specs.declared.fault.NumberFault.TheVariants as fault;
-ghost use Rattle.fixed_units.specs.Quantity.{IsQuantity, is_unsigned_quantity, thousandths, numerator, denominator, milli_of};
+ghost use Rattle.fixed_units.specs.Quantity.{IsQuantity, is_unsigned_quantity, thousandths};
+ghost use Rattle.fixed_units.specs.Quantity.{numerator, denominator, milli_of};
 ghost use Rattle.fixed_units.specs.Spelling.{SpellingsAreRead, QuantitiesAreSpelled};
 
 use crate::decimal::{read_decimal, scaled};

@@ -5,8 +5,8 @@ ghost use Rattle.fixed_units.specs.Zone.{is_minus_one as is_minus_one_of, zone_o
 use crate::fault::NumberFault;
 use crate::identifier::whole;
 
-/// Reads the zone field of a node table: none where it is empty, an identifier of value 0, or `-` before an identifier of value 1,
-/// as tables of other programs write it; and else its identifier.
+/// Reads the zone field of a node table: none where it is empty, an identifier of value 0, or `-`
+/// before an identifier of value 1, as tables of other programs write it; and else its identifier.
 pub fn zone(text: &[u8]) -> Result<Option<u64>, NumberFault>
     ensures { result ≡ zone_of text.now }
 {

@@ -1,12 +1,14 @@
 -- Small tables, computed from their bytes.
-use Rattle.std.specs.Prelude.{ℕ, ◌≡◌, ◌++◌, List, [], ◌∷◌, Option, None, Some, Result, Ok, Err, ⊤, codes, refl}
+use Rattle.std.specs.Prelude.{ℕ, ◌≡◌, ◌++◌, List, [], ◌∷◌, Option, None, Some, Result, Ok, Err, ⊤}
+use Rattle.std.specs.Prelude.{codes, refl}
 use Rattle.fixed_units.specs.declared.measure.LengthUnit.TheVariants.{Metre}
 use Rattle.fixed_units.specs.declared.measure.SpeedUnit.TheVariants.{Kmh, Mph}
 use Rattle.desk_io.specs.declared.desk.Table.{Table}
 use Rattle.desk_io.specs.declared.desk.Table.TheVariants as table
 use Rattle.row_reader.specs.Records.{records}
 use Rattle.row_reader.specs.declared.faults.Code.{Code}
-use Rattle.row_reader.specs.declared.faults.Code.TheVariants.{E1, E3, E4, E5, E6, E7, E8, E9, E10, E11}
+use Rattle.row_reader.specs.declared.faults.Code.TheVariants.{E1, E3, E4, E5, E6, E7, E8, E9, E10}
+use Rattle.row_reader.specs.declared.faults.Code.TheVariants.{E11}
 use Rattle.row_reader.specs.declared.faults.Column.{Column}
 use Rattle.row_reader.specs.declared.faults.Column.TheVariants as column
 use Rattle.row_reader.specs.declared.faults.TableFault.{TableFault}
@@ -32,7 +34,14 @@ node id zone = record { id = id; zone = zone }
 
 link : ℕ → ℕ → ℕ → ℕ → ℕ → ℕ → LinkRow
 link id from to free storage rate =
-    record { id = id; from = record { 0 = from }; to = record { 0 = to }; free = free; storage = storage; rate = rate }
+    record {
+      id = id;
+      from = record { 0 = from };
+      to = record { 0 = to };
+      free = free;
+      storage = storage;
+      rate = rate;
+    }
 
 turn : ℕ → ℕ → ℕ → Option ℕ → TurnRow
 turn a b penalty rate =
@@ -68,7 +77,8 @@ fault : {A : Type 0} → Table → ℕ → Code → Column → Result A TableFau
 fault what line why place = Err (record { table = what; line = line; code = why; column = place })
 
 unfoldable the_examples : ⊤
-unfolding networks_on_literals metric node link turn node_text link_text nodes links nodes_of links_of turns_of fault
+unfolding networks_on_literals metric node link turn node_text link_text nodes links nodes_of
+    links_of turns_of fault
 the_examples = tt
 
 -- ---- networks
@@ -91,7 +101,8 @@ nodes_first : net_verdict metric (records (codes "node_id\nx\n")) (records (code
 unfolding the_examples
 nodes_first = refl
 
-links_second : net_verdict metric (records node_text) (records (codes "link\n")) (Some (records (codes "turn\n")))
+links_second : net_verdict metric (records node_text) (records (codes "link\n"))
+    (Some (records (codes "turn\n")))
     ≡ fault table.Link 1 E1 column.LinkId
 unfolding the_examples
 links_second = refl
@@ -99,15 +110,18 @@ links_second = refl
 -- ---- lenient tables: a byte order mark, further columns, quoted fields, empty fields, identifiers
 -- such as 1.0
 
-lenient_nodes : nodes_of (239 ∷ 187 ∷ 191 ∷ codes "name,node_id,osm_node_id,osm_highway,zone_id,ctrl_type,x_coord,y_coord\n"
-    ++ codes ",0,171,,1,,-111.93,33.42\n,1.0,172,crossing,,signal,-111.92,33.42\n,2,173,,3.0,,-111.91,33.42\n")
+lenient_nodes : nodes_of (239 ∷ 187 ∷ 191 ∷
+    codes "name,node_id,osm_node_id,osm_highway,zone_id,ctrl_type,x_coord,y_coord\n"
+    ++ codes ",0,171,,1,,-111.93,33.42\n,1.0,172,crossing,,signal,-111.92,33.42\n"
+    ++ codes ",2,173,,3.0,,-111.91,33.42\n")
     ≡ Ok (node 0 (Some 1) ∷ node 1 None ∷ node 2 (Some 3) ∷ [])
 unfolding the_examples
 lenient_nodes = refl
 
 -- the first link's time is 10.0049 steps, so 11; its capacity is 1800 vehicles per hour and lane
 lenient_links : link_verdict (node 0 (Some 1) ∷ node 1 None ∷ node 2 (Some 3) ∷ []) metric (records
-    (codes "name,link_id,from_node_id,to_node_id,dir_flag,length,lanes,free_speed,capacity,geometry\n"
+    (codes "name,link_id,from_node_id,to_node_id,dir_flag,length,lanes,free_speed,"
+    ++ codes "capacity,geometry\n"
     ++ codes "\"Mill, North\",0,0,1,1,1000.49,,60,,\"LINESTRING (-111.93 33.42, -111.92 33.42)\"\n"
     ++ codes "Mill,1,1,2.0,1,1.0e3,1.0,60.0,600,\"LINESTRING (-111.92 33.42, -111.91 33.42)\"\n"))
     ≡ Ok (link 0 0 1 11 125 1800000000 ∷ link 1 1 2 10 125 600000000 ∷ [])
@@ -122,7 +136,8 @@ by_default = refl
 
 -- the free speed by default is one in kilometres per hour, also where speeds are in miles per hour
 by_default_in_miles : link_verdict nodes (record metric { speed = Mph })
-    (records (codes "link_id,from_node_id,to_node_id,length,free_speed\n30,1,2,1000,\n31,1,2,1000,50\n"))
+    (records (codes "link_id,from_node_id,to_node_id,length,free_speed\n"
+    ++ codes "30,1,2,1000,\n31,1,2,1000,50\n"))
     ≡ Ok (link 30 0 1 12 125 1800000000 ∷ link 31 0 1 8 125 1800000000 ∷ [])
 unfolding the_examples
 by_default_in_miles = refl
@@ -162,7 +177,8 @@ bad_zone : nodes_of (codes "node_id,zone_id\n1,x\n") ≡ fault table.Node 2 E4 c
 unfolding the_examples
 bad_zone = refl
 
-unknown_node : links_of (link_text ++ codes "30,9,3,1000,1,60,600\n") ≡ fault table.Link 4 E7 column.FromNodeId
+unknown_node : links_of (link_text ++ codes "30,9,3,1000,1,60,600\n")
+    ≡ fault table.Link 4 E7 column.FromNodeId
 unfolding the_examples
 unknown_node = refl
 
@@ -208,7 +224,8 @@ wrong_way_out : turns_of (codes "mvmt_id,node_id,ib_link_id,ob_link_id\n1,2,10,1
 unfolding the_examples
 wrong_way_out = refl
 
-unknown_link : turns_of (codes "node_id,ib_link_id,ob_link_id\n2,11,20\n") ≡ fault table.Movement 2 E8 column.IbLinkId
+unknown_link : turns_of (codes "node_id,ib_link_id,ob_link_id\n2,11,20\n")
+    ≡ fault table.Movement 2 E8 column.IbLinkId
 unfolding the_examples
 unknown_link = refl
 
@@ -219,7 +236,8 @@ unfolding the_examples
 same_turn = refl
 
 -- ten hours are the longest penalty
-longest_penalty : turns_of (codes "node_id,ib_link_id,ob_link_id,penalty,capacity\n2,10,20,36000,600\n")
+longest_penalty :
+    turns_of (codes "node_id,ib_link_id,ob_link_id,penalty,capacity\n2,10,20,36000,600\n")
     ≡ Ok (turn 0 1 6000 (Some 600000000) ∷ [])
 unfolding the_examples
 longest_penalty = refl

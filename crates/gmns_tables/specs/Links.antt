@@ -1,5 +1,6 @@
 -- The rows of a link table.
-use Rattle.std.specs.Prelude.{ℕ, ◌||◌, Bool, List, codes, Option, None, Some, is_some, Result, Ok, Err}
+use Rattle.std.specs.Prelude.{ℕ, ◌||◌, Bool, List, codes, Option, None, Some, is_some, Result, Ok}
+use Rattle.std.specs.Prelude.{Err}
 use Rattle.std.specs.Str.{str_eq_ignore_ascii_case}
 use Rattle.fixed_units.specs.Units.{length_of, speed_of, free_steps_of, storage_of, link_rate_of}
 use Rattle.fixed_units.specs.declared.link.TheConstants.{MOST_LANES}
@@ -12,7 +13,8 @@ use Rattle.desk_io.specs.declared.desk.Table.TheVariants as table
 use Rattle.row_reader.specs.Records.{Record}
 use Rattle.row_reader.specs.Columns.{field_in}
 use Rattle.row_reader.specs.FirstFault.{then_with, verdict}
-use Rattle.row_reader.specs.Fields.{complain, identifier, optional_column, optional_quantity, quantity, quantity_or, required_column, unless, within}
+use Rattle.row_reader.specs.Fields.{complain, identifier, optional_column, optional_quantity}
+use Rattle.row_reader.specs.Fields.{quantity, quantity_or, required_column, unless, within}
 use Rattle.row_reader.specs.declared.faults.Code.TheVariants as code
 use Rattle.row_reader.specs.declared.faults.Column.TheVariants as column
 use Rattle.row_reader.specs.declared.faults.Complaint.{Complaint}
@@ -24,7 +26,8 @@ use Rattle.net_core.specs.declared.rows.NodeRow.{NodeRow}
 use Rattle.net_core.specs.declared.rows.TheConstants.{MOST_LINKS}
 use Rattle.gmns_tables.specs.Names.{known_node}
 use Rattle.gmns_tables.specs.declared.link_table.LinkPlaces.{LinkPlaces}
-use Rattle.gmns_tables.specs.declared.link_table.TheConstants.{DEFAULT_LANES, DEFAULT_SPEED, LEAST_SPEED, DEFAULT_CAPACITY}
+use Rattle.gmns_tables.specs.declared.link_table.TheConstants.{DEFAULT_LANES, DEFAULT_SPEED}
+use Rattle.gmns_tables.specs.declared.link_table.TheConstants.{LEAST_SPEED, DEFAULT_CAPACITY}
 use Rattle.gmns_tables.specs.declared.units.Units.{Units}
 
 -- the columns of a link table, or the first required one that is missing
@@ -89,7 +92,8 @@ link_of nodes units places before r =
     then_with (quantity column.Length (field_in r (Some places.length))) (λ length.
     then_with (lanes_of (field_in r places.lanes)) (λ lanes.
     then_with (free_speed_of units.speed (field_in r places.free_speed)) (λ speed.
-    then_with (steps_told (free_steps_of (length_of length units.length) speed units.delta)) (λ free.
+    then_with (steps_told (free_steps_of (length_of length units.length) speed units.delta))
+    (λ free.
     then_with (capacity_of (field_in r places.capacity)) (λ capacity.
     Ok (record {
       id = id;

@@ -6,7 +6,8 @@ use Rattle.desk_io.specs.declared.desk.Table.TheVariants as table
 use Rattle.row_reader.specs.Records.{Record}
 use Rattle.row_reader.specs.Columns.{field_in}
 use Rattle.row_reader.specs.FirstFault.{then_with, verdict}
-use Rattle.row_reader.specs.Fields.{optional_column, optional_quantity, quantity_or, required_column, unless, within}
+use Rattle.row_reader.specs.Fields.{optional_column, optional_quantity, quantity_or}
+use Rattle.row_reader.specs.Fields.{required_column, unless, within}
 use Rattle.row_reader.specs.declared.faults.Code.TheVariants as code
 use Rattle.row_reader.specs.declared.faults.Column.TheVariants as column
 use Rattle.row_reader.specs.declared.faults.Complaint.{Complaint}
@@ -48,10 +49,12 @@ begins_at links link node = nat_eq (link_in links link.0).from.0 node.0
 -- a penalty in thousandths of a second
 abbrev pub penalty_of : List ℕ → Result ℕ Complaint
 penalty_of text =
-    then_with (quantity_or DEFAULT_PENALTY column.Penalty text) (within column.Penalty 0 MOST_PENALTY)
+    then_with (quantity_or DEFAULT_PENALTY column.Penalty text)
+    (within column.Penalty 0 MOST_PENALTY)
 
 -- the turn of a record after the turns before it, or the first check that fails
-unfoldable pub movement_of : List NodeRow → List LinkRow → Units → MovementPlaces → List TurnRow → Record
+unfoldable pub movement_of :
+    List NodeRow → List LinkRow → Units → MovementPlaces → List TurnRow → Record
     → Result TurnRow Complaint
 movement_of nodes links units places before r =
     then_with (known_node nodes column.NodeId (field_in r (Some places.node))) (λ node.
@@ -59,7 +62,8 @@ movement_of nodes links units places before r =
     then_with (unless (not (ends_at links a node)) code.E9 column.IbLinkId) (λ _.
     then_with (known_link links column.ObLinkId (field_in r (Some places.to))) (λ b.
     then_with (unless (not (begins_at links b node)) code.E9 column.ObLinkId) (λ _.
-    then_with (unless (is_some (place_of_pair (turn_pairs before) a.0 b.0)) code.E6 column.ObLinkId) (λ _.
+    then_with
+    (unless (is_some (place_of_pair (turn_pairs before) a.0 b.0)) code.E6 column.ObLinkId) (λ _.
     then_with (penalty_of (field_in r places.penalty)) (λ penalty.
     then_with (optional_quantity column.Capacity (field_in r places.capacity)) (λ capacity.
     Ok (record {

@@ -6,7 +6,8 @@ use Rattle.desk_io.specs.declared.desk.Table.TheVariants as table
 use Rattle.row_reader.specs.Records.{Record}
 use Rattle.row_reader.specs.Columns.{field_in}
 use Rattle.row_reader.specs.FirstFault.{then_with, verdict}
-use Rattle.row_reader.specs.Fields.{identifier, not_a_number, optional_column, required_column, unless}
+use Rattle.row_reader.specs.Fields.{identifier, not_a_number, optional_column, required_column}
+use Rattle.row_reader.specs.Fields.{unless}
 use Rattle.row_reader.specs.declared.faults.Code.TheVariants as code
 use Rattle.row_reader.specs.declared.faults.Column.TheVariants as column
 use Rattle.row_reader.specs.declared.faults.Complaint.{Complaint}

@@ -11,6 +11,7 @@ use Rattle.gmns_tables.specs.Net.{net_verdict}
 use Rattle.gmns_tables.specs.Nodes.{node_of, node_places}
 
 unfoldable pub networks_on_literals : ⊤
-unfolding tables_on_literals number identifier quantity quantity_or optional_quantity known_node known_link link_in
-    node_places node_of link_places is_undirected free_speed_of link_of movement_places movement_of net_verdict
+unfolding tables_on_literals number identifier quantity quantity_or optional_quantity known_node
+    known_link link_in node_places node_of link_places is_undirected free_speed_of link_of
+    movement_places movement_of net_verdict
 networks_on_literals = tt

@@ -1,14 +1,17 @@
 // Link tables.
 ghost use Rattle.std.specs.Prelude.{◌≡◌, ◌≤◌, All, None, IfOk};
 ghost use Rattle.fixed_units.specs.Units.{free_steps_of};
-ghost use Rattle.fixed_units.specs.declared.link.TheConstants.{MOST_FREE_STEPS, MOST_LANES, MOST_STEP};
+ghost use Rattle.fixed_units.specs.declared.link.TheConstants.{MOST_FREE_STEPS, MOST_LANES};
+ghost use Rattle.fixed_units.specs.declared.link.TheConstants.{MOST_STEP};
 ghost use Rattle.fixed_units.specs.declared.quantity.TheConstants.{MOST_THOUSANDTHS};
 ghost use Rattle.row_reader.specs.FirstFault.{Tells};
 ghost use Rattle.row_reader.specs.Records.{records};
 ghost use Rattle.net_core.specs.Ids.{place_of};
 ghost use Rattle.net_core.specs.Rows.{AreLinks, IsBetween, IsLinkInRange, link_ids};
 ghost use Rattle.net_core.specs.declared.rows.TheConstants.{MOST_LINKS};
-ghost use Rattle.gmns_tables.specs.Links.{capacity_of, free_speed_of, is_undirected as is_undirected_of, lanes_of, link_of, link_places, link_verdict, steps_told};
+ghost use Rattle.gmns_tables.specs.Links.{capacity_of, free_speed_of};
+ghost use Rattle.gmns_tables.specs.Links.{is_undirected as is_undirected_of, lanes_of, link_of};
+ghost use Rattle.gmns_tables.specs.Links.{link_places, link_verdict, steps_told};
 ghost use Rattle.gmns_tables.specs.Units.{IsUnits};
 
 use crate::links::LinkRows;

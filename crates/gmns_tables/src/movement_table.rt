@@ -9,7 +9,8 @@ ghost use Rattle.net_core.specs.Ids.{place_of_pair};
 ghost use Rattle.net_core.specs.Rows.{AreTurns, IsTurnInRange, IsTurning, turn_pairs};
 ghost use Rattle.net_core.specs.declared.rows.TheConstants.{MOST_RATE, MOST_TURNS};
 ghost use Rattle.gmns_tables.specs.Movements.{begins_at as begins_at_of, ends_at as ends_at_of};
-ghost use Rattle.gmns_tables.specs.Movements.{movement_of, movement_places, movement_verdict, penalty_of};
+ghost use Rattle.gmns_tables.specs.Movements.{movement_of, movement_places, movement_verdict};
+ghost use Rattle.gmns_tables.specs.Movements.{penalty_of};
 ghost use Rattle.gmns_tables.specs.Units.{IsUnits};
 
 use crate::links::LinkRows;
@@ -142,7 +143,8 @@ pub fn read_movements(
 ) -> Result<TurnRows, TableRefusal>
     requires units { IsUnits units.now }
     requires there { 1 ≤ length text.now }
-    ensures rows { Tells (movement_verdict nodes.now links.now units.now (records text.now)) result }
+    ensures rows {
+        Tells (movement_verdict nodes.now links.now units.now (records text.now)) result }
     ensures sound { IfOk result AreTurns }
     ensures turning { IfOk result (All (IsTurning links.now)) }
 {

@@ -1,10 +1,12 @@
 // The network of tables.
-ghost use Rattle.std.specs.Prelude.{◌≡◌, ◌≤◌, All, length, option_map, Ok, Err, IfOk, IfErr, IfSome};
+ghost use Rattle.std.specs.Prelude.{◌≡◌, ◌≤◌, All, length, option_map, Ok, Err, IfOk, IfErr};
+ghost use Rattle.std.specs.Prelude.{IfSome};
 ghost use Rattle.row_reader.specs.FirstFault.{Tells};
 ghost use Rattle.row_reader.specs.Records.{records};
 ghost use Rattle.net_core.specs.Network.{IsNet};
 ghost use Rattle.net_core.specs.Rows.{AreTurns, IsTurning};
-ghost use Rattle.gmns_tables.specs.Net.{TellsNet, listed_turns, listed_verdict, net_of, net_verdict};
+ghost use Rattle.gmns_tables.specs.Net.{TellsNet, listed_turns, listed_verdict, net_of};
+ghost use Rattle.gmns_tables.specs.Net.{net_verdict};
 ghost use Rattle.gmns_tables.specs.Units.{IsUnits};
 
 use crate::link_table::read_links;

@@ -1,5 +1,7 @@
--- The places of a grid of n rows and n columns, both counted from 0, and the nodes that stand there.
-use Rattle.std.specs.Prelude.{ℕ, ◌+◌, ◌-◌, ◌*◌, ◌&&◌, ◌==◌, Bool, List, map, Option, None, Some, if◌then◌else◌}
+-- The places of a grid of n rows and n columns, both counted from 0, and the nodes that stand
+-- there.
+use Rattle.std.specs.Prelude.{ℕ, ◌+◌, ◌-◌, ◌*◌, ◌&&◌, ◌==◌, Bool, List, map, Option, None, Some}
+use Rattle.std.specs.Prelude.{if◌then◌else◌}
 use Rattle.std.specs.List.{flat_map, range_with_len}
 use Rattle.grid_maker.specs.declared.places.Place.{Place}
 

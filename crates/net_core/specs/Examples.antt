@@ -1,12 +1,14 @@
 -- Small worked cases of the definitions.
 use Rattle.std.specs.Prelude.{◌≡◌, ◌^◌, ◌∷◌, ℕ, [], true, false, Option, None, Some, refl}
 use Rattle.net_core.specs.Ids.{place_of, place_of_pair}
-use Rattle.net_core.specs.Network.{free_turn, ins, is_named, outs, turn, turn_at, zone_number, zone_of, zones}
+use Rattle.net_core.specs.Network.{free_turn, ins, is_named, outs, turn, turn_at, zone_number}
+use Rattle.net_core.specs.Network.{zone_of, zones}
 use Rattle.net_core.specs.Rows.{link_in, link_named, node_named}
 use Rattle.net_core.specs.declared.rows.LinkRow.{LinkRow}
 use Rattle.net_core.specs.declared.rows.NetRows.{NetRows}
 use Rattle.net_core.specs.declared.rows.NodeRow.{NodeRow}
-use Rattle.net_core.specs.declared.rows.TheConstants.{MOST_NODES, MOST_LINKS, MOST_TURNS, MOST_PENALTY_STEPS, MOST_RATE}
+use Rattle.net_core.specs.declared.rows.TheConstants.{MOST_NODES, MOST_LINKS, MOST_TURNS}
+use Rattle.net_core.specs.declared.rows.TheConstants.{MOST_PENALTY_STEPS, MOST_RATE}
 use Rattle.net_core.specs.declared.rows.TurnRow.{TurnRow}
 
 -- ---- rows

@@ -14,7 +14,8 @@ pub record IsIndexed (net : Inside) : Type 0 where
   pub ins :
       Grouped net.ins (length net.nodes.items) (end_of net.links.items) (all_links net.links.items)
   pub outs :
-      Grouped net.outs (length net.nodes.items) (start_of net.links.items) (all_links net.links.items)
+      Grouped net.outs (length net.nodes.items) (start_of net.links.items)
+      (all_links net.links.items)
   pub listed :
       Grouped net.listed (length net.nodes.items) (node_of net.links.items) net.turns.items
   pub zones : net.zones ≡ zones net.nodes.items

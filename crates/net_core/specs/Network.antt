@@ -1,5 +1,7 @@
 -- A network as lists in table order. Nodes, links and zones are positions from 0.
-use Rattle.std.specs.Prelude.{ℕ, ◌&&◌, Bool, nat_eq, cond, if◌then◌else◌, List, [], ◌∷◌, ◌++◌, length, Option, None, Some, is_some, slice_get, option_and_then, option_map, find, filter, fold, map, All}
+use Rattle.std.specs.Prelude.{ℕ, ◌&&◌, Bool, nat_eq, cond, if◌then◌else◌, List, [], ◌∷◌, ◌++◌}
+use Rattle.std.specs.Prelude.{length, Option, None, Some, is_some, slice_get, option_and_then}
+use Rattle.std.specs.Prelude.{option_map, find, filter, fold, map, All}
 use Rattle.std.specs.List.{list_any, range_with_len}
 use Rattle.net_core.specs.Ids.{place_of}
 use Rattle.net_core.specs.Rows.{AreNodes, AreLinks, AreTurns, IsBetween, IsTurning, link_in}

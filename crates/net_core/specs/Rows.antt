@@ -1,5 +1,6 @@
 -- The rows of a network's tables.
-use Rattle.std.specs.Prelude.{ℕ, ◌<◌, ◌≤◌, ◌≡◌, List, length, map, Option, None, Some, IfSome, option_map, All, nat_eq, slice_get}
+use Rattle.std.specs.Prelude.{ℕ, ◌<◌, ◌≤◌, ◌≡◌, List, length, map, Option, None, Some, IfSome}
+use Rattle.std.specs.Prelude.{option_map, All, nat_eq, slice_get}
 use Rattle.std.specs.List.{IsDistinct}
 use Rattle.fixed_units.specs.declared.link.TheConstants.{MOST_FREE_STEPS, MOST_STORAGE}
 use Rattle.net_core.specs.Ids.{pair_eq, place_of}
@@ -7,7 +8,8 @@ use Rattle.net_core.specs.declared.rows.LinkNo.{LinkNo}
 use Rattle.net_core.specs.declared.rows.LinkRow.{LinkRow}
 use Rattle.net_core.specs.declared.rows.NodeNo.{NodeNo}
 use Rattle.net_core.specs.declared.rows.NodeRow.{NodeRow}
-use Rattle.net_core.specs.declared.rows.TheConstants.{MOST_NODES, MOST_LINKS, MOST_TURNS, MOST_PENALTY_STEPS, MOST_RATE}
+use Rattle.net_core.specs.declared.rows.TheConstants.{MOST_NODES, MOST_LINKS, MOST_TURNS}
+use Rattle.net_core.specs.declared.rows.TheConstants.{MOST_PENALTY_STEPS, MOST_RATE}
 use Rattle.net_core.specs.declared.rows.TurnRow.{TurnRow}
 
 -- the identifiers of nodes, in the order of the table
@@ -39,7 +41,8 @@ pub record IsLinkInRange (link : LinkRow) : Type 0 where
   pub storage : link.storage ≤ MOST_STORAGE
   pub rate : link.rate ≤ MOST_RATE
 
--- links of a table: with different identifiers, no more than there may be, and with numbers in range
+-- links of a table: with different identifiers, no more than there may be, and with numbers in
+-- range
 pub record AreLinks (links : List LinkRow) : Type 0 where
   pub distinct : IsDistinct nat_eq (link_ids links)
   pub few : length links ≤ MOST_LINKS
@@ -52,7 +55,14 @@ pub record IsBetween (nodes : List NodeRow) (link : LinkRow) : Type 0 where
 
 -- what stands for a link that isn't there
 abbrev pub no_link : LinkRow
-no_link = record { id = 0; from = record { 0 = 0 }; to = record { 0 = 0 }; free = 1; storage = 1; rate = 0 }
+no_link = record {
+  id = 0;
+  from = record { 0 = 0 };
+  to = record { 0 = 0 };
+  free = 1;
+  storage = 1;
+  rate = 0;
+}
 
 abbrev pub or_no_link : Option LinkRow → LinkRow
 or_no_link None = no_link
@@ -71,7 +81,8 @@ pub record IsTurnInRange (turn : TurnRow) : Type 0 where
   pub penalty : turn.penalty ≤ MOST_PENALTY_STEPS
   pub rate : IfSome turn.rate (λ rate. rate ≤ MOST_RATE)
 
--- turns of a table: of different pairs of links, no more than there may be, and with numbers in range
+-- turns of a table: of different pairs of links, no more than there may be, and with numbers in
+-- range
 pub record AreTurns (turns : List TurnRow) : Type 0 where
   pub distinct : IsDistinct pair_eq (turn_pairs turns)
   pub few : length turns ≤ MOST_TURNS

@@ -1,5 +1,6 @@
 // Lists of items by number.
-ghost use Rattle.std.specs.Prelude.{◌≡◌, ◌<◌, ◌++◌, ◌∷◌, [], length, replicate, set, get_or, IfOk, OnOk};
+ghost use Rattle.std.specs.Prelude.{◌≡◌, ◌<◌, ◌++◌, ◌∷◌, [], length, replicate, set, get_or, IfOk};
+ghost use Rattle.std.specs.Prelude.{OnOk};
 
 use std::alloc::{AllocError, Global};
 use std::marker::Model;
@@ -45,7 +46,8 @@ impl<T: Drop> Buckets<T> {
     #[tactic(auto, using(crate::proofs::BucketsFacts::pushed))]
     pub(crate) fn push(&mut self, number: usize, item: T) -> Result<(), AllocError>
         requires { number < length self.old }
-        ensures { OnOk result (self.new ≡ set self.old number (get_or self.old number [] ++ item ∷ [])) }
+        ensures { OnOk result
+            (self.new ≡ set self.old number (get_or self.old number [] ++ item ∷ [])) }
     {
         match self.lists[number].push(item) {
             Ok(()) => Ok(()),

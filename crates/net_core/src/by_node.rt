@@ -23,8 +23,10 @@ pub(crate) fn link_lists(
 ) -> Result<LinkLists, AllocError>
     requires few { length links.now ≤ MOST_LINKS }
     requires between { All (IsBetween nodes.now) links.now }
-    ensures ins { IfOk result (λ lists. Grouped lists.ins (length nodes.now) (end_of links.now) (all_links links.now)) }
-    ensures outs { IfOk result (λ lists. Grouped lists.outs (length nodes.now) (start_of links.now) (all_links links.now)) }
+    ensures ins { IfOk result (λ lists.
+        Grouped lists.ins (length nodes.now) (end_of links.now) (all_links links.now)) }
+    ensures outs { IfOk result (λ lists.
+        Grouped lists.outs (length nodes.now) (start_of links.now) (all_links links.now)) }
 {
     let mut ins = Buckets::new(alloc, nodes.len())?;
     let mut outs = Buckets::new(alloc, nodes.len())?;
@@ -46,7 +48,8 @@ pub(crate) fn listed_turns(
 ) -> Result<Buckets<TurnRow>, AllocError>
     requires between { All (IsBetween nodes.now) links.now }
     requires turning { All (IsTurning links.now) turns.now }
-    ensures { IfOk result (λ lists. Grouped lists (length nodes.now) (node_of links.now) turns.now) }
+    ensures { IfOk result (λ lists.
+        Grouped lists (length nodes.now) (node_of links.now) turns.now) }
 {
     let mut lists = Buckets::new(alloc, nodes.len())?;
     for turn in turns {

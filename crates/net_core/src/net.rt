@@ -1,7 +1,12 @@
 // A road network over the rows of its tables.
-ghost use Rattle.std.specs.Prelude.{◌≡◌, ◌<◌, ◌≤◌, ◌≢◌, ◌↔◌, length, slice_get, None, Some, All, IfOk, IfSome, find};
+ghost use Rattle.std.specs.Prelude.{◌≡◌, ◌<◌, ◌≤◌, ◌≢◌, ◌↔◌, length, slice_get, None, Some, All};
+ghost use Rattle.std.specs.Prelude.{IfOk, IfSome, find};
 ghost use Rattle.net_core.specs.ByNode.{is_from_to};
-ghost use Rattle.net_core.specs.Network.{IsNet, as_links, as_zone, as_turn, link_at, zone_id, zones, ins as ins_at, outs as outs_at, zone_number as zone_numbered, zone_of as zone_at, turn as turn_between, turn_at as turn_found, is_named as is_named_at};
+ghost use Rattle.net_core.specs.Network.{IsNet, as_links, as_zone, as_turn, link_at, zone_id};
+ghost use Rattle.net_core.specs.Network.{zones, ins as ins_at, outs as outs_at};
+ghost use Rattle.net_core.specs.Network.{zone_number as zone_numbered, zone_of as zone_at};
+ghost use Rattle.net_core.specs.Network.{turn as turn_between, turn_at as turn_found};
+ghost use Rattle.net_core.specs.Network.{is_named as is_named_at};
 ghost use Rattle.net_core.specs.Turns.{IsAllowed};
 
 use crate::buckets::Buckets;
@@ -52,8 +57,10 @@ impl Net {
         links: Vec<LinkRow>,
         turns: Vec<TurnRow>,
     ) -> Result<Self, Memory>
-        requires { IsNet (record { nodes = nodes.items; links = links.items; turns = turns.items }) }
-        ensures { IfOk result (λ net. net ≡ record { nodes = nodes.items; links = links.items; turns = turns.items }) }
+        requires {
+            IsNet (record { nodes = nodes.items; links = links.items; turns = turns.items }) }
+        ensures { IfOk result (λ net.
+            net ≡ record { nodes = nodes.items; links = links.items; turns = turns.items }) }
     {
         let lists = link_lists(alloc, &nodes, &links)?;
         let listed = listed_turns(alloc, &nodes, &links, &turns)?;

@@ -1,7 +1,8 @@
 -- Small tables worked out.
 -- A line ends in 10, or in 13 and 10; 34 is a quote, 32 a space, 9 a tab, and 239 187 191 a byte
 -- order mark.
-use Rattle.std.specs.Prelude.{ℕ, ◌≡◌, List, [], ◌∷◌, ◌++◌, length, nat_eq, Result, Ok, Err, None, Some, codes, refl, true, false}
+use Rattle.std.specs.Prelude.{ℕ, ◌≡◌, List, [], ◌∷◌, ◌++◌, length, nat_eq, Result, Ok, Err, None}
+use Rattle.std.specs.Prelude.{Some, codes, refl, true, false}
 use Rattle.std.specs.List.{list_any}
 use Rattle.std.specs.Str.{bytes_eq}
 use Rattle.desk_io.specs.declared.desk.Table.TheVariants as table
@@ -9,7 +10,8 @@ use Rattle.fixed_units.specs.Quantity.{number}
 use Rattle.row_reader.specs.Records.{Record, records, is_good}
 use Rattle.row_reader.specs.Trimmed.{trimmed}
 use Rattle.row_reader.specs.Columns.{column_of, field_in}
-use Rattle.row_reader.specs.Fields.{unless, within, identifier, quantity, quantity_or, optional_quantity, required_column}
+use Rattle.row_reader.specs.Fields.{unless, within, identifier, quantity, quantity_or}
+use Rattle.row_reader.specs.Fields.{optional_quantity, required_column}
 use Rattle.row_reader.specs.FirstFault.{Judge, then_with, verdict}
 use Rattle.row_reader.specs.declared.faults.Code.{Code}
 use Rattle.row_reader.specs.declared.faults.Code.TheVariants as code
@@ -108,8 +110,9 @@ names = verdict table.Node 2 name_place name_of
 
     name_of : ℕ → Judge (List ℕ)
     name_of place before r =
-        then_with (unless (nat_eq (length (field_in r (Some place))) 0) code.E3 column.NodeId) (λ filled.
-        then_with (unless (list_any (bytes_eq (field_in r (Some place))) before) code.E6 column.NodeId) (λ new.
+        then_with (unless (nat_eq (length (field_in r (Some place))) 0) code.E3 column.NodeId)
+        (λ filled. then_with
+        (unless (list_any (bytes_eq (field_in r (Some place))) before) code.E6 column.NodeId) (λ new.
         Ok (field_in r (Some place))))
 
 -- a fault of that table
@@ -153,26 +156,31 @@ two_lines = refl
 
 -- two faults in one line: a record that isn't good comes before one too many, and that before an
 -- empty field
-bad_and_many : names (records (codes "node_id" ++ 10 ∷ codes "a" ++ 10 ∷ codes "b" ++ 10 ∷ codes "c,1"))
+bad_and_many :
+    names (records (codes "node_id" ++ 10 ∷ codes "a" ++ 10 ∷ codes "b" ++ 10 ∷ codes "c,1"))
     ≡ Err (fault 4 code.E2 column.NoColumn)
 unfolding tables_on_literals names fault
 bad_and_many = refl
 
-many_and_empty : names (records (codes "node_id" ++ 10 ∷ codes "a" ++ 10 ∷ codes "b" ++ 10 ∷ 32 ∷ []))
+many_and_empty :
+    names (records (codes "node_id" ++ 10 ∷ codes "a" ++ 10 ∷ codes "b" ++ 10 ∷ 32 ∷ []))
     ≡ Err (fault 4 code.E12 column.NoColumn)
 unfolding tables_on_literals names fault
 many_and_empty = refl
 
 -- a field's checks in their order: empty, then its form, then its range
-required_empty : identifier column.LinkId [] ≡ Err (record { code = code.E3; column = column.LinkId })
+required_empty : identifier column.LinkId []
+    ≡ Err (record { code = code.E3; column = column.LinkId })
 unfolding identifier
 required_empty = refl
 
-required_form : identifier column.LinkId (codes "1e2") ≡ Err (record { code = code.E4; column = column.LinkId })
+required_form : identifier column.LinkId (codes "1e2")
+    ≡ Err (record { code = code.E4; column = column.LinkId })
 unfolding identifier number
 required_form = refl
 
-required_range : identifier column.LinkId (codes "-1") ≡ Err (record { code = code.E5; column = column.LinkId })
+required_range : identifier column.LinkId (codes "-1")
+    ≡ Err (record { code = code.E5; column = column.LinkId })
 unfolding identifier number
 required_range = refl
 
@@ -200,7 +208,8 @@ some_value : optional_quantity column.Capacity (codes "2") ≡ Ok (Some 2000)
 unfolding optional_quantity number
 some_value = refl
 
-bound_low : within column.FreeSpeed 1 10 0 ≡ Err (record { code = code.E5; column = column.FreeSpeed })
+bound_low : within column.FreeSpeed 1 10 0
+    ≡ Err (record { code = code.E5; column = column.FreeSpeed })
 bound_low = refl
 
 bound_high : within column.FreeSpeed 1 10 10 ≡ Ok 10

@@ -1,5 +1,6 @@
 -- The checks of one field, and of one column of the header.
-use Rattle.std.specs.Prelude.{ℕ, ◌==◌, ◌&&◌, nat_le, Bool, List, length, if◌then◌else◌, Result, Ok, Err, Option, None, Some, ⊤}
+use Rattle.std.specs.Prelude.{ℕ, ◌==◌, ◌&&◌, nat_le, Bool, List, length, if◌then◌else◌, Result, Ok}
+use Rattle.std.specs.Prelude.{Err, Option, None, Some, ⊤}
 use Rattle.fixed_units.specs.Quantity.{whole_of, milli_of}
 use Rattle.fixed_units.specs.declared.fault.NumberFault.{NumberFault}
 use Rattle.fixed_units.specs.declared.fault.NumberFault.TheVariants as number_fault

@@ -1,6 +1,7 @@
 -- The first fault of a table: the least line at which a check fails, and there the first check that
 -- fails.
-use Rattle.std.specs.Prelude.{ℕ, ◌+◌, ◌≡◌, List, [], ◌∷◌, ◌++◌, length, Result, Ok, Err, if◌then◌else◌, nat_le, ⊤}
+use Rattle.std.specs.Prelude.{ℕ, ◌+◌, ◌≡◌, List, [], ◌∷◌, ◌++◌, length, Result, Ok, Err}
+use Rattle.std.specs.Prelude.{if◌then◌else◌, nat_le, ⊤}
 use Rattle.desk_io.specs.declared.desk.Table.{Table}
 use Rattle.row_reader.specs.Records.{Record, is_text, is_good}
 use Rattle.row_reader.specs.Rows.{HasBadHeader}
@@ -70,7 +71,8 @@ Tells told (Err (refusal.Fault f)) = told ≡ Err f
 Tells told (Err refusal.Memory) = ⊤
 
 -- the rows in a reader's answer
-abbrev pub rows_in : {A R : Type 0} → (A → List R) → Result A TableRefusal → Result (List R) TableRefusal
+abbrev pub rows_in :
+    {A R : Type 0} → (A → List R) → Result A TableRefusal → Result (List R) TableRefusal
 rows_in rows (Ok answer) = Ok (rows answer)
 rows_in rows (Err refusal) = Err refusal
 

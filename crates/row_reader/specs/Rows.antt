@@ -1,5 +1,6 @@
 -- Rows of a table as a caller sees them.
-use Rattle.std.specs.Prelude.{ℕ, ◌+◌, ◌≡◌, List, [], ◌∷◌, Option, None, Some, true, false, Result, Ok, Err, ⊤}
+use Rattle.std.specs.Prelude.{ℕ, ◌+◌, ◌≡◌, List, [], ◌∷◌, Option, None, Some, true, false, Result}
+use Rattle.std.specs.Prelude.{Ok, Err, ⊤}
 use Rattle.row_reader.specs.Records.{Record, is_text, is_good}
 use Rattle.row_reader.specs.declared.rows.RowFault.{RowFault}
 use Rattle.row_reader.specs.declared.rows.RowFault.TheVariants.{BadRecord, Memory}
@@ -21,7 +22,8 @@ pub record RowsView : Type 0 where
 abbrev pub OpensAs : List Record → RowsView → Type 0
 OpensAs [] rows = rows ≡ record { header = []; line = 1; rest = []; fault = None }
 OpensAs (header ∷ rest) rows =
-    (is_text header ≡ true) × (rows ≡ record { header = header; line = 1; rest = rest; fault = None })
+    (is_text header ≡ true)
+    × (rows ≡ record { header = header; line = 1; rest = rest; fault = None })
 
 -- the header is there and isn't text
 abbrev pub HasBadHeader : List Record → Type 0

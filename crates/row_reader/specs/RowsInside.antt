@@ -1,5 +1,6 @@
 -- What rows keep inside, and how callers see it.
-use Rattle.std.specs.Prelude.{ℕ, ◌+◌, ◌<◌, ◌^◌, ◌≡◌, List, [], length, Option, None, Some, false, IsNone, if◌then◌else◌}
+use Rattle.std.specs.Prelude.{ℕ, ◌+◌, ◌<◌, ◌^◌, ◌≡◌, List, [], length, Option, None, Some, false}
+use Rattle.std.specs.Prelude.{IsNone, if◌then◌else◌}
 use Rattle.csv.specs.Records.{fields_of}
 use Rattle.csv.specs.Reading as reading
 use Rattle.csv.specs.Reading.{default_config, Ready, records_from}

@@ -49,8 +49,8 @@ pub trait Accepted {
     fn is_full(&self) -> bool
         ensures { result ≡ nat_le limit (length (rows self.now)) };
 
-    /// Adds the row of a record, or complains of the record. The header and the rows so far have the
-    /// lines above.
+    /// Adds the row of a record, or complains of the record. The header and the rows so far have
+    /// the lines above.
     fn accept(&mut self, places: Self::Places, row: &Row) -> Result<(), RowRefusal>
         requires room { length (rows self.old) < limit }
         requires line { row.now.line ≡ length (rows self.old) + 2 }

@@ -2,7 +2,8 @@
 // texts call them.
 ghost use Rattle.std.specs.Prelude.{◌≡◌};
 ghost use Rattle.row_reader.specs.Faults.{fault_of};
-ghost use Rattle.row_reader.specs.Names.{code_name as code_name_of, column_name as column_name_of, table_name as table_name_of};
+ghost use Rattle.row_reader.specs.Names.{code_name as code_name_of, column_name as column_name_of};
+ghost use Rattle.row_reader.specs.Names.{table_name as table_name_of};
 ghost use Rattle.row_reader.specs.declared.faults.TableRefusal.TheVariants as refusal;
 
 use desk_io::Table;

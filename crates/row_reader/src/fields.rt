@@ -1,7 +1,13 @@
 // The checks of one field, and of one column of the header.
 ghost use Rattle.std.specs.Prelude.{◌≡◌, ◌≤◌, IfOk, IfSome};
-ghost use Rattle.row_reader.specs.Fields.{complain as complain_of, unless as unless_of, not_a_number as not_a_number_of, numbered as numbered_of, within as within_of};
-ghost use Rattle.row_reader.specs.Fields.{identifier as identifier_of, quantity as quantity_of, quantity_or as quantity_or_of, optional_column as optional_column_of, optional_quantity as optional_quantity_of, required_column as required_column_of};
+ghost use Rattle.row_reader.specs.Fields.{complain as complain_of, unless as unless_of};
+ghost use Rattle.row_reader.specs.Fields.{not_a_number as not_a_number_of, numbered as numbered_of};
+ghost use Rattle.row_reader.specs.Fields.{within as within_of};
+ghost use Rattle.row_reader.specs.Fields.{identifier as identifier_of, quantity as quantity_of};
+ghost use Rattle.row_reader.specs.Fields.{quantity_or as quantity_or_of};
+ghost use Rattle.row_reader.specs.Fields.{optional_column as optional_column_of};
+ghost use Rattle.row_reader.specs.Fields.{optional_quantity as optional_quantity_of};
+ghost use Rattle.row_reader.specs.Fields.{required_column as required_column_of};
 ghost use Rattle.fixed_units.specs.Quantity.{milli_of};
 
 use crate::faults::{Code, Column, Complaint, column_name};

@@ -1,5 +1,6 @@
 // The rows of a table over `csv`.
-ghost use Rattle.std.specs.Prelude.{◌≡◌, ◌<◌, ◌↔◌, ℕ, length, IfOk, IfErr, IfSome, IsNone, IsTrue, option_map};
+ghost use Rattle.std.specs.Prelude.{◌≡◌, ◌<◌, ◌↔◌, ℕ, length, IfOk, IfErr, IfSome, IsNone, IsTrue};
+ghost use Rattle.std.specs.Prelude.{option_map};
 ghost use Rattle.csv.specs.Reading.{error_kind};
 ghost use Rattle.csv.specs.Records.{field_at};
 ghost use Rattle.row_reader.specs.Columns.{column_of, field_in};
@@ -190,7 +191,8 @@ impl<'a> Rows<'a> {
 
     // Whether the header has this name at a place.
     fn has_name(&self, place: usize, name: &str) -> bool
-        ensures { IsTrue result ↔ (option_map trimmed (field_at self.now.header place) ≡ Some name.now) }
+        ensures { IsTrue result ↔
+            (option_map trimmed (field_at self.now.header place) ≡ Some name.now) }
     {
         match self.header.get(place) {
             Some(field) => trim_blanks(field.as_bytes()) == name.as_bytes(),

@@ -1,7 +1,9 @@
 // Tables read past their end, and the rows or the first fault of tables, where memory is ample.
-ghost use Rattle.std.specs.Prelude.{◌≡◌, ◌==◌, List, ℕ, length, nat_eq, Result, Ok, Err, Some, if◌then◌else◌};
+ghost use Rattle.std.specs.Prelude.{◌≡◌, ◌==◌, List, ℕ, length, nat_eq, Result, Ok, Err, Some};
+ghost use Rattle.std.specs.Prelude.{if◌then◌else◌};
 ghost use Rattle.row_reader.specs.Columns.{field_in};
-ghost use Rattle.row_reader.specs.Fields.{complain as complain_of, required_column as required_column_of};
+ghost use Rattle.row_reader.specs.Fields.{complain as complain_of};
+ghost use Rattle.row_reader.specs.Fields.{required_column as required_column_of};
 ghost use Rattle.row_reader.specs.declared.faults.Code.TheVariants as code;
 ghost use Rattle.row_reader.specs.declared.faults.Column.TheVariants as column;
 

@@ -10,7 +10,8 @@ use Rattle.vehicle_release.specs.declared.fault.ReleaseFault.TheVariants.{TooMan
 abbrev pub IsWithin : List DemandCell → Type 0
 IsWithin cells = (row : ℕ) → row < length cells → vehicles_before cells (row + 1) ≤ MOST_TRIPS
 
--- the row of a line is the first with which the vehicles are too many, and there are so many up to and with it
+-- the row of a line is the first with which the vehicles are too many, and there are so many up to
+-- and with it
 pub record IsFirstAbove (cells : List DemandCell) (line total : ℕ) : Type 0 where
   pub row : ℕ
   pub cell : DemandCell

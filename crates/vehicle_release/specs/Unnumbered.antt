@@ -13,7 +13,12 @@ unnumbered cells r = trip_by (slice_get cells r.row) 0 r.departs
 -- the same of vehicle j of the so many that a row has
 abbrev pub trip_at : ℕ → ℕ → DemandCell → ℕ → Trip
 trip_at period vehicles cell j =
-    record { number = 0; origin = cell.origin; destination = cell.destination; departure = departure period vehicles j }
+    record {
+      number = 0;
+      origin = cell.origin;
+      destination = cell.destination;
+      departure = departure period vehicles j;
+    }
 
 -- trips by the steps of a period in which they depart, those of one step as they stand
 unfoldable pub by_departure : ℕ → List Trip → List Trip

@@ -7,8 +7,8 @@ use std::alloc::{AllocError, AllocFailed};
 /// Why a demand table gives no trips.
 #[derive(Clone, Copy, Debug, PartialEq, Eq)]
 pub enum ReleaseFault {
-    /// There are more vehicles than there may be: the line of the first row with which there are, and
-    /// how many there are up to and with that row.
+    /// There are more vehicles than there may be: the line of the first row with which there are,
+    /// and how many there are up to and with that row.
     TooMany { line: u64, total: u64 },
     /// Memory is wanting.
     Memory,

@@ -1,6 +1,7 @@
 //! The vehicles that a demand table releases over a period.
 //!
-//! [`release`] answers exactly the trips of the definition, or the first row with which the vehicles are too many.
+//! [`release`] answers exactly the trips of the definition, or the first row with which the
+//! vehicles are too many.
 #![tactic(auto)]
 
 mod fault;
