@@ -1,1 +1,1 @@
-mod CellFacts
+mod DemandFacts

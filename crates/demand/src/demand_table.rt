@@ -3,10 +3,11 @@ ghost use Rattle.std.specs.Prelude.{◌≡◌, ◌+◌, ◌≤◌, length, Ok, E
 ghost use Rattle.fixed_units.specs.declared.quantity.TheConstants.{MOST_THOUSANDTHS};
 ghost use Rattle.row_reader.specs.FirstFault.{Tells};
 ghost use Rattle.row_reader.specs.Records.{records};
-ghost use Rattle.demand.specs.DemandRows.{AreCells, cell_of, cell_places, demand_verdict};
-ghost use Rattle.demand.specs.declared.cells.TheConstants.{FIRST_LINE, MOST_CELLS};
+ghost use Rattle.demand.specs.DemandRows.{AreDemandCells, demand_cell_of, demand_places};
+ghost use Rattle.demand.specs.DemandRows.{demand_verdict};
+ghost use Rattle.demand.specs.declared.demand_rows.TheConstants.{FIRST_LINE, MOST_DEMAND_CELLS};
 
-use crate::cells::{CellRows, MOST_CELLS};
+use crate::demand_rows::{DemandRows, MOST_DEMAND_CELLS};
 use desk_io::Table;
 use dta_model::DemandCell;
 use row_reader::{
@@ -17,21 +18,21 @@ use std::alloc::Global;
 
 // Where the columns of a demand table are.
 #[derive(Clone, Copy)]
-struct CellPlaces {
+struct DemandPlaces {
     origin: usize,
     destination: usize,
     volume: usize,
 }
 
-impl CellPlaces {
-    #[tactic(auto, unfolding(crate::specs::DemandRows::cell_places))]
+impl DemandPlaces {
+    #[tactic(auto, unfolding(crate::specs::DemandRows::demand_places))]
     fn of(rows: &Rows<'_>) -> Result<Self, Complaint>
-        ensures { result ≡ cell_places rows.now.header }
+        ensures { result ≡ demand_places rows.now.header }
     {
         let origin = required_column(rows, Column::OZoneId)?;
         let destination = required_column(rows, Column::DZoneId)?;
         let volume = required_column(rows, Column::Volume)?;
-        Ok(CellPlaces {
+        Ok(DemandPlaces {
             origin,
             destination,
             volume,
@@ -41,16 +42,16 @@ impl CellPlaces {
 
 // A demand table that is being read.
 #[derive(Drop)]
-struct CellTable {
-    rows: CellRows,
+struct DemandTable {
+    rows: DemandRows,
 }
 
-impl CellTable {
-    // The cell of a record, or the first check that fails.
-    #[tactic(auto, unfolding(crate::specs::DemandRows::cell_of))]
-    fn row(&self, places: CellPlaces, row: &Row) -> Result<DemandCell, Complaint>
+impl DemandTable {
+    // The demand cell of a record, or the first check that fails.
+    #[tactic(auto, unfolding(crate::specs::DemandRows::demand_cell_of))]
+    fn row(&self, places: DemandPlaces, row: &Row) -> Result<DemandCell, Complaint>
         requires below { row.now.line ≡ length self.now.rows + FIRST_LINE }
-        ensures row { result ≡ cell_of places self.now.rows row.now.fields }
+        ensures row { result ≡ demand_cell_of places self.now.rows row.now.fields }
         ensures line { IfOk result (λ cell. cell.line ≡ length self.now.rows + FIRST_LINE) }
         ensures volume { IfOk result (λ cell. cell.volume ≤ MOST_THOUSANDTHS) }
     {
@@ -66,28 +67,28 @@ impl CellTable {
     }
 }
 
-impl Accepted for CellTable {
-    type Places = CellPlaces;
+impl Accepted for DemandTable {
+    type Places = DemandPlaces;
 
     type Item = DemandCell;
 
-    ghost limit = { MOST_CELLS };
+    ghost limit = { MOST_DEMAND_CELLS };
 
-    ghost columns = { cell_places };
+    ghost columns = { demand_places };
 
     ghost rows = { λ t. t.rows };
 
-    ghost judge = { λ _. cell_of };
+    ghost judge = { λ _. demand_cell_of };
 
-    fn find_columns(table: &Rows<'_>) -> Result<CellPlaces, Complaint> {
-        CellPlaces::of(table)
+    fn find_columns(table: &Rows<'_>) -> Result<DemandPlaces, Complaint> {
+        DemandPlaces::of(table)
     }
 
     fn is_full(&self) -> bool {
-        self.rows.as_slice().len() >= MOST_CELLS
+        self.rows.as_slice().len() >= MOST_DEMAND_CELLS
     }
 
-    fn accept(&mut self, places: CellPlaces, row: &Row) -> Result<(), RowRefusal> {
+    fn accept(&mut self, places: DemandPlaces, row: &Row) -> Result<(), RowRefusal> {
         match self.row(places, row) {
             Ok(cell) => match self.rows.push(cell) {
                 Ok(()) => Ok(()),
@@ -99,17 +100,18 @@ impl Accepted for CellTable {
 }
 
 /// Reads a demand table: the columns `o_zone_id` and `d_zone_id`, the identifiers of the zones
-/// where vehicles start and end, and `volume`, the vehicles in the period, of which a cell has
-/// thousandths. A zone may be one that the network doesn't have, and each cell keeps its line. The
-/// columns are this project's own. The refusal is the table's first fault, or want of memory.
+/// where vehicles start and end, and `volume`, the vehicles in the period, of which a demand cell
+/// has thousandths. A zone may be one that the network doesn't have, and each demand cell keeps its
+/// line. The columns are this project's own. The refusal is the table's first fault, or want of
+/// memory.
 pub fn read_demand(alloc: Global, text: &[u8]) -> Result<Vec<DemandCell>, TableRefusal>
     ensures cells { IfOk result (λ cells. demand_verdict (records text.now) ≡ Ok cells.items) }
     ensures refused { IfErr result (λ refusal.
         Tells (demand_verdict (records text.now)) (Err refusal)) }
-    ensures sound { IfOk result (λ cells. AreCells cells.items) }
+    ensures sound { IfOk result (λ cells. AreDemandCells cells.items) }
 {
-    let table = CellTable {
-        rows: CellRows::new(alloc),
+    let table = DemandTable {
+        rows: DemandRows::new(alloc),
     };
     match read_rows(alloc, Table::Demand, text, table) {
         Ok(table) => Ok(table.rows.into_vec()),

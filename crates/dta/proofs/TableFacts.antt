@@ -19,8 +19,8 @@ use Rattle.gmns_tables.specs.Links.{link_of, link_places, link_verdict}
 use Rattle.gmns_tables.specs.Movements.{movement_of, movement_places}
 use Rattle.gmns_tables.specs.Nodes.{node_of, node_places, node_verdict}
 use Rattle.gmns_tables.specs.declared.units.Units.{Units}
-use Rattle.demand.specs.DemandRows.{cell_of, cell_places, demand_verdict}
-use Rattle.demand.specs.declared.cells.TheConstants.{MOST_CELLS}
+use Rattle.demand.specs.DemandRows.{demand_cell_of, demand_places, demand_verdict}
+use Rattle.demand.specs.declared.demand_rows.TheConstants.{MOST_DEMAND_CELLS}
 use Rattle.reports.specs.declared.refusal.TheConstants.{TABLE_LIMIT}
 use Rattle.dta.specs.Outcome.{DeskState}
 use Rattle.dta.specs.Stops.{StopsAt, stop_of}
@@ -86,7 +86,7 @@ turns-told units rows bytes refusal.Memory told = tt
 cells-told : (units : Units) (rows : TableRows) (bytes : List ℕ) (why : TableRefusal) → Tells (demand_verdict (records bytes)) (Err why)
     → IsToldBy units table.Demand rows bytes why
 cells-told units rows bytes (refusal.Fault f) told =
-    (rw (told) refl, verdict-table table.Demand MOST_CELLS cell_places cell_of (records bytes) f told)
+    (rw (told) refl, verdict-table table.Demand MOST_DEMAND_CELLS demand_places demand_cell_of (records bytes) f told)
 cells-told units rows bytes refusal.Memory told = tt
 
 pub nodes-stop : (units : Units) (rows : TableRows) (bytes text : List ℕ) (before after : DeskState) (why : TableRefusal) → IsRead table.Node bytes before.left after.left

@@ -1,7 +1,7 @@
 // The job of a run: what its settings and its tables come to.
 ghost use Rattle.std.specs.Prelude.{◌≡◌, ◌≢◌, ◌≤◌, ◌*◌, length, IfOk, IfErr, OnOk};
 ghost use Rattle.desk_io.specs.Desk.{Left};
-ghost use Rattle.demand.specs.DemandRows.{AreCells};
+ghost use Rattle.demand.specs.DemandRows.{AreDemandCells};
 ghost use Rattle.dta_model.specs.Lent.{plan_of as loading_plan};
 ghost use Rattle.dta_model.specs.Release.{trips_of};
 ghost use Rattle.dta_words.specs.Ranges.{AreSettings};
@@ -69,7 +69,7 @@ fn trips_within(
     settings: &Settings,
 ) -> Result<Vec<Trip>, Stop>
     requires settings { AreSettings settings.now }
-    requires cells { AreCells cells.now }
+    requires cells { AreDemandCells cells.now }
     ensures trips { IfOk result (λ trips. trips.items ≡ trips_of cells.now settings.now.period) }
     ensures sound { IfOk result (λ trips. AreTripsBelow settings.now.horizon trips.items) }
     ensures within { OnOk result (
@@ -96,7 +96,7 @@ fn trips_within(
 fn job_of(alloc: Global, tables: Tables, settings: &Settings) -> Result<Job, Stop>
     requires settings { AreSettings settings.now }
     requires net { IsNet (joined tables.roads.nodes tables.roads.links tables.turns) }
-    requires cells { AreCells tables.cells.items }
+    requires cells { AreDemandCells tables.cells.items }
     ensures makes { IfOk result (λ job. job ≡ job_of_rows settings.now
         (rows_of tables.roads.nodes tables.roads.links
         (listed_turns tables.turns) tables.cells.items)) }

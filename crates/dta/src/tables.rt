@@ -2,7 +2,7 @@
 ghost use Rattle.std.specs.Prelude.{◌≡◌, ◌≤◌, [], All, length, Ok, Err, IfOk, IfErr};
 ghost use Rattle.desk_io.specs.declared.desk.Table.TheVariants as table;
 ghost use Rattle.desk_io.specs.Transfers.{IsRead};
-ghost use Rattle.demand.specs.DemandRows.{AreCells};
+ghost use Rattle.demand.specs.DemandRows.{AreDemandCells};
 ghost use Rattle.gmns_tables.specs.Net.{listed_turns, net_of};
 ghost use Rattle.gmns_tables.specs.declared.units.Units.{Units};
 ghost use Rattle.gmns_tables.specs.Units.{IsUnits};
@@ -178,7 +178,7 @@ fn accept_cells<D: Desk>(alloc: Global, desk: &mut D) -> Result<Vec<DemandCell>,
     ensures cells { (units : Units) (rows : TableRows)
         → IfOk result (λ cells. IsAccepted units table.Demand rows
         (record rows { cells = cells.items }) (D.left desk.old) (D.left desk.new)) }
-    ensures sound { IfOk result (λ cells. AreCells cells.items) }
+    ensures sound { IfOk result (λ cells. AreDemandCells cells.items) }
     ensures stops { let state = state_of D.left D.taken D.read_faults D.put_faults in
         (units : Units) (rows : TableRows)
         → IfErr result (λ s. StopsAt units table.Demand rows s (state desk.old) (state desk.new)) }
@@ -212,7 +212,7 @@ pub(crate) fn accept_all<D: Desk>(
         (rows_of t.roads.nodes t.roads.links (listed_turns t.turns) t.cells.items)
         (D.left desk.old) (D.left desk.new)) }
     ensures net { IfOk result (λ t. IsNet (net_of t.roads.nodes t.roads.links t.turns)) }
-    ensures cells { IfOk result (λ t. AreCells t.cells.items) }
+    ensures cells { IfOk result (λ t. AreDemandCells t.cells.items) }
     ensures stops { let state = state_of D.left D.taken D.read_faults D.put_faults in
         IfErr result (λ s. StopsAmong units.now all_tables no_rows s
         (state desk.old) (state desk.new)) }

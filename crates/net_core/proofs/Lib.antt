@@ -1,4 +1,4 @@
-pub mod BucketsFacts
+pub mod GroupsFacts
 pub mod ByNodeFacts
 pub mod Checked
 pub mod FindFacts

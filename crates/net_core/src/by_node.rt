@@ -4,15 +4,15 @@ ghost use Rattle.net_core.specs.Grouped.{Grouped};
 ghost use Rattle.net_core.specs.ByNode.{all_links, end_of, start_of, node_of};
 ghost use Rattle.net_core.specs.Rows.{IsBetween, IsTurning, link_in};
 
-use crate::buckets::Buckets;
+use crate::groups::Groups;
 use crate::rows::{LinkNo, LinkRow, MOST_LINKS, NodeRow, TurnRow};
 use std::alloc::{AllocError, Global};
 
 /// The links into and out of each node, in the order of their table.
 #[derive(Drop)]
 pub(crate) struct LinkLists {
-    pub(crate) ins: Buckets<LinkNo>,
-    pub(crate) outs: Buckets<LinkNo>,
+    pub(crate) ins: Groups<LinkNo>,
+    pub(crate) outs: Groups<LinkNo>,
 }
 
 /// The links by their nodes.
@@ -28,8 +28,8 @@ pub(crate) fn link_lists(
     ensures outs { IfOk result (λ lists.
         Grouped lists.outs (length nodes.now) (start_of links.now) (all_links links.now)) }
 {
-    let mut ins = Buckets::new(alloc, nodes.len())?;
-    let mut outs = Buckets::new(alloc, nodes.len())?;
+    let mut ins = Groups::new(alloc, nodes.len())?;
+    let mut outs = Groups::new(alloc, nodes.len())?;
     for place in 0..links.len() {
         let link = LinkNo(place as u32);
         let ends = row(links, link);
@@ -45,13 +45,13 @@ pub(crate) fn listed_turns(
     nodes: &[NodeRow],
     links: &[LinkRow],
     turns: &[TurnRow],
-) -> Result<Buckets<TurnRow>, AllocError>
+) -> Result<Groups<TurnRow>, AllocError>
     requires between { All (IsBetween nodes.now) links.now }
     requires turning { All (IsTurning links.now) turns.now }
     ensures { IfOk result (λ lists.
         Grouped lists (length nodes.now) (node_of links.now) turns.now) }
 {
-    let mut lists = Buckets::new(alloc, nodes.len())?;
+    let mut lists = Groups::new(alloc, nodes.len())?;
     for turn in turns {
         lists.push(row(links, turn.a).to.0 as usize, *turn)?;
     }

@@ -7,7 +7,7 @@
 //! number exactly where some node has the zone. The calls that read take no memory.
 #![tactic(auto)]
 
-mod buckets;
+mod groups;
 mod by_node;
 mod ids;
 mod laws;

@@ -9,7 +9,7 @@ ghost use Rattle.net_core.specs.Network.{turn as turn_between, turn_at as turn_f
 ghost use Rattle.net_core.specs.Network.{is_named as is_named_at};
 ghost use Rattle.net_core.specs.Turns.{IsAllowed};
 
-use crate::buckets::Buckets;
+use crate::groups::Groups;
 use crate::by_node::{link_lists, listed_turns, row};
 use crate::ids::Ids;
 use crate::rows::{LinkNo, LinkRow, NodeNo, NodeRow, Turn, TurnRow, ZoneNo};
@@ -32,9 +32,9 @@ pub struct Net {
     nodes: Vec<NodeRow>,
     links: Vec<LinkRow>,
     turns: Vec<TurnRow>,
-    ins: Buckets<LinkNo>,
-    outs: Buckets<LinkNo>,
-    listed: Buckets<TurnRow>,
+    ins: Groups<LinkNo>,
+    outs: Groups<LinkNo>,
+    listed: Groups<TurnRow>,
     zones: Ids,
 }
 

@@ -108,12 +108,14 @@ names = verdict table.Node 2 name_place name_of
     name_place : Record → Result ℕ Complaint
     name_place first = required_column first column.NodeId
 
+    name_in : Record → ℕ → List ℕ
+    name_in r place = field_in r (Some place)
+
     name_of : ℕ → Judge (List ℕ)
     name_of place before r =
-        then_with (unless (nat_eq (length (field_in r (Some place))) 0) code.E3 column.NodeId)
-        (λ filled. then_with
-        (unless (list_any (bytes_eq (field_in r (Some place))) before) code.E6 column.NodeId) (λ new.
-        Ok (field_in r (Some place))))
+        then_with (unless (nat_eq (length (name_in r place)) 0) code.E3 column.NodeId) (λ filled.
+        then_with (unless (list_any (bytes_eq (name_in r place)) before) code.E6 column.NodeId)
+        (λ new. Ok (name_in r place)))
 
 -- a fault of that table
 fault : ℕ → Code → Column → TableFault

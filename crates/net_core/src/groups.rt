@@ -7,11 +7,11 @@ use std::marker::Model;
 
 /// A list of items for each number below a bound.
 #[derive(Drop)]
-pub(crate) struct Buckets<T: Drop> {
+pub(crate) struct Groups<T: Drop> {
     lists: Vec<Vec<T>>,
 }
 
-impl<T: Drop> Model for Buckets<T> {
+impl<T: Drop> Model for Groups<T> {
     ghost use Rattle.std.specs.Prelude.{List, map};
 
     ghost Value = { List (List T) };
@@ -19,10 +19,10 @@ impl<T: Drop> Model for Buckets<T> {
     ghost view = { λ b. map (λ list. list.items) b.lists.items };
 }
 
-impl<T: Drop> Buckets<T> {
+impl<T: Drop> Groups<T> {
     /// So many lists without items.
     pub(crate) fn new(alloc: Global, count: usize) -> Result<Self, AllocError>
-        ensures { IfOk result (λ buckets. buckets ≡ replicate count []) }
+        ensures { IfOk result (λ groups. groups ≡ replicate count []) }
     {
         let mut lists = Vec::new(alloc);
         for _ in 0..count {
@@ -31,7 +31,7 @@ impl<T: Drop> Buckets<T> {
                 Err(_) => return Err(AllocError),
             }
         }
-        Ok(Buckets { lists })
+        Ok(Groups { lists })
     }
 
     /// The list of a number.
@@ -43,7 +43,7 @@ impl<T: Drop> Buckets<T> {
     }
 
     /// Adds an item at the end of the list of a number.
-    #[tactic(auto, using(crate::proofs::BucketsFacts::pushed))]
+    #[tactic(auto, using(crate::proofs::GroupsFacts::pushed))]
     pub(crate) fn push(&mut self, number: usize, item: T) -> Result<(), AllocError>
         requires { number < length self.old }
         ensures { OnOk result

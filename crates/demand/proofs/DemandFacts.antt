@@ -1,4 +1,4 @@
--- Cells with one more.
+-- Demand cells with one more.
 use Rattle.std.proofs.Common.{◌≡◌, ℕ, zero, suc, ◌+◌, ◌<◌, ◌≤◌, List, [], ◌∷◌, ◌++◌}
 use Rattle.std.proofs.Common.{length, length-append, refl, ap, ◌∙◌, arith}
 use Rattle.std.specs.List.{range_with_len}
@@ -6,19 +6,19 @@ use Rattle.std.proofs.lemmas.List.{map-append}
 use Rattle.std.proofs.lemmas.List.Elements.{All-push}
 use Rattle.fixed_units.specs.declared.quantity.TheConstants.{MOST_THOUSANDTHS}
 use Rattle.dta_model.specs.declared.trip.DemandCell.{DemandCell}
-use Rattle.demand.specs.DemandRows.{AreCells}
-use Rattle.demand.specs.declared.cells.TheConstants.{FIRST_LINE, MOST_CELLS}
+use Rattle.demand.specs.DemandRows.{AreDemandCells}
+use Rattle.demand.specs.declared.demand_rows.TheConstants.{FIRST_LINE, MOST_DEMAND_CELLS}
 
 one_number_more : (n a b : ℕ) → a + n ≡ b
     → range_with_len a n ++ b ∷ [] ≡ range_with_len a (suc n)
 one_number_more zero a b e = let same : a ≡ b = omega arith in rw same refl
 one_number_more (suc n) a b e = ap (λ l. a ∷ l) (one_number_more n (a + 1) b (omega arith))
 
--- `now` is the list of the cells as their reader sees it
-pub one_cell_more : (cells now : List DemandCell) (cell : DemandCell) → cells ≡ now
-    → AreCells cells → length now < MOST_CELLS → cell.line ≡ length now + FIRST_LINE
-    → cell.volume ≤ MOST_THOUSANDTHS → AreCells (cells ++ cell ∷ [])
-one_cell_more cells now cell e a room line volume =
+-- `now` is the list of the demand cells as their reader sees it
+pub one_demand_cell_more : (cells now : List DemandCell) (cell : DemandCell) → cells ≡ now
+    → AreDemandCells cells → length now < MOST_DEMAND_CELLS → cell.line ≡ length now + FIRST_LINE
+    → cell.volume ≤ MOST_THOUSANDTHS → AreDemandCells (cells ++ cell ∷ [])
+one_demand_cell_more cells now cell e a room line volume =
     let n : length cells ≡ length now = ap length e in
     let more : length (cells ++ cell ∷ []) ≡ suc (length cells) =
     omega (arith, length-append cells (cell ∷ [])) in
