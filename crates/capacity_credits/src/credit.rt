@@ -4,8 +4,7 @@ ghost use Rattle.capacity_credits.specs.Grants.{StandsAfter};
 ghost use Rattle.dta_model.specs.Allowance.{allowance};
 
 use dta_model::PARTS_OF_A_VEHICLE;
-use fixed_units::MOST_STEP;
-use net_core::MOST_RATE;
+use fixed_units::{MOST_RATE, MOST_STEP};
 use std::marker::Model;
 
 /// The parts of a vehicle that are carried to the next step, fewer than one vehicle has.

@@ -4,8 +4,7 @@ ghost use Rattle.capacity_credits.specs.Meter.{MeterState, capped, closed, grant
 ghost use Rattle.capacity_credits.specs.Meter.{skipped, unused};
 
 use crate::Credit;
-use fixed_units::MOST_STEP;
-use net_core::MOST_RATE;
+use fixed_units::{MOST_RATE, MOST_STEP};
 use std::marker::Model;
 
 /// A rate with its credit, and what is left of the step's allowance.
@@ -17,7 +16,7 @@ pub struct Meter {
 }
 
 impl Model for Meter {
-    ghost use Rattle.net_core.specs.declared.rows.TheConstants.{MOST_RATE};
+    ghost use Rattle.fixed_units.specs.declared.link.TheConstants.{MOST_RATE};
     ghost use Rattle.std.specs.Prelude.{◌≤◌};
     ghost use Rattle.capacity_credits.specs.Meter.{MeterState};
 

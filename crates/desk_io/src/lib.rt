@@ -20,7 +20,7 @@ pub use file_desk::FileDesk;
 pub use mem_desk::MemDesk;
 use std::alloc::AllocError;
 pub use tally_desk::TallyDesk;
-pub use transfers::{ReadRefusal, put_all, read_table};
+pub use transfers::{MOST_TABLE_BYTES, ReadRefusal, put_all, read_table};
 
 /// Want of memory: the error of a call that may allocate and fails in no other way.
 pub type Memory = AllocError;

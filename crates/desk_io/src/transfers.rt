@@ -7,6 +7,9 @@ ghost use Rattle.desk_io.specs.Transfers.{Puts, Reads};
 use crate::{Desk, Failed, Memory, Output, Table};
 use std::alloc::Global;
 
+/// The most bytes of a table that a run reads.
+pub const MOST_TABLE_BYTES: u64 = 268_435_456;
+
 /// The most bytes that one read moves.
 const PIECE: usize = 4096;
 

@@ -14,11 +14,11 @@ use Rattle.net_core.specs.declared.rows.LinkRow.{LinkRow}
 use Rattle.net_core.specs.declared.rows.NodeRow.{NodeRow}
 use Rattle.dta_model.specs.Release.{in_order_of_departure, released, Released, trips_of}
 use Rattle.vehicle_release.specs.Limits.{IsWithin}
-use Rattle.gmns_tables.specs.declared.units.Units.{Units}
+use Rattle.fixed_units.specs.declared.units.Units.{Units}
 use Rattle.grid_maker.specs.Grid.{node_text, link_text, demand_text}
 use Rattle.reports.specs.declared.refusal.Refusal.{Refusal}
 use Rattle.reports.specs.declared.refusal.Refusal.TheVariants as refusal
-use Rattle.reports.specs.declared.refusal.TheConstants.{TABLE_LIMIT}
+use Rattle.desk_io.specs.declared.transfers.TheConstants.{MOST_TABLE_BYTES}
 use Rattle.dta_words.specs.declared.command.Command.{Command}
 use Rattle.dta_words.specs.declared.command.Command.TheVariants as command
 use Rattle.dta_words.specs.declared.command.Settings.{Settings}
@@ -75,8 +75,8 @@ module _ (s : Settings) (before after : DeskState) where
       (subst (λ (t : Table). ReachedAmong s.units (tables_of s.command) t (λ _. IsBegun t) no_rows before.left after.left) (sym same) begun, failed)
   among-in (Refused (refusal.LongTable u)) h =
       let same : u ≡ h.0 = reached-holds s.units h.0 (Ends h.0 (Refused (refusal.LongTable u))) (u ≡ h.0) (tables_of s.command) no_rows before.left after.left (λ r a b k. k.0) h.1 in
-      let long = reached-map s.units h.0 (Ends h.0 (Refused (refusal.LongTable u))) (λ _. IsLong h.0 TABLE_LIMIT) (tables_of s.command) no_rows before.left after.left (λ r a b k. k.1) h.1 in
-      (subst (λ (t : Table). ReachedAmong s.units (tables_of s.command) t (λ _. IsLong t TABLE_LIMIT) no_rows before.left after.left) (sym same) long, tt)
+      let long = reached-map s.units h.0 (Ends h.0 (Refused (refusal.LongTable u))) (λ _. IsLong h.0 MOST_TABLE_BYTES) (tables_of s.command) no_rows before.left after.left (λ r a b k. k.1) h.1 in
+      (subst (λ (t : Table). ReachedAmong s.units (tables_of s.command) t (λ _. IsLong t MOST_TABLE_BYTES) no_rows before.left after.left) (sym same) long, tt)
   among-in (Refused (refusal.Cells links steps)) h =
       absurd (reached-holds s.units h.0 (Ends h.0 (Refused (refusal.Cells links steps))) ⊥ (tables_of s.command) no_rows before.left after.left (λ r a b k. k) h.1)
   among-in (Refused (refusal.Vehicles line total)) h =

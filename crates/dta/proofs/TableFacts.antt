@@ -18,10 +18,10 @@ use Rattle.net_core.specs.declared.rows.TheConstants.{MOST_LINKS, MOST_NODES, MO
 use Rattle.gmns_tables.specs.Links.{link_of, link_places, link_verdict}
 use Rattle.gmns_tables.specs.Movements.{movement_of, movement_places}
 use Rattle.gmns_tables.specs.Nodes.{node_of, node_places, node_verdict}
-use Rattle.gmns_tables.specs.declared.units.Units.{Units}
+use Rattle.fixed_units.specs.declared.units.Units.{Units}
 use Rattle.demand.specs.DemandRows.{demand_cell_of, demand_places, demand_verdict}
 use Rattle.demand.specs.declared.demand_rows.TheConstants.{MOST_DEMAND_CELLS}
-use Rattle.reports.specs.declared.refusal.TheConstants.{TABLE_LIMIT}
+use Rattle.desk_io.specs.declared.transfers.TheConstants.{MOST_TABLE_BYTES}
 use Rattle.dta.specs.Outcome.{DeskState}
 use Rattle.dta.specs.Stops.{StopsAt, stop_of}
 use Rattle.dta.specs.Tables.{TableRows, turns_of, with_table}
@@ -55,7 +55,7 @@ IsToldBy units t rows bytes refusal.Memory = Unit {0}
 
 -- reading stopped at a table by what its reader answered over the text that was read
 stop-at : (units : Units) (t : Table) (rows : TableRows) (bytes : List ℕ) (before after : DeskState) (why : TableRefusal)
-    → IsRead t bytes before.left after.left → length bytes ≤ TABLE_LIMIT → IsToldBy units t rows bytes why
+    → IsRead t bytes before.left after.left → length bytes ≤ MOST_TABLE_BYTES → IsToldBy units t rows bytes why
     → StopsAt units t rows (stop_of why) before after
 stop-at units t rows bytes before after (refusal.Fault f) read short told =
     (told.1, record { bytes = bytes; read = read; short = short; first = told.0; its_own = told.1 })
@@ -90,21 +90,21 @@ cells-told units rows bytes (refusal.Fault f) told =
 cells-told units rows bytes refusal.Memory told = tt
 
 pub nodes-stop : (units : Units) (rows : TableRows) (bytes text : List ℕ) (before after : DeskState) (why : TableRefusal) → IsRead table.Node bytes before.left after.left
-    → length bytes ≤ TABLE_LIMIT → text ≡ bytes → Tells (node_verdict (records text)) (Err why) → StopsAt units table.Node rows (stop_of why) before after
+    → length bytes ≤ MOST_TABLE_BYTES → text ≡ bytes → Tells (node_verdict (records text)) (Err why) → StopsAt units table.Node rows (stop_of why) before after
 nodes-stop units rows bytes text before after why read short same told =
     stop-at units table.Node rows bytes before after why read short (nodes-told units rows bytes why (subst (λ x. Tells (node_verdict (records x)) (Err why)) same told))
 
 pub links-stop : (units : Units) (rows : TableRows) (bytes text : List ℕ) (before after : DeskState) (why : TableRefusal) → IsRead table.Link bytes before.left after.left
-    → length bytes ≤ TABLE_LIMIT → text ≡ bytes → Tells (link_verdict rows.nodes units (records text)) (Err why) → StopsAt units table.Link rows (stop_of why) before after
+    → length bytes ≤ MOST_TABLE_BYTES → text ≡ bytes → Tells (link_verdict rows.nodes units (records text)) (Err why) → StopsAt units table.Link rows (stop_of why) before after
 links-stop units rows bytes text before after why read short same told =
     stop-at units table.Link rows bytes before after why read short (links-told units rows bytes why (subst (λ x. Tells (link_verdict rows.nodes units (records x)) (Err why)) same told))
 
 pub turns-stop : (units : Units) (rows : TableRows) (bytes text : List ℕ) (before after : DeskState) (why : TableRefusal) → IsRead table.Movement bytes before.left after.left
-    → length bytes ≤ TABLE_LIMIT → text ≡ bytes → Tells (turns_of units rows text) (Err why) → StopsAt units table.Movement rows (stop_of why) before after
+    → length bytes ≤ MOST_TABLE_BYTES → text ≡ bytes → Tells (turns_of units rows text) (Err why) → StopsAt units table.Movement rows (stop_of why) before after
 turns-stop units rows bytes text before after why read short same told =
     stop-at units table.Movement rows bytes before after why read short (turns-told units rows bytes why (subst (λ x. Tells (turns_of units rows x) (Err why)) same told))
 
 pub cells-stop : (units : Units) (rows : TableRows) (bytes text : List ℕ) (before after : DeskState) (why : TableRefusal) → IsRead table.Demand bytes before.left after.left
-    → length bytes ≤ TABLE_LIMIT → text ≡ bytes → Tells (demand_verdict (records text)) (Err why) → StopsAt units table.Demand rows (stop_of why) before after
+    → length bytes ≤ MOST_TABLE_BYTES → text ≡ bytes → Tells (demand_verdict (records text)) (Err why) → StopsAt units table.Demand rows (stop_of why) before after
 cells-stop units rows bytes text before after why read short same told =
     stop-at units table.Demand rows bytes before after why read short (cells-told units rows bytes why (subst (λ x. Tells (demand_verdict (records x)) (Err why)) same told))

@@ -12,11 +12,12 @@ use Rattle.row_reader.specs.declared.faults.TableFault.{TableFault}
 use Rattle.dta_model.specs.Release.{vehicles_before}
 use Rattle.dta_model.specs.declared.trip.DemandCell.{DemandCell}
 use Rattle.dta_model.specs.declared.trip.TheConstants.{MOST_TRIPS}
-use Rattle.gmns_tables.specs.declared.units.Units.{Units}
+use Rattle.fixed_units.specs.declared.units.Units.{Units}
 use Rattle.vehicle_release.specs.Limits.{IsFirstAbove, IsWithin}
 use Rattle.reports.specs.declared.refusal.Refusal.{Refusal}
 use Rattle.reports.specs.declared.refusal.Refusal.TheVariants as refusal
-use Rattle.reports.specs.declared.refusal.TheConstants.{CELL_LIMIT, TABLE_LIMIT}
+use Rattle.desk_io.specs.declared.transfers.TheConstants.{MOST_TABLE_BYTES}
+use Rattle.dta_model.specs.declared.loading.TheConstants.{MOST_LINK_STEPS}
 use Rattle.dta_words.specs.Grammar.{settings_of}
 use Rattle.dta_words.specs.declared.command.Command.{Command}
 use Rattle.dta_words.specs.declared.command.Command.TheVariants as command
@@ -110,7 +111,7 @@ on-accepted : (units : Units) (t : Table) (others : List Table) (texts : Table �
     → verdict_on units (t ∷ others) texts rows then ≡ verdict_on units others texts next then
 on-accepted units t others texts rows next before after then h e =
     let same : h.bytes ≡ texts t = whole-told t h.bytes (texts t) before after h.read e in
-    let s : nat_le (length (texts t)) TABLE_LIMIT ≡ true = short-is (length (texts t)) TABLE_LIMIT (rw same at h.short) in
+    let s : nat_le (length (texts t)) MOST_TABLE_BYTES ≡ true = short-is (length (texts t)) MOST_TABLE_BYTES (rw same at h.short) in
     let p : with_table units rows t (texts t) ≡ Ok next = rw same at h.accepted in
     rw (s, p) refl
 
@@ -120,16 +121,16 @@ on-faulty : (units : Units) (fault : TableFault) (t : Table) (others : List Tabl
     → verdict_on units (t ∷ others) texts rows then ≡ Refused (refusal.Table fault)
 on-faulty units fault t others texts rows before after then h e =
     let same : h.bytes ≡ texts t = whole-told t h.bytes (texts t) before after h.read e in
-    let s : nat_le (length (texts t)) TABLE_LIMIT ≡ true = short-is (length (texts t)) TABLE_LIMIT (rw same at h.short) in
+    let s : nat_le (length (texts t)) MOST_TABLE_BYTES ≡ true = short-is (length (texts t)) MOST_TABLE_BYTES (rw same at h.short) in
     let p : with_table units rows t (texts t) ≡ Err fault = rw same at h.first in
     rw (s, p) refl
 
 -- a table that is too long
 on-long : (units : Units) (t : Table) (others : List Table) (texts : Table → List ℕ) (rows : TableRows) (before after : Left) (then : TableRows → Verdict)
-    → IsLong t TABLE_LIMIT before after → left_of t before ≡ Some (texts t)
+    → IsLong t MOST_TABLE_BYTES before after → left_of t before ≡ Some (texts t)
     → verdict_on units (t ∷ others) texts rows then ≡ Refused (refusal.LongTable t)
 on-long units t others texts rows before after then h e =
-    let s : nat_le (length (texts t)) TABLE_LIMIT ≡ false = long-is (length (texts t)) TABLE_LIMIT (long-told t TABLE_LIMIT (texts t) before after h e) in
+    let s : nat_le (length (texts t)) MOST_TABLE_BYTES ≡ false = long-is (length (texts t)) MOST_TABLE_BYTES (long-told t MOST_TABLE_BYTES (texts t) before after h e) in
     rw s refl
 
 -- all tables were accepted
@@ -206,7 +207,7 @@ has-sizes (command.Demo size) s rows n = refl
 
 on-sizes : (s : Settings) (rows : TableRows) → HasRoom s rows → IsWithin rows.cells → verdict_on_sizes s rows ≡ Accepted s (job_of s rows)
 on-sizes s rows room w =
-    let r : nat_le (length rows.links * s.horizon) CELL_LIMIT ≡ true = short-is (length rows.links * s.horizon) CELL_LIMIT room in
+    let r : nat_le (length rows.links * s.horizon) MOST_LINK_STEPS ≡ true = short-is (length rows.links * s.horizon) MOST_LINK_STEPS room in
     let n : first_above rows.cells ≡ None = no-row-above rows.cells w in
     rw (r, n) refl
 
@@ -215,17 +216,17 @@ on-within command.Freeflow s rows w = refl
 on-within command.Assign s rows w = on-sizes s rows w.0 w.1
 on-within (command.Demo size) s rows w = on-sizes s rows w.0 w.1
 
-on-many-cells : (s : Settings) (rows : TableRows) (links steps : ℕ) → links ≡ length rows.links → steps ≡ s.horizon → CELL_LIMIT < links * steps
+on-many-cells : (s : Settings) (rows : TableRows) (links steps : ℕ) → links ≡ length rows.links → steps ≡ s.horizon → MOST_LINK_STEPS < links * steps
     → verdict_on_sizes s rows ≡ Refused (refusal.Cells links steps)
 on-many-cells s rows links steps l t m =
-    let n : CELL_LIMIT < length rows.links * s.horizon = rw (l, t) at m in
-    let r : nat_le (length rows.links * s.horizon) CELL_LIMIT ≡ false = long-is (length rows.links * s.horizon) CELL_LIMIT n in
+    let n : MOST_LINK_STEPS < length rows.links * s.horizon = rw (l, t) at m in
+    let r : nat_le (length rows.links * s.horizon) MOST_LINK_STEPS ≡ false = long-is (length rows.links * s.horizon) MOST_LINK_STEPS n in
     rw (l, t, r) refl
 
 on-many-vehicles : (s : Settings) (rows : TableRows) (line total : ℕ) → HasRoom s rows → IsFirstAbove rows.cells line total
     → verdict_on_sizes s rows ≡ Refused (refusal.Vehicles line total)
 on-many-vehicles s rows line total room h =
-    let r : nat_le (length rows.links * s.horizon) CELL_LIMIT ≡ true = short-is (length rows.links * s.horizon) CELL_LIMIT room in
+    let r : nat_le (length rows.links * s.horizon) MOST_LINK_STEPS ≡ true = short-is (length rows.links * s.horizon) MOST_LINK_STEPS room in
     let f : first_above rows.cells ≡ Some h.row = row-above rows.cells line total h in
     let at : slice_get rows.cells h.row ≡ Some h.cell = h.at in
     let on : h.cell.line ≡ line = h.on in
@@ -284,11 +285,11 @@ verdict-refused s (refusal.Table fault) texts before after i told h =
     (source s.command before) h.rest (verdict_on_rows s.command s) (Refused (refusal.Table fault)) (distinct s.command) told h.part
     (λ others rows left turn e. on-faulty s.units fault fault.table others (texts_of s.command texts) rows left h.rest (verdict_on_rows s.command s) turn e)
 verdict-refused s (refusal.LongTable t) texts before after i told h =
-    on-reached s.units (tables_of s.command) t (λ _. IsLong t TABLE_LIMIT) (texts_of s.command texts) no_rows
+    on-reached s.units (tables_of s.command) t (λ _. IsLong t MOST_TABLE_BYTES) (texts_of s.command texts) no_rows
     (source s.command before) h.rest (verdict_on_rows s.command s) (Refused (refusal.LongTable t)) (distinct s.command) told h.part
     (λ others rows left turn e. on-long s.units t others (texts_of s.command texts) rows left h.rest (verdict_on_rows s.command s) turn e)
 verdict-refused s (refusal.Cells links steps) texts before after i told h =
-    verdict-counted s (λ rows. (links ≡ length rows.links) × (steps ≡ s.horizon) × (CELL_LIMIT < links * steps)) texts
+    verdict-counted s (λ rows. (links ≡ length rows.links) × (steps ≡ s.horizon) × (MOST_LINK_STEPS < links * steps)) texts
     (source s.command before) h.rest (Refused (refusal.Cells links steps)) told h.part.0 h.part.1
     (λ rows p. on-many-cells s rows links steps p.0 p.1 p.2)
 verdict-refused s (refusal.Vehicles line total) texts before after i told h =

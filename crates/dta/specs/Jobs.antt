@@ -14,7 +14,7 @@ use Rattle.dta_model.specs.declared.trip.Trip.{Trip}
 use Rattle.vehicle_release.specs.Limits.{IsWithin}
 use Rattle.gap.specs.Gap.{AreWalks}
 use Rattle.grid_maker.specs.Grid.{node_text, link_text, demand_text}
-use Rattle.reports.specs.declared.refusal.TheConstants.{CELL_LIMIT}
+use Rattle.dta_model.specs.declared.loading.TheConstants.{MOST_LINK_STEPS}
 use Rattle.dta_words.specs.declared.command.Command.{Command}
 use Rattle.dta_words.specs.declared.command.Command.TheVariants as command
 use Rattle.dta_words.specs.declared.command.Settings.{Settings}
@@ -61,7 +61,7 @@ job_of s rows = record { net = net_of rows; trips = trips_of rows.cells s.period
 
 -- the links of a network times the steps of a run are not too many
 abbrev pub HasRoom : Settings → TableRows → Type 0
-HasRoom s rows = length rows.links * s.horizon ≤ CELL_LIMIT
+HasRoom s rows = length rows.links * s.horizon ≤ MOST_LINK_STEPS
 
 -- rows that are within the limits of a run; `freeflow` has none but those of its tables
 abbrev pub AreWithin : Command → Settings → TableRows → Type 0

@@ -12,7 +12,8 @@ use Rattle.vehicle_release.specs.Limits.{IsFirstAbove}
 use Rattle.reports.specs.Texts.{refusal_line}
 use Rattle.reports.specs.declared.refusal.Refusal.{Refusal}
 use Rattle.reports.specs.declared.refusal.Refusal.TheVariants as refusal
-use Rattle.reports.specs.declared.refusal.TheConstants.{CELL_LIMIT, TABLE_LIMIT}
+use Rattle.desk_io.specs.declared.transfers.TheConstants.{MOST_TABLE_BYTES}
+use Rattle.dta_model.specs.declared.loading.TheConstants.{MOST_LINK_STEPS}
 use Rattle.dta_words.specs.Grammar.{settings_of}
 use Rattle.dta_words.specs.declared.command.Command.TheVariants as command
 use Rattle.dta_words.specs.declared.command.Settings.{Settings}
@@ -57,11 +58,11 @@ IsCauseAmong tables s (refusal.Table fault) before after =
 IsCauseAmong tables s (refusal.Read t) before after =
     ReachedAmong s.units tables t (λ _. IsBegun t) no_rows before after
 IsCauseAmong tables s (refusal.LongTable t) before after =
-    Reached s t (λ _. IsLong t TABLE_LIMIT) before after
+    Reached s t (λ _. IsLong t MOST_TABLE_BYTES) before after
 IsCauseAmong tables s (refusal.Cells links steps) before after =
     (s.command ≢ command.Freeflow)
     × AreCounted s (λ rows. (links ≡ length rows.links) × (steps ≡ s.horizon)
-    × (CELL_LIMIT < links * steps))
+    × (MOST_LINK_STEPS < links * steps))
     before after
 IsCauseAmong tables s (refusal.Vehicles line total) before after =
     (s.command ≢ command.Freeflow)

@@ -4,10 +4,11 @@ use Rattle.desk_io.specs.declared.desk.Table.{Table}
 use Rattle.desk_io.specs.Transfers.{IsBegun, IsLong}
 use Rattle.row_reader.specs.declared.faults.TableRefusal.{TableRefusal}
 use Rattle.row_reader.specs.declared.faults.TableRefusal.TheVariants as table_refusal
-use Rattle.gmns_tables.specs.declared.units.Units.{Units}
+use Rattle.fixed_units.specs.declared.units.Units.{Units}
 use Rattle.reports.specs.declared.refusal.Refusal.{Refusal}
 use Rattle.reports.specs.declared.refusal.Refusal.TheVariants as refusal
-use Rattle.reports.specs.declared.refusal.TheConstants.{CELL_LIMIT, TABLE_LIMIT}
+use Rattle.desk_io.specs.declared.transfers.TheConstants.{MOST_TABLE_BYTES}
+use Rattle.dta_model.specs.declared.loading.TheConstants.{MOST_LINK_STEPS}
 use Rattle.dta_words.specs.declared.command.Settings.{Settings}
 use Rattle.dta.specs.declared.stop.Stop.{Stop}
 use Rattle.dta.specs.declared.stop.Stop.TheVariants.{Refused, Memory}
@@ -30,7 +31,7 @@ StopsAt units t rows (Refused (refusal.Table fault)) before after =
 StopsAt units t rows (Refused (refusal.Read u)) before after =
     (u ≡ t) × IsBegun t before.left after.left × ReadsFailed before after
 StopsAt units t rows (Refused (refusal.LongTable u)) before after =
-    (u ≡ t) × IsLong t TABLE_LIMIT before.left after.left
+    (u ≡ t) × IsLong t MOST_TABLE_BYTES before.left after.left
 StopsAt units t rows (Refused (refusal.Cells links steps)) before after = ⊥
 StopsAt units t rows (Refused (refusal.Vehicles line total)) before after = ⊥
 
@@ -45,7 +46,7 @@ StopsAmong units tables rows stop before after =
 abbrev pub StopsJob : Settings → TableRows → Stop → Type 0
 StopsJob s rows Memory = ⊤
 StopsJob s rows (Refused (refusal.Cells links steps)) =
-    (links ≡ length rows.links) × (steps ≡ s.horizon) × (CELL_LIMIT < links * steps)
+    (links ≡ length rows.links) × (steps ≡ s.horizon) × (MOST_LINK_STEPS < links * steps)
 StopsJob s rows (Refused (refusal.Vehicles line total)) =
     HasRoom s rows × IsFirstAbove rows.cells line total
 StopsJob s rows (Refused _) = ⊥

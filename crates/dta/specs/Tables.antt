@@ -14,9 +14,9 @@ use Rattle.dta_model.specs.declared.trip.DemandCell.{DemandCell}
 use Rattle.gmns_tables.specs.Nodes.{node_verdict}
 use Rattle.gmns_tables.specs.Links.{link_verdict}
 use Rattle.gmns_tables.specs.Movements.{movement_verdict}
-use Rattle.gmns_tables.specs.declared.units.Units.{Units}
+use Rattle.fixed_units.specs.declared.units.Units.{Units}
 use Rattle.demand.specs.DemandRows.{demand_verdict}
-use Rattle.reports.specs.declared.refusal.TheConstants.{TABLE_LIMIT}
+use Rattle.desk_io.specs.declared.transfers.TheConstants.{MOST_TABLE_BYTES}
 
 -- the tables of a network's nodes and links, and all tables, in the order in which they are read
 abbrev pub road_tables : List Table
@@ -71,7 +71,7 @@ pub record IsAccepted (units : Units) (t : Table) (rows more : TableRows) (befor
     : Type 0 where
   pub bytes : List ℕ
   pub read : IsRead t bytes before after
-  pub short : length bytes ≤ TABLE_LIMIT
+  pub short : length bytes ≤ MOST_TABLE_BYTES
   pub accepted : with_table units rows t bytes ≡ Ok more
 
 -- a table was read to its end and has this first fault
@@ -79,7 +79,7 @@ pub record IsFaulty (units : Units) (fault : TableFault) (t : Table) (rows : Tab
     (before after : Left) : Type 0 where
   pub bytes : List ℕ
   pub read : IsRead t bytes before after
-  pub short : length bytes ≤ TABLE_LIMIT
+  pub short : length bytes ≤ MOST_TABLE_BYTES
   pub first : with_table units rows t bytes ≡ Err fault
   pub its_own : fault.table ≡ t
 

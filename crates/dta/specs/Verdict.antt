@@ -10,11 +10,12 @@ use Rattle.dta_model.specs.Release.{vehicles_before}
 use Rattle.dta_model.specs.declared.trip.DemandCell.{DemandCell}
 use Rattle.dta_model.specs.declared.trip.TheConstants.{MOST_TRIPS}
 use Rattle.row_reader.specs.declared.faults.TableFault.{TableFault}
-use Rattle.gmns_tables.specs.declared.units.Units.{Units}
+use Rattle.fixed_units.specs.declared.units.Units.{Units}
 use Rattle.grid_maker.specs.Grid.{node_text, link_text, demand_text}
 use Rattle.reports.specs.declared.refusal.Refusal.{Refusal}
 use Rattle.reports.specs.declared.refusal.Refusal.TheVariants as refusal
-use Rattle.reports.specs.declared.refusal.TheConstants.{CELL_LIMIT, TABLE_LIMIT}
+use Rattle.desk_io.specs.declared.transfers.TheConstants.{MOST_TABLE_BYTES}
+use Rattle.dta_model.specs.declared.loading.TheConstants.{MOST_LINK_STEPS}
 use Rattle.dta_words.specs.Grammar.{settings_of}
 use Rattle.dta_words.specs.declared.command.Command.{Command}
 use Rattle.dta_words.specs.declared.command.Command.TheVariants as command
@@ -49,7 +50,7 @@ abbrev pub verdict_on :
     Units → List Table → (Table → List ℕ) → TableRows → (TableRows → Verdict) → Verdict
 verdict_on units [] texts rows next = next rows
 verdict_on units (t ∷ others) texts rows next =
-    if nat_le (length (texts t)) TABLE_LIMIT
+    if nat_le (length (texts t)) MOST_TABLE_BYTES
     then after_table (with_table units rows t (texts t))
     (λ more. verdict_on units others texts more next)
     else Refused (refusal.LongTable t)
@@ -72,7 +73,7 @@ verdict_on_trips s rows (Some row) = Refused (refusal.Vehicles
 -- the sizes of a loading: its links times its steps, and then its vehicles
 abbrev pub verdict_on_sizes : Settings → TableRows → Verdict
 verdict_on_sizes s rows =
-    if nat_le (length rows.links * s.horizon) CELL_LIMIT
+    if nat_le (length rows.links * s.horizon) MOST_LINK_STEPS
     then verdict_on_trips s rows (first_above rows.cells)
     else Refused (refusal.Cells (length rows.links) s.horizon)
 

@@ -8,7 +8,7 @@ ghost use Rattle.dta_words.specs.Ranges.{AreSettings};
 ghost use Rattle.dta_words.specs.declared.command.Command.TheVariants as command;
 ghost use Rattle.gmns_tables.specs.Net.{listed_turns, net_of as joined};
 ghost use Rattle.net_core.specs.Network.{IsNet};
-ghost use Rattle.reports.specs.declared.refusal.TheConstants.{CELL_LIMIT};
+ghost use Rattle.dta_model.specs.declared.loading.TheConstants.{MOST_LINK_STEPS};
 ghost use Rattle.vehicle_release.specs.Limits.{IsWithin};
 ghost use Rattle.dta.specs.Jobs.{AreTripsBelow, HasRoom, IsAcceptedJob, IsJob, IsJobOf};
 ghost use Rattle.dta.specs.Jobs.{job_of as job_of_rows, plan_of};
@@ -73,7 +73,7 @@ fn trips_within(
     ensures trips { IfOk result (λ trips. trips.items ≡ trips_of cells.now settings.now.period) }
     ensures sound { IfOk result (λ trips. AreTripsBelow settings.now.horizon trips.items) }
     ensures within { OnOk result (
-        (links * settings.now.horizon ≤ CELL_LIMIT) × IsWithin cells.now) }
+        (links * settings.now.horizon ≤ MOST_LINK_STEPS) × IsWithin cells.now) }
     ensures stops { (rows : TableRows) → length rows.links ≡ links → rows.cells ≡ cells.now
         → IfErr result (StopsJob settings.now rows) }
 {

@@ -4,12 +4,12 @@ ghost use Rattle.desk_io.specs.declared.desk.Table.TheVariants as table;
 ghost use Rattle.desk_io.specs.Transfers.{IsRead};
 ghost use Rattle.demand.specs.DemandRows.{AreDemandCells};
 ghost use Rattle.gmns_tables.specs.Net.{listed_turns, net_of};
-ghost use Rattle.gmns_tables.specs.declared.units.Units.{Units};
-ghost use Rattle.gmns_tables.specs.Units.{IsUnits};
+ghost use Rattle.fixed_units.specs.declared.units.Units.{Units};
+ghost use Rattle.fixed_units.specs.Units.{IsUnits};
 ghost use Rattle.net_core.specs.Network.{IsNet};
 ghost use Rattle.net_core.specs.Rows.{AreLinks, AreNodes, AreTurns, IsBetween, IsTurning};
 ghost use Rattle.row_reader.specs.FirstFault.{Tells};
-ghost use Rattle.reports.specs.declared.refusal.TheConstants.{TABLE_LIMIT};
+ghost use Rattle.desk_io.specs.declared.transfers.TheConstants.{MOST_TABLE_BYTES};
 ghost use Rattle.dta.specs.Outcome.{state_of};
 ghost use Rattle.dta.specs.Stops.{StopsAmong, StopsAt};
 ghost use Rattle.dta.specs.Tables.{AreAccepted, IsAccepted, TableRows, all_tables, no_rows};
@@ -17,10 +17,11 @@ ghost use Rattle.dta.specs.Tables.{road_rows, road_tables, rows_of, turns_of};
 
 use crate::stop::Stop;
 use demand::read_demand;
-use desk_io::{Desk, ReadRefusal, Table, read_table};
+use desk_io::{Desk, MOST_TABLE_BYTES, ReadRefusal, Table, read_table};
 use dta_model::DemandCell;
-use gmns_tables::{LinkRows, NodeRows, TurnRows, Units, read_links, read_movements, read_nodes};
-use reports::{Refusal, TABLE_LIMIT};
+use fixed_units::Units;
+use gmns_tables::{LinkRows, NodeRows, TurnRows, read_links, read_movements, read_nodes};
+use reports::Refusal;
 use row_reader::TableRefusal;
 use std::alloc::Global;
 
@@ -35,7 +36,7 @@ pub(crate) struct Roads {
 fn bytes_of<D: Desk>(alloc: Global, desk: &mut D, table: Table) -> Result<Vec<u8>, Stop>
     ensures whole { IfOk result (λ bytes.
         IsRead table bytes.items (D.left desk.old) (D.left desk.new)) }
-    ensures short { IfOk result (λ bytes. length bytes.items ≤ TABLE_LIMIT) }
+    ensures short { IfOk result (λ bytes. length bytes.items ≤ MOST_TABLE_BYTES) }
     ensures stops { let state = state_of D.left D.taken D.read_faults D.put_faults in
         (units : Units) (rows : TableRows)
         → IfErr result (λ s. StopsAt units table rows s (state desk.old) (state desk.new)) }
@@ -43,7 +44,7 @@ fn bytes_of<D: Desk>(alloc: Global, desk: &mut D, table: Table) -> Result<Vec<u8
     ensures taken { D.taken desk.new ≡ D.taken desk.old }
     ensures puts { D.put_faults desk.new ≡ D.put_faults desk.old }
 {
-    match read_table(alloc, desk, table, TABLE_LIMIT) {
+    match read_table(alloc, desk, table, MOST_TABLE_BYTES) {
         Ok(bytes) => Ok(bytes),
         Err(ReadRefusal::Failed) => Err(Stop::Refused(Refusal::Read(table))),
         Err(ReadRefusal::TooLong) => Err(Stop::Refused(Refusal::LongTable(table))),

@@ -28,7 +28,7 @@ pub use laws::{
     visits_end_in_order, waiting_lines_stay,
 };
 pub use loaded::{Journey, Loaded};
-pub use loading::{Loading, MOST_HORIZON};
+pub use loading::{Loading, MOST_HORIZON, MOST_LINK_STEPS};
 pub use machine::{Event, Outcome, Stage};
 pub use plan::Plan;
 pub use queue::Queue;

@@ -6,6 +6,9 @@ use net_core::Net;
 /// The longest horizon, in steps.
 pub const MOST_HORIZON: u32 = 86_400;
 
+/// The most of links times steps of the horizon.
+pub const MOST_LINK_STEPS: u64 = 67_108_864;
+
 /// What is loaded, over which network, and by which kind of queue. It lends its parts.
 ///
 /// `delta` is the length of a step in seconds, `horizon` the number of steps. Trips and routes are

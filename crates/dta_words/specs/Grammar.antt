@@ -6,7 +6,7 @@ use Rattle.fixed_units.specs.declared.measure.LengthUnit.{LengthUnit}
 use Rattle.fixed_units.specs.declared.measure.LengthUnit.TheVariants as length_unit
 use Rattle.fixed_units.specs.declared.measure.SpeedUnit.{SpeedUnit}
 use Rattle.fixed_units.specs.declared.measure.SpeedUnit.TheVariants as speed_unit
-use Rattle.gmns_tables.specs.declared.units.Units.{Units}
+use Rattle.fixed_units.specs.declared.units.Units.{Units}
 use Rattle.dta_model.specs.declared.queue.Queue.{Queue}
 use Rattle.dta_model.specs.declared.queue.Queue.TheVariants as queue
 use Rattle.dta_words.specs.Uses.{Text, Use, is_given, number_name, uses_of, value_in}

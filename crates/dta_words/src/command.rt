@@ -1,6 +1,6 @@
 // The settings of a run.
 use dta_model::Queue;
-use gmns_tables::Units;
+use fixed_units::Units;
 
 /// What the program is asked to do.
 #[derive(Clone, Copy, Debug, PartialEq, Eq)]

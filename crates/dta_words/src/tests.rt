@@ -2,8 +2,7 @@
 use crate::{Command, Settings, Words, WordsRefusal, settings};
 use desk_io::Memory;
 use dta_model::Queue;
-use fixed_units::{LengthUnit, SpeedUnit};
-use gmns_tables::Units;
+use fixed_units::{LengthUnit, SpeedUnit, Units};
 use std::alloc::Global;
 
 fn words_of(alloc: Global, texts: &[&str]) -> Result<Words, Memory> {

@@ -15,8 +15,7 @@ use crate::options::{
 };
 use clap::ArgMatches;
 use dta_model::Queue;
-use fixed_units::{LengthUnit, SpeedUnit};
-use gmns_tables::Units;
+use fixed_units::{LengthUnit, SpeedUnit, Units};
 
 /// The number that an option gives, or what stands in its place.
 fn number(found: &ArgMatches, name: &str, bounds: Bounds) -> Option<u32>

@@ -6,7 +6,7 @@ use Rattle.fixed_units.specs.declared.measure.SpeedUnit.TheVariants.{Kmh}
 use Rattle.fixed_units.specs.declared.identifier.TheConstants.{GREATEST_IDENTIFIER}
 use Rattle.fixed_units.specs.declared.quantity.TheConstants.{MOST_BYTES, MOST_THOUSANDTHS}
 use Rattle.fixed_units.specs.declared.link.TheConstants.{MOST_STEP, MOST_FREE_STEPS, MOST_STORAGE}
-use Rattle.fixed_units.specs.declared.link.TheConstants.{MOST_LANES, MOST_JAM}
+use Rattle.fixed_units.specs.declared.link.TheConstants.{MOST_LANES, MOST_JAM, MOST_RATE}
 use Rattle.fixed_units.specs.declared.turn.TheConstants.{MOST_PENALTY, MOST_PENALTY_STEPS}
 use Rattle.fixed_units.specs.Quantity.{number, whole_of, milli_of}
 use Rattle.fixed_units.specs.Spelling.{text_of, plus, minus, power}
@@ -233,6 +233,9 @@ most_lanes = refl
 
 densest_jam : MOST_JAM ≡ 1000
 densest_jam = refl
+
+highest_rate : MOST_RATE ≡ 10 ^ 17
+highest_rate = refl
 
 -- ten hours
 longest_penalty : (MOST_PENALTY ≡ 36000000) × (MOST_PENALTY_STEPS ≡ 36000)

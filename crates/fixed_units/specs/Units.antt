@@ -1,5 +1,6 @@
--- The units of a network, each by its formula over exact whole numbers.
-use Rattle.std.specs.Prelude.{ℕ, ◌*◌, ◌/◌, ◌^◌, min, max, nat_le, if◌then◌else◌, Result, Ok, Err}
+-- The units of a run, and the numbers of a network, each by its formula over exact whole numbers.
+use Rattle.std.specs.Prelude.{ℕ, ◌≤◌, ◌*◌, ◌/◌, ◌^◌, min, max, nat_le, if◌then◌else◌, Result}
+use Rattle.std.specs.Prelude.{Ok, Err}
 use Rattle.std.specs.Int.{div_ceil}
 use Rattle.fixed_units.specs.declared.measure.LengthUnit.{LengthUnit}
 use Rattle.fixed_units.specs.declared.measure.LengthUnit.TheVariants.{Metre, Kilometre, Mile}
@@ -8,7 +9,17 @@ use Rattle.fixed_units.specs.declared.measure.SpeedUnit.TheVariants.{Kmh, Mph}
 use Rattle.fixed_units.specs.declared.measure.Length.{Length}
 use Rattle.fixed_units.specs.declared.measure.Speed.{Speed}
 use Rattle.fixed_units.specs.declared.link.TooSlow.{TooSlow}
-use Rattle.fixed_units.specs.declared.link.TheConstants.{MOST_FREE_STEPS, MOST_STORAGE}
+use Rattle.fixed_units.specs.declared.link.TheConstants.{MOST_FREE_STEPS, MOST_JAM, MOST_STEP}
+use Rattle.fixed_units.specs.declared.link.TheConstants.{MOST_STORAGE}
+use Rattle.fixed_units.specs.declared.units.Units.{Units}
+
+-- units that a run may have: steps of 1 to 60 seconds, and 1 to 1000 vehicles on a kilometre of a
+-- lane in a jam
+pub record IsUnits (units : Units) : Type 0 where
+  pub step : 1 ≤ units.delta
+  pub short : units.delta ≤ MOST_STEP
+  pub sparse : 1 ≤ units.jam
+  pub dense : units.jam ≤ MOST_JAM
 
 -- the micrometres in a thousandth of a unit
 abbrev pub length_factor : LengthUnit → ℕ
@@ -30,16 +41,16 @@ abbrev pub speed_of : ℕ → SpeedUnit → Speed
 speed_of thousandths unit = record { micrometres_per_hour = thousandths * speed_factor unit }
 
 -- the steps of so many seconds that a length takes at a speed, rounded up, and at least one
-abbrev pub free_steps : Length → Speed → ℕ → ℕ
-free_steps length speed delta =
+abbrev pub steps_at_free_speed : Length → Speed → ℕ → ℕ
+steps_at_free_speed length speed delta =
     max 1 (div_ceil (3600 * length.micrometres) (speed.micrometres_per_hour * delta))
 
 -- the free-flow steps of a link, or that it is too slow
 abbrev pub free_steps_of : Length → Speed → ℕ → Result ℕ TooSlow
 free_steps_of length speed delta =
-    if nat_le (free_steps length speed delta) MOST_FREE_STEPS
-    then Ok (free_steps length speed delta)
-    else Err (record { steps = free_steps length speed delta })
+    if nat_le (steps_at_free_speed length speed delta) MOST_FREE_STEPS
+    then Ok (steps_at_free_speed length speed delta)
+    else Err (record { steps = steps_at_free_speed length speed delta })
 
 -- the vehicles that a length stores, from one to MOST_STORAGE: lanes are in thousandths,
 -- and the jam density in vehicles per kilometre and lane

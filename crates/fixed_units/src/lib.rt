@@ -19,16 +19,18 @@ mod measure;
 mod quantity;
 mod sign;
 mod turn;
+mod units;
 mod zone_field;
 
 pub use conversion::{length, speed};
 pub use fault::NumberFault;
 pub use identifier::{GREATEST_IDENTIFIER, whole};
 pub use link::{
-    MOST_FREE_STEPS, MOST_JAM, MOST_LANES, MOST_STEP, MOST_STORAGE, TooSlow, ff_steps, link_rate,
-    storage,
+    MOST_FREE_STEPS, MOST_JAM, MOST_LANES, MOST_RATE, MOST_STEP, MOST_STORAGE, TooSlow, ff_steps,
+    link_rate, storage,
 };
 pub use measure::{Length, LengthUnit, Speed, SpeedUnit};
 pub use quantity::{MOST_BYTES, MOST_THOUSANDTHS, milli, quantities_are_spellings};
 pub use turn::{MOST_PENALTY, MOST_PENALTY_STEPS, penalty_steps, turn_rate};
+pub use units::Units;
 pub use zone_field::zone;

@@ -1,5 +1,5 @@
 // What a link's length, speed, lanes and capacity give it.
-ghost use Rattle.std.specs.Prelude.{◌≡◌, ◌≤◌, ◌^◌, IfOk};
+ghost use Rattle.std.specs.Prelude.{◌≡◌, ◌≤◌, IfOk};
 ghost use Rattle.fixed_units.specs.Units.{free_steps_of, storage_of, link_rate_of};
 
 use crate::measure::{Length, Speed};
@@ -19,6 +19,9 @@ pub const MOST_LANES: u32 = 100_000;
 
 /// The greatest jam density, in vehicles per kilometre and lane.
 pub const MOST_JAM: u32 = 1000;
+
+/// The highest rate of a link or a turn, in millionths of a vehicle per hour.
+pub const MOST_RATE: u64 = 100_000_000_000_000_000;
 
 /// A link that takes more than `MOST_FREE_STEPS` at its free speed.
 #[derive(Clone, Copy, Debug, PartialEq, Eq)]
@@ -67,7 +70,7 @@ pub fn link_rate(capacity: u64, lanes: u32) -> u64
     requires capacity { capacity ≤ MOST_THOUSANDTHS }
     requires lanes { lanes ≤ MOST_LANES }
     ensures value { result ≡ link_rate_of capacity lanes }
-    ensures most { result ≤ 10 ^ 17 }
+    ensures most { result ≤ MOST_RATE }
 {
     capacity * u64::from(lanes)
 }

@@ -1,5 +1,6 @@
 // What a turn's penalty and capacity give it.
-ghost use Rattle.std.specs.Prelude.{◌≡◌, ◌≤◌, ◌^◌};
+ghost use Rattle.std.specs.Prelude.{◌≡◌, ◌≤◌};
+ghost use Rattle.fixed_units.specs.declared.link.TheConstants.{MOST_RATE};
 ghost use Rattle.fixed_units.specs.Units.{penalty_steps_of, turn_rate_of};
 
 use crate::link::MOST_STEP;
@@ -27,7 +28,7 @@ pub fn penalty_steps(thousandths: u64, delta: u32) -> u32
 pub fn turn_rate(capacity: u64) -> u64
     requires { capacity ≤ MOST_THOUSANDTHS }
     ensures value { result ≡ turn_rate_of capacity }
-    ensures most { result ≤ 10 ^ 17 }
+    ensures most { result ≤ MOST_RATE }
 {
     capacity * 1000
 }

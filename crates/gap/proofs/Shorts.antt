@@ -6,7 +6,7 @@ use Rattle.std.proofs.lemmas.Bool.Decides.{nat_tests}
 use Rattle.net_core.specs.Network.{IsNet, turn}
 use Rattle.net_core.specs.declared.rows.LinkNo.{LinkNo}
 use Rattle.net_core.specs.declared.rows.NetRows.{NetRows}
-use Rattle.net_core.specs.declared.rows.TheConstants.{MOST_PENALTY_STEPS}
+use Rattle.fixed_units.specs.declared.turn.TheConstants.{MOST_PENALTY_STEPS}
 use Rattle.net_core.specs.declared.rows.Turn.{Turn}
 use Rattle.dta_model.specs.LinkTimes.{TimeTable, bucket_count, place_in, time_at}
 use Rattle.dta_model.specs.Plans.{link_numbers}

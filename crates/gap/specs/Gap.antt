@@ -5,7 +5,7 @@ use Rattle.std.specs.Prelude.{List, length, Option, None, Some, slice_get, sum_b
 use Rattle.net_core.specs.Network.{numbers_below}
 use Rattle.net_core.specs.declared.rows.LinkNo.{LinkNo}
 use Rattle.net_core.specs.declared.rows.NetRows.{NetRows}
-use Rattle.net_core.specs.declared.rows.TheConstants.{MOST_PENALTY_STEPS}
+use Rattle.fixed_units.specs.declared.turn.TheConstants.{MOST_PENALTY_STEPS}
 use Rattle.dta_model.specs.Least.{IsLeast}
 use Rattle.dta_model.specs.LinkTimes.{TimeTable}
 use Rattle.dta_model.specs.Plans.{link_numbers}

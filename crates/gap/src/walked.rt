@@ -6,7 +6,7 @@ ghost use Rattle.dta_model.specs.TimedWalks.{arrival_after, penalty_steps, walk_
 ghost use Rattle.dta_model.specs.declared.loading.TheConstants.{MOST_HORIZON};
 ghost use Rattle.gap.specs.Gap.{IsShort, most_of_a_link};
 ghost use Rattle.net_core.specs.Network.{IsNet, turn};
-ghost use Rattle.net_core.specs.declared.rows.TheConstants.{MOST_PENALTY_STEPS};
+ghost use Rattle.fixed_units.specs.declared.turn.TheConstants.{MOST_PENALTY_STEPS};
 
 use link_times::LinkTimes;
 use net_core::{LinkNo, Net};

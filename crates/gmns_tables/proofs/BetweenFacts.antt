@@ -17,7 +17,7 @@ use Rattle.net_core.specs.declared.rows.NodeRow.{NodeRow}
 use Rattle.gmns_tables.specs.Links.{capacity_of, free_speed_of, is_undirected, lanes_of, link_of, steps_told}
 use Rattle.gmns_tables.specs.Names.{known_node}
 use Rattle.gmns_tables.specs.declared.link_table.LinkPlaces.{LinkPlaces}
-use Rattle.gmns_tables.specs.declared.units.Units.{Units}
+use Rattle.fixed_units.specs.declared.units.Units.{Units}
 use Rattle.gmns_tables.proofs.ChainFacts.{found-below, if_ok, passes}
 
 -- a field that names a node names one that is there

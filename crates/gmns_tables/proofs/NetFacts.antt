@@ -14,7 +14,7 @@ use Rattle.net_core.specs.declared.rows.TurnRow.{TurnRow}
 use Rattle.gmns_tables.specs.Links.{link_verdict}
 use Rattle.gmns_tables.specs.Net.{TellsNet, listed_verdict, net_verdict}
 use Rattle.gmns_tables.specs.Nodes.{node_verdict}
-use Rattle.gmns_tables.specs.declared.units.Units.{Units}
+use Rattle.fixed_units.specs.declared.units.Units.{Units}
 
 -- no turns at all
 pub no-turns : AreTurns []

@@ -18,7 +18,7 @@ use Rattle.net_core.specs.declared.rows.TurnRow.{TurnRow}
 use Rattle.gmns_tables.specs.Names.{known_link, known_node}
 use Rattle.gmns_tables.specs.Movements.{begins_at, ends_at, penalty_of, movement_of}
 use Rattle.gmns_tables.specs.declared.movement_table.MovementPlaces.{MovementPlaces}
-use Rattle.gmns_tables.specs.declared.units.Units.{Units}
+use Rattle.fixed_units.specs.declared.units.Units.{Units}
 use Rattle.gmns_tables.proofs.ChainFacts.{found-below, if_ok, passes, unless-ok}
 
 -- a field that names a link names one that is there

@@ -22,7 +22,7 @@ use Rattle.gmns_tables.specs.Nodes.{node_verdict}
 use Rattle.gmns_tables.specs.OnLiterals.{networks_on_literals}
 use Rattle.gmns_tables.specs.declared.link_table.TheConstants as link_number
 use Rattle.gmns_tables.specs.declared.movement_table.TheConstants as turn_number
-use Rattle.gmns_tables.specs.declared.units.Units.{Units}
+use Rattle.fixed_units.specs.declared.units.Units.{Units}
 
 -- steps of six seconds, 125 vehicles on a kilometre of a lane, metres and kilometres per hour
 metric : Units

@@ -1,4 +1,3 @@
-pub mod Units
 pub mod Names
 pub mod Nodes
 pub mod Links

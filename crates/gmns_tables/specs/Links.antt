@@ -28,7 +28,7 @@ use Rattle.gmns_tables.specs.Names.{known_node}
 use Rattle.gmns_tables.specs.declared.link_table.LinkPlaces.{LinkPlaces}
 use Rattle.gmns_tables.specs.declared.link_table.TheConstants.{DEFAULT_LANES, DEFAULT_SPEED}
 use Rattle.gmns_tables.specs.declared.link_table.TheConstants.{LEAST_SPEED, DEFAULT_CAPACITY}
-use Rattle.gmns_tables.specs.declared.units.Units.{Units}
+use Rattle.fixed_units.specs.declared.units.Units.{Units}
 
 -- the columns of a link table, or the first required one that is missing
 unfoldable pub link_places : Record → Result LinkPlaces Complaint

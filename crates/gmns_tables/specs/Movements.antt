@@ -23,7 +23,7 @@ use Rattle.net_core.specs.declared.rows.TurnRow.{TurnRow}
 use Rattle.gmns_tables.specs.Names.{known_link, known_node}
 use Rattle.gmns_tables.specs.declared.movement_table.TheConstants.{DEFAULT_PENALTY}
 use Rattle.gmns_tables.specs.declared.movement_table.MovementPlaces.{MovementPlaces}
-use Rattle.gmns_tables.specs.declared.units.Units.{Units}
+use Rattle.fixed_units.specs.declared.units.Units.{Units}
 
 -- the columns of a movement table, or the first required one that is missing
 unfoldable pub movement_places : Record → Result MovementPlaces Complaint

@@ -12,7 +12,7 @@ use Rattle.net_core.specs.declared.rows.TurnRow.{TurnRow}
 use Rattle.gmns_tables.specs.Links.{link_verdict}
 use Rattle.gmns_tables.specs.Movements.{movement_verdict}
 use Rattle.gmns_tables.specs.Nodes.{node_verdict}
-use Rattle.gmns_tables.specs.declared.units.Units.{Units}
+use Rattle.fixed_units.specs.declared.units.Units.{Units}
 
 -- the turns of a movement table that may be missing
 abbrev pub listed_turns : Option (List TurnRow) → List TurnRow

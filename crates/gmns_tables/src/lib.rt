@@ -15,7 +15,6 @@ mod network;
 mod node_table;
 mod nodes;
 mod turns;
-mod units;
 
 pub use link_table::read_links;
 pub use links::LinkRows;
@@ -24,7 +23,7 @@ pub use network::{join_net, read_net};
 pub use node_table::read_nodes;
 pub use nodes::NodeRows;
 pub use turns::TurnRows;
-pub use units::Units;
+pub use fixed_units::Units;
 
 #[cfg(test)]
 mod tests;

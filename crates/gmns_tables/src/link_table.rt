@@ -12,16 +12,15 @@ ghost use Rattle.net_core.specs.declared.rows.TheConstants.{MOST_LINKS};
 ghost use Rattle.gmns_tables.specs.Links.{capacity_of, free_speed_of};
 ghost use Rattle.gmns_tables.specs.Links.{is_undirected as is_undirected_of, lanes_of, link_of};
 ghost use Rattle.gmns_tables.specs.Links.{link_places, link_verdict, steps_told};
-ghost use Rattle.gmns_tables.specs.Units.{IsUnits};
+ghost use Rattle.fixed_units.specs.Units.{IsUnits};
 
 use crate::links::LinkRows;
 use crate::names::known_node;
 use crate::nodes::NodeRows;
-use crate::units::Units;
 use desk_io::Table;
 use fixed_units::{
-    Length, MOST_LANES, MOST_THOUSANDTHS, Speed, SpeedUnit, ff_steps, length, link_rate, speed,
-    storage,
+    Length, MOST_LANES, MOST_THOUSANDTHS, Speed, SpeedUnit, Units, ff_steps, length, link_rate,
+    speed, storage,
 };
 use net_core::{LinkRow, MOST_LINKS};
 use row_reader::{

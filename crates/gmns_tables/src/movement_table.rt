@@ -7,19 +7,19 @@ ghost use Rattle.row_reader.specs.FirstFault.{Tells};
 ghost use Rattle.row_reader.specs.Records.{records};
 ghost use Rattle.net_core.specs.Ids.{place_of_pair};
 ghost use Rattle.net_core.specs.Rows.{AreTurns, IsTurnInRange, IsTurning, turn_pairs};
-ghost use Rattle.net_core.specs.declared.rows.TheConstants.{MOST_RATE, MOST_TURNS};
+ghost use Rattle.fixed_units.specs.declared.link.TheConstants.{MOST_RATE};
+ghost use Rattle.net_core.specs.declared.rows.TheConstants.{MOST_TURNS};
 ghost use Rattle.gmns_tables.specs.Movements.{begins_at as begins_at_of, ends_at as ends_at_of};
 ghost use Rattle.gmns_tables.specs.Movements.{movement_of, movement_places, movement_verdict};
 ghost use Rattle.gmns_tables.specs.Movements.{penalty_of};
-ghost use Rattle.gmns_tables.specs.Units.{IsUnits};
+ghost use Rattle.fixed_units.specs.Units.{IsUnits};
 
 use crate::links::LinkRows;
 use crate::names::{known_link, known_node};
 use crate::nodes::NodeRows;
 use crate::turns::TurnRows;
-use crate::units::Units;
 use desk_io::Table;
-use fixed_units::{MOST_PENALTY, penalty_steps, turn_rate};
+use fixed_units::{MOST_PENALTY, Units, penalty_steps, turn_rate};
 use net_core::{LinkNo, MOST_TURNS, NodeNo, TurnRow};
 use row_reader::{
     Accepted, Code, Column, Complaint, Row, RowRefusal, Rows, TableRefusal, optional_column,

@@ -7,7 +7,7 @@ ghost use Rattle.net_core.specs.Network.{IsNet};
 ghost use Rattle.net_core.specs.Rows.{AreTurns, IsTurning};
 ghost use Rattle.gmns_tables.specs.Net.{TellsNet, listed_turns, listed_verdict, net_of};
 ghost use Rattle.gmns_tables.specs.Net.{net_verdict};
-ghost use Rattle.gmns_tables.specs.Units.{IsUnits};
+ghost use Rattle.fixed_units.specs.Units.{IsUnits};
 
 use crate::link_table::read_links;
 use crate::links::LinkRows;
@@ -15,7 +15,7 @@ use crate::movement_table::read_movements;
 use crate::node_table::read_nodes;
 use crate::nodes::NodeRows;
 use crate::turns::TurnRows;
-use crate::units::Units;
+use fixed_units::Units;
 use net_core::{Memory, Net};
 use row_reader::TableRefusal;
 use std::alloc::Global;

@@ -1,7 +1,7 @@
 // Tables that are read, networks that they make, and first faults, where memory is ample.
-use crate::{Units, join_net, read_links, read_movements, read_net, read_nodes};
+use crate::{join_net, read_links, read_movements, read_net, read_nodes};
 use desk_io::Table;
-use fixed_units::{LengthUnit, SpeedUnit};
+use fixed_units::{LengthUnit, SpeedUnit, Units};
 use net_core::{LinkNo, LinkRow, Net, NodeNo, NodeRow, Turn, TurnRow, ZoneNo};
 use row_reader::{Code, Column, TableFault, TableRefusal};
 use std::alloc::Global;
@@ -126,56 +126,43 @@ fn two_nodes_of_one_zone(rt: HostRuntime) {
     assert_eq!(rt; net.outs(NodeNo(1)), [LinkNo(1), LinkNo(2)].as_slice());
 }
 
+fn fault(table: Table, line: u64, code: Code, column: Column) -> TableFault {
+    TableFault {
+        table,
+        line,
+        code,
+        column,
+    }
+}
+
 #[test]
-fn first_faults(rt: HostRuntime) {
+fn first_faults_of_nodes_and_links(rt: HostRuntime) {
     let wrong = "mvmt_id,node_id,ib_link_id,ob_link_id\n1,2,20,20\n";
-    for (node, link, movement, table, line, code, column) in [
-        ("", LINKS, "", Table::Node, 1, Code::E1, Column::NodeId),
-        (
-            "node_id\n\u{feff}\n",
-            "",
-            "",
-            Table::Node,
-            2,
-            Code::E4,
-            Column::NodeId,
-        ),
-        (NODES, "", wrong, Table::Link, 1, Code::E1, Column::LinkId),
-        (
-            NODES,
-            "link_id,a\n1\n",
-            "",
-            Table::Link,
-            1,
-            Code::E1,
-            Column::FromNodeId,
-        ),
-        (
-            NODES,
-            LINKS,
-            wrong,
-            Table::Movement,
-            2,
-            Code::E9,
-            Column::IbLinkId,
-        ),
-        (
-            NODES,
-            LINKS,
-            "\n",
-            Table::Movement,
-            1,
-            Code::E1,
-            Column::NodeId,
-        ),
+    let no_node = fault(Table::Node, 1, Code::E1, Column::NodeId);
+    let no_number = fault(Table::Node, 2, Code::E4, Column::NodeId);
+    let no_link = fault(Table::Link, 1, Code::E1, Column::LinkId);
+    let no_start = fault(Table::Link, 1, Code::E1, Column::FromNodeId);
+    for (node, link, movement, fault) in [
+        ("", LINKS, "", no_node),
+        ("node_id\n\u{feff}\n", "", "", no_number),
+        (NODES, "", wrong, no_link),
+        (NODES, "link_id,a\n1\n", "", no_start),
     ] {
-        let fault = TableFault {
-            table,
-            line,
-            code,
-            column,
-        };
         let answer = network(rt.alloc(), node, link, movement);
+        assert!(rt;
+            answer.err() == Some(TableRefusal::Fault(fault)),
+            "{fault:?}"
+        );
+    }
+}
+
+#[test]
+fn first_faults_of_movements(rt: HostRuntime) {
+    let wrong = "mvmt_id,node_id,ib_link_id,ob_link_id\n1,2,20,20\n";
+    let wrong_turn = fault(Table::Movement, 2, Code::E9, Column::IbLinkId);
+    let no_node = fault(Table::Movement, 1, Code::E1, Column::NodeId);
+    for (movement, fault) in [(wrong, wrong_turn), ("\n", no_node)] {
+        let answer = network(rt.alloc(), NODES, LINKS, movement);
         assert!(rt;
             answer.err() == Some(TableRefusal::Fault(fault)),
             "{fault:?}"

@@ -1,8 +1,8 @@
 // Whole grids, where memory is ample.
 use crate::{GridFault, MOST_SIDE, grid};
 use demand::read_demand;
-use fixed_units::{LengthUnit, SpeedUnit};
-use gmns_tables::{Units, read_net};
+use fixed_units::{LengthUnit, SpeedUnit, Units};
+use gmns_tables::read_net;
 
 const NODES: &str = "node_id,zone_id\n1,1\n2,2\n3,3\n4,4\n";
 

@@ -11,7 +11,9 @@ use Rattle.net_core.specs.declared.rows.LinkRow.{LinkRow}
 use Rattle.net_core.specs.declared.rows.NetRows.{NetRows}
 use Rattle.net_core.specs.declared.rows.NodeNo.{NodeNo}
 use Rattle.net_core.specs.declared.rows.NodeRow.{NodeRow}
-use Rattle.net_core.specs.declared.rows.TheConstants.{MOST_NODES, MOST_LINKS, MOST_TURNS, MOST_PENALTY_STEPS, MOST_RATE}
+use Rattle.fixed_units.specs.declared.turn.TheConstants.{MOST_PENALTY_STEPS}
+use Rattle.fixed_units.specs.declared.link.TheConstants.{MOST_RATE}
+use Rattle.net_core.specs.declared.rows.TheConstants.{MOST_NODES, MOST_LINKS, MOST_TURNS}
 use Rattle.net_core.specs.declared.rows.TurnRow.{TurnRow}
 use Rattle.net_core.proofs.FindFacts.{two-parts}
 

@@ -8,7 +8,6 @@ use Rattle.net_core.specs.declared.rows.LinkRow.{LinkRow}
 use Rattle.net_core.specs.declared.rows.NetRows.{NetRows}
 use Rattle.net_core.specs.declared.rows.NodeRow.{NodeRow}
 use Rattle.net_core.specs.declared.rows.TheConstants.{MOST_NODES, MOST_LINKS, MOST_TURNS}
-use Rattle.net_core.specs.declared.rows.TheConstants.{MOST_PENALTY_STEPS, MOST_RATE}
 use Rattle.net_core.specs.declared.rows.TurnRow.{TurnRow}
 
 -- ---- rows
@@ -201,9 +200,3 @@ most_nodes_and_links = (refl, refl)
 
 most_turns : MOST_TURNS ≡ 4000000
 most_turns = refl
-
-longest_penalty : MOST_PENALTY_STEPS ≡ 36000
-longest_penalty = refl
-
-highest_rate : MOST_RATE ≡ 10 ^ 17
-highest_rate = refl

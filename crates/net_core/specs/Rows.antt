@@ -9,7 +9,8 @@ use Rattle.net_core.specs.declared.rows.LinkRow.{LinkRow}
 use Rattle.net_core.specs.declared.rows.NodeNo.{NodeNo}
 use Rattle.net_core.specs.declared.rows.NodeRow.{NodeRow}
 use Rattle.net_core.specs.declared.rows.TheConstants.{MOST_NODES, MOST_LINKS, MOST_TURNS}
-use Rattle.net_core.specs.declared.rows.TheConstants.{MOST_PENALTY_STEPS, MOST_RATE}
+use Rattle.fixed_units.specs.declared.turn.TheConstants.{MOST_PENALTY_STEPS}
+use Rattle.fixed_units.specs.declared.link.TheConstants.{MOST_RATE}
 use Rattle.net_core.specs.declared.rows.TurnRow.{TurnRow}
 
 -- the identifiers of nodes, in the order of the table

@@ -19,8 +19,8 @@ pub use ids::{Ids, Pairs};
 pub use laws::{turns_cost_their_rows, zones_differ};
 pub use net::{Memory, Net, shared_by_threads};
 pub use rows::{
-    LinkNo, LinkRow, MOST_LINKS, MOST_NODES, MOST_PENALTY_STEPS, MOST_RATE, MOST_TURNS, NetRows,
-    NodeNo, NodeRow, Turn, TurnRow, ZoneNo,
+    LinkNo, LinkRow, MOST_LINKS, MOST_NODES, MOST_TURNS, NetRows, NodeNo, NodeRow, Turn, TurnRow,
+    ZoneNo,
 };
 
 #[cfg(test)]

@@ -10,12 +10,6 @@ pub const MOST_LINKS: usize = 1_000_000;
 /// The most listed turns of a network.
 pub const MOST_TURNS: usize = 4_000_000;
 
-/// The most penalty steps of a turn.
-pub const MOST_PENALTY_STEPS: u32 = 36_000;
-
-/// The highest rate of a link or a turn, in millionths of a vehicle per hour.
-pub const MOST_RATE: u64 = 100_000_000_000_000_000;
-
 /// The position of a node in its table, from 0.
 #[derive(Clone, Copy, Debug, PartialEq, Eq, Drop)]
 pub struct NodeNo(pub u32);

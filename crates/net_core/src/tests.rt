@@ -1,9 +1,10 @@
 // Small networks, through all calls.
-ghost use Rattle.std.specs.Prelude.{◌≡◌};
+ghost use Rattle.std.specs.Prelude.{◌≡◌, IfOk, length};
 
 use crate::{
     Ids, LinkNo, LinkRow, Net, NodeNo, NodeRow, Pairs, Turn, TurnRow, ZoneNo, shared_by_threads,
 };
+use std::alloc::{AllocError, Global};
 use std::test::Fail;
 
 const FREE: Turn = Turn {
@@ -33,9 +34,10 @@ fn link(id: u64, from: u32, to: u32) -> LinkRow
 }
 
 // A loop that pays, with a turn listed at its node, and a parallel link.
-#[test]
-fn a_loop_that_pays(rt: HostRuntime) -> Result<(), Fail> {
-    let alloc = rt.alloc();
+fn a_loop_that_pays(alloc: Global) -> Result<Net, AllocError>
+    ensures nodes { IfOk result (λ net. length net.nodes ≡ 4) }
+    ensures links { IfOk result (λ net. length net.links ≡ 5) }
+{
     let nodes = vec![in alloc;
         node(1, Some(7)),
         node(2, None),
@@ -56,7 +58,12 @@ fn a_loop_that_pays(rt: HostRuntime) -> Result<(), Fail> {
         rate: Some(300_000_000),
     };
     let turns = vec![in alloc; slow]?;
-    let net = Net::of(alloc, nodes, links, turns)?;
+    Net::of(alloc, nodes, links, turns)
+}
+
+#[test]
+fn nodes_links_and_zones(rt: HostRuntime) -> Result<(), Fail> {
+    let net = a_loop_that_pays(rt.alloc())?;
     shared_by_threads(&net);
     assert_eq!(rt;
         (net.node_count(), net.link_count(), net.zone_count()),
@@ -73,6 +80,12 @@ fn a_loop_that_pays(rt: HostRuntime) -> Result<(), Fail> {
     assert_eq!(rt; net.zone_of(NodeNo(1)), None);
     assert_eq!(rt; net.zone_number(5), Some(ZoneNo(1)));
     assert_eq!(rt; net.zone_number(6), None);
+    Ok(())
+}
+
+#[test]
+fn listed_turns(rt: HostRuntime) -> Result<(), Fail> {
+    let net = a_loop_that_pays(rt.alloc())?;
     let cost = Turn {
         penalty: 2,
         rate: Some(300_000_000),

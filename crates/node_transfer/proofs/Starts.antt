@@ -15,7 +15,7 @@ use Rattle.dta_model.specs.declared.plan.Plan.{Plan}
 use Rattle.node_transfer.specs.Cells.{set_some}
 use Rattle.node_transfer.specs.Contents.{storage_by}
 use Rattle.net_core.specs.Rows.{IsBetween, IsLinkInRange, IsTurnInRange}
-use Rattle.net_core.specs.declared.rows.TheConstants.{MOST_RATE}
+use Rattle.fixed_units.specs.declared.link.TheConstants.{MOST_RATE}
 use Rattle.net_core.specs.declared.rows.Turn.{Turn}
 use Rattle.net_core.specs.declared.rows.TurnRow.{TurnRow}
 use Rattle.dta_model.specs.Plans.{ins, outs, turn}

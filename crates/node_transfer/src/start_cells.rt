@@ -16,8 +16,9 @@ use crate::start::storage_of;
 use crate::turn::{LimitedTurn, LimitedTurns};
 use capacity_credits::Meter;
 use dta_model::Loading;
+use fixed_units::MOST_RATE;
 use link_queues::Line;
-use net_core::{LinkNo, MOST_RATE, Memory, NodeNo};
+use net_core::{LinkNo, Memory, NodeNo};
 use std::alloc::{AllocError, Global};
 
 /// The cell of each node before the first step. The waiting lines are moved into them.

@@ -17,7 +17,8 @@ use Rattle.gap.specs.declared.line.GapLine.{GapLine}
 use Rattle.row_reader.specs.declared.faults.Code.TheVariants as code
 use Rattle.row_reader.specs.declared.faults.Column.TheVariants as column
 use Rattle.reports.specs.declared.refusal.Refusal.TheVariants as refusal
-use Rattle.reports.specs.declared.refusal.TheConstants.{CELL_LIMIT, TABLE_LIMIT}
+use Rattle.desk_io.specs.declared.transfers.TheConstants.{MOST_TABLE_BYTES}
+use Rattle.dta_model.specs.declared.loading.TheConstants.{MOST_LINK_STEPS}
 use Rattle.reports.specs.declared.summary.Summary.{Summary}
 use Rattle.reports.specs.Texts.{agent_header, agent_line, agent_text, bucket_line, count_lines, free_link_line, free_link_time_header, free_link_time_text, free_report_text, gap_header, gap_line, gap_text, last_gap_lines, link_lines, link_time_header, link_time_text, refusal_line, report_text, trip_columns, vehicles, watch_line, way_columns}
 use Rattle.reports.specs.Watch.{AreWatchSteps, multiples, rises_from}
@@ -170,10 +171,10 @@ unfolding refusal_line digits
 many-vehicles = refl
 
 -- the limits: bytes of a table, links times steps, and vehicles
-most-bytes : TABLE_LIMIT ≡ 268435456
+most-bytes : MOST_TABLE_BYTES ≡ 268435456
 most-bytes = refl
 
-most-cells : CELL_LIMIT ≡ 67108864
+most-cells : MOST_LINK_STEPS ≡ 67108864
 most-cells = refl
 
 most-vehicles : MOST_TRIPS ≡ 2000000

@@ -17,7 +17,8 @@ use Rattle.dta_model.specs.declared.trip.Trip.{Trip}
 use Rattle.gap.specs.declared.line.GapLine.{GapLine}
 use Rattle.reports.specs.declared.refusal.Refusal.{Refusal}
 use Rattle.reports.specs.declared.refusal.Refusal.TheVariants as refusal
-use Rattle.reports.specs.declared.refusal.TheConstants.{CELL_LIMIT, TABLE_LIMIT}
+use Rattle.desk_io.specs.declared.transfers.TheConstants.{MOST_TABLE_BYTES}
+use Rattle.dta_model.specs.declared.loading.TheConstants.{MOST_LINK_STEPS}
 use Rattle.reports.specs.declared.status.AgentStatus.{AgentStatus}
 use Rattle.reports.specs.declared.status.AgentStatus.TheVariants as status
 use Rattle.reports.specs.declared.summary.Summary.{Summary}
@@ -218,8 +219,8 @@ refusal_line (refusal.Table fault) =
     ++ code_name fault.code ++ codes " " ++ column_name fault.column ++ codes "\n"
 refusal_line (refusal.Read t) = codes "read fault in " ++ table_name t ++ codes "\n"
 refusal_line (refusal.LongTable t) =
-    codes "size: table " ++ table_name t ++ codes " limit " ++ decimal TABLE_LIMIT ++ codes "\n"
+    codes "size: table " ++ table_name t ++ codes " limit " ++ decimal MOST_TABLE_BYTES ++ codes "\n"
 refusal_line (refusal.Cells links steps) =
-    codes "size: links " ++ decimal links ++ codes " steps " ++ decimal steps ++ codes " limit " ++ decimal CELL_LIMIT ++ codes "\n"
+    codes "size: links " ++ decimal links ++ codes " steps " ++ decimal steps ++ codes " limit " ++ decimal MOST_LINK_STEPS ++ codes "\n"
 refusal_line (refusal.Vehicles line total) =
     codes "size: demand line " ++ decimal line ++ codes " vehicles " ++ decimal total ++ codes " limit " ++ decimal MOST_TRIPS ++ codes "\n"

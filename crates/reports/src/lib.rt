@@ -20,7 +20,7 @@ mod watch;
 pub use agents::put_agents;
 pub use free::put_free;
 pub use gaps::put_gaps;
-pub use refusal::{CELL_LIMIT, Refusal, TABLE_LIMIT, put_refusal};
+pub use refusal::{Refusal, put_refusal};
 pub use summary::{Summary, put_summary};
 pub use times::put_link_times;
 pub use watch::put_watch;

@@ -1,4 +1,4 @@
-// Refusals, and the limits that their lines print.
+// Refusals, and their lines.
 ghost use Rattle.std.specs.Prelude.{◌≡◌, ◌≤◌, ◌+◌, ◌++◌, length, OnOk, OnErr};
 ghost use Rattle.desk_io.specs.declared.desk.Output.TheVariants as output;
 ghost use Rattle.desk_io.specs.State.{state_of};
@@ -7,15 +7,9 @@ ghost use Rattle.reports.specs.declared.pending.TheConstants.{PIECE};
 ghost use Rattle.reports.specs.Texts.{refusal_line};
 
 use crate::pending::Pending;
-use desk_io::{Desk, Failed, Output, Table};
-use dta_model::MOST_TRIPS;
+use desk_io::{Desk, Failed, MOST_TABLE_BYTES, Output, Table};
+use dta_model::{MOST_LINK_STEPS, MOST_TRIPS};
 use row_reader::{TableFault, code_name, column_name, table_name};
-
-/// The most bytes of a table.
-pub const TABLE_LIMIT: u64 = 268_435_456;
-
-/// The most of links times steps of the horizon.
-pub const CELL_LIMIT: u64 = 67_108_864;
 
 /// Why a run does none of its work.
 #[derive(Clone, Copy, Debug, PartialEq, Eq)]
@@ -61,7 +55,7 @@ fn line(refusal: &Refusal) -> Pending
             line.push("size: table ");
             line.push(table_name(table));
             line.push(" limit ");
-            line.push_number(TABLE_LIMIT);
+            line.push_number(MOST_TABLE_BYTES);
             line.push("\n");
         }
         Refusal::Cells { links, steps } => {
@@ -70,7 +64,7 @@ fn line(refusal: &Refusal) -> Pending
             line.push(" steps ");
             line.push_number(u64::from(steps));
             line.push(" limit ");
-            line.push_number(CELL_LIMIT);
+            line.push_number(MOST_LINK_STEPS);
             line.push("\n");
         }
         Refusal::Vehicles { line: at, total } => {

@@ -4,7 +4,7 @@ ghost use Rattle.std.specs.Prelude.{◌↔◌, ◌≤◌, All, IsTrue};
 use crate::{ReleaseFault, release};
 use dta_model::{DemandCell, Trip};
 use fixed_units::MOST_THOUSANDTHS;
-use std::test::Fail;
+use std::alloc::Global;
 
 // A row of a table whose volume is in thousandths.
 fn row(line: u64, origin: u64, destination: u64, volume: u64) -> DemandCell {
@@ -32,40 +32,66 @@ fn are_volumes(cells: &[DemandCell]) -> bool
     cells.iter().all(|cell| cell.volume <= MOST_THOUSANDTHS)
 }
 
+// Whether a table has this answer; its volumes and its period are in range.
+fn answers(
+    alloc: Global,
+    cells: &[DemandCell],
+    period: u32,
+    answer: Result<&[Trip], ReleaseFault>,
+) -> bool
+    requires period { 1 ≤ period }
+    requires volumes { All (λ cell. cell.volume ≤ MOST_THOUSANDTHS) cells.now }
+{
+    match (release(alloc, cells, period), answer) {
+        (Ok(trips), Ok(wanted)) => trips.as_slice() == wanted,
+        (Err(fault), Err(wanted)) => fault == wanted,
+        _ => false,
+    }
+}
+
 #[test]
-fn tables_release_vehicles(rt: HostRuntime) -> Result<(), Fail> {
-    let alloc = rt.alloc();
-    let cases: [(&[DemandCell], u32, Result<&[Trip], ReleaseFault>); 6] = [
+fn tables_release_vehicles(rt: HostRuntime) {
+    let cases: [(&[DemandCell], u32, &[Trip]); 4] = [
         // Three small volumes make one vehicle, of the row with which it is whole.
         (
             &[row(2, 1, 5, 400), row(3, 1, 6, 400), row(4, 1, 7, 400)],
             30,
-            Ok(&[trip(0, 7, 15)]),
+            &[trip(0, 7, 15)],
         ),
         (
             &[row(2, 1, 3, 3000)],
             30,
-            Ok(&[trip(0, 3, 5), trip(1, 3, 15), trip(2, 3, 25)]),
+            &[trip(0, 3, 5), trip(1, 3, 15), trip(2, 3, 25)],
         ),
         // Vehicles of one step stand in the order of their rows.
         (
             &[row(2, 1, 4, 1000), row(3, 1, 3, 3000), row(4, 9, 9, 7000)],
             30,
-            Ok(&[
+            &[
                 trip(0, 3, 5),
                 trip(1, 4, 15),
                 trip(2, 3, 15),
                 trip(3, 3, 25),
-            ]),
+            ],
         ),
-        (&[], 30, Ok(&[])),
+        (&[], 30, &[]),
+    ];
+    for (cells, period, trips) in cases {
+        assert!(rt; period >= 1);
+        assert!(rt; are_volumes(cells));
+        assert!(rt; answers(rt.alloc(), cells, period, Ok(trips)));
+    }
+}
+
+#[test]
+fn too_many_vehicles(rt: HostRuntime) {
+    let cases: [(&[DemandCell], ReleaseFault); 2] = [
         (
             &[row(2, 1, 3, 2_000_001_000)],
-            30,
-            Err(ReleaseFault::TooMany {
+            ReleaseFault::TooMany {
                 line: 2,
                 total: 2_000_001,
-            }),
+            },
         ),
         (
             &[
@@ -74,22 +100,14 @@ fn tables_release_vehicles(rt: HostRuntime) -> Result<(), Fail> {
                 row(5, 1, 4, 1001),
                 row(6, 1, 3, 9000),
             ],
-            30,
-            Err(ReleaseFault::TooMany {
+            ReleaseFault::TooMany {
                 line: 5,
                 total: 2_000_001,
-            }),
+            },
         ),
     ];
-    for (cells, period, answer) in cases {
-        assert!(rt; period >= 1);
+    for (cells, fault) in cases {
         assert!(rt; are_volumes(cells));
-        let same = match (release(alloc, cells, period), answer) {
-            (Ok(trips), Ok(wanted)) => trips.as_slice() == wanted,
-            (Err(fault), Err(wanted)) => fault == wanted,
-            _ => false,
-        };
-        assert!(rt; same);
+        assert!(rt; answers(rt.alloc(), cells, 30, Err(fault)));
     }
-    Ok(())
 }

@@ -7,7 +7,8 @@ use Rattle.std.proofs.lemmas.Bool.{cases_lt}
 use Rattle.std.proofs.lemmas.Bool.Decides.{nat_tests}
 use Rattle.dta_model.specs.LinkTimes.{TimeTable, time_at}
 use Rattle.link_times.specs.TimeTables.{IsTimeTable}
-use Rattle.net_core.specs.declared.rows.TheConstants.{MOST_LINKS, MOST_PENALTY_STEPS}
+use Rattle.fixed_units.specs.declared.turn.TheConstants.{MOST_PENALTY_STEPS}
+use Rattle.net_core.specs.declared.rows.TheConstants.{MOST_LINKS}
 use Rattle.time_routes.specs.Filling.Labels.{most_left, most_span, far, rest_in}
 use Rattle.time_routes.specs.Filling.Rests.{span, over, least_over}
 use Rattle.time_routes.specs.Filling.WideRows.{AreRows}

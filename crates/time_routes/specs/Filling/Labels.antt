@@ -1,7 +1,7 @@
 -- What is left from each state at each step, row by row: the static tail first, then each step
 -- before the row of the next.
 use Rattle.std.specs.Prelude.{ℕ, ◌+◌, ◌-◌, ◌*◌, ◌^◌, Bool, cond, List, slice_index_or}
-use Rattle.net_core.specs.declared.rows.TheConstants.{MOST_PENALTY_STEPS}
+use Rattle.fixed_units.specs.declared.turn.TheConstants.{MOST_PENALTY_STEPS}
 use Rattle.time_routes.specs.Filling.Rests.{least_over}
 use Rattle.time_routes.specs.declared.filling.no_walk.TheConstants.{FAR}
 use Rattle.time_routes.specs.declared.states.onward.Onward.{Onward}

@@ -4,7 +4,7 @@ use Rattle.std.specs.Prelude.{Option, None, Some}
 use Rattle.net_core.specs.Network.{as_links, link_at, outs, turn, zone_of}
 use Rattle.net_core.specs.declared.rows.LinkNo.{LinkNo}
 use Rattle.net_core.specs.declared.rows.NetRows.{NetRows}
-use Rattle.net_core.specs.declared.rows.TheConstants.{MOST_PENALTY_STEPS}
+use Rattle.fixed_units.specs.declared.turn.TheConstants.{MOST_PENALTY_STEPS}
 use Rattle.net_core.specs.declared.rows.Turn.{Turn}
 use Rattle.time_routes.specs.States.Routers.{wait_between}
 use Rattle.time_routes.specs.States.Routers.{ways_of}

@@ -4,7 +4,7 @@ use Rattle.std.specs.Prelude.{slice_index, All, Option, None, Some}
 use Rattle.std.specs.List.{slice_range}
 use Rattle.net_core.specs.Network.{turn}
 use Rattle.net_core.specs.declared.rows.NetRows.{NetRows}
-use Rattle.net_core.specs.declared.rows.TheConstants.{MOST_PENALTY_STEPS}
+use Rattle.fixed_units.specs.declared.turn.TheConstants.{MOST_PENALTY_STEPS}
 use Rattle.net_core.specs.declared.rows.Turn.{Turn}
 use Rattle.dta_model.specs.Walks.{begins_in, ends_in}
 use Rattle.time_routes.specs.Named.{zone_named}

@@ -3,7 +3,7 @@ ghost use Rattle.std.specs.Prelude.{◌≡◌, ℕ, ◌+◌, ◌*◌, ◌<◌, �
 ghost use Rattle.std.specs.Prelude.{slice_index_or, All, sum, cond, false, true, nat_eq, slice_set};
 ghost use Rattle.std.specs.Prelude.{IfOk};
 ghost use Rattle.std.specs.List.{slice_range};
-ghost use Rattle.net_core.specs.declared.rows.TheConstants.{MOST_PENALTY_STEPS};
+ghost use Rattle.fixed_units.specs.declared.turn.TheConstants.{MOST_PENALTY_STEPS};
 ghost use Rattle.time_routes.specs.Filling.Labels.{most_span, far};
 ghost use Rattle.time_routes.specs.Filling.FreeFlow.{still_least, value, AreAbove, AreSettled};
 ghost use Rattle.time_routes.specs.Filling.FreeFlow.{AreShort, known};

@@ -1,6 +1,6 @@
 // The longest that a way on may take.
 ghost use Rattle.std.specs.Prelude.{◌≡◌, ℕ, ◌+◌, ◌<◌, ◌≤◌, ◌^◌, length, All};
-ghost use Rattle.net_core.specs.declared.rows.TheConstants.{MOST_PENALTY_STEPS};
+ghost use Rattle.fixed_units.specs.declared.turn.TheConstants.{MOST_PENALTY_STEPS};
 ghost use Rattle.dta_model.specs.LinkTimes.{time_at};
 ghost use Rattle.link_times.specs.TimeTables.{IsTimeTable};
 

@@ -1,6 +1,6 @@
 // The ways on from where links end.
 ghost use Rattle.std.specs.Prelude.{◌≡◌, ◌<◌, ◌≤◌, length, slice_index, All, nat_eq};
-ghost use Rattle.net_core.specs.declared.rows.TheConstants.{MOST_PENALTY_STEPS};
+ghost use Rattle.fixed_units.specs.declared.turn.TheConstants.{MOST_PENALTY_STEPS};
 ghost use Rattle.time_routes.specs.States.Routers.{AreWays};
 ghost use Rattle.time_routes.specs.States.Routers.{ways_of};
 

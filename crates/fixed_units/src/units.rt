@@ -1,5 +1,5 @@
 // The units of a run.
-use fixed_units::{LengthUnit, SpeedUnit};
+use crate::measure::{LengthUnit, SpeedUnit};
 
 /// The units of a run: the step in seconds (1 to 60), the vehicles on a kilometre of a lane in a
 /// jam (1 to 1000), and the units of length and speed in the link table.
