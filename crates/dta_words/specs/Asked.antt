@@ -28,7 +28,11 @@ asked_rules takes = map asked_option takes.options
 -- the command, with clap's own flags for help and version switched off
 abbrev pub asked_app : Text → Takes → App
 asked_app name takes = record {
-  top = record (new_shape name) { rules = asked_rules takes; disable_help_flag = true; disable_version_flag = true };
+  top = record (new_shape name) {
+    rules = asked_rules takes;
+    disable_help_flag = true;
+    disable_version_flag = true;
+  };
   subs = [];
 }
 

@@ -108,7 +108,8 @@ short_horizon : settings_of (codes "assign" ∷ codes "--horizon" ∷ codes "60"
 unfolding defaults
 short_horizon = refl
 
-in_any_order : settings_of (codes "assign" ∷ codes "--period" ∷ codes "30" ∷ codes "--horizon=60" ∷ [])
+in_any_order :
+    settings_of (codes "assign" ∷ codes "--period" ∷ codes "30" ∷ codes "--horizon=60" ∷ [])
     ≡ Some (record (defaults command.Assign) { horizon = 60; period = 30 })
 unfolding defaults
 in_any_order = refl

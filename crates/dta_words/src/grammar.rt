@@ -53,7 +53,8 @@ fn settings_behind(
 ) -> Result<Settings, WordsRefusal>
     requires { 0 < length words.now }
     ensures ok { IfOk result (λ s.
-        option_and_then (settings_from word) (uses_of (takes_of word) (drop 1 words.now)) ≡ Some s) }
+        option_and_then (settings_from word) (uses_of (takes_of word) (drop 1 words.now))
+        ≡ Some s) }
     ensures ranges { IfOk result AreSettings }
     ensures usage { IfErr result (λ why. why ≡ refusal.Usage
         → option_and_then (settings_from word) (uses_of (takes_of word) (drop 1 words.now))

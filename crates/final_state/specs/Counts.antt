@@ -1,5 +1,6 @@
 -- Vehicles counted at their places.
-use Rattle.std.specs.Prelude.{ℕ, ◌+◌, ◌<◌, Bool, true, false, nat_eq, List, [], ◌∷◌, All, count_by, zero, suc}
+use Rattle.std.specs.Prelude.{ℕ, ◌+◌, ◌<◌, Bool, true, false, nat_eq, List, [], ◌∷◌, All, count_by}
+use Rattle.std.specs.Prelude.{zero, suc}
 use Rattle.net_core.specs.Network.{numbers_below}
 use Rattle.dta_model.specs.declared.eight.Eight.{Eight}
 use Rattle.dta_model.specs.declared.trip.TheConstants.{MOST_TRIPS}

@@ -39,12 +39,14 @@ places (suc (suc (suc zero))) = place.OnLink (number 4)
 places (suc (suc (suc (suc zero)))) = place.OnLink (number 1)
 places (suc (suc (suc (suc (suc v))))) = place.Arrived
 
-six_vehicles : state_of 9 places 6 ≡ record { steps = 9; waiting = 1; running = 3; arrived = 1; first = 0 ∷ 2 ∷ 0 ∷ 0 ∷ [] }
+six_vehicles : state_of 9 places 6
+    ≡ record { steps = 9; waiting = 1; running = 3; arrived = 1; first = 0 ∷ 2 ∷ 0 ∷ 0 ∷ [] }
 unfolding state_of places
 six_vehicles = refl
 
 -- ---- two links of ten steps: all three vehicles arrive
-two_links : eight_after two_links_in_a_line 60 ≡ record { steps = 60; waiting = 0; running = 0; arrived = 3; first = 0 ∷ 0 ∷ 0 ∷ 0 ∷ [] }
+two_links : eight_after two_links_in_a_line 60
+    ≡ record { steps = 60; waiting = 0; running = 0; arrived = 3; first = 0 ∷ 0 ∷ 0 ∷ 0 ∷ [] }
 unfolding loadings_on_literals trip two_links_in_a_line
 two_links = refl
 
@@ -53,7 +55,8 @@ two_links = refl
 unfoldable thirty_steps : Plan
 thirty_steps = record two_links_in_a_line { horizon = 30 }
 
-cut_short : eight_after thirty_steps 30 ≡ record { steps = 30; waiting = 0; running = 2; arrived = 1; first = 1 ∷ 1 ∷ 0 ∷ 0 ∷ [] }
+cut_short : eight_after thirty_steps 30
+    ≡ record { steps = 30; waiting = 0; running = 2; arrived = 1; first = 1 ∷ 1 ∷ 0 ∷ 0 ∷ [] }
 unfolding loadings_on_literals trip two_links_in_a_line thirty_steps
 cut_short = refl
 
@@ -64,6 +67,7 @@ both_links = number 0 ∷ number 1 ∷ []
 unfoldable one_unrouted : Plan
 one_unrouted = record thirty_steps { routes = Some both_links ∷ None ∷ Some both_links ∷ [] }
 
-nowhere : eight_after one_unrouted 30 ≡ record { steps = 30; waiting = 0; running = 1; arrived = 1; first = 1 ∷ 0 ∷ 0 ∷ 0 ∷ [] }
+nowhere : eight_after one_unrouted 30
+    ≡ record { steps = 30; waiting = 0; running = 1; arrived = 1; first = 1 ∷ 0 ∷ 0 ∷ 0 ∷ [] }
 unfolding loadings_on_literals trip two_links_in_a_line thirty_steps one_unrouted
 nowhere = refl

@@ -60,4 +60,4 @@ link_lines-take-more n all i d h =
 pub ruleset pieces = (append_assoc, append-nil)
 
 -- a list that grows in a loop
-pub ruleset counting = (append_assoc, append-nil, places_of_row-more, flat_map-range-more, flat_map-up-to, flat_map-take-more, link_lines-none, link_lines-take-more)
+pub ruleset counts = (append_assoc, append-nil, places_of_row-more, flat_map-range-more, flat_map-up-to, flat_map-take-more, link_lines-none, link_lines-take-more)

@@ -1,5 +1,5 @@
 -- The grid of 2 rows and 2 columns, computed.
-use Rattle.std.specs.Prelude.{◌≡◌, refl, codes, map, [], ◌∷◌, None, Some, length}
+use Rattle.std.specs.Prelude.{◌≡◌, refl, codes, map, [], ◌∷◌, ◌++◌, None, Some, length}
 use Rattle.std.specs.Fmt.{digits}
 use Rattle.grid_maker.specs.declared.maker.TheConstants.{LEAST_SIDE, MOST_SIDE}
 use Rattle.grid_maker.specs.Places.{places, zone_id}

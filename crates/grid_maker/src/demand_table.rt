@@ -38,7 +38,7 @@ fn push_pair(text: &mut Text, side: u32, origin: u64, destination: u64) -> Resul
 }
 
 // Adds the lines of an origin.
-#[tactic(auto, using(crate::proofs::GridFacts::counting))]
+#[tactic(auto, using(crate::proofs::GridFacts::counts))]
 fn push_origin(text: &mut Text, side: u32, origin: u64) -> Result<(), AllocError>
     ensures { OnOk result (text.new ≡ text.old ++ flat_map (demand_line side origin) zones) }
 {
@@ -49,7 +49,7 @@ fn push_origin(text: &mut Text, side: u32, origin: u64) -> Result<(), AllocError
 }
 
 /// The whole table.
-#[tactic(auto, using(crate::proofs::GridFacts::counting), unfolding(crate::specs::Grid::demand_text))]
+#[tactic(auto, using(crate::proofs::GridFacts::counts), unfolding(crate::specs::Grid::demand_text))]
 pub(crate) fn demand_table(alloc: Global, side: u32) -> Result<Text, AllocError>
     ensures { IfOk result (λ text. text ≡ demand_text side) }
 {

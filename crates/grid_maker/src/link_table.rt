@@ -33,7 +33,7 @@ fn push_link(text: &mut Text, side: u32, number: u64, link: GridLink) -> Result<
 }
 
 /// The whole table.
-#[tactic(auto, using(crate::proofs::GridFacts::counting), unfolding(crate::specs::Grid::link_text))]
+#[tactic(auto, using(crate::proofs::GridFacts::counts), unfolding(crate::specs::Grid::link_text))]
 pub(crate) fn link_table(alloc: Global, side: u32) -> Result<Text, AllocError>
     requires { 0 < side }
     ensures { IfOk result (λ text. text ≡ link_text side) }

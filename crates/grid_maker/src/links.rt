@@ -122,7 +122,7 @@ fn push_links(found: &mut Vec<GridLink>, side: u32, place: Place) -> Result<(), 
 }
 
 /// All links, in the order of their numbers.
-#[tactic(auto, using(crate::proofs::GridFacts::counting), unfolding(crate::specs::Links::links))]
+#[tactic(auto, using(crate::proofs::GridFacts::counts), unfolding(crate::specs::Links::links))]
 pub(crate) fn all_links(alloc: Global, side: u32) -> Result<Vec<GridLink>, AllocError>
     requires { 0 < side }
     ensures { IfOk result (λ found. found.items ≡ links side) }

@@ -39,7 +39,7 @@ fn push_node(text: &mut Text, side: u32, place: Place) -> Result<(), AllocError>
 }
 
 /// The whole table.
-#[tactic(auto, using(crate::proofs::GridFacts::counting), unfolding(crate::specs::Grid::node_text))]
+#[tactic(auto, using(crate::proofs::GridFacts::counts), unfolding(crate::specs::Grid::node_text))]
 pub(crate) fn node_table(alloc: Global, side: u32) -> Result<Text, AllocError>
     requires { 0 < side }
     ensures { IfOk result (λ text. text ≡ node_text side) }

@@ -42,7 +42,7 @@ impl Place {
 }
 
 // Adds the places of a row, column by column.
-#[tactic(auto, using(crate::proofs::GridFacts::counting))]
+#[tactic(auto, using(crate::proofs::GridFacts::counts))]
 fn push_row(found: &mut Vec<Place>, side: u32, row: u32) -> Result<(), AllocError>
     ensures { OnOk result (found.new.items ≡ found.old.items ++ places_of_row side row) }
 {
@@ -53,7 +53,7 @@ fn push_row(found: &mut Vec<Place>, side: u32, row: u32) -> Result<(), AllocErro
 }
 
 /// All places, in the order of the nodes' identifiers.
-#[tactic(auto, using(crate::proofs::GridFacts::counting), unfolding(crate::specs::Places::places))]
+#[tactic(auto, using(crate::proofs::GridFacts::counts), unfolding(crate::specs::Places::places))]
 pub(crate) fn all_places(alloc: Global, side: u32) -> Result<Vec<Place>, AllocError>
     ensures { IfOk result (λ found. found.items ≡ places side) }
 {

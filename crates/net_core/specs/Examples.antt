@@ -1,5 +1,5 @@
 -- Small worked cases of the definitions.
-use Rattle.std.specs.Prelude.{◌≡◌, ◌^◌, ◌∷◌, ℕ, [], true, false, Option, None, Some, refl}
+use Rattle.std.specs.Prelude.{◌≡◌, ◌∷◌, ℕ, [], true, false, Option, None, Some, refl}
 use Rattle.net_core.specs.Ids.{place_of, place_of_pair}
 use Rattle.net_core.specs.Network.{free_turn, ins, is_named, outs, turn, turn_at, zone_number}
 use Rattle.net_core.specs.Network.{zone_of, zones}

@@ -82,6 +82,3 @@ pub ruleset rooms = (added-none, added-all, part-longer)
 
 -- making room, and pushing a text after it
 pub ruleset pieces = (added-pushed, part-of-room)
-
--- the length of a text that is pushed
-pub ruleset lengths = (append_assoc, length-append)

@@ -1,6 +1,7 @@
--- Worked cases of the definitions, computed: vehicles of all four statuses, a table of link times cut short by its horizon, gaps, the report, a
--- watch line and the refusals.
-use Rattle.std.specs.Prelude.{◌≡◌, refl, codes, map, true, false, [], ◌∷◌, List, Option, None, Some}
+-- Worked cases of the definitions, computed: vehicles of all four statuses, a table of link times
+-- cut short by its horizon, gaps, the report, a watch line and the refusals.
+use Rattle.std.specs.Prelude.{◌≡◌, refl, codes, map, true, false, [], ◌∷◌, ◌++◌, List, Option}
+use Rattle.std.specs.Prelude.{None, Some}
 use Rattle.std.specs.Fmt.{digits}
 use Rattle.desk_io.specs.declared.desk.Table.TheVariants as table
 use Rattle.net_core.specs.Rows.{link_in}
@@ -20,23 +21,45 @@ use Rattle.reports.specs.declared.refusal.Refusal.TheVariants as refusal
 use Rattle.desk_io.specs.declared.transfers.TheConstants.{MOST_TABLE_BYTES}
 use Rattle.dta_model.specs.declared.loading.TheConstants.{MOST_LINK_STEPS}
 use Rattle.reports.specs.declared.summary.Summary.{Summary}
-use Rattle.reports.specs.Texts.{agent_header, agent_line, agent_text, bucket_line, count_lines, free_link_line, free_link_time_header, free_link_time_text, free_report_text, gap_header, gap_line, gap_text, last_gap_lines, link_lines, link_time_header, link_time_text, refusal_line, report_text, trip_columns, vehicles, watch_line, way_columns}
+use Rattle.reports.specs.Texts.{agent_header, agent_line, agent_text, bucket_line, count_lines}
+use Rattle.reports.specs.Texts.{free_link_line, free_link_time_header, free_link_time_text}
+use Rattle.reports.specs.Texts.{free_report_text, gap_header, gap_line, gap_text, last_gap_lines}
+use Rattle.reports.specs.Texts.{link_lines, link_time_header, link_time_text, refusal_line}
+use Rattle.reports.specs.Texts.{report_text, trip_columns, vehicles, watch_line, way_columns}
 use Rattle.reports.specs.Watch.{AreWatchSteps, multiples, rises_from}
 
 -- the links of 1000 m, one lane, 60 km/h and 600 vehicles per hour: ten steps, room for 125
 -- vehicles
 abbrev two_links : List LinkRow
 two_links =
-    record { id = 10; from = record { 0 = 0 }; to = record { 0 = 1 }; free = 10; storage = 125; rate = 600000000 }
-    ∷ record { id = 20; from = record { 0 = 1 }; to = record { 0 = 2 }; free = 10; storage = 125; rate = 600000000 } ∷ []
+    record {
+      id = 10;
+      from = record { 0 = 0 };
+      to = record { 0 = 1 };
+      free = 10;
+      storage = 125;
+      rate = 600000000;
+    }
+    ∷ record {
+      id = 20;
+      from = record { 0 = 1 };
+      to = record { 0 = 2 };
+      free = 10;
+      storage = 125;
+      rate = 600000000;
+    }
+    ∷ []
 
 abbrev three_nodes : List NodeRow
-three_nodes = record { id = 1; zone = Some 1 } ∷ record { id = 2; zone = None } ∷ record { id = 3; zone = Some 3 } ∷ []
+three_nodes =
+    record { id = 1; zone = Some 1 } ∷ record { id = 2; zone = None }
+    ∷ record { id = 3; zone = Some 3 } ∷ []
 
 abbrev pub the_network : NetRows
 the_network = record { nodes = three_nodes; links = two_links; turns = [] }
 
-free-link-times : free_link_time_text two_links ≡ codes "link_id,free_steps,storage\n10,10,125\n20,10,125\n"
+free-link-times : free_link_time_text two_links
+    ≡ codes "link_id,free_steps,storage\n10,10,125\n20,10,125\n"
 unfolding free_link_time_text free_link_time_header free_link_line digits
 free-link-times = refl
 
@@ -56,20 +79,26 @@ both_links = Some (record { 0 = 0 } ∷ record { 0 = 1 } ∷ [])
 
 abbrev pub four_trips : List Trip
 four_trips =
-    record { number = 0; origin = 1; destination = 3; departure = 0 } ∷ record { number = 1; origin = 1; destination = 3; departure = 6 }
-    ∷ record { number = 2; origin = 1; destination = 3; departure = 13 } ∷ record { number = 3; origin = 3; destination = 1; departure = 19 } ∷ []
+    record { number = 0; origin = 1; destination = 3; departure = 0 }
+    ∷ record { number = 1; origin = 1; destination = 3; departure = 6 }
+    ∷ record { number = 2; origin = 1; destination = 3; departure = 13 }
+    ∷ record { number = 3; origin = 3; destination = 1; departure = 19 } ∷ []
 
--- the first has arrived, the second is on its first link, the third waits, and the fourth has no route
+-- the first has arrived, the second is on its first link, the third waits, and the fourth has no
+-- route
 abbrev pub four_routes : List (Option (List LinkNo))
 four_routes = both_links ∷ both_links ∷ both_links ∷ None ∷ []
 
 abbrev pub four_journeys : List Journey
 four_journeys =
-    record { entries = 0 ∷ 10 ∷ []; arrival = Some 20 } ∷ record { entries = 6 ∷ []; arrival = None }
+    record { entries = 0 ∷ 10 ∷ []; arrival = Some 20 }
+    ∷ record { entries = 6 ∷ []; arrival = None }
     ∷ record { entries = []; arrival = None } ∷ record { entries = []; arrival = None } ∷ []
 
 four-vehicles : agent_text the_network four_trips four_routes four_journeys
-    ≡ codes "agent_id,o_zone_id,d_zone_id,departure_step,arrival_step,status,link_ids,entry_steps\n0,1,3,0,20,arrived,10;20,0;10\n1,1,3,6,,running,10;20,6\n2,1,3,13,,waiting,10;20,\n3,3,1,19,,unrouted,,\n"
+    ≡ codes "agent_id,o_zone_id,d_zone_id,departure_step,arrival_step,status,link_ids,"
+    ++ codes "entry_steps\n0,1,3,0,20,arrived,10;20,0;10\n1,1,3,6,,running,10;20,6\n"
+    ++ codes "2,1,3,13,,waiting,10;20,\n3,3,1,19,,unrouted,,\n"
 unfolding agent_text agent_header vehicles agent_line trip_columns way_columns link_in digits
 four-vehicles = refl
 
@@ -77,10 +106,18 @@ four-vehicles = refl
 
 -- five steps in buckets of two: the last bucket is cut short
 abbrev some_times : TimeTable
-some_times = record { bucket = 2; horizon = 5; free = 10 ∷ 10 ∷ []; times = 10 ∷ 11 ∷ 12 ∷ 10 ∷ 10 ∷ 13 ∷ []; entered = 0 ∷ 3 ∷ 1 ∷ 0 ∷ 0 ∷ 2 ∷ [] }
+some_times = record {
+  bucket = 2;
+  horizon = 5;
+  free = 10 ∷ 10 ∷ [];
+  times = 10 ∷ 11 ∷ 12 ∷ 10 ∷ 10 ∷ 13 ∷ [];
+  entered = 0 ∷ 3 ∷ 1 ∷ 0 ∷ 0 ∷ 2 ∷ [];
+}
 
 link-times : link_time_text the_network some_times
-    ≡ codes "link_id,from_step,to_step,entered,travel_steps,free_steps\n10,0,2,0,10,10\n10,2,4,3,11,10\n10,4,5,1,12,10\n20,0,2,0,10,10\n20,2,4,0,10,10\n20,4,5,2,13,10\n"
+    ≡ codes "link_id,from_step,to_step,entered,travel_steps,free_steps\n"
+    ++ codes "10,0,2,0,10,10\n10,2,4,3,11,10\n10,4,5,1,12,10\n"
+    ++ codes "20,0,2,0,10,10\n20,2,4,0,10,10\n20,4,5,2,13,10\n"
 unfolding link_time_text link_time_header link_lines bucket_line entered_in time_at link_in digits
 link-times = refl
 
@@ -92,17 +129,29 @@ first_gap = record { route_steps = 88; least_steps = 84; gap_steps = 4; ppm = 47
 abbrev second_gap : GapLine
 second_gap = record { route_steps = 84; least_steps = 84; gap_steps = 0; ppm = 0 }
 
-two-iterations : gap_text (first_gap ∷ second_gap ∷ []) ≡ codes "iteration,route_steps,least_steps,gap_steps,gap_ppm\n1,88,84,4,47619\n2,84,84,0,0\n"
+two-iterations : gap_text (first_gap ∷ second_gap ∷ [])
+    ≡ codes "iteration,route_steps,least_steps,gap_steps,gap_ppm\n1,88,84,4,47619\n2,84,84,0,0\n"
 unfolding gap_text gap_header gap_line digits
 two-iterations = refl
 
 -- ---- the report
 
 abbrev the_summary : Summary
-the_summary = record { nodes = 3; links = 3; vehicles = 4; unrouted = 0; iterations = 2; arrived = 4; running = 0; waiting = 0; gap = second_gap }
+the_summary = record {
+  nodes = 3;
+  links = 3;
+  vehicles = 4;
+  unrouted = 0;
+  iterations = 2;
+  arrived = 4;
+  running = 0;
+  waiting = 0;
+  gap = second_gap;
+}
 
 twelve-lines : report_text the_summary
-    ≡ codes "nodes 3\nlinks 3\nvehicles 4\nunrouted 0\niterations 2\narrived 4\nrunning 0\nwaiting 0\nroute_steps 84\nleast_steps 84\ngap_steps 0\ngap_ppm 0\n"
+    ≡ codes "nodes 3\nlinks 3\nvehicles 4\nunrouted 0\niterations 2\narrived 4\nrunning 0\n"
+    ++ codes "waiting 0\nroute_steps 84\nleast_steps 84\ngap_steps 0\ngap_ppm 0\n"
 unfolding report_text count_lines last_gap_lines digits
 twelve-lines = refl
 
@@ -115,8 +164,8 @@ one-state : watch_line 1 a_state ≡ codes "1,1,0,1,0,1,0,0,0\n"
 unfolding watch_line digits
 one-state = refl
 
--- a loading of 25 steps that is watched every 10: the lines of steps 10, 20 and 25 meet the rule, and
--- so does the last line alone
+-- a loading of 25 steps that is watched every 10: the lines of steps 10, 20 and 25 meet the rule,
+-- and so does the last line alone
 every-ten : AreWatchSteps 10 25 (10 ∷ 20 ∷ 25 ∷ [])
 every-ten = record { before = 10 ∷ 20 ∷ []; ends = refl; rising = refl; apart = refl }
 
@@ -144,12 +193,14 @@ bad-words : refusal_line refusal.Usage ≡ codes "usage: dta freeflow|assign|dem
 unfolding refusal_line
 bad-words = refl
 
-refused-links : refusal_line (refusal.Table (record { table = table.Link; line = 3; code = code.E7; column = column.FromNodeId }))
+refused-links : refusal_line (refusal.Table
+    (record { table = table.Link; line = 3; code = code.E7; column = column.FromNodeId }))
     ≡ codes "link line 3: E7 UnknownNode from_node_id\n"
 unfolding refusal_line digits
 refused-links = refl
 
-refused-nodes : refusal_line (refusal.Table (record { table = table.Node; line = 12; code = code.E2; column = column.NoColumn }))
+refused-nodes : refusal_line (refusal.Table
+    (record { table = table.Node; line = 12; code = code.E2; column = column.NoColumn }))
     ≡ codes "node line 12: E2 BadRecord -\n"
 unfolding refusal_line digits
 refused-nodes = refl
@@ -158,15 +209,18 @@ unread-nodes : refusal_line (refusal.Read table.Node) ≡ codes "read fault in n
 unfolding refusal_line
 unread-nodes = refl
 
-long-links : refusal_line (refusal.LongTable table.Link) ≡ codes "size: table link limit 268435456\n"
+long-links : refusal_line (refusal.LongTable table.Link)
+    ≡ codes "size: table link limit 268435456\n"
 unfolding refusal_line digits
 long-links = refl
 
-many-cells : refusal_line (refusal.Cells 41605 1613) ≡ codes "size: links 41605 steps 1613 limit 67108864\n"
+too-many-link-steps : refusal_line (refusal.Cells 41605 1613)
+    ≡ codes "size: links 41605 steps 1613 limit 67108864\n"
 unfolding refusal_line digits
-many-cells = refl
+too-many-link-steps = refl
 
-many-vehicles : refusal_line (refusal.Vehicles 2 2000001) ≡ codes "size: demand line 2 vehicles 2000001 limit 2000000\n"
+many-vehicles : refusal_line (refusal.Vehicles 2 2000001)
+    ≡ codes "size: demand line 2 vehicles 2000001 limit 2000000\n"
 unfolding refusal_line digits
 many-vehicles = refl
 
@@ -174,8 +228,8 @@ many-vehicles = refl
 most-bytes : MOST_TABLE_BYTES ≡ 268435456
 most-bytes = refl
 
-most-cells : MOST_LINK_STEPS ≡ 67108864
-most-cells = refl
+most-link-steps : MOST_LINK_STEPS ≡ 67108864
+most-link-steps = refl
 
 most-vehicles : MOST_TRIPS ≡ 2000000
 most-vehicles = refl

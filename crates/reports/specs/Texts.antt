@@ -1,5 +1,8 @@
--- The texts that go out, as functions of what they tell. Numbers are decimal, nothing is quoted, and each line ends with a line feed.
-use Rattle.std.specs.Prelude.{ℕ, zero, suc, ◌≡◌, ◌+◌, ◌*◌, ◌<◌, ◌⊎◌, if◌then◌else◌, min, nat_lt, is_some, List, [], ◌∷◌, ◌++◌, length, map, All, IfSome, Option, None, Some, slice_index, codes, decimal}
+-- The texts that go out, as functions of what they tell. Numbers are decimal, nothing is quoted,
+-- and each line ends with a line feed.
+use Rattle.std.specs.Prelude.{ℕ, zero, suc, ◌≡◌, ◌+◌, ◌*◌, ◌<◌, ◌⊎◌, if◌then◌else◌, min, nat_lt}
+use Rattle.std.specs.Prelude.{is_some, List, [], ◌∷◌, ◌++◌, length, map, All, IfSome, Option, None}
+use Rattle.std.specs.Prelude.{Some, slice_index, codes, decimal}
 use Rattle.std.specs.List.{enumerate_from, flat_map, join_with_byte}
 use Rattle.desk_io.specs.declared.desk.Output.TheVariants as output
 use Rattle.desk_io.specs.Desk.{Taken, grown}
@@ -28,7 +31,8 @@ use Rattle.reports.specs.declared.summary.Summary.{Summary}
 -- the line of one link: its identifier, its free-flow steps and its storage
 unfoldable pub free_link_line : LinkRow → List ℕ
 free_link_line row =
-    decimal row.id ++ codes "," ++ decimal row.free ++ codes "," ++ decimal row.storage ++ codes "\n"
+    decimal row.id ++ codes "," ++ decimal row.free ++ codes "," ++ decimal row.storage
+    ++ codes "\n"
 
 unfoldable pub free_link_time_header : List ℕ
 free_link_time_header = codes "link_id,free_steps,storage\n"
@@ -117,8 +121,9 @@ ids_of net route = map (λ l. (link_at net l.0).id) route
 -- the first six columns of a vehicle
 unfoldable pub trip_columns : Trip → Option ℕ → AgentStatus → List ℕ
 trip_columns trip arrival status =
-    decimal trip.number ++ codes "," ++ decimal trip.origin ++ codes "," ++ decimal trip.destination ++ codes ","
-    ++ decimal trip.departure ++ codes "," ++ number_or_nothing arrival ++ codes "," ++ status_name status ++ codes ","
+    decimal trip.number ++ codes "," ++ decimal trip.origin ++ codes ","
+    ++ decimal trip.destination ++ codes "," ++ decimal trip.departure ++ codes ","
+    ++ number_or_nothing arrival ++ codes "," ++ status_name status ++ codes ","
 
 -- and the last two: the links of its route, and the steps in which it entered them
 unfoldable pub way_columns : List ℕ → List ℕ → List ℕ
@@ -128,29 +133,34 @@ way_columns ids entries = joined ids ++ codes "," ++ joined entries ++ codes "\n
 unfoldable pub agent_line : NetRows → Trip → Option (List LinkNo) → Journey → List ℕ
 agent_line net trip None journey = trip_columns trip None status.Unrouted ++ way_columns [] []
 agent_line net trip (Some route) journey =
-    trip_columns trip journey.arrival (routed_status journey) ++ way_columns (ids_of net route) journey.entries
+    trip_columns trip journey.arrival (routed_status journey)
+    ++ way_columns (ids_of net route) journey.entries
 
 -- the line of a vehicle with its trip, route and journey
 abbrev pub vehicle_line : NetRows → Vehicle → List ℕ
 vehicle_line net v = agent_line net v.trip v.route v.journey
 
 unfoldable pub agent_header : List ℕ
-agent_header = codes "agent_id,o_zone_id,d_zone_id,departure_step,arrival_step,status,link_ids,entry_steps\n"
+agent_header =
+    codes "agent_id,o_zone_id,d_zone_id,departure_step,arrival_step,status,link_ids,entry_steps\n"
 
 -- Agent: its header, and a line for each vehicle in order
-unfoldable pub agent_text : NetRows → List Trip → List (Option (List LinkNo)) → List Journey → List ℕ
+unfoldable pub agent_text :
+    NetRows → List Trip → List (Option (List LinkNo)) → List Journey → List ℕ
 agent_text net trips routes journeys =
     agent_header ++ flat_map (vehicle_line net) (vehicles trips routes journeys)
 
 -- ---- LinkTime of `assign`
 
--- the line of one bucket of a link: the link's identifier, the first step, the step after the last one, the number of visits, the time, and the
--- link's free-flow steps
+-- the line of one bucket of a link: the link's identifier, the first step, the step after the last
+-- one, the number of visits, the time, and the link's free-flow steps
 unfoldable pub bucket_line : NetRows → TimeTable → ℕ → ℕ → List ℕ
 bucket_line net times l b =
     decimal (link_at net l).id ++ codes "," ++ decimal (b * times.bucket) ++ codes ","
-    ++ decimal (min ((b + 1) * times.bucket) times.horizon) ++ codes "," ++ decimal (entered_in times l b) ++ codes ","
-    ++ decimal (time_at times l (b * times.bucket)) ++ codes "," ++ decimal (link_at net l).free ++ codes "\n"
+    ++ decimal (min ((b + 1) * times.bucket) times.horizon) ++ codes ","
+    ++ decimal (entered_in times l b) ++ codes ","
+    ++ decimal (time_at times l (b * times.bucket)) ++ codes ","
+    ++ decimal (link_at net l).free ++ codes "\n"
 
 -- the lines of a link
 unfoldable pub link_lines : NetRows → TimeTable → ℕ → List ℕ
@@ -161,15 +171,17 @@ link_time_header = codes "link_id,from_step,to_step,entered,travel_steps,free_st
 
 -- LinkTime: its header, and the lines of each link in table order
 unfoldable pub link_time_text : NetRows → TimeTable → List ℕ
-link_time_text net times = link_time_header ++ flat_map (link_lines net times) (numbers_below (length net.links))
+link_time_text net times =
+    link_time_header ++ flat_map (link_lines net times) (numbers_below (length net.links))
 
 -- ---- Gap
 
 -- the line of an iteration
 unfoldable pub gap_line : ℕ → GapLine → List ℕ
 gap_line iteration line =
-    decimal iteration ++ codes "," ++ decimal line.route_steps ++ codes "," ++ decimal line.least_steps ++ codes ","
-    ++ decimal line.gap_steps ++ codes "," ++ decimal line.ppm ++ codes "\n"
+    decimal iteration ++ codes "," ++ decimal line.route_steps ++ codes ","
+    ++ decimal line.least_steps ++ codes "," ++ decimal line.gap_steps ++ codes ","
+    ++ decimal line.ppm ++ codes "\n"
 
 -- the line of an iteration with its number
 abbrev pub numbered_line : ℕ × GapLine → List ℕ
@@ -187,15 +199,18 @@ gap_text lines = gap_header ++ flat_map numbered_line (enumerate_from 1 lines)
 -- its counts, and the gap of the last iteration
 unfoldable pub count_lines : Summary → List ℕ
 count_lines s =
-    codes "nodes " ++ decimal s.nodes ++ codes "\nlinks " ++ decimal s.links ++ codes "\nvehicles " ++ decimal s.vehicles
-    ++ codes "\nunrouted " ++ decimal s.unrouted ++ codes "\niterations " ++ decimal s.iterations
+    codes "nodes " ++ decimal s.nodes ++ codes "\nlinks " ++ decimal s.links
+    ++ codes "\nvehicles " ++ decimal s.vehicles ++ codes "\nunrouted " ++ decimal s.unrouted
+    ++ codes "\niterations " ++ decimal s.iterations
     ++ codes "\narrived " ++ decimal s.arrived ++ codes "\nrunning " ++ decimal s.running
     ++ codes "\nwaiting " ++ decimal s.waiting ++ codes "\n"
 
 unfoldable pub last_gap_lines : GapLine → List ℕ
 last_gap_lines line =
-    codes "route_steps " ++ decimal line.route_steps ++ codes "\nleast_steps " ++ decimal line.least_steps
-    ++ codes "\ngap_steps " ++ decimal line.gap_steps ++ codes "\ngap_ppm " ++ decimal line.ppm ++ codes "\n"
+    codes "route_steps " ++ decimal line.route_steps
+    ++ codes "\nleast_steps " ++ decimal line.least_steps
+    ++ codes "\ngap_steps " ++ decimal line.gap_steps
+    ++ codes "\ngap_ppm " ++ decimal line.ppm ++ codes "\n"
 
 unfoldable pub report_text : Summary → List ℕ
 report_text s = count_lines s ++ last_gap_lines s.gap
@@ -205,10 +220,13 @@ report_text s = count_lines s ++ last_gap_lines s.gap
 -- the line of an iteration's state
 unfoldable pub watch_line : ℕ → Eight → List ℕ
 watch_line iteration eight =
-    decimal iteration ++ codes "," ++ decimal eight.steps ++ codes "," ++ decimal eight.waiting ++ codes ","
-    ++ decimal eight.running ++ codes "," ++ decimal eight.arrived
-    ++ codes "," ++ decimal (slice_index eight.first 0) ++ codes "," ++ decimal (slice_index eight.first 1)
-    ++ codes "," ++ decimal (slice_index eight.first 2) ++ codes "," ++ decimal (slice_index eight.first 3) ++ codes "\n"
+    decimal iteration ++ codes "," ++ decimal eight.steps ++ codes ","
+    ++ decimal eight.waiting ++ codes "," ++ decimal eight.running ++ codes ","
+    ++ decimal eight.arrived
+    ++ codes "," ++ decimal (slice_index eight.first 0)
+    ++ codes "," ++ decimal (slice_index eight.first 1)
+    ++ codes "," ++ decimal (slice_index eight.first 2)
+    ++ codes "," ++ decimal (slice_index eight.first 3) ++ codes "\n"
 
 -- ---- Report of a refusal
 
@@ -219,8 +237,11 @@ refusal_line (refusal.Table fault) =
     ++ code_name fault.code ++ codes " " ++ column_name fault.column ++ codes "\n"
 refusal_line (refusal.Read t) = codes "read fault in " ++ table_name t ++ codes "\n"
 refusal_line (refusal.LongTable t) =
-    codes "size: table " ++ table_name t ++ codes " limit " ++ decimal MOST_TABLE_BYTES ++ codes "\n"
+    codes "size: table " ++ table_name t
+    ++ codes " limit " ++ decimal MOST_TABLE_BYTES ++ codes "\n"
 refusal_line (refusal.Cells links steps) =
-    codes "size: links " ++ decimal links ++ codes " steps " ++ decimal steps ++ codes " limit " ++ decimal MOST_LINK_STEPS ++ codes "\n"
+    codes "size: links " ++ decimal links ++ codes " steps " ++ decimal steps
+    ++ codes " limit " ++ decimal MOST_LINK_STEPS ++ codes "\n"
 refusal_line (refusal.Vehicles line total) =
-    codes "size: demand line " ++ decimal line ++ codes " vehicles " ++ decimal total ++ codes " limit " ++ decimal MOST_TRIPS ++ codes "\n"
+    codes "size: demand line " ++ decimal line ++ codes " vehicles " ++ decimal total
+    ++ codes " limit " ++ decimal MOST_TRIPS ++ codes "\n"

@@ -1,12 +1,14 @@
 // The text of the vehicles.
-ghost use Rattle.std.specs.Prelude.{◌≡◌, ◌≤◌, ◌+◌, ◌++◌, IfSome, length, OnOk, OnErr, option_copied};
+ghost use Rattle.std.specs.Prelude.{◌≡◌, ◌≤◌, ◌+◌, ◌++◌, IfSome, length, OnOk, OnErr};
+ghost use Rattle.std.specs.Prelude.{option_copied};
 ghost use Rattle.desk_io.specs.declared.desk.Output.TheVariants as output;
 ghost use Rattle.desk_io.specs.State.{state_of};
 ghost use Rattle.desk_io.specs.Transfers.{Puts};
 ghost use Rattle.reports.specs.declared.pending.TheConstants.{DIGITS, PIECE};
 ghost use Rattle.reports.specs.Sending.{Adds};
 ghost use Rattle.reports.specs.Texts.{agent_header, agent_line, agent_text, AreLinksOf, AreOnNet};
-ghost use Rattle.reports.specs.Texts.{ids_of, item, joined, number_or_nothing, trip_columns, way_columns};
+ghost use Rattle.reports.specs.Texts.{ids_of, item, joined, number_or_nothing, trip_columns};
+ghost use Rattle.reports.specs.Texts.{way_columns};
 
 use crate::pending::Pending;
 use crate::status::{AgentStatus, status_of};
@@ -45,7 +47,7 @@ fn push_step(pending: &mut Pending, step: Option<u32>)
 }
 
 // Adds the first six columns of a vehicle to what is pending.
-#[tactic(auto, using(crate::proofs::SendingFacts::lengths), unfolding(crate::specs::Texts::trip_columns))]
+#[tactic(auto, using(crate::proofs::Joins::text), unfolding(crate::specs::Texts::trip_columns))]
 fn push_trip(pending: &mut Pending, trip: &Trip, arrival: Option<u32>, status: AgentStatus)
     requires { length pending.old + COLUMNS ≤ PIECE }
     ensures { pending.new ≡ pending.old ++ trip_columns trip.now arrival status }
@@ -83,7 +85,7 @@ fn add_trip<D: Desk>(
 }
 
 // Adds an item of a list to what is pending.
-#[tactic(auto, using(crate::proofs::SendingFacts::lengths))]
+#[tactic(auto, using(crate::proofs::Joins::text))]
 fn push_item(pending: &mut Pending, place: usize, number: u64)
     requires { length pending.old + ITEM ≤ PIECE }
     ensures { pending.new ≡ pending.old ++ item place number }

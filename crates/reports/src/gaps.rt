@@ -26,7 +26,7 @@ fn header() -> Pending
 }
 
 // Adds the line of an iteration to what is pending.
-#[tactic(auto, using(crate::proofs::SendingFacts::lengths), unfolding(crate::specs::Texts::gap_line))]
+#[tactic(auto, using(crate::proofs::Joins::text), unfolding(crate::specs::Texts::gap_line))]
 fn push_gap(pending: &mut Pending, iteration: u64, line: &GapLine)
     requires { length pending.old + LINE ≤ PIECE }
     ensures { pending.new ≡ pending.old ++ gap_line iteration line.now }

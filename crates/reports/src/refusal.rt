@@ -29,7 +29,7 @@ pub enum Refusal {
 }
 
 // The line of a refusal.
-#[tactic(auto, using(crate::proofs::SendingFacts::lengths), unfolding(crate::specs::Texts::refusal_line))]
+#[tactic(auto, using(crate::proofs::Joins::text), unfolding(crate::specs::Texts::refusal_line))]
 fn line(refusal: &Refusal) -> Pending
     ensures { result ≡ refusal_line refusal.now }
 {

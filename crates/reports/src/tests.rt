@@ -1,6 +1,7 @@
 // Worked cases of each text, and puts that fail.
 ghost use Rattle.std.specs.Prelude.{◌≡◌, [], ◌∷◌, IfOk, None, Some};
-ghost use Rattle.reports.specs.Examples.{both_links, four_journeys, four_routes, four_trips, the_network};
+ghost use Rattle.reports.specs.Examples.{both_links, four_journeys, four_routes, four_trips};
+ghost use Rattle.reports.specs.Examples.{the_network};
 
 use crate::{
     Refusal, Summary, put_agents, put_free, put_gaps, put_link_times, put_refusal, put_summary,
@@ -106,7 +107,9 @@ fn node(id: u64, zone: Option<u64>) -> NodeRow
 }
 
 fn link(id: u64, from: u32, to: u32) -> LinkRow
-    ensures { result ≡ record { id = id; from = record { 0 = from }; to = record { 0 = to }; free = 10; storage = 125; rate = 600000000 } }
+    ensures { result ≡ record {
+      id = id; from = record { 0 = from }; to = record { 0 = to };
+      free = 10; storage = 125; rate = 600000000 } }
 {
     LinkRow {
         id,
@@ -129,7 +132,8 @@ fn two_links(alloc: Global) -> Result<Net, Memory>
 }
 
 fn trip(number: u32, origin: u64, destination: u64, departure: u32) -> Trip
-    ensures { result ≡ record { number = number; origin = origin; destination = destination; departure = departure } }
+    ensures { result ≡ record {
+      number = number; origin = origin; destination = destination; departure = departure } }
 {
     Trip {
         number,
@@ -280,7 +284,9 @@ fn a_text_longer_than_a_piece(rt: HostRuntime) -> Result<(), Fail> {
     assert!(rt; text.len() == 52 + 100 * 161 + 9 + 2 * 90 + 3);
     assert!(rt;
         text.ends_with(
-            b"\n100,340282366920938463463374607431768211455,340282366920938463463374607431768211455,340282366920938463463374607431768211455,340282366920938463463374607431768211455\n"
+            b"\n100,340282366920938463463374607431768211455,\
+            340282366920938463463374607431768211455,340282366920938463463374607431768211455,\
+            340282366920938463463374607431768211455\n"
         )
     );
     Ok(())

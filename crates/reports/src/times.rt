@@ -52,7 +52,7 @@ fn step_after(times: &LinkTimes, bucket: u32) -> u64
 }
 
 // Adds the line of a bucket to what is pending.
-#[tactic(auto, using(crate::proofs::SendingFacts::lengths), unfolding(crate::specs::Texts::bucket_line))]
+#[tactic(auto, using(crate::proofs::Joins::text), unfolding(crate::specs::Texts::bucket_line))]
 fn push_bucket(pending: &mut Pending, net: &Net, times: &LinkTimes, link: LinkNo, bucket: u32)
     requires room { length pending.old + LINE ≤ PIECE }
     requires free { times.now.free ≡ free_steps net.now }

@@ -10,7 +10,7 @@ use desk_io::{Desk, Failed, Output};
 use dta_model::Eight;
 
 // The line of a state.
-#[tactic(auto, using(crate::proofs::SendingFacts::lengths), unfolding(crate::specs::Texts::watch_line))]
+#[tactic(auto, using(crate::proofs::Joins::text), unfolding(crate::specs::Texts::watch_line))]
 fn line(iteration: u32, eight: &Eight) -> Pending
     ensures { result ≡ watch_line iteration eight.now }
 {

@@ -1,5 +1,7 @@
--- The cells, the clocks and the mail of a loading while the nodes of a step work one after another. What is idle is left as it is.
-use Rattle.std.specs.Prelude.{◌≡◌, ◌⊎◌, ℕ, suc, ◌-◌, ◌<◌, ◌≤◌, List, [], IfSome, Some, length, map, slice_get}
+-- The cells, the clocks and the mail of a loading while the nodes of a step work one after another.
+-- What is idle is left as it is.
+use Rattle.std.specs.Prelude.{◌≡◌, ◌⊎◌, ℕ, suc, ◌-◌, ◌<◌, ◌≤◌, List, [], IfSome, Some, length, map}
+use Rattle.std.specs.Prelude.{slice_get}
 use Rattle.dta_model.specs.Plans.{all_nodes, link_at}
 use Rattle.dta_model.specs.Stages.{batch_mail, room_mail}
 use Rattle.dta_model.specs.declared.plan.Plan.{Plan}
@@ -37,32 +39,45 @@ TellsRoom p t l m = (s : ℕ) × (m ≡ Room s (room_mail p l t))
 abbrev pub HasWoken : Plan → ℕ → List Clock → ℕ → Type 0
 HasWoken p t clocks l = IfSome (slice_get clocks (link_at p l).to.0) (λ w. w.wake ≤ t)
 
--- after the transfer of a link's first node, the mail is the batch, and wakes the other node; or nobody comes, and it still tells the
--- room
+-- after the transfer of a link's first node, the mail is the batch, and wakes the other node; or
+-- nobody comes, and it still tells the room
 abbrev pub HoldsBatch : Plan → ℕ → List Clock → ℕ → Mail → Type 0
-HoldsBatch p t clocks l m = ((m ≡ batch_of p t l) × HasWoken p t clocks l) ⊎ ((batch_mail p l t ≡ []) × TellsRoom p t l m)
+HoldsBatch p t clocks l m =
+    ((m ≡ batch_of p t l) × HasWoken p t clocks l)
+    ⊎ ((batch_mail p l t ≡ []) × TellsRoom p t l m)
 
 -- there is a cell and a clock for each node, and a mail for each link
-pub record AreThere (p : Plan) (cells : List CellState) (clocks : List Clock) (mail : List Mail) : Type 0 where
+pub record AreThere (p : Plan) (cells : List CellState) (clocks : List Clock) (mail : List Mail)
+    : Type 0 where
   pub cell_count : length cells ≡ length p.net.nodes
   pub clock_count : length clocks ≡ length p.net.nodes
   pub mail_count : length mail ≡ length p.net.links
 
 -- where the nodes below k have made their transfer of step t
-pub record InTransfer (p : Plan) (t k : ℕ) (cells : List CellState) (clocks : List Clock) (mail : List Mail) : Type 0 where
+pub record InTransfer (p : Plan) (t k : ℕ) (cells : List CellState) (clocks : List Clock)
+    (mail : List Mail) : Type 0 where
   pub there : AreThere p cells clocks mail
-  pub done : (n : ℕ) (w : Clock) (c : CellState) → slice_get clocks n ≡ Some w → slice_get cells n ≡ Some c → n < k → IsAfter p t n w c
-  pub others : (n : ℕ) (w : Clock) (c : CellState) → slice_get clocks n ≡ Some w → slice_get cells n ≡ Some c → k ≤ n → IsBefore p t n w c
-  pub batches : (l : ℕ) (m : Mail) → slice_get mail l ≡ Some m → (link_at p l).from.0 < k → HoldsBatch p t clocks l m
-  pub rooms : (l : ℕ) (m : Mail) → slice_get mail l ≡ Some m → k ≤ (link_at p l).from.0 → TellsRoom p t l m
+  pub done : (n : ℕ) (w : Clock) (c : CellState) → slice_get clocks n ≡ Some w
+      → slice_get cells n ≡ Some c → n < k → IsAfter p t n w c
+  pub others : (n : ℕ) (w : Clock) (c : CellState) → slice_get clocks n ≡ Some w
+      → slice_get cells n ≡ Some c → k ≤ n → IsBefore p t n w c
+  pub batches : (l : ℕ) (m : Mail) → slice_get mail l ≡ Some m
+      → (link_at p l).from.0 < k → HoldsBatch p t clocks l m
+  pub rooms : (l : ℕ) (m : Mail) → slice_get mail l ≡ Some m
+      → k ≤ (link_at p l).from.0 → TellsRoom p t l m
 
 -- where all have, and the nodes below k have made their gather of step t
-pub record InGather (p : Plan) (t k : ℕ) (cells : List CellState) (clocks : List Clock) (mail : List Mail) : Type 0 where
+pub record InGather (p : Plan) (t k : ℕ) (cells : List CellState) (clocks : List Clock)
+    (mail : List Mail) : Type 0 where
   pub there : AreThere p cells clocks mail
-  pub done : (n : ℕ) (w : Clock) (c : CellState) → slice_get clocks n ≡ Some w → slice_get cells n ≡ Some c → n < k → IsBefore p (suc t) n w c
-  pub others : (n : ℕ) (w : Clock) (c : CellState) → slice_get clocks n ≡ Some w → slice_get cells n ≡ Some c → k ≤ n → IsAfter p t n w c
-  pub rooms : (l : ℕ) (m : Mail) → slice_get mail l ≡ Some m → (link_at p l).to.0 < k → TellsRoom p (suc t) l m
-  pub batches : (l : ℕ) (m : Mail) → slice_get mail l ≡ Some m → k ≤ (link_at p l).to.0 → HoldsBatch p t clocks l m
+  pub done : (n : ℕ) (w : Clock) (c : CellState) → slice_get clocks n ≡ Some w
+      → slice_get cells n ≡ Some c → n < k → IsBefore p (suc t) n w c
+  pub others : (n : ℕ) (w : Clock) (c : CellState) → slice_get clocks n ≡ Some w
+      → slice_get cells n ≡ Some c → k ≤ n → IsAfter p t n w c
+  pub rooms : (l : ℕ) (m : Mail) → slice_get mail l ≡ Some m
+      → (link_at p l).to.0 < k → TellsRoom p (suc t) l m
+  pub batches : (l : ℕ) (m : Mail) → slice_get mail l ≡ Some m
+      → k ≤ (link_at p l).to.0 → HoldsBatch p t clocks l m
 
 -- before the transfers of step t, before its gathers, and after them
 abbrev pub AreBefore : Plan → ℕ → List CellState → List Clock → List Mail → Type 0
