@@ -5,7 +5,7 @@ use Rattle.net_core.proofs.tests.a_loop_that_pays.Goals as goal
 
 pub of-requires : goal.of-requires
 unfolding link_in
-of-requires g c = rw (
+of-requires c = rw (
   c.in_ok-nodes.ensures.items,
   c.in_ok-links.ensures.items,
   c.in_ok-turns.ensures.items,
