@@ -13,7 +13,7 @@ use Rattle.dta_model.specs.declared.machine.Outcome.{Outcome}
 use Rattle.dta_model.specs.declared.machine.Outcome.TheVariants as outcomes
 use Rattle.dta_model.specs.declared.machine.Stage.TheVariants as stage
 use Rattle.dta_model.specs.declared.plan.Plan.{Plan}
-use Rattle.node_transfer.specs.Contents.{away, cell_at, cell_before, mail_at, room_of}
+use Rattle.cell_stages.specs.Contents.{away, cell_at, cell_before, mail_at, room_of}
 use Rattle.claim_core.specs.Parts.{stage_in}
 
 -- it holds of the claims after every list of events, of every loading and any number of workers
