@@ -15,8 +15,8 @@ use crate::iterate::Assigned;
 use crate::job::Job;
 use desk_io::{Desk, Failed};
 use dta_words::{Command, Settings};
-use final_state::unrouted;
 use reports::{Summary, put_agents, put_gaps, put_link_times, put_summary};
+use route_flows::unrouted;
 
 // The numbers of the report.
 fn summary_of(settings: &Settings, job: &Job, assigned: &Assigned) -> Summary

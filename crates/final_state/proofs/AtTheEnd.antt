@@ -1,4 +1,4 @@
--- The state of all vehicles, by their places, is that of the trace.
+-- The state of all vehicles, by their whereabouts, is that of the trace.
 use Rattle.std.specs.Prelude.{count_by, nat_lt, slice_get}
 use Rattle.std.proofs.Common.{◌≡◌, ℕ, ◌+◌, ◌<◌, Bool, true, false, cond, ◌&&◌, not, List, [], length, refl, ap, sym, ◌∙◌, arith, Option, Some, None, ◌⊎◌, inl, inr}
 use Rattle.std.proofs.lemmas.Bool.{cases_Bool}
@@ -19,8 +19,8 @@ use Rattle.dta_model.proofs.Fuel.{Lawful, last_in, trace-lawful}
 use Rattle.dta_model.proofs.Standing.{no-last}
 use Rattle.dta_model.proofs.Steady.{some_trip}
 use Rattle.final_state.specs.Counts.{has_come, is_on, is_running, is_waiting, state_of}
-use Rattle.final_state.specs.Places.{place_after, place_at, place_to}
-use Rattle.final_state.specs.declared.place.Place.TheVariants as place
+use Rattle.final_state.specs.Whereabouts.{whereabouts_after, whereabouts_at, whereabouts_to}
+use Rattle.final_state.specs.declared.whereabouts.Whereabouts.TheVariants as whereabouts
 use Rattle.final_state.proofs.OnLinks.{count_on_is}
 
 -- at the horizon each vehicle that has a route is due
@@ -42,41 +42,41 @@ due_is p sound v = route_step (slice_get p.routes v) refl
         rw (slice_get-get_or p.trips v some_trip there) (grind (arith, nat_tests))
 
 -- by cases of whether a vehicle has a route, and of its last move
-waiting_case : (r : Bool) (c : Bool) (o : Option Move) → (c ≡ false → o ≡ None) → (o ≡ None → c ≡ false) → is_waiting (cond r (place_after o) place.Unrouted) ≡ (r && not c)
+waiting_case : (r : Bool) (c : Bool) (o : Option Move) → (c ≡ false → o ≡ None) → (o ≡ None → c ≡ false) → is_waiting (cond r (whereabouts_after o) whereabouts.Unrouted) ≡ (r && not c)
 waiting_case false c o none some = refl
 waiting_case true true None none some = let clash : true ≡ false = some refl in cc
 waiting_case true false None none some = refl
 waiting_case true true (Some m) none some = by_target m.target
   where
-    by_target : (x : Target) → is_waiting (place_to x) ≡ false
+    by_target : (x : Target) → is_waiting (whereabouts_to x) ≡ false
     by_target (Onto l) = refl
     by_target Arrived = refl
 waiting_case true false (Some m) none some = let clash : Some m ≡ None = none refl in cc
 
-running_case : (r : Bool) (o : Option Move) → is_running (cond r (place_after o) place.Unrouted) ≡ (r && leads_onto o)
+running_case : (r : Bool) (o : Option Move) → is_running (cond r (whereabouts_after o) whereabouts.Unrouted) ≡ (r && leads_onto o)
 running_case false o = refl
 running_case true None = refl
 running_case true (Some m) = by_target m.target
   where
-    by_target : (x : Target) → is_running (place_to x) ≡ leads_onto (Some (record m { target = x }))
+    by_target : (x : Target) → is_running (whereabouts_to x) ≡ leads_onto (Some (record m { target = x }))
     by_target (Onto l) = refl
     by_target Arrived = refl
 
-arrived_case : (r : Bool) (o : Option Move) → has_come (cond r (place_after o) place.Unrouted) ≡ (r && leads_out o)
+arrived_case : (r : Bool) (o : Option Move) → has_come (cond r (whereabouts_after o) whereabouts.Unrouted) ≡ (r && leads_out o)
 arrived_case false o = refl
 arrived_case true None = refl
 arrived_case true (Some m) = by_target m.target
   where
-    by_target : (x : Target) → has_come (place_to x) ≡ leads_out (Some (record m { target = x }))
+    by_target : (x : Target) → has_come (whereabouts_to x) ≡ leads_out (Some (record m { target = x }))
     by_target (Onto l) = refl
     by_target Arrived = refl
 
-link_case : (l : ℕ) (r : Bool) (o : Option Move) → (r ≡ false → o ≡ None) → leads_there l o ≡ is_on l (cond r (place_after o) place.Unrouted)
+link_case : (l : ℕ) (r : Bool) (o : Option Move) → (r ≡ false → o ≡ None) → leads_there l o ≡ is_on l (cond r (whereabouts_after o) whereabouts.Unrouted)
 link_case l false o none = rw (none refl) refl
 link_case l true None none = refl
 link_case l true (Some m) none = by_target m.target
   where
-    by_target : (x : Target) → leads_there l (Some (record m { target = x })) ≡ is_on l (place_to x)
+    by_target : (x : Target) → leads_there l (Some (record m { target = x })) ≡ is_on l (whereabouts_to x)
     by_target (Onto b) = refl
     by_target Arrived = refl
 
@@ -96,23 +96,23 @@ module _ (p : Plan) (sound : IsSound p) where
       moved_step (inl e) = let x = last_in (λ m. is_due p p.horizon m.vehicle ≡ true) v (trace_after p p.horizon) [] (All-weaker (Lawful p p.horizon) (λ m. is_due p p.horizon m.vehicle ≡ true) (λ m a. a.due) (trace_after p p.horizon) (trace-lawful p p.horizon)) e in absurd (none-some (x.0) (sym h ∙ x.1))
       moved_step (inr e) = e
 
-  waiting_is : count_by (λ v. is_waiting (place_at p (trace_after p p.horizon) v)) (vehicles_of p) ≡ waiting_in p p.horizon (trace_after p p.horizon)
-  unfolding waiting_in waits place_at
+  waiting_is : count_by (λ v. is_waiting (whereabouts_at p (trace_after p p.horizon) v)) (vehicles_of p) ≡ waiting_in p p.horizon (trace_after p p.horizon)
+  unfolding waiting_in waits whereabouts_at
   waiting_is = count_same _ _ (λ v. waiting_case (is_routed p v) (has_moved v (trace_after p p.horizon)) (last_move v (trace_after p p.horizon)) (no-last v (trace_after p p.horizon)) (not_moved v) ∙ ap (λ d. d && not (has_moved v (trace_after p p.horizon))) (sym (due_is p sound v))) (vehicles_of p)
 
-  running_is : count_by (λ v. is_running (place_at p (trace_after p p.horizon) v)) (vehicles_of p) ≡ running_in p p.horizon (trace_after p p.horizon)
-  unfolding running_in runs place_at
+  running_is : count_by (λ v. is_running (whereabouts_at p (trace_after p p.horizon) v)) (vehicles_of p) ≡ running_in p p.horizon (trace_after p p.horizon)
+  unfolding running_in runs whereabouts_at
   running_is = count_same _ _ (λ v. running_case (is_routed p v) (last_move v (trace_after p p.horizon)) ∙ ap (λ d. d && leads_onto (last_move v (trace_after p p.horizon))) (sym (due_is p sound v))) (vehicles_of p)
 
-  arrived_is : count_by (λ v. has_come (place_at p (trace_after p p.horizon) v)) (vehicles_of p) ≡ arrived_in p p.horizon (trace_after p p.horizon)
-  unfolding arrived_in has_arrived place_at
+  arrived_is : count_by (λ v. has_come (whereabouts_at p (trace_after p p.horizon) v)) (vehicles_of p) ≡ arrived_in p p.horizon (trace_after p p.horizon)
+  unfolding arrived_in has_arrived whereabouts_at
   arrived_is = count_same _ _ (λ v. arrived_case (is_routed p v) (last_move v (trace_after p p.horizon)) ∙ ap (λ d. d && leads_out (last_move v (trace_after p p.horizon))) (sym (due_is p sound v))) (vehicles_of p)
 
-  on_is : (l : ℕ) → count_by (λ v. is_on l (place_at p (trace_after p p.horizon) v)) (vehicles_of p) ≡ count_on (trace_after p p.horizon) l
-  unfolding place_at
+  on_is : (l : ℕ) → count_by (λ v. is_on l (whereabouts_at p (trace_after p p.horizon) v)) (vehicles_of p) ≡ count_on (trace_after p p.horizon) l
+  unfolding whereabouts_at
   on_is l = count_same _ _ (λ v. sym (link_case l (is_routed p v) (last_move v (trace_after p p.horizon)) (stays v))) (vehicles_of p) ∙ sym (count_on_is p p.horizon l)
 
-  pub all_is : state_of p.horizon (place_at p (trace_after p p.horizon)) (vehicle_count p) ≡ eight_after p p.horizon
+  pub all_is : state_of p.horizon (whereabouts_at p (trace_after p p.horizon)) (vehicle_count p) ≡ eight_after p p.horizon
   unfolding state_of eight_after eight_in
   all_is = rw (waiting_is, running_is, arrived_is, on_is 0, on_is 1, on_is 2, on_is 3) refl
 

@@ -18,27 +18,27 @@ use Rattle.dta_model.proofs.Ends.{got_number}
 use Rattle.dta_model.proofs.Journeys.{routes_are_followed}
 use Rattle.dta_model.proofs.Riders.{last_move_is, last_push}
 use Rattle.dta_model.proofs.Steady.{all_at}
-use Rattle.final_state.specs.Places.{on_link, place_after, place_at, place_by, place_to}
-use Rattle.final_state.specs.declared.place.Place.{Place}
-use Rattle.final_state.specs.declared.place.Place.TheVariants as place
+use Rattle.final_state.specs.Whereabouts.{on_link, whereabouts_after, whereabouts_at, whereabouts_by, whereabouts_to}
+use Rattle.final_state.specs.declared.whereabouts.Whereabouts.{Whereabouts}
+use Rattle.final_state.specs.declared.whereabouts.Whereabouts.TheVariants as whereabouts
 
 -- what the journey of a vehicle tells
-pub record Tells (route : List LinkNo) (entries : List ℕ) (arrival : Option ℕ) (at : Place) : Type 0 where
+pub record Tells (route : List LinkNo) (entries : List ℕ) (arrival : Option ℕ) (at : Whereabouts) : Type 0 where
   pub within : length entries ≤ length route
-  pub place : place_by route entries arrival ≡ at
+  pub whereabouts : whereabouts_by route entries arrival ≡ at
 
 last_there : (m : Move) (L : List Move) → (x : Move) × (last_or (Some m) L ≡ Some x) × (slice_get (m ∷ L) (length L) ≡ Some x)
 last_there m [] = (m, refl, refl)
 last_there m (y ∷ L) = last_there y L
 
-out_place : (x : Target) → is_onto x ≡ false → place_to x ≡ place.Arrived
+out_place : (x : Target) → is_onto x ≡ false → whereabouts_to x ≡ whereabouts.Arrived
 out_place (Onto l) h = cc
 out_place Arrived h = refl
 
 -- the link on which a vehicle is after an entry
-entry_place : (o : Option LinkNo) (x : Target) → x ≡ target_at (option_map (λ l. l.0) o) → is_onto x ≡ true → (on_link o ≡ place_to x) × ((l : LinkNo) × (o ≡ Some l))
+entry_place : (o : Option LinkNo) (x : Target) → x ≡ target_at (option_map (λ l. l.0) o) → is_onto x ≡ true → (on_link o ≡ whereabouts_to x) × ((l : LinkNo) × (o ≡ Some l))
 entry_place None x e h = let clash : false ≡ true = sym (ap is_onto e) ∙ h in cc
-entry_place (Some l) x e h = (sym (ap place_to e), (l, refl))
+entry_place (Some l) x e h = (sym (ap whereabouts_to e), (l, refl))
 
 abbrev OnRoute : List LinkNo → List Move → Type 0
 OnRoute route M = (i : ℕ) (m : Move) → slice_get M i ≡ Some m → m.target ≡ target_at (slice_get (link_numbers route) i)
@@ -50,7 +50,7 @@ got_front (x ∷ L) M (suc i) m e = got_front L M i m e
 
 -- the last of some entries
 module _ (route : List LinkNo) (m : Move) (E M : List Move) (entries : All (λ x. is_entry x ≡ true) (m ∷ E)) (on : OnRoute route ((m ∷ E) ++ M)) where
-  last_entry : (x : Move) × (last_or (Some m) E ≡ Some x) × (on_link (slice_get route (length E)) ≡ place_to x.target) × (length E < length route)
+  last_entry : (x : Move) × (last_or (Some m) E ≡ Some x) × (on_link (slice_get route (length E)) ≡ whereabouts_to x.target) × (length E < length route)
   last_entry =
       let last = last_there m E in
       let x : Move = last.0 in
@@ -60,16 +60,16 @@ module _ (route : List LinkNo) (m : Move) (E M : List Move) (entries : All (λ x
       (x, last.1, found.0, slice_get_within route (length E) (found.1.0) (found.1.1))
 
 tells : (route : List LinkNo) (E : List Move) (o : Option Move) → All (λ m. is_entry m ≡ true) E → ((m : Move) → o ≡ Some m → is_entry m ≡ false) → OnRoute route (E ++ option_to_list o)
-    → Tells route (map (λ m. m.step) E) (step_in o) (place_after (last_or None (E ++ option_to_list o)))
-tells route [] None entries out on = record { within = omega arith; place = refl }
-tells route [] (Some a) entries out on = record { within = omega arith; place = sym (out_place a.target (out a refl)) }
+    → Tells route (map (λ m. m.step) E) (step_in o) (whereabouts_after (last_or None (E ++ option_to_list o)))
+tells route [] None entries out on = record { within = omega arith; whereabouts = refl }
+tells route [] (Some a) entries out on = record { within = omega arith; whereabouts = sym (out_place a.target (out a refl)) }
 tells route (m ∷ E) None entries out on =
     let last = last_entry route m E [] entries on in
     let many = length-map E (λ x. x.step) in
     let few = last.3 in
     record {
       within = omega (arith, many, few);
-      place = ap (λ k. on_link (slice_get route k)) many ∙ last.2 ∙ sym (ap place_after (ap (λ L. last_or (Some m) L) (append-nil E) ∙ last.1));
+      whereabouts = ap (λ k. on_link (slice_get route k)) many ∙ last.2 ∙ sym (ap whereabouts_after (ap (λ L. last_or (Some m) L) (append-nil E) ∙ last.1));
     }
 tells route (m ∷ E) (Some a) entries out on =
     let last = last_entry route m E (a ∷ []) entries on in
@@ -77,7 +77,7 @@ tells route (m ∷ E) (Some a) entries out on =
     let few = last.3 in
     record {
       within = omega (arith, many, few);
-      place = sym (ap place_after (last_push (Some m) E a) ∙ out_place a.target (out a refl));
+      whereabouts = sym (ap whereabouts_after (last_push (Some m) E a) ∙ out_place a.target (out a refl));
     }
 
 found_fails : (L : List Move) (m : Move) → find (λ x. not (is_entry x)) L ≡ Some m → is_entry m ≡ false
@@ -90,8 +90,8 @@ found_fails (x ∷ L) m e = found_step (is_entry x) refl e (found_fails L m)
 
 -- a vehicle that has a route is where its entries and its arrival tell
 pub journey_tells : (p : Plan) (t v : ℕ) (route : List LinkNo) → slice_get p.routes v ≡ Some (Some route)
-    → Tells route (entries_of (trace_after p t) v) (arrival_of (trace_after p t) v) (place_at p (trace_after p t) v)
-unfolding entries_of arrival_of route_of place_at is_routed
+    → Tells route (entries_of (trace_after p t) v) (arrival_of (trace_after p t) v) (whereabouts_at p (trace_after p t) v)
+unfolding entries_of arrival_of route_of whereabouts_at is_routed
 journey_tells p t v route there =
     let T = trace_after p t in
     let ms : List Move = moves_of v T in
@@ -101,9 +101,9 @@ journey_tells p t v route there =
     let on : OnRoute route (filter is_entry ms ++ option_to_list o) =
     λ i m e. routes_are_followed p t v i m (ap (λ L. slice_get L i) parts ∙ e) ∙ ap (λ L. target_at (slice_get L i)) way in
     let told = tells route (filter is_entry ms) o (filter_passes is_entry ms) (λ m e. found_fails ms m e) on in
-    let place : place_after (last_or None (filter is_entry ms ++ option_to_list o)) ≡ place_at p T v =
-    sym (ap (λ r. cond (some_route r) (place_after (last_move v T)) place.Unrouted) there ∙ ap place_after (last_move_is v T ∙ ap (λ L. last_or None L) parts)) in
-    record { within = told.within; place = told.place ∙ place }
+    let whereabouts : whereabouts_after (last_or None (filter is_entry ms ++ option_to_list o)) ≡ whereabouts_at p T v =
+    sym (ap (λ r. cond (some_route r) (whereabouts_after (last_move v T)) whereabouts.Unrouted) there ∙ ap whereabouts_after (last_move_is v T ∙ ap (λ L. last_or None L) parts)) in
+    record { within = told.within; whereabouts = told.whereabouts ∙ whereabouts }
 
 map_some : {A B : Type 0} (f : A → B) (o : Option A) (y : B) → option_map f o ≡ Some y → (x : A) × (o ≡ Some x) × (f x ≡ y)
 map_some f None y e = absurd (none-some y e)
@@ -123,16 +123,16 @@ journeys_many p = length-map (vehicles_of p) (journey_of p) ∙ length-range_wit
 -- the same of what a loading gives
 pub loaded_tells : (p : Plan) (v : ℕ) (loaded : List Journey) (route way : List LinkNo) (journey : Journey) (entries : List ℕ)
     → slice_get p.routes v ≡ Some (Some route) → way ≡ route → loaded ≡ journeys_of p → slice_get loaded v ≡ Some journey → entries ≡ journey.entries
-    → Tells way entries journey.arrival (place_at p (trace_after p p.horizon) v)
+    → Tells way entries journey.arrival (whereabouts_at p (trace_after p p.horizon) v)
 unfolding journey_of
 loaded_tells p v loaded route way journey entries there same is got e =
-    let at = place_at p (trace_after p p.horizon) v in
+    let at = whereabouts_at p (trace_after p p.horizon) v in
     let j : journey ≡ record { entries = entries_of (trace_after p p.horizon) v; arrival = arrival_of (trace_after p p.horizon) v } = journey_is p v journey (ap (λ L. slice_get L v) (sym is) ∙ got) in
     subst (λ w. Tells w entries journey.arrival at) (sym same)
     (subst (λ s. Tells route s journey.arrival at) (sym e)
     (subst (λ k. Tells route k.entries k.arrival at) (sym j) (journey_tells p p.horizon v route there)))
 
 -- and one without a route is nowhere
-pub unrouted_is : (p : Plan) (T : List Move) (v : ℕ) → slice_get p.routes v ≡ Some None → place.Unrouted ≡ place_at p T v
-unfolding place_at is_routed
-unrouted_is p T v e = sym (ap (λ r. cond (some_route r) (place_after (last_move v T)) place.Unrouted) e)
+pub unrouted_is : (p : Plan) (T : List Move) (v : ℕ) → slice_get p.routes v ≡ Some None → whereabouts.Unrouted ≡ whereabouts_at p T v
+unfolding whereabouts_at is_routed
+unrouted_is p T v e = sym (ap (λ r. cond (some_route r) (whereabouts_after (last_move v T)) whereabouts.Unrouted) e)

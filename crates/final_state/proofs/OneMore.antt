@@ -10,8 +10,8 @@ use Rattle.net_core.specs.Network.{numbers_below}
 use Rattle.dta_model.specs.declared.eight.Eight.{Eight}
 use Rattle.dta_model.specs.declared.trip.TheConstants.{MOST_TRIPS}
 use Rattle.final_state.specs.Counts.{HasRoom, counted, has_come, is_on, is_running, is_waiting, one_more, state_of}
-use Rattle.final_state.specs.declared.place.Place.{Place}
-use Rattle.final_state.specs.declared.place.Place.TheVariants as place
+use Rattle.final_state.specs.declared.whereabouts.Whereabouts.{Whereabouts}
+use Rattle.final_state.specs.declared.whereabouts.Whereabouts.TheVariants as whereabouts
 
 abbrev Few : ℕ → Type 0
 Few n = n < MOST_TRIPS
@@ -64,28 +64,28 @@ one_of_four (suc (suc (suc (suc l)))) a b c d k j m n e f g h =
 same_state : (s w r a w' r' a' : ℕ) (f f' : List ℕ) → w ≡ w' → r ≡ r' → a ≡ a' → f ≡ f' → ◌≡◌ {A = Eight} (record { steps = s; waiting = w; running = r; arrived = a; first = f }) (record { steps = s; waiting = w'; running = r'; arrived = a'; first = f' })
 same_state s w r a w' r' a' f f' e g h k = rw (e, g, h, k) refl
 
-grown : (s : ℕ) (x : Place) (w r a k0 k1 k2 k3 w' r' a' j0 j1 j2 j3 : ℕ)
+grown : (s : ℕ) (x : Whereabouts) (w r a k0 k1 k2 k3 w' r' a' j0 j1 j2 j3 : ℕ)
     → w' ≡ w + cond (is_waiting x) 1 0 → r' ≡ r + cond (is_running x) 1 0 → a' ≡ a + cond (has_come x) 1 0
     → j0 ≡ k0 + cond (is_on 0 x) 1 0 → j1 ≡ k1 + cond (is_on 1 x) 1 0 → j2 ≡ k2 + cond (is_on 2 x) 1 0 → j3 ≡ k3 + cond (is_on 3 x) 1 0
     → ◌≡◌ {A = Eight} (record { steps = s; waiting = w'; running = r'; arrived = a'; first = j0 ∷ j1 ∷ j2 ∷ j3 ∷ [] }) (counted x (record { steps = s; waiting = w; running = r; arrived = a; first = k0 ∷ k1 ∷ k2 ∷ k3 ∷ [] }))
-grown s place.Unrouted w r a k0 k1 k2 k3 w' r' a' j0 j1 j2 j3 e f g h0 h1 h2 h3 =
+grown s whereabouts.Unrouted w r a k0 k1 k2 k3 w' r' a' j0 j1 j2 j3 e f g h0 h1 h2 h3 =
     same_state s w' r' a' w r a _ _ (plus_none w' w e) (plus_none r' r f) (plus_none a' a g) (four j0 j1 j2 j3 k0 k1 k2 k3 (plus_none j0 k0 h0) (plus_none j1 k1 h1) (plus_none j2 k2 h2) (plus_none j3 k3 h3))
-grown s place.Waiting w r a k0 k1 k2 k3 w' r' a' j0 j1 j2 j3 e f g h0 h1 h2 h3 =
+grown s whereabouts.Waiting w r a k0 k1 k2 k3 w' r' a' j0 j1 j2 j3 e f g h0 h1 h2 h3 =
     same_state s w' r' a' (w + 1) r a _ _ e (plus_none r' r f) (plus_none a' a g) (four j0 j1 j2 j3 k0 k1 k2 k3 (plus_none j0 k0 h0) (plus_none j1 k1 h1) (plus_none j2 k2 h2) (plus_none j3 k3 h3))
-grown s (place.OnLink l) w r a k0 k1 k2 k3 w' r' a' j0 j1 j2 j3 e f g h0 h1 h2 h3 =
+grown s (whereabouts.OnLink l) w r a k0 k1 k2 k3 w' r' a' j0 j1 j2 j3 e f g h0 h1 h2 h3 =
     same_state s w' r' a' w (r + 1) a _ _ (plus_none w' w e) f (plus_none a' a g) (one_of_four l.0 k0 k1 k2 k3 j0 j1 j2 j3 h0 h1 h2 h3)
-grown s place.Arrived w r a k0 k1 k2 k3 w' r' a' j0 j1 j2 j3 e f g h0 h1 h2 h3 =
+grown s whereabouts.Arrived w r a k0 k1 k2 k3 w' r' a' j0 j1 j2 j3 e f g h0 h1 h2 h3 =
     same_state s w' r' a' w r (a + 1) _ _ (plus_none w' w e) (plus_none r' r f) g (four j0 j1 j2 j3 k0 k1 k2 k3 (plus_none j0 k0 h0) (plus_none j1 k1 h1) (plus_none j2 k2 h2) (plus_none j3 k3 h3))
 
--- the state of one vehicle more counts it at its place
-pub state_more : (steps : ℕ) (at : ℕ → Place) (n m : ℕ) → m ≡ suc n → state_of steps at m ≡ counted (at n) (state_of steps at n)
+-- the state of one vehicle more counts it by its whereabouts
+pub state_more : (steps : ℕ) (at : ℕ → Whereabouts) (n m : ℕ) → m ≡ suc n → state_of steps at m ≡ counted (at n) (state_of steps at n)
 unfolding state_of
 state_more steps at n m e =
     grown steps (at n) _ _ _ _ _ _ _ _ _ _ _ _ _ _
     (count_more (λ v. is_waiting (at v)) n m e) (count_more (λ v. is_running (at v)) n m e) (count_more (λ v. has_come (at v)) n m e)
     (count_more (λ v. is_on 0 (at v)) n m e) (count_more (λ v. is_on 1 (at v)) n m e) (count_more (λ v. is_on 2 (at v)) n m e) (count_more (λ v. is_on 3 (at v)) n m e)
 
-pub state_none : (steps : ℕ) (at : ℕ → Place) → ◌≡◌ {A = Eight} (record { steps = steps; waiting = 0; running = 0; arrived = 0; first = 0 ∷ 0 ∷ 0 ∷ 0 ∷ [] }) (state_of steps at 0)
+pub state_none : (steps : ℕ) (at : ℕ → Whereabouts) → ◌≡◌ {A = Eight} (record { steps = steps; waiting = 0; running = 0; arrived = 0; first = 0 ∷ 0 ∷ 0 ∷ 0 ∷ [] }) (state_of steps at 0)
 unfolding state_of
 state_none steps at = refl
 
@@ -93,7 +93,7 @@ each_of_four : (a b c d : ℕ) → a < MOST_TRIPS → b < MOST_TRIPS → c < MOS
 each_of_four a b c d e f g h = All-cons Few a (b ∷ c ∷ d ∷ []) e (All-cons Few b (c ∷ d ∷ []) f (All-cons Few c (d ∷ []) g (All-cons Few d [] h (All-nil Few))))
 
 -- it has room for one more vehicle
-pub state_room : (steps : ℕ) (at : ℕ → Place) (n : ℕ) → n < MOST_TRIPS → HasRoom (state_of steps at n)
+pub state_room : (steps : ℕ) (at : ℕ → Whereabouts) (n : ℕ) → n < MOST_TRIPS → HasRoom (state_of steps at n)
 unfolding state_of
 state_room steps at n h = record {
   waiting = below (λ v. is_waiting (at v));

@@ -1,28 +1,28 @@
--- Vehicles counted at their places.
+-- Vehicles counted by their whereabouts.
 use Rattle.std.specs.Prelude.{ℕ, ◌+◌, ◌<◌, Bool, true, false, nat_eq, List, [], ◌∷◌, All, count_by}
 use Rattle.std.specs.Prelude.{zero, suc}
 use Rattle.net_core.specs.Network.{numbers_below}
 use Rattle.dta_model.specs.declared.eight.Eight.{Eight}
 use Rattle.dta_model.specs.declared.trip.TheConstants.{MOST_TRIPS}
-use Rattle.final_state.specs.declared.place.Place.{Place}
-use Rattle.final_state.specs.declared.place.Place.TheVariants as place
+use Rattle.final_state.specs.declared.whereabouts.Whereabouts.{Whereabouts}
+use Rattle.final_state.specs.declared.whereabouts.Whereabouts.TheVariants as whereabouts
 
--- whether a vehicle at a place waits, is on a link, or has arrived
-abbrev pub is_waiting : Place → Bool
-is_waiting place.Waiting = true
+-- whether a vehicle waits, is on a link, or has arrived
+abbrev pub is_waiting : Whereabouts → Bool
+is_waiting whereabouts.Waiting = true
 is_waiting other = false
 
-abbrev pub is_running : Place → Bool
-is_running (place.OnLink l) = true
+abbrev pub is_running : Whereabouts → Bool
+is_running (whereabouts.OnLink l) = true
 is_running other = false
 
-abbrev pub has_come : Place → Bool
-has_come place.Arrived = true
+abbrev pub has_come : Whereabouts → Bool
+has_come whereabouts.Arrived = true
 has_come other = false
 
--- whether a place is link l
-abbrev pub is_on : ℕ → Place → Bool
-is_on l (place.OnLink b) = nat_eq b.0 l
+-- whether a vehicle is on link l
+abbrev pub is_on : ℕ → Whereabouts → Bool
+is_on l (whereabouts.OnLink b) = nat_eq b.0 l
 is_on l other = false
 
 -- one more at a place of a list, and nothing where the list ends before it
@@ -31,12 +31,13 @@ one_more [] l = []
 one_more (n ∷ counts) zero = (n + 1) ∷ counts
 one_more (n ∷ counts) (suc l) = n ∷ one_more counts l
 
--- a state with one more vehicle, at this place
-abbrev pub counted : Place → Eight → Eight
-counted place.Unrouted e = e
-counted place.Waiting e = record e { waiting = e.waiting + 1 }
-counted (place.OnLink l) e = record e { running = e.running + 1; first = one_more e.first l.0 }
-counted place.Arrived e = record e { arrived = e.arrived + 1 }
+-- a state with one more vehicle, which is there
+abbrev pub counted : Whereabouts → Eight → Eight
+counted whereabouts.Unrouted e = e
+counted whereabouts.Waiting e = record e { waiting = e.waiting + 1 }
+counted (whereabouts.OnLink l) e =
+    record e { running = e.running + 1; first = one_more e.first l.0 }
+counted whereabouts.Arrived e = record e { arrived = e.arrived + 1 }
 
 -- a state that isn't of all vehicles yet
 pub record HasRoom (e : Eight) : Type 0 where
@@ -45,8 +46,8 @@ pub record HasRoom (e : Eight) : Type 0 where
   pub arrived : e.arrived < MOST_TRIPS
   pub first : All (λ n. n < MOST_TRIPS) e.first
 
--- the state of the first n vehicles after so many steps, by their places
-unfoldable pub state_of : ℕ → (ℕ → Place) → ℕ → Eight
+-- the state of the first n vehicles after so many steps, by their whereabouts
+unfoldable pub state_of : ℕ → (ℕ → Whereabouts) → ℕ → Eight
 state_of steps at n = record {
   steps = steps;
   waiting = count_by (λ v. is_waiting (at v)) (numbers_below n);

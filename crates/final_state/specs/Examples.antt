@@ -6,21 +6,23 @@ use Rattle.dta_model.specs.OnLiterals.{loadings_on_literals}
 use Rattle.dta_model.specs.State.{eight_after}
 use Rattle.dta_model.specs.declared.plan.Plan.{Plan}
 use Rattle.final_state.specs.Counts.{one_more, state_of}
-use Rattle.final_state.specs.Places.{place_by}
-use Rattle.final_state.specs.declared.place.Place.{Place}
-use Rattle.final_state.specs.declared.place.Place.TheVariants as place
+use Rattle.final_state.specs.Whereabouts.{whereabouts_by}
+use Rattle.final_state.specs.declared.whereabouts.Whereabouts.{Whereabouts}
+use Rattle.final_state.specs.declared.whereabouts.Whereabouts.TheVariants as whereabouts
 
 -- ---- a vehicle whose route leads over links 5 and 7
-waits : place_by (number 5 ∷ number 7 ∷ []) [] None ≡ place.Waiting
+waits : whereabouts_by (number 5 ∷ number 7 ∷ []) [] None ≡ whereabouts.Waiting
 waits = refl
 
-on_the_first : place_by (number 5 ∷ number 7 ∷ []) (3 ∷ []) None ≡ place.OnLink (number 5)
+on_the_first : whereabouts_by (number 5 ∷ number 7 ∷ []) (3 ∷ []) None
+    ≡ whereabouts.OnLink (number 5)
 on_the_first = refl
 
-on_the_second : place_by (number 5 ∷ number 7 ∷ []) (3 ∷ 9 ∷ []) None ≡ place.OnLink (number 7)
+on_the_second : whereabouts_by (number 5 ∷ number 7 ∷ []) (3 ∷ 9 ∷ []) None
+    ≡ whereabouts.OnLink (number 7)
 on_the_second = refl
 
-at_the_end : place_by (number 5 ∷ number 7 ∷ []) (3 ∷ 9 ∷ []) (Some 12) ≡ place.Arrived
+at_the_end : whereabouts_by (number 5 ∷ number 7 ∷ []) (3 ∷ 9 ∷ []) (Some 12) ≡ whereabouts.Arrived
 at_the_end = refl
 
 -- ---- one more on the last of four links, and on one past them
@@ -31,17 +33,17 @@ past_the_last : one_more (4 ∷ 0 ∷ 0 ∷ 7 ∷ []) 4 ≡ 4 ∷ 0 ∷ 0 ∷ 7 
 past_the_last = refl
 
 -- ---- six vehicles: one has no route, one waits, three are on links 1, 4 and 1, one has arrived
-unfoldable places : ℕ → Place
-places zero = place.Unrouted
-places (suc zero) = place.Waiting
-places (suc (suc zero)) = place.OnLink (number 1)
-places (suc (suc (suc zero))) = place.OnLink (number 4)
-places (suc (suc (suc (suc zero)))) = place.OnLink (number 1)
-places (suc (suc (suc (suc (suc v))))) = place.Arrived
+unfoldable six_whereabouts : ℕ → Whereabouts
+six_whereabouts zero = whereabouts.Unrouted
+six_whereabouts (suc zero) = whereabouts.Waiting
+six_whereabouts (suc (suc zero)) = whereabouts.OnLink (number 1)
+six_whereabouts (suc (suc (suc zero))) = whereabouts.OnLink (number 4)
+six_whereabouts (suc (suc (suc (suc zero)))) = whereabouts.OnLink (number 1)
+six_whereabouts (suc (suc (suc (suc (suc v))))) = whereabouts.Arrived
 
-six_vehicles : state_of 9 places 6
+six_vehicles : state_of 9 six_whereabouts 6
     ≡ record { steps = 9; waiting = 1; running = 3; arrived = 1; first = 0 ∷ 2 ∷ 0 ∷ 0 ∷ [] }
-unfolding state_of places
+unfolding state_of six_whereabouts
 six_vehicles = refl
 
 -- ---- two links of ten steps: all three vehicles arrive

@@ -1,3 +1,3 @@
-pub mod Places
+pub mod Whereabouts
 pub mod Counts
 pub mod Examples

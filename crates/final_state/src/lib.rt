@@ -6,9 +6,7 @@
 //! the first four links.
 #![tactic(auto)]
 
-mod place;
-mod routes;
+mod whereabouts;
 mod state;
 
-pub use routes::unrouted;
 pub use state::final_state;

@@ -7,7 +7,7 @@ ghost use Rattle.dta_model.specs.Sound.{IsSound};
 ghost use Rattle.dta_model.specs.State.{eight_after, is_routed};
 ghost use Rattle.final_state.specs.Counts.{HasRoom, counted, one_more};
 
-use crate::place::{Place, place_of};
+use crate::whereabouts::{Whereabouts, whereabouts_of};
 use dta_model::{Eight, Loaded, Loading, MOST_TRIPS};
 use net_core::LinkNo;
 
@@ -29,24 +29,24 @@ pub fn final_state(loading: &Loading, loaded: &Loaded) -> Eight
         first: [0; 4],
     };
     for vehicle in 0..loading.trips.len() as u32 {
-        count_in(&mut eight, place_of(loading, loaded, vehicle));
+        count_in(&mut eight, whereabouts_of(loading, loaded, vehicle));
     }
     eight
 }
 
-// Counts a vehicle at its place.
-fn count_in(eight: &mut Eight, place: Place)
+// Counts a vehicle by its whereabouts.
+fn count_in(eight: &mut Eight, whereabouts: Whereabouts)
     requires { HasRoom eight.old }
-    ensures { eight.new ≡ counted place eight.old }
+    ensures { eight.new ≡ counted whereabouts eight.old }
 {
-    match place {
-        Place::Unrouted => {}
-        Place::Waiting => eight.waiting += 1,
-        Place::OnLink(link) => {
+    match whereabouts {
+        Whereabouts::Unrouted => {}
+        Whereabouts::Waiting => eight.waiting += 1,
+        Whereabouts::OnLink(link) => {
             eight.running += 1;
             count_on(&mut eight.first, link);
         }
-        Place::Arrived => eight.arrived += 1,
+        Whereabouts::Arrived => eight.arrived += 1,
     }
 }
 

@@ -13,10 +13,12 @@
 mod flows;
 mod kept;
 mod laws;
+mod routeless;
 mod selection;
 
 pub use flows::{MOST_WORKERS, first_routes, gap_and_next_routes, next_routes};
 pub use laws::routes_are_determined;
+pub use routeless::unrouted;
 pub use selection::{MOST_ITERATION, is_selected};
 
 #[cfg(test)]

@@ -3,15 +3,15 @@ use Rattle.dta_model.specs.Lent.{plan_of}
 use Rattle.dta_model.specs.Loading.{trace_after}
 use Rattle.dta_model.specs.declared.loading.Loading.{Loading}
 use Rattle.final_state.specs.Counts.{HasRoom, counted, state_of}
-use Rattle.final_state.specs.Places.{place_at}
-use Rattle.final_state.specs.declared.place.Place.{Place}
+use Rattle.final_state.specs.Whereabouts.{whereabouts_at}
+use Rattle.final_state.specs.declared.whereabouts.Whereabouts.{Whereabouts}
 use Rattle.final_state.proofs.AtTheEnd.{all_is, all_routed}
 use Rattle.final_state.proofs.OneMore.{state_more, state_none, state_room}
 use Rattle.final_state.proofs.state.final_state.Goals as goal
 
 -- where the vehicles of a loading are
-abbrev at : Loading → ℕ → Place
-at loading = place_at (plan_of loading) (trace_after (plan_of loading) loading.horizon)
+abbrev at : Loading → ℕ → Whereabouts
+at loading = whereabouts_at (plan_of loading) (trace_after (plan_of loading) loading.horizon)
 
 pub loop-vehicle-init : goal.loop-vehicle-init
 loop-vehicle-init c = state_none c.args.loading.now.horizon (at c.args.loading.now)
@@ -25,7 +25,7 @@ count_in-requires c =
 pub loop-vehicle-preserved : goal.loop-vehicle-preserved
 loop-vehicle-preserved c =
     c.count_in.ensures
-    ∙ ap (λ x. counted x c.loop-vehicle.eight) c.place_of.ensures
+    ∙ ap (λ x. counted x c.loop-vehicle.eight) c.whereabouts_of.ensures
     ∙ ap (counted (at c.args.loading.now c.loop-vehicle.vehicle)) c.loop-vehicle.invariant
     ∙ sym (state_more c.args.loading.now.horizon (at c.args.loading.now) c.loop-vehicle.vehicle (c.loop-vehicle.vehicle + 1) (omega arith))
 
