@@ -14,8 +14,8 @@ use Rattle.dta_model.specs.declared.machine.Event.TheVariants as event
 use Rattle.dta_model.specs.declared.machine.Outcome.TheVariants as outcomes
 use Rattle.dta_model.specs.declared.machine.Stage.{Stage}
 use Rattle.dta_model.specs.declared.machine.Stage.TheVariants as stage
-use Rattle.node_transfer.specs.Contents.{away, cell_at, cell_before, mail_at, room_of}
-use Rattle.node_transfer.proofs.TwoStages.{steps_have_two_stages}
+use Rattle.cell_stages.specs.Contents.{away, cell_at, cell_before, mail_at, room_of}
+use Rattle.cell_stages.proofs.TwoStages.{steps_have_two_stages}
 use Rattle.claim_core.specs.Laws.{Always, EarlierAreFinished, HeldWereGiven, IsHeldOnce, LaterAreNot, NumbersRise, OpenAreOfThePhase, PartsAreOfWholeSteps, number_given}
 use Rattle.claim_core.specs.Parts.{done_in, moves, stage_in, stage_of}
 use Rattle.claim_core.specs.Sums.{below, once_below, one_if}

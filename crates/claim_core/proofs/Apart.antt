@@ -24,16 +24,16 @@ at_same : (x y : ℕ) → is_at x y ≡ is_at y x
 at_same x y = grind (arith, nat_tests)
 
 -- two places of a step are of one phase
-band : (k b r j : ℕ) → r < k + k + 1 → j < k + k + 1 → starts k b r ≤ b + j → b + j < stops k b r → r < k → j < k
+pub band : (k b r j : ℕ) → r < k + k + 1 → j < k + k + 1 → starts k b r ≤ b + j → b + j < stops k b r → r < k → j < k
 band k b r j hr hj lo hi h = grind (arith, nat_tests)
 
-band_low : (k b r j : ℕ) → r < k + k + 1 → j < k + k + 1 → starts k b r ≤ b + j → b + j < stops k b r → k ≤ r → r < k + k → k ≤ j
+pub band_low : (k b r j : ℕ) → r < k + k + 1 → j < k + k + 1 → starts k b r ≤ b + j → b + j < stops k b r → k ≤ r → r < k + k → k ≤ j
 band_low k b r j hr hj lo hi h g = grind (arith, nat_tests)
 
-band_high : (k b r j : ℕ) → r < k + k + 1 → j < k + k + 1 → starts k b r ≤ b + j → b + j < stops k b r → k ≤ r → r < k + k → j < k + k
+pub band_high : (k b r j : ℕ) → r < k + k + 1 → j < k + k + 1 → starts k b r ≤ b + j → b + j < stops k b r → k ≤ r → r < k + k → j < k + k
 band_high k b r j hr hj lo hi h g = grind (arith, nat_tests)
 
-band_last : (k b r j : ℕ) → r < k + k + 1 → j < k + k + 1 → starts k b r ≤ b + j → b + j < stops k b r → k + k ≤ r → j ≡ r
+pub band_last : (k b r j : ℕ) → r < k + k + 1 → j < k + k + 1 → starts k b r ≤ b + j → b + j < stops k b r → k + k ≤ r → j ≡ r
 band_last k b r j hr hj lo hi h = grind (arith, nat_tests)
 
 -- a slot of a node's cell or of a mail

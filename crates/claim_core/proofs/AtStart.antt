@@ -11,11 +11,11 @@ use Rattle.dta_model.specs.Units.{mail_slot, node_count, unit_count}
 use Rattle.dta_model.specs.declared.plan.Plan.{Plan}
 use Rattle.dta_model.specs.declared.machine.Stage.{Stage}
 use Rattle.dta_model.specs.declared.machine.Stage.TheVariants as stage
-use Rattle.node_transfer.specs.Cells.{CellState}
-use Rattle.node_transfer.specs.Contents.{away, cell_at, cell_before, mail_at, room_of}
+use Rattle.cell_stages.specs.CellState.{CellState}
+use Rattle.cell_stages.specs.Contents.{away, cell_at, cell_before, mail_at, room_of}
 use Rattle.node_transfer.specs.Start.{cells_at_start, rooms_at_start}
-use Rattle.node_transfer.specs.declared.mail.Mail.{Mail}
-use Rattle.node_transfer.proofs.TwoStages.{steps_have_two_stages}
+use Rattle.cell_stages.specs.declared.mail.Mail.{Mail}
+use Rattle.cell_stages.proofs.TwoStages.{steps_have_two_stages}
 use Rattle.claim_core.specs.Machine.{AreReached, IsMachine}
 use Rattle.claim_core.specs.Parts.{done_in, moves, stage_in, stage_of}
 use Rattle.claim_core.specs.Sums.{below}

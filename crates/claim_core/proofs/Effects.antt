@@ -14,7 +14,7 @@ use Rattle.dta_model.specs.declared.machine.Outcome.TheVariants as outcomes
 use Rattle.dta_model.specs.declared.machine.Stage.{Stage}
 use Rattle.dta_model.specs.declared.machine.Stage.TheVariants as stage
 use Rattle.dta_model.specs.Plans.{ins, outs}
-use Rattle.node_transfer.specs.Contents.{cell_at, mail_at}
+use Rattle.cell_stages.specs.Contents.{cell_at, mail_at}
 use Rattle.node_transfer.specs.Exchange.{is_among}
 use Rattle.claim_core.specs.Machine.{AreReached}
 use Rattle.claim_core.specs.Parts.{done_in, moves, stage_before, stage_in, stage_of}

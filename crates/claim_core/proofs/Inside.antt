@@ -11,9 +11,9 @@ use Rattle.dta_model.specs.declared.machine.Outcome.{Outcome}
 use Rattle.dta_model.specs.declared.machine.Outcome.TheVariants as outcomes
 use Rattle.dta_model.specs.declared.machine.Stage.{Stage}
 use Rattle.dta_model.specs.declared.machine.Stage.TheVariants as stage
-use Rattle.node_transfer.specs.Cells.{CellState}
-use Rattle.node_transfer.specs.Contents.{cell_at, mail_at}
-use Rattle.node_transfer.specs.declared.mail.Mail.{Mail}
+use Rattle.cell_stages.specs.CellState.{CellState}
+use Rattle.cell_stages.specs.Contents.{cell_at, mail_at}
+use Rattle.cell_stages.specs.declared.mail.Mail.{Mail}
 use Rattle.claim_core.specs.Machine.{AreReached, IsMachine}
 use Rattle.claim_core.specs.Parts.{done_in, moves, stage_in, stage_of}
 use Rattle.claim_core.specs.Sums.{is_at}

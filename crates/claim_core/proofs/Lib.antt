@@ -14,3 +14,4 @@ pub mod Effects
 pub mod Ended
 pub mod Inside
 pub mod AtStart
+pub mod Places

@@ -93,11 +93,11 @@ module _ (p : Plan) where
   unfolding network.ins
   times_ins n l h = among_links (λ b. (link_at p b).to.0) n (length p.net.links) l ∙ one_link (nat_eq (link_at p l).to.0 n) (once_below l (length p.net.links)) (once_in l (length p.net.links) h)
 
-  outs_past : (n l : ℕ) → length p.net.links ≤ l → times l (outs p n) ≡ 0
+  pub outs_past : (n l : ℕ) → length p.net.links ≤ l → times l (outs p n) ≡ 0
   unfolding network.outs
   outs_past n l h = among_links (λ b. (link_at p b).from.0) n (length p.net.links) l ∙ no_link (nat_eq (link_at p l).from.0 n) (once_below l (length p.net.links)) (once_out l (length p.net.links) h)
 
-  ins_past : (n l : ℕ) → length p.net.links ≤ l → times l (ins p n) ≡ 0
+  pub ins_past : (n l : ℕ) → length p.net.links ≤ l → times l (ins p n) ≡ 0
   unfolding network.ins
   ins_past n l h = among_links (λ b. (link_at p b).to.0) n (length p.net.links) l ∙ no_link (nat_eq (link_at p l).to.0 n) (once_below l (length p.net.links)) (once_out l (length p.net.links) h)
 

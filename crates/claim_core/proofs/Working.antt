@@ -10,12 +10,12 @@ use Rattle.dta_model.specs.Plans.{ins, outs}
 use Rattle.dta_model.specs.Sound.{IsSound}
 use Rattle.dta_model.specs.Units.{Gather, Posting, Task, Transfer, mail_slot, moved_by, node_count, posting_slot, step_of, step_units, task_at, task_of, position_of, unit_count}
 use Rattle.dta_model.specs.declared.plan.Plan.{Plan}
-use Rattle.node_transfer.specs.Cells.{CellState}
-use Rattle.node_transfer.specs.Contents.{IsStep, away, batch_of, cell_after, cell_at, cell_before, mail_at, room_of}
+use Rattle.cell_stages.specs.CellState.{CellState}
+use Rattle.cell_stages.specs.Contents.{IsStep, away, batch_of, cell_after, cell_at, cell_before, mail_at, room_of}
 use Rattle.node_transfer.specs.Exchange.{AreMail, ArePut, is_among}
-use Rattle.node_transfer.specs.declared.mail.Mail.{Mail}
+use Rattle.cell_stages.specs.declared.mail.Mail.{Mail}
 use Rattle.node_transfer.proofs.Parts.{ins-among, ins-member, outs-among, outs-member}
-use Rattle.node_transfer.proofs.TwoStages.{steps_have_two_stages}
+use Rattle.cell_stages.proofs.TwoStages.{steps_have_two_stages}
 use Rattle.claim_core.specs.Kinds.{kind_by}
 use Rattle.claim_core.specs.Parts.{moves, stage_before}
 use Rattle.claim_core.specs.Sums.{is_at, one_if}

@@ -1,19 +1,20 @@
 -- What holds of the claims after every list of events.
 use Rattle.std.specs.Prelude.{◌≡◌, ℕ, ◌<◌, ◌≤◌, ◌*◌, true, false, min, List, [], ◌∷◌, length}
-use Rattle.std.specs.Prelude.{Some, slice_get, count_by}
+use Rattle.std.specs.Prelude.{All, Contains, Some, slice_get, count_by}
 use Rattle.std.specs.List.{flat_map}
+use Rattle.std.specs.List.Sorted.{IsStrictlyIncreasing}
 use Rattle.net_core.specs.Network.{numbers_below}
 use Rattle.dta_model.specs.Machine.{Claims, all_idle, finished, holds_unit, is_finished}
 use Rattle.dta_model.specs.Machine.{outcomes_of, run_machine}
 use Rattle.dta_model.specs.Sound.{IsSound}
-use Rattle.dta_model.specs.Units.{mail_slot, node_count, phase_end, phase_start, step_units}
-use Rattle.dta_model.specs.Units.{unit_count}
+use Rattle.dta_model.specs.Units.{mail_slot, node_count, phase_end, phase_start, places}
+use Rattle.dta_model.specs.Units.{posting_slot, step_units, unit_count}
 use Rattle.dta_model.specs.declared.machine.Event.{Event}
 use Rattle.dta_model.specs.declared.machine.Outcome.{Outcome}
 use Rattle.dta_model.specs.declared.machine.Outcome.TheVariants as outcomes
 use Rattle.dta_model.specs.declared.machine.Stage.TheVariants as stage
 use Rattle.dta_model.specs.declared.plan.Plan.{Plan}
-use Rattle.node_transfer.specs.Contents.{away, cell_at, cell_before, mail_at, room_of}
+use Rattle.cell_stages.specs.Contents.{away, cell_at, cell_before, mail_at, room_of}
 use Rattle.claim_core.specs.Parts.{stage_in}
 
 -- it holds of the claims after every list of events, of every loading and any number of workers
@@ -66,3 +67,16 @@ NumbersRise =
     (p : Plan) (workers : ℕ) (events : List Event)
     → flat_map number_given (outcomes_of p events (all_idle workers))
     ≡ numbers_below (min (run_machine p events (all_idle workers)).drawn (unit_count p))
+
+-- two units whose phase begins at the same unit are of one phase. Where they have a place in common
+-- they are one unit
+abbrev pub NoPlaceIsShared : Type 0
+NoPlaceIsShared =
+    (p : Plan) (a b k : ℕ) → phase_start (node_count p) a ≡ phase_start (node_count p) b
+    → Contains (places p a) k → Contains (places p b) k → a ≡ b
+
+-- the places of a unit rise, so that each stands once, and none is past what posts
+abbrev pub PlacesRise : Type 0
+PlacesRise =
+    (p : Plan) (u : ℕ)
+    → IsStrictlyIncreasing (places p u) × All (λ k. k ≤ posting_slot p) (places p u)

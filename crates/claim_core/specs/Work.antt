@@ -2,9 +2,9 @@
 use Rattle.std.specs.Prelude.{◌≡◌, ℕ, suc, ◌<◌, ◌≤◌, List, length, Some, slice_get}
 use Rattle.dta_model.specs.Units.{mail_slot, node_count}
 use Rattle.dta_model.specs.declared.plan.Plan.{Plan}
-use Rattle.node_transfer.specs.Cells.{CellState}
-use Rattle.node_transfer.specs.Contents.{cell_at, mail_at}
-use Rattle.node_transfer.specs.declared.mail.Mail.{Mail}
+use Rattle.cell_stages.specs.CellState.{CellState}
+use Rattle.cell_stages.specs.Contents.{cell_at, mail_at}
+use Rattle.cell_stages.specs.declared.mail.Mail.{Mail}
 use Rattle.claim_core.specs.Parts.{moves, stage_before}
 
 -- the parts of a loading: the cell of each node, and the mail of each link

@@ -1,7 +1,7 @@
 // Laws of the claims. Each is the contract of a function that does nothing.
 ghost use Rattle.claim_core.specs.Laws.{Always, EarlierAreFinished, HeldWereGiven, IsHeldOnce};
-ghost use Rattle.claim_core.specs.Laws.{LaterAreNot, NumbersRise, OpenAreOfThePhase};
-ghost use Rattle.claim_core.specs.Laws.{PartsAreOfWholeSteps};
+ghost use Rattle.claim_core.specs.Laws.{LaterAreNot, NoPlaceIsShared, NumbersRise};
+ghost use Rattle.claim_core.specs.Laws.{OpenAreOfThePhase, PartsAreOfWholeSteps, PlacesRise};
 
 /// No unit is held by two workers at once.
 pub fn units_are_held_once()
@@ -37,4 +37,14 @@ pub fn numbers_rise()
 /// after t steps.
 pub fn parts_are_of_whole_steps()
     ensures { Always PartsAreOfWholeSteps }
+{}
+
+/// Two units of one phase have no place in common: what one works on, no other of its phase does.
+pub fn units_of_a_phase_share_no_place()
+    ensures { NoPlaceIsShared }
+{}
+
+/// The places of a unit are in the order of their numbers, each once.
+pub fn places_rise()
+    ensures { PlacesRise }
 {}

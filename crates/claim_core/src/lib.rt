@@ -16,7 +16,8 @@ mod work;
 pub use dta_model::{Event, Outcome};
 pub use laws::{
     earlier_units_are_finished, held_units_were_given, later_units_are_not, numbers_rise,
-    open_units_are_of_the_phase, parts_are_of_whole_steps, units_are_held_once,
+    open_units_are_of_the_phase, parts_are_of_whole_steps, places_rise, units_are_held_once,
+    units_of_a_phase_share_no_place,
 };
 pub use machine::Machine;
 pub use units::{UnitKind, Units};

@@ -13,7 +13,7 @@ use Rattle.dta_model.specs.State.{leads_onto}
 use Rattle.dta_model.specs.Trace.{Move, moves_of}
 use Rattle.dta_model.proofs.Pushes.{moves_of-append}
 use Rattle.dta_model.proofs.Standing.{in-queue}
-use Rattle.dta_model.proofs.Gathering.{no-moves}
+use Rattle.dta_model.proofs.NoMoves.{no-moves}
 use Rattle.dta_model.proofs.Conserved.{link_onto}
 use Rattle.dta_model.proofs.InTurn.{Follows, Fits, trace-follows}
 use Rattle.dta_model.proofs.Riders.{own_move, other_move, Enters, enters_push, nothing_enters, no_arrival}

@@ -7,7 +7,7 @@ use Rattle.std.proofs.lemmas.Bool.{eqb-false, eq-eqb, ne_eqb, eqb-true, and_part
 use Rattle.std.proofs.lemmas.List.Elements.{All-head, All-tail, All-push, All-nil, All-append, All-weaker, filter-append}
 use Rattle.std.proofs.Math.Dec.{eqb}
 use Rattle.dta_model.proofs.Blocked.{next_target-other}
-use Rattle.dta_model.proofs.Gathering.{no-moves}
+use Rattle.dta_model.proofs.NoMoves.{no-moves}
 use Rattle.dta_model.specs.declared.plan.Plan.{Plan}
 use Rattle.dta_model.specs.Laws.{HeadsMove, LeftInOrder, MovesInTurn}
 use Rattle.dta_model.specs.Loading.{after_step, step_moves, trace_after}

@@ -13,8 +13,6 @@ use Rattle.dta_model.specs.Machine.{all_idle, finished, outcomes_of, run_machine
 use Rattle.dta_model.specs.OnLiterals.{claims_on_literals, loadings_on_literals}
 use Rattle.dta_model.specs.OnLiterals.{releases_on_literals}
 use Rattle.dta_model.specs.Release.{trips_of}
-use Rattle.dta_model.specs.Riders.{RiderState}
-use Rattle.dta_model.specs.Stages.{line_before, line_after, room_mail, batch_mail}
 use Rattle.dta_model.specs.State.{eight_after}
 use Rattle.dta_model.specs.Trace.{Move}
 use Rattle.dta_model.specs.Units.{phase_end, phase_start, places}
@@ -130,32 +128,6 @@ two_links_in_a_line-state :
     ≡ record { steps = 20; waiting = 0; running = 2; arrived = 0; first = 1 ∷ 1 ∷ 0 ∷ 0 ∷ [] }
 unfolding loadings_on_literals trip two_links_in_a_line
 two_links_in_a_line-state = refl
-
--- the middle node in step 15, when the first vehicle goes from one link to the other
-abbrev pub first_rider : List ℕ → RiderState
-first_rider entries = record {
-  number = 0;
-  departure = 5;
-  route = 0 ∷ 1 ∷ [];
-  entries = entries;
-  arrival = None;
-}
-
-line_before_the_transfer : line_before two_links_in_a_line 15 0 ≡ first_rider (5 ∷ []) ∷ []
-unfolding loadings_on_literals trip two_links_in_a_line
-line_before_the_transfer = refl
-
-line_after_the_transfer : line_after two_links_in_a_line 1 15 0 ≡ []
-unfolding loadings_on_literals trip two_links_in_a_line
-line_after_the_transfer = refl
-
-batch_of_the_step : batch_mail two_links_in_a_line 1 15 ≡ first_rider (5 ∷ 15 ∷ []) ∷ []
-unfolding loadings_on_literals trip two_links_in_a_line
-batch_of_the_step = refl
-
-room_of_the_step : room_mail two_links_in_a_line 1 15 ≡ None
-unfolding loadings_on_literals trip two_links_in_a_line
-room_of_the_step = refl
 
 -- ---- the second link has no capacity
 unfoldable a_link_without_capacity : Plan

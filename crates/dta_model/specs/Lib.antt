@@ -11,12 +11,8 @@ pub mod NodeMoves
 pub mod Loading
 pub mod State
 pub mod Riders
-pub mod Stages
 pub mod Laws
 pub mod Orders
-pub mod OnePass
-pub mod Transfers
-pub mod HandOver
 pub mod LinkTimes
 pub mod TimedWalks
 pub mod Least

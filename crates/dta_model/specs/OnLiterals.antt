@@ -14,9 +14,6 @@ use Rattle.dta_model.specs.Release.{trips_of, in_order_of_departure, released, r
 use Rattle.dta_model.specs.Release.{departure, vehicles_of_row, vehicles_before}
 use Rattle.dta_model.specs.Riders.{rider_at}
 use Rattle.dta_model.specs.Room.{room}
-use Rattle.dta_model.specs.Stages.{brought, arriving, waiting_for, line_before, line_after}
-use Rattle.dta_model.specs.Stages.{waiting_before, waiting_after, arrived_before, room_mail}
-use Rattle.dta_model.specs.Stages.{batch_mail}
 use Rattle.dta_model.specs.State.{is_routed, is_due, waits, runs, has_arrived, due_after}
 use Rattle.dta_model.specs.State.{waiting_in, running_in, arrived_in, count_on, eight_in}
 use Rattle.dta_model.specs.State.{eight_after}
@@ -38,12 +35,11 @@ unfolding link_in ins outs is_named turn_at turn allowance link_allowance route_
     waits_for admit admission in_order next_move grown node_moves after_step trace_after
 traces_on_literals = tt
 
--- its journeys, states and stages
+-- its journeys and states
 unfoldable pub loadings_on_literals : ⊤
 unfolding traces_on_literals entries_of arrival_of journey_of journeys_of is_routed is_due waits
     runs has_arrived due_after waiting_in running_in arrived_in count_on eight_in eight_after
-    rider_at brought arriving waiting_for line_before line_after waiting_before waiting_after
-    arrived_before room_mail batch_mail
+    rider_at
 loadings_on_literals = tt
 
 -- claims of units

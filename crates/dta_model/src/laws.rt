@@ -1,17 +1,12 @@
 // Laws of the definitions. Each is the contract of a function that does nothing.
 ghost use Rattle.dta_model.specs.Examples.{two_links_in_a_line};
-ghost use Rattle.dta_model.specs.HandOver.{NodesHoldAll};
 ghost use Rattle.dta_model.specs.Laws.{ArrivalIsLast, HeadsMove, JourneysEndInOrder, LeftInOrder};
 ghost use Rattle.dta_model.specs.Laws.{NoMoveIsLeft, NoneOutside, NothingAtTheStart, QueuesAddUp};
 ghost use Rattle.dta_model.specs.Laws.{RoutesAreFollowed, StepsRise, VehiclesAreConserved};
 ghost use Rattle.dta_model.specs.Laws.{VisitsEndInOrder};
-ghost use Rattle.dta_model.specs.OnePass.{OnePassIsEnough};
 ghost use Rattle.dta_model.specs.Orders.{AnyOrder, SameJourneys};
 ghost use Rattle.dta_model.specs.Released.{TripsAreReleased};
 ghost use Rattle.dta_model.specs.Sound.{IsSound};
-ghost use Rattle.dta_model.specs.Transfers.{FirstWaits, HeadsOfLines, LinesGather, MovesCount};
-ghost use Rattle.dta_model.specs.Transfers.{MovesPass, RidersMove, RidersTell, RoutesLeadOn};
-ghost use Rattle.dta_model.specs.Transfers.{WaitingLinesStay};
 
 /// The nodes of a step may be taken in any order.
 pub fn nodes_in_any_order()
@@ -54,41 +49,6 @@ pub fn links_are_left_in_order()
     ensures { LeftInOrder }
 {}
 
-/// An in-line of the next step is what the transfer left of it, and then the batch.
-pub fn lines_gather()
-    ensures { LinesGather }
-{}
-
-/// A waiting line of the next step is what the transfer left of it.
-pub fn waiting_lines_stay()
-    ensures { WaitingLinesStay }
-{}
-
-/// One pass over a node's links makes its moves.
-pub fn one_pass_is_enough()
-    ensures { OnePassIsEnough }
-{}
-
-/// A rider on a link tells its last entry and its next target.
-pub fn riders_tell()
-    ensures { RidersTell }
-{}
-
-/// Who is admitted is the first of the waiting line, where departures don't fall.
-pub fn the_first_waits()
-    ensures { FirstWaits }
-{}
-
-/// The head that may move is the first that is left of the line at the start of the step.
-pub fn heads_of_lines()
-    ensures { HeadsOfLines }
-{}
-
-/// A rider after one more move.
-pub fn riders_move()
-    ensures { RidersMove }
-{}
-
 /// A vehicle's moves follow its route.
 pub fn routes_are_followed()
     ensures { RoutesAreFollowed }
@@ -109,36 +69,16 @@ pub fn arrival_is_last()
     ensures { ArrivalIsLast }
 {}
 
-/// What one move changes of lines and batches.
-pub fn moves_pass()
-    ensures { MovesPass }
-{}
-
 /// The same of what a loading gives: of two visits to one link the one that begins earlier ends no
 /// later, or the other hasn't ended.
 pub fn journeys_end_in_order()
     ensures { JourneysEndInOrder }
 {}
 
-/// All nodes together hold the vehicles that have routes, each once and as the trace makes it.
-pub fn nodes_hold_all()
-    ensures { NodesHoldAll }
-{}
-
 /// A table releases as many trips as its volumes make whole vehicles, numbered in order, by
 /// departures below the period.
 pub fn trips_are_released()
     ensures { TripsAreReleased }
-{}
-
-/// How the counts of a node grow by a move.
-pub fn moves_count()
-    ensures { MovesCount }
-{}
-
-/// The next link of a vehicle on a link begins where that one ends, and there is a turn to it.
-pub fn routes_lead_on()
-    ensures { RoutesLeadOn }
 {}
 
 /// No vehicle is on a link that isn't in the table.

@@ -20,12 +20,10 @@ mod trip;
 pub use credit::PARTS_OF_A_VEHICLE;
 pub use eight::Eight;
 pub use laws::{
-    arrival_is_last, heads_move, heads_of_lines, journeys_end_in_order, journeys_in_any_order,
-    lines_gather, links_are_left_in_order, moves_count, moves_pass, no_move_is_left,
-    nodes_hold_all, nodes_in_any_order, none_outside, nothing_at_the_start, one_pass_is_enough,
-    queues_add_up, riders_move, riders_tell, routes_are_followed, routes_lead_on, steps_rise,
-    the_first_waits, trips_are_released, two_links_are_sound, vehicles_are_conserved,
-    visits_end_in_order, waiting_lines_stay,
+    arrival_is_last, heads_move, journeys_end_in_order, journeys_in_any_order,
+    links_are_left_in_order, no_move_is_left, nodes_in_any_order, none_outside,
+    nothing_at_the_start, queues_add_up, routes_are_followed, steps_rise, trips_are_released,
+    two_links_are_sound, vehicles_are_conserved, visits_end_in_order,
 };
 pub use loaded::{Journey, Loaded};
 pub use loading::{Loading, MOST_HORIZON, MOST_LINK_STEPS};

@@ -33,8 +33,8 @@ end_of [] = Some (record { up = 0; down = 0 })
 end_of (mark ∷ text) =
     if is_exponent_mark mark
     then (if is_exponent text
-      then Some (record { up = tens_up text; down = tens_down text })
-      else None)
+    then Some (record { up = tens_up text; down = tens_down text })
+    else None)
     else None
 
 -- what may stand after an identifier's digits: nothing, or a point and zeros

@@ -16,6 +16,7 @@ mod node_table;
 mod nodes;
 mod turns;
 
+pub use fixed_units::Units;
 pub use link_table::read_links;
 pub use links::LinkRows;
 pub use movement_table::read_movements;
@@ -23,7 +24,6 @@ pub use network::{join_net, read_net};
 pub use node_table::read_nodes;
 pub use nodes::NodeRows;
 pub use turns::TurnRows;
-pub use fixed_units::Units;
 
 #[cfg(test)]
 mod tests;

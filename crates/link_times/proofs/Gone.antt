@@ -18,7 +18,7 @@ use Rattle.dta_model.specs.Trace.{Move, has_moved, is_of, moves_of, target_at}
 use Rattle.dta_model.proofs.Arrivals.{arrival_is_last}
 use Rattle.dta_model.proofs.Onward.{vehicles_are_conserved}
 use Rattle.dta_model.proofs.Ends.{got_number}
-use Rattle.dta_model.proofs.Gathering.{no-moves}
+use Rattle.dta_model.proofs.NoMoves.{no-moves}
 use Rattle.dta_model.proofs.Journeys.{routes_are_followed, steps_rise}
 use Rattle.dta_model.proofs.Steady.{steady_of}
 use Rattle.link_times.proofs.TravelTimes.{Spaced, moves_are_spaced}

@@ -7,8 +7,8 @@
 //! number exactly where some node has the zone. The calls that read take no memory.
 #![tactic(auto)]
 
-mod groups;
 mod by_node;
+mod groups;
 mod ids;
 mod laws;
 mod net;

@@ -9,8 +9,8 @@ ghost use Rattle.net_core.specs.Network.{turn as turn_between, turn_at as turn_f
 ghost use Rattle.net_core.specs.Network.{is_named as is_named_at};
 ghost use Rattle.net_core.specs.Turns.{IsAllowed};
 
-use crate::groups::Groups;
 use crate::by_node::{link_lists, listed_turns, row};
+use crate::groups::Groups;
 use crate::ids::Ids;
 use crate::rows::{LinkNo, LinkRow, NodeNo, NodeRow, Turn, TurnRow, ZoneNo};
 use crate::zones::zones_of;
@@ -57,8 +57,7 @@ impl Net {
         links: Vec<LinkRow>,
         turns: Vec<TurnRow>,
     ) -> Result<Self, Memory>
-        requires {
-            IsNet (record { nodes = nodes.items; links = links.items; turns = turns.items }) }
+        requires { IsNet (record { nodes = nodes.items; links = links.items; turns = turns.items }) }
         ensures { IfOk result (λ net.
             net ≡ record { nodes = nodes.items; links = links.items; turns = turns.items }) }
     {

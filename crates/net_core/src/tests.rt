@@ -20,8 +20,13 @@ fn node(id: u64, zone: Option<u64>) -> NodeRow
 
 fn link(id: u64, from: u32, to: u32) -> LinkRow
     ensures { result ≡ record {
-      id = id; from = record { 0 = from }; to = record { 0 = to };
-      free = 10; storage = 125; rate = 600000000 } }
+      id = id;
+      from = record { 0 = from };
+      to = record { 0 = to };
+      free = 10;
+      storage = 125;
+      rate = 600000000;
+    } }
 {
     LinkRow {
         id,

@@ -14,20 +14,20 @@ use Rattle.dta_model.specs.Loading.{is_onto, trace_after}
 use Rattle.dta_model.specs.Plans.{all_nodes, departure_of, first_link, ins, outs, route_of, vehicle_count, vehicles_of}
 use Rattle.dta_model.specs.Riders.{RiderState, rider_at, riders}
 use Rattle.dta_model.specs.Sound.{IsSound}
-use Rattle.dta_model.specs.Stages.{arrived_before, line_before, waiting_before}
+use Rattle.cell_stages.specs.Stages.{arrived_before, line_before, waiting_before}
 use Rattle.dta_model.specs.State.{arrived_in, count_on, eight_after, eight_in, has_arrived, is_due, is_routed, leads_onto, leads_out, running_in, runs, some_route, waiting_in, waits}
 use Rattle.dta_model.specs.Trace.{Arrived, Move, Onto, Target, has_moved, last_move, queue_of}
 use Rattle.dta_model.specs.declared.plan.Plan.{Plan}
-use Rattle.dta_model.proofs.Arrived.{arrived_total}
-use Rattle.dta_model.proofs.ByNumber.{all_numbered, numbered}
+use Rattle.cell_stages.proofs.Arrived.{arrived_total}
+use Rattle.cell_stages.proofs.ByNumber.{all_numbered, numbered}
 use Rattle.dta_model.proofs.Conserved.{mover_due}
 use Rattle.dta_model.proofs.Fuel.{trace-lawful}
-use Rattle.dta_model.proofs.HandOver.{one_number, passing_one, routed_has, running_one, unrouted}
-use Rattle.dta_model.proofs.Spread.{filter-flat}
+use Rattle.cell_stages.proofs.HandOver.{one_number, passing_one, routed_has, running_one, unrouted}
+use Rattle.cell_stages.proofs.Spread.{filter-flat}
 use Rattle.dta_model.proofs.Standing.{no-last}
 use Rattle.dta_model.proofs.Steady.{steady_of}
 use Rattle.dta_model.proofs.Totals.{one_below, sum_alike, sum_both, sum_zero}
-use Rattle.dta_model.proofs.Whereabouts.{link_by, link_of, waits_at}
+use Rattle.cell_stages.proofs.Whereabouts.{link_by, link_of, waits_at}
 use Rattle.link_queues.specs.Lines.{due}
 use Rattle.node_transfer.specs.Counts.{CountsAddUp}
 

@@ -7,8 +7,8 @@ use Rattle.std.proofs.lemmas.List.Elements.{All-head, All-tail, All-cons, All-ge
 use Rattle.dta_model.specs.Riders.{RiderState}
 use Rattle.node_transfer.specs.Pass.{CanPass, Rides, total, held, out_links}
 use Rattle.node_transfer.specs.Cells.{passed_link, CellWork, put_first, passed_links, CanCross, cell_total, line_length, waiting_length}
-use Rattle.node_transfer.specs.declared.in_link.InLink.{InLink}
-use Rattle.node_transfer.specs.declared.out_link.OutLink.{OutLink}
+use Rattle.cell_stages.specs.declared.in_link.InLink.{InLink}
+use Rattle.cell_stages.specs.declared.out_link.OutLink.{OutLink}
 
 abbrev pub behind : List InLink → CellWork → CellWork
 behind done w = record w { ins = done ++ w.ins }

@@ -8,11 +8,11 @@ use Rattle.dta_model.specs.NodeMoves.{is_first}
 use Rattle.dta_model.specs.Plans.{departure_of, first_link, vehicle_count, vehicles_of}
 use Rattle.dta_model.specs.Riders.{RiderState, rider_at, riders}
 use Rattle.dta_model.specs.Sound.{IsSound}
-use Rattle.dta_model.specs.Stages.{waiting_for, waiting_before}
+use Rattle.cell_stages.specs.Stages.{waiting_for, waiting_before}
 use Rattle.dta_model.specs.Trace.{Move, has_moved}
 use Rattle.dta_model.specs.declared.plan.Plan.{Plan}
 use Rattle.dta_model.proofs.Steady.{departures_rise}
-use Rattle.node_transfer.specs.Contents.{waiting_parts}
+use Rattle.cell_stages.specs.Contents.{waiting_parts}
 use Rattle.node_transfer.specs.Outs.{released}
 use Rattle.node_transfer.proofs.InPass.{staying-none}
 use Rattle.node_transfer.proofs.Mid.{T, waiting_mid}

@@ -3,11 +3,11 @@ use Rattle.std.specs.Prelude.{nat_eq, slice_get, slice_set, ◌≢◌}
 use Rattle.std.proofs.Common.{◌≡◌, ℕ, suc, ◌+◌, ◌<◌, ◌≤◌, Bool, true, false, cond, ◌||◌, List, length, refl, ap, sym, ◌∙◌, Option, Some, take, add-one}
 use Rattle.std.proofs.lemmas.Bool.{eq-eqb, ne_eqb}
 use Rattle.dta_model.specs.declared.plan.Plan.{Plan}
-use Rattle.node_transfer.specs.Cells.{CellState}
-use Rattle.node_transfer.specs.Contents.{away}
+use Rattle.cell_stages.specs.CellState.{CellState}
+use Rattle.cell_stages.specs.Contents.{away}
 use Rattle.node_transfer.specs.Exchange.{AreMail, ArePut, is_among}
-use Rattle.node_transfer.specs.declared.mail.Mail.{Mail}
-use Rattle.node_transfer.specs.declared.mail.Mail.TheVariants.{Away}
+use Rattle.cell_stages.specs.declared.mail.Mail.{Mail}
+use Rattle.cell_stages.specs.declared.mail.Mail.TheVariants.{Away}
 use Rattle.node_transfer.proofs.ListPlaces.{among-next, not-before, take-all}
 use Rattle.node_transfer.proofs.Parts.{IsMadeOf}
 use Rattle.node_transfer.proofs.Puts.{among-links, put-next}

@@ -17,14 +17,15 @@ use Rattle.dta_model.specs.Riders.{rider_at}
 use Rattle.dta_model.specs.Sound.{IsSound}
 use Rattle.dta_model.specs.State.{leads_onto}
 use Rattle.dta_model.specs.Trace.{Move, Target, Onto, Arrived, moves_of, last_move, leads_to, is_link, next_target, target_at, queue_of, stands_on, has_moved}
-use Rattle.dta_model.specs.Transfers.{OnlyEnters}
+use Rattle.cell_stages.specs.Transfers.{OnlyEnters}
 use Rattle.dta_model.specs.declared.plan.Plan.{Plan}
 use Rattle.dta_model.specs.declared.trip.Trip.{Trip}
 use Rattle.dta_model.proofs.InTurn.{Follows, Fits, trace-follows}
 use Rattle.dta_model.proofs.Journeys.{routes_are_followed}
 use Rattle.dta_model.proofs.Conserved.{link_onto}
 use Rattle.dta_model.proofs.Fuel.{has_moved-if}
-use Rattle.dta_model.proofs.Riders.{Enters, enters_push, nothing_enters, last_move_is, riders_tell}
+use Rattle.dta_model.proofs.Riders.{Enters, enters_push, nothing_enters, last_move_is}
+use Rattle.cell_stages.proofs.Riders.{riders_tell}
 use Rattle.dta_model.proofs.Standing.{in-queue}
 use Rattle.dta_model.proofs.Steady.{all_at}
 use Rattle.node_transfer.proofs.ByKey.{find_kept}

@@ -7,8 +7,8 @@ use Rattle.dta_model.specs.Plans.{link_at}
 use Rattle.dta_model.specs.Sound.{IsSound}
 use Rattle.dta_model.specs.declared.plan.Plan.{Plan}
 use Rattle.dta_model.proofs.Steady.{steady_of}
-use Rattle.node_transfer.specs.Cells.{CellState}
-use Rattle.node_transfer.specs.declared.mail.Mail.{Mail}
+use Rattle.cell_stages.specs.CellState.{CellState}
+use Rattle.cell_stages.specs.declared.mail.Mail.{Mail}
 use Rattle.node_transfer.specs.Driven.{all_cells, all_mail}
 use Rattle.node_transfer.specs.Exchange.{AreMail, ArePut}
 use Rattle.node_transfer.proofs.Parts.{IsMadeOf}

@@ -8,18 +8,18 @@ use Rattle.dta_model.specs.Plans.{ins, link_at, outs}
 use Rattle.dta_model.specs.Riders.{RiderState, rider_at, riders}
 use Rattle.dta_model.specs.Room.{room, room_by}
 use Rattle.dta_model.specs.Sound.{IsSound}
-use Rattle.dta_model.specs.Stages.{batch_mail, line_after, line_before, room_mail, waiting_after, waiting_before}
+use Rattle.cell_stages.specs.Stages.{batch_mail, line_after, line_before, room_mail, waiting_after, waiting_before}
 use Rattle.dta_model.specs.Trace.{queue_of}
 use Rattle.dta_model.specs.declared.plan.Plan.{Plan}
 use Rattle.dta_model.specs.declared.queue.Queue.{Queue}
 use Rattle.dta_model.specs.declared.queue.Queue.TheVariants as queue
-use Rattle.dta_model.proofs.NextLines.{next-lines, next-waiting}
+use Rattle.cell_stages.proofs.NextLines.{next-lines, next-waiting}
 use Rattle.link_queues.specs.declared.line.TheConstants.{MOST_RIDERS}
 use Rattle.node_transfer.specs.Cells.{CanGather, gathered, gathered_link, room_after}
-use Rattle.node_transfer.specs.Contents.{away, batch_of, cell_after, cell_before, exit_after, in_link, out_link, room_of, storage_by}
+use Rattle.cell_stages.specs.Contents.{away, batch_of, cell_after, cell_before, exit_after, in_link, out_link, room_of, storage_by}
 use Rattle.node_transfer.specs.Laws.{CellsGather}
-use Rattle.node_transfer.specs.declared.in_link.InLink.{InLink}
-use Rattle.node_transfer.specs.declared.mail.Mail.TheVariants.{Room}
+use Rattle.cell_stages.specs.declared.in_link.InLink.{InLink}
+use Rattle.cell_stages.specs.declared.mail.Mail.TheVariants.{Room}
 use Rattle.node_transfer.proofs.InPass.{few-on, staying-none}
 
 -- what two lists made of the same numbers agree in, they agree in at each

@@ -9,29 +9,29 @@ use Rattle.std.proofs.lemmas.List.Elements.{All-nil, All-cons, All-weaker}
 use Rattle.std.proofs.lemmas.List.FromFn.{length-map-range_with_len, get_or-map-range_with_len}
 use Rattle.std.proofs.lemmas.Option.{slice_get-get_or, slice_get_within}
 use Rattle.std.proofs.Math.Dec.{eqb}
-use Rattle.dta_model.specs.HandOver.{AreVehicles, all_riders, riders_at}
+use Rattle.cell_stages.specs.HandOver.{AreVehicles, all_riders, riders_at}
 use Rattle.dta_model.specs.Loading.{arrival_of, entries_of, journey_of, journeys_of, trace_after}
 use Rattle.dta_model.specs.Plans.{all_nodes, departure_of, ins, outs, vehicle_count, vehicles_of}
 use Rattle.dta_model.specs.Riders.{RiderState, rider_at, riders}
 use Rattle.dta_model.specs.Sound.{IsSound}
-use Rattle.dta_model.specs.Stages.{arrived_before, line_before, waiting_before, waiting_for}
+use Rattle.cell_stages.specs.Stages.{arrived_before, line_before, waiting_before, waiting_for}
 use Rattle.dta_model.specs.State.{is_due, is_routed, some_route}
 use Rattle.net_core.specs.declared.rows.LinkNo.{LinkNo}
-use Rattle.dta_model.proofs.ByNumber.{all_numbered}
+use Rattle.cell_stages.proofs.ByNumber.{all_numbered}
 use Rattle.node_transfer.specs.Laws.{CellsHandOver, CellsHoldAll}
 use Rattle.node_transfer.proofs.Hands.{all_split}
 use Rattle.dta_model.specs.Trace.{has_moved, moves_of}
 use Rattle.dta_model.specs.declared.loaded.Journey.{Journey}
 use Rattle.dta_model.specs.declared.plan.Plan.{Plan}
 use Rattle.dta_model.proofs.Fuel.{Lawful, trace-lawful}
-use Rattle.dta_model.proofs.Gathering.{no-moves}
-use Rattle.dta_model.proofs.HandOver.{nodes_hold_all}
+use Rattle.dta_model.proofs.NoMoves.{no-moves}
+use Rattle.cell_stages.proofs.HandOver.{nodes_hold_all}
 use Rattle.dta_model.proofs.Places.{of_mover}
 use Rattle.node_transfer.proofs.ByKey.{both_true}
-use Rattle.node_transfer.specs.Contents.{away, cell_before, in_link, out_link, waiting_parts}
+use Rattle.cell_stages.specs.Contents.{away, cell_before, in_link, out_link, waiting_parts}
 use Rattle.node_transfer.specs.Hand.{Within, handed, journey_by, line_of, riders_in, waiting_of}
 use Rattle.node_transfer.specs.Start.{no_journey, no_journeys}
-use Rattle.node_transfer.specs.declared.mail.Mail.{Mail}
+use Rattle.cell_stages.specs.declared.mail.Mail.{Mail}
 use Rattle.node_transfer.proofs.Due.{Ordered, filter_riders, none_before, waiting-ordered}
 
 -- those who are due before the later ones: the whole of a waiting line, where departures don't fall

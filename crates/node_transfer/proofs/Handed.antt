@@ -8,10 +8,10 @@ use Rattle.dta_model.specs.Riders.{RiderState}
 use Rattle.dta_model.specs.Sound.{IsSound}
 use Rattle.dta_model.specs.declared.plan.Plan.{Plan}
 use Rattle.dta_model.specs.declared.loaded.Journey.{Journey}
-use Rattle.node_transfer.specs.Cells.{CellState}
+use Rattle.cell_stages.specs.CellState.{CellState}
 use Rattle.node_transfer.specs.Hand.{Within, handed, riders_in}
 use Rattle.node_transfer.proofs.Hands.{all_split}
-use Rattle.node_transfer.specs.Contents.{away, cell_before}
+use Rattle.cell_stages.specs.Contents.{away, cell_before}
 use Rattle.node_transfer.proofs.HandOver.{cells_hand_over, handed-length}
 use Rattle.node_transfer.specs.Driven.{cells_before}
 

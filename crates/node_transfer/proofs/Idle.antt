@@ -8,16 +8,17 @@ use Rattle.std.proofs.lemmas.Bool.{eq-eqb, eqb-true}
 use Rattle.std.proofs.lemmas.Bool.Decides.{eqb_tells}
 use Rattle.std.proofs.lemmas.List.Elements.{All-cons, All-head, All-nil, All-tail}
 use Rattle.dta_model.specs.Plans.{ins, link_at, outs}
-use Rattle.dta_model.specs.Stages.{arrived_before, batch_mail, line_after, line_before, room_mail, waiting_after, waiting_before}
+use Rattle.cell_stages.specs.Stages.{arrived_before, batch_mail, line_after, line_before, room_mail, waiting_after, waiting_before}
 use Rattle.dta_model.specs.declared.plan.Plan.{Plan}
-use Rattle.node_transfer.specs.Cells.{CellState, mail_line, out_mail_put, room_after}
-use Rattle.node_transfer.specs.Contents.{IsStep, away, batch_of, cell_after, cell_before, in_link, out_link, room_of, storage_by}
+use Rattle.cell_stages.specs.CellState.{CellState}
+use Rattle.node_transfer.specs.Cells.{mail_line, out_mail_put, room_after}
+use Rattle.cell_stages.specs.Contents.{IsStep, away, batch_of, cell_after, cell_before, in_link, out_link, room_of, storage_by}
 use Rattle.node_transfer.specs.Rest.{IsIdle, IsQuiet, NobodyComes, QuietNodesStayIdle, StaysIdle, WaitLater, rested_in, rested_once, rested_out}
-use Rattle.node_transfer.specs.declared.in_link.InLink.{InLink}
-use Rattle.node_transfer.specs.declared.mail.Mail.{Mail}
-use Rattle.node_transfer.specs.declared.mail.Mail.TheVariants.{Away}
-use Rattle.node_transfer.specs.declared.out_link.OutLink.{OutLink}
-use Rattle.dta_model.proofs.NextLines.{next-lines, next-waiting}
+use Rattle.cell_stages.specs.declared.in_link.InLink.{InLink}
+use Rattle.cell_stages.specs.declared.mail.Mail.{Mail}
+use Rattle.cell_stages.specs.declared.mail.Mail.TheVariants.{Away}
+use Rattle.cell_stages.specs.declared.out_link.OutLink.{OutLink}
+use Rattle.cell_stages.proofs.NextLines.{next-lines, next-waiting}
 use Rattle.node_transfer.proofs.Gather.{map_each, room-same}
 use Rattle.node_transfer.proofs.Quiet.{rested_with, transferred-rests}
 use Rattle.node_transfer.proofs.Transfer.{transfer-stage}

@@ -9,22 +9,22 @@ use Rattle.std.proofs.lemmas.List.Elements.{All-nil, All-cons, All-append, All-h
 use Rattle.std.proofs.lemmas.List.Sums.{sum_by-cons}
 use Rattle.std.proofs.Math.Dec.{eqb}
 use Rattle.dta_model.specs.NodeMoves.{head_move, left, rotated}
-use Rattle.dta_model.specs.OnePass.{drained, pass_links}
+use Rattle.cell_stages.specs.OnePass.{drained, pass_links}
 use Rattle.dta_model.specs.Plans.{link_at, outs, vehicle_count}
 use Rattle.dta_model.specs.Riders.{riders}
 use Rattle.dta_model.specs.Sound.{IsSound}
-use Rattle.dta_model.specs.Stages.{line_before, staying}
+use Rattle.cell_stages.specs.Stages.{line_before, staying}
 use Rattle.dta_model.specs.Trace.{Move, leads_there, last_move, has_moved, queue_of, stands_on}
 use Rattle.dta_model.specs.declared.plan.Plan.{Plan}
 use Rattle.dta_model.proofs.Fuel.{Lawful, trace-lawful, distinct_below, has_moved-if}
-use Rattle.dta_model.proofs.Gathering.{kept_at}
+use Rattle.cell_stages.proofs.Gathering.{kept_at}
 use Rattle.dta_model.proofs.Places.{of_mover}
 use Rattle.dta_model.proofs.Queues.{absent, distinct, queue-distinct, leads_once}
 use Rattle.dta_model.proofs.Standing.{in-queue}
 use Rattle.node_transfer.specs.Cells.{passed_link, passed_links, passed_front, passed_rotated, link_after, put_first, joined_behind}
-use Rattle.node_transfer.specs.Contents.{in_link, exit_after, away}
+use Rattle.cell_stages.specs.Contents.{in_link, exit_after, away}
 use Rattle.node_transfer.specs.Pass.{opened_exit}
-use Rattle.node_transfer.specs.declared.in_link.InLink.{InLink}
+use Rattle.cell_stages.specs.declared.in_link.InLink.{InLink}
 use Rattle.node_transfer.proofs.ByKey.{head_parts}
 use Rattle.node_transfer.proofs.Facts.{on-link}
 use Rattle.node_transfer.proofs.LinkPass.{drains, pass_of, work_of, pass_same}

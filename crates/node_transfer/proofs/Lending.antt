@@ -5,11 +5,12 @@ use Rattle.std.proofs.lemmas.Option.{slice_get-get_or, slice_get_within}
 use Rattle.net_core.specs.Network.{as_links}
 use Rattle.net_core.specs.declared.rows.LinkNo.{LinkNo}
 use Rattle.dta_model.specs.declared.plan.Plan.{Plan}
-use Rattle.node_transfer.specs.Cells.{CellState, in_mail, mail_of_in, mail_of_out, out_mail}
-use Rattle.node_transfer.specs.Contents.{away}
+use Rattle.cell_stages.specs.CellState.{CellState}
+use Rattle.node_transfer.specs.Cells.{in_mail, mail_of_in, mail_of_out, out_mail}
+use Rattle.cell_stages.specs.Contents.{away}
 use Rattle.node_transfer.specs.Exchange.{AreMail, ArePut, ChangesOnly}
-use Rattle.node_transfer.specs.declared.mail.Mail.{Mail}
-use Rattle.node_transfer.specs.declared.mail.Mail.TheVariants.{Away}
+use Rattle.cell_stages.specs.declared.mail.Mail.{Mail}
+use Rattle.cell_stages.specs.declared.mail.Mail.TheVariants.{Away}
 use Rattle.node_transfer.proofs.Exchanges.{all-emptied, all-filled, collected-next, lent-next, next-away, replaced, told-next}
 use Rattle.node_transfer.proofs.ListPlaces.{link-here, links-count}
 use Rattle.node_transfer.proofs.Parts.{IsMadeOf}

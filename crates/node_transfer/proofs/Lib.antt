@@ -19,7 +19,6 @@ pub mod Transfer
 pub mod Gather
 pub mod Totals
 pub mod AddUp
-pub mod TwoStages
 pub mod Starts
 pub mod Opened
 pub mod Capped

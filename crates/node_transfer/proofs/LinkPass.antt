@@ -5,21 +5,21 @@ use Rattle.std.proofs.Common.{◌≡◌, ℕ, zero, suc, ◌+◌, ◌≤◌, Boo
 use Rattle.std.proofs.lemmas.List.Elements.{All-push, All-nil, All-cons}
 use Rattle.dta_model.specs.NodeMoves.{grow, head_move, leave_move, may_move, where_true}
 use Rattle.dta_model.specs.Loading.{is_onto}
-use Rattle.dta_model.specs.OnePass.{drained}
+use Rattle.cell_stages.specs.OnePass.{drained}
 use Rattle.dta_model.specs.Plans.{departure_of, link_at, outs}
 use Rattle.dta_model.specs.Riders.{RiderState, rider_at, riders, moved}
 use Rattle.dta_model.specs.Sound.{IsSound}
-use Rattle.dta_model.specs.Stages.{arrived_before, arrive_by, staying, waiting_for}
+use Rattle.cell_stages.specs.Stages.{arrived_before, arrive_by, staying, waiting_for}
 use Rattle.dta_model.specs.Trace.{Move, Target, Onto, Arrived, has_moved, next_target, queue_of, stands_on, target_at}
-use Rattle.dta_model.specs.Transfers.{line_move}
+use Rattle.cell_stages.specs.Transfers.{line_move}
 use Rattle.dta_model.specs.declared.plan.Plan.{Plan}
-use Rattle.dta_model.proofs.Gathering.{kept_at}
-use Rattle.dta_model.proofs.Lines.{heads_of_lines}
+use Rattle.cell_stages.proofs.Gathering.{kept_at}
+use Rattle.cell_stages.proofs.Lines.{heads_of_lines}
 use Rattle.dta_model.proofs.Queues.{distinct, queue-distinct}
-use Rattle.node_transfer.specs.Contents.{kept_turns}
+use Rattle.cell_stages.specs.Contents.{kept_turns}
 use Rattle.node_transfer.specs.Pass.{Work, passed, verdict, place_of}
-use Rattle.node_transfer.specs.declared.out_link.OutLink.{OutLink}
-use Rattle.node_transfer.specs.declared.pass.Exit.{Exit}
+use Rattle.cell_stages.specs.declared.out_link.OutLink.{OutLink}
+use Rattle.cell_stages.specs.declared.exit.Exit.{Exit}
 use Rattle.node_transfer.specs.declared.pass.Verdict.TheVariants.{Stays, Arrives, Enters}
 use Rattle.node_transfer.proofs.Facts.{OnLink, on-link}
 use Rattle.node_transfer.proofs.Mid.{T, line_mid, exit_mid, out_mid, arrived_mid, waiting_mid}

@@ -5,16 +5,16 @@ use Rattle.std.proofs.lemmas.Bool.{eq-eqb, ne_eqb}
 use Rattle.std.proofs.lemmas.List.Elements.{All-head, All-tail}
 use Rattle.dta_model.specs.Plans.{ins, outs}
 use Rattle.dta_model.specs.Riders.{RiderState}
-use Rattle.dta_model.specs.Stages.{line_after, line_before, waiting_after, waiting_before}
+use Rattle.cell_stages.specs.Stages.{line_after, line_before, waiting_after, waiting_before}
 use Rattle.dta_model.specs.declared.plan.Plan.{Plan}
 use Rattle.dta_model.proofs.Queues.{absent, distinct}
 use Rattle.node_transfer.proofs.ByKey.{both_true}
 use Rattle.node_transfer.specs.Cells.{changed_at, in_mail_put, out_mail_put}
-use Rattle.node_transfer.specs.Contents.{cell_after, cell_before, in_link, out_link}
+use Rattle.cell_stages.specs.Contents.{cell_after, cell_before, in_link, out_link}
 use Rattle.node_transfer.specs.Laws.{MailGoesByLinks, MailIsPut, put_mail}
-use Rattle.node_transfer.specs.declared.in_link.InLink.{InLink}
-use Rattle.node_transfer.specs.declared.mail.Mail.{Mail}
-use Rattle.node_transfer.specs.declared.out_link.OutLink.{OutLink}
+use Rattle.cell_stages.specs.declared.in_link.InLink.{InLink}
+use Rattle.cell_stages.specs.declared.mail.Mail.{Mail}
+use Rattle.cell_stages.specs.declared.out_link.OutLink.{OutLink}
 use Rattle.node_transfer.proofs.ByKey.{behind_by}
 use Rattle.node_transfer.proofs.InPass.{absent_all}
 use Rattle.node_transfer.proofs.LinkPass.{outs-distinct}

@@ -6,11 +6,11 @@ use Rattle.dta_model.specs.Allowance.{allowance, carried}
 use Rattle.dta_model.specs.NodeMoves.{left, entered, turned}
 use Rattle.dta_model.specs.Plans.{link_at, link_allowance, turn}
 use Rattle.dta_model.specs.Room.{room}
-use Rattle.dta_model.specs.Stages.{room_mail}
+use Rattle.cell_stages.specs.Stages.{room_mail}
 use Rattle.dta_model.specs.Trace.{Move, leads_to, stands_on}
 use Rattle.dta_model.specs.declared.plan.Plan.{Plan}
 use Rattle.net_core.specs.declared.rows.Turn.{Turn}
-use Rattle.node_transfer.specs.Contents.{kept_turns, turn_by, turn_after, exit_after, meter_after, room_of}
+use Rattle.cell_stages.specs.Contents.{kept_turns, turn_by, turn_after, exit_after, meter_after, room_of}
 use Rattle.capacity_credits.specs.Meter.{granted, closed}
 use Rattle.node_transfer.specs.Outs.{capped_by, capped_at}
 use Rattle.node_transfer.specs.Pass.{opened_turn, closed_turn, opened_exit, closed_exit}

@@ -6,17 +6,17 @@ use Rattle.dta_model.specs.NodeMoves.{left, entered, turned}
 use Rattle.dta_model.specs.Plans.{link_at, link_allowance, turn, departure_of}
 use Rattle.dta_model.specs.Riders.{RiderState, riders}
 use Rattle.dta_model.specs.Room.{room}
-use Rattle.dta_model.specs.Stages.{staying, waiting_for, arrived_before, arrive_by, batch_by}
+use Rattle.cell_stages.specs.Stages.{staying, waiting_for, arrived_before, arrive_by, batch_by}
 use Rattle.dta_model.specs.Trace.{Move, queue_of}
 use Rattle.dta_model.specs.declared.plan.Plan.{Plan}
-use Rattle.node_transfer.specs.Contents.{kept_turns, turn_by, storage_by, exit_after, meter_after}
+use Rattle.cell_stages.specs.Contents.{kept_turns, turn_by, storage_by, exit_after, meter_after}
 use Rattle.capacity_credits.specs.Meter.{MeterState}
-use Rattle.node_transfer.specs.declared.in_link.InLink.{InLink}
-use Rattle.node_transfer.specs.declared.mail.Mail.TheVariants.{Away, Batch}
-use Rattle.node_transfer.specs.declared.out_link.OutLink.{OutLink}
-use Rattle.node_transfer.specs.declared.out_link.Waiting.{Waiting}
-use Rattle.node_transfer.specs.declared.pass.Exit.{Exit}
-use Rattle.node_transfer.specs.declared.turn.LimitedTurn.{LimitedTurn}
+use Rattle.cell_stages.specs.declared.in_link.InLink.{InLink}
+use Rattle.cell_stages.specs.declared.mail.Mail.TheVariants.{Away, Batch}
+use Rattle.cell_stages.specs.declared.out_link.OutLink.{OutLink}
+use Rattle.cell_stages.specs.declared.out_link.Waiting.{Waiting}
+use Rattle.cell_stages.specs.declared.exit.Exit.{Exit}
+use Rattle.cell_stages.specs.declared.turn.LimitedTurn.{LimitedTurn}
 
 -- a rate in step t, of whose allowance some are used
 abbrev pub meter_mid : Plan → ℕ → ℕ → ℕ → MeterState

@@ -11,17 +11,19 @@ use Rattle.dta_model.specs.Loading.{is_onto}
 use Rattle.dta_model.specs.NodeMoves.{waits_for, admission, admit, is_first}
 use Rattle.dta_model.specs.Plans.{departure_of, first_link, vehicle_count, vehicles_of}
 use Rattle.dta_model.specs.Riders.{rider_at, riders, moved}
-use Rattle.dta_model.specs.Stages.{staying, arriving, waiting_for, batch_by, arrive_by}
+use Rattle.cell_stages.specs.Stages.{staying, arriving, waiting_for, batch_by, arrive_by}
 use Rattle.dta_model.specs.Trace.{Move, has_moved, is_of, leads_to, moves_of, next_target}
-use Rattle.dta_model.specs.Transfers.{OnlyEnters}
+use Rattle.cell_stages.specs.Transfers.{OnlyEnters}
 use Rattle.dta_model.specs.declared.plan.Plan.{Plan}
 use Rattle.dta_model.proofs.Queues.{vehicles, absent, distinct, without, without-absent}
 use Rattle.dta_model.proofs.Pushes.{has_moved-append, moves_of-append}
 use Rattle.node_transfer.proofs.ByKey.{both_true}
-use Rattle.dta_model.proofs.Gathering.{kept_at, map_like, rider-like, no-moves}
-use Rattle.dta_model.proofs.Riders.{other_move, filter_two}
-use Rattle.dta_model.proofs.Lines.{riders_move}
-use Rattle.dta_model.proofs.Passing.{moves_pass}
+use Rattle.cell_stages.proofs.Gathering.{kept_at, map_like, rider-like}
+use Rattle.dta_model.proofs.NoMoves.{no-moves}
+use Rattle.dta_model.proofs.Riders.{other_move}
+use Rattle.cell_stages.proofs.Riders.{filter_two}
+use Rattle.cell_stages.proofs.Lines.{riders_move}
+use Rattle.cell_stages.proofs.Passing.{moves_pass}
 use Rattle.node_transfer.proofs.Mid.{T, due_now, due_later}
 
 -- filters that agree, and filters one after another

@@ -11,8 +11,8 @@ use Rattle.std.proofs.Math.Dec.{eqb}
 use Rattle.net_core.specs.Network.{numbers_below}
 use Rattle.dta_model.specs.Plans.{all_nodes}
 use Rattle.dta_model.specs.declared.plan.Plan.{Plan}
-use Rattle.node_transfer.specs.Cells.{CellState}
-use Rattle.node_transfer.specs.declared.mail.Mail.{Mail}
+use Rattle.cell_stages.specs.CellState.{CellState}
+use Rattle.cell_stages.specs.declared.mail.Mail.{Mail}
 
 -- two rules that agree on the numbers make the same list
 same-range : {X : Type 0} (f g : ℕ → X) (n a : ℕ) → ((i : ℕ) → a ≤ i → i < a + n → f i ≡ g i) → map f (range_with_len a n) ≡ map g (range_with_len a n)

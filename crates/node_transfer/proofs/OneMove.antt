@@ -7,17 +7,17 @@ use Rattle.dta_model.specs.Allowance.{allowance}
 use Rattle.dta_model.specs.NodeMoves.{left, entered, turned}
 use Rattle.dta_model.specs.Plans.{link_at, turn, outs}
 use Rattle.dta_model.specs.Riders.{RiderState, rider_at, moved}
-use Rattle.dta_model.specs.Stages.{batch_by}
+use Rattle.cell_stages.specs.Stages.{batch_by}
 use Rattle.dta_model.specs.Trace.{Move, Onto, Arrived, leads_to, stands_on}
 use Rattle.dta_model.specs.declared.plan.Plan.{Plan}
 use Rattle.dta_model.proofs.Queues.{distinct}
 use Rattle.net_core.specs.declared.rows.Turn.{Turn}
 use Rattle.node_transfer.specs.Cells.{set_some}
-use Rattle.node_transfer.specs.Contents.{kept_turns, turn_by}
+use Rattle.cell_stages.specs.Contents.{kept_turns, turn_by}
 use Rattle.capacity_credits.specs.Meter.{passed_one}
 use Rattle.node_transfer.specs.Pass.{place_of, entered_at, entered_in, entered_out, used_at, used_in, used_turn, after_arrival, after_entry}
-use Rattle.node_transfer.specs.declared.out_link.OutLink.{OutLink}
-use Rattle.node_transfer.specs.declared.turn.LimitedTurn.{LimitedTurn}
+use Rattle.cell_stages.specs.declared.out_link.OutLink.{OutLink}
+use Rattle.cell_stages.specs.declared.turn.LimitedTurn.{LimitedTurn}
 use Rattle.node_transfer.proofs.ByKey.{set-at}
 use Rattle.node_transfer.proofs.Mid.{T, meter_mid, turn_mid, exit_mid, takes, waiting_mid, out_mid}
 

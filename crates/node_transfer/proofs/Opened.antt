@@ -19,7 +19,7 @@ use Rattle.dta_model.specs.NodeMoves.{is_first}
 use Rattle.dta_model.specs.Plans.{departure_of, first_link, ins, link_at, link_numbers, outs, route_in, route_of, turn, vehicle_count, vehicles_of}
 use Rattle.dta_model.specs.Riders.{RiderState, rider_at, riders}
 use Rattle.dta_model.specs.Sound.{IsSound}
-use Rattle.dta_model.specs.Stages.{arrived_before, line_before, waiting_before, waiting_for}
+use Rattle.cell_stages.specs.Stages.{arrived_before, line_before, waiting_before, waiting_for}
 use Rattle.dta_model.specs.Trace.{has_moved, last_moves, moves_of, queue_of}
 use Rattle.dta_model.specs.declared.plan.Plan.{Plan}
 use Rattle.dta_model.specs.declared.trip.TheConstants.{MOST_TRIPS}
@@ -29,7 +29,7 @@ use Rattle.node_transfer.proofs.ByKey.{both_true}
 use Rattle.link_queues.specs.Riders.{setting_out}
 use Rattle.link_queues.specs.declared.line.TheConstants.{MOST_RIDERS}
 use Rattle.node_transfer.specs.Cells.{changed_at, set_some}
-use Rattle.node_transfer.specs.Contents.{away, cell_before, in_link, kept_turns, meter_after, out_link, turn_after, turn_by, waiting_parts}
+use Rattle.cell_stages.specs.Contents.{away, cell_before, in_link, kept_turns, meter_after, out_link, turn_after, turn_by, waiting_parts}
 use Rattle.capacity_credits.specs.Meter.{unused}
 use Rattle.node_transfer.specs.Pass.{place_of}
 use Rattle.node_transfer.specs.Start.{cells_at_start}

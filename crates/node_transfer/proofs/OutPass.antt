@@ -10,23 +10,24 @@ use Rattle.std.proofs.Math.Dec.{eqb}
 use Rattle.dta_model.specs.Allowance.{carried}
 use Rattle.dta_model.specs.Loading.{is_entry}
 use Rattle.dta_model.specs.NodeMoves.{grow, admission, admit, may_enter, where_true, is_first, entered}
-use Rattle.dta_model.specs.OnePass.{drained, pass_links}
+use Rattle.cell_stages.specs.OnePass.{drained, pass_links}
 use Rattle.dta_model.specs.Plans.{departure_of, first_link, link_at, route_of, vehicle_count, vehicles_of}
 use Rattle.dta_model.specs.Riders.{rider_at, riders, moved}
 use Rattle.dta_model.specs.Sound.{IsSound}
-use Rattle.dta_model.specs.Stages.{arrived_before, arrive_by, batch_by, staying, waiting_for}
+use Rattle.cell_stages.specs.Stages.{arrived_before, arrive_by, batch_by, staying, waiting_for}
 use Rattle.dta_model.specs.Trace.{Move, Onto, has_moved, leads_to, moves_made, next_target, queue_of, target_at}
-use Rattle.dta_model.specs.Transfers.{OnlyEnters}
+use Rattle.cell_stages.specs.Transfers.{OnlyEnters}
 use Rattle.dta_model.specs.declared.plan.Plan.{Plan}
 use Rattle.dta_model.proofs.Fuel.{distinct_below, has_moved-if}
-use Rattle.dta_model.proofs.Gathering.{kept_at, no-moves}
+use Rattle.cell_stages.proofs.Gathering.{kept_at}
+use Rattle.dta_model.proofs.NoMoves.{no-moves}
 use Rattle.dta_model.proofs.Pushes.{moves_made_is}
 use Rattle.dta_model.proofs.Queues.{absent, distinct}
 use Rattle.dta_model.proofs.Standing.{in-queue}
 use Rattle.capacity_credits.specs.Meter.{MeterState, closed}
 use Rattle.node_transfer.specs.Outs.{Admitted, admitted, closed_out, closed_with}
-use Rattle.node_transfer.specs.declared.mail.Mail.TheVariants.{Batch}
-use Rattle.node_transfer.specs.declared.out_link.OutLink.{OutLink}
+use Rattle.cell_stages.specs.declared.mail.Mail.TheVariants.{Batch}
+use Rattle.cell_stages.specs.declared.out_link.OutLink.{OutLink}
 use Rattle.node_transfer.proofs.ByKey.{head_parts}
 use Rattle.node_transfer.proofs.InPass.{absent_all, all_from}
 use Rattle.node_transfer.proofs.LinkPass.{first_map, map_drop, not_true}

@@ -6,13 +6,14 @@ use Rattle.std.proofs.lemmas.Bool.{eqb-true}
 use Rattle.std.proofs.lemmas.List.{length-map}
 use Rattle.dta_model.specs.Plans.{ins, link_at, outs}
 use Rattle.dta_model.specs.Riders.{RiderState}
-use Rattle.dta_model.specs.Stages.{line_after, line_before, waiting_after, waiting_before}
+use Rattle.cell_stages.specs.Stages.{line_after, line_before, waiting_after, waiting_before}
 use Rattle.dta_model.specs.declared.plan.Plan.{Plan}
 use Rattle.dta_model.proofs.Queues.{distinct}
-use Rattle.node_transfer.specs.Cells.{CellState, in_mail, in_mail_put, in_mailed, mail_of_in, mail_of_out, out_mail, out_mail_put, out_mailed, with_in_mail, with_out_mail}
-use Rattle.node_transfer.specs.Contents.{cell_after, cell_before, in_link, out_link}
+use Rattle.cell_stages.specs.CellState.{CellState}
+use Rattle.node_transfer.specs.Cells.{in_mail, in_mail_put, in_mailed, mail_of_in, mail_of_out, out_mail, out_mail_put, out_mailed, with_in_mail, with_out_mail}
+use Rattle.cell_stages.specs.Contents.{cell_after, cell_before, in_link, out_link}
 use Rattle.node_transfer.specs.Exchange.{is_among}
-use Rattle.node_transfer.specs.declared.mail.Mail.{Mail}
+use Rattle.cell_stages.specs.declared.mail.Mail.{Mail}
 use Rattle.node_transfer.proofs.ByKey.{set-at}
 use Rattle.node_transfer.proofs.Movers.{distinct_filter, distinct_range}
 use Rattle.node_transfer.proofs.Numbers.{any-below, kept-below, same-kept}

@@ -8,8 +8,8 @@ use Rattle.std.proofs.lemmas.List.Elements.{All-head, All-tail}
 use Rattle.std.proofs.lemmas.Grind.{common_steps}
 use Rattle.dta_model.specs.Riders.{RiderState, moved}
 use Rattle.node_transfer.specs.Pass.{verdict, passed, CanPass, Rides, FitsAll, total, held, out_links, waitings, entered_at, entered_in, after_arrival, after_entry}
-use Rattle.node_transfer.specs.declared.pass.Exit.{Exit}
-use Rattle.node_transfer.specs.declared.out_link.OutLink.{OutLink}
+use Rattle.cell_stages.specs.declared.exit.Exit.{Exit}
+use Rattle.cell_stages.specs.declared.out_link.OutLink.{OutLink}
 use Rattle.node_transfer.specs.declared.pass.Verdict.TheVariants.{Stays, Arrives, Enters}
 
 pub passed-none : (step : ℕ) (line : List RiderState) (exit : Exit) (outs : List OutLink) (arrived : List RiderState) → slice_get line 0 ≡ None → passed step line exit outs arrived ≡ record { line = line; exit = exit; outs = outs; arrived = arrived }

@@ -8,7 +8,7 @@ use Rattle.std.proofs.lemmas.Option.{slice_get_within}
 use Rattle.std.proofs.Math.Dec.{eqb}
 use Rattle.net_core.specs.Network.{numbers_below}
 use Rattle.node_transfer.specs.Exchange.{ArePut, ChangesOnly, is_among}
-use Rattle.node_transfer.specs.declared.mail.Mail.{Mail}
+use Rattle.cell_stages.specs.declared.mail.Mail.{Mail}
 use Rattle.node_transfer.proofs.ListPlaces.{among-next, take-all}
 use Rattle.node_transfer.proofs.Numbers.{found-below}
 use Rattle.node_transfer.proofs.Sets.{count-set, same-elements, set-here, set-other}

@@ -5,18 +5,19 @@ use Rattle.std.proofs.Common.{◌≡◌, ℕ, zero, suc, ◌+◌, ◌<◌, Bool,
 use Rattle.std.proofs.lemmas.List.{map-append, take-append-drop}
 use Rattle.std.proofs.lemmas.List.Elements.{All-drop, All-head, All-map, All-tail, All-take, All-weaker}
 use Rattle.dta_model.specs.Riders.{RiderState}
-use Rattle.node_transfer.specs.Cells.{CellState, finished, joined_behind, link_after, out_mail_put, passed_front, passed_link, passed_links, passed_rotated, put_first, start_at, transferred}
+use Rattle.cell_stages.specs.CellState.{CellState}
+use Rattle.node_transfer.specs.Cells.{finished, joined_behind, link_after, out_mail_put, passed_front, passed_link, passed_links, passed_rotated, put_first, start_at, transferred}
 use Rattle.capacity_credits.specs.Meter.{MeterState, closed, granted}
 use Rattle.node_transfer.specs.Outs.{capped_by, closed_out, closed_with, opened_out, released}
 use Rattle.node_transfer.specs.Pass.{by_target, opened_exit, passed, penalty_of, place_of, turn_links, verdict, verdict_by}
 use Rattle.node_transfer.specs.Rest.{HeadIsLater, IsQuiet, WaitLater, rested, rested_in, rested_once, rested_out}
-use Rattle.node_transfer.specs.declared.in_link.InLink.{InLink}
-use Rattle.node_transfer.specs.declared.mail.Mail.{Mail}
-use Rattle.node_transfer.specs.declared.mail.Mail.TheVariants.{Away, Batch, Room}
-use Rattle.node_transfer.specs.declared.out_link.OutLink.{OutLink}
-use Rattle.node_transfer.specs.declared.pass.Exit.{Exit}
+use Rattle.cell_stages.specs.declared.in_link.InLink.{InLink}
+use Rattle.cell_stages.specs.declared.mail.Mail.{Mail}
+use Rattle.cell_stages.specs.declared.mail.Mail.TheVariants.{Away, Batch, Room}
+use Rattle.cell_stages.specs.declared.out_link.OutLink.{OutLink}
+use Rattle.cell_stages.specs.declared.exit.Exit.{Exit}
 use Rattle.node_transfer.specs.declared.pass.Verdict.TheVariants.{Stays}
-use Rattle.node_transfer.specs.declared.turn.LimitedTurn.{LimitedTurn}
+use Rattle.cell_stages.specs.declared.turn.LimitedTurn.{LimitedTurn}
 use Rattle.node_transfer.proofs.Outs.{admitted-none, not_le}
 
 -- a head that isn't ready stays

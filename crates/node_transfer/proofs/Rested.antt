@@ -1,14 +1,14 @@
 -- Steps that go by at once are steps that go by one after another.
 use Rattle.std.specs.Prelude.{◌≡◌, ℕ, zero, suc, ◌+◌, ◌*◌, ◌<◌, ◌%◌, List, [], ◌∷◌, map, option_map, Option, None, Some}
 use Rattle.std.proofs.Common.{refl, ap, ◌∙◌, arith}
-use Rattle.node_transfer.specs.Cells.{CellState}
+use Rattle.cell_stages.specs.CellState.{CellState}
 use Rattle.capacity_credits.specs.Meter.{MeterState, closed, granted, skipped}
 use Rattle.node_transfer.specs.Pass.{closed_turn, opened_turn}
 use Rattle.node_transfer.specs.Rest.{rested, rested_in, rested_once, rested_out}
 use Rattle.node_transfer.specs.Skip.{skipped_in, skipped_out, skipped_turn}
-use Rattle.node_transfer.specs.declared.in_link.InLink.{InLink}
-use Rattle.node_transfer.specs.declared.out_link.OutLink.{OutLink}
-use Rattle.node_transfer.specs.declared.turn.LimitedTurn.{LimitedTurn}
+use Rattle.cell_stages.specs.declared.in_link.InLink.{InLink}
+use Rattle.cell_stages.specs.declared.out_link.OutLink.{OutLink}
+use Rattle.cell_stages.specs.declared.turn.LimitedTurn.{LimitedTurn}
 
 more_carried : (carried k part : ℕ) → ((carried + k * part) % 3600000000 + part) % 3600000000 ≡ (carried + suc k * part) % 3600000000
 more_carried carried k part = omega arith

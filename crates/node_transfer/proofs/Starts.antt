@@ -13,7 +13,7 @@ use Rattle.dta_model.specs.Plans.{link_at, link_numbers}
 use Rattle.dta_model.specs.Riders.{RiderState}
 use Rattle.dta_model.specs.declared.plan.Plan.{Plan}
 use Rattle.node_transfer.specs.Cells.{set_some}
-use Rattle.node_transfer.specs.Contents.{storage_by}
+use Rattle.cell_stages.specs.Contents.{storage_by}
 use Rattle.net_core.specs.Rows.{IsBetween, IsLinkInRange, IsTurnInRange}
 use Rattle.fixed_units.specs.declared.link.TheConstants.{MOST_RATE}
 use Rattle.net_core.specs.declared.rows.Turn.{Turn}
@@ -21,23 +21,23 @@ use Rattle.net_core.specs.declared.rows.TurnRow.{TurnRow}
 use Rattle.dta_model.specs.Plans.{ins, outs, turn}
 use Rattle.dta_model.specs.Loading.{trace_after}
 use Rattle.dta_model.specs.Room.{room, room_by}
-use Rattle.dta_model.specs.Stages.{room_mail}
+use Rattle.cell_stages.specs.Stages.{room_mail}
 use Rattle.dta_model.specs.Trace.{queue_of, last_moves}
 use Rattle.dta_model.specs.declared.queue.Queue.{Queue}
 use Rattle.dta_model.specs.declared.queue.Queue.TheVariants as queue
-use Rattle.node_transfer.specs.Cells.{CellState}
+use Rattle.cell_stages.specs.CellState.{CellState}
 use Rattle.dta_model.specs.Sound.{IsSound}
 use Rattle.dta_model.proofs.Steady.{all_at}
 use Rattle.std.specs.Prelude.{IfSome, find, ◌&&◌}
 use Rattle.std.proofs.Common.{rules}
 use Rattle.std.proofs.lemmas.List.{map-append}
 use Rattle.std.proofs.lemmas.List.Elements.{filter-append, All-head, All-tail, All-nil, All-cons, All-weaker, All-filter}
-use Rattle.node_transfer.specs.Contents.{is_kept, room_of}
+use Rattle.cell_stages.specs.Contents.{is_kept, room_of}
 use Rattle.node_transfer.specs.StartCells.{turn_at_start, turns_at_start}
 use Rattle.node_transfer.specs.StartCells.{emptied, lines_left, start_out, taken_cell, taken_cells, taken_outs}
-use Rattle.node_transfer.specs.declared.mail.Mail.{Mail}
-use Rattle.node_transfer.specs.declared.mail.Mail.TheVariants.{Room}
-use Rattle.node_transfer.specs.declared.out_link.OutLink.{OutLink}
+use Rattle.cell_stages.specs.declared.mail.Mail.{Mail}
+use Rattle.cell_stages.specs.declared.mail.Mail.TheVariants.{Room}
+use Rattle.cell_stages.specs.declared.out_link.OutLink.{OutLink}
 
 abbrev pub start_room : Plan → ℕ → Mail
 start_room p l = Room 0 (storage_by p.queue (link_at p l).storage)

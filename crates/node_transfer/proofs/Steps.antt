@@ -7,9 +7,10 @@ use Rattle.std.proofs.lemmas.List.Elements.{All-head, All-tail, All-cons, All-ni
 use Rattle.dta_model.specs.Riders.{RiderState}
 use Rattle.node_transfer.specs.Pass.{Rides, held, out_links, waitings}
 use Rattle.node_transfer.specs.Outs.{released, opened_out}
-use Rattle.node_transfer.specs.Cells.{CanTransfer, CanCross, UnderWay, Waits, CellState}
-use Rattle.node_transfer.specs.declared.out_link.OutLink.{OutLink}
-use Rattle.node_transfer.specs.declared.out_link.Waiting.{Waiting}
+use Rattle.cell_stages.specs.CellState.{CellState}
+use Rattle.node_transfer.specs.Cells.{CanTransfer, CanCross, UnderWay, Waits}
+use Rattle.cell_stages.specs.declared.out_link.OutLink.{OutLink}
+use Rattle.cell_stages.specs.declared.out_link.Waiting.{Waiting}
 
 abbrev wait_length : Waiting → ℕ
 wait_length w = length w.later + length w.due

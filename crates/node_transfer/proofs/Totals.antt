@@ -8,27 +8,28 @@ use Rattle.std.proofs.lemmas.List.Elements.{All-head, All-tail, All-nil, All-con
 use Rattle.std.proofs.lemmas.List.Sums.{sum_by-cons, length-filter}
 use Rattle.std.proofs.lemmas.Option.{slice_get-map}
 use Rattle.std.proofs.Math.Dec.{eqb}
-use Rattle.dta_model.specs.HandOver.{all_riders, riders_at}
+use Rattle.cell_stages.specs.HandOver.{all_riders, riders_at}
 use Rattle.dta_model.specs.Loading.{trace_after, arrival_of}
 use Rattle.dta_model.specs.Plans.{ins, link_at, outs}
 use Rattle.dta_model.specs.Riders.{RiderState, rider_at, riders}
-use Rattle.dta_model.specs.Stages.{arrived_before, line_before, waiting_before, waiting_for}
+use Rattle.cell_stages.specs.Stages.{arrived_before, line_before, waiting_before, waiting_for}
 use Rattle.dta_model.specs.Trace.{queue_of, has_moved}
 use Rattle.dta_model.specs.declared.plan.Plan.{Plan}
 use Rattle.dta_model.specs.declared.trip.TheConstants.{MOST_TRIPS}
-use Rattle.dta_model.proofs.Gathering.{no-moves}
-use Rattle.dta_model.proofs.HandOver.{nodes_hold_all}
+use Rattle.dta_model.proofs.NoMoves.{no-moves}
+use Rattle.cell_stages.proofs.HandOver.{nodes_hold_all}
 use Rattle.link_queues.specs.declared.line.TheConstants.{MOST_RIDERS}
-use Rattle.node_transfer.specs.Cells.{CanTransfer, CellState, UnderWay, Waits, cell_total, line_length, waiting_length}
+use Rattle.cell_stages.specs.CellState.{CellState}
+use Rattle.node_transfer.specs.Cells.{CanTransfer, UnderWay, Waits, cell_total, line_length, waiting_length}
 use Rattle.dta_model.specs.Sound.{IsSound}
 use Rattle.dta_model.specs.State.{count_on}
 use Rattle.link_queues.specs.Lines.{due}
 use Rattle.node_transfer.specs.Counts.{counted, counts_at}
 use Rattle.node_transfer.specs.declared.counts.TheConstants.{MOST_COUNT}
 use Rattle.node_transfer.proofs.Crossings.{waiting_le}
-use Rattle.node_transfer.specs.Contents.{away, cell_before, in_link, out_link, waiting_parts}
+use Rattle.cell_stages.specs.Contents.{away, cell_before, in_link, out_link, waiting_parts}
 use Rattle.node_transfer.specs.Pass.{Rides, held, out_links as links_of, place_of}
-use Rattle.node_transfer.specs.declared.mail.Mail.{Mail}
+use Rattle.cell_stages.specs.declared.mail.Mail.{Mail}
 use Rattle.node_transfer.proofs.Facts.{OnLink, on-link}
 use Rattle.node_transfer.proofs.Mid.{T}
 use Rattle.node_transfer.proofs.Movers.{waits-unmoved}

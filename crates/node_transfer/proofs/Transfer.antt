@@ -7,18 +7,19 @@ use Rattle.std.proofs.lemmas.Bool.{eqb-true, ne_eqb}
 use Rattle.std.proofs.lemmas.List.{length-map}
 use Rattle.std.proofs.lemmas.List.Elements.{All-weaker, filter_passes}
 use Rattle.dta_model.specs.NodeMoves.{node_moves, in_order, rotated, head_move, admission}
-use Rattle.dta_model.specs.OnePass.{one_pass, pass_links}
+use Rattle.cell_stages.specs.OnePass.{one_pass, pass_links}
 use Rattle.dta_model.specs.Plans.{ins, link_at, outs, vehicle_count}
 use Rattle.dta_model.specs.Sound.{IsSound}
-use Rattle.dta_model.specs.Stages.{arrived_before, arriving, batch_by, batch_mail, brought, line_after, line_before, staying, waiting_after, waiting_before, waiting_for}
+use Rattle.cell_stages.specs.Stages.{arrived_before, arriving, batch_by, batch_mail, brought, line_after, line_before, staying, waiting_after, waiting_before, waiting_for}
 use Rattle.dta_model.specs.Trace.{Move}
 use Rattle.dta_model.specs.declared.plan.Plan.{Plan}
-use Rattle.dta_model.proofs.OnePass.{one_pass_is_enough}
-use Rattle.node_transfer.specs.Cells.{CellState, transferred, finished, passed_rotated, start_at}
-use Rattle.node_transfer.specs.Contents.{away, batch_of, room_of, cell_after, cell_before, in_link, out_link, meter_after}
+use Rattle.cell_stages.proofs.OnePass.{one_pass_is_enough}
+use Rattle.cell_stages.specs.CellState.{CellState}
+use Rattle.node_transfer.specs.Cells.{transferred, finished, passed_rotated, start_at}
+use Rattle.cell_stages.specs.Contents.{away, batch_of, room_of, cell_after, cell_before, in_link, out_link, meter_after}
 use Rattle.capacity_credits.specs.Meter.{granted}
 use Rattle.node_transfer.specs.Outs.{opened_out, capped_by}
-use Rattle.node_transfer.specs.declared.mail.Mail.TheVariants.{Away, Batch}
+use Rattle.cell_stages.specs.declared.mail.Mail.TheVariants.{Away, Batch}
 use Rattle.node_transfer.proofs.Due.{waiting-opens, parts-after}
 use Rattle.node_transfer.proofs.InPass.{RotatedPass, rotated-pass, passes, map_all}
 use Rattle.node_transfer.proofs.LinkPass.{outs-distinct}

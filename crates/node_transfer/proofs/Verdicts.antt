@@ -14,13 +14,13 @@ use Rattle.dta_model.specs.Room.{room, has_room}
 use Rattle.dta_model.specs.Trace.{Move, Onto, Arrived}
 use Rattle.dta_model.specs.declared.plan.Plan.{Plan}
 use Rattle.net_core.specs.declared.rows.Turn.{Turn}
-use Rattle.node_transfer.specs.Contents.{kept_turns, is_kept, turn_by}
+use Rattle.cell_stages.specs.Contents.{kept_turns, is_kept, turn_by}
 use Rattle.node_transfer.specs.Pass.{place_of, verdict, by_target, entry_at, is_entry, turn_links, out_links, turn_open, limit_open, out_open, penalty_of}
-use Rattle.node_transfer.specs.declared.out_link.OutLink.{OutLink}
-use Rattle.node_transfer.specs.declared.pass.Exit.{Exit}
+use Rattle.cell_stages.specs.declared.out_link.OutLink.{OutLink}
+use Rattle.cell_stages.specs.declared.exit.Exit.{Exit}
 use Rattle.node_transfer.specs.declared.pass.Verdict.{Verdict}
 use Rattle.node_transfer.specs.declared.pass.Verdict.TheVariants.{Stays, Arrives, Enters}
-use Rattle.node_transfer.specs.declared.turn.LimitedTurn.{LimitedTurn}
+use Rattle.cell_stages.specs.declared.turn.LimitedTurn.{LimitedTurn}
 use Rattle.node_transfer.proofs.Mid.{T, meter_mid, capped_room, turn_mid, exit_mid, out_mid}
 use Rattle.node_transfer.proofs.ByKey.{both_true}
 use Rattle.capacity_credits.specs.Meter.{MeterState}

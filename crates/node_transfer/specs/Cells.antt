@@ -3,12 +3,13 @@ use Rattle.link_queues.specs.declared.line.TheConstants.{MOST_RIDERS}
 use Rattle.std.specs.Prelude.{◌≡◌, ℕ, ◌+◌, ◌-◌, ◌≤◌, ◌%◌, cond, List, [], ◌∷◌, ◌++◌, length, map, nat_eq, slice_get, slice_set, Option, None, Some, option_map, All, drop, take}
 use Rattle.std.specs.List.{sum_by}
 use Rattle.dta_model.specs.Riders.{RiderState}
+use Rattle.cell_stages.specs.CellState.{CellState}
 use Rattle.node_transfer.specs.Pass.{Work, passed, Rides, held, out_links, opened_exit, closed_exit}
 use Rattle.node_transfer.specs.Outs.{opened_out, closed_out}
-use Rattle.node_transfer.specs.declared.mail.Mail.{Mail}
-use Rattle.node_transfer.specs.declared.mail.Mail.TheVariants.{Away, Room, Batch}
-use Rattle.node_transfer.specs.declared.in_link.InLink.{InLink}
-use Rattle.node_transfer.specs.declared.out_link.OutLink.{OutLink}
+use Rattle.cell_stages.specs.declared.mail.Mail.{Mail}
+use Rattle.cell_stages.specs.declared.mail.Mail.TheVariants.{Away, Room, Batch}
+use Rattle.cell_stages.specs.declared.in_link.InLink.{InLink}
+use Rattle.cell_stages.specs.declared.out_link.OutLink.{OutLink}
 
 -- an in-link with the out-links and the riders who arrived, while its heads move
 pub record LinkWork : Type 0 where
@@ -105,13 +106,6 @@ gathered_link step link = with_batch step link (link.line ++ mail_line link.mail
 pub record CanGather (step : ℕ) (link : InLink) : Type 0 where
   pub batch : IsBatch step link.mail
   pub fits : length link.line + length (mail_line link.mail) ≤ MOST_RIDERS
-
--- what contracts see of a cell
-pub record CellState : Type 0 where
-  pub ins : List InLink
-  pub outs : List OutLink
-  pub arrived : List RiderState
-  pub delta : ℕ
 
 -- the place of the in-link that begins
 abbrev pub start_at : ℕ → List InLink → ℕ

@@ -4,14 +4,14 @@ use Rattle.std.specs.Prelude.{◌≡◌, ℕ, List, length, min}
 use Rattle.dta_model.specs.Loading.{trace_after}
 use Rattle.dta_model.specs.Plans.{all_nodes, ins, outs}
 use Rattle.dta_model.specs.Sound.{IsSound}
-use Rattle.dta_model.specs.Stages.{arrived_before, waiting_before}
+use Rattle.cell_stages.specs.Stages.{arrived_before, waiting_before}
 use Rattle.dta_model.specs.State.{count_on, eight_after}
 use Rattle.dta_model.specs.declared.plan.Plan.{Plan}
 use Rattle.link_queues.specs.Lines.{due}
 use Rattle.dta_model.specs.Riders.{RiderState}
 use Rattle.node_transfer.specs.Cells.{line_length, waiting_length}
-use Rattle.node_transfer.specs.declared.in_link.InLink.{InLink}
-use Rattle.node_transfer.specs.declared.out_link.OutLink.{OutLink}
+use Rattle.cell_stages.specs.declared.in_link.InLink.{InLink}
+use Rattle.cell_stages.specs.declared.out_link.OutLink.{OutLink}
 use Rattle.node_transfer.specs.declared.counts.TheConstants.{MOST_COUNT}
 use Rattle.node_transfer.specs.declared.cell.CellCounts.{CellCounts}
 

@@ -3,9 +3,9 @@ use Rattle.std.specs.Prelude.{ℕ, suc, cond, nat_lt, List, length, map}
 use Rattle.net_core.specs.Network.{numbers_below}
 use Rattle.dta_model.specs.Plans.{all_nodes, link_at}
 use Rattle.dta_model.specs.declared.plan.Plan.{Plan}
-use Rattle.node_transfer.specs.Cells.{CellState}
-use Rattle.node_transfer.specs.Contents.{away, batch_of, cell_after, cell_before, room_of}
-use Rattle.node_transfer.specs.declared.mail.Mail.{Mail}
+use Rattle.cell_stages.specs.CellState.{CellState}
+use Rattle.cell_stages.specs.Contents.{away, batch_of, cell_after, cell_before, room_of}
+use Rattle.cell_stages.specs.declared.mail.Mail.{Mail}
 
 -- the cell of each node, and the mail of each link, in the order of their tables
 abbrev pub all_cells : Plan → (ℕ → CellState) → List CellState

@@ -1,7 +1,7 @@
 -- Mail that goes between the list of all links and the places of a node's cell.
 use Rattle.std.specs.List.{list_any}
 use Rattle.std.specs.Prelude.{◌≡◌, ℕ, Bool, true, false, nat_eq, List, length, Some, slice_get}
-use Rattle.node_transfer.specs.declared.mail.Mail.{Mail}
+use Rattle.cell_stages.specs.declared.mail.Mail.{Mail}
 
 -- whether link l is one of these
 abbrev pub is_among : List ℕ → ℕ → Bool

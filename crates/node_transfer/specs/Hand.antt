@@ -3,9 +3,9 @@ use Rattle.std.specs.Prelude.{ℕ, ◌<◌, List, [], ◌∷◌, ◌++◌, slice
 use Rattle.std.specs.List.{flat_map}
 use Rattle.dta_model.specs.Riders.{RiderState}
 use Rattle.dta_model.specs.declared.loaded.Journey.{Journey}
-use Rattle.node_transfer.specs.declared.in_link.InLink.{InLink}
-use Rattle.node_transfer.specs.declared.out_link.OutLink.{OutLink}
-use Rattle.node_transfer.specs.Cells.{CellState}
+use Rattle.cell_stages.specs.declared.in_link.InLink.{InLink}
+use Rattle.cell_stages.specs.declared.out_link.OutLink.{OutLink}
+use Rattle.cell_stages.specs.CellState.{CellState}
 
 -- the journey of a rider
 abbrev pub journey_by : RiderState → Journey

@@ -1,16 +1,16 @@
 -- What callers rely on that fill the places of cells and hand their journeys over.
 use Rattle.std.specs.List.{flat_map}
-use Rattle.std.specs.Prelude.{◌≡◌, ℕ, suc, ◌+◌, ◌*◌, ◌<◌, cond, nat_eq, length, map, All, Some, slice_get}
-use Rattle.dta_model.specs.HandOver.{AreVehicles}
+use Rattle.std.specs.Prelude.{◌≡◌, ℕ, suc, ◌<◌, cond, nat_eq, length, map, All, Some, slice_get}
+use Rattle.cell_stages.specs.HandOver.{AreVehicles}
 use Rattle.dta_model.specs.Loading.{journeys_of}
 use Rattle.dta_model.specs.Plans.{all_nodes, ins, outs, vehicle_count}
 use Rattle.dta_model.specs.Sound.{IsSound}
 use Rattle.dta_model.specs.declared.plan.Plan.{Plan}
 use Rattle.node_transfer.specs.Cells.{gathered, with_in_mail, with_out_mail}
-use Rattle.node_transfer.specs.Contents.{away, batch_of, cell_after, cell_at, cell_before, mail_at, room_of}
+use Rattle.cell_stages.specs.Contents.{away, batch_of, cell_after, cell_before, room_of}
 use Rattle.node_transfer.specs.Hand.{Within, handed, riders_in}
 use Rattle.node_transfer.specs.Start.{no_journeys}
-use Rattle.node_transfer.specs.declared.mail.Mail.{Mail}
+use Rattle.cell_stages.specs.declared.mail.Mail.{Mail}
 
 -- mail by links, with another one at link b
 abbrev pub put_mail : ℕ → Mail → (ℕ → Mail) → ℕ → Mail
@@ -66,16 +66,3 @@ CellsGather =
     (p : Plan) → IsSound p → (t n : ℕ) → n < length p.net.nodes
     → cell_before p n (suc t) (room_of p (suc t)) away
     ≡ gathered t (cell_after p n t (batch_of p t) away)
-
--- the two stages of a step: before its transfers, and after them
-pub record StageBefore (p : Plan) (t : ℕ) : Type 0 where
-  pub cell : (n : ℕ) → cell_at p n (2 * t) ≡ cell_before p n t away away
-  pub mail : (l : ℕ) → mail_at p l (2 * t) ≡ room_of p t l
-
-pub record StageAfter (p : Plan) (t : ℕ) : Type 0 where
-  pub cell : (n : ℕ) → cell_at p n (2 * t + 1) ≡ cell_after p n t away away
-  pub mail : (l : ℕ) → mail_at p l (2 * t + 1) ≡ batch_of p t l
-
--- so each step has two stages
-abbrev pub StepsHaveTwoStages : Type 0
-StepsHaveTwoStages = (p : Plan) (t : ℕ) → StageBefore p t × StageAfter p t

@@ -2,7 +2,6 @@ pub mod Pass
 pub mod Outs
 pub mod Cells
 pub mod Hand
-pub mod Contents
 pub mod Start
 pub mod StartInside
 pub mod StartCells

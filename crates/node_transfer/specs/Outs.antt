@@ -2,10 +2,10 @@
 use Rattle.std.specs.Prelude.{ℕ, cond, nat_lt, nat_le, List, [], ◌∷◌, ◌++◌, Option, None, Some}
 use Rattle.dta_model.specs.Riders.{RiderState, moved}
 use Rattle.capacity_credits.specs.Meter.{MeterState, granted, passed_one, closed, capped}
-use Rattle.node_transfer.specs.declared.mail.Mail.{Mail}
-use Rattle.node_transfer.specs.declared.mail.Mail.TheVariants.{Away, Room, Batch}
-use Rattle.node_transfer.specs.declared.out_link.Waiting.{Waiting}
-use Rattle.node_transfer.specs.declared.out_link.OutLink.{OutLink}
+use Rattle.cell_stages.specs.declared.mail.Mail.{Mail}
+use Rattle.cell_stages.specs.declared.mail.Mail.TheVariants.{Away, Room, Batch}
+use Rattle.cell_stages.specs.declared.out_link.Waiting.{Waiting}
+use Rattle.cell_stages.specs.declared.out_link.OutLink.{OutLink}
 
 -- those that are due stand behind those that were due before
 unfoldable pub released : ℕ → List RiderState → List RiderState → Waiting

@@ -4,10 +4,10 @@ use Rattle.std.specs.Prelude.{◌≡◌, ℕ, ◌+◌, ◌<◌, ◌≤◌, Bool,
 use Rattle.std.specs.List.{sum_by, last_or}
 use Rattle.dta_model.specs.Riders.{RiderState, moved}
 use Rattle.capacity_credits.specs.Meter.{MeterState, granted, passed_one, closed}
-use Rattle.node_transfer.specs.declared.turn.LimitedTurn.{LimitedTurn}
-use Rattle.node_transfer.specs.declared.pass.Exit.{Exit}
-use Rattle.node_transfer.specs.declared.out_link.OutLink.{OutLink}
-use Rattle.node_transfer.specs.declared.out_link.Waiting.{Waiting}
+use Rattle.cell_stages.specs.declared.turn.LimitedTurn.{LimitedTurn}
+use Rattle.cell_stages.specs.declared.exit.Exit.{Exit}
+use Rattle.cell_stages.specs.declared.out_link.OutLink.{OutLink}
+use Rattle.cell_stages.specs.declared.out_link.Waiting.{Waiting}
 use Rattle.node_transfer.specs.declared.pass.Verdict.{Verdict}
 use Rattle.node_transfer.specs.declared.pass.Verdict.TheVariants.{Stays, Arrives, Enters}
 

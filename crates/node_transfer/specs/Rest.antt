@@ -1,13 +1,13 @@
 -- A node at which nobody moves.
 use Rattle.dta_model.specs.Plans.{link_at}
-use Rattle.dta_model.specs.Stages.{batch_mail, room_mail}
+use Rattle.cell_stages.specs.Stages.{batch_mail, room_mail}
 use Rattle.dta_model.specs.declared.plan.Plan.{Plan}
-use Rattle.node_transfer.specs.Cells.{CellState}
-use Rattle.node_transfer.specs.Contents.{IsStep, away, cell_after, cell_before}
+use Rattle.cell_stages.specs.CellState.{CellState}
+use Rattle.cell_stages.specs.Contents.{IsStep, away, cell_after, cell_before}
 use Rattle.capacity_credits.specs.Meter.{closed, granted}
 use Rattle.node_transfer.specs.Pass.{closed_exit, opened_exit}
-use Rattle.node_transfer.specs.declared.in_link.InLink.{InLink}
-use Rattle.node_transfer.specs.declared.out_link.OutLink.{OutLink}
+use Rattle.cell_stages.specs.declared.in_link.InLink.{InLink}
+use Rattle.cell_stages.specs.declared.out_link.OutLink.{OutLink}
 use Rattle.std.specs.List.{last_or}
 use Rattle.std.specs.Prelude.{◌≡◌, ℕ, zero, suc, ◌+◌, ◌<◌, [], All, IfSome, None, length, map, slice_get}
 

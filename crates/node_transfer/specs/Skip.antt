@@ -1,9 +1,9 @@
 -- Links whose allowances of so many steps were granted at once, and are lost.
 use Rattle.capacity_credits.specs.Meter.{skipped}
-use Rattle.node_transfer.specs.declared.in_link.InLink.{InLink}
-use Rattle.node_transfer.specs.declared.out_link.OutLink.{OutLink}
-use Rattle.node_transfer.specs.declared.pass.Exit.{Exit}
-use Rattle.node_transfer.specs.declared.turn.LimitedTurn.{LimitedTurn}
+use Rattle.cell_stages.specs.declared.in_link.InLink.{InLink}
+use Rattle.cell_stages.specs.declared.out_link.OutLink.{OutLink}
+use Rattle.cell_stages.specs.declared.exit.Exit.{Exit}
+use Rattle.cell_stages.specs.declared.turn.LimitedTurn.{LimitedTurn}
 use Rattle.std.specs.Prelude.{ℕ, map, option_map}
 
 -- a turn, an exit, an in-link and an out-link after so many steps of delta seconds

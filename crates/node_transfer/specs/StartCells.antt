@@ -3,13 +3,14 @@ use Rattle.std.specs.Prelude.{ℕ, cond, Option, None, Some, List, [], ◌∷◌
 use Rattle.dta_model.specs.Plans.{ins, link_at, outs, turn}
 use Rattle.dta_model.specs.Riders.{RiderState}
 use Rattle.dta_model.specs.declared.plan.Plan.{Plan}
-use Rattle.node_transfer.specs.Cells.{CellState, changed_at}
-use Rattle.node_transfer.specs.Contents.{is_kept, storage_by, turn_by}
+use Rattle.cell_stages.specs.CellState.{CellState}
+use Rattle.node_transfer.specs.Cells.{changed_at}
+use Rattle.cell_stages.specs.Contents.{is_kept, storage_by, turn_by}
 use Rattle.capacity_credits.specs.Meter.{unused}
-use Rattle.node_transfer.specs.declared.in_link.InLink.{InLink}
-use Rattle.node_transfer.specs.declared.mail.Mail.TheVariants.{Away}
-use Rattle.node_transfer.specs.declared.out_link.OutLink.{OutLink}
-use Rattle.node_transfer.specs.declared.turn.LimitedTurn.{LimitedTurn}
+use Rattle.cell_stages.specs.declared.in_link.InLink.{InLink}
+use Rattle.cell_stages.specs.declared.mail.Mail.TheVariants.{Away}
+use Rattle.cell_stages.specs.declared.out_link.OutLink.{OutLink}
+use Rattle.cell_stages.specs.declared.turn.LimitedTurn.{LimitedTurn}
 
 -- the turn from link l to link b
 abbrev pub turn_at_start : Plan → ℕ → ℕ → LimitedTurn

@@ -4,7 +4,7 @@ ghost use Rattle.dta_model.specs.Plans.{ins};
 ghost use Rattle.dta_model.specs.State.{count_on};
 ghost use Rattle.dta_model.specs.declared.plan.Plan.{Plan};
 ghost use Rattle.node_transfer.specs.Cells.{CanGather, CanTransfer, gathered, in_mail, out_mail, transferred, with_in_mail, with_out_mail};
-ghost use Rattle.node_transfer.specs.Contents.{IsStep, away, batch_of, cell_after, cell_before, room_of};
+ghost use Rattle.cell_stages.specs.Contents.{IsStep, away, batch_of, cell_after, cell_before, room_of};
 ghost use Rattle.node_transfer.specs.Counts.{counted, counts_at};
 ghost use Rattle.node_transfer.specs.Hand.{Within, handed, riders_in};
 ghost use Rattle.dta_model.specs.Sound.{IsSound};
@@ -14,11 +14,11 @@ ghost use Rattle.std.specs.Prelude.{◌≡◌, ℕ, suc, ◌<◌, ◌≤◌, [],
 
 use crate::counts::count_parts;
 use crate::hand_over::hand_parts;
-use crate::in_link::{InLink, gather_links};
-use crate::mail::{Mail, put_in_mail, put_out_mail, swap_in_mail, swap_out_mail};
-use crate::out_link::OutLink;
+use crate::in_link::gather_links;
+use crate::mail::{put_in_mail, put_out_mail, swap_in_mail, swap_out_mail};
 use crate::rest::{first_step, rest_links};
 use crate::step::step_links;
+use cell_stages::{InLink, Mail, OutLink};
 use dta_model::{Loaded, MOST_HORIZON};
 use fixed_units::MOST_STEP;
 use link_queues::Line;
@@ -52,7 +52,7 @@ struct Parts {
 impl Model for NodeCell {
     ghost use Rattle.fixed_units.specs.declared.link.TheConstants.{MOST_STEP};
     ghost use Rattle.std.specs.Prelude.{◌≤◌};
-    ghost use Rattle.node_transfer.specs.Cells.{CellState};
+    ghost use Rattle.cell_stages.specs.CellState.{CellState};
 
     ghost Value = { CellState };
 

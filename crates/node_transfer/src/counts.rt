@@ -5,8 +5,7 @@ ghost use Rattle.std.specs.List.{sum_by};
 ghost use Rattle.std.specs.Prelude.{◌≡◌, ℕ, ◌+◌, ◌≤◌, length, min};
 
 use crate::cell::CellCounts;
-use crate::in_link::InLink;
-use crate::out_link::OutLink;
+use cell_stages::{InLink, OutLink};
 use link_queues::Line;
 
 /// The last value of a count, at which it stays.

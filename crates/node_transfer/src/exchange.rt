@@ -7,12 +7,13 @@
 ghost use Rattle.dta_model.specs.Lent.{plan_of};
 ghost use Rattle.dta_model.specs.Plans.{ins as ins_of, outs as outs_of};
 ghost use Rattle.node_transfer.specs.Cells.{in_mail, out_mail, with_in_mail, with_out_mail};
-ghost use Rattle.node_transfer.specs.Contents.{IsStep, away, batch_of, cell_after, cell_before};
-ghost use Rattle.node_transfer.specs.Contents.{room_of};
+ghost use Rattle.cell_stages.specs.Contents.{IsStep, away, batch_of, cell_after, cell_before};
+ghost use Rattle.cell_stages.specs.Contents.{room_of};
 ghost use Rattle.node_transfer.specs.Exchange.{AreMail, ArePut};
 ghost use Rattle.std.specs.Prelude.{◌≡◌, ◌<◌, suc, length, Some};
 
-use crate::{Mail, NodeCell};
+use crate::NodeCell;
+use cell_stages::Mail;
 use dta_model::Loading;
 use net_core::NodeNo;
 

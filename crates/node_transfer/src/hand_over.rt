@@ -4,8 +4,7 @@ ghost use Rattle.std.specs.List.{flat_map};
 ghost use Rattle.std.specs.Prelude.{◌≡◌, ◌+◌, ◌++◌, All, length, IsTrue, false, []};
 
 use crate::cell::NodeCell;
-use crate::in_link::InLink;
-use crate::out_link::OutLink;
+use cell_stages::{InLink, OutLink};
 use dta_model::Loaded;
 use link_queues::Line;
 

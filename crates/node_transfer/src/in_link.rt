@@ -5,21 +5,11 @@ ghost use Rattle.dta_model.specs.Riders.{RiderState};
 ghost use Rattle.node_transfer.specs.Pass.{passed, CanPass, opened_exit, closed_exit, total, out_links, waitings, held};
 ghost use Rattle.node_transfer.specs.Cells.{LinkWork, passed_link, CellWork, passed_links, passed_rotated, CanCross, cell_total, IsBatch, mail_line, room_after, gathered_link, CanGather};
 
-use crate::mail::Mail;
-use crate::out_link::OutLink;
-use crate::pass::{Exit, close_exit, open_exit, pass};
+use crate::pass::{close_exit, open_exit, pass};
+use cell_stages::{InLink, Mail, OutLink};
 use dta_model::MOST_HORIZON;
 use fixed_units::MOST_STEP;
 use link_queues::{Line, MOST_RIDERS};
-
-/// An in-link: who is on it, and what lets its heads go.
-#[derive(Drop)]
-pub struct InLink {
-    pub line: Line,
-    pub exit: Exit,
-    pub storage: Option<u32>,
-    pub mail: Mail,
-}
 
 /// Moves the heads of an in-link that may move in the step.
 pub fn pass_link(link: &mut InLink, outs: &mut [OutLink], arrived: &mut Line, delta: u32, step: u32)

@@ -1,16 +1,11 @@
 // Laws of the contents of cells. Each is the contract of a function that does nothing.
 ghost use Rattle.node_transfer.specs.Counts.{CountsAddUp};
-ghost use Rattle.node_transfer.specs.Laws.{CellsGather, CellsHandOver, CellsHoldAll, MailGoesByLinks, StepsHaveTwoStages};
+ghost use Rattle.node_transfer.specs.Laws.{CellsGather, CellsHandOver, CellsHoldAll, MailGoesByLinks};
 ghost use Rattle.node_transfer.specs.Rest.{QuietNodesStayIdle};
 
 /// A mail that is put into the place of a link is the mail of that link.
 pub fn mail_goes_by_links()
     ensures { MailGoesByLinks }
-{}
-
-/// Stage 2 t of a cell or a mail is before the transfers of step t, and stage 2 t + 1 after them.
-pub fn steps_have_two_stages()
-    ensures { StepsHaveTwoStages }
 {}
 
 /// All cells together hold the vehicles that have routes, each once and as the trace makes it.

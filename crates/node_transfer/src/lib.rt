@@ -27,13 +27,13 @@ mod step;
 mod turn;
 
 pub use cell::{CellCounts, NodeCell};
+pub use cell_stages::Mail;
 pub use hand_over::hand_over_all;
 pub use laws::{
     cells_gather, cells_hand_over, cells_hold_all, counts_add_up, mail_goes_by_links,
-    quiet_nodes_stay_idle, steps_have_two_stages,
+    quiet_nodes_stay_idle,
 };
 pub use lists::{Cells, Mails, Opening};
-pub use mail::Mail;
 pub use rest::NO_STEP;
 pub use start::opening;
 

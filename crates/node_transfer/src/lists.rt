@@ -2,7 +2,7 @@
 ghost use Rattle.std.specs.Prelude.{◌≡◌};
 
 use crate::cell::NodeCell;
-use crate::mail::Mail;
+use cell_stages::Mail;
 use dta_model::Loaded;
 use std::marker::Model;
 
@@ -13,7 +13,7 @@ pub struct Cells {
 }
 
 impl Model for Cells {
-    ghost use Rattle.node_transfer.specs.Cells.{CellState};
+    ghost use Rattle.cell_stages.specs.CellState.{CellState};
     ghost use Rattle.std.specs.Prelude.{List};
 
     ghost Value = { List CellState };
@@ -51,7 +51,7 @@ pub struct Mails {
 }
 
 impl Model for Mails {
-    ghost use Rattle.node_transfer.specs.declared.mail.Mail.{Mail};
+    ghost use Rattle.cell_stages.specs.declared.mail.Mail.{Mail};
     ghost use Rattle.std.specs.Prelude.{List};
 
     ghost Value = { List Mail };

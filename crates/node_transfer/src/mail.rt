@@ -1,18 +1,8 @@
-// Mail between nodes, and its place at a link.
+// Mail at its place at a link.
 ghost use Rattle.node_transfer.specs.Cells.{in_mailed, mail_of_in, mail_of_out, out_mailed};
 ghost use Rattle.std.specs.Prelude.{◌≡◌, ◌<◌, length, slice_get, Some, option_map};
 
-use crate::in_link::InLink;
-use crate::out_link::OutLink;
-use link_queues::Line;
-
-/// What one link's nodes hand to each other.
-#[derive(Drop)]
-pub enum Mail {
-    Away,
-    Room { step: u32, room: Option<u32> },
-    Batch { step: u32, line: Line },
-}
+use cell_stages::{InLink, Mail, OutLink};
 
 /// Puts a mail into the place of an out-link.
 pub fn put_out_mail(outs: &mut [OutLink], place: usize, mail: Mail)

@@ -6,28 +6,11 @@ ghost use Rattle.node_transfer.specs.Pass.{place_of, out_links, held};
 ghost use Rattle.node_transfer.specs.Outs.{released, capped_at, capped_by, opened_out, Admitted, admitted, closed_with, closed_out};
 ghost use Rattle.node_transfer.specs.Cells.{UnderWay, Waits};
 
-use crate::mail::Mail;
 use capacity_credits::Meter;
+use cell_stages::{Mail, OutLink};
 use fixed_units::MOST_STEP;
 use link_queues::{Line, MOST_RIDERS};
 use net_core::LinkNo;
-
-/// Those that wait for an out-link: due by now, and later.
-#[derive(Drop)]
-pub struct Waiting {
-    pub later: Line,
-    pub due: Line,
-}
-
-/// An out-link: who waits for it, and who enters it in the step.
-#[derive(Drop)]
-pub struct OutLink {
-    pub link: LinkNo,
-    pub inflow: Meter,
-    pub waiting: Waiting,
-    pub batch: Line,
-    pub mail: Mail,
-}
 
 /// The place of a link among out-links; their number where it isn't there.
 pub fn place_to(outs: &[OutLink], link: LinkNo) -> usize

@@ -4,20 +4,11 @@ ghost use Rattle.dta_model.specs.Riders.{RiderState, moved};
 ghost use Rattle.capacity_credits.specs.Meter.{MeterState, granted, passed_one, closed};
 ghost use Rattle.node_transfer.specs.Pass.{Work, verdict, passed, CanPass, Rides, FitsAll, total, out_links, waitings, turn_links, used_at, entered_at, turn_open, out_open, is_entry, opened_exit, closed_exit, after_arrival, after_entry, place_of};
 
-use crate::out_link::{OutLink, place_to};
-use crate::turn::{LimitedTurns, has_pass};
-use capacity_credits::Meter;
+use crate::out_link::place_to;
+use crate::turn::{close_all, has_pass, open_all, place_of_turn, turn_at, use_one};
+use cell_stages::{Exit, LimitedTurns, OutLink};
 use fixed_units::MOST_STEP;
 use link_queues::{Line, MOST_RIDERS, Rider};
-
-/// How vehicles leave an in-link: after how many steps, at which rate, and by which turns that have
-/// a penalty or a limit.
-#[derive(Drop)]
-pub struct Exit {
-    pub free: u32,
-    pub outflow: Meter,
-    pub turns: LimitedTurns,
-}
 
 /// What the head of a line does.
 #[derive(Drop)]
@@ -33,7 +24,7 @@ pub fn open_exit(exit: &mut Exit, delta: u32)
     ensures { exit.new ≡ opened_exit delta exit.old }
 {
     exit.outflow.open(delta);
-    exit.turns.open(delta);
+    open_all(&mut exit.turns, delta);
 }
 
 /// Ends the step for an exit.
@@ -41,7 +32,7 @@ pub fn close_exit(exit: &mut Exit)
     ensures { exit.new ≡ closed_exit exit.old }
 {
     exit.outflow.close();
-    exit.turns.close();
+    close_all(&mut exit.turns);
 }
 
 /// Whether a rider that is ready at a step may take the turn at a place into the out-link at a
@@ -57,7 +48,7 @@ pub fn may_enter(
     requires there { place < length outs.now }
     ensures { result ≡ is_entry step ready turns.now outs.now place turn }
 {
-    match turns.get(turn) {
+    match turn_at(turns, turn) {
         None => ready <= step as u64 && outs[place].inflow.left() > 0,
         Some(way) => is_served(ready, way.penalty, step)
             && has_pass(way)
@@ -97,7 +88,7 @@ pub fn judge(rider: &Rider, exit: &Exit, outs: &[OutLink], step: u32) -> Verdict
             }
             Some(link) => {
                 let place = place_to(outs, link);
-                let turn = exit.turns.place_to(link);
+                let turn = place_of_turn(&exit.turns, link);
                 if may_enter(&exit.turns, outs, ready, step, place, turn) {
                     Verdict::Enters(place, turn)
                 } else {
@@ -125,7 +116,7 @@ pub fn count_entry(exit: &mut Exit, turn: usize)
     ensures { exit.new ≡ after_entry turn exit.old }
 {
     exit.outflow.pass();
-    exit.turns.use_at(turn);
+    use_one(&mut exit.turns, turn);
 }
 
 /// Moves the head of the line into an out-link.

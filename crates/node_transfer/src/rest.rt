@@ -5,10 +5,8 @@ ghost use Rattle.node_transfer.specs.declared.rest.TheConstants.{NO_STEP};
 ghost use Rattle.node_transfer.specs.Skip.{skipped_exit, skipped_in, skipped_out, skipped_turn};
 ghost use Rattle.std.specs.Prelude.{◌≡◌, ℕ, ◌<◌, ◌≤◌, All, List, map};
 
-use crate::in_link::InLink;
-use crate::out_link::OutLink;
-use crate::pass::Exit;
-use crate::turn::LimitedTurn;
+use crate::turn::rest_all;
+use cell_stages::{Exit, InLink, LimitedTurn, OutLink};
 use fixed_units::MOST_STEP;
 
 /// The answer where nobody is ready in any step.
@@ -41,7 +39,7 @@ fn rest_exit(exit: &mut Exit, delta: u32, steps: u32)
     ensures { exit.new ≡ skipped_exit delta steps exit.old }
 {
     exit.outflow.rest(delta, steps);
-    exit.turns.rest(delta, steps);
+    rest_all(&mut exit.turns, delta, steps);
 }
 
 // Lets so many steps go by in which nobody leaves the in-links.

@@ -1,14 +1,14 @@
 // The start of a loading.
 ghost use Rattle.dta_model.specs.Lent.{plan_of};
 ghost use Rattle.dta_model.specs.Sound.{IsSound};
-ghost use Rattle.node_transfer.specs.Contents.{storage_by};
+ghost use Rattle.cell_stages.specs.Contents.{storage_by};
 ghost use Rattle.node_transfer.specs.Start.{IsStart, no_journeys, rooms_at_start};
 ghost use Rattle.std.specs.Prelude.{◌≡◌, IfOk};
 
 use crate::lists::{Cells, Mails, Opening};
-use crate::mail::Mail;
 use crate::start_cells::start_cells;
 use crate::start_lines::waiting_lines;
+use cell_stages::Mail;
 use dta_model::{Journey, Loaded, Loading, Queue, Steps};
 use net_core::{LinkNo, Memory};
 use std::alloc::{AllocError, Global};

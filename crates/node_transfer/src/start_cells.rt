@@ -8,13 +8,9 @@ ghost use Rattle.node_transfer.specs.StartCells.{kept_at_start, lines_left, star
 ghost use Rattle.std.specs.Prelude.{◌≡◌, ◌<◌, ◌≤◌, All, IfOk, IfSome, OnOk, length, map, option_map};
 
 use crate::cell::NodeCell;
-use crate::in_link::InLink;
-use crate::mail::Mail;
-use crate::out_link::{OutLink, Waiting};
-use crate::pass::Exit;
 use crate::start::storage_of;
-use crate::turn::{LimitedTurn, LimitedTurns};
 use capacity_credits::Meter;
+use cell_stages::{Exit, InLink, LimitedTurn, LimitedTurns, Mail, OutLink, Waiting};
 use dta_model::Loading;
 use fixed_units::MOST_RATE;
 use link_queues::Line;

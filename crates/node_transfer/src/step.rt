@@ -1,9 +1,11 @@
 // One step of a node's links.
 ghost use Rattle.std.specs.Prelude.{◌≡◌, ◌≤◌, ◌%◌, cond, nat_eq};
-ghost use Rattle.node_transfer.specs.Cells.{CellState, transferred, CanTransfer};
+ghost use Rattle.cell_stages.specs.CellState.{CellState};
+ghost use Rattle.node_transfer.specs.Cells.{transferred, CanTransfer};
 
-use crate::in_link::{InLink, pass_rotated};
-use crate::out_link::{OutLink, close_outs, open_outs};
+use crate::in_link::pass_rotated;
+use crate::out_link::{close_outs, open_outs};
+use cell_stages::{InLink, OutLink};
 use fixed_units::MOST_STEP;
 use link_queues::Line;
 

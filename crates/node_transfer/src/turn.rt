@@ -5,33 +5,9 @@ ghost use Rattle.node_transfer.specs.Pass.{place_of, turn_links, opened_turn, cl
 ghost use Rattle.node_transfer.specs.Skip.{skipped_turn};
 
 use crate::rest::rest_turns;
-use capacity_credits::Meter;
+use cell_stages::{LimitedTurn, LimitedTurns};
 use fixed_units::MOST_STEP;
 use net_core::LinkNo;
-use std::marker::Model;
-
-/// A turn to a link that has a penalty or a limit.
-#[derive(Drop)]
-pub struct LimitedTurn {
-    pub to: LinkNo,
-    pub penalty: u32,
-    pub limit: Option<Meter>,
-}
-
-/// The turns of an in-link that have a penalty or a limit.
-#[derive(Drop)]
-pub struct LimitedTurns {
-    pub list: Vec<LimitedTurn>,
-}
-
-impl Model for LimitedTurns {
-    ghost use Rattle.std.specs.Prelude.{List};
-    ghost use Rattle.node_transfer.specs.declared.turn.LimitedTurn.{LimitedTurn};
-
-    ghost Value = { List LimitedTurn };
-
-    ghost view = { λ t. t.list.items };
-}
 
 /// Grants a turn its allowance.
 pub fn open_turn(turn: &mut LimitedTurn, delta: u32)
@@ -115,49 +91,47 @@ pub fn use_turn_at(turns: &mut [LimitedTurn], place: usize)
     }
 }
 
-impl LimitedTurns {
-    /// Lets so many steps go by in which nobody turns.
-    pub fn rest(&mut self, delta: u32, steps: u32)
-        requires { delta ≤ MOST_STEP }
-        ensures { self.new ≡ map (skipped_turn delta steps) self.old }
-    {
-        rest_turns(&mut self.list, delta, steps);
-    }
+/// Lets so many steps go by in which nobody turns.
+pub fn rest_all(turns: &mut LimitedTurns, delta: u32, steps: u32)
+    requires { delta ≤ MOST_STEP }
+    ensures { turns.new ≡ map (skipped_turn delta steps) turns.old }
+{
+    rest_turns(&mut turns.list, delta, steps);
+}
 
-    /// Grants all turns their allowances.
-    pub fn open(&mut self, delta: u32)
-        requires { delta ≤ MOST_STEP }
-        ensures { self.new ≡ map (opened_turn delta) self.old }
-    {
-        open_turns(&mut self.list, delta);
-    }
+/// Grants all turns their allowances.
+pub fn open_all(turns: &mut LimitedTurns, delta: u32)
+    requires { delta ≤ MOST_STEP }
+    ensures { turns.new ≡ map (opened_turn delta) turns.old }
+{
+    open_turns(&mut turns.list, delta);
+}
 
-    /// Ends the step for all turns.
-    pub fn close(&mut self)
-        ensures { self.new ≡ map closed_turn self.old }
-    {
-        close_turns(&mut self.list);
-    }
+/// Ends the step for all turns.
+pub fn close_all(turns: &mut LimitedTurns)
+    ensures { turns.new ≡ map closed_turn turns.old }
+{
+    close_turns(&mut turns.list);
+}
 
-    /// One vehicle takes the turn at a place, if one is there.
-    pub fn use_at(&mut self, place: usize)
-        requires { turn_open (slice_get self.old place) ≡ true }
-        ensures { self.new ≡ used_at place self.old }
-    {
-        use_turn_at(&mut self.list, place);
-    }
+/// One vehicle takes the turn at a place, if one is there.
+pub fn use_one(turns: &mut LimitedTurns, place: usize)
+    requires { turn_open (slice_get turns.old place) ≡ true }
+    ensures { turns.new ≡ used_at place turns.old }
+{
+    use_turn_at(&mut turns.list, place);
+}
 
-    /// The place of the turn to a link; their number where there is none.
-    pub fn place_to(&self, link: LinkNo) -> usize
-        ensures { result ≡ place_of link.0 (turn_links self.now) }
-    {
-        turn_to(&self.list, link)
-    }
+/// The place of the turn to a link; their number where there is none.
+pub fn place_of_turn(turns: &LimitedTurns, link: LinkNo) -> usize
+    ensures { result ≡ place_of link.0 (turn_links turns.now) }
+{
+    turn_to(&turns.list, link)
+}
 
-    /// The turn at a place.
-    pub fn get(&self, place: usize) -> Option<&LimitedTurn>
-        ensures { option_copied result ≡ slice_get self.now place }
-    {
-        self.list.get(place)
-    }
+/// The turn at a place.
+pub fn turn_at(turns: &LimitedTurns, place: usize) -> Option<&LimitedTurn>
+    ensures { option_copied result ≡ slice_get turns.now place }
+{
+    turns.list.get(place)
 }

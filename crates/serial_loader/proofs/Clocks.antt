@@ -5,9 +5,10 @@ use Rattle.std.proofs.lemmas.Bool.Decides.{eqb_tells}
 use Rattle.std.proofs.Math.Dec.{eqb}
 use Rattle.dta_model.specs.Plans.{link_at}
 use Rattle.dta_model.specs.declared.plan.Plan.{Plan}
-use Rattle.node_transfer.specs.Cells.{CellState, changed_at, set_some}
+use Rattle.cell_stages.specs.CellState.{CellState}
+use Rattle.node_transfer.specs.Cells.{changed_at, set_some}
 use Rattle.node_transfer.specs.Rest.{rested}
-use Rattle.node_transfer.specs.declared.mail.Mail.{Mail}
+use Rattle.cell_stages.specs.declared.mail.Mail.{Mail}
 use Rattle.serial_loader.specs.Exchange.{AreLeft, AreWoken, MayWake, brings, wake_by, woken}
 use Rattle.serial_loader.specs.Phases.{HoldsBatch, Stands}
 use Rattle.serial_loader.specs.declared.clock.Clock.{Clock}

@@ -7,11 +7,11 @@ use Rattle.std.proofs.lemmas.Option.{slice_get-get_or, slice_get_within}
 use Rattle.std.proofs.Math.Dec.{eqb}
 use Rattle.net_core.specs.Network.{numbers_below}
 use Rattle.dta_model.specs.declared.plan.Plan.{Plan}
-use Rattle.node_transfer.specs.Cells.{CellState}
-use Rattle.node_transfer.specs.Contents.{away, cell_before, room_of}
+use Rattle.cell_stages.specs.CellState.{CellState}
+use Rattle.cell_stages.specs.Contents.{away, cell_before, room_of}
 use Rattle.node_transfer.specs.Rest.{rested}
 use Rattle.node_transfer.specs.Start.{rooms_at_start}
-use Rattle.node_transfer.specs.declared.mail.Mail.{Mail}
+use Rattle.cell_stages.specs.declared.mail.Mail.{Mail}
 use Rattle.node_transfer.proofs.Numbers.{found-below}
 use Rattle.serial_loader.specs.Phases.{InTransfer, cells_before}
 use Rattle.serial_loader.specs.declared.clock.Clock.{Clock}

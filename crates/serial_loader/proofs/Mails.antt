@@ -5,12 +5,12 @@ use Rattle.std.proofs.lemmas.Bool.Decides.{eqb_tells}
 use Rattle.std.proofs.Math.Dec.{eqb}
 use Rattle.dta_model.specs.Plans.{link_at}
 use Rattle.dta_model.specs.Riders.{RiderState}
-use Rattle.dta_model.specs.Stages.{batch_mail}
+use Rattle.cell_stages.specs.Stages.{batch_mail}
 use Rattle.dta_model.specs.declared.plan.Plan.{Plan}
 use Rattle.node_transfer.specs.Cells.{changed_at}
-use Rattle.node_transfer.specs.Contents.{batch_of, room_of}
-use Rattle.node_transfer.specs.declared.mail.Mail.{Mail}
-use Rattle.node_transfer.specs.declared.mail.Mail.TheVariants.{Batch, Room}
+use Rattle.cell_stages.specs.Contents.{batch_of, room_of}
+use Rattle.cell_stages.specs.declared.mail.Mail.{Mail}
+use Rattle.cell_stages.specs.declared.mail.Mail.TheVariants.{Batch, Room}
 use Rattle.node_transfer.specs.Exchange.{AreMail, ChangesOnly, is_among}
 use Rattle.serial_loader.specs.Exchange.{AllHoldBatches, AllTellRooms, as_batch, brings, put_batch, told_room, wake_by, woken}
 use Rattle.serial_loader.specs.Phases.{HoldsBatch, TellsRoom}

@@ -7,13 +7,13 @@ use Rattle.std.proofs.lemmas.Option.{slice_get-get_or, slice_get_within}
 use Rattle.std.proofs.Math.Dec.{eqb}
 use Rattle.dta_model.specs.Plans.{ins, link_at, outs}
 use Rattle.dta_model.specs.Sound.{IsSound}
-use Rattle.dta_model.specs.Stages.{batch_mail}
+use Rattle.cell_stages.specs.Stages.{batch_mail}
 use Rattle.dta_model.specs.declared.plan.Plan.{Plan}
-use Rattle.node_transfer.specs.Cells.{CellState}
-use Rattle.node_transfer.specs.Contents.{IsStep, away, cell_after}
+use Rattle.cell_stages.specs.CellState.{CellState}
+use Rattle.cell_stages.specs.Contents.{IsStep, away, cell_after}
 use Rattle.node_transfer.specs.Rest.{IsIdle, IsQuiet, NobodyComes, QuietNodesStayIdle, rested, rested_once}
-use Rattle.node_transfer.specs.declared.mail.Mail.{Mail}
-use Rattle.node_transfer.specs.declared.mail.Mail.TheVariants.{Room}
+use Rattle.cell_stages.specs.declared.mail.Mail.{Mail}
+use Rattle.cell_stages.specs.declared.mail.Mail.TheVariants.{Room}
 use Rattle.node_transfer.proofs.Quiet.{quiet-rested, rested-suc}
 use Rattle.node_transfer.specs.Exchange.{ChangesOnly}
 use Rattle.serial_loader.specs.Exchange.{AllBringBatches, AllHoldBatches, AllTellRooms, AreLeft, MayWake}

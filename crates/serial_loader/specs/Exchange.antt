@@ -3,10 +3,10 @@ use Rattle.std.specs.Prelude.{◌≡◌, ◌⊎◌, ℕ, suc, ◌≤◌, ◌≢�
 use Rattle.std.specs.Prelude.{Option, Some, length, min, slice_get, slice_set}
 use Rattle.dta_model.specs.declared.plan.Plan.{Plan}
 use Rattle.node_transfer.specs.Cells.{changed_at, mail_line}
-use Rattle.node_transfer.specs.Contents.{batch_of}
+use Rattle.cell_stages.specs.Contents.{batch_of}
 use Rattle.node_transfer.specs.Exchange.{is_among}
-use Rattle.node_transfer.specs.declared.mail.Mail.{Mail}
-use Rattle.node_transfer.specs.declared.mail.Mail.TheVariants.{Away, Room, Batch}
+use Rattle.cell_stages.specs.declared.mail.Mail.{Mail}
+use Rattle.cell_stages.specs.declared.mail.Mail.TheVariants.{Away, Room, Batch}
 use Rattle.serial_loader.specs.Phases.{HoldsBatch, TellsRoom}
 use Rattle.serial_loader.specs.declared.clock.Clock.{Clock}
 

@@ -3,13 +3,13 @@
 use Rattle.std.specs.Prelude.{◌≡◌, ◌⊎◌, ℕ, suc, ◌-◌, ◌<◌, ◌≤◌, List, [], IfSome, Some, length, map}
 use Rattle.std.specs.Prelude.{slice_get}
 use Rattle.dta_model.specs.Plans.{all_nodes, link_at}
-use Rattle.dta_model.specs.Stages.{batch_mail, room_mail}
+use Rattle.cell_stages.specs.Stages.{batch_mail, room_mail}
 use Rattle.dta_model.specs.declared.plan.Plan.{Plan}
-use Rattle.node_transfer.specs.Cells.{CellState}
-use Rattle.node_transfer.specs.Contents.{away, batch_of, cell_after, cell_before}
+use Rattle.cell_stages.specs.CellState.{CellState}
+use Rattle.cell_stages.specs.Contents.{away, batch_of, cell_after, cell_before}
 use Rattle.node_transfer.specs.Rest.{IsQuiet, rested}
-use Rattle.node_transfer.specs.declared.mail.Mail.{Mail}
-use Rattle.node_transfer.specs.declared.mail.Mail.TheVariants.{Room}
+use Rattle.cell_stages.specs.declared.mail.Mail.{Mail}
+use Rattle.cell_stages.specs.declared.mail.Mail.TheVariants.{Room}
 use Rattle.serial_loader.specs.declared.clock.Clock.{Clock}
 
 -- the cells of all nodes before the transfers of step t

@@ -1,7 +1,7 @@
 // One node's part of a step.
 ghost use Rattle.dta_model.specs.Lent.{plan_of};
 ghost use Rattle.dta_model.specs.Plans.{ins as ins_of, outs as outs_of};
-ghost use Rattle.node_transfer.specs.Contents.{IsStep, away, cell_after, cell_before};
+ghost use Rattle.cell_stages.specs.Contents.{IsStep, away, cell_after, cell_before};
 ghost use Rattle.node_transfer.specs.Exchange.{ChangesOnly};
 ghost use Rattle.serial_loader.specs.Exchange.{AllBringBatches, AllHoldBatches, AllTellRooms};
 ghost use Rattle.serial_loader.specs.Exchange.{AreLeft};

@@ -4,7 +4,7 @@ ghost use Rattle.dta_model.specs.Lent.{plan_of};
 ghost use Rattle.dta_model.specs.Loading.{journeys_of};
 ghost use Rattle.dta_model.specs.Sound.{IsSound};
 ghost use Rattle.serial_loader.specs.Phases.{AreBefore, cells_before};
-ghost use Rattle.node_transfer.specs.declared.mail.Mail.{Mail};
+ghost use Rattle.cell_stages.specs.declared.mail.Mail.{Mail};
 ghost use Rattle.std.specs.Prelude.{◌≡◌, ◌<◌, suc, IfOk, List};
 
 use crate::clock::Clock;

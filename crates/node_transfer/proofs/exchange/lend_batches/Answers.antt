@@ -1,6 +1,6 @@
 use Rattle.dta_model.specs.Lent.{plan_of}
-use Rattle.node_transfer.specs.Contents.{away, batch_of}
-use Rattle.node_transfer.specs.declared.mail.Mail.TheVariants.{Away}
+use Rattle.cell_stages.specs.Contents.{away, batch_of}
+use Rattle.cell_stages.specs.declared.mail.Mail.TheVariants.{Away}
 use Rattle.node_transfer.proofs.Lending.{all-lent, is-away, is-lent, mail-inside, in-there}
 use Rattle.node_transfer.proofs.Parts.{ins-after}
 use Rattle.node_transfer.proofs.exchange.lend_batches.Goals as goal

@@ -1,7 +1,7 @@
 use Rattle.std.proofs.Common.{◌≡◌, take}
 use Rattle.dta_model.specs.Lent.{plan_of}
 use Rattle.dta_model.specs.Plans.{outs}
-use Rattle.node_transfer.specs.Contents.{away, cell_before, room_of}
+use Rattle.cell_stages.specs.Contents.{away, cell_before, room_of}
 use Rattle.node_transfer.specs.Exchange.{ArePut}
 use Rattle.node_transfer.proofs.Exchanges.{replaced}
 use Rattle.node_transfer.proofs.exchange.lend_rooms.Given as goal

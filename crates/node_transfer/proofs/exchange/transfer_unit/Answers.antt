@@ -1,6 +1,6 @@
 use Rattle.dta_model.specs.Lent.{plan_of}
 use Rattle.dta_model.specs.Plans.{outs}
-use Rattle.node_transfer.specs.Contents.{away, batch_of}
+use Rattle.cell_stages.specs.Contents.{away, batch_of}
 use Rattle.node_transfer.proofs.Puts.{put-again}
 use Rattle.node_transfer.proofs.exchange.transfer_unit.Goals as goal
 

@@ -1,5 +1,5 @@
 use Rattle.std.proofs.Common.{◌∙◌, ap, arith, map, sym}
-use Rattle.node_transfer.specs.Cells.{CellState}
+use Rattle.cell_stages.specs.CellState.{CellState}
 use Rattle.node_transfer.specs.Skip.{skipped_out}
 use Rattle.node_transfer.proofs.Rested.{rested_more, rested_none}
 use Rattle.node_transfer.proofs.rest.rest_links.Goals as goal

@@ -3,7 +3,7 @@ use Rattle.std.specs.Prelude.{IfSome}
 use Rattle.dta_model.specs.Lent.{plan_of}
 use Rattle.dta_model.specs.Plans.{outs, link_at}
 use Rattle.node_transfer.specs.Cells.{out_mail, with_out_mail}
-use Rattle.node_transfer.specs.Contents.{away, batch_of, cell_after}
+use Rattle.cell_stages.specs.Contents.{away, batch_of, cell_after}
 use Rattle.node_transfer.proofs.Finished.{to-below}
 use Rattle.node_transfer.proofs.Lending.{all-collected, at-place, is-told, link_of, mail-inside, out-there, past}
 use Rattle.node_transfer.proofs.Parts.{outs-after, outs-inside}

@@ -4,8 +4,8 @@ use Rattle.std.proofs.lemmas.Option.{slice_get_read}
 use Rattle.dta_model.specs.Lent.{plan_of}
 use Rattle.dta_model.specs.Plans.{outs, link_at}
 use Rattle.node_transfer.specs.Cells.{out_mail, with_out_mail}
-use Rattle.node_transfer.specs.Contents.{away, cell_before, room_of}
-use Rattle.node_transfer.specs.declared.mail.Mail.TheVariants.{Away, Room}
+use Rattle.cell_stages.specs.Contents.{away, cell_before, room_of}
+use Rattle.cell_stages.specs.declared.mail.Mail.TheVariants.{Away, Room}
 use Rattle.node_transfer.proofs.Exchanges.{filled-next}
 use Rattle.node_transfer.proofs.Lending.{all-lent, at-place, is-away, link_of, out-there}
 use Rattle.node_transfer.proofs.Parts.{outs-before, outs-inside}

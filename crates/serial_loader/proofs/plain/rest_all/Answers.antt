@@ -1,6 +1,6 @@
 use Rattle.std.proofs.Common.{[], arith}
 use Rattle.dta_model.specs.Lent.{plan_of}
-use Rattle.node_transfer.specs.Cells.{CellState}
+use Rattle.cell_stages.specs.CellState.{CellState}
 use Rattle.serial_loader.proofs.Ends.{all-rested, left-early, none-rested, one-rested}
 use Rattle.serial_loader.proofs.plain.rest_all.Goals as goal
 

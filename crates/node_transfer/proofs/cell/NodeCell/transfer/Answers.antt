@@ -1,6 +1,6 @@
 use Rattle.std.proofs.Common.{◌∙◌, ap, subst, sym}
 use Rattle.node_transfer.specs.Cells.{CanTransfer, transferred}
-use Rattle.node_transfer.specs.Contents.{away, room_of}
+use Rattle.cell_stages.specs.Contents.{away, room_of}
 use Rattle.node_transfer.proofs.Totals.{can-transfer}
 use Rattle.node_transfer.proofs.Transfer.{transfer-stage}
 use Rattle.node_transfer.proofs.cell.NodeCell.transfer.Goals as goal

@@ -2,7 +2,7 @@ use Rattle.std.proofs.Common.{◌∙◌, ◌<◌, ◌≤◌, length, ap, arith, 
 use Rattle.std.specs.Prelude.{slice_set}
 use Rattle.dta_model.specs.Lent.{plan_of}
 use Rattle.dta_model.specs.Plans.{link_at}
-use Rattle.node_transfer.specs.Contents.{away, batch_of, cell_after, cell_before, room_of}
+use Rattle.cell_stages.specs.Contents.{away, batch_of, cell_after, cell_before, room_of}
 use Rattle.node_transfer.specs.Driven.{cell_in_transfer, mail_in_transfer}
 use Rattle.node_transfer.proofs.Finished.{all-done, cell-of-it, cell-one-more, mail-more, mail-of-it, none-done, from-below}
 use Rattle.node_transfer.proofs.Numbers.{cell-count, mail-count}

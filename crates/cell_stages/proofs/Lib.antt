@@ -1,0 +1,13 @@
+pub mod Spread
+pub mod Gathering
+pub mod Riders
+pub mod Arrived
+pub mod Whereabouts
+pub mod ByNumber
+pub mod HandOver
+pub mod OnePass
+pub mod Lines
+pub mod NextLines
+pub mod Passing
+pub mod LeadsOn
+pub mod TwoStages

@@ -1,0 +1,9 @@
+pub mod Stages
+pub mod HandOver
+pub mod OnePass
+pub mod Transfers
+pub mod CellState
+pub mod Contents
+pub mod Laws
+pub mod OnLiterals
+pub mod Examples

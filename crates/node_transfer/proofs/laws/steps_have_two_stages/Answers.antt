@@ -1,5 +1,0 @@
-use Rattle.node_transfer.proofs.TwoStages.{steps_have_two_stages}
-use Rattle.node_transfer.proofs.laws.steps_have_two_stages.Goals as goal
-
-pub returns : goal.returns
-returns c = steps_have_two_stages
