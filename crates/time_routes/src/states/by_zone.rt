@@ -45,7 +45,7 @@ impl ByZone {
     }
 
     // Adds a number at the end of the list of a zone.
-    #[tactic(auto, using(net_core::proofs::BucketsFacts::pushed))]
+    #[tactic(auto, using(net_core::proofs::GroupsFacts::pushed))]
     fn push(&mut self, zone: u32, link: u32) -> Result<(), Memory>
         requires { zone < length self.old }
         ensures { OnOk result (self.new ≡ set self.old zone
