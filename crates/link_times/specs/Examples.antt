@@ -110,22 +110,23 @@ unfolding loadings_on_literals trip two_links_in_a_line with_penalty table_in by
 turn_penalty = refl
 
 -- ---- a mean of visits of 10 and 11 steps is rounded up, and a bucket is that of the entry
-by_hand : List Move
-by_hand =
+five_moves : List Move
+five_moves =
     record { step = 3; vehicle = 0; target = Onto 0 }
     ∷ record { step = 4; vehicle = 1; target = Onto 0 }
     ∷ record { step = 13; vehicle = 0; target = Onto 1 }
     ∷ record { step = 15; vehicle = 1; target = Onto 1 }
     ∷ record { step = 23; vehicle = 0; target = Arrived } ∷ []
 
-rounded_up : table_in two_links_in_a_line 10 by_hand ≡ record {
+rounded_up : table_in two_links_in_a_line 10 five_moves ≡ record {
   bucket = 10;
   horizon = 60;
   free = 10 ∷ 10 ∷ [];
   times = 11 ∷ 10 ∷ 10 ∷ 10 ∷ 10 ∷ 10 ∷ 10 ∷ 28 ∷ 10 ∷ 10 ∷ 10 ∷ 10 ∷ [];
   entered = 2 ∷ 0 ∷ 0 ∷ 0 ∷ 0 ∷ 0 ∷ 0 ∷ 2 ∷ 0 ∷ 0 ∷ 0 ∷ 0 ∷ [];
 }
-unfolding loadings_on_literals trip two_links_in_a_line by_hand table_in by_bucket visits_in visits
+unfolding loadings_on_literals trip two_links_in_a_line five_moves table_in by_bucket visits_in
+    visits
 rounded_up = refl
 
 -- ---- a horizon of 60 steps has two buckets of 50; from the horizon on a link takes its free-flow

@@ -3,7 +3,7 @@ ghost use Rattle.std.specs.Prelude.{◌≡◌, ℕ, ◌+◌, ◌*◌, ◌<◌, �
 ghost use Rattle.std.specs.Prelude.{replicate};
 ghost use Rattle.dta_model.specs.Lent.{plan_of};
 ghost use Rattle.dta_model.specs.LinkTimes.{bucket_count, buckets_to, entered_in, free_table};
-ghost use Rattle.dta_model.specs.LinkTimes.{table_in, table_of, time_at, TimeTable};
+ghost use Rattle.dta_model.specs.LinkTimes.{place_in, table_in, table_of, time_at, TimeTable};
 ghost use Rattle.dta_model.specs.Loading.{journeys_of};
 ghost use Rattle.dta_model.specs.Sound.{IsSound};
 ghost use Rattle.dta_model.specs.declared.plan.Plan.{Plan};
@@ -55,6 +55,17 @@ fn buckets_until(bucket: u32, horizon: u32) -> u32
     ensures some { 1 ≤ result }
 {
     horizon.div_ceil(bucket)
+}
+
+// The place of a bucket of a link, where each link has so many buckets.
+#[tactic(auto, using(crate::proofs::Places::place_inside))]
+fn place_of(links: usize, buckets: u32, link: LinkNo, bucket: u32) -> usize
+    requires link { link.0 < links }
+    requires bucket { bucket < buckets }
+    ensures is { result ≡ place_in buckets link.0 bucket }
+    ensures within { result < links * buckets }
+{
+    link.0 as usize * buckets as usize + bucket as usize
 }
 
 impl LinkTimes {
@@ -182,13 +193,13 @@ impl LinkTimes {
     }
 
     /// The number of visits to a link in a bucket.
-    #[tactic(auto, unfolding(dta_model::specs::LinkTimes::entered_in), using(crate::proofs::Places::place_inside))]
+    #[tactic(auto, unfolding(dta_model::specs::LinkTimes::entered_in))]
     pub fn entered(&self, link: LinkNo, bucket: u32) -> u64
         requires link { link.0 < length self.now.free }
         requires bucket { bucket < bucket_count self.now }
         ensures { result ≡ entered_in self.now link.0 bucket }
     {
-        let place = link.0 as usize * self.buckets as usize + bucket as usize;
+        let place = place_of(self.free.len(), self.buckets, link, bucket);
         match &self.counts {
             Counts::NoVisits => 0,
             Counts::Narrow(counts) => u64::from(counts[place]),

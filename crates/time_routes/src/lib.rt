@@ -6,11 +6,11 @@
 //! specs/Least.antt of `dta_model`: over all walks, also those that repeat links, and None exactly
 //! where there is none. [`GroupLabels`] does the same for up to four zones at once.
 //!
-//! What is left is kept for each state and step up to the horizon. A state is a node where no turn
-//! is listed, or a link that ends at another. A group takes 16 bytes for each state and step, four
-//! zones side by side; where times may take more than 32 bits, 8 bytes for each of its zones.
-//! `least` looks at the links out of the origin and takes no memory; `walk` looks once at the turns
-//! of each of its links.
+//! What is left is kept for each walk state and step up to the horizon. A walk state, in this crate
+//! called a state, is a node where no turn is listed, or a link that ends at another. A group takes
+//! 16 bytes for each state and step, four zones side by side; where times may take more than 32
+//! bits, 8 bytes for each of its zones. `least` looks at the links out of the origin and takes no
+//! memory; `walk` looks once at the turns of each of its links.
 #![tactic(auto)]
 
 mod filling;

@@ -1,5 +1,5 @@
 -- The least over ways on, and the labels that it gives.
-use Rattle.std.proofs.Common.{◌≡◌, ℕ, zero, suc, ◌+◌, ◌≤◌, ◌<◌, Bool, true, false, cond, min, List, [], ◌∷◌, refl, ap, sym, ◌∙◌, subst, arith, Option, Some, ◌⊎◌, inl, inr}
+use Rattle.std.proofs.Common.{◌≡◌, ℕ, zero, suc, ◌+◌, ◌≤◌, ◌<◌, Bool, true, false, cond, min, List, [], ◌∷◌, length, drop, refl, ap, sym, ◌∙◌, subst, arith, Option, Some, ◌⊎◌, inl, inr}
 use Rattle.std.specs.Prelude.{slice_get}
 use Rattle.std.proofs.lemmas.Grind.{common_steps}
 use Rattle.std.proofs.lemmas.Bool.{cases_lt}
@@ -15,6 +15,19 @@ module _ (at : ℕ → ℕ → ℕ) (far : ℕ) (rest : ℕ → ℕ → ℕ) whe
   unfolding least_over
   least_over_le e [] = omega arith
   least_over_le e (w ∷ ws) = omega (arith, least_over_le e ws)
+
+  -- the least over the ways on that were looked at, once all were
+  pub least_done : (e n least : ℕ) (ws : List Onward) (m : ℕ) → min least (least_over at far rest e (drop n ws)) ≡ m → length ws ≤ n → least ≤ far → least ≡ m
+  unfolding least_over
+  least_done e n least ws m kept past low =
+      let now : min least far ≡ m = subst (λ r. min least (least_over at far rest e r) ≡ m) (none_left n ws past) kept in
+      omega (arith, now, low)
+    where
+      none_left : (n : ℕ) (ws : List Onward) → length ws ≤ n → drop n ws ≡ []
+      none_left zero [] h = refl
+      none_left (suc n) [] h = refl
+      none_left zero (w ∷ ws) h = absurd (omega arith)
+      none_left (suc n) (w ∷ ws) h = none_left n ws (omega arith)
 
   pub least_le : (e : ℕ) (ws : List Onward) (k : ℕ) (w : Onward) → slice_get ws k ≡ Some w → least_over at far rest e ws ≤ over at far rest e w
   unfolding least_over

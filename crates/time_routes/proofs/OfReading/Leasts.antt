@@ -6,6 +6,7 @@ use Rattle.std.proofs.lemmas.Bool.Decides.{nat_tests}
 use Rattle.std.proofs.lemmas.Option.{slice_get_within}
 use Rattle.net_core.specs.declared.rows.NetRows.{NetRows}
 use Rattle.time_routes.specs.Filling.Labels.{far}
+use Rattle.time_routes.specs.Filling.Rests.{label_of}
 use Rattle.time_routes.specs.Reading.FirstLinks.{AreFirsts}
 use Rattle.time_routes.specs.Reading.Paths.{path_time, IsLeastPath}
 use Rattle.time_routes.specs.States.Routers.{ways_to}
@@ -71,7 +72,18 @@ module _ (net : NetRows) (zone : ℕ) (at rest : ℕ → ℕ → ℕ) (r : Route
   least_of begins firsts are step None h = none_is (ways_to at net zone) (label_in at rest r) are_labels_of goes_some begins firsts are step (λ k l s. h k l (slice_get_within firsts k l s) s)
   least_of begins firsts are step (Some m) h = least_is (ways_to at net zone) (label_in at rest r) are_labels_of goes_some begins firsts are step m (record { some = (h.0.0, h.0.1, h.0.3, h.0.4); least = λ k l x s e. h.1 k l x (slice_get_within firsts k l s) s e })
 
-pub label_some : (near : Bool) (within : Bool) (x y : ℕ) → within ≡ true → near ≡ true → x ≡ y → Some x ≡ cond within (cond near (Some y) None) None
-label_some near within x y hw hn e = rw (hw, hn, e) refl
+-- the label of a link, where there is a walk, and where there is none
+pub label_there : (at : ℕ → ℕ → ℕ) (links : ℕ) (state : ℕ → ℕ) (rest : ℕ → ℕ → ℕ) (far l e time x : ℕ)
+    → l < links → time ≡ at l e → x ≡ rest (state l) (e + time) → x < far
+    → Some (time + x) ≡ label_of at links state rest far l e
+unfolding label_of
+label_there at links state rest far l e time x within t r near = rw (← t) (rw (← r) (grind (arith, nat_tests)))
+
+pub label_none : (at : ℕ → ℕ → ℕ) (links : ℕ) (state : ℕ → ℕ) (rest : ℕ → ℕ → ℕ) (far l e time x : ℕ)
+    → time ≡ at l e → x ≡ rest (state l) (e + time) → far ≤ x → None ≡ label_of at links state rest far l e
+unfolding label_of
+label_none at links state rest far l e time x t r above = rw (← t) (rw (← r) (grind (arith, nat_tests)))
+
+pub ruleset labels = (label_there, label_none)
 
 pub ruleset least_so_far = (LeastSoFar_none, LeastSoFar_more)

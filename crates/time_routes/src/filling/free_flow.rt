@@ -16,7 +16,7 @@ use net_core::{LinkNo, Memory};
 use std::alloc::Global;
 
 // The least over the ways on.
-#[tactic(auto, unfolding(crate::specs::Filling::Rests::least_over, crate::specs::Filling::Rests::over), using(crate::proofs::OfFilling::LeastOver::least_over_le))]
+#[tactic(auto, using(crate::proofs::OfFilling::LeastOver::least_over_le))]
 fn least_way(tail: &[u64], free: &[u32], ways: &[Onward]) -> u64
     requires to { All (λ w. w.to < length tail.now) ways.now }
     requires link { All (λ w. w.link < length free.now) ways.now }

@@ -1,5 +1,6 @@
 // What is left to each zone of a group.
-ghost use Rattle.std.specs.Prelude.{◌≡◌, ◌+◌, ◌-◌, ◌*◌, ◌<◌, ◌≤◌, [], length, get_or, map, All};
+ghost use Rattle.std.specs.Prelude.{◌≡◌, ◌+◌, ◌-◌, ◌*◌, ◌^◌, ◌<◌, ◌≤◌, [], length, get_or, map};
+ghost use Rattle.std.specs.Prelude.{All};
 ghost use Rattle.time_routes.specs.Filling.Labels.{far, rest_in};
 ghost use Rattle.time_routes.specs.Filling.SlotRows.{slot_rest};
 ghost use Rattle.time_routes.specs.Filling.Narrow.{widened};
@@ -22,8 +23,20 @@ fn rows_back(horizon: u32, step: u64) -> usize
     (horizon as u64).saturating_sub(step) as usize
 }
 
+// The place of what stands in the row that is so many rows from the horizon's.
+#[tactic(auto, using(crate::proofs::OfFilling::TableFacts::place_inside))]
+fn place_in_row(back: usize, horizon: u32, wide: usize, number: usize) -> usize
+    requires back { back ≤ horizon }
+    requires number { number < wide }
+    requires rows { (horizon + 1) * wide < 2 ^ 63 }
+    ensures is { result ≡ back * wide + number }
+    ensures within { result < (horizon + 1) * wide }
+{
+    back * wide + number
+}
+
 // What is left in a slot.
-#[tactic(auto, unfolding(crate::specs::Filling::SlotRows::slot_rest), using(crate::proofs::OfFilling::TableFacts::place_inside))]
+#[tactic(auto, unfolding(crate::specs::Filling::SlotRows::slot_rest))]
 fn slot_at(slots: &NarrowTable, slot: usize, state: u32, step: u64) -> u64
     requires slot { slot < 4 }
     requires state { state < slots.now.states }
@@ -32,12 +45,13 @@ fn slot_at(slots: &NarrowTable, slot: usize, state: u32, step: u64) -> u64
     ensures low { result ≤ far }
 {
     let back = rows_back(slots.horizon, step);
-    let left = slots.labels[back * (slots.states * 4) + (state as usize * 4 + slot)];
+    let place = place_in_row(back, slots.horizon, slots.states * 4, state as usize * 4 + slot);
+    let left = slots.labels[place];
     if left < NARROW_FAR { left as u64 } else { FAR }
 }
 
 // What is left in a row of its own.
-#[tactic(auto, unfolding(crate::specs::Filling::Labels::rest_in), using(crate::proofs::OfFilling::TableFacts::place_inside))]
+#[tactic(auto, unfolding(crate::specs::Filling::Labels::rest_in))]
 fn row_at(row: &[u64], states: usize, horizon: u32, state: u32, step: u64) -> u64
     requires rows { length row.now ≡ (horizon + 1) * states }
     requires low { All (λ x. x ≤ far) row.now }
@@ -45,7 +59,8 @@ fn row_at(row: &[u64], states: usize, horizon: u32, state: u32, step: u64) -> u6
     ensures is { result ≡ rest_in states horizon row.now state step }
     ensures low { result ≤ far }
 {
-    row[rows_back(horizon, step) * states + state as usize]
+    let back = rows_back(horizon, step);
+    row[place_in_row(back, horizon, states, state as usize)]
 }
 
 // What is left to the zone at a place.

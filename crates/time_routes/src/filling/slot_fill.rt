@@ -52,7 +52,7 @@ fn place_after(wide: usize, back: usize, base: usize, span: &Span) -> usize
 }
 
 // The least over the ways on, in four slots.
-#[tactic(auto, unfolding(crate::specs::Filling::Rests::least_over), using(crate::proofs::OfFilling::LeastOver::least_over_le))]
+#[tactic(auto, using(crate::proofs::OfFilling::LeastOver::least_over_le))]
 fn least_four(labels: &[u32], row: &SlotRow, spans: &[Span], ways: &[Onward]) -> Four
     requires spans { IsSpans (time_at row.now.times.now) row.now.step row.now.wide ways.now
         spans.now }

@@ -27,7 +27,7 @@ pub(crate) fn span_of(times: &LinkTimes, step: u64, way: &Onward) -> u64
 }
 
 // The least over the ways on, for a row that stands so many rows from the horizon's.
-#[tactic(auto, unfolding(crate::specs::Filling::Rests::least_over), using(crate::proofs::OfFilling::LeastOver::least_over_le))]
+#[tactic(auto, using(crate::proofs::OfFilling::LeastOver::least_over_le))]
 fn least_way(
     labels: &[u64],
     states: usize,

@@ -10,7 +10,7 @@ use crate::reading::zone_labels::ZoneLabels;
 use net_core::LinkNo;
 
 // The time from the entry of a link at a step, where there is a walk.
-#[tactic(auto, unfolding(crate::specs::Filling::Rests::label_of), using(crate::proofs::OfReading::Leasts::label_some))]
+#[tactic(auto, using(crate::proofs::OfReading::Leasts::labels))]
 pub(crate) fn label_at(labels: &ZoneLabels, link: u32, step: u64) -> Option<u64>
     requires fit { AreFit labels.now }
     requires link { link < length labels.now.times.now.free }

@@ -1,9 +1,10 @@
-use Rattle.std.proofs.Common.{ℕ, ◌+◌, ◌<◌, arith, get_or}
+use Rattle.std.proofs.Common.{ℕ, ◌+◌, ◌<◌, ◌≤◌, arith, get_or}
 use Rattle.std.proofs.Common.{length}
 use Rattle.time_routes.specs.declared.states.onward.Onward.{Onward}
 use Rattle.time_routes.specs.declared.states.spans.Span.{Span}
 use Rattle.dta_model.specs.LinkTimes.{time_at}
-use Rattle.time_routes.specs.Filling.SlotRows.{slot_rest}
+use Rattle.time_routes.specs.Filling.SlotRows.{narrow_far, slot_rest}
+use Rattle.time_routes.proofs.OfFilling.LeastOver.{least_done}
 use Rattle.time_routes.proofs.OfFilling.SlotFacts.{slot_place, slot_step}
 use Rattle.time_routes.proofs.filling.slot_fill.least_four.Goals as goal
 
@@ -35,3 +36,23 @@ loop-span-preserved c =
       omega (arith, c.min-c.ensures, inv.6),
       omega (arith, c.min-d.ensures, inv.7),
     )
+
+pub returns-clause-a : goal.returns-clause-a
+returns-clause-a c =
+    let past : length c.args.ways.now ≤ c.loop-span.span-index = omega (arith, c.loop-span-test.false, c.requires.spans.as_many) in
+    least_done (time_at c.args.row.now.times.now) narrow_far (slot_rest c.args.row.now.wide c.args.row.now.times.now.horizon c.args.labels.now 0) c.args.row.now.step _ _ c.args.ways.now _ (c.loop-span.invariant.0) past (c.loop-span.invariant.4)
+
+pub returns-clause-b : goal.returns-clause-b
+returns-clause-b c =
+    let past : length c.args.ways.now ≤ c.loop-span.span-index = omega (arith, c.loop-span-test.false, c.requires.spans.as_many) in
+    least_done (time_at c.args.row.now.times.now) narrow_far (slot_rest c.args.row.now.wide c.args.row.now.times.now.horizon c.args.labels.now 1) c.args.row.now.step _ _ c.args.ways.now _ (c.loop-span.invariant.1) past (c.loop-span.invariant.5)
+
+pub returns-clause-c : goal.returns-clause-c
+returns-clause-c c =
+    let past : length c.args.ways.now ≤ c.loop-span.span-index = omega (arith, c.loop-span-test.false, c.requires.spans.as_many) in
+    least_done (time_at c.args.row.now.times.now) narrow_far (slot_rest c.args.row.now.wide c.args.row.now.times.now.horizon c.args.labels.now 2) c.args.row.now.step _ _ c.args.ways.now _ (c.loop-span.invariant.2) past (c.loop-span.invariant.6)
+
+pub returns-clause-d : goal.returns-clause-d
+returns-clause-d c =
+    let past : length c.args.ways.now ≤ c.loop-span.span-index = omega (arith, c.loop-span-test.false, c.requires.spans.as_many) in
+    least_done (time_at c.args.row.now.times.now) narrow_far (slot_rest c.args.row.now.wide c.args.row.now.times.now.horizon c.args.labels.now 3) c.args.row.now.step _ _ c.args.ways.now _ (c.loop-span.invariant.3) past (c.loop-span.invariant.7)

@@ -1,8 +1,13 @@
 use Rattle.std.proofs.Common.{arith}
 use Rattle.dta_model.specs.LinkTimes.{time_at}
-use Rattle.time_routes.specs.Filling.Labels.{rest_in}
+use Rattle.time_routes.specs.Filling.Labels.{far, rest_in}
+use Rattle.time_routes.proofs.OfFilling.LeastOver.{least_done}
 use Rattle.time_routes.proofs.OfFilling.PlaceFacts.{over_place, least_step}
 use Rattle.time_routes.proofs.filling.wide_fill.least_way.Goals as goal
+
+pub returns-clause-is : goal.returns-clause-is
+returns-clause-is c =
+    least_done (time_at c.args.times.now) far (rest_in c.args.states c.args.times.now.horizon c.args.labels.now) c.args.step _ _ c.args.ways.now _ (c.loop-way.invariant.0) c.loop-way-test.false (c.loop-way.invariant.1)
 
 pub loop-way-preserved : goal.loop-way-preserved
 loop-way-preserved c =
