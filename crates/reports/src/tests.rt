@@ -108,8 +108,13 @@ fn node(id: u64, zone: Option<u64>) -> NodeRow
 
 fn link(id: u64, from: u32, to: u32) -> LinkRow
     ensures { result ≡ record {
-      id = id; from = record { 0 = from }; to = record { 0 = to };
-      free = 10; storage = 125; rate = 600000000 } }
+      id = id;
+      from = record { 0 = from };
+      to = record { 0 = to };
+      free = 10;
+      storage = 125;
+      rate = 600000000;
+    } }
 {
     LinkRow {
         id,
@@ -133,7 +138,11 @@ fn two_links(alloc: Global) -> Result<Net, Memory>
 
 fn trip(number: u32, origin: u64, destination: u64, departure: u32) -> Trip
     ensures { result ≡ record {
-      number = number; origin = origin; destination = destination; departure = departure } }
+      number = number;
+      origin = origin;
+      destination = destination;
+      departure = departure;
+    } }
 {
     Trip {
         number,
