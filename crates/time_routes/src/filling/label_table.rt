@@ -45,7 +45,12 @@ fn slot_at(slots: &NarrowTable, slot: usize, state: u32, step: u64) -> u64
     ensures low { result ≤ far }
 {
     let back = rows_back(slots.horizon, step);
-    let place = place_in_row(back, slots.horizon, slots.states * 4, state as usize * 4 + slot);
+    let place = place_in_row(
+        back,
+        slots.horizon,
+        slots.states * 4,
+        state as usize * 4 + slot,
+    );
     let left = slots.labels[place];
     if left < NARROW_FAR { left as u64 } else { FAR }
 }
