@@ -9,7 +9,7 @@ use Rattle.dta_model.specs.Plans.{ins, link_at, outs}
 use Rattle.dta_model.specs.Sound.{IsSound}
 use Rattle.dta_model.specs.Units.{Gather, Transfer, mail_slot, node_count, phase_begins, phase_end, phase_start, step_of, step_units, task_at, task_of}
 use Rattle.dta_model.specs.declared.plan.Plan.{Plan}
-use Rattle.node_transfer.proofs.Finished.{from-below}
+use Rattle.node_transfer.proofs.OfMail.Finished.{from-below}
 use Rattle.claim_core.specs.Parts.{moves, stage_before}
 use Rattle.claim_core.specs.Sums.{below, is_at}
 use Rattle.claim_core.proofs.Cuts.{below_same}

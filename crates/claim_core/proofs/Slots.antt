@@ -11,7 +11,7 @@ use Rattle.dta_model.specs.Plans.{ins, link_at, outs}
 use Rattle.dta_model.specs.Sound.{IsSound}
 use Rattle.dta_model.specs.Units.{Gather, Posting, Task, Transfer, mail_slot, moved_by, moved_in, node_count, posting_slot, step_units, task_at, task_of}
 use Rattle.dta_model.specs.declared.plan.Plan.{Plan}
-use Rattle.node_transfer.proofs.Finished.{from-below, to-below}
+use Rattle.node_transfer.proofs.OfMail.Finished.{from-below, to-below}
 use Rattle.claim_core.specs.Parts.{moves}
 use Rattle.claim_core.specs.Sums.{below, is_at, once_below, one_if, times}
 use Rattle.claim_core.proofs.Counts.{range_more}

@@ -14,7 +14,7 @@ use Rattle.cell_stages.specs.CellState.{CellState}
 use Rattle.cell_stages.specs.Contents.{IsStep, away, batch_of, cell_after, cell_at, cell_before, mail_at, room_of}
 use Rattle.node_transfer.specs.Exchange.{AreMail, ArePut, is_among}
 use Rattle.cell_stages.specs.declared.mail.Mail.{Mail}
-use Rattle.node_transfer.proofs.Parts.{ins-among, ins-member, outs-among, outs-member}
+use Rattle.node_transfer.proofs.OfMail.Parts.{ins-among, ins-member, outs-among, outs-member}
 use Rattle.cell_stages.proofs.TwoStages.{steps_have_two_stages}
 use Rattle.claim_core.specs.Kinds.{kind_by}
 use Rattle.claim_core.specs.Parts.{moves, stage_before}
