@@ -153,7 +153,8 @@ fn line_of_links(alloc: Global) -> Result<Net, Memory>
 
 // A trip over both links.
 fn trip(number: u32, departure: u32) -> Trip
-    ensures { result ≡ record { number = number; origin = 1; destination = 3; departure = departure } }
+    ensures { result ≡
+        record { number = number; origin = 1; destination = 3; departure = departure } }
 {
     Trip {
         number,
