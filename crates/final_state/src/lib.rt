@@ -6,7 +6,7 @@
 //! the first four links.
 #![tactic(auto)]
 
-mod whereabouts;
 mod state;
+mod whereabouts;
 
 pub use state::final_state;
