@@ -1,8 +1,8 @@
-// What the slots of a floor hold.
+// What the places of a floor hold.
 use monitors::WriterPass;
 use node_transfer::{Mail, NodeCell};
 
-/// What a slot holds: a node's cell, a link's mail, the writer's pass, or nothing while a unit is
+/// What a place holds: a cell, a mail, the writer's pass, or nothing while a unit is
 /// at work on it.
 #[derive(Drop)]
 pub enum Part {

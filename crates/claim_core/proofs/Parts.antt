@@ -1,4 +1,4 @@
--- How often the units of a step take each slot to its next stage.
+-- How often the units of a step take each part to its next stage.
 use Rattle.net_core.specs.Network as network
 use Rattle.std.specs.Prelude.{filter, nat_eq, nat_lt}
 use Rattle.std.specs.List.{range_with_len}
@@ -9,7 +9,7 @@ use native.Mathlib.Decide.{ℕ_discrete}
 use Rattle.net_core.specs.Network.{numbers_below}
 use Rattle.dta_model.specs.Plans.{ins, link_at, outs}
 use Rattle.dta_model.specs.Sound.{IsSound}
-use Rattle.dta_model.specs.Units.{Gather, Posting, Task, Transfer, mail_slot, moved_by, moved_in, node_count, posting_slot, step_units, task_at, task_of}
+use Rattle.dta_model.specs.Units.{Gather, Posting, Task, Transfer, mail_part, moved_by, moved_in, node_count, posting_part, step_units, task_at, task_of}
 use Rattle.dta_model.specs.declared.plan.Plan.{Plan}
 use Rattle.node_transfer.proofs.OfMail.Finished.{from-below, to-below}
 use Rattle.claim_core.specs.Parts.{moves}
@@ -101,25 +101,25 @@ module _ (p : Plan) where
   unfolding network.ins
   ins_past n l h = among_links (λ b. (link_at p b).to.0) n (length p.net.links) l ∙ no_link (nat_eq (link_at p l).to.0 n) (once_below l (length p.net.links)) (once_out l (length p.net.links) h)
 
--- the slots of mail come after those of cells
+-- the parts of mail come after those of cells
 cell_else : (count k : ℕ) → k < count → (links : List ℕ) → times k (map (λ l. count + l) links) ≡ 0
 cell_else count k h [] = refl
 cell_else count k h (l ∷ links) = omega (arith, at_other k (count + l) (λ e. omega (arith, e, h)), cell_else count k h links)
 
-mail_at_slot : (count l : ℕ) (links : List ℕ) → times (count + l) (map (λ b. count + b) links) ≡ times l links
-mail_at_slot count l [] = refl
-mail_at_slot count l (b ∷ links) = omega (arith, shifted count l b, mail_at_slot count l links)
+mail_at_part : (count l : ℕ) (links : List ℕ) → times (count + l) (map (λ b. count + b) links) ≡ times l links
+mail_at_part count l [] = refl
+mail_at_part count l (b ∷ links) = omega (arith, shifted count l b, mail_at_part count l links)
   where
     shifted : (c x y : ℕ) → is_at (c + x) (c + y) ≡ is_at x y
     shifted c x y = grind (arith, nat_tests)
 
 -- a node's cell and the mail of some links
 module _ (p : Plan) (a : ℕ) (links : List ℕ) where
-  pub cell_of : (k : ℕ) → k < node_count p → times k (a ∷ map (mail_slot p) links) ≡ is_at k a
+  pub cell_of : (k : ℕ) → k < node_count p → times k (a ∷ map (mail_part p) links) ≡ is_at k a
   cell_of k h = omega (arith, cell_else (node_count p) k h links)
 
-  pub mail_of : a < node_count p → (l : ℕ) → times (node_count p + l) (a ∷ map (mail_slot p) links) ≡ times l links
-  mail_of h l = omega (arith, mail_at_slot (node_count p) l links, at_other (node_count p + l) a (λ e. omega (arith, e, h)))
+  pub mail_of : a < node_count p → (l : ℕ) → times (node_count p + l) (a ∷ map (mail_part p) links) ≡ times l links
+  mail_of h l = omega (arith, mail_at_part (node_count p) l links, at_other (node_count p + l) a (λ e. omega (arith, e, h)))
 
 -- the tasks of a step by their places
 lt_is : (a b : ℕ) → a < b → nat_lt a b ≡ true
@@ -168,37 +168,37 @@ module _ (p : Plan) where
   pub step_cell : (n : ℕ) → n < node_count p → below (step_units (node_count p)) (at_place p n) ≡ 2
   step_cell n h =
       let N : ℕ = node_count p in
-      let same : (links : ℕ → List ℕ) → below N (λ i. times n (i ∷ map (mail_slot p) (links i))) ≡ 1 = λ links.
-      below_same (λ i. times n (i ∷ map (mail_slot p) (links i))) (λ i. is_at i n) N (λ i l. cell_of p i (links i) n h ∙ at_same n i) ∙ once n N h in
-      let post : is_at n (posting_slot p) ≡ 0 = at_other n (posting_slot p) (λ e. omega (arith, e, h)) in
+      let same : (links : ℕ → List ℕ) → below N (λ i. times n (i ∷ map (mail_part p) (links i))) ≡ 1 = λ links.
+      below_same (λ i. times n (i ∷ map (mail_part p) (links i))) (λ i. is_at i n) N (λ i l. cell_of p i (links i) n h ∙ at_same n i) ∙ once n N h in
+      let post : is_at n (posting_part p) ≡ 0 = at_other n (posting_part p) (λ e. omega (arith, e, h)) in
       omega (arith, in_bands p n, same (λ i. outs p i), same (λ i. ins p i), post)
 
-  pub step_mail : IsSound p → (l : ℕ) → l < length p.net.links → below (step_units (node_count p)) (at_place p (mail_slot p l)) ≡ 2
+  pub step_mail : IsSound p → (l : ℕ) → l < length p.net.links → below (step_units (node_count p)) (at_place p (mail_part p l)) ≡ 2
   step_mail sound l h =
       let N : ℕ = node_count p in
-      let out : below N (λ i. times (N + l) (i ∷ map (mail_slot p) (outs p i))) ≡ 1 =
-      below_same (λ i. times (N + l) (i ∷ map (mail_slot p) (outs p i))) (λ i. is_at i (link_at p l).from.0) N (λ i b. mail_of p i (outs p i) b l ∙ times_outs p i l h)
+      let out : below N (λ i. times (N + l) (i ∷ map (mail_part p) (outs p i))) ≡ 1 =
+      below_same (λ i. times (N + l) (i ∷ map (mail_part p) (outs p i))) (λ i. is_at i (link_at p l).from.0) N (λ i b. mail_of p i (outs p i) b l ∙ times_outs p i l h)
       ∙ once (link_at p l).from.0 N (from-below p sound N (omega arith) l h) in
-      let into : below N (λ i. times (N + l) (i ∷ map (mail_slot p) (ins p i))) ≡ 1 =
-      below_same (λ i. times (N + l) (i ∷ map (mail_slot p) (ins p i))) (λ i. is_at i (link_at p l).to.0) N (λ i b. mail_of p i (ins p i) b l ∙ times_ins p i l h)
+      let into : below N (λ i. times (N + l) (i ∷ map (mail_part p) (ins p i))) ≡ 1 =
+      below_same (λ i. times (N + l) (i ∷ map (mail_part p) (ins p i))) (λ i. is_at i (link_at p l).to.0) N (λ i b. mail_of p i (ins p i) b l ∙ times_ins p i l h)
       ∙ once (link_at p l).to.0 N (to-below p sound N (omega arith) l h) in
-      let post : is_at (N + l) (posting_slot p) ≡ 0 = at_other (N + l) (posting_slot p) (λ e. omega (arith, e, h)) in
-      omega (arith, in_bands p (mail_slot p l), out, into, post)
+      let post : is_at (N + l) (posting_part p) ≡ 0 = at_other (N + l) (posting_part p) (λ e. omega (arith, e, h)) in
+      omega (arith, in_bands p (mail_part p l), out, into, post)
 
-  pub step_posting : below (step_units (node_count p)) (at_place p (posting_slot p)) ≡ 1
+  pub step_posting : below (step_units (node_count p)) (at_place p (posting_part p)) ≡ 1
   step_posting =
-      let N : ℕ = node_count p in let k : ℕ = posting_slot p in
-      let out : below N (λ i. times k (i ∷ map (mail_slot p) (outs p i))) ≡ 0 =
-      below_none (λ i. times k (i ∷ map (mail_slot p) (outs p i))) N (λ i b. mail_of p i (outs p i) b (length p.net.links) ∙ outs_past p i (length p.net.links) (omega arith)) in
-      let into : below N (λ i. times k (i ∷ map (mail_slot p) (ins p i))) ≡ 0 =
-      below_none (λ i. times k (i ∷ map (mail_slot p) (ins p i))) N (λ i b. mail_of p i (ins p i) b (length p.net.links) ∙ ins_past p i (length p.net.links) (omega arith)) in
+      let N : ℕ = node_count p in let k : ℕ = posting_part p in
+      let out : below N (λ i. times k (i ∷ map (mail_part p) (outs p i))) ≡ 0 =
+      below_none (λ i. times k (i ∷ map (mail_part p) (outs p i))) N (λ i b. mail_of p i (outs p i) b (length p.net.links) ∙ outs_past p i (length p.net.links) (omega arith)) in
+      let into : below N (λ i. times k (i ∷ map (mail_part p) (ins p i))) ≡ 0 =
+      below_none (λ i. times k (i ∷ map (mail_part p) (ins p i))) N (λ i b. mail_of p i (ins p i) b (length p.net.links) ∙ ins_past p i (length p.net.links) (omega arith)) in
       let post : is_at k k ≡ 1 = self k in
       omega (arith, in_bands p k, out, into, post)
     where
       self : (y : ℕ) → is_at y y ≡ 1
       self y = grind (arith, nat_tests)
 
-  -- how often whole steps take a slot to its next stage
+  -- how often whole steps take a part to its next stage
   pub moves_is : (k u : ℕ) → moves p k u ≡ at_place p k (u % step_units (node_count p))
   unfolding moved_by task_of
   moves_is k u = refl
