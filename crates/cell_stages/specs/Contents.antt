@@ -1,11 +1,13 @@
 -- What the cell of a node and the mail of its links hold at each stage of a loading.
-use Rattle.std.specs.Prelude.{ℕ, suc, ◌<◌, ◌/◌, ◌%◌, Bool, false, ◌&&◌, not, cond, nat_eq, nat_lt, nat_le, List, [], length, map, filter, Option, None, Some, option_map}
+use Rattle.std.specs.Prelude.{ℕ, suc, ◌<◌, ◌/◌, ◌%◌, Bool, false, ◌&&◌, not, cond, nat_eq, nat_lt}
+use Rattle.std.specs.Prelude.{nat_le, List, [], length, map, filter, Option, None, Some, option_map}
 use Rattle.std.specs.Option.{is_none}
 use Rattle.dta_model.specs.Allowance.{carried}
 use Rattle.dta_model.specs.Plans.{link_at, ins, outs, turn}
 use Rattle.dta_model.specs.Riders.{RiderState}
 use Rattle.dta_model.specs.Sound.{IsSound}
-use Rattle.cell_stages.specs.Stages.{line_before, line_after, waiting_before, waiting_after, arrived_before, room_mail, batch_mail}
+use Rattle.cell_stages.specs.Stages.{line_before, line_after, waiting_before, waiting_after}
+use Rattle.cell_stages.specs.Stages.{arrived_before, room_mail, batch_mail}
 use Rattle.dta_model.specs.declared.plan.Plan.{Plan}
 use Rattle.dta_model.specs.declared.queue.Queue.{Queue}
 use Rattle.dta_model.specs.declared.queue.Queue.TheVariants as queue

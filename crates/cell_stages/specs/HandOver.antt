@@ -13,7 +13,8 @@ use Rattle.dta_model.specs.declared.plan.Plan.{Plan}
 -- and arrived at it
 abbrev pub riders_at : Plan → ℕ → ℕ → List RiderState
 riders_at p t n =
-    flat_map (line_before p t) (ins p n) ++ (flat_map (waiting_before p t) (outs p n) ++ arrived_before p n t)
+    flat_map (line_before p t) (ins p n)
+    ++ (flat_map (waiting_before p t) (outs p n) ++ arrived_before p n t)
 
 -- the riders of all nodes before the transfer of step t
 unfoldable pub all_riders : Plan → ℕ → List RiderState

@@ -1,7 +1,8 @@
 -- What is true of the contents of cells and of mail at each stage.
 use Rattle.std.specs.Prelude.{◌≡◌, ℕ, ◌+◌, ◌*◌}
 use Rattle.dta_model.specs.declared.plan.Plan.{Plan}
-use Rattle.cell_stages.specs.Contents.{away, batch_of, cell_after, cell_at, cell_before, mail_at, room_of}
+use Rattle.cell_stages.specs.Contents.{away, batch_of, cell_after, cell_at, cell_before, mail_at}
+use Rattle.cell_stages.specs.Contents.{room_of}
 
 -- the two stages of a step: before its transfers, and after them
 pub record StageBefore (p : Plan) (t : ℕ) : Type 0 where

@@ -32,7 +32,8 @@ line_before p t l = riders p (trace_after p t) (queue_of l (trace_after p t))
 
 unfoldable pub line_after : Plan → ℕ → ℕ → ℕ → List RiderState
 line_after p n t l =
-    riders p (trace_after p t) (staying (node_moves p n t (trace_after p t)) (queue_of l (trace_after p t)))
+    riders p (trace_after p t)
+    (staying (node_moves p n t (trace_after p t)) (queue_of l (trace_after p t)))
 
 -- the waiting line of an out-link before the transfer of step t, and after it
 unfoldable pub waiting_before : Plan → ℕ → ℕ → List RiderState
@@ -40,7 +41,8 @@ waiting_before p t b = riders p (trace_after p t) (waiting_for p b (trace_after 
 
 unfoldable pub waiting_after : Plan → ℕ → ℕ → ℕ → List RiderState
 waiting_after p n t b =
-    riders p (trace_after p t) (staying (node_moves p n t (trace_after p t)) (waiting_for p b (trace_after p t)))
+    riders p (trace_after p t)
+    (staying (node_moves p n t (trace_after p t)) (waiting_for p b (trace_after p t)))
 
 -- the riders that a node's moves M lead out, each as it then is
 abbrev pub arrive_by : Plan → List Move → List Move → List RiderState
@@ -62,4 +64,5 @@ batch_by p l T M = riders p (T ++ M) (brought l M)
 -- the mail of link l after the transfer of step t: its batch, the riders that its first node's
 -- moves bring to it
 unfoldable pub batch_mail : Plan → ℕ → ℕ → List RiderState
-batch_mail p l t = batch_by p l (trace_after p t) (node_moves p (link_at p l).from.0 t (trace_after p t))
+batch_mail p l t =
+    batch_by p l (trace_after p t) (node_moves p (link_at p l).from.0 t (trace_after p t))

@@ -1,21 +1,26 @@
 -- What a program relies on that makes a node's moves on lines of riders: of the line of an in-link
 -- at the start of the step, of a waiting line, of riders that move, and of lines that gather
 -- batches.
-use Rattle.std.specs.Prelude.{All, IsSome, List, None, Option, Some, [], cond, drop, false, filter, find, length, nat_eq, nat_le, option_map, slice_get, suc, ℕ, ◌&&◌, ◌++◌, ◌+◌, ◌<◌, ◌∷◌, ◌≡◌, ◌≢◌}
+use Rattle.std.specs.Prelude.{All, IsSome, List, None, Option, Some, [], cond, drop, false, filter}
+use Rattle.std.specs.Prelude.{find, length, nat_eq, nat_le, option_map, slice_get, suc, ℕ, ◌&&◌}
+use Rattle.std.specs.Prelude.{◌++◌, ◌+◌, ◌<◌, ◌∷◌, ◌≡◌, ◌≢◌}
 use Rattle.std.specs.List.{last_or}
 use Rattle.dta_model.specs.Loading.{trace_after, is_entry}
 use Rattle.dta_model.specs.NodeMoves.{left, entered, turned, waits_for, leave_move, head_move}
 use Rattle.dta_model.specs.Plans.{link_at, turn, vehicles_of, departure_of}
 use Rattle.dta_model.specs.Riders.{moved, rider_at, riders}
 use Rattle.dta_model.specs.Sound.{IsSound}
-use Rattle.cell_stages.specs.Stages.{staying, brought, waiting_for, line_before, line_after, waiting_before, waiting_after, batch_mail}
-use Rattle.dta_model.specs.Trace.{Move, moves_of, has_moved, last_move, leads_to, next_target, stands_on, Onto, queue_of, target_at}
+use Rattle.cell_stages.specs.Stages.{staying, brought, waiting_for, line_before, line_after}
+use Rattle.cell_stages.specs.Stages.{waiting_before, waiting_after, batch_mail}
+use Rattle.dta_model.specs.Trace.{Move, moves_of, has_moved, last_move, leads_to, next_target}
+use Rattle.dta_model.specs.Trace.{stands_on, Onto, queue_of, target_at}
 use Rattle.dta_model.specs.declared.plan.Plan.{Plan}
 
 -- of a rider on a link: its last entry, its next target, and that it is under way
 pub record RiderTells (p : Plan) (T : List Move) (v : ℕ) : Type 0 where
   pub entered : last_or None (rider_at p T v).entries ≡ option_map (λ m. m.step) (last_move v T)
-  pub next : next_target p T v ≡ target_at (slice_get (rider_at p T v).route (length (rider_at p T v).entries))
+  pub next : next_target p T v
+      ≡ target_at (slice_get (rider_at p T v).route (length (rider_at p T v).entries))
   pub under_way : (rider_at p T v).arrival ≡ None
 
 abbrev pub RidersTell : Type 0
@@ -55,7 +60,8 @@ OnlyEnters T v = filter is_entry (moves_of v T) ≡ moves_of v T
 -- a move to the next target makes of a rider what `moved` says
 abbrev pub RidersMove : Type 0
 RidersMove =
-    (p : Plan) (T : List Move) (m : Move) → OnlyEnters T m.vehicle → m.target ≡ next_target p T m.vehicle
+    (p : Plan) (T : List Move) (m : Move)
+    → OnlyEnters T m.vehicle → m.target ≡ next_target p T m.vehicle
     → rider_at p (T ++ m ∷ []) m.vehicle ≡ moved (rider_at p T m.vehicle) m.step
 
 -- what changes where the first of the in-line of link l moves, from moves M to moves N
@@ -88,7 +94,8 @@ pub record OneMove (p : Plan) (T0 M : List Move) (m : Move) : Type 0 where
       ++ cond (leads_to b m) (rider_at p (T0 ++ (M ++ m ∷ [])) m.vehicle ∷ []) []
 
 abbrev pub MovesPass : Type 0
-MovesPass = (p : Plan) (T0 M : List Move) (m : Move) → has_moved m.vehicle M ≡ false → OneMove p T0 M m
+MovesPass =
+    (p : Plan) (T0 M : List Move) (m : Move) → has_moved m.vehicle M ≡ false → OneMove p T0 M m
 
 -- how the counts of a node grow by a move
 pub record OneCount (p : Plan) (n t : ℕ) (T0 M : List Move) (m : Move) : Type 0 where
@@ -113,7 +120,8 @@ pub record LeadsOn (p : Plan) (l b : ℕ) : Type 0 where
 abbrev pub RoutesLeadOn : Type 0
 RoutesLeadOn =
     (p : Plan) → IsSound p → (t l i v b : ℕ)
-    → slice_get (queue_of l (trace_after p t)) i ≡ Some v → next_target p (trace_after p t) v ≡ Onto b
+    → slice_get (queue_of l (trace_after p t)) i ≡ Some v
+    → next_target p (trace_after p t) v ≡ Onto b
     → LeadsOn p l b
 
 -- the line of an in-link in the next step is what the transfer left of it, and then the batch

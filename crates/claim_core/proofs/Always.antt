@@ -7,7 +7,7 @@ use Rattle.std.proofs.lemmas.List.{append_assoc, append-nil}
 use Rattle.net_core.specs.Network.{numbers_below}
 use Rattle.dta_model.specs.Machine.{Claims, Effect, all_idle, claim_by, effect_of, finish_by, finished, is_finished, may_open, open_by, outcome, outcomes_of, run_machine, step_machine, with_stage}
 use Rattle.dta_model.specs.Sound.{IsSound}
-use Rattle.dta_model.specs.Units.{mail_slot, node_count, phase_start, step_units, unit_count}
+use Rattle.dta_model.specs.Units.{mail_part, node_count, phase_start, step_units, unit_count}
 use Rattle.dta_model.specs.declared.plan.Plan.{Plan}
 use Rattle.dta_model.specs.declared.machine.Event.{Event}
 use Rattle.dta_model.specs.declared.machine.Event.TheVariants as event
@@ -24,7 +24,7 @@ use Rattle.claim_core.proofs.Counts.{drawn_in, held_in, min_high, min_low, none_
 use Rattle.claim_core.proofs.Cuts.{below_cut}
 use Rattle.claim_core.proofs.Events.{Kept, always_kept, in_phase}
 use Rattle.claim_core.proofs.Phases.{whole_start}
-use Rattle.claim_core.proofs.Slots.{at_place, of_whole_steps, step_cell, step_mail}
+use Rattle.claim_core.proofs.Parts.{at_place, of_whole_steps, step_cell, step_mail}
 use Rattle.claim_core.proofs.Stages.{others_none}
 
 once_le : (x g : ℕ) → once_below x g ≤ 1
@@ -84,22 +84,22 @@ module _ (p : Plan) (s : Claims) (k : Kept p s) where
         by_bound true e = others_none (done_in p s) m g drawn_most (λ y l. omega (arith, all_done y l)) (sym (k.claimed.sum) ∙ whole) x le (below_of x g e)
         by_bound false e = none_past p s x (past_of x g e)
 
-    pub whole_stage : (slot : ℕ) → stage_in p s slot ≡ t * below (step_units (node_count p)) (at_place p slot)
+    pub whole_stage : (part : ℕ) → stage_in p s part ≡ t * below (step_units (node_count p)) (at_place p part)
     unfolding stage_of
-    whole_stage slot =
-        below_cut (λ u. moves p slot u * done_in p s u) (moves p slot) m (unit_count p) (omega (arith, drawn_most))
-        (λ x l. ap (λ d. moves p slot x * d) (all_done x l) ∙ omega arith)
-        (λ x le. ap (λ d. moves p slot x * d) (no_other x le) ∙ omega arith)
-        ∙ of_whole_steps p slot t
+    whole_stage part =
+        below_cut (λ u. moves p part u * done_in p s u) (moves p part) m (unit_count p) (omega (arith, drawn_most))
+        (λ x l. ap (λ d. moves p part x * d) (all_done x l) ∙ omega arith)
+        (λ x le. ap (λ d. moves p part x * d) (no_other x le) ∙ omega arith)
+        ∙ of_whole_steps p part t
 
-    twice : (slot : ℕ) → below (step_units (node_count p)) (at_place p slot) ≡ 2 → stage_in p s slot ≡ 2 * t
-    twice slot e = whole_stage slot ∙ ap (λ b. t * b) e ∙ omega arith
+    twice : (part : ℕ) → below (step_units (node_count p)) (at_place p part) ≡ 2 → stage_in p s part ≡ 2 * t
+    twice part e = whole_stage part ∙ ap (λ b. t * b) e ∙ omega arith
 
     cells_then : (n : ℕ) → n < node_count p → cell_at p n (stage_in p s n) ≡ cell_before p n t away away
     cells_then n h = ap (λ k. cell_at p n k) (twice n (step_cell p n h)) ∙ (steps_have_two_stages p t).0.cell n
 
-    mail_then : IsSound p → (l : ℕ) → l < length p.net.links → mail_at p l (stage_in p s (mail_slot p l)) ≡ room_of p t l
-    mail_then sound l h = ap (λ k. mail_at p l k) (twice (mail_slot p l) (step_mail p sound l h)) ∙ (steps_have_two_stages p t).0.mail l
+    mail_then : IsSound p → (l : ℕ) → l < length p.net.links → mail_at p l (stage_in p s (mail_part p l)) ≡ room_of p t l
+    mail_then sound l h = ap (λ k. mail_at p l k) (twice (mail_part p l) (step_mail p sound l h)) ∙ (steps_have_two_stages p t).0.mail l
 
   whole_parts : PartsAreOfWholeSteps p s
   whole_parts t sound e = (cells_then t e, mail_then t e sound)

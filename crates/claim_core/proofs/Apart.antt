@@ -1,4 +1,4 @@
--- Units of one phase move different slots, and what a held unit finds at its slots.
+-- Units of one phase move different parts, and what a held unit finds at its parts.
 use Rattle.std.proofs.Common.{◌≡◌, ◌≢◌, ℕ, ◌+◌, ◌-◌, ◌*◌, ◌/◌, ◌%◌, ◌<◌, ◌≤◌, length, ap, sym, ◌∙◌, subst, arith, lt_of_not-le, ◌⊎◌, inl, inr}
 use Rattle.std.proofs.lemmas.Bool.Decides.{nat_tests}
 use Rattle.std.proofs.lemmas.Nat.{div-add-mod'}
@@ -7,14 +7,14 @@ use mathlib.Core.Logic.{dite}
 use native.Mathlib.Decide.{dec_le}
 use Rattle.dta_model.specs.Plans.{ins, link_at, outs}
 use Rattle.dta_model.specs.Sound.{IsSound}
-use Rattle.dta_model.specs.Units.{Gather, Transfer, mail_slot, node_count, phase_begins, phase_end, phase_start, step_of, step_units, task_at, task_of}
+use Rattle.dta_model.specs.Units.{Gather, Transfer, mail_part, node_count, phase_begins, phase_end, phase_start, step_of, step_units, task_at, task_of}
 use Rattle.dta_model.specs.declared.plan.Plan.{Plan}
-use Rattle.node_transfer.proofs.Finished.{from-below}
+use Rattle.node_transfer.proofs.OfMail.Finished.{from-below}
 use Rattle.claim_core.specs.Parts.{moves, stage_before}
 use Rattle.claim_core.specs.Sums.{below, is_at}
 use Rattle.claim_core.proofs.Cuts.{below_same}
 use Rattle.claim_core.proofs.Phases.{same_step, start_is, starts, stop_is, stops}
-use Rattle.claim_core.proofs.Slots.{at_is, at_place, cell_of, gathers, in_task, mail_of, moves_is, once, times_ins, times_outs, transfers}
+use Rattle.claim_core.proofs.Parts.{at_is, at_place, cell_of, gathers, in_task, mail_of, moves_is, once, times_ins, times_outs, transfers}
 use Rattle.claim_core.proofs.Stages.{in_step}
 
 at_other : (x y : ℕ) → x ≢ y → is_at x y ≡ 0
@@ -36,19 +36,19 @@ band_high k b r j hr hj lo hi h g = grind (arith, nat_tests)
 pub band_last : (k b r j : ℕ) → r < k + k + 1 → j < k + k + 1 → starts k b r ≤ b + j → b + j < stops k b r → k + k ≤ r → j ≡ r
 band_last k b r j hr hj lo hi h = grind (arith, nat_tests)
 
--- a slot of a node's cell or of a mail
+-- a part of a node's cell or of a mail
 abbrev pub IsPart : Plan → ℕ → Type 0
-IsPart p k = (k < node_count p) ⊎ ((l : ℕ) × (l < length p.net.links) × (k ≡ mail_slot p l))
+IsPart p k = (k < node_count p) ⊎ ((l : ℕ) × (l < length p.net.links) × (k ≡ mail_part p l))
 
 module _ (p : Plan) where
-  -- no slot is moved by two transfers, or by two gathers
+  -- no part is moved by two transfers, or by two gathers
   two_transfers : (k : ℕ) → IsPart p k → (a b : ℕ) → a < node_count p → b < node_count p → a ≢ b → 1 ≤ in_task p k (Transfer b) → in_task p k (Transfer a) ≡ 0
   two_transfers k (inl h) a b ha hb apart own =
       let same : k ≡ b = at_is k b (omega (arith, own, cell_of p b (outs p b) k h)) in
       cell_of p a (outs p a) k h ∙ at_other k a (λ e. apart (sym e ∙ same))
   two_transfers k (inr part) a b ha hb apart own =
       let l : ℕ = part.0 in
-      let e : k ≡ mail_slot p l = part.2 in
+      let e : k ≡ mail_part p l = part.2 in
       let at : (n : ℕ) → n < node_count p → in_task p k (Transfer n) ≡ is_at n (link_at p l).from.0 =
       λ n h. ap (λ x. in_task p x (Transfer n)) e ∙ mail_of p n (outs p n) h l ∙ times_outs p n l part.1 in
       let same : b ≡ (link_at p l).from.0 = at_is b (link_at p l).from.0 (omega (arith, own, at b hb)) in
@@ -60,13 +60,13 @@ module _ (p : Plan) where
       cell_of p a (ins p a) k h ∙ at_other k a (λ e. apart (sym e ∙ same))
   two_gathers k (inr part) a b ha hb apart own =
       let l : ℕ = part.0 in
-      let e : k ≡ mail_slot p l = part.2 in
+      let e : k ≡ mail_part p l = part.2 in
       let at : (n : ℕ) → n < node_count p → in_task p k (Gather n) ≡ is_at n (link_at p l).to.0 =
       λ n h. ap (λ x. in_task p x (Gather n)) e ∙ mail_of p n (ins p n) h l ∙ times_ins p n l part.1 in
       let same : b ≡ (link_at p l).to.0 = at_is b (link_at p l).to.0 (omega (arith, own, at b hb)) in
       at a ha ∙ at_other a (link_at p l).to.0 (λ q. apart (q ∙ sym same))
 
-  -- of the units of one phase no other moves a slot that unit c moves
+  -- of the units of one phase no other moves a part that unit c moves
   pub alone : (c x k : ℕ) → IsPart p k → phase_start (node_count p) c ≤ x → x < phase_end (node_count p) c → x ≢ c → 1 ≤ moves p k c → moves p k x ≡ 0
   alone c x k part lo hi other own =
       let N : ℕ = node_count p in
@@ -102,9 +102,9 @@ module _ (p : Plan) where
   pub cell_once : (n : ℕ) → n < node_count p → below (node_count p) (at_place p n) ≡ 1
   cell_once n h = below_same (at_place p n) (λ i. is_at i n) (node_count p) (λ i l. ap (λ task. in_task p n task) (transfers (node_count p) i l) ∙ cell_of p i (outs p i) n h ∙ at_same n i) ∙ once n (node_count p) h
 
-  pub mail_once : IsSound p → (l : ℕ) → l < length p.net.links → below (node_count p) (at_place p (mail_slot p l)) ≡ 1
+  pub mail_once : IsSound p → (l : ℕ) → l < length p.net.links → below (node_count p) (at_place p (mail_part p l)) ≡ 1
   mail_once sound l h =
-      below_same (at_place p (mail_slot p l)) (λ i. is_at i (link_at p l).from.0) (node_count p) (λ i b. ap (λ task. in_task p (mail_slot p l) task) (transfers (node_count p) i b) ∙ mail_of p i (outs p i) b l ∙ times_outs p i l h)
+      below_same (at_place p (mail_part p l)) (λ i. is_at i (link_at p l).from.0) (node_count p) (λ i b. ap (λ task. in_task p (mail_part p l) task) (transfers (node_count p) i b) ∙ mail_of p i (outs p i) b l ∙ times_outs p i l h)
       ∙ once (link_at p l).from.0 (node_count p) (from-below p sound (node_count p) (omega arith) l h)
 
   -- the stage of a part before the phase of a unit, by the unit's task

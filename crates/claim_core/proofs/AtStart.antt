@@ -7,7 +7,7 @@ use Rattle.net_core.specs.Network.{numbers_below}
 use Rattle.dta_model.specs.Machine.{Claims, all_idle, finished, run_machine}
 use Rattle.dta_model.specs.Plans.{all_nodes}
 use Rattle.dta_model.specs.Sound.{IsSound}
-use Rattle.dta_model.specs.Units.{mail_slot, node_count, unit_count}
+use Rattle.dta_model.specs.Units.{mail_part, node_count, unit_count}
 use Rattle.dta_model.specs.declared.plan.Plan.{Plan}
 use Rattle.dta_model.specs.declared.machine.Stage.{Stage}
 use Rattle.dta_model.specs.declared.machine.Stage.TheVariants as stage
@@ -48,9 +48,9 @@ module _ (p : Plan) (workers : ℕ) where
   none_finished : finished p (all_idle workers) ≡ 0
   none_finished = sum_of p (all_idle workers) ∙ ap (λ b. below b (done_in p (all_idle workers))) none_drawn
 
-  no_stage : (slot : ℕ) → stage_in p (all_idle workers) slot ≡ 0
+  no_stage : (part : ℕ) → stage_in p (all_idle workers) part ≡ 0
   unfolding stage_of
-  no_stage slot = below_none (λ x. moves p slot x * done_in p (all_idle workers) x) (unit_count p) (λ x l. ap (λ d. moves p slot x * d) (none_done x) ∙ omega arith)
+  no_stage part = below_none (λ x. moves p part x * done_in p (all_idle workers) x) (unit_count p) (λ x l. ap (λ d. moves p part x * d) (none_done x) ∙ omega arith)
 
   reached_at_start : AreReached p (all_idle workers)
   unfolding run_machine
@@ -61,7 +61,7 @@ module _ (p : Plan) (workers : ℕ) where
   starts_machine sound few stages cells mail idle first rooms =
       let s : Claims = record { drawn = 0; stages = stages } in
       let is : s ≡ all_idle workers = ap (λ (xs : List Stage). record { drawn = 0; stages = xs }) idle in
-      let at : (slot : ℕ) → 2 * 0 ≡ stage_in p s slot = λ slot. (let z : 2 * 0 ≡ 0 = omega arith in z ∙ sym (ap (λ x. stage_in p x slot) is ∙ no_stage slot)) in
+      let at : (part : ℕ) → 2 * 0 ≡ stage_in p s part = λ part. (let z : 2 * 0 ≡ 0 = omega arith in z ∙ sym (ap (λ x. stage_in p x part) is ∙ no_stage part)) in
       record {
         sound = sound;
         reached = subst (λ x. AreReached p x) (sym is) reached_at_start;
@@ -71,7 +71,7 @@ module _ (p : Plan) (workers : ℕ) where
             mail = ap (λ xs. length xs) rooms ∙ length-map (numbers_below (length p.net.links)) (room_of p 0) ∙ count_range (length p.net.links) 0;
           };
           cells = λ n h. ap (λ xs. slice_get xs n) first ∙ got_below (λ m. cell_before p m 0 away away) (node_count p) n h ∙ ap (λ x. Some x) (sym ((steps_have_two_stages p 0).0.cell n) ∙ ap (λ x. cell_at p n x) (at n));
-          mail = λ l h. ap (λ xs. slice_get xs l) rooms ∙ got_below (room_of p 0) (length p.net.links) l h ∙ ap (λ x. Some x) (sym ((steps_have_two_stages p 0).0.mail l) ∙ ap (λ x. mail_at p l x) (at (mail_slot p l)));
+          mail = λ l h. ap (λ xs. slice_get xs l) rooms ∙ got_below (room_of p 0) (length p.net.links) l h ∙ ap (λ x. Some x) (sym ((steps_have_two_stages p 0).0.mail l) ∙ ap (λ x. mail_at p l x) (at (mail_part p l)));
         };
         counted = sym (ap (λ x. finished p x) is ∙ none_finished);
         few = let c = ap (λ xs. length xs) idle in let i = idle_count workers in omega (arith, c, i, few);

@@ -7,7 +7,7 @@ use Rattle.dta_model.specs.Units.{Gather, Posting, Transfer, phase_start, step_u
 use Rattle.claim_core.specs.Kinds.{kind_by}
 use Rattle.claim_core.specs.declared.units.UnitKind.TheVariants as kind
 use Rattle.claim_core.proofs.Phases.{start_is, starts}
-use Rattle.claim_core.proofs.Slots.{transfers}
+use Rattle.claim_core.proofs.Parts.{transfers}
 
 is_lt : (a b : ℕ) → a < b → nat_lt a b ≡ true
 is_lt a b h = grind (arith, nat_tests)

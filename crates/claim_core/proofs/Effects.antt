@@ -7,7 +7,7 @@ use mathlib.Core.Logic.{dite}
 use native.Mathlib.Decide.{dec_le}
 use Rattle.dta_model.specs.Machine.{Claims, Effect, claim_by, effect_of, finish_by, finished, misplaced, open_by, with_stage}
 use Rattle.dta_model.specs.Sound.{IsSound}
-use Rattle.dta_model.specs.Units.{Gather, Posting, Task, Transfer, mail_slot, node_count, phase_end, phase_start, posting_slot, task_of, unit_count}
+use Rattle.dta_model.specs.Units.{Gather, Posting, Task, Transfer, mail_part, node_count, phase_end, phase_start, posting_part, task_of, unit_count}
 use Rattle.dta_model.specs.declared.plan.Plan.{Plan}
 use Rattle.dta_model.specs.declared.machine.Event.TheVariants as event
 use Rattle.dta_model.specs.declared.machine.Outcome.TheVariants as outcomes
@@ -142,15 +142,15 @@ module _ (p : Plan) (sound : IsSound p) (c : ℕ) where
       by : (task : Task) → task_of (node_count p) c ≡ task → moves p n c ≤ 1
       by (Transfer a) e = omega (arith, (transfer_of p sound c a e).cell_moves n h, at_most_one n a)
       by (Gather a) e = omega (arith, (gather_of p sound c a e).cell_moves n h, at_most_one n a)
-      by Posting e = omega (arith, moves_by p sound c 0 Posting e n, at_most_one n (posting_slot p))
+      by Posting e = omega (arith, moves_by p sound c 0 Posting e n, at_most_one n (posting_part p))
 
-  mail_most : (l : ℕ) → l < length p.net.links → moves p (mail_slot p l) c ≤ 1
+  mail_most : (l : ℕ) → l < length p.net.links → moves p (mail_part p l) c ≤ 1
   mail_most l h = by (task_of (node_count p) c) refl
     where
-      by : (task : Task) → task_of (node_count p) c ≡ task → moves p (mail_slot p l) c ≤ 1
+      by : (task : Task) → task_of (node_count p) c ≡ task → moves p (mail_part p l) c ≤ 1
       by (Transfer a) e = let q = (transfer_of p sound c a e).mail_moves l h in omega (arith, q, one_at_most (is_among (outs p a) l))
       by (Gather a) e = let q = (gather_of p sound c a e).mail_moves l h in omega (arith, q, one_at_most (is_among (ins p a) l))
-      by Posting e = omega (arith, moves_by p sound c 0 Posting e (mail_slot p l), at_most_one (mail_slot p l) (posting_slot p))
+      by Posting e = omega (arith, moves_by p sound c 0 Posting e (mail_part p l), at_most_one (mail_part p l) (posting_part p))
 
 -- a unit that is open is finished
 module _ (p : Plan) (sound : IsSound p) (s : Claims) (k : Kept p s) (w c : ℕ) (out : slice_get s.stages w ≡ Some (stage.Open c)) where
@@ -169,9 +169,9 @@ module _ (p : Plan) (sound : IsSound p) (s : Claims) (k : Kept p s) (w c : ℕ) 
   pub count_fits : finished p s + 1 ≤ s.drawn
   count_fits = omega (arith, next_count, finished_le (node_count p) (drawn_in p then_claims) (finished p then_claims) (done_in p then_claims) (held_in then_claims) (finished_kept p s k w c out).claimed)
 
-  stage_now : (slot : ℕ) → IsPart p slot → 1 ≤ moves p slot c → stage_in p s slot ≡ stage_before p c slot
+  stage_now : (part : ℕ) → IsPart p part → 1 ≤ moves p part c → stage_in p s part ≡ stage_before p c part
   unfolding stage_of stage_before
-  stage_now slot part own =
+  stage_now part is_part own =
       let N : ℕ = node_count p in
       let n : ℕ = finished p s in
       let at = in_phase p s k w c out in
@@ -179,40 +179,40 @@ module _ (p : Plan) (sound : IsSound p) (s : Claims) (k : Kept p s) (w c : ℕ) 
       let high : c < phase_end N n = at.1 in
       let from : phase_start N c ≡ phase_start N n = same_start N n c low high in
       let to : phase_end N c ≡ phase_end N n = same_stop N n c low high in
-      stage_held (unit_count p) N (drawn_in p s) n (done_in p s) (held_in s) k.claimed (omega arith) (moves p slot) c held_now low high
-      (λ x lo hi other. alone p c x slot part (omega (arith, lo, from)) (omega (arith, hi, to)) other own)
+      stage_held (unit_count p) N (drawn_in p s) n (done_in p s) (held_in s) k.claimed (omega arith) (moves p part) c held_now low high
+      (λ x lo hi other. alone p c x part is_part (omega (arith, lo, from)) (omega (arith, hi, to)) other own)
 
-  stage_next : (slot : ℕ) → stage_in p then_claims slot ≡ stage_in p s slot + moves p slot c
+  stage_next : (part : ℕ) → stage_in p then_claims part ≡ stage_in p s part + moves p part c
   unfolding stage_of
-  stage_next slot = stage_more (unit_count p) (moves p slot) (done_in p s) (done_in p then_claims) c is_unit (done_more p s k w c out)
+  stage_next part = stage_more (unit_count p) (moves p part) (done_in p s) (done_in p then_claims) c is_unit (done_more p s k w c out)
 
-  cell_part : (n : ℕ) → n < node_count p → IsPart p n
-  cell_part n h = inl h
+  cell_is_part : (n : ℕ) → n < node_count p → IsPart p n
+  cell_is_part n h = inl h
 
-  mail_part : (l : ℕ) → l < length p.net.links → IsPart p (mail_slot p l)
-  mail_part l h = inr (l, h, refl)
+  mail_is_part : (l : ℕ) → l < length p.net.links → IsPart p (mail_part p l)
+  mail_is_part l h = inr (l, h, refl)
 
   module _ (parts : PartsState) (at : AreAtStages p (stage_in p s) parts) where
     pub parts_ready : AreReady p c parts
     parts_ready = record {
       counted = at.counted;
-      cells = λ n h one. at.cells n h ∙ ap (λ x. Some (cell_at p n x)) (stage_now n (cell_part n h) one);
-      mail = λ l h one. at.mail l h ∙ ap (λ x. Some (mail_at p l x)) (stage_now (mail_slot p l) (mail_part l h) one);
+      cells = λ n h one. at.cells n h ∙ ap (λ x. Some (cell_at p n x)) (stage_now n (cell_is_part n h) one);
+      mail = λ l h one. at.mail l h ∙ ap (λ x. Some (mail_at p l x)) (stage_now (mail_part p l) (mail_is_part l h) one);
     }
 
     pub parts_then : (new : PartsState) → AreMoved p c parts new → AreAtStages p (stage_in p then_claims) new
     parts_then new moved = record {
       counted = moved.counted;
       cells = λ n h. dite (dec_le 1 (moves p n c))
-          (λ one. let e : suc (stage_before p c n) ≡ stage_in p then_claims n = omega (arith, stage_next n, stage_now n (cell_part n h) one, cell_most p sound c n h, one) in
+          (λ one. let e : suc (stage_before p c n) ≡ stage_in p then_claims n = omega (arith, stage_next n, stage_now n (cell_is_part n h) one, cell_most p sound c n h, one) in
           moved.cells n h one ∙ ap (λ x. Some (cell_at p n x)) e)
           (λ other. let z : moves p n c ≡ 0 = (let l = lt_of_not-le other in omega (arith, l)) in
           let e : stage_in p s n ≡ stage_in p then_claims n = omega (arith, stage_next n, z) in
           moved.other_cells n h z ∙ at.cells n h ∙ ap (λ x. Some (cell_at p n x)) e);
-      mail = λ l h. dite (dec_le 1 (moves p (mail_slot p l) c))
-          (λ one. let e : suc (stage_before p c (mail_slot p l)) ≡ stage_in p then_claims (mail_slot p l) = omega (arith, stage_next (mail_slot p l), stage_now (mail_slot p l) (mail_part l h) one, mail_most p sound c l h, one) in
+      mail = λ l h. dite (dec_le 1 (moves p (mail_part p l) c))
+          (λ one. let e : suc (stage_before p c (mail_part p l)) ≡ stage_in p then_claims (mail_part p l) = omega (arith, stage_next (mail_part p l), stage_now (mail_part p l) (mail_is_part l h) one, mail_most p sound c l h, one) in
           moved.mail l h one ∙ ap (λ x. Some (mail_at p l x)) e)
-          (λ other. let z : moves p (mail_slot p l) c ≡ 0 = (let l = lt_of_not-le other in omega (arith, l)) in
-          let e : stage_in p s (mail_slot p l) ≡ stage_in p then_claims (mail_slot p l) = omega (arith, stage_next (mail_slot p l), z) in
+          (λ other. let z : moves p (mail_part p l) c ≡ 0 = (let l = lt_of_not-le other in omega (arith, l)) in
+          let e : stage_in p s (mail_part p l) ≡ stage_in p then_claims (mail_part p l) = omega (arith, stage_next (mail_part p l), z) in
           moved.other_mail l h z ∙ at.mail l h ∙ ap (λ x. Some (mail_at p l x)) e);
     }

@@ -3,7 +3,7 @@ use Rattle.std.specs.Prelude.{nat_lt, slice_get, slice_set}
 use Rattle.std.proofs.Common.{◌≡◌, ℕ, zero, suc, ◌+◌, ◌*◌, ◌<◌, ◌≤◌, ◌^◌, Bool, true, false, cond, List, [], ◌∷◌, ◌++◌, length, take, drop, refl, ap, sym, ◌∙◌, subst, arith, Option, Some, None}
 use Rattle.std.proofs.lemmas.Bool.Decides.{nat_tests}
 use Rattle.dta_model.specs.Machine.{Claims, Effect, all_idle, claim_by, effect_of, finish_by, finished, is_finished, may_open, open_by, run_machine, step_machine, with_stage}
-use Rattle.dta_model.specs.Units.{mail_slot, unit_count}
+use Rattle.dta_model.specs.Units.{mail_part, unit_count}
 use Rattle.dta_model.specs.declared.plan.Plan.{Plan}
 use Rattle.dta_model.specs.declared.machine.Event.{Event}
 use Rattle.dta_model.specs.declared.machine.Event.TheVariants as event
@@ -120,15 +120,15 @@ module _ (p : Plan) (s s' : Claims) (same : (x : ℕ) → done_in p s' x ≡ don
   unfolding finished
   same_finished = count_below (is_finished p s) (unit_count p) ∙ below_same (done_in p s) (done_in p s') (unit_count p) (λ x l. sym (same x)) ∙ sym (count_below (is_finished p s') (unit_count p))
 
-  same_stage : (slot : ℕ) → stage_in p s slot ≡ stage_in p s' slot
+  same_stage : (part : ℕ) → stage_in p s part ≡ stage_in p s' part
   unfolding stage_of
-  same_stage slot = below_same (λ x. moves p slot x * done_in p s x) (λ x. moves p slot x * done_in p s' x) (unit_count p) (λ x l. ap (λ d. moves p slot x * d) (sym (same x)))
+  same_stage part = below_same (λ x. moves p part x * done_in p s x) (λ x. moves p part x * done_in p s' x) (unit_count p) (λ x l. ap (λ d. moves p part x * d) (sym (same x)))
 
   same_parts : (parts : PartsState) → AreAtStages p (stage_in p s) parts → AreAtStages p (stage_in p s') parts
   same_parts parts at = record {
     counted = at.counted;
     cells = λ n h. at.cells n h ∙ ap (λ x. Some (cell_at p n x)) (same_stage n);
-    mail = λ l h. at.mail l h ∙ ap (λ x. Some (mail_at p l x)) (same_stage (mail_slot p l));
+    mail = λ l h. at.mail l h ∙ ap (λ x. Some (mail_at p l x)) (same_stage (mail_part p l));
   }
 
 module _ (p : Plan) (s : Claims) (parts : PartsState) (n : ℕ) (m : IsMachine (record { plan = p; claims = s; parts = parts }) n) where

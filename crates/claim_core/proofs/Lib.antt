@@ -5,7 +5,7 @@ pub mod Claimed
 pub mod Counts
 pub mod Events
 pub mod Stages
-pub mod Slots
+pub mod Parts
 pub mod Always
 pub mod Apart
 pub mod ByPlace

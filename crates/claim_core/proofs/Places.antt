@@ -11,13 +11,13 @@ use mathlib.Core.Logic.{dite}
 use native.Mathlib.Decide.{dec_le}
 use Rattle.net_core.specs.Network.{numbers_below}
 use Rattle.dta_model.specs.Plans.{all_nodes, ins, link_at, outs}
-use Rattle.dta_model.specs.Units.{Gather, Posting, Task, Transfer, mail_slot, moved_by, moved_in, node_count, phase_end, phase_start, places, places_in, posting_slot, step_units, task_at, task_of}
+use Rattle.dta_model.specs.Units.{Gather, Posting, Task, Transfer, mail_part, moved_by, moved_in, node_count, phase_end, phase_start, places, places_in, posting_part, step_units, task_at, task_of}
 use Rattle.dta_model.specs.declared.plan.Plan.{Plan}
 use Rattle.claim_core.specs.Laws.{NoPlaceIsShared, PlacesRise}
 use Rattle.claim_core.specs.Sums.{is_at, times}
 use Rattle.claim_core.proofs.Apart.{band, band_high, band_last, band_low}
 use Rattle.claim_core.proofs.Phases.{lt_stop, next_start, same_step, start_is, start_le, starts, stop_is, stops}
-use Rattle.claim_core.proofs.Slots.{at_is, cell_of, gathers, in_task, ins_past, mail_of, outs_past, posts, times_ins, times_outs, transfers}
+use Rattle.claim_core.proofs.Parts.{at_is, cell_of, gathers, in_task, ins_past, mail_of, outs_past, posts, times_ins, times_outs, transfers}
 use Rattle.claim_core.proofs.Sums.{total-append}
 
 -- numbers that rise from low on, and stay below high
@@ -100,13 +100,13 @@ stands xs k c = by xs c.0 c.1 c.2
     by (x ∷ xs) (suc i) h e = omega (arith, by xs i (omega (arith, h)) e)
 
 module _ (p : Plan) where
-  links_rise : (n : ℕ) (links : List ℕ) → n < node_count p → Rises 0 (length p.net.links) links → Rises 0 (suc (posting_slot p)) (n ∷ map (mail_slot p) links)
+  links_rise : (n : ℕ) (links : List ℕ) → n < node_count p → Rises 0 (length p.net.links) links → Rises 0 (suc (posting_part p)) (n ∷ map (mail_part p) links)
   links_rise n links h r =
-      let mail : Rises (node_count p + 0) (posting_slot p) (map (mail_slot p) links) = map_rises (node_count p) 0 (length p.net.links) links r in (
+      let mail : Rises (node_count p + 0) (posting_part p) (map (mail_part p) links) = map_rises (node_count p) 0 (length p.net.links) links r in (
         omega arith,
         omega (arith, h),
-        higher (suc n) (posting_slot p) (suc (posting_slot p)) (map (mail_slot p) links) (omega arith)
-            (lower (node_count p + 0) (suc n) (posting_slot p) (map (mail_slot p) links) (omega (arith, h)) mail),
+        higher (suc n) (posting_part p) (suc (posting_part p)) (map (mail_part p) links) (omega arith)
+            (lower (node_count p + 0) (suc n) (posting_part p) (map (mail_part p) links) (omega (arith, h)) mail),
       )
 
   outs_rise : (n : ℕ) → Rises 0 (length p.net.links) (outs p n)
@@ -117,20 +117,20 @@ module _ (p : Plan) where
   unfolding network.ins
   ins_rise n = filter_rises (λ l. nat_eq (link_at p l).to.0 n) 0 (length p.net.links) (numbers_below (length p.net.links)) (numbers_rise (length p.net.links))
 
-  task_rises : (i : ℕ) → i < step_units (node_count p) → Rises 0 (suc (posting_slot p)) (places_in p (task_at (node_count p) i))
+  task_rises : (i : ℕ) → i < step_units (node_count p) → Rises 0 (suc (posting_part p)) (places_in p (task_at (node_count p) i))
   task_rises i h =
       let N : ℕ = node_count p in
       dite (dec_le N i)
       (λ past. dite (dec_le (N + N) i)
       (λ last. let e : i ≡ N + N = omega (arith, h, last) in
-      let all : Rises 0 (posting_slot p) (all_nodes p) = higher 0 N (posting_slot p) (all_nodes p) (omega arith) (numbers_rise N) in
-      subst (λ task. Rises 0 (suc (posting_slot p)) (places_in p task)) (sym (ap (λ j. task_at N j) e ∙ posts N)) (snoc_rises 0 (posting_slot p) (all_nodes p) (omega arith) all))
+      let all : Rises 0 (posting_part p) (all_nodes p) = higher 0 N (posting_part p) (all_nodes p) (omega arith) (numbers_rise N) in
+      subst (λ task. Rises 0 (suc (posting_part p)) (places_in p task)) (sym (ap (λ j. task_at N j) e ∙ posts N)) (snoc_rises 0 (posting_part p) (all_nodes p) (omega arith) all))
       (λ mid. let mid' : i < N + N = lt_of_not-le mid in let e : i ≡ N + (i - N) = omega (arith, past) in
-      subst (λ task. Rises 0 (suc (posting_slot p)) (places_in p task)) (sym (ap (λ j. task_at N j) e ∙ gathers N (i - N) (omega (arith, past, mid')))) (links_rise (i - N) (ins p (i - N)) (omega (arith, past, mid')) (ins_rise (i - N)))))
+      subst (λ task. Rises 0 (suc (posting_part p)) (places_in p task)) (sym (ap (λ j. task_at N j) e ∙ gathers N (i - N) (omega (arith, past, mid')))) (links_rise (i - N) (ins p (i - N)) (omega (arith, past, mid')) (ins_rise (i - N)))))
       (λ first. let first' : i < N = lt_of_not-le first in
-      subst (λ task. Rises 0 (suc (posting_slot p)) (places_in p task)) (sym (transfers N i first')) (links_rise i (outs p i) first' (outs_rise i)))
+      subst (λ task. Rises 0 (suc (posting_part p)) (places_in p task)) (sym (transfers N i first')) (links_rise i (outs p i) first' (outs_rise i)))
 
-  pub places_in_order : (u : ℕ) → Rises 0 (suc (posting_slot p)) (places p u)
+  pub places_in_order : (u : ℕ) → Rises 0 (suc (posting_part p)) (places p u)
   unfolding places task_of
   places_in_order u = task_rises (u % step_units (node_count p)) (mod-lt u (omega arith))
 
@@ -142,11 +142,11 @@ module _ (p : Plan) where
         (λ beyond. absurd (omega (arith, h, past n l beyond)))
         (λ there. at_is n (ends l) (omega (arith, h, own n l (lt_of_not-le there))))
 
-    by_place : (k a b : ℕ) → a < node_count p → b < node_count p → 1 ≤ times k (a ∷ map (mail_slot p) (links a)) → 1 ≤ times k (b ∷ map (mail_slot p) (links b)) → a ≡ b
+    by_place : (k a b : ℕ) → a < node_count p → b < node_count p → 1 ≤ times k (a ∷ map (mail_part p) (links a)) → 1 ≤ times k (b ∷ map (mail_part p) (links b)) → a ≡ b
     by_place k a b ha hb in_a in_b = dite (dec_le (node_count p) k)
         (λ mail. let l : ℕ = k - node_count p in let e : k ≡ node_count p + l = omega (arith, mail) in
-        let one : 1 ≤ times l (links a) = omega (arith, in_a, ap (λ x. times x (a ∷ map (mail_slot p) (links a))) e, mail_of p a (links a) ha l) in
-        let two : 1 ≤ times l (links b) = omega (arith, in_b, ap (λ x. times x (b ∷ map (mail_slot p) (links b))) e, mail_of p b (links b) hb l) in
+        let one : 1 ≤ times l (links a) = omega (arith, in_a, ap (λ x. times x (a ∷ map (mail_part p) (links a))) e, mail_of p a (links a) ha l) in
+        let two : 1 ≤ times l (links b) = omega (arith, in_b, ap (λ x. times x (b ∷ map (mail_part p) (links b))) e, mail_of p b (links b) hb l) in
         by_mail l a one ∙ sym (by_mail l b two))
         (λ cell. let cell' : k < node_count p = lt_of_not-le cell in
         sym (at_is k a (omega (arith, in_a, cell_of p a (links a) k cell'))) ∙ at_is k b (omega (arith, in_b, cell_of p b (links b) k cell')))
@@ -200,7 +200,7 @@ module _ (p : Plan) where
       by : (task : Task) → times k (moved_in p task) ≤ times k (places_in p task)
       by (Transfer n) = omega arith
       by (Gather n) = omega arith
-      by Posting = omega (arith, total-append (is_at k) (all_nodes p) (posting_slot p ∷ []))
+      by Posting = omega (arith, total-append (is_at k) (all_nodes p) (posting_part p ∷ []))
 
 in_phase : (n a b : ℕ) → phase_start n a ≡ phase_start n b → b < phase_end n a
 in_phase n a b e = dite (dec_le (phase_end n a) b)
@@ -214,4 +214,4 @@ no_place_is_shared p a b k e in_a in_b =
 pub places_do_rise : PlacesRise
 places_do_rise p u =
     let r = places_in_order p u in
-    (increasing 0 (suc (posting_slot p)) (places p u) r, λ i d h. (let l = below_high 0 (suc (posting_slot p)) (places p u) r i d h in omega (arith, l)))
+    (increasing 0 (suc (posting_part p)) (places p u) r, λ i d h. (let l = below_high 0 (suc (posting_part p)) (places p u) r i d h in omega (arith, l)))

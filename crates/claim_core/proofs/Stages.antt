@@ -1,4 +1,4 @@
--- How often done units moved a slot, moves x saying how often unit x does.
+-- How often done units moved a part, moves x saying how often unit x does.
 use Rattle.std.proofs.Common.{◌≡◌, ◌≢◌, ℕ, zero, suc, ◌+◌, ◌-◌, ◌*◌, ◌%◌, ◌<◌, ◌≤◌, sym, ap, ◌∙◌, lt_of_not-le, arith}
 use Rattle.std.proofs.lemmas.Bool.Decides.{nat_tests}
 use Rattle.std.proofs.lemmas.Nat.{mod-mul-add}
@@ -22,14 +22,14 @@ stage_by Q moves D = below Q (λ x. moves x * D x)
 abbrev pub before_by : ℕ → (ℕ → ℕ) → ℕ → ℕ
 before_by N moves c = below (phase_start N c) moves
 
--- a unit that is done moves its slots
+-- a unit that is done moves its parts
 pub stage_more : (Q : ℕ) (moves D D' : ℕ → ℕ) (c : ℕ) → c < Q → ((x : ℕ) → D' x ≡ D x + is_at x c) → stage_by Q moves D' ≡ stage_by Q moves D + moves c
 stage_more Q moves D D' c l more =
     let split : below Q (λ x. moves x * D' x) ≡ below Q (λ x. moves x * D x + moves x * is_at x c) =
     below_same (λ x. moves x * D' x) (λ x. moves x * D x + moves x * is_at x c) Q (λ x _. ap (λ d. moves x * d) (more x) ∙ omega arith) in
     omega (arith, split, below_plus (λ x. moves x * D x) (λ x. moves x * is_at x c) Q, point moves c Q l)
 
--- while c is held in the phase of n, the stage of a slot that no other unit of the phase moves is known from c alone
+-- while c is held in the phase of n, the stage of a part that no other unit of the phase moves is known from c alone
 pub stage_held : (Q N g n : ℕ) (D H : ℕ → ℕ) → Claimed N g n D H → g ≤ Q → (moves : ℕ → ℕ) (c : ℕ) → 1 ≤ H c → phase_start N n ≤ c → c < phase_end N n
     → ((x : ℕ) → phase_start N n ≤ x → x < phase_end N n → x ≢ c → moves x ≡ 0) → stage_by Q moves D ≡ before_by N moves c
 stage_held Q N g n D H k few moves c held low high alone =

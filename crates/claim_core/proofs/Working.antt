@@ -8,13 +8,13 @@ use native.Mathlib.Decide.{dec_le}
 use Rattle.net_core.specs.declared.rows.NodeNo.{NodeNo}
 use Rattle.dta_model.specs.Plans.{ins, outs}
 use Rattle.dta_model.specs.Sound.{IsSound}
-use Rattle.dta_model.specs.Units.{Gather, Posting, Task, Transfer, mail_slot, moved_by, node_count, posting_slot, step_of, step_units, task_at, task_of, position_of, unit_count}
+use Rattle.dta_model.specs.Units.{Gather, Posting, Task, Transfer, mail_part, moved_by, node_count, posting_part, step_of, step_units, task_at, task_of, position_of, unit_count}
 use Rattle.dta_model.specs.declared.plan.Plan.{Plan}
 use Rattle.cell_stages.specs.CellState.{CellState}
 use Rattle.cell_stages.specs.Contents.{IsStep, away, batch_of, cell_after, cell_at, cell_before, mail_at, room_of}
 use Rattle.node_transfer.specs.Exchange.{AreMail, ArePut, is_among}
 use Rattle.cell_stages.specs.declared.mail.Mail.{Mail}
-use Rattle.node_transfer.proofs.Parts.{ins-among, ins-member, outs-among, outs-member}
+use Rattle.node_transfer.proofs.OfMail.Parts.{ins-among, ins-member, outs-among, outs-member}
 use Rattle.cell_stages.proofs.TwoStages.{steps_have_two_stages}
 use Rattle.claim_core.specs.Kinds.{kind_by}
 use Rattle.claim_core.specs.Parts.{moves, stage_before}
@@ -23,16 +23,16 @@ use Rattle.claim_core.specs.Work.{AreMoved, AreReady, PartsState}
 use Rattle.claim_core.specs.declared.units.UnitKind.{UnitKind}
 use Rattle.claim_core.specs.declared.units.UnitKind.TheVariants as kind
 use Rattle.claim_core.proofs.Apart.{before_gather, before_transfer, cell_once, mail_once}
-use Rattle.claim_core.proofs.Slots.{at_is, cell_of, in_task, mail_of, step_cell, step_mail, times_ins, times_outs}
+use Rattle.claim_core.proofs.Parts.{at_is, cell_of, in_task, mail_of, step_cell, step_mail, times_ins, times_outs}
 
 -- what the parts of a unit of one node are, all at stage s
 pub record IsOfNode (p : Plan) (c a : ℕ) (links : List ℕ) (s : ℕ) : Type 0 where
   pub node : a < node_count p
   pub cell_moves : (n : ℕ) → n < node_count p → moves p n c ≡ is_at n a
-  pub mail_moves : (l : ℕ) → l < length p.net.links → moves p (mail_slot p l) c ≡ one_if (is_among links l)
+  pub mail_moves : (l : ℕ) → l < length p.net.links → moves p (mail_part p l) c ≡ one_if (is_among links l)
   pub among : (l : ℕ) → is_among links l ≡ true → l < length p.net.links
   pub cell_stage : (n : ℕ) → n < node_count p → stage_before p c n ≡ s
-  pub mail_stage : (l : ℕ) → l < length p.net.links → stage_before p c (mail_slot p l) ≡ s
+  pub mail_stage : (l : ℕ) → l < length p.net.links → stage_before p c (mail_part p l) ≡ s
 
 is_one : (b : Bool) → 1 ≤ one_if b → b ≡ true
 is_one true h = refl
@@ -136,10 +136,10 @@ module _ (p : Plan) (sound : IsSound p) (c a : ℕ) where
       record {
         node = node;
         cell_moves = λ n h. moves_by (Transfer a) e n ∙ cell_of p a (outs p a) n h;
-        mail_moves = λ l h. moves_by (Transfer a) e (mail_slot p l) ∙ mail_of p a (outs p a) node l ∙ times_outs p a l h ∙ ap (λ b. one_if b) (sym (outs-member p a l h));
+        mail_moves = λ l h. moves_by (Transfer a) e (mail_part p l) ∙ mail_of p a (outs p a) node l ∙ times_outs p a l h ∙ ap (λ b. one_if b) (sym (outs-member p a l h));
         among = outs-among p a;
         cell_stage = λ n h. before_transfer p n c (step_cell p n h) a e;
-        mail_stage = λ l h. before_transfer p (mail_slot p l) c (step_mail p sound l h) a e;
+        mail_stage = λ l h. before_transfer p (mail_part p l) c (step_mail p sound l h) a e;
       }
 
   pub gather_of : task_of (node_count p) c ≡ Gather a → IsOfNode p c a (ins p a) (2 * step_of (node_count p) c + 1)
@@ -149,10 +149,10 @@ module _ (p : Plan) (sound : IsSound p) (c a : ℕ) where
       record {
         node = node;
         cell_moves = λ n h. moves_by (Gather a) e n ∙ cell_of p a (ins p a) n h;
-        mail_moves = λ l h. moves_by (Gather a) e (mail_slot p l) ∙ mail_of p a (ins p a) node l ∙ times_ins p a l h ∙ ap (λ b. one_if b) (sym (ins-member p a l h));
+        mail_moves = λ l h. moves_by (Gather a) e (mail_part p l) ∙ mail_of p a (ins p a) node l ∙ times_ins p a l h ∙ ap (λ b. one_if b) (sym (ins-member p a l h));
         among = ins-among p a;
         cell_stage = λ n h. before_gather p n c (step_cell p n h) a (cell_once p n h) e;
-        mail_stage = λ l h. before_gather p (mail_slot p l) c (step_mail p sound l h) a (mail_once p sound l h) e;
+        mail_stage = λ l h. before_gather p (mail_part p l) c (step_mail p sound l h) a (mail_once p sound l h) e;
       }
 
 pub transfer_kind : (task : Task) (node : NodeNo) → kind_by task ≡ kind.Transfer node → task ≡ Transfer node.0
@@ -257,8 +257,8 @@ module _ (p : Plan) (sound : IsSound p) (u N t : ℕ) (few : u < unit_count p) (
           put.others.count put.others.others
 
   module _ (k : UnitKind) (is_kind : k ≡ kind_by (task_of N u)) (is_now : k ≡ kind.Posting) where
-    posts_now : (slot : ℕ) → moves p slot u ≡ in_task p slot Posting
-    posts_now slot = moves_by p sound u 0 Posting (posting_kind (task_of (node_count p) u) (ap (λ n. kind_by (task_of n u)) (sym nodes) ∙ sym is_kind ∙ is_now)) slot
+    posts_now : (part : ℕ) → moves p part u ≡ in_task p part Posting
+    posts_now part = moves_by p sound u 0 Posting (posting_kind (task_of (node_count p) u) (ap (λ n. kind_by (task_of n u)) (sym nodes) ∙ sym is_kind ∙ is_now)) part
 
     no_part : (x y : ℕ) → x < y → is_at x y ≡ 0
     no_part x y h = grind (arith, nat_tests)
@@ -266,8 +266,8 @@ module _ (p : Plan) (sound : IsSound p) (u N t : ℕ) (few : u < unit_count p) (
     pub posting_done : (parts : PartsState) → AreReady p u parts → AreMoved p u parts parts
     posting_done parts r = record {
       counted = r.counted;
-      cells = λ n h one. absurd (omega (arith, one, posts_now n, no_part n (posting_slot p) (omega (arith, h))));
-      mail = λ l h one. absurd (omega (arith, one, posts_now (mail_slot p l), no_part (mail_slot p l) (posting_slot p) (omega (arith, h))));
+      cells = λ n h one. absurd (omega (arith, one, posts_now n, no_part n (posting_part p) (omega (arith, h))));
+      mail = λ l h one. absurd (omega (arith, one, posts_now (mail_part p l), no_part (mail_part p l) (posting_part p) (omega (arith, h))));
       other_cells = λ n h z. refl;
       other_mail = λ l h z. refl;
     }

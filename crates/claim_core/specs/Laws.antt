@@ -7,8 +7,8 @@ use Rattle.net_core.specs.Network.{numbers_below}
 use Rattle.dta_model.specs.Machine.{Claims, all_idle, finished, holds_unit, is_finished}
 use Rattle.dta_model.specs.Machine.{outcomes_of, run_machine}
 use Rattle.dta_model.specs.Sound.{IsSound}
-use Rattle.dta_model.specs.Units.{mail_slot, node_count, phase_end, phase_start, places}
-use Rattle.dta_model.specs.Units.{posting_slot, step_units, unit_count}
+use Rattle.dta_model.specs.Units.{mail_part, node_count, phase_end, phase_start, places}
+use Rattle.dta_model.specs.Units.{posting_part, step_units, unit_count}
 use Rattle.dta_model.specs.declared.machine.Event.{Event}
 use Rattle.dta_model.specs.declared.machine.Outcome.{Outcome}
 use Rattle.dta_model.specs.declared.machine.Outcome.TheVariants as outcomes
@@ -55,7 +55,7 @@ PartsAreOfWholeSteps p s =
     (t : ℕ) → IsSound p → finished p s ≡ t * step_units (node_count p)
     → ((n : ℕ) → n < node_count p → cell_at p n (stage_in p s n) ≡ cell_before p n t away away)
     × ((l : ℕ) → l < length p.net.links
-    → mail_at p l (stage_in p s (mail_slot p l)) ≡ room_of p t l)
+    → mail_at p l (stage_in p s (mail_part p l)) ≡ room_of p t l)
 
 -- the numbers that were given are those from 0 on, in this order and each once
 abbrev pub number_given : Outcome → List ℕ
@@ -79,4 +79,4 @@ NoPlaceIsShared =
 abbrev pub PlacesRise : Type 0
 PlacesRise =
     (p : Plan) (u : ℕ)
-    → IsStrictlyIncreasing (places p u) × All (λ k. k ≤ posting_slot p) (places p u)
+    → IsStrictlyIncreasing (places p u) × All (λ k. k ≤ posting_part p) (places p u)

@@ -1,6 +1,5 @@
 -- The nodes of a step may be taken in any order: the texts of an assignment are the same.
-use Rattle.std.proofs.Common.{◌≡◌, ℕ, ◌+◌, ◌-◌, List, [], ◌∷◌, length, refl, sym, ap, subst, ◌∙◌}
-use Rattle.std.specs.Prelude.{Some, slice_get}
+use Rattle.std.proofs.Common.{◌≡◌, ◌+◌, List, [], ◌∷◌, sym, ap, subst, ◌∙◌}
 use Rattle.dta_model.specs.LinkTimes.{TimeTable, time_at}
 use Rattle.dta_model.specs.Loading.{journeys_of}
 use Rattle.dta_model.specs.State.{eight_after}
@@ -19,9 +18,9 @@ use Rattle.desk_io.specs.declared.desk.Output.TheVariants as output
 use Rattle.dta.specs.Assignment.{AreIterations, AreIterationsBy, VehicleRoutes, end_of, times_of}
 use Rattle.dta.specs.Jobs.{JobRows, plan_of}
 use Rattle.dta.specs.Laws.{TextsInAnyOrder}
-use Rattle.dta.specs.Orders.{AreAssignedBy, AreNodeOrders, NodeOrders, end_by, journeys_by, summary_by}
+use Rattle.dta.specs.Orders.{AreNodeOrders, NodeOrders, end_by, journeys_by, summary_by}
 use Rattle.dta.specs.Orders.{texts_by, times_by}
-use Rattle.dta.specs.Outputs.{AreAssigned, OutText, but_watch, last_texts, summary_of, text_to}
+use Rattle.dta.specs.Outputs.{but_watch, last_texts, summary_of, text_to}
 use Rattle.dta.proofs.Determined.{but-watch-assigned, lasts-by, same-lines, same-routes}
 
 -- iterations over equal tables of link times

@@ -11,7 +11,7 @@ use Rattle.dta.specs.Tables.{AreAccepted, ReachedAmong, IsAccepted, TableRows}
 use Rattle.dta.specs.declared.stop.Stop.{Stop}
 use Rattle.dta.specs.declared.stop.Stop.TheVariants.{Refused, Memory}
 
-rose-earlier : (before between now : ℕ) → before ≤ between → Rose between now → Rose before now
+pub rose-earlier : (before between now : ℕ) → before ≤ between → Rose between now → Rose before now
 rose-earlier before between now h r = omega (arith, h, r)
 
 -- a stop, seen from before an earlier call on the desk

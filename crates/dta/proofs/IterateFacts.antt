@@ -1,10 +1,12 @@
 -- The iterations of an assignment, one after another.
 use Rattle.dta_model.specs.declared.queue.Queue.TheVariants as queue
 use Rattle.reports.proofs.TextsFacts.{walks-on-net}
-use Rattle.std.specs.Prelude.{All, slice_get}
+use Rattle.std.specs.Prelude.{All, Result, IfOk, IfErr, slice_get}
 use Rattle.std.proofs.Common.{◌≡◌, ℕ, ◌+◌, ◌<◌, ◌≤◌, List, [], ◌∷◌, ◌++◌, length, refl, ap, sym, subst, ◌∙◌, arith, length-append, ◌⊎◌, inl, inr, Some}
 use Rattle.std.proofs.lemmas.Bool.{cases_lt}
 use Rattle.std.proofs.lemmas.List.{get_or_append_left, length-map}
+use Rattle.std.proofs.lemmas.Result.{IfErr-weaker, IfOk-weaker}
+use Rattle.desk_io.specs.Faults.{Rose}
 use Rattle.std.proofs.lemmas.List.FromFn.{length-map-range_with_len}
 use Rattle.std.proofs.lemmas.Option.{get_or_from_slice_get, slice_get-get_or, slice_get_within}
 use Rattle.std.proofs.Math.Seq.{get_or-append_seam}
@@ -27,10 +29,13 @@ use Rattle.dta_words.specs.Ranges.{AreSettings}
 use Rattle.dta_words.specs.declared.command.Settings.{Settings}
 use Rattle.dta.specs.Assignment.{AreIterations, VehicleRoutes, end_of, times_of}
 use Rattle.dta.specs.Jobs.{AreRoutesOf, IsJob, JobRows, plan_of}
-use Rattle.dta.specs.Progress.{Halts, HaltsIn, IsAssigned, IsAt, IsLast, IsWatched}
+use Rattle.dta.specs.Progress.{Halts, HaltsIn, IsAssigned, IsAt, IsLastOf, IsWatched}
+use Rattle.dta.specs.declared.iterate.Assigned.{Assigned}
 use Rattle.dta.specs.declared.iterate.Halt.{Halt}
 use Rattle.dta.specs.declared.iterate.Halt.TheVariants as halt
 use Rattle.dta.specs.Outputs.{IsCutOff, end_lines}
+use Rattle.dta.specs.Calls.{HaltsFrom, IsFinished}
+use Rattle.dta.proofs.ChainFacts.{rose-earlier}
 use Rattle.dta.proofs.OutputFacts.{cut-more, end-lines, grown-more, watch-more}
 
 -- a job, settings and routes make a sound loading
@@ -148,6 +153,33 @@ pub watch-halts : (s : Settings) (job : JobRows) (iteration : ℕ) (r : VehicleR
     → IsCutOff (end_lines s.watch iteration end) before now → HaltsIn s job iteration r why before now
 watch-halts s job iteration r end why before now settings is watch cut =
     rw watch (end_lines s.watch iteration end, end-lines s job iteration r end settings is, cut)
+
+-- want of memory is no missing watch line
+pub not-watch : (why : Halt) (P : Type 0) → why ≡ halt.Memory → why ≡ halt.Watch → P
+not-watch why P memory watch = let e : halt.Memory ≡ halt.Watch = sym memory ∙ watch in absurd cc
+
+-- a count that rose in a call rose since an earlier moment
+pub rose-since : {T : Type 0} (r : Result T Halt) (earlier before now : ℕ) → earlier ≤ before
+    → IfErr r (λ why. why ≡ halt.Watch → Rose before now)
+    → IfErr r (λ why. why ≡ halt.Watch → Rose earlier now)
+rose-since r earlier before now h rose =
+    IfErr-weaker r (λ why. why ≡ halt.Watch → Rose before now)
+    (λ why. why ≡ halt.Watch → Rose earlier now)
+    (λ why k watch. rose-earlier earlier before now h (k watch)) rose
+
+-- the last iteration, where those before it were done
+module _ (s : Settings) (job : JobRows) (r : Result Assigned Halt) (routes : VehicleRoutes)
+    (lines : List GapLine) (start before now : Taken)
+    (at : IsAt s job s.iterations routes lines start before) where
+  pub all-done : IfOk r (λ a. IsFinished s job routes lines a before now)
+      → IfOk r (λ a. IsAssigned s job a start now)
+  all-done h = IfOk-weaker r (λ a. IsFinished s job routes lines a before now)
+      (λ a. IsAssigned s job a start now) (λ a k. k start at) h
+
+  pub all-halts : IfErr r (λ why. HaltsFrom s job s.iterations routes lines why before now)
+      → IfErr r (λ why. Halts s job why start now)
+  all-halts h = IfErr-weaker r (λ why. HaltsFrom s job s.iterations routes lines why before now)
+      (λ why. Halts s job why start now) (λ why k. k start at) h
 
 -- the iterations of a job
 module _ (s : Settings) (job : JobRows) where
@@ -302,22 +334,22 @@ module _ (s : Settings) (job : JobRows) where
       )
 
   -- the last iteration is done
-  pub assigned : (r : VehicleRoutes) (loaded : List Journey) (times : TimeTable) (end : Eight) (lines more : List GapLine) (line : GapLine) (start before now : Taken)
-      → IsAt s job s.iterations r lines start before
-      → IsWatched s job s.iterations r before now
-      → more ≡ lines ++ line ∷ []
-      → IsGapLine (time_at (times_of s job r)) job.net job.trips r line
-      → IsLast s job r loaded times end
-      → IsAssigned s job r loaded times end more line start now
-  assigned r loaded times end lines more line start before now at put pushed gap last = record {
+  pub assigned : (a : Assigned) (lines : List GapLine) (start before now : Taken)
+      → IsAt s job s.iterations a.routes lines start before
+      → IsWatched s job s.iterations a.routes before now
+      → a.lines.items ≡ lines ++ a.line ∷ []
+      → IsGapLine (time_at (times_of s job a.routes)) job.net job.trips a.routes a.line
+      → IsLastOf s job a
+      → IsAssigned s job a start now
+  assigned a lines start before now at put pushed gap last = record {
     done = at.done;
     as_many = at.as_many;
     before = lines;
     with_gaps = at.with_gaps;
     lines_are = pushed;
-    iterations = rw pushed (with-gap at.done r lines line at.with_gaps gap at.iterations);
+    iterations = rw pushed (with-gap at.done a.routes lines a.line at.with_gaps gap at.iterations);
     texts = at.texts ++ put.0;
-    watch_lines = watch-more s job 1 s.iterations at.done r at.texts put.0 at.as_many at.watch_lines put.1;
+    watch_lines = watch-more s job 1 s.iterations at.done a.routes at.texts put.0 at.as_many at.watch_lines put.1;
     watched = grown-more at.texts put.0 start before now at.watched put.2;
     last = last;
   }

@@ -2,7 +2,7 @@
 use Rattle.std.proofs.Common.{◌≡◌, ◌≢◌, ℕ, List, [], ◌∷◌, refl, sym, ap, subst, arith, inl, inr}
 use Rattle.std.specs.Prelude.{⊤, Result, Ok, Err, OnOk, IfOk, IfErr, filter, nat_eq}
 use Rattle.std.specs.List.{flat_map}
-use Rattle.std.proofs.lemmas.Result.{IfErr-weaker}
+use Rattle.std.proofs.lemmas.Result.{IfErr-weaker, IfOk-weaker}
 use Rattle.desk_io.specs.declared.desk.Table.{Table}
 use Rattle.desk_io.specs.declared.desk.Table.TheVariants as table
 use Rattle.desk_io.specs.Desk.{Left}
@@ -22,7 +22,7 @@ use Rattle.desk_io.specs.declared.transfers.TheConstants.{MOST_TABLE_BYTES}
 use Rattle.dta_words.specs.declared.command.Command.{Command}
 use Rattle.dta_words.specs.declared.command.Command.TheVariants as command
 use Rattle.dta_words.specs.declared.command.Settings.{Settings}
-use Rattle.dta.specs.Jobs.{AreWithin, HasRoom, IsJobOf, JobRows, LeavesOf, Reading, job_of, read_tables, source, tables_of}
+use Rattle.dta.specs.Jobs.{AreWithin, HasRoom, IsAcceptedJob, IsJobOf, JobRows, LeavesOf, Reading, job_of, read_tables, source, tables_of}
 use Rattle.dta.specs.Outcome.{AreCounted, DeskState, IsCauseAmong, IsCauseIn, IsCutIn, ReadsFailed}
 use Rattle.dta.specs.Stops.{HasFault, Stops, StopsAmong, StopsIn, StopsJob, StopsAt}
 use Rattle.dta.specs.Tables.{AreAccepted, ReachedAmong, IsFaulty, TableRows, no_rows, road_rows}
@@ -117,6 +117,23 @@ module _ {T : Type 0} (s : Settings) (r : Result T Stop) (before after : DeskSta
       (subst (λ (c : Command). read_tables c ≡ tables_of c) (sym asks) refl)
       (ap (λ (c : Command). source c before.left) asks)
       (subst (λ (c : Command). LeavesOf c after.left before.left after.left) (sym asks) refl) k) h
+
+-- the job of a desk that is the source itself
+own-job : (s : Settings) (r : Result JobRows Stop) (before after : Left) → source s.command before ≡ before
+    → LeavesOf s.command after before after → IfOk r (λ job. IsJobOf s job before after)
+    → IfOk r (λ job. IsAcceptedJob s job before after)
+own-job s r before after from leaves h =
+    IfOk-weaker r (λ job. IsJobOf s job before after) (λ job. IsAcceptedJob s job before after)
+    (λ job k. record { rest = after; leaves = leaves; part = subst (λ l. IsJobOf s job l after) (sym from) k }) h
+
+module _ (s : Settings) (r : Result JobRows Stop) (before after : Left) where
+  pub free-own : s.command ≡ command.Freeflow → IfOk r (λ job. IsJobOf s job before after) → IfOk r (λ job. IsAcceptedJob s job before after)
+  free-own asks = own-job s r before after (ap (λ (c : Command). source c before) asks)
+      (subst (λ (c : Command). LeavesOf c after before after) (sym asks) refl)
+
+  pub assign-own : s.command ≡ command.Assign → IfOk r (λ job. IsJobOf s job before after) → IfOk r (λ job. IsAcceptedJob s job before after)
+  assign-own asks = own-job s r before after (ap (λ (c : Command). source c before) asks)
+      (subst (λ (c : Command). LeavesOf c after before after) (sym asks) refl)
 
 never-rose : Rose 0 0 → ⊥
 never-rose r = omega (arith, r)

@@ -5,10 +5,6 @@ use Rattle.desk_io.specs.declared.desk.Output.TheVariants as output
 use Rattle.desk_io.specs.Desk.{Taken}
 use Rattle.desk_io.specs.Faults.{Rose}
 use Rattle.desk_io.specs.Transfers.{IsOut}
-use Rattle.dta_model.specs.LinkTimes.{TimeTable}
-use Rattle.dta_model.specs.declared.eight.Eight.{Eight}
-use Rattle.dta_model.specs.declared.loaded.Journey.{Journey}
-use Rattle.gap.specs.declared.line.GapLine.{GapLine}
 use Rattle.reports.specs.Texts.{IsCutShort as IsFreeCut, IsFreeOut, refusal_line}
 use Rattle.reports.specs.declared.refusal.Refusal.{Refusal}
 use Rattle.reports.specs.declared.refusal.Refusal.TheVariants as refusal
@@ -16,13 +12,13 @@ use Rattle.dta_words.specs.Grammar.{settings_of}
 use Rattle.dta_words.specs.declared.command.Command.{Command}
 use Rattle.dta_words.specs.declared.command.Command.TheVariants as command
 use Rattle.dta_words.specs.declared.command.Settings.{Settings}
-use Rattle.dta.specs.Assignment.{VehicleRoutes}
 use Rattle.dta.specs.Jobs.{IsAcceptedJob, JobRows}
 use Rattle.dta.specs.Outcome.{DeskState, IsCause, IsCutShort, IsRefused, Means, ReportsLine, Works}
 use Rattle.dta.specs.Outputs.{AreAssigned, AreTexts, AreTextsSoFar, AreWatched, IsCutOff, OutText, free_texts, grown_by, last_texts}
 use Rattle.dta.specs.Progress.{Halts, IsAssigned}
 use Rattle.dta.specs.Status.{refusal_status}
 use Rattle.dta.specs.Stops.{HasFault}
+use Rattle.dta.specs.declared.iterate.Assigned.{Assigned}
 use Rattle.dta.specs.declared.iterate.Halt.TheVariants as halt
 use Rattle.dta.specs.declared.status.Status.{Status}
 use Rattle.dta.specs.declared.status.Status.TheVariants as status
@@ -52,22 +48,21 @@ so-far-watched (command.Demo n) s job texts loads a = inr a
 
 module _ (s : Settings) (job : JobRows) (loads : s.command ≢ command.Freeflow) where
   -- all texts of an assignment whose iterations are done
-  module _ (routes : VehicleRoutes) (loaded : List Journey) (times : TimeTable) (end : Eight) (lines : List GapLine)
-      (line : GapLine) (start now : Taken) (a : IsAssigned s job routes loaded times end lines line start now) where
+  module _ (x : Assigned) (start now : Taken) (a : IsAssigned s job x start now) where
     abbrev last : List OutText
-    last = last_texts s.command s job routes lines line
+    last = last_texts s.command s job x.routes x.lines.items x.line
 
     assigned-texts : AreAssigned s job (a.texts ++ last)
     assigned-texts = record {
-      routes = a.done ++ routes ∷ [];
-      lines = lines;
-      last = routes;
-      line = line;
+      routes = a.done ++ x.routes ∷ [];
+      lines = x.lines.items;
+      last = x.routes;
+      line = x.line;
       iterations = a.iterations;
-      as_many = length-append a.done (routes ∷ []) ∙ a.as_many;
-      with_gaps = ap length a.lines_are ∙ length-append a.before (line ∷ []) ∙ ap (λ n. n + 1) a.with_gaps ∙ a.as_many;
-      last_routes = ap (λ n. slice_get (a.done ++ routes ∷ []) n) (omega (arith, a.as_many)) ∙ get-seam a.done routes;
-      last_line = ap (λ xs. slice_get xs (s.iterations - 1)) a.lines_are ∙ ap (λ n. slice_get (a.before ++ line ∷ []) n) (omega (arith, a.as_many, a.with_gaps)) ∙ get-seam a.before line;
+      as_many = length-append a.done (x.routes ∷ []) ∙ a.as_many;
+      with_gaps = ap length a.lines_are ∙ length-append a.before (x.line ∷ []) ∙ ap (λ n. n + 1) a.with_gaps ∙ a.as_many;
+      last_routes = ap (λ n. slice_get (a.done ++ x.routes ∷ []) n) (omega (arith, a.as_many)) ∙ get-seam a.done x.routes;
+      last_line = ap (λ xs. slice_get xs (s.iterations - 1)) a.lines_are ∙ ap (λ n. slice_get (a.before ++ x.line ∷ []) n) (omega (arith, a.as_many, a.with_gaps)) ∙ get-seam a.before x.line;
       watched = a.texts;
       watch_lines = a.watch_lines;
       texts_are = refl;

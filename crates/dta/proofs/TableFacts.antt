@@ -1,8 +1,11 @@
 -- The first fault of a table stands in that table, and reading stops there.
 use Rattle.std.proofs.Common.{◌≡◌, ℕ, ◌+◌, ◌≤◌, List, [], ◌∷◌, ◌++◌, length, refl, sym, ap, subst, true, false}
-use Rattle.std.specs.Prelude.{Result, Ok, Err}
+use Rattle.std.specs.Prelude.{Option, Result, Ok, Err}
+use Rattle.std.proofs.Common.{Vec}
+use Rattle.std.specs.declared.alloc.Global.{Global}
 use Rattle.desk_io.specs.declared.desk.Table.{Table}
 use Rattle.desk_io.specs.declared.desk.Table.TheVariants as table
+use Rattle.desk_io.specs.Desk.{Left}
 use Rattle.desk_io.specs.Transfers.{IsRead}
 use Rattle.row_reader.specs.Records.{Record, is_text, records}
 use Rattle.row_reader.specs.Faults.{fault_of}
@@ -14,9 +17,14 @@ use Rattle.row_reader.specs.declared.faults.Complaint.{Complaint}
 use Rattle.row_reader.specs.declared.faults.TableFault.{TableFault}
 use Rattle.row_reader.specs.declared.faults.TableRefusal.{TableRefusal}
 use Rattle.row_reader.specs.declared.faults.TableRefusal.TheVariants as refusal
+use Rattle.net_core.specs.declared.rows.LinkRow.{LinkRow}
+use Rattle.net_core.specs.declared.rows.NodeRow.{NodeRow}
+use Rattle.net_core.specs.declared.rows.TurnRow.{TurnRow}
+use Rattle.dta_model.specs.declared.trip.DemandCell.{DemandCell}
 use Rattle.net_core.specs.declared.rows.TheConstants.{MOST_LINKS, MOST_NODES, MOST_TURNS}
 use Rattle.gmns_tables.specs.Links.{link_of, link_places, link_verdict}
 use Rattle.gmns_tables.specs.Movements.{movement_of, movement_places}
+use Rattle.gmns_tables.specs.Net.{listed_turns}
 use Rattle.gmns_tables.specs.Nodes.{node_of, node_places, node_verdict}
 use Rattle.fixed_units.specs.declared.units.Units.{Units}
 use Rattle.demand.specs.DemandRows.{demand_cell_of, demand_places, demand_verdict}
@@ -24,7 +32,9 @@ use Rattle.demand.specs.declared.demand_rows.TheConstants.{MOST_DEMAND_CELLS}
 use Rattle.desk_io.specs.declared.transfers.TheConstants.{MOST_TABLE_BYTES}
 use Rattle.dta.specs.Outcome.{DeskState}
 use Rattle.dta.specs.Stops.{StopsAt, stop_of}
-use Rattle.dta.specs.Tables.{TableRows, turns_of, with_table}
+use Rattle.dta.specs.Calls.{rows_in_roads, rows_with_turns, with_cells}
+use Rattle.dta.specs.Tables.{IsAccepted, TableRows, no_rows, road_rows, turns_of, with_table}
+use Rattle.dta.specs.declared.tables.Roads.{Roads}
 
 -- of a line, and then of the rest
 then-table : {A B : Type 0} (t : Table) (line : ℕ) (r : Result A Complaint) (next : A → Result B TableFault) (f : TableFault)
@@ -108,3 +118,42 @@ pub cells-stop : (units : Units) (rows : TableRows) (bytes text : List ℕ) (bef
     → length bytes ≤ MOST_TABLE_BYTES → text ≡ bytes → Tells (demand_verdict (records text)) (Err why) → StopsAt units table.Demand rows (stop_of why) before after
 cells-stop units rows bytes text before after why read short same told =
     stop-at units table.Demand rows bytes before after why read short (cells-told units rows bytes why (subst (λ x. Tells (demand_verdict (records x)) (Err why)) same told))
+
+-- ---- a table was read to its end, and its reader gave rows
+
+pub nodes-accepted : (units : Units) (bytes text : List ℕ) (nodes : List NodeRow) (before after : Left)
+    → IsRead table.Node bytes before after → length bytes ≤ MOST_TABLE_BYTES → text ≡ bytes
+    → Tells (node_verdict (records text)) (Ok nodes)
+    → IsAccepted units table.Node no_rows (road_rows nodes []) before after
+nodes-accepted units bytes text nodes before after read short same is =
+    let k : node_verdict (records bytes) ≡ Ok nodes =
+    subst (λ x. node_verdict (records x) ≡ Ok nodes) same is in
+    record { bytes = bytes; read = read; short = short; accepted = rw k refl }
+
+pub links-accepted : (units : Units) (nodes : List NodeRow) (bytes text : List ℕ) (links : List LinkRow)
+    (before after : Left) → IsRead table.Link bytes before after → length bytes ≤ MOST_TABLE_BYTES
+    → text ≡ bytes → Tells (link_verdict nodes units (records text)) (Ok links)
+    → IsAccepted units table.Link (road_rows nodes []) (road_rows nodes links) before after
+links-accepted units nodes bytes text links before after read short same is =
+    let k : link_verdict nodes units (records bytes) ≡ Ok links =
+    subst (λ x. link_verdict nodes units (records x) ≡ Ok links) same is in
+    record { bytes = bytes; read = read; short = short; accepted = rw k refl }
+
+pub turns-accepted : (units : Units) (roads : Roads) (bytes text : List ℕ)
+    (turns : Option (List TurnRow)) (before after : Left) → IsRead table.Movement bytes before after
+    → length bytes ≤ MOST_TABLE_BYTES → text ≡ bytes
+    → turns_of units (rows_in_roads roads) text ≡ Ok (listed_turns turns)
+    → IsAccepted units table.Movement (rows_in_roads roads) (rows_with_turns roads turns) before after
+turns-accepted units roads bytes text turns before after read short same is =
+    let k : turns_of units (rows_in_roads roads) bytes ≡ Ok (listed_turns turns) =
+    subst (λ x. turns_of units (rows_in_roads roads) x ≡ Ok (listed_turns turns)) same is in
+    record { bytes = bytes; read = read; short = short; accepted = rw k refl }
+
+pub cells-accepted : (units : Units) (rows : TableRows) (bytes text : List ℕ)
+    (cells : Vec DemandCell Global) (before after : Left) → IsRead table.Demand bytes before after
+    → length bytes ≤ MOST_TABLE_BYTES → text ≡ bytes → demand_verdict (records text) ≡ Ok cells.items
+    → IsAccepted units table.Demand rows (with_cells rows cells) before after
+cells-accepted units rows bytes text cells before after read short same is =
+    let k : demand_verdict (records bytes) ≡ Ok cells.items =
+    subst (λ x. demand_verdict (records x) ≡ Ok cells.items) same is in
+    record { bytes = bytes; read = read; short = short; accepted = rw k refl }

@@ -1,5 +1,5 @@
 -- Worked cases of the definitions, computed: two links in a line.
-use Rattle.std.specs.Prelude.{◌≡◌, ℕ, refl, codes, map, [], ◌∷◌, List}
+use Rattle.std.specs.Prelude.{◌≡◌, ℕ, refl, codes, map, [], ◌∷◌, ◌++◌, List}
 use Rattle.desk_io.specs.declared.desk.Table.{Table}
 use Rattle.desk_io.specs.declared.desk.Table.TheVariants as table
 use Rattle.desk_io.specs.declared.desk.Output.TheVariants as output
@@ -24,7 +24,8 @@ three_nodes = codes "node_id,zone_id\n1,1\n2,\n3,3\n"
 
 abbrev two_links : List ℕ
 two_links =
-    codes "link_id,from_node_id,to_node_id,length,lanes,free_speed,capacity\n10,1,2,1000,1,60,600\n20,2,3,1000,1,60,600\n"
+    codes "link_id,from_node_id,to_node_id,length,lanes,free_speed,capacity\n"
+    ++ codes "10,1,2,1000,1,60,600\n20,2,3,1000,1,60,600\n"
 
 -- the number of each status
 the-numbers : map number_of

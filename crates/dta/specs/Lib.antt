@@ -8,5 +8,6 @@ pub mod Verdict
 pub mod Outcome
 pub mod Stops
 pub mod Progress
+pub mod Calls
 pub mod Examples
 pub mod Laws

@@ -1,7 +1,6 @@
 -- How far an assignment came, and what went out until then.
-use Rattle.std.specs.Prelude.{ℕ, ◌≡◌, ◌+◌, ◌≤◌, List, [], ◌∷◌, ◌++◌, length, Result, IfErr}
+use Rattle.std.specs.Prelude.{ℕ, ◌≡◌, ◌+◌, List, [], ◌∷◌, ◌++◌, length}
 use Rattle.desk_io.specs.Desk.{Taken}
-use Rattle.desk_io.specs.Faults.{Rose}
 use Rattle.dta_model.specs.LinkTimes.{TimeTable}
 use Rattle.dta_model.specs.Loading.{journeys_of}
 use Rattle.dta_model.specs.declared.eight.Eight.{Eight}
@@ -11,6 +10,7 @@ use Rattle.dta_words.specs.declared.command.Settings.{Settings}
 use Rattle.dta.specs.Assignment.{AreIterations, VehicleRoutes, end_of, times_of}
 use Rattle.dta.specs.Jobs.{AreRoutesOf, JobRows, plan_of}
 use Rattle.dta.specs.Outputs.{AreWatchLines, AreWatchTexts, AreWatched, IsCutOff, OutText, grown_by}
+use Rattle.dta.specs.declared.iterate.Assigned.{Assigned}
 use Rattle.dta.specs.declared.iterate.Halt.{Halt}
 use Rattle.dta.specs.declared.iterate.Halt.TheVariants as halt
 
@@ -49,11 +49,6 @@ abbrev pub HaltsIn : Settings → JobRows → ℕ → VehicleRoutes → Halt →
 HaltsIn s job iteration routes halt.Memory before now = now ≡ before
 HaltsIn s job iteration routes halt.Watch before now = IsWatchCut s job iteration routes before now
 
--- the count of failed puts doesn't fall, and a watch line is missing only where it rose
-pub record HasHaltCause {T : Type 0} (before now : ℕ) (result : Result T Halt) : Type 0 where
-  pub later : before ≤ now
-  pub failed : IfErr result (λ why. why ≡ halt.Watch → Rose before now)
-
 -- the routes, the journeys, the link times and the last state of an iteration belong together
 pub record IsLast (s : Settings) (job : JobRows) (routes : VehicleRoutes) (loaded : List Journey)
     (times : TimeTable) (end : Eight) : Type 0 where
@@ -62,18 +57,21 @@ pub record IsLast (s : Settings) (job : JobRows) (routes : VehicleRoutes) (loade
   pub times_are : times ≡ times_of s job routes
   pub end_is : end ≡ end_of s job routes
 
+-- the same of what an assignment gives
+abbrev pub IsLastOf : Settings → JobRows → Assigned → Type 0
+IsLastOf s job a = IsLast s job a.routes a.loaded a.times a.end
+
 -- all iterations are done: these are the last one's routes, journeys, link times, last state and
 -- gap, and the gaps of all
-pub record IsAssigned (s : Settings) (job : JobRows) (routes : VehicleRoutes)
-    (loaded : List Journey) (times : TimeTable) (end : Eight) (lines : List GapLine)
-    (line : GapLine) (start now : Taken) : Type 0 where
+pub record IsAssigned (s : Settings) (job : JobRows) (a : Assigned) (start now : Taken)
+    : Type 0 where
   pub done : List VehicleRoutes
   pub as_many : length done + 1 ≡ s.iterations
   pub before : List GapLine
   pub with_gaps : length before ≡ length done
-  pub lines_are : lines ≡ before ++ line ∷ []
-  pub iterations : AreIterations s job (done ++ routes ∷ []) lines
+  pub lines_are : a.lines.items ≡ before ++ a.line ∷ []
+  pub iterations : AreIterations s job (done ++ a.routes ∷ []) a.lines.items
   pub texts : List OutText
-  pub watch_lines : AreWatchTexts s job 1 (done ++ routes ∷ []) texts
+  pub watch_lines : AreWatchTexts s job 1 (done ++ a.routes ∷ []) texts
   pub watched : now ≡ grown_by texts start
-  pub last : IsLast s job routes loaded times end
+  pub last : IsLastOf s job a

@@ -13,6 +13,8 @@ use Rattle.dta_words.specs.declared.command.Settings.{Settings}
 use Rattle.dta.specs.declared.stop.Stop.{Stop}
 use Rattle.dta.specs.declared.stop.Stop.TheVariants.{Refused, Memory}
 use Rattle.vehicle_release.specs.Limits.{IsFirstAbove}
+use Rattle.vehicle_release.specs.declared.fault.ReleaseFault.{ReleaseFault}
+use Rattle.vehicle_release.specs.declared.fault.ReleaseFault.TheVariants as release
 use Rattle.dta.specs.Jobs.{HasRoom, tables_of}
 use Rattle.dta.specs.Outcome.{DeskState, ReadsFailed, IsCause, IsCauseAmong, IsCutIn, IsCutShort}
 use Rattle.dta.specs.Tables.{ReachedAmong, IsFaulty, TableRows}
@@ -21,6 +23,11 @@ use Rattle.dta.specs.Tables.{ReachedAmong, IsFaulty, TableRows}
 abbrev pub stop_of : TableRefusal → Stop
 stop_of (table_refusal.Fault fault) = Refused (refusal.Table fault)
 stop_of table_refusal.Memory = Memory
+
+-- and what trips that weren't released stop
+abbrev pub stop_at_release : ReleaseFault → Stop
+stop_at_release (release.TooMany line total) = Refused (refusal.Vehicles line total)
+stop_at_release release.Memory = Memory
 
 -- the reading stopped at a table, where these rows were accepted before
 abbrev pub StopsAt : Units → Table → TableRows → Stop → DeskState → DeskState → Type 0

@@ -1,7 +1,7 @@
 // The iterations of an assignment.
-ghost use Rattle.std.specs.Prelude.{◌≡◌, ◌<◌, ◌≤◌, ◌+◌, ◌++◌, ◌∷◌, [], length};
-ghost use Rattle.std.specs.Prelude.{IfOk, IfErr, OnOk, OnErr};
-ghost use Rattle.desk_io.specs.Desk.{Taken};
+ghost use Rattle.std.specs.Prelude.{◌≡◌, ◌<◌, ◌≤◌};
+ghost use Rattle.std.specs.Prelude.{IfOk, IfErr, OnOk};
+ghost use Rattle.desk_io.specs.State.{state_of};
 ghost use Rattle.dta_model.specs.Lent.{plan_of as loading_plan};
 ghost use Rattle.dta_model.specs.LinkTimes.{table_of, time_at};
 ghost use Rattle.dta_model.specs.Loading.{journeys_of};
@@ -12,13 +12,13 @@ ghost use Rattle.route_flows.specs.Averages.{AreFirstRoutes, AreNextRoutes};
 ghost use Rattle.dta_model.specs.State.{eight_after};
 ghost use Rattle.dta.specs.Assignment.{times_of};
 ghost use Rattle.dta.specs.Jobs.{AreRoutesOf, IsJob};
-ghost use Rattle.dta.specs.Outputs.{IsCutOff, end_lines, grown_by};
-ghost use Rattle.dta.specs.Progress.{Halts, HaltsIn, HasHaltCause};
-ghost use Rattle.dta.specs.Progress.{IsAssigned, IsAt, IsLast, IsWatched};
+ghost use Rattle.dta.specs.Calls.{HaltsFrom, IsAhead, IsFinished, OnlyWatches, PutsAll};
+ghost use Rattle.dta.specs.Outputs.{end_lines};
+ghost use Rattle.dta.specs.Progress.{Halts, HaltsIn, IsAssigned, IsLast, IsWatched};
 ghost use Rattle.dta.specs.declared.iterate.Halt.TheVariants as halt;
 
 use crate::job::Job;
-use desk_io::Desk;
+use desk_io::{Desk, Failed};
 use dta_model::{Eight, Loaded, Loading, Routes};
 use dta_words::Settings;
 use final_state::final_state;
@@ -27,7 +27,7 @@ use link_times::LinkTimes;
 use reports::put_watch;
 use route_flows::{first_routes, gap_and_next_routes};
 use serial_loader::load_plain;
-use std::alloc::Global;
+use std::alloc::{AllocError, AllocFailed, Global};
 use std::thread::Threads;
 
 /// Why an assignment ends before its last iteration is done.
@@ -37,6 +37,30 @@ pub(crate) enum Halt {
     Memory,
     /// A watch line couldn't be put.
     Watch,
+}
+
+impl From<AllocError> for Halt {
+    ghost from_gives = { λ _ e. e ≡ halt.Memory };
+
+    fn from(_: AllocError) -> Self {
+        Halt::Memory
+    }
+}
+
+impl<T: Drop> From<AllocFailed<T>> for Halt {
+    ghost from_gives = { λ _ e. e ≡ halt.Memory };
+
+    fn from(_: AllocFailed<T>) -> Self {
+        Halt::Memory
+    }
+}
+
+impl From<Failed> for Halt {
+    ghost from_gives = { λ _ e. e ≡ halt.Watch };
+
+    fn from(_: Failed) -> Self {
+        Halt::Watch
+    }
 }
 
 /// What the last iteration of an assignment gives, and the gaps of all.
@@ -70,16 +94,10 @@ fn load_over(alloc: Global, loading: &Loading, bucket: u32) -> Result<Round, Hal
     ensures short { IfOk result (λ round. IsShort round.times) }
     ensures memory { IfErr result (λ why. why ≡ halt.Memory) }
 {
-    match load_plain(alloc, loading) {
-        Ok(loaded) => match LinkTimes::of(alloc, loading, &loaded, bucket) {
-            Ok(times) => {
-                let end = final_state(loading, &loaded);
-                Ok(Round { loaded, times, end })
-            }
-            Err(_) => Err(Halt::Memory),
-        },
-        Err(_) => Err(Halt::Memory),
-    }
+    let loaded = load_plain(alloc, loading)?;
+    let times = LinkTimes::of(alloc, loading, &loaded, bucket)?;
+    let end = final_state(loading, &loaded);
+    Ok(Round { loaded, times, end })
 }
 
 // Loads the vehicles of a job over their routes.
@@ -103,23 +121,15 @@ fn watch<D: Desk>(
     iteration: u32,
     end: &Eight,
     desk: &mut D,
-) -> Result<(), Halt>
-    ensures whole { OnOk result (D.taken desk.new
-        ≡ grown_by (end_lines settings.now.watch iteration end.now) (D.taken desk.old)) }
-    ensures cut { OnErr result (IsCutOff
-        (end_lines settings.now.watch iteration end.now) (D.taken desk.old) (D.taken desk.new)) }
-    ensures why { IfErr result (λ why. why ≡ halt.Watch) }
-    ensures left { D.left desk.new ≡ D.left desk.old }
-    ensures cause { HasHaltCause (D.put_faults desk.old) (D.put_faults desk.new) result }
-    ensures reads { D.read_faults desk.new ≡ D.read_faults desk.old }
+) -> Result<(), Failed>
+    ensures { let state = state_of D.left D.taken D.read_faults D.put_faults in
+        PutsAll (end_lines settings.now.watch iteration end.now)
+        (state desk.old) (state desk.new) result }
 {
     if settings.watch == 0 {
         return Ok(());
     }
-    match put_watch(desk, iteration, end) {
-        Ok(()) => Ok(()),
-        Err(_) => Err(Halt::Watch),
-    }
+    put_watch(desk, iteration, end)
 }
 
 // Loads an iteration and puts its watch line.
@@ -137,13 +147,10 @@ fn load_watched<D: Desk>(
     ensures last { IfOk result (λ round.
         IsLast settings.now job.now routes.now round.loaded round.times round.end) }
     ensures short { IfOk result (λ round. IsShort round.times) }
-    ensures watched { OnOk result (IsWatched settings.now job.now iteration routes.now
-        (D.taken desk.old) (D.taken desk.new)) }
-    ensures halts { IfErr result (λ why. HaltsIn settings.now job.now iteration routes.now why
-        (D.taken desk.old) (D.taken desk.new)) }
-    ensures left { D.left desk.new ≡ D.left desk.old }
-    ensures cause { HasHaltCause (D.put_faults desk.old) (D.put_faults desk.new) result }
-    ensures reads { D.read_faults desk.new ≡ D.read_faults desk.old }
+    ensures watches { let state = state_of D.left D.taken D.read_faults D.put_faults in
+        OnlyWatches (λ _. IsWatched settings.now job.now iteration routes.now)
+        (HaltsIn settings.now job.now iteration routes.now)
+        (state desk.old) (state desk.new) result }
 {
     let round = load(alloc, settings, job, routes)?;
     watch(settings, iteration, &round.end, desk)?;
@@ -159,10 +166,8 @@ fn begin<R: AllocGlobal + Threads>(rt: &R, settings: &Settings, job: &Job) -> Re
     ensures routes { IfOk result (λ routes. AreRoutesOf job.now routes) }
     ensures memory { IfErr result (λ why. why ≡ halt.Memory) }
 {
-    match first_routes(rt, &job.net, &job.trips, settings.horizon, settings.workers) {
-        Ok(routes) => Ok(routes),
-        Err(_) => Err(Halt::Memory),
-    }
+    let routes = first_routes(rt, &job.net, &job.trips, settings.horizon, settings.workers)?;
+    Ok(routes)
 }
 
 // The gap of an iteration, and the routes of the next.
@@ -189,7 +194,7 @@ fn leave<R: AllocGlobal + Threads>(
     ensures routes { IfOk result (λ r. AreRoutesOf job.now r.1) }
     ensures memory { IfErr result (λ why. why ≡ halt.Memory) }
 {
-    match gap_and_next_routes(
+    let both = gap_and_next_routes(
         rt,
         &job.net,
         &job.trips,
@@ -197,10 +202,8 @@ fn leave<R: AllocGlobal + Threads>(
         routes,
         iteration,
         settings.workers,
-    ) {
-        Ok(both) => Ok(both),
-        Err(_) => Err(Halt::Memory),
-    }
+    )?;
+    Ok(both)
 }
 
 // The gap of the last iteration.
@@ -221,10 +224,7 @@ fn gap_of(
         job.now.net job.now.trips routes.now) }
     ensures memory { IfErr result (λ why. why ≡ halt.Memory) }
 {
-    match gap(alloc, &job.net, times, &job.trips, routes) {
-        Ok(line) => Ok(line),
-        Err(_) => Err(Halt::Memory),
-    }
+    Ok(gap(alloc, &job.net, times, &job.trips, routes)?)
 }
 
 // Does an iteration that isn't the last: its loading, its gap, and the routes of the next.
@@ -242,20 +242,15 @@ fn advance<R: AllocGlobal + Threads, D: Desk>(
     requires routes { AreRoutesOf job.now routes.old }
     requires number { (1 ≤ iteration) × (iteration < settings.now.iterations) }
     ensures routes { OnOk result (AreRoutesOf job.now routes.new) }
-    ensures forward { (start : Taken)
-        → IsAt settings.now job.now iteration routes.old lines.old.items start (D.taken desk.old)
-        → OnOk result (IsAt settings.now job.now (iteration + 1) routes.new lines.new.items
-        start (D.taken desk.new)) }
-    ensures halts { (start : Taken)
-        → IsAt settings.now job.now iteration routes.old lines.old.items start (D.taken desk.old)
-        → IfErr result (λ why. Halts settings.now job.now why start (D.taken desk.new)) }
-    ensures left { D.left desk.new ≡ D.left desk.old }
-    ensures cause { HasHaltCause (D.put_faults desk.old) (D.put_faults desk.new) result }
-    ensures reads { D.read_faults desk.new ≡ D.read_faults desk.old }
+    ensures watches { let state = state_of D.left D.taken D.read_faults D.put_faults in
+        OnlyWatches (λ _. IsAhead settings.now job.now iteration routes.old routes.new
+        lines.old.items lines.new.items)
+        (HaltsFrom settings.now job.now iteration routes.old lines.old.items)
+        (state desk.old) (state desk.new) result }
 {
     let round = load_watched(rt.alloc(), settings, job, routes, iteration, desk)?;
     let (line, next) = leave(rt, settings, job, routes, &round.times, iteration)?;
-    push(lines, line)?;
+    lines.push(line)?;
     *routes = next;
     Ok(())
 }
@@ -272,23 +267,15 @@ fn finish<D: Desk>(
     requires settings { AreSettings settings.now }
     requires job { IsJob settings.now job.now }
     requires routes { AreRoutesOf job.now routes }
-    ensures done { (start : Taken)
-        → IsAt settings.now job.now settings.now.iterations routes lines.items start
-        (D.taken desk.old)
-        → IfOk result (λ a. IsAssigned settings.now job.now
-        a.routes a.loaded a.times a.end a.lines.items a.line start (D.taken desk.new)) }
-    ensures halts { (start : Taken)
-        → IsAt settings.now job.now settings.now.iterations routes lines.items start
-        (D.taken desk.old)
-        → IfErr result (λ why. Halts settings.now job.now why start (D.taken desk.new)) }
-    ensures left { D.left desk.new ≡ D.left desk.old }
-    ensures cause { HasHaltCause (D.put_faults desk.old) (D.put_faults desk.new) result }
-    ensures reads { D.read_faults desk.new ≡ D.read_faults desk.old }
+    ensures { let state = state_of D.left D.taken D.read_faults D.put_faults in
+        OnlyWatches (IsFinished settings.now job.now routes lines.items)
+        (HaltsFrom settings.now job.now settings.now.iterations routes lines.items)
+        (state desk.old) (state desk.new) result }
 {
     let round = load_watched(alloc, settings, job, &routes, settings.iterations, desk)?;
     let line = gap_of(alloc, settings, job, &routes, &round.times)?;
     let mut lines = lines;
-    push(&mut lines, line)?;
+    lines.push(line)?;
     let Round { loaded, times, end } = round;
     Ok(Assigned {
         routes,
@@ -298,17 +285,6 @@ fn finish<D: Desk>(
         lines,
         line,
     })
-}
-
-// Adds a gap last.
-fn push(lines: &mut Vec<GapLine>, line: GapLine) -> Result<(), Halt>
-    ensures ok { OnOk result (lines.new.items ≡ lines.old.items ++ line ∷ []) }
-    ensures memory { IfErr result (λ why. why ≡ halt.Memory) }
-{
-    match lines.push(line) {
-        Ok(()) => Ok(()),
-        Err(_) => Err(Halt::Memory),
-    }
 }
 
 /// Does all iterations of an assignment: the routes of each, its loading, its link times and its
@@ -321,14 +297,9 @@ pub(crate) fn iterate<R: AllocGlobal + Threads, D: Desk>(
 ) -> Result<Assigned, Halt>
     requires settings { AreSettings settings.now }
     requires job { IsJob settings.now job.now }
-    ensures done { IfOk result (λ a. IsAssigned settings.now job.now
-        a.routes a.loaded a.times a.end a.lines.items a.line
-        (D.taken desk.old) (D.taken desk.new)) }
-    ensures halts { IfErr result (λ why.
-        Halts settings.now job.now why (D.taken desk.old) (D.taken desk.new)) }
-    ensures left { D.left desk.new ≡ D.left desk.old }
-    ensures cause { HasHaltCause (D.put_faults desk.old) (D.put_faults desk.new) result }
-    ensures reads { D.read_faults desk.new ≡ D.read_faults desk.old }
+    ensures { let state = state_of D.left D.taken D.read_faults D.put_faults in
+        OnlyWatches (IsAssigned settings.now job.now) (Halts settings.now job.now)
+        (state desk.old) (state desk.new) result }
 {
     let mut routes = begin(rt, settings, job)?;
     let mut lines = Vec::new(rt.alloc());

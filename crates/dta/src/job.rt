@@ -6,15 +6,16 @@ ghost use Rattle.dta_model.specs.Lent.{plan_of as loading_plan};
 ghost use Rattle.dta_model.specs.Release.{trips_of};
 ghost use Rattle.dta_words.specs.Ranges.{AreSettings};
 ghost use Rattle.dta_words.specs.declared.command.Command.TheVariants as command;
-ghost use Rattle.gmns_tables.specs.Net.{listed_turns, net_of as joined};
+ghost use Rattle.gmns_tables.specs.Net.{net_of as joined};
 ghost use Rattle.net_core.specs.Network.{IsNet};
 ghost use Rattle.dta_model.specs.declared.loading.TheConstants.{MOST_LINK_STEPS};
 ghost use Rattle.vehicle_release.specs.Limits.{IsWithin};
+ghost use Rattle.dta.specs.Calls.{OnlyReads, rows_in_tables};
 ghost use Rattle.dta.specs.Jobs.{AreTripsBelow, HasRoom, IsAcceptedJob, IsJob, IsJobOf};
 ghost use Rattle.dta.specs.Jobs.{job_of as job_of_rows, plan_of};
 ghost use Rattle.dta.specs.Outcome.{DeskState, state_of};
 ghost use Rattle.dta.specs.Stops.{Stops, StopsIn, StopsJob};
-ghost use Rattle.dta.specs.Tables.{TableRows, road_rows, rows_of};
+ghost use Rattle.dta.specs.Tables.{TableRows};
 
 use crate::sizes::sizes;
 use crate::stop::Stop;
@@ -28,7 +29,7 @@ use net_core::Net;
 use reports::Refusal;
 use std::alloc::Global;
 use std::marker::Model;
-use vehicle_release::{ReleaseFault, release};
+use vehicle_release::release;
 
 /// The network and the trips of a run; `freeflow` has no trips.
 #[derive(Drop)]
@@ -83,13 +84,7 @@ fn trips_within(
             steps: settings.horizon,
         }));
     }
-    match release(alloc, cells, settings.period) {
-        Ok(trips) => Ok(trips),
-        Err(ReleaseFault::TooMany { line, total }) => {
-            Err(Stop::Refused(Refusal::Vehicles { line, total }))
-        }
-        Err(ReleaseFault::Memory) => Err(Stop::Memory),
-    }
+    Ok(release(alloc, cells, settings.period)?)
 }
 
 // The job of accepted tables.
@@ -97,16 +92,12 @@ fn job_of(alloc: Global, tables: Tables, settings: &Settings) -> Result<Job, Sto
     requires settings { AreSettings settings.now }
     requires net { IsNet (joined tables.roads.nodes tables.roads.links tables.turns) }
     requires cells { AreDemandCells tables.cells.items }
-    ensures makes { IfOk result (λ job. job ≡ job_of_rows settings.now
-        (rows_of tables.roads.nodes tables.roads.links
-        (listed_turns tables.turns) tables.cells.items)) }
+    ensures makes { IfOk result (λ job.
+        job ≡ job_of_rows settings.now (rows_in_tables tables)) }
     ensures sound { IfOk result (IsJob settings.now) }
     ensures within { OnOk result (
-        HasRoom settings.now (road_rows tables.roads.nodes tables.roads.links)
-        × IsWithin tables.cells.items) }
-    ensures stops { IfErr result (StopsJob settings.now
-        (rows_of tables.roads.nodes tables.roads.links
-        (listed_turns tables.turns) tables.cells.items)) }
+        HasRoom settings.now (rows_in_tables tables) × IsWithin tables.cells.items) }
+    ensures stops { IfErr result (StopsJob settings.now (rows_in_tables tables)) }
 {
     let Tables {
         roads,
@@ -115,24 +106,18 @@ fn job_of(alloc: Global, tables: Tables, settings: &Settings) -> Result<Job, Sto
     } = tables;
     let links = roads.links.as_slice().len() as u32;
     let trips = trips_within(alloc, links, &cells, settings)?;
-    match join_net(alloc, roads.nodes, roads.links, turns) {
-        Ok(net) => Ok(Job { net, trips }),
-        Err(_) => Err(Stop::Memory),
-    }
+    let net = join_net(alloc, roads.nodes, roads.links, turns)?;
+    Ok(Job { net, trips })
 }
 
 // Reads and checks all tables of an assignment, and makes its job.
 fn accept_tables<D: Desk>(alloc: Global, desk: &mut D, settings: &Settings) -> Result<Job, Stop>
     requires settings { AreSettings settings.now }
     requires command { settings.now.command ≢ command.Freeflow }
-    ensures job { IfOk result (λ job.
-        IsJobOf settings.now job (D.left desk.old) (D.left desk.new)) }
+    ensures reads { let state = state_of D.left D.taken D.read_faults D.put_faults in
+        OnlyReads (IsJobOf settings.now) (StopsIn settings.now) (state desk.old) (state desk.new)
+        result }
     ensures sound { IfOk result (IsJob settings.now) }
-    ensures stops { let state = state_of D.left D.taken D.read_faults D.put_faults in
-        IfErr result (λ s. StopsIn settings.now s (state desk.old) (state desk.new)) }
-    ensures later { D.read_faults desk.old ≤ D.read_faults desk.new }
-    ensures taken { D.taken desk.new ≡ D.taken desk.old }
-    ensures puts { D.put_faults desk.new ≡ D.put_faults desk.old }
 {
     let tables = accept_all(alloc, desk, &settings.units)?;
     job_of(alloc, tables, settings)
@@ -142,23 +127,15 @@ fn accept_tables<D: Desk>(alloc: Global, desk: &mut D, settings: &Settings) -> R
 fn accept_free<D: Desk>(alloc: Global, desk: &mut D, settings: &Settings) -> Result<Job, Stop>
     requires settings { AreSettings settings.now }
     requires command { settings.now.command ≡ command.Freeflow }
-    ensures job { IfOk result (λ job.
-        IsJobOf settings.now job (D.left desk.old) (D.left desk.new)) }
+    ensures reads { let state = state_of D.left D.taken D.read_faults D.put_faults in
+        OnlyReads (IsJobOf settings.now) (StopsIn settings.now) (state desk.old) (state desk.new)
+        result }
     ensures sound { IfOk result (IsJob settings.now) }
-    ensures stops { let state = state_of D.left D.taken D.read_faults D.put_faults in
-        IfErr result (λ s. StopsIn settings.now s (state desk.old) (state desk.new)) }
-    ensures later { D.read_faults desk.old ≤ D.read_faults desk.new }
-    ensures taken { D.taken desk.new ≡ D.taken desk.old }
-    ensures puts { D.put_faults desk.new ≡ D.put_faults desk.old }
 {
     let roads = accept_roads(alloc, desk, &settings.units)?;
-    match join_net(alloc, roads.nodes, roads.links, None) {
-        Ok(net) => Ok(Job {
-            net,
-            trips: Vec::new(alloc),
-        }),
-        Err(_) => Err(Stop::Memory),
-    }
+    let net = join_net(alloc, roads.nodes, roads.links, None)?;
+    let trips = Vec::new(alloc);
+    Ok(Job { net, trips })
 }
 
 // Makes the tables of a demonstration, checks them as any others, and makes their job.
@@ -190,14 +167,10 @@ fn accept_grid(alloc: Global, settings: &Settings, n: u32) -> Result<Job, Stop>
 /// before the next is read; the links times the steps; the number of vehicles.
 pub(crate) fn accept<D: Desk>(alloc: Global, desk: &mut D, settings: &Settings) -> Result<Job, Stop>
     requires settings { AreSettings settings.now }
-    ensures job { IfOk result (λ job.
-        IsAcceptedJob settings.now job (D.left desk.old) (D.left desk.new)) }
+    ensures reads { let state = state_of D.left D.taken D.read_faults D.put_faults in
+        OnlyReads (IsAcceptedJob settings.now) (Stops settings.now)
+        (state desk.old) (state desk.new) result }
     ensures sound { IfOk result (IsJob settings.now) }
-    ensures stops { let state = state_of D.left D.taken D.read_faults D.put_faults in
-        IfErr result (λ s. Stops settings.now s (state desk.old) (state desk.new)) }
-    ensures later { D.read_faults desk.old ≤ D.read_faults desk.new }
-    ensures taken { D.taken desk.new ≡ D.taken desk.old }
-    ensures puts { D.put_faults desk.new ≡ D.put_faults desk.old }
 {
     match settings.command {
         Command::Freeflow => accept_free(alloc, desk, settings),

@@ -1,15 +1,14 @@
 // The outputs of an assignment, in their order.
-ghost use Rattle.std.specs.Prelude.{◌≡◌, OnOk, OnErr};
+ghost use Rattle.std.specs.Prelude.{◌≡◌};
 ghost use Rattle.desk_io.specs.declared.desk.Output.TheVariants as output;
-ghost use Rattle.desk_io.specs.Desk.{grown};
-ghost use Rattle.desk_io.specs.Faults.{HasCause};
-ghost use Rattle.desk_io.specs.Transfers.{IsPartOut};
+ghost use Rattle.desk_io.specs.State.{state_of};
+ghost use Rattle.desk_io.specs.Transfers.{Puts};
 ghost use Rattle.dta_words.specs.Ranges.{AreSettings};
 ghost use Rattle.reports.specs.Texts.{report_text};
+ghost use Rattle.dta.specs.Calls.{PutsAll};
 ghost use Rattle.dta.specs.Jobs.{IsJob};
-ghost use Rattle.dta.specs.Outputs.{IsCutOff, grown_by, last_texts, table_texts};
-ghost use Rattle.dta.specs.Outputs.{summary_of as summary_of_routes};
-ghost use Rattle.dta.specs.Progress.{IsLast};
+ghost use Rattle.dta.specs.Outputs.{last_texts, summary_of as summary_of_routes, table_texts};
+ghost use Rattle.dta.specs.Progress.{IsLastOf};
 
 use crate::iterate::Assigned;
 use crate::job::Job;
@@ -22,8 +21,7 @@ use route_flows::unrouted;
 fn summary_of(settings: &Settings, job: &Job, assigned: &Assigned) -> Summary
     requires settings { AreSettings settings.now }
     requires job { IsJob settings.now job.now }
-    requires assigned { IsLast settings.now job.now
-        assigned.now.routes assigned.now.loaded assigned.now.times assigned.now.end }
+    requires assigned { IsLastOf settings.now job.now assigned.now }
     ensures { result
         ≡ summary_of_routes settings.now job.now assigned.now.routes assigned.now.line }
 {
@@ -51,17 +49,10 @@ fn put_tables<D: Desk>(
 ) -> Result<(), Failed>
     requires settings { AreSettings settings.now }
     requires job { IsJob settings.now job.now }
-    requires assigned { IsLast settings.now job.now
-        assigned.now.routes assigned.now.loaded assigned.now.times assigned.now.end }
-    ensures whole { OnOk result (D.taken desk.new
-        ≡ grown_by (table_texts settings.now job.now assigned.now.routes assigned.now.lines.items)
-        (D.taken desk.old)) }
-    ensures cut { OnErr result (IsCutOff
-        (table_texts settings.now job.now assigned.now.routes assigned.now.lines.items)
-        (D.taken desk.old) (D.taken desk.new)) }
-    ensures left { D.left desk.new ≡ D.left desk.old }
-    ensures cause { HasCause (D.put_faults desk.old) (D.put_faults desk.new) result }
-    ensures reads { D.read_faults desk.new ≡ D.read_faults desk.old }
+    requires assigned { IsLastOf settings.now job.now assigned.now }
+    ensures { let state = state_of D.left D.taken D.read_faults D.put_faults in
+        PutsAll (table_texts settings.now job.now assigned.now.routes assigned.now.lines.items)
+        (state desk.old) (state desk.new) result }
 {
     put_agents(
         desk,
@@ -83,19 +74,11 @@ fn put_report<D: Desk>(
 ) -> Result<(), Failed>
     requires settings { AreSettings settings.now }
     requires job { IsJob settings.now job.now }
-    requires assigned { IsLast settings.now job.now
-        assigned.now.routes assigned.now.loaded assigned.now.times assigned.now.end }
-    ensures whole { OnOk result (D.taken desk.new
-        ≡ grown output.Report (report_text
+    requires assigned { IsLastOf settings.now job.now assigned.now }
+    ensures { let state = state_of D.left D.taken D.read_faults D.put_faults in
+        Puts output.Report (report_text
         (summary_of_routes settings.now job.now assigned.now.routes assigned.now.line))
-        (D.taken desk.old)) }
-    ensures cut { OnErr result (IsPartOut
-        output.Report (report_text
-        (summary_of_routes settings.now job.now assigned.now.routes assigned.now.line))
-        (D.taken desk.old) (D.taken desk.new)) }
-    ensures left { D.left desk.new ≡ D.left desk.old }
-    ensures cause { HasCause (D.put_faults desk.old) (D.put_faults desk.new) result }
-    ensures reads { D.read_faults desk.new ≡ D.read_faults desk.old }
+        (state desk.old) (state desk.new) result }
 {
     put_summary(desk, &summary_of(settings, job, assigned))
 }
@@ -111,18 +94,11 @@ pub(crate) fn put_assigned<D: Desk>(
 ) -> Result<(), Failed>
     requires settings { AreSettings settings.now }
     requires job { IsJob settings.now job.now }
-    requires assigned { IsLast settings.now job.now
-        assigned.now.routes assigned.now.loaded assigned.now.times assigned.now.end }
-    ensures whole { OnOk result (D.taken desk.new
-        ≡ grown_by (last_texts settings.now.command settings.now job.now
-        assigned.now.routes assigned.now.lines.items assigned.now.line) (D.taken desk.old)) }
-    ensures cut { OnErr result (IsCutOff
-        (last_texts settings.now.command settings.now job.now
+    requires assigned { IsLastOf settings.now job.now assigned.now }
+    ensures { let state = state_of D.left D.taken D.read_faults D.put_faults in
+        PutsAll (last_texts settings.now.command settings.now job.now
         assigned.now.routes assigned.now.lines.items assigned.now.line)
-        (D.taken desk.old) (D.taken desk.new)) }
-    ensures left { D.left desk.new ≡ D.left desk.old }
-    ensures cause { HasCause (D.put_faults desk.old) (D.put_faults desk.new) result }
-    ensures reads { D.read_faults desk.new ≡ D.read_faults desk.old }
+        (state desk.old) (state desk.new) result }
 {
     match settings.command {
         Command::Assign => {

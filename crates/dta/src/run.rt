@@ -1,19 +1,15 @@
 // The public call.
 ghost use Rattle.std.specs.Prelude.{◌≡◌, ◌≢◌, ◌≤◌, ℕ, List, None, Some};
-ghost use Rattle.desk_io.specs.Faults.{Rose};
 ghost use Rattle.dta_words.specs.Ranges.{AreSettings};
 ghost use Rattle.dta_words.specs.declared.command.Command.TheVariants as command;
 ghost use Rattle.dta.specs.Jobs.{IsJob};
-ghost use Rattle.dta.specs.Outcome.{Works};
 ghost use Rattle.desk_io.specs.declared.desk.Table.{Table};
-ghost use Rattle.desk_io.specs.declared.desk.Output.TheVariants as output;
-ghost use Rattle.desk_io.specs.Transfers.{IsOut};
 ghost use Rattle.dta_model.specs.Laws.{JourneysEndInOrder, LeftInOrder, VehiclesAreConserved};
 ghost use Rattle.dta_words.specs.Grammar.{settings_of};
-ghost use Rattle.reports.specs.Texts.{refusal_line};
 ghost use Rattle.dta.specs.Status.{refusal_status as status_of_refusal};
 ghost use Rattle.dta.specs.declared.status.Status.TheVariants as status;
 ghost use Rattle.dta.specs.Laws.{TextsAreDetermined, TextsInAnyOrder};
+ghost use Rattle.dta.specs.Calls.{DoesWork, Refuses};
 ghost use Rattle.dta.specs.Outcome.{state_of, Means, Answers};
 ghost use Rattle.dta.specs.Verdict.{verdict, AreToldBy};
 
@@ -46,12 +42,8 @@ fn refusal_status(refusal: Refusal) -> Status
 // Puts the line of a refusal to Report, and answers the refusal's status, also where the put fails.
 // It takes no memory.
 fn refuse<D: Desk>(desk: &mut D, refusal: Refusal) -> Status
-    ensures status { result ≡ status_of_refusal refusal }
-    ensures report { IsOut output.Report (refusal_line refusal)
-        (D.taken desk.old) (D.taken desk.new) (D.put_faults desk.old) (D.put_faults desk.new) }
-    ensures later { D.put_faults desk.old ≤ D.put_faults desk.new }
-    ensures left { D.left desk.new ≡ D.left desk.old }
-    ensures reads { D.read_faults desk.new ≡ D.read_faults desk.old }
+    ensures { let state = state_of D.left D.taken D.read_faults D.put_faults in
+        Refuses refusal (state desk.old) (state desk.new) result }
 {
     let _ = put_refusal(desk, &refusal);
     refusal_status(refusal)
@@ -67,12 +59,8 @@ fn assign<R: AllocGlobal + Threads, D: Desk>(
     requires settings { AreSettings settings.now }
     requires job { IsJob settings.now job.now }
     requires command { settings.now.command ≢ command.Freeflow }
-    ensures work { Works settings.now job.now result (D.taken desk.old) (D.taken desk.new) }
-    ensures failed { result ≡ status.WriteFault
-        → Rose (D.put_faults desk.old) (D.put_faults desk.new) }
-    ensures left { D.left desk.new ≡ D.left desk.old }
-    ensures later { D.put_faults desk.old ≤ D.put_faults desk.new }
-    ensures reads { D.read_faults desk.new ≡ D.read_faults desk.old }
+    ensures { let state = state_of D.left D.taken D.read_faults D.put_faults in
+        DoesWork settings.now job.now (state desk.old) (state desk.new) result }
 {
     match iterate(rt, settings, job, desk) {
         Ok(assigned) => match put_assigned(desk, settings, job, &assigned) {
@@ -93,12 +81,8 @@ fn work<R: AllocGlobal + Threads, D: Desk>(
 ) -> Status
     requires settings { AreSettings settings.now }
     requires job { IsJob settings.now job.now }
-    ensures work { Works settings.now job.now result (D.taken desk.old) (D.taken desk.new) }
-    ensures failed { result ≡ status.WriteFault
-        → Rose (D.put_faults desk.old) (D.put_faults desk.new) }
-    ensures left { D.left desk.new ≡ D.left desk.old }
-    ensures later { D.put_faults desk.old ≤ D.put_faults desk.new }
-    ensures reads { D.read_faults desk.new ≡ D.read_faults desk.old }
+    ensures { let state = state_of D.left D.taken D.read_faults D.put_faults in
+        DoesWork settings.now job.now (state desk.old) (state desk.new) result }
 {
     match settings.command {
         Command::Freeflow => match put_free(desk, &job.net) {

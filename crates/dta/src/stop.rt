@@ -1,9 +1,12 @@
 // Why a run stops before its work.
 ghost use Rattle.std.specs.Prelude.{◌≡◌};
-ghost use Rattle.dta.specs.Stops.{stop_of};
+ghost use Rattle.dta.specs.Stops.{stop_at_release, stop_of};
+ghost use Rattle.dta.specs.declared.stop.Stop.TheVariants as stop;
 
 use reports::Refusal;
 use row_reader::TableRefusal;
+use std::alloc::AllocError;
+use vehicle_release::ReleaseFault;
 
 /// Why a run stops before its work.
 #[derive(Clone, Copy, Debug, PartialEq, Eq)]
@@ -14,14 +17,34 @@ pub(crate) enum Stop {
     Memory,
 }
 
-impl Stop {
-    /// What a refused table stops.
-    pub(crate) fn at(why: TableRefusal) -> Self
-        ensures { result ≡ stop_of why }
-    {
+impl From<AllocError> for Stop {
+    ghost from_gives = { λ _ e. e ≡ stop.Memory };
+
+    fn from(_: AllocError) -> Self {
+        Stop::Memory
+    }
+}
+
+impl From<TableRefusal> for Stop {
+    ghost from_gives = { λ why e. e ≡ stop_of why };
+
+    fn from(why: TableRefusal) -> Self {
         match why {
             TableRefusal::Fault(fault) => Stop::Refused(Refusal::Table(fault)),
             TableRefusal::Memory => Stop::Memory,
+        }
+    }
+}
+
+impl From<ReleaseFault> for Stop {
+    ghost from_gives = { λ why e. e ≡ stop_at_release why };
+
+    fn from(why: ReleaseFault) -> Self {
+        match why {
+            ReleaseFault::TooMany { line, total } => {
+                Stop::Refused(Refusal::Vehicles { line, total })
+            }
+            ReleaseFault::Memory => Stop::Memory,
         }
     }
 }

@@ -1,7 +1,6 @@
 // The tables of a run, read and checked one after the other.
-ghost use Rattle.std.specs.Prelude.{◌≡◌, ◌≤◌, [], All, length, Ok, Err, IfOk, IfErr};
+ghost use Rattle.std.specs.Prelude.{◌≡◌, [], All, Ok, Err, IfOk, IfErr};
 ghost use Rattle.desk_io.specs.declared.desk.Table.TheVariants as table;
-ghost use Rattle.desk_io.specs.Transfers.{IsRead};
 ghost use Rattle.demand.specs.DemandRows.{AreDemandCells};
 ghost use Rattle.gmns_tables.specs.Net.{listed_turns, net_of};
 ghost use Rattle.fixed_units.specs.declared.units.Units.{Units};
@@ -9,11 +8,12 @@ ghost use Rattle.fixed_units.specs.Units.{IsUnits};
 ghost use Rattle.net_core.specs.Network.{IsNet};
 ghost use Rattle.net_core.specs.Rows.{AreLinks, AreNodes, AreTurns, IsBetween, IsTurning};
 ghost use Rattle.row_reader.specs.FirstFault.{Tells};
-ghost use Rattle.desk_io.specs.declared.transfers.TheConstants.{MOST_TABLE_BYTES};
+ghost use Rattle.dta.specs.Calls.{Accepts, AcceptsAll, IsWhole, OnlyReads};
+ghost use Rattle.dta.specs.Calls.{rows_in_roads, rows_in_tables, rows_with_turns, with_cells};
 ghost use Rattle.dta.specs.Outcome.{state_of};
-ghost use Rattle.dta.specs.Stops.{StopsAmong, StopsAt};
-ghost use Rattle.dta.specs.Tables.{AreAccepted, IsAccepted, TableRows, all_tables, no_rows};
-ghost use Rattle.dta.specs.Tables.{road_rows, road_tables, rows_of, turns_of};
+ghost use Rattle.dta.specs.Stops.{StopsAt};
+ghost use Rattle.dta.specs.Tables.{TableRows, all_tables, no_rows, road_rows, road_tables};
+ghost use Rattle.dta.specs.Tables.{turns_of};
 
 use crate::stop::Stop;
 use demand::read_demand;
@@ -34,15 +34,10 @@ pub(crate) struct Roads {
 
 // Reads the bytes of a table.
 fn bytes_of<D: Desk>(alloc: Global, desk: &mut D, table: Table) -> Result<Vec<u8>, Stop>
-    ensures whole { IfOk result (λ bytes.
-        IsRead table bytes.items (D.left desk.old) (D.left desk.new)) }
-    ensures short { IfOk result (λ bytes. length bytes.items ≤ MOST_TABLE_BYTES) }
-    ensures stops { let state = state_of D.left D.taken D.read_faults D.put_faults in
+    ensures reads { let state = state_of D.left D.taken D.read_faults D.put_faults in
         (units : Units) (rows : TableRows)
-        → IfErr result (λ s. StopsAt units table rows s (state desk.old) (state desk.new)) }
-    ensures later { D.read_faults desk.old ≤ D.read_faults desk.new }
-    ensures taken { D.taken desk.new ≡ D.taken desk.old }
-    ensures puts { D.put_faults desk.new ≡ D.put_faults desk.old }
+        → OnlyReads (IsWhole table) (StopsAt units table rows) (state desk.old) (state desk.new)
+        result }
 {
     match read_table(alloc, desk, table, MOST_TABLE_BYTES) {
         Ok(bytes) => Ok(bytes),
@@ -54,21 +49,13 @@ fn bytes_of<D: Desk>(alloc: Global, desk: &mut D, table: Table) -> Result<Vec<u8
 
 // Reads and checks the node table.
 fn accept_nodes<D: Desk>(alloc: Global, desk: &mut D) -> Result<NodeRows, Stop>
-    ensures nodes { (units : Units) → IfOk result (λ nodes. IsAccepted units table.Node no_rows
-        (road_rows nodes []) (D.left desk.old) (D.left desk.new)) }
+    ensures reads { let state = state_of D.left D.taken D.read_faults D.put_faults in
+        (units : Units) → Accepts units table.Node no_rows (λ nodes. road_rows nodes [])
+        (state desk.old) (state desk.new) result }
     ensures sound { IfOk result AreNodes }
-    ensures stops { let state = state_of D.left D.taken D.read_faults D.put_faults in
-        (units : Units)
-        → IfErr result (λ s. StopsAt units table.Node no_rows s (state desk.old) (state desk.new)) }
-    ensures later { D.read_faults desk.old ≤ D.read_faults desk.new }
-    ensures taken { D.taken desk.new ≡ D.taken desk.old }
-    ensures puts { D.put_faults desk.new ≡ D.put_faults desk.old }
 {
     let bytes = bytes_of(alloc, desk, Table::Node)?;
-    match read_nodes(alloc, &bytes) {
-        Ok(nodes) => Ok(nodes),
-        Err(why) => Err(Stop::at(why)),
-    }
+    Ok(read_nodes(alloc, &bytes)?)
 }
 
 // Reads and checks the link table over accepted nodes.
@@ -79,22 +66,14 @@ fn accept_links<D: Desk>(
     nodes: &NodeRows,
 ) -> Result<LinkRows, Stop>
     requires units { IsUnits units.now }
-    ensures links { IfOk result (λ links. IsAccepted units.now table.Link (road_rows nodes.now [])
-        (road_rows nodes.now links) (D.left desk.old) (D.left desk.new)) }
+    ensures reads { let state = state_of D.left D.taken D.read_faults D.put_faults in
+        Accepts units.now table.Link (road_rows nodes.now []) (road_rows nodes.now)
+        (state desk.old) (state desk.new) result }
     ensures sound { IfOk result AreLinks }
     ensures between { IfOk result (All (IsBetween nodes.now)) }
-    ensures stops { let state = state_of D.left D.taken D.read_faults D.put_faults in
-        IfErr result (λ s. StopsAt units.now table.Link (road_rows nodes.now []) s
-        (state desk.old) (state desk.new)) }
-    ensures later { D.read_faults desk.old ≤ D.read_faults desk.new }
-    ensures taken { D.taken desk.new ≡ D.taken desk.old }
-    ensures puts { D.put_faults desk.new ≡ D.put_faults desk.old }
 {
     let bytes = bytes_of(alloc, desk, Table::Link)?;
-    match read_links(alloc, nodes, &bytes, units) {
-        Ok(links) => Ok(links),
-        Err(why) => Err(Stop::at(why)),
-    }
+    Ok(read_links(alloc, nodes, &bytes, units)?)
 }
 
 /// Reads and checks the node table, and then the link table over its nodes.
@@ -104,17 +83,12 @@ pub(crate) fn accept_roads<D: Desk>(
     units: &Units,
 ) -> Result<Roads, Stop>
     requires units { IsUnits units.now }
-    ensures roads { IfOk result (λ roads. AreAccepted units.now road_tables no_rows
-        (road_rows roads.nodes roads.links) (D.left desk.old) (D.left desk.new)) }
+    ensures reads { let state = state_of D.left D.taken D.read_faults D.put_faults in
+        AcceptsAll units.now road_tables no_rows rows_in_roads (state desk.old) (state desk.new)
+        result }
     ensures nodes { IfOk result (λ roads. AreNodes roads.nodes) }
     ensures links { IfOk result (λ roads. AreLinks roads.links) }
     ensures between { IfOk result (λ roads. All (IsBetween roads.nodes) roads.links) }
-    ensures stops { let state = state_of D.left D.taken D.read_faults D.put_faults in
-        IfErr result (λ s. StopsAmong units.now road_tables no_rows s
-        (state desk.old) (state desk.new)) }
-    ensures later { D.read_faults desk.old ≤ D.read_faults desk.new }
-    ensures taken { D.taken desk.new ≡ D.taken desk.old }
-    ensures puts { D.put_faults desk.new ≡ D.put_faults desk.old }
 {
     let nodes = accept_nodes(alloc, desk)?;
     let links = accept_links(alloc, desk, units, &nodes)?;
@@ -130,11 +104,9 @@ fn turns_in(
 ) -> Result<Option<TurnRows>, TableRefusal>
     requires units { IsUnits units.now }
     ensures turns { IfOk result (λ turns.
-        turns_of units.now (road_rows roads.now.nodes roads.now.links) bytes.now
-        ≡ Ok (listed_turns turns)) }
+        turns_of units.now (rows_in_roads roads.now) bytes.now ≡ Ok (listed_turns turns)) }
     ensures refused { IfErr result (λ why.
-        Tells (turns_of units.now (road_rows roads.now.nodes roads.now.links) bytes.now)
-        (Err why)) }
+        Tells (turns_of units.now (rows_in_roads roads.now) bytes.now) (Err why)) }
     ensures sound { IfOk result (λ turns. AreTurns (listed_turns turns)) }
     ensures turning { IfOk result (λ turns. All (IsTurning roads.now.links) (listed_turns turns)) }
 {
@@ -154,44 +126,26 @@ fn accept_turns<D: Desk>(
     roads: &Roads,
 ) -> Result<Option<TurnRows>, Stop>
     requires units { IsUnits units.now }
-    ensures turns { IfOk result (λ turns. IsAccepted units.now table.Movement
-        (road_rows roads.now.nodes roads.now.links)
-        (rows_of roads.now.nodes roads.now.links (listed_turns turns) [])
-        (D.left desk.old) (D.left desk.new)) }
+    ensures reads { let state = state_of D.left D.taken D.read_faults D.put_faults in
+        Accepts units.now table.Movement (rows_in_roads roads.now) (rows_with_turns roads.now)
+        (state desk.old) (state desk.new) result }
     ensures sound { IfOk result (λ turns. AreTurns (listed_turns turns)) }
     ensures turning { IfOk result (λ turns. All (IsTurning roads.now.links) (listed_turns turns)) }
-    ensures stops { let state = state_of D.left D.taken D.read_faults D.put_faults in
-        IfErr result (λ s. StopsAt units.now table.Movement
-        (road_rows roads.now.nodes roads.now.links) s (state desk.old) (state desk.new)) }
-    ensures later { D.read_faults desk.old ≤ D.read_faults desk.new }
-    ensures taken { D.taken desk.new ≡ D.taken desk.old }
-    ensures puts { D.put_faults desk.new ≡ D.put_faults desk.old }
 {
     let bytes = bytes_of(alloc, desk, Table::Movement)?;
-    match turns_in(alloc, roads, &bytes, units) {
-        Ok(turns) => Ok(turns),
-        Err(why) => Err(Stop::at(why)),
-    }
+    Ok(turns_in(alloc, roads, &bytes, units)?)
 }
 
 // Reads and checks the demand table.
 fn accept_cells<D: Desk>(alloc: Global, desk: &mut D) -> Result<Vec<DemandCell>, Stop>
-    ensures cells { (units : Units) (rows : TableRows)
-        → IfOk result (λ cells. IsAccepted units table.Demand rows
-        (record rows { cells = cells.items }) (D.left desk.old) (D.left desk.new)) }
-    ensures sound { IfOk result (λ cells. AreDemandCells cells.items) }
-    ensures stops { let state = state_of D.left D.taken D.read_faults D.put_faults in
+    ensures reads { let state = state_of D.left D.taken D.read_faults D.put_faults in
         (units : Units) (rows : TableRows)
-        → IfErr result (λ s. StopsAt units table.Demand rows s (state desk.old) (state desk.new)) }
-    ensures later { D.read_faults desk.old ≤ D.read_faults desk.new }
-    ensures taken { D.taken desk.new ≡ D.taken desk.old }
-    ensures puts { D.put_faults desk.new ≡ D.put_faults desk.old }
+        → Accepts units table.Demand rows (with_cells rows) (state desk.old) (state desk.new)
+        result }
+    ensures sound { IfOk result (λ cells. AreDemandCells cells.items) }
 {
     let bytes = bytes_of(alloc, desk, Table::Demand)?;
-    match read_demand(alloc, &bytes) {
-        Ok(cells) => Ok(cells),
-        Err(why) => Err(Stop::at(why)),
-    }
+    Ok(read_demand(alloc, &bytes)?)
 }
 
 /// The rows of all four tables.
@@ -209,17 +163,11 @@ pub(crate) fn accept_all<D: Desk>(
     units: &Units,
 ) -> Result<Tables, Stop>
     requires units { IsUnits units.now }
-    ensures tables { IfOk result (λ t. AreAccepted units.now all_tables no_rows
-        (rows_of t.roads.nodes t.roads.links (listed_turns t.turns) t.cells.items)
-        (D.left desk.old) (D.left desk.new)) }
+    ensures reads { let state = state_of D.left D.taken D.read_faults D.put_faults in
+        AcceptsAll units.now all_tables no_rows rows_in_tables (state desk.old) (state desk.new)
+        result }
     ensures net { IfOk result (λ t. IsNet (net_of t.roads.nodes t.roads.links t.turns)) }
     ensures cells { IfOk result (λ t. AreDemandCells t.cells.items) }
-    ensures stops { let state = state_of D.left D.taken D.read_faults D.put_faults in
-        IfErr result (λ s. StopsAmong units.now all_tables no_rows s
-        (state desk.old) (state desk.new)) }
-    ensures later { D.read_faults desk.old ≤ D.read_faults desk.new }
-    ensures taken { D.taken desk.new ≡ D.taken desk.old }
-    ensures puts { D.put_faults desk.new ≡ D.put_faults desk.old }
 {
     let roads = accept_roads(alloc, desk, units)?;
     let turns = accept_turns(alloc, desk, units, &roads)?;

@@ -235,7 +235,8 @@ unfolding loadings_on_literals trip two_links_merge
 two_links_merge-arrivals = refl
 
 -- ---- units of a loading with two nodes: five in a step
-two_nodes-starts : map (phase_start 2) (numbers_below 10) ≡ 0 ∷ 0 ∷ 2 ∷ 2 ∷ 4 ∷ 5 ∷ 5 ∷ 7 ∷ 7 ∷ 9 ∷ []
+two_nodes-starts :
+    map (phase_start 2) (numbers_below 10) ≡ 0 ∷ 0 ∷ 2 ∷ 2 ∷ 4 ∷ 5 ∷ 5 ∷ 7 ∷ 7 ∷ 9 ∷ []
 unfolding claims_on_literals
 two_nodes-starts = refl
 
@@ -243,8 +244,8 @@ two_nodes-ends : map (phase_end 2) (numbers_below 10) ≡ 2 ∷ 2 ∷ 4 ∷ 4 �
 unfolding claims_on_literals
 two_nodes-ends = refl
 
--- three nodes and two links in a line: cells 0 to 2, mail 3 and 4, and 5 posts. A transfer takes the
--- mail of out-links, a gather that of in-links; the posting counts all cells
+-- three nodes and two links in a line: cells 0 to 2, mail 3 and 4, and 5 posts. A transfer takes
+-- the mail of out-links, a gather that of in-links; the posting counts all cells
 two_links_in_a_line-places :
     map (places two_links_in_a_line) (numbers_below 7)
     ≡ (0 ∷ 3 ∷ []) ∷ (1 ∷ 4 ∷ []) ∷ (2 ∷ []) ∷ (0 ∷ []) ∷ (1 ∷ 3 ∷ []) ∷ (2 ∷ 4 ∷ [])
@@ -287,6 +288,7 @@ one_worker :
 unfolding claims_on_literals loadings_on_literals two_links_in_a_line two_nodes
 one_worker = refl
 
-one_worker-finished : finished two_nodes (run_machine two_nodes (repeat 5 one_round) (all_idle 1)) ≡ 5
+one_worker-finished :
+    finished two_nodes (run_machine two_nodes (repeat 5 one_round) (all_idle 1)) ≡ 5
 unfolding claims_on_literals loadings_on_literals two_links_in_a_line two_nodes
 one_worker-finished = refl

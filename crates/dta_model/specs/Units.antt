@@ -54,24 +54,24 @@ phase_start n u = step_of n u * step_units n + phase_begins n (task_of n u)
 unfoldable pub phase_end : ℕ → ℕ → ℕ
 phase_end n u = step_of n u * step_units n + phase_ends n (task_of n u)
 
--- what units work on is numbered: the cells of the nodes, then the mail of the links, and then what
--- posts the state
-abbrev pub mail_slot : Plan → ℕ → ℕ
-mail_slot p l = node_count p + l
+-- the parts of a loading are numbered: the cells of the nodes, then the mail of the links, and then
+-- what posts the state
+abbrev pub mail_part : Plan → ℕ → ℕ
+mail_part p l = node_count p + l
 
-abbrev pub posting_slot : Plan → ℕ
-posting_slot p = node_count p + length p.net.links
+abbrev pub posting_part : Plan → ℕ
+posting_part p = node_count p + length p.net.links
 
 -- what a task takes to its next stage: a transfer the node's cell and the mail of its out-links, a
 -- gather the cell and the mail of its in-links, a posting what posts
 abbrev pub moved_in : Plan → Task → List ℕ
-moved_in p (Transfer n) = n ∷ map (mail_slot p) (outs p n)
-moved_in p (Gather n) = n ∷ map (mail_slot p) (ins p n)
-moved_in p Posting = posting_slot p ∷ []
+moved_in p (Transfer n) = n ∷ map (mail_part p) (outs p n)
+moved_in p (Gather n) = n ∷ map (mail_part p) (ins p n)
+moved_in p Posting = posting_part p ∷ []
 
 -- what it needs for its work: a posting also all cells, which it counts
 abbrev pub places_in : Plan → Task → List ℕ
-places_in p Posting = all_nodes p ++ posting_slot p ∷ []
+places_in p Posting = all_nodes p ++ posting_part p ∷ []
 places_in p task = moved_in p task
 
 -- the same of a unit

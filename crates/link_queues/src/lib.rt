@@ -9,11 +9,9 @@
 
 mod line;
 mod rider;
-mod threads;
 
 pub use line::{Line, MOST_RIDERS, PushRefused};
 pub use rider::Rider;
-pub use threads::riders_go_to_threads;
 
 #[cfg(test)]
 mod tests;

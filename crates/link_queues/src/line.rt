@@ -2,7 +2,8 @@
 ghost use Rattle.dta_model.specs.Riders.{moved};
 ghost use Rattle.link_queues.specs.Lines.{due};
 ghost use Rattle.std.specs.Prelude.{◌≡◌, ◌+◌, ◌-◌, ◌<◌, ◌≤◌, ◌++◌, ◌∷◌, ◌↔◌, [], length, drop};
-ghost use Rattle.std.specs.Prelude.{slice_get, option_copied, IfErr, IfSome, IsNone, IsSomeAnd, OnErr, OnOk, None};
+ghost use Rattle.std.specs.Prelude.{slice_get, option_copied, IfErr, IfSome, IsNone, IsSomeAnd};
+ghost use Rattle.std.specs.Prelude.{OnErr, OnOk, None};
 
 use crate::rider::Rider;
 use std::alloc::Global;

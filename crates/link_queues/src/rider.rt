@@ -3,7 +3,8 @@ ghost use Rattle.dta_model.specs.Plans.{link_numbers};
 ghost use Rattle.dta_model.specs.Riders.{moved};
 ghost use Rattle.link_queues.specs.Riders.{setting_out};
 ghost use Rattle.std.specs.List.{last_or};
-ghost use Rattle.std.specs.Prelude.{◌≡◌, ◌<◌, ◌++◌, ◌∷◌, [], ◌↔◌, length, slice_get, option_map, IfOk, IsNone, IsSome, None};
+ghost use Rattle.std.specs.Prelude.{◌≡◌, ◌<◌, ◌++◌, ◌∷◌, [], ◌↔◌, length, slice_get, option_map};
+ghost use Rattle.std.specs.Prelude.{IfOk, IsNone, IsSome, None};
 
 use dta_model::{Journey, Route, Steps};
 use net_core::LinkNo;

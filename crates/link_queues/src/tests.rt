@@ -7,6 +7,15 @@ use net_core::LinkNo;
 use std::alloc::{AllocError, Global};
 use std::test::Fail;
 
+// A rider and a line can be given to another thread.
+fn goes_to_threads<T: Send>() {}
+
+#[test]
+fn riders_go_to_threads() {
+    goes_to_threads::<Rider>();
+    goes_to_threads::<Line>();
+}
+
 // Puts a rider over links 0 and 1 last, who departs at step 2.
 fn put(line: &mut Line, alloc: Global, number: u32) -> Result<(), Fail>
     requires { length line.old < 2 }

@@ -17,7 +17,7 @@ mod zones;
 
 pub use ids::{Ids, Pairs};
 pub use laws::{turns_cost_their_rows, zones_differ};
-pub use net::{Memory, Net, shared_by_threads};
+pub use net::{Memory, Net};
 pub use rows::{
     LinkNo, LinkRow, MOST_LINKS, MOST_NODES, MOST_TURNS, NetRows, NodeNo, NodeRow, Turn, TurnRow,
     ZoneNo,

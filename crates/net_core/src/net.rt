@@ -226,10 +226,3 @@ fn is_turn(turn: &TurnRow, a: LinkNo, b: LinkNo) -> bool
 {
     turn.a == a && turn.b == b
 }
-
-fn shared<T: Sync>(_shared: &T) {}
-
-/// A network can be read by several threads at once.
-pub fn shared_by_threads(net: &Net) {
-    shared(net)
-}

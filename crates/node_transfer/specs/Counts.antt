@@ -1,6 +1,6 @@
 -- How many vehicles of a cell wait, run and have arrived.
 use Rattle.std.specs.List.{sum_by}
-use Rattle.std.specs.Prelude.{◌≡◌, ℕ, List, length, min}
+use Rattle.std.specs.Prelude.{◌≡◌, ℕ, length}
 use Rattle.dta_model.specs.Loading.{trace_after}
 use Rattle.dta_model.specs.Plans.{all_nodes, ins, outs}
 use Rattle.dta_model.specs.Sound.{IsSound}
@@ -8,11 +8,6 @@ use Rattle.cell_stages.specs.Stages.{arrived_before, waiting_before}
 use Rattle.dta_model.specs.State.{count_on, eight_after}
 use Rattle.dta_model.specs.declared.plan.Plan.{Plan}
 use Rattle.link_queues.specs.Lines.{due}
-use Rattle.dta_model.specs.Riders.{RiderState}
-use Rattle.node_transfer.specs.Cells.{line_length, waiting_length}
-use Rattle.cell_stages.specs.declared.in_link.InLink.{InLink}
-use Rattle.cell_stages.specs.declared.out_link.OutLink.{OutLink}
-use Rattle.node_transfer.specs.declared.counts.TheConstants.{MOST_COUNT}
 use Rattle.node_transfer.specs.declared.cell.CellCounts.{CellCounts}
 
 -- of node n after t steps: those who wait for its out-links and are due, those on its in-links, and
@@ -33,11 +28,3 @@ pub record AddUp (p : Plan) (t : ℕ) : Type 0 where
 -- so it is in each sound loading, after each number of steps
 abbrev pub CountsAddUp : Type 0
 CountsAddUp = (p : Plan) → IsSound p → (t : ℕ) → AddUp p t
-
--- the numbers of riders in the lines of a cell; a sum that no number holds is the greatest one
-abbrev pub counted : List InLink → List OutLink → List RiderState → CellCounts
-counted ins outs arrived = record {
-  waiting = min (sum_by waiting_length outs) MOST_COUNT;
-  running = min (sum_by line_length ins) MOST_COUNT;
-  arrived = length arrived;
-}

@@ -5,7 +5,7 @@ use Rattle.cell_stages.specs.CellState.{CellState}
 use Rattle.cell_stages.specs.Contents.{away}
 use Rattle.node_transfer.specs.Hand.{handed}
 use Rattle.node_transfer.specs.Laws.{put_mail}
-use Rattle.node_transfer.specs.Outs.{released}
+use Rattle.node_transfer.specs.Inside.Outs.{released}
 use Rattle.node_transfer.specs.Rest.{rested}
 use Rattle.node_transfer.specs.Start.{no_journey, no_journeys}
 use Rattle.cell_stages.specs.declared.in_link.InLink.{InLink}

@@ -6,7 +6,8 @@ use Rattle.dta_model.specs.Loading.{journeys_of}
 use Rattle.dta_model.specs.Plans.{all_nodes, ins, outs, vehicle_count}
 use Rattle.dta_model.specs.Sound.{IsSound}
 use Rattle.dta_model.specs.declared.plan.Plan.{Plan}
-use Rattle.node_transfer.specs.Cells.{gathered, with_in_mail, with_out_mail}
+use Rattle.node_transfer.specs.Gathered.{gathered}
+use Rattle.node_transfer.specs.Places.{with_in_mail, with_out_mail}
 use Rattle.cell_stages.specs.Contents.{away, batch_of, cell_after, cell_before, room_of}
 use Rattle.node_transfer.specs.Hand.{Within, handed, riders_in}
 use Rattle.node_transfer.specs.Start.{no_journeys}

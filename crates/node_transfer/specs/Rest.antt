@@ -5,11 +5,12 @@ use Rattle.dta_model.specs.declared.plan.Plan.{Plan}
 use Rattle.cell_stages.specs.CellState.{CellState}
 use Rattle.cell_stages.specs.Contents.{IsStep, away, cell_after, cell_before}
 use Rattle.capacity_credits.specs.Meter.{closed, granted}
-use Rattle.node_transfer.specs.Pass.{closed_exit, opened_exit}
+use Rattle.node_transfer.specs.Exits.{closed_exit, opened_exit}
 use Rattle.cell_stages.specs.declared.in_link.InLink.{InLink}
 use Rattle.cell_stages.specs.declared.out_link.OutLink.{OutLink}
 use Rattle.std.specs.List.{last_or}
-use Rattle.std.specs.Prelude.{◌≡◌, ℕ, zero, suc, ◌+◌, ◌<◌, [], All, IfSome, None, length, map, slice_get}
+use Rattle.std.specs.Prelude.{◌≡◌, ℕ, zero, suc, ◌+◌, ◌<◌, [], All, IfSome, None, length, map}
+use Rattle.std.specs.Prelude.{slice_get}
 
 -- a link whose allowances of one step of delta seconds were granted, and are lost
 abbrev pub rested_in : ℕ → InLink → InLink

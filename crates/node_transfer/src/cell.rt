@@ -3,23 +3,25 @@ ghost use Rattle.dta_model.specs.Loading.{trace_after};
 ghost use Rattle.dta_model.specs.Plans.{ins};
 ghost use Rattle.dta_model.specs.State.{count_on};
 ghost use Rattle.dta_model.specs.declared.plan.Plan.{Plan};
-ghost use Rattle.node_transfer.specs.Cells.{CanGather, CanTransfer, gathered, in_mail, out_mail, transferred, with_in_mail, with_out_mail};
-ghost use Rattle.cell_stages.specs.Contents.{IsStep, away, batch_of, cell_after, cell_before, room_of};
-ghost use Rattle.node_transfer.specs.Counts.{counted, counts_at};
+ghost use Rattle.node_transfer.specs.Places.{in_mail, out_mail, with_in_mail, with_out_mail};
+ghost use Rattle.cell_stages.specs.Contents.{IsStep, away, batch_of, cell_after, cell_before};
+ghost use Rattle.cell_stages.specs.Contents.{room_of};
+ghost use Rattle.node_transfer.specs.Counts.{counts_at};
 ghost use Rattle.node_transfer.specs.Hand.{Within, handed, riders_in};
 ghost use Rattle.dta_model.specs.Sound.{IsSound};
 ghost use Rattle.node_transfer.specs.Rest.{IsQuiet, rested};
 ghost use Rattle.node_transfer.specs.declared.rest.TheConstants.{NO_STEP};
-ghost use Rattle.std.specs.Prelude.{◌≡◌, ℕ, suc, ◌<◌, ◌≤◌, [], All, length, slice_get, IfOk, IfSome, Some};
+ghost use Rattle.std.specs.Prelude.{◌≡◌, ℕ, suc, ◌<◌, ◌≤◌, [], All, length, slice_get, IfOk};
+ghost use Rattle.std.specs.Prelude.{IfSome, Some};
 
 use crate::counts::count_parts;
 use crate::hand_over::hand_parts;
-use crate::in_link::gather_links;
 use crate::mail::{put_in_mail, put_out_mail, swap_in_mail, swap_out_mail};
 use crate::rest::{first_step, rest_links};
-use crate::step::step_links;
+use crate::step::in_link::gather_links;
+use crate::step::transfer::transfer_links;
 use cell_stages::{InLink, Mail, OutLink};
-use dta_model::{Loaded, MOST_HORIZON};
+use dta_model::Loaded;
 use fixed_units::MOST_STEP;
 use link_queues::Line;
 use net_core::Memory;
@@ -76,7 +78,8 @@ impl NodeCell {
     ) -> Result<Self, Memory>
         requires { delta ≤ MOST_STEP }
         ensures { IfOk result
-            (λ cell. cell ≡ record { ins = ins.items; outs = outs.items; arrived = []; delta = delta }) }
+            (λ cell. cell
+            ≡ record { ins = ins.items; outs = outs.items; arrived = []; delta = delta }) }
     {
         let arrived = Line::new(alloc);
         let parts = Box::new(
@@ -91,8 +94,8 @@ impl NodeCell {
         Ok(NodeCell { parts })
     }
 
-    /// Moves the vehicles of a step. The mail of each out-link is the room of that step, and becomes
-    /// the batch of it.
+    /// Moves the vehicles of a step. The mail of each out-link is the room of that step, and
+    /// becomes the batch of it.
     pub fn transfer(&mut self, step: u32)
         requires { (p : Plan) × (n : ℕ) × IsStep p n step
             × (self.old ≡ cell_before p n step away (room_of p step)) }
@@ -100,7 +103,14 @@ impl NodeCell {
             → self.old ≡ cell_before p n step away (room_of p step)
             → self.new ≡ cell_after p n step away (batch_of p step) }
     {
-        self.pass_vehicles(step);
+        let parts = &mut *self.parts;
+        transfer_links(
+            &mut parts.ins,
+            &mut parts.outs,
+            &mut parts.arrived,
+            parts.delta,
+            step,
+        );
     }
 
     /// Puts those who come in a step last on their links. The mail of each in-link is the batch of
@@ -112,7 +122,7 @@ impl NodeCell {
             → self.old ≡ cell_after p n step (batch_of p step) away
             → self.new ≡ cell_before p n (suc step) (room_of p (suc step)) away }
     {
-        self.join_batches(step);
+        gather_links(&mut self.parts.ins, step);
     }
 
     /// Lets so many steps go by in which nobody moves: their allowances are granted, and lost.
@@ -124,38 +134,14 @@ impl NodeCell {
     }
 
     /// The first step in which somebody of the cell is ready, unless somebody comes: the head of an
-    /// in-link has been on it for long enough, or one who waits is due. It is [`NO_STEP`] where nobody
-    /// ever is.
+    /// in-link has been on it for long enough, or one who waits is due. It is [`NO_STEP`] where
+    /// nobody ever is.
     pub fn next_step(&self) -> u32
         ensures quiet { (step : ℕ) → step < result → IsQuiet step self.now }
         ensures least { result < NO_STEP → IsQuiet result self.now → ⊥ }
     {
         let parts = &*self.parts;
         first_step(&parts.ins, &parts.outs)
-    }
-
-    // Moves the vehicles of a step.
-    fn pass_vehicles(&mut self, step: u32)
-        requires { CanTransfer self.old }
-        ensures { self.new ≡ transferred step self.old }
-    {
-        let parts = &mut *self.parts;
-        step_links(
-            &mut parts.ins,
-            &mut parts.outs,
-            &mut parts.arrived,
-            parts.delta,
-            step,
-        );
-    }
-
-    // Puts those who come in a step last on their links.
-    fn join_batches(&mut self, step: u32)
-        requires step { step < MOST_HORIZON }
-        requires can { All (CanGather step) self.old.ins }
-        ensures { self.new ≡ gathered step self.old }
-    {
-        gather_links(&mut self.parts.ins, step);
     }
 
     /// Fills the place of an out-link's mail.
@@ -214,20 +200,13 @@ impl NodeCell {
         self.parts.ins[place].line.len() as u64
     }
 
-    /// How many vehicles wait for the out-links and are due, how many are on the in-links, and how many
-    /// have arrived, where the cell is before the transfer of step `steps`. It looks at each link once,
-    /// and at no vehicle.
+    /// How many vehicles wait for the out-links and are due, how many are on the in-links, and how
+    /// many have arrived, where the cell is before the transfer of step `steps`. It looks at each
+    /// link once, and at no vehicle.
     pub fn counts(&self, steps: u32) -> CellCounts
         ensures { (p : Plan) (n : ℕ) → IsSound p → n < length p.net.nodes
             → self.now ≡ cell_before p n steps away away
             → result ≡ counts_at p n steps }
-    {
-        self.count_vehicles()
-    }
-
-    // How many wait and are due, are on the in-links, and have arrived.
-    fn count_vehicles(&self) -> CellCounts
-        ensures { result ≡ counted self.now.ins self.now.outs self.now.arrived }
     {
         let parts = &*self.parts;
         count_parts(&parts.ins, &parts.outs, &parts.arrived)

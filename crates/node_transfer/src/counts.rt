@@ -1,8 +1,8 @@
 // How many vehicles a cell has.
-ghost use Rattle.node_transfer.specs.Cells.{line_length, waiting_length};
-ghost use Rattle.node_transfer.specs.Counts.{counted};
+ghost use Rattle.node_transfer.specs.Inside.Lengths.{line_length, waiting_length};
+ghost use Rattle.node_transfer.specs.Inside.Counted.{counted};
 ghost use Rattle.std.specs.List.{sum_by};
-ghost use Rattle.std.specs.Prelude.{◌≡◌, ℕ, ◌+◌, ◌≤◌, length, min};
+ghost use Rattle.std.specs.Prelude.{◌≡◌, min};
 
 use crate::cell::CellCounts;
 use cell_stages::{InLink, OutLink};
@@ -12,7 +12,7 @@ use link_queues::Line;
 pub const MOST_COUNT: u64 = 18_446_744_073_709_551_615;
 
 // How many wait for the out-links and are due.
-#[tactic(auto, using(crate::proofs::Capped::capped_step))]
+#[tactic(auto, using(crate::proofs::OfCounts::Capped::capped_step))]
 fn count_waiting(outs: &[OutLink]) -> u64
     ensures { result ≡ min (sum_by waiting_length outs.now) MOST_COUNT }
 {
@@ -24,7 +24,7 @@ fn count_waiting(outs: &[OutLink]) -> u64
 }
 
 // How many are on the in-links.
-#[tactic(auto, using(crate::proofs::Capped::capped_step))]
+#[tactic(auto, using(crate::proofs::OfCounts::Capped::capped_step))]
 fn count_running(ins: &[InLink]) -> u64
     ensures { result ≡ min (sum_by line_length ins.now) MOST_COUNT }
 {

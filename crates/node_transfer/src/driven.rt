@@ -3,7 +3,7 @@
 ghost use Rattle.dta_model.specs.Lent.{plan_of};
 ghost use Rattle.dta_model.specs.Loading.{journeys_of};
 ghost use Rattle.dta_model.specs.Sound.{IsSound};
-ghost use Rattle.node_transfer.specs.Driven.{cells_before, rooms};
+ghost use Rattle.node_transfer.specs.Inside.Driven.{cells_before, rooms};
 ghost use Rattle.std.specs.Prelude.{◌≡◌, ◌<◌, suc, IfOk};
 
 mod phases;

@@ -6,7 +6,7 @@
 //! come in any order.
 ghost use Rattle.dta_model.specs.Lent.{plan_of};
 ghost use Rattle.dta_model.specs.Plans.{ins as ins_of, outs as outs_of};
-ghost use Rattle.node_transfer.specs.Cells.{in_mail, out_mail, with_in_mail, with_out_mail};
+ghost use Rattle.node_transfer.specs.Places.{in_mail, out_mail, with_in_mail, with_out_mail};
 ghost use Rattle.cell_stages.specs.Contents.{IsStep, away, batch_of, cell_after, cell_before};
 ghost use Rattle.cell_stages.specs.Contents.{room_of};
 ghost use Rattle.node_transfer.specs.Exchange.{AreMail, ArePut};

@@ -9,7 +9,7 @@ use dta_model::Loaded;
 use link_queues::Line;
 
 // Sets the journey of the first rider, and says whether there was one.
-#[tactic(auto, using(crate::proofs::Hands::hand_steps))]
+#[tactic(auto, using(crate::proofs::OfHandOver::Hands::hand_steps))]
 fn hand_first(line: &mut Line, loaded: &mut Loaded) -> bool
     requires { All (Within (length loaded.old)) line.old }
     ensures kept { All (Within (length loaded.new)) line.new }

@@ -1,6 +1,7 @@
 // Laws of the contents of cells. Each is the contract of a function that does nothing.
 ghost use Rattle.node_transfer.specs.Counts.{CountsAddUp};
-ghost use Rattle.node_transfer.specs.Laws.{CellsGather, CellsHandOver, CellsHoldAll, MailGoesByLinks};
+ghost use Rattle.node_transfer.specs.Laws.{CellsGather, CellsHandOver, CellsHoldAll};
+ghost use Rattle.node_transfer.specs.Laws.{MailGoesByLinks};
 ghost use Rattle.node_transfer.specs.Rest.{QuietNodesStayIdle};
 
 /// A mail that is put into the place of a link is the mail of that link.

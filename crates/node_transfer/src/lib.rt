@@ -6,25 +6,20 @@
 //! each out-link; then it gathers the batches of its in-links. The promise of each call is the
 //! content of the cell at the next stage, for every loading of which it has the content before.
 //! [`exchange`] lends the cell of a node the mail of its links and collects it. [`opening`] alone
-//! takes memory. A cell can go to another thread and come back.
+//! takes memory. A cell can go to another thread and come back. What cells and mail hold at each
+//! stage is said in `cell_stages`.
 #![tactic(auto)]
 
 mod cell;
 mod counts;
 pub mod exchange;
 mod hand_over;
-mod in_link;
 mod laws;
 mod lists;
 mod mail;
-mod out_link;
-mod pass;
 mod rest;
 mod start;
-mod start_cells;
-mod start_lines;
 mod step;
-mod turn;
 
 pub use cell::{CellCounts, NodeCell};
 pub use cell_stages::Mail;
@@ -35,7 +30,7 @@ pub use laws::{
 };
 pub use lists::{Cells, Mails, Opening};
 pub use rest::NO_STEP;
-pub use start::opening;
+pub use start::opening::opening;
 
 #[cfg(test)]
 mod driven;

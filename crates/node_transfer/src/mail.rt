@@ -1,5 +1,5 @@
 // Mail at its place at a link.
-ghost use Rattle.node_transfer.specs.Cells.{in_mailed, mail_of_in, mail_of_out, out_mailed};
+ghost use Rattle.node_transfer.specs.Places.{in_mailed, mail_of_in, mail_of_out, out_mailed};
 ghost use Rattle.std.specs.Prelude.{◌≡◌, ◌<◌, length, slice_get, Some, option_map};
 
 use cell_stages::{InLink, Mail, OutLink};

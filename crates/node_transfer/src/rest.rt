@@ -2,10 +2,11 @@
 ghost use Rattle.dta_model.specs.Riders.{RiderState};
 ghost use Rattle.node_transfer.specs.Rest.{HeadIsLater, WaitLater, rested};
 ghost use Rattle.node_transfer.specs.declared.rest.TheConstants.{NO_STEP};
-ghost use Rattle.node_transfer.specs.Skip.{skipped_exit, skipped_in, skipped_out, skipped_turn};
+ghost use Rattle.node_transfer.specs.Inside.Skip.{skipped_exit, skipped_in, skipped_out};
+ghost use Rattle.node_transfer.specs.Inside.Skip.{skipped_turn};
 ghost use Rattle.std.specs.Prelude.{◌≡◌, ℕ, ◌<◌, ◌≤◌, All, List, map};
 
-use crate::turn::rest_all;
+use crate::step::turn::rest_all;
 use cell_stages::{Exit, InLink, LimitedTurn, OutLink};
 use fixed_units::MOST_STEP;
 

@@ -1,39 +1,6 @@
-// One step of a node's links.
-ghost use Rattle.std.specs.Prelude.{◌≡◌, ◌≤◌, ◌%◌, cond, nat_eq};
-ghost use Rattle.cell_stages.specs.CellState.{CellState};
-ghost use Rattle.node_transfer.specs.Cells.{transferred, CanTransfer};
-
-use crate::in_link::pass_rotated;
-use crate::out_link::{close_outs, open_outs};
-use cell_stages::{InLink, OutLink};
-use fixed_units::MOST_STEP;
-use link_queues::Line;
-
-/// Moves the vehicles of one step.
-pub fn step_links(
-    ins: &mut [InLink],
-    outs: &mut [OutLink],
-    arrived: &mut Line,
-    delta: u32,
-    step: u32,
-)
-    requires delta { delta ≤ MOST_STEP }
-    requires can { CanTransfer
-        (record { ins = ins.old; outs = outs.old; arrived = arrived.old; delta = delta }) }
-    ensures { transferred step
-        (record { ins = ins.old; outs = outs.old; arrived = arrived.old; delta = delta })
-        ≡ record { ins = ins.new; outs = outs.new; arrived = arrived.new; delta = delta } }
-{
-    open_outs(outs, delta, step);
-    let start = start_place(step, ins.len());
-    pass_rotated(ins, outs, arrived, delta, step, start);
-    close_outs(outs, step);
-}
-
-// The place of the in-link that begins in a step.
-fn start_place(step: u32, count: usize) -> usize
-    ensures value { result ≡ cond (nat_eq count 0) 0 (step % count) }
-    ensures within { result ≤ count }
-{
-    if count == 0 { 0 } else { step as usize % count }
-}
+// A node's step: who moves over its links, and who comes.
+pub(crate) mod in_link;
+pub(crate) mod out_link;
+pub(crate) mod pass;
+pub(crate) mod transfer;
+pub(crate) mod turn;

@@ -2,3 +2,4 @@ pub mod Owners
 pub mod Counts
 pub mod Steps
 pub mod Allowed
+pub mod Machines

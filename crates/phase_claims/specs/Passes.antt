@@ -87,7 +87,7 @@ pub record Opens (old : View) (result : Open) (new : View) : Type 0 where
   pub own : performed_count old ≤ finished
   pub answer : AnswersOpen old finished result new
 
--- what a pass keeps: it holds no slot, and its fields say what it knows
+-- what a pass keeps: it holds no place, and its fields say what it knows
 pub record IsPass (me : Me Part View) (left : ℕ) (has : Stage) : Type 0 where
   pub slots : me.1 ≡ []
   pub weight : 1 ≤ me.0.weight

@@ -1,9 +1,9 @@
-// What the slots of a floor hold.
+// What the places of a floor hold.
 use monitors::WriterPass;
 use node_transfer::{Mail, NodeCell};
 
-/// What a slot holds: a node's cell, a link's mail, the writer's pass, or nothing while a unit is at
-/// work on it.
+/// What a place holds: a cell, a mail, the writer's pass, or nothing while a unit is
+/// at work on it.
 #[derive(Drop)]
 pub enum Part {
     Out,

@@ -1,4 +1,4 @@
-// The parts of a loading, in the slots of a floor.
+// The parts of a loading, in the places of a floor.
 ghost use Rattle.std.specs.Prelude.{◌≡◌, ◌++◌, ◌∷◌, [], IfOk, map};
 
 use crate::part::Part;
@@ -7,7 +7,7 @@ use net_core::Memory;
 use node_transfer::{Mail, NodeCell};
 use std::alloc::{AllocError, Global};
 
-/// The slots: the cells of the nodes, the mail of the links, and the writer's pass.
+/// The places: the cells of the nodes, the mail of the links, and the writer's pass.
 pub(crate) fn parts_at_start(
     alloc: Global,
     cells: Vec<NodeCell>,

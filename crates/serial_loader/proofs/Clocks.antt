@@ -6,13 +6,13 @@ use Rattle.std.proofs.Math.Dec.{eqb}
 use Rattle.dta_model.specs.Plans.{link_at}
 use Rattle.dta_model.specs.declared.plan.Plan.{Plan}
 use Rattle.cell_stages.specs.CellState.{CellState}
-use Rattle.node_transfer.specs.Cells.{changed_at, set_some}
+use Rattle.node_transfer.specs.Places.{changed_at, set_some}
 use Rattle.node_transfer.specs.Rest.{rested}
 use Rattle.cell_stages.specs.declared.mail.Mail.{Mail}
 use Rattle.serial_loader.specs.Exchange.{AreLeft, AreWoken, MayWake, brings, wake_by, woken}
 use Rattle.serial_loader.specs.Phases.{HoldsBatch, Stands}
 use Rattle.serial_loader.specs.declared.clock.Clock.{Clock}
-use Rattle.node_transfer.proofs.Sets.{count-set, set-got, set-here, set-other}
+use Rattle.node_transfer.proofs.OfMail.Sets.{count-set, set-got, set-here, set-other}
 
 abbrev Was : ℕ → List Clock → ℕ → Clock → Type 0
 Was t old k w = (w' : Clock) × ((slice_get old k ≡ Some w') × MayWake t w' w)

@@ -12,11 +12,11 @@ use Rattle.cell_stages.specs.Contents.{away, cell_before, room_of}
 use Rattle.node_transfer.specs.Rest.{rested}
 use Rattle.node_transfer.specs.Start.{rooms_at_start}
 use Rattle.cell_stages.specs.declared.mail.Mail.{Mail}
-use Rattle.node_transfer.proofs.Numbers.{found-below}
+use Rattle.node_transfer.proofs.OfMail.Numbers.{found-below}
 use Rattle.serial_loader.specs.Phases.{InTransfer, cells_before}
 use Rattle.serial_loader.specs.declared.clock.Clock.{Clock}
 use Rattle.serial_loader.proofs.Clocks.{stands-now}
-use Rattle.node_transfer.proofs.Sets.{count-set, same-elements, set-got, set-other}
+use Rattle.node_transfer.proofs.OfMail.Sets.{count-set, same-elements, set-got, set-other}
 
 abbrev pub new_clock : Clock
 new_clock = record { since = 0; wake = 0 }

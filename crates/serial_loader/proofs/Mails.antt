@@ -7,7 +7,7 @@ use Rattle.dta_model.specs.Plans.{link_at}
 use Rattle.dta_model.specs.Riders.{RiderState}
 use Rattle.cell_stages.specs.Stages.{batch_mail}
 use Rattle.dta_model.specs.declared.plan.Plan.{Plan}
-use Rattle.node_transfer.specs.Cells.{changed_at}
+use Rattle.node_transfer.specs.Places.{changed_at}
 use Rattle.cell_stages.specs.Contents.{batch_of, room_of}
 use Rattle.cell_stages.specs.declared.mail.Mail.{Mail}
 use Rattle.cell_stages.specs.declared.mail.Mail.TheVariants.{Batch, Room}
@@ -16,10 +16,10 @@ use Rattle.serial_loader.specs.Exchange.{AllHoldBatches, AllTellRooms, as_batch,
 use Rattle.serial_loader.specs.Phases.{HoldsBatch, TellsRoom}
 use Rattle.serial_loader.specs.declared.clock.Clock.{Clock}
 use Rattle.serial_loader.proofs.Clocks.{it-has-woken, one-woken, still-held}
-use Rattle.node_transfer.proofs.Numbers.{below-all}
-use Rattle.node_transfer.proofs.ListPlaces.{take-all}
-use Rattle.node_transfer.proofs.Puts.{among-links, among-other, same-mail, set-mail}
-use Rattle.node_transfer.proofs.Sets.{set-got, set-other}
+use Rattle.node_transfer.proofs.OfMail.Numbers.{below-all}
+use Rattle.node_transfer.proofs.OfMail.ListPlaces.{take-all}
+use Rattle.node_transfer.proofs.OfMail.Puts.{among-links, among-other, same-mail, set-mail}
+use Rattle.node_transfer.proofs.OfMail.Sets.{set-got, set-other}
 
 -- the mail that is read
 pub tells-it : (p : Plan) (t l : ℕ) (m : Mail) → TellsRoom p t l m → Room t (told_room m) ≡ room_of p t l

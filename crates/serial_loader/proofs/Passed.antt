@@ -12,11 +12,11 @@ use Rattle.node_transfer.specs.Exchange.{ArePut, ChangesOnly}
 use Rattle.serial_loader.specs.Exchange.{AllBringBatches, AllHoldBatches, AllTellRooms, AreWoken, as_batch, put_batch, wake_by}
 use Rattle.serial_loader.specs.declared.clock.Clock.{Clock}
 use Rattle.serial_loader.proofs.Clocks.{more-woken, woken-by}
-use Rattle.node_transfer.proofs.Exchanges.{emptied-next, filled-next, replaced, told-next}
+use Rattle.node_transfer.proofs.OfMail.Exchanges.{emptied-next, filled-next, replaced, told-next}
 use Rattle.serial_loader.proofs.Mails.{hold-next, put-mail}
-use Rattle.node_transfer.proofs.Puts.{among-links, put-next}
-use Rattle.node_transfer.proofs.Parts.{IsMadeOf}
-use Rattle.node_transfer.proofs.ListPlaces.{not-before}
+use Rattle.node_transfer.proofs.OfMail.Puts.{among-links, put-next}
+use Rattle.node_transfer.proofs.OfMail.Parts.{IsMadeOf}
+use Rattle.node_transfer.proofs.OfMail.ListPlaces.{not-before}
 
 pub some_is : {X : Type 0} (P : X → Type 0) (o : Option X) (v : X) → IfSome o P → o ≡ Some v → P v
 some_is P o v h e = subst (λ o. IfSome o P) e h

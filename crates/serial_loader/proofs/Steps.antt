@@ -14,18 +14,18 @@ use Rattle.cell_stages.specs.Contents.{IsStep, away, cell_after}
 use Rattle.node_transfer.specs.Rest.{IsIdle, IsQuiet, NobodyComes, QuietNodesStayIdle, rested, rested_once}
 use Rattle.cell_stages.specs.declared.mail.Mail.{Mail}
 use Rattle.cell_stages.specs.declared.mail.Mail.TheVariants.{Room}
-use Rattle.node_transfer.proofs.Quiet.{quiet-rested, rested-suc}
+use Rattle.node_transfer.proofs.OfRest.Quiet.{quiet-rested, rested-suc}
 use Rattle.node_transfer.specs.Exchange.{ChangesOnly}
 use Rattle.serial_loader.specs.Exchange.{AllBringBatches, AllHoldBatches, AllTellRooms, AreLeft, MayWake}
 use Rattle.serial_loader.specs.Phases.{HasWoken, HoldsBatch, InGather, InTransfer, IsAfter, IsBefore, TellsRoom}
 use Rattle.serial_loader.specs.declared.clock.Clock.{Clock}
 use Rattle.serial_loader.proofs.Clocks.{stands-now}
-use Rattle.node_transfer.proofs.Finished.{from-below, to-below}
+use Rattle.node_transfer.proofs.OfMail.Finished.{from-below, to-below}
 use Rattle.serial_loader.proofs.Mails.{brings-it}
-use Rattle.node_transfer.proofs.Parts.{ins-member, outs-member}
+use Rattle.node_transfer.proofs.OfMail.Parts.{ins-member, outs-member}
 use Rattle.serial_loader.proofs.Passed.{some_is}
 use Rattle.node_transfer.specs.Exchange.{is_among}
-use Rattle.node_transfer.proofs.Sets.{count-set, set-got, set-other}
+use Rattle.node_transfer.proofs.OfMail.Sets.{count-set, set-got, set-other}
 
 abbrev Tells : ℕ → ℕ → Type 0
 Tells k n = ((eqb k n ≡ true) × (k ≡ n)) ⊎ ((eqb k n ≡ false) × (k ≢ n))

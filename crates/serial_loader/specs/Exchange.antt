@@ -2,7 +2,8 @@
 use Rattle.std.specs.Prelude.{◌≡◌, ◌⊎◌, ℕ, suc, ◌≤◌, ◌≢◌, Bool, true, cond, nat_lt, List, [], None}
 use Rattle.std.specs.Prelude.{Option, Some, length, min, slice_get, slice_set}
 use Rattle.dta_model.specs.declared.plan.Plan.{Plan}
-use Rattle.node_transfer.specs.Cells.{changed_at, mail_line}
+use Rattle.node_transfer.specs.Places.{changed_at}
+use Rattle.node_transfer.specs.Gathered.{mail_line}
 use Rattle.cell_stages.specs.Contents.{batch_of}
 use Rattle.node_transfer.specs.Exchange.{is_among}
 use Rattle.cell_stages.specs.declared.mail.Mail.{Mail}

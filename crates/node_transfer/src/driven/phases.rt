@@ -1,7 +1,7 @@
 // The two phases of a step.
 ghost use Rattle.dta_model.specs.Lent.{plan_of};
 ghost use Rattle.dta_model.specs.Sound.{IsSound};
-ghost use Rattle.node_transfer.specs.Driven.{batches, cells_after, cells_before, rooms};
+ghost use Rattle.node_transfer.specs.Inside.Driven.{batches, cells_after, cells_before, rooms};
 ghost use Rattle.std.specs.Prelude.{◌≡◌, ◌<◌, suc};
 
 use crate::exchange::{gather_unit, transfer_unit};

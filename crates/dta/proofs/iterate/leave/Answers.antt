@@ -5,6 +5,6 @@ pub gap_and_next_routes-requires-clause-walks : goal.gap_and_next_routes-require
 gap_and_next_routes-requires-clause-walks g c =
     walks-of c.args.job.now c.job.inside.net c.deref.result.now c.args.routes.now (rw c.deref.ensures.value c.job.view_is) c.requires.routes
 
-pub returns-in-Ok-clause-routes : goal.returns-in-Ok-clause-routes
-returns-in-Ok-clause-routes g c =
-    routes-of c.args.job.now c.job.inside.net c.deref.result.now c.in-Ok.both.1 (rw c.deref.ensures.value c.job.view_is) c.in-Ok.ensures.next.as_many c.in-Ok.ensures.walks
+pub returns-clause-routes : goal.returns-clause-routes
+returns-clause-routes g c =
+    routes-of c.args.job.now c.job.inside.net c.deref.result.now c.in_ok-both.both.1 (rw c.deref.ensures.value c.job.view_is) c.in_ok-both.ensures.next.as_many c.in_ok-both.ensures.walks

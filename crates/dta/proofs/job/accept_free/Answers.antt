@@ -1,5 +1,6 @@
 use Rattle.std.proofs.Common.{inr}
 use Rattle.std.proofs.lemmas.List.Elements.{All-nil}
+use Rattle.std.proofs.lemmas.Result.{err_from_is_err_and}
 use Rattle.net_core.specs.Rows.{IsTurning}
 use Rattle.gmns_tables.proofs.NetFacts.{no-turns}
 use Rattle.dta.proofs.JobFacts.{free-counted, free-job}
@@ -14,10 +15,26 @@ join_net-requires g c = record {
   turning = All-nil (IsTurning c.in_ok-roads.roads.links);
 }
 
-pub returns-in-Ok-clause-job : goal.returns-in-Ok-clause-job
-returns-in-Ok-clause-job g c =
-    rw (c.in-Ok.ensures, c.new.ensures.items) (free-job c.args.settings.now c.requires.command c.in_ok-roads.roads.nodes c.in_ok-roads.roads.links _ _ c.in_ok-roads.ensures.roads)
+pub returns-in_err-net-clause-reads : goal.returns-in_err-net-clause-reads
+returns-in_err-net-clause-reads g c =
+    let p = err_from_is_err_and c.from_residual-in_err-net.result c.from_residual-in_err-net.ensures.1 in
+    let r = c.in_ok-roads.ensures.reads in
+    rw (p.1, p.2) (record {
+      done = tt;
+      stops = inr (inr (free-counted c.args.settings.now c.requires.command c.in_ok-roads.roads.nodes c.in_ok-roads.roads.links _ _ r.done));
+      later = r.later;
+      taken = r.taken;
+      puts = r.puts;
+    })
 
-pub returns-in-Err-clause-stops : goal.returns-in-Err-clause-stops
-returns-in-Err-clause-stops g c =
-    inr (inr (free-counted c.args.settings.now c.requires.command c.in_ok-roads.roads.nodes c.in_ok-roads.roads.links _ _ c.in_ok-roads.ensures.roads))
+pub returns-clause-reads : goal.returns-clause-reads
+returns-clause-reads g c =
+    let r = c.in_ok-roads.ensures.reads in
+    record {
+      done = rw (c.in_ok-net.ensures, c.new-trips.ensures.items)
+          (free-job c.args.settings.now c.requires.command c.in_ok-roads.roads.nodes c.in_ok-roads.roads.links _ _ r.done);
+      stops = tt;
+      later = r.later;
+      taken = r.taken;
+      puts = r.puts;
+    }

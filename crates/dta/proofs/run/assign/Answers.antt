@@ -1,12 +1,29 @@
+use Rattle.std.proofs.Common.{◌≡◌, ◌∙◌, arith}
+use Rattle.dta.specs.declared.status.Status.TheVariants as status
+use Rattle.dta.proofs.ChainFacts.{rose-earlier}
 use Rattle.dta.proofs.RunFacts.{assigned-cut, assigned-done}
 use Rattle.dta.proofs.run.assign.Goals as goal
 
-pub returns-in-Ok-put_assigned-clause-work : goal.returns-in-Ok-put_assigned-clause-work
-returns-in-Ok-put_assigned-clause-work g c =
-    let a = c.in-Ok.assigned in
-    assigned-done c.args.settings.now c.args.job.now c.requires.command a.routes a.loaded a.times a.end a.lines.items a.line _ _ c.in-Ok.ensures.done _ c.in-Ok-put_assigned.ensures.whole
+pub returns-in-Ok-put_assigned : goal.returns-in-Ok-put_assigned
+returns-in-Ok-put_assigned g c =
+    let i = c.in-Ok.ensures in
+    let o = c.in-Ok-put_assigned.ensures in
+    record {
+      work = assigned-done c.args.settings.now c.args.job.now c.requires.command c.in-Ok.assigned _ _ i.done _ o.whole;
+      failed = λ (k : status.Done ≡ status.WriteFault). absurd cc;
+      later = (let a = i.later in let b = o.cause.later in omega (arith, a, b));
+      left = o.left ∙ i.left;
+      reads = o.reads ∙ i.reads;
+    }
 
-pub returns-in-Ok-clause-work : goal.returns-in-Ok-clause-work
-returns-in-Ok-clause-work g c =
-    let a = c.in-Ok.assigned in
-    assigned-cut c.args.settings.now c.args.job.now c.requires.command a.routes a.loaded a.times a.end a.lines.items a.line _ _ c.in-Ok.ensures.done _ c.in-Err.ensures.cut
+pub returns-in-Ok : goal.returns-in-Ok
+returns-in-Ok g c =
+    let i = c.in-Ok.ensures in
+    let o = c.in-Err.ensures in
+    record {
+      work = assigned-cut c.args.settings.now c.args.job.now c.requires.command c.in-Ok.assigned _ _ i.done _ o.refused;
+      failed = λ _. rose-earlier _ _ _ i.later o.cause.failed;
+      later = (let a = i.later in let b = o.cause.later in omega (arith, a, b));
+      left = o.left ∙ i.left;
+      reads = o.reads ∙ i.reads;
+    }

@@ -1,7 +1,40 @@
-use Rattle.dta.proofs.TableFacts.{cells-stop}
+use Rattle.std.proofs.lemmas.Result.{err_from_is_err_and}
+use Rattle.dta.proofs.TableFacts.{cells-accepted, cells-stop}
 use Rattle.dta.proofs.tables.accept_cells.Goals as goal
 
-pub returns-clause-stops : goal.returns-clause-stops
-returns-clause-stops g c = λ units rows.
-    rw (c.at.ensures) (cells-stop units rows c.in_ok-bytes.bytes.items c.deref.result.now _ _ c.in-Err.why
-    c.in_ok-bytes.ensures.whole c.in_ok-bytes.ensures.short c.deref.ensures.value c.in-Err.ensures.refused)
+pub returns-in_err-bytes-clause-reads : goal.returns-in_err-bytes-clause-reads
+returns-in_err-bytes-clause-reads g c = λ units rows.
+    let p = err_from_is_err_and c.from_residual.result c.from_residual.ensures.1 in
+    let r = c.in_err-bytes.ensures.reads units rows in
+    rw (p.1, p.2) (record {
+      done = tt;
+      stops = r.stops;
+      later = r.later;
+      taken = r.taken;
+      puts = r.puts;
+    })
+
+pub returns-in_err-read_demand-clause-reads : goal.returns-in_err-read_demand-clause-reads
+returns-in_err-read_demand-clause-reads g c = λ units rows.
+    let p = err_from_is_err_and c.from_residual-in_err-read_demand.result c.from_residual-in_err-read_demand.ensures.1 in
+    let r = c.in_ok-bytes.ensures.reads units rows in
+    rw (p.1, p.2) (record {
+      done = tt;
+      stops = cells-stop units rows c.in_ok-bytes.bytes.items c.deref.result.now _ _ c.in_err-read_demand.field-0.0
+          r.done.read r.done.short c.deref.ensures.value c.in_err-read_demand.ensures.refused;
+      later = r.later;
+      taken = r.taken;
+      puts = r.puts;
+    })
+
+pub returns-clause-reads : goal.returns-clause-reads
+returns-clause-reads g c = λ units rows.
+    let r = c.in_ok-bytes.ensures.reads units rows in
+    record {
+      done = cells-accepted units rows c.in_ok-bytes.bytes.items c.deref.result.now c.in_ok-read_demand.field-0 _ _
+          r.done.read r.done.short c.deref.ensures.value c.in_ok-read_demand.ensures.cells;
+      stops = tt;
+      later = r.later;
+      taken = r.taken;
+      puts = r.puts;
+    }

@@ -1,6 +1,6 @@
 use Rattle.std.proofs.Common.{◌≡◌, min, take}
 use Rattle.std.specs.List.{sum_by}
-use Rattle.node_transfer.specs.Cells.{line_length}
+use Rattle.node_transfer.specs.Inside.Lengths.{line_length}
 use Rattle.node_transfer.specs.declared.counts.TheConstants.{MOST_COUNT}
 use Rattle.node_transfer.proofs.counts.count_running.Given as goal
 

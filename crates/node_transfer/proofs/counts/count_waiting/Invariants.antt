@@ -1,6 +1,6 @@
 use Rattle.std.proofs.Common.{◌≡◌, min, take}
 use Rattle.std.specs.List.{sum_by}
-use Rattle.node_transfer.specs.Cells.{waiting_length}
+use Rattle.node_transfer.specs.Inside.Lengths.{waiting_length}
 use Rattle.node_transfer.specs.declared.counts.TheConstants.{MOST_COUNT}
 use Rattle.node_transfer.proofs.counts.count_waiting.Given as goal
 

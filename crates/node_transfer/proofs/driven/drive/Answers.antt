@@ -7,10 +7,10 @@ use Rattle.dta_model.specs.Plans.{vehicle_count}
 use Rattle.cell_stages.specs.Contents.{away, cell_before}
 use Rattle.node_transfer.specs.Hand.{Within, handed, riders_in}
 use Rattle.node_transfer.specs.Start.{no_journey}
-use Rattle.node_transfer.proofs.HandOver.{cells_hand_over}
-use Rattle.node_transfer.specs.Driven.{cells_before}
-use Rattle.node_transfer.proofs.Handed.{all-within, given-back}
-use Rattle.node_transfer.proofs.Numbers.{cell-count}
+use Rattle.node_transfer.proofs.OfHandOver.HandOver.{cells_hand_over}
+use Rattle.node_transfer.specs.Inside.Driven.{cells_before}
+use Rattle.node_transfer.proofs.OfHandOver.Handed.{all-within, given-back}
+use Rattle.node_transfer.proofs.OfMail.Numbers.{cell-count}
 use Rattle.node_transfer.proofs.driven.drive.Goals as goal
 
 pub hand_over_all-requires : goal.hand_over_all-requires

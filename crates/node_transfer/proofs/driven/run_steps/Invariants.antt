@@ -1,6 +1,6 @@
 use Rattle.std.proofs.Common.{◌≡◌}
 use Rattle.dta_model.specs.Lent.{plan_of}
-use Rattle.node_transfer.specs.Driven.{cells_before, rooms}
+use Rattle.node_transfer.specs.Inside.Driven.{cells_before, rooms}
 use Rattle.node_transfer.proofs.driven.run_steps.Given as goal
 
 abbrev pub invariant-loop-step : goal.invariant-loop-step

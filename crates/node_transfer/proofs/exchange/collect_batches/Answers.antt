@@ -1,7 +1,7 @@
 use Rattle.dta_model.specs.Lent.{plan_of}
 use Rattle.cell_stages.specs.Contents.{away, batch_of}
-use Rattle.node_transfer.proofs.Lending.{all-changed-by, all-collected, is-collected, is-told, link_of, mail-inside, out-there}
-use Rattle.node_transfer.proofs.Parts.{outs-after}
+use Rattle.node_transfer.proofs.OfMail.Lending.{all-changed-by, all-collected, is-collected, is-told, link_of, mail-inside, out-there}
+use Rattle.node_transfer.proofs.OfMail.Parts.{outs-after}
 use Rattle.node_transfer.proofs.exchange.collect_batches.Goals as goal
 
 pub bounds-mail-outs : goal.bounds-mail-outs

@@ -3,7 +3,7 @@ use Rattle.dta_model.specs.Lent.{plan_of}
 use Rattle.dta_model.specs.Plans.{outs}
 use Rattle.cell_stages.specs.Contents.{away, batch_of, cell_after}
 use Rattle.node_transfer.specs.Exchange.{ArePut}
-use Rattle.node_transfer.proofs.Exchanges.{replaced}
+use Rattle.node_transfer.proofs.OfMail.Exchanges.{replaced}
 use Rattle.node_transfer.proofs.exchange.collect_batches.Given as goal
 
 abbrev pub invariant-loop-place : goal.invariant-loop-place

@@ -1,8 +1,8 @@
 use Rattle.std.proofs.Common.{suc}
 use Rattle.dta_model.specs.Lent.{plan_of}
 use Rattle.cell_stages.specs.Contents.{away, room_of}
-use Rattle.node_transfer.proofs.Lending.{all-changed-by, all-collected, is-collected, is-told, link_of, mail-inside, in-there}
-use Rattle.node_transfer.proofs.Parts.{ins-before}
+use Rattle.node_transfer.proofs.OfMail.Lending.{all-changed-by, all-collected, is-collected, is-told, link_of, mail-inside, in-there}
+use Rattle.node_transfer.proofs.OfMail.Parts.{ins-before}
 use Rattle.node_transfer.proofs.exchange.collect_rooms.Goals as goal
 
 pub bounds-mail-ins : goal.bounds-mail-ins

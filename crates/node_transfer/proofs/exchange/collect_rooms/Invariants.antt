@@ -3,7 +3,7 @@ use Rattle.dta_model.specs.Lent.{plan_of}
 use Rattle.dta_model.specs.Plans.{ins}
 use Rattle.cell_stages.specs.Contents.{away, cell_before, room_of}
 use Rattle.node_transfer.specs.Exchange.{ArePut}
-use Rattle.node_transfer.proofs.Exchanges.{replaced}
+use Rattle.node_transfer.proofs.OfMail.Exchanges.{replaced}
 use Rattle.node_transfer.proofs.exchange.collect_rooms.Given as goal
 
 abbrev pub invariant-loop-place : goal.invariant-loop-place

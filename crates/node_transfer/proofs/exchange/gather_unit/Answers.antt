@@ -2,7 +2,7 @@ use Rattle.std.proofs.Common.{suc}
 use Rattle.dta_model.specs.Lent.{plan_of}
 use Rattle.dta_model.specs.Plans.{ins}
 use Rattle.cell_stages.specs.Contents.{away, room_of}
-use Rattle.node_transfer.proofs.Puts.{put-again}
+use Rattle.node_transfer.proofs.OfMail.Puts.{put-again}
 use Rattle.node_transfer.proofs.exchange.gather_unit.Goals as goal
 
 pub returns-clause-rooms : goal.returns-clause-rooms

@@ -1,8 +1,8 @@
 use Rattle.dta_model.specs.Lent.{plan_of}
 use Rattle.cell_stages.specs.Contents.{away, batch_of}
 use Rattle.cell_stages.specs.declared.mail.Mail.TheVariants.{Away}
-use Rattle.node_transfer.proofs.Lending.{all-lent, is-away, is-lent, mail-inside, in-there}
-use Rattle.node_transfer.proofs.Parts.{ins-after}
+use Rattle.node_transfer.proofs.OfMail.Lending.{all-lent, is-away, is-lent, mail-inside, in-there}
+use Rattle.node_transfer.proofs.OfMail.Parts.{ins-after}
 use Rattle.node_transfer.proofs.exchange.lend_batches.Goals as goal
 
 pub bounds-mail-ins : goal.bounds-mail-ins

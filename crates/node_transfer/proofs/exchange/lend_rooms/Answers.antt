@@ -1,8 +1,8 @@
 use Rattle.dta_model.specs.Lent.{plan_of}
 use Rattle.cell_stages.specs.Contents.{away, room_of}
 use Rattle.cell_stages.specs.declared.mail.Mail.TheVariants.{Away}
-use Rattle.node_transfer.proofs.Lending.{all-lent, is-away, is-lent, mail-inside, out-there}
-use Rattle.node_transfer.proofs.Parts.{outs-before}
+use Rattle.node_transfer.proofs.OfMail.Lending.{all-lent, is-away, is-lent, mail-inside, out-there}
+use Rattle.node_transfer.proofs.OfMail.Parts.{outs-before}
 use Rattle.node_transfer.proofs.exchange.lend_rooms.Goals as goal
 
 pub bounds-mail-outs : goal.bounds-mail-outs

@@ -1,7 +1,7 @@
 use Rattle.dta_model.specs.Lent.{plan_of}
 use Rattle.dta_model.specs.Plans.{outs}
 use Rattle.cell_stages.specs.Contents.{away, batch_of}
-use Rattle.node_transfer.proofs.Puts.{put-again}
+use Rattle.node_transfer.proofs.OfMail.Puts.{put-again}
 use Rattle.node_transfer.proofs.exchange.transfer_unit.Goals as goal
 
 pub returns-clause-batches : goal.returns-clause-batches

@@ -2,7 +2,7 @@ use Rattle.std.specs.List.{flat_map}
 use Rattle.std.proofs.Common.{◌∙◌, ◌+◌, ◌<◌, ◌≤◌, arith, sym, subst, ap, length, drop}
 use Rattle.std.specs.Prelude.{All, slice_index_or, slice_set}
 use Rattle.node_transfer.specs.Hand.{Within, handed, line_of}
-use Rattle.node_transfer.proofs.Hands.{all_split, flat_end, flat_next, handed-append}
+use Rattle.node_transfer.proofs.OfHandOver.Hands.{all_split, flat_end, flat_next, handed-append}
 use Rattle.node_transfer.proofs.hand_over.hand_ins.Goals as goal
 
 pub hand_link-requires : goal.hand_link-requires

@@ -1,7 +1,7 @@
 use Rattle.std.proofs.Common.{◌∙◌, sym, subst, ap, length}
 use Rattle.std.specs.Prelude.{All}
 use Rattle.node_transfer.specs.Hand.{Within, handed}
-use Rattle.node_transfer.proofs.Hands.{all_split, handed-append}
+use Rattle.node_transfer.proofs.OfHandOver.Hands.{all_split, handed-append}
 use Rattle.node_transfer.proofs.hand_over.hand_out.Goals as goal
 
 pub hand_line-requires : goal.hand_line-requires

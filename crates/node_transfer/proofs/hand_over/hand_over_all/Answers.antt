@@ -3,7 +3,7 @@ use Rattle.std.specs.List.{flat_map}
 use Rattle.std.specs.Prelude.{All}
 use Rattle.std.specs.Vec.Iter.{into_iter_items}
 use Rattle.node_transfer.specs.Hand.{Within, handed, riders_in}
-use Rattle.node_transfer.proofs.Handed.{first-within, none-handed, nothing-left, rest-handed, rest-within}
+use Rattle.node_transfer.proofs.OfHandOver.Handed.{first-within, none-handed, nothing-left, rest-handed, rest-within}
 use Rattle.node_transfer.proofs.hand_over.hand_over_all.Goals as goal
 
 pub loop-cell-init : goal.loop-cell-init

@@ -2,7 +2,7 @@ use Rattle.std.specs.List.{flat_map}
 use Rattle.std.proofs.Common.{◌∙◌, ◌++◌, sym, subst, ap, length}
 use Rattle.std.specs.Prelude.{All}
 use Rattle.node_transfer.specs.Hand.{Within, handed, line_of, waiting_of}
-use Rattle.node_transfer.proofs.Hands.{all_split, handed-append}
+use Rattle.node_transfer.proofs.OfHandOver.Hands.{all_split, handed-append}
 use Rattle.node_transfer.proofs.hand_over.hand_parts.Goals as goal
 
 pub hand_ins-requires : goal.hand_ins-requires

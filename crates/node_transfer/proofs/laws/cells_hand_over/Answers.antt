@@ -1,4 +1,4 @@
-use Rattle.node_transfer.proofs.HandOver.{cells_hand_over}
+use Rattle.node_transfer.proofs.OfHandOver.HandOver.{cells_hand_over}
 use Rattle.node_transfer.proofs.laws.cells_hand_over.Goals as goal
 
 pub returns : goal.returns

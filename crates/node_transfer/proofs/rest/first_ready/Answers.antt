@@ -3,7 +3,7 @@ use Rattle.std.proofs.lemmas.List.{take_all}
 use Rattle.std.specs.Prelude.{All}
 use Rattle.node_transfer.specs.Rest.{HeadIsLater}
 use Rattle.node_transfer.specs.declared.rest.TheConstants.{NO_STEP}
-use Rattle.node_transfer.proofs.Ready.{all_take, all_taken, least_next}
+use Rattle.node_transfer.proofs.OfRest.Ready.{all_take, all_taken, least_next}
 use Rattle.node_transfer.proofs.rest.first_ready.Goals as goal
 
 pub loop-link-preserved : goal.loop-link-preserved

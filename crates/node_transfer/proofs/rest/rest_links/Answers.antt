@@ -1,7 +1,7 @@
 use Rattle.std.proofs.Common.{◌∙◌, ap, arith, map, sym}
 use Rattle.cell_stages.specs.CellState.{CellState}
-use Rattle.node_transfer.specs.Skip.{skipped_out}
-use Rattle.node_transfer.proofs.Rested.{rested_more, rested_none}
+use Rattle.node_transfer.specs.Inside.Skip.{skipped_out}
+use Rattle.node_transfer.proofs.OfRest.Rested.{rested_more, rested_none}
 use Rattle.node_transfer.proofs.rest.rest_links.Goals as goal
 
 pub returns-then-steps-gt0 : goal.returns-then-steps-gt0

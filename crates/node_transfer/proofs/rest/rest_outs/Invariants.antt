@@ -1,6 +1,6 @@
 use Rattle.std.proofs.Common.{◌≡◌, map}
-use Rattle.node_transfer.specs.Skip.{skipped_out}
-use Rattle.node_transfer.proofs.Maps.{mapped_from}
+use Rattle.node_transfer.specs.Inside.Skip.{skipped_out}
+use Rattle.node_transfer.proofs.OfStep.Maps.{mapped_from}
 use Rattle.node_transfer.proofs.rest.rest_outs.Given as goal
 
 abbrev pub invariant-loop-i : goal.invariant-loop-i

@@ -1,4 +1,4 @@
-use Rattle.node_transfer.proofs.NoNodes.{no_net}
+use Rattle.node_transfer.proofs.OfTests.NoNodes.{no_net}
 use Rattle.node_transfer.proofs.tests.no_net.Goals as goal
 
 pub of-requires : goal.of-requires

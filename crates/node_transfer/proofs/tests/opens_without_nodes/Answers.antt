@@ -1,4 +1,4 @@
-use Rattle.node_transfer.proofs.NoNodes.{no_loading}
+use Rattle.node_transfer.proofs.OfTests.NoNodes.{no_loading}
 use Rattle.node_transfer.proofs.tests.opens_without_nodes.Goals as goal
 
 pub opening-start-requires : goal.opening-start-requires

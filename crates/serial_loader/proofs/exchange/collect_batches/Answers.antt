@@ -2,13 +2,13 @@ use Rattle.std.proofs.Common.{◌≡◌, length, ap, sym, subst, arith}
 use Rattle.std.specs.Prelude.{IfSome}
 use Rattle.dta_model.specs.Lent.{plan_of}
 use Rattle.dta_model.specs.Plans.{outs, link_at}
-use Rattle.node_transfer.specs.Cells.{out_mail, with_out_mail}
+use Rattle.node_transfer.specs.Places.{out_mail, with_out_mail}
 use Rattle.cell_stages.specs.Contents.{away, batch_of, cell_after}
-use Rattle.node_transfer.proofs.Finished.{to-below}
-use Rattle.node_transfer.proofs.Lending.{all-collected, at-place, is-told, link_of, mail-inside, out-there, past}
-use Rattle.node_transfer.proofs.Parts.{outs-after, outs-inside}
-use Rattle.node_transfer.proofs.Puts.{all-changed, none-changed}
-use Rattle.node_transfer.proofs.Starts.{got_link}
+use Rattle.node_transfer.proofs.OfMail.Finished.{to-below}
+use Rattle.node_transfer.proofs.OfMail.Lending.{all-collected, at-place, is-told, link_of, mail-inside, out-there, past}
+use Rattle.node_transfer.proofs.OfMail.Parts.{outs-after, outs-inside}
+use Rattle.node_transfer.proofs.OfMail.Puts.{all-changed, none-changed}
+use Rattle.node_transfer.proofs.OfStart.Starts.{got_link}
 use Rattle.serial_loader.specs.Exchange.{wake_by}
 use Rattle.serial_loader.proofs.Clocks.{none-woken}
 use Rattle.serial_loader.proofs.Mails.{all-held, no-batches}

@@ -1,11 +1,11 @@
 use Rattle.dta_model.specs.Lent.{plan_of}
 use Rattle.dta_model.specs.Plans.{ins, link_at}
-use Rattle.node_transfer.specs.Cells.{in_mail, with_in_mail}
+use Rattle.node_transfer.specs.Places.{in_mail, with_in_mail}
 use Rattle.cell_stages.specs.Contents.{away, batch_of, cell_after}
 use Rattle.cell_stages.specs.declared.mail.Mail.TheVariants.{Away}
-use Rattle.node_transfer.proofs.Lending.{all-changed-by, all-lent, at-place, in-there, is-away, link_of, mail-inside}
-use Rattle.node_transfer.proofs.Parts.{ins-after}
-use Rattle.node_transfer.proofs.Puts.{none-put}
+use Rattle.node_transfer.proofs.OfMail.Lending.{all-changed-by, all-lent, at-place, in-there, is-away, link_of, mail-inside}
+use Rattle.node_transfer.proofs.OfMail.Parts.{ins-after}
+use Rattle.node_transfer.proofs.OfMail.Puts.{none-put}
 use Rattle.serial_loader.proofs.Passed.{completed}
 use Rattle.serial_loader.proofs.exchange.lend_batches.Goals as goal
 

@@ -3,13 +3,13 @@ use Rattle.std.specs.Prelude.{slice_get}
 use Rattle.std.proofs.lemmas.Option.{slice_get_read}
 use Rattle.dta_model.specs.Lent.{plan_of}
 use Rattle.dta_model.specs.Plans.{outs, link_at}
-use Rattle.node_transfer.specs.Cells.{out_mail, with_out_mail}
+use Rattle.node_transfer.specs.Places.{out_mail, with_out_mail}
 use Rattle.cell_stages.specs.Contents.{away, cell_before, room_of}
 use Rattle.cell_stages.specs.declared.mail.Mail.TheVariants.{Away, Room}
-use Rattle.node_transfer.proofs.Exchanges.{filled-next}
-use Rattle.node_transfer.proofs.Lending.{all-lent, at-place, is-away, link_of, out-there}
-use Rattle.node_transfer.proofs.Parts.{outs-before, outs-inside}
-use Rattle.node_transfer.proofs.Puts.{among-links}
+use Rattle.node_transfer.proofs.OfMail.Exchanges.{filled-next}
+use Rattle.node_transfer.proofs.OfMail.Lending.{all-lent, at-place, is-away, link_of, out-there}
+use Rattle.node_transfer.proofs.OfMail.Parts.{outs-before, outs-inside}
+use Rattle.node_transfer.proofs.OfMail.Puts.{among-links}
 use Rattle.serial_loader.proofs.Mails.{tells-it}
 use Rattle.serial_loader.proofs.exchange.lend_rooms.Goals as goal
 

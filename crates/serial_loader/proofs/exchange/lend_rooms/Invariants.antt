@@ -2,7 +2,7 @@ use Rattle.std.proofs.Common.{◌≡◌, take}
 use Rattle.dta_model.specs.Lent.{plan_of}
 use Rattle.dta_model.specs.Plans.{outs}
 use Rattle.cell_stages.specs.Contents.{away, cell_before, room_of}
-use Rattle.node_transfer.proofs.Exchanges.{replaced}
+use Rattle.node_transfer.proofs.OfMail.Exchanges.{replaced}
 use Rattle.serial_loader.proofs.exchange.lend_rooms.Given as goal
 
 abbrev pub invariant-loop-place : goal.invariant-loop-place

@@ -2,7 +2,7 @@ use Rattle.std.proofs.Common.{◌+◌, suc, add-one}
 use Rattle.dta_model.specs.Lent.{plan_of}
 use Rattle.dta_model.specs.Plans.{ins}
 use Rattle.cell_stages.specs.Contents.{away, cell_before}
-use Rattle.node_transfer.proofs.Puts.{changed-again}
+use Rattle.node_transfer.proofs.OfMail.Puts.{changed-again}
 use Rattle.serial_loader.proofs.Clocks.{stands-now}
 use Rattle.serial_loader.proofs.Mails.{tell-rooms}
 use Rattle.serial_loader.proofs.node.gather_node.Goals as goal

@@ -3,7 +3,7 @@ use Rattle.std.proofs.lemmas.Option.{slice_get-get_or}
 use Rattle.dta_model.specs.Lent.{plan_of}
 use Rattle.cell_stages.specs.CellState.{CellState}
 use Rattle.cell_stages.specs.Contents.{IsStep}
-use Rattle.node_transfer.proofs.Idle.{quiet_nodes_stay_idle}
+use Rattle.node_transfer.proofs.OfRest.Idle.{quiet_nodes_stay_idle}
 use Rattle.serial_loader.specs.declared.clock.Clock.{Clock}
 use Rattle.serial_loader.proofs.Steps.{finds-rooms, transfer-moves, transfer-rests, transfers-end}
 use Rattle.serial_loader.proofs.phases.transfer_all.Goals as goal

@@ -7,14 +7,14 @@ use Rattle.dta_model.specs.Plans.{vehicle_count}
 use Rattle.cell_stages.specs.Contents.{away, cell_before}
 use Rattle.node_transfer.specs.Hand.{Within, handed, riders_in}
 use Rattle.node_transfer.specs.Start.{no_journey}
-use Rattle.node_transfer.proofs.HandOver.{cells_hand_over}
+use Rattle.node_transfer.proofs.OfHandOver.HandOver.{cells_hand_over}
 use Rattle.dta_model.proofs.Ends.{journeys_end_in_order}
 use Rattle.dta_model.proofs.InTurn.{left_in_order}
 use Rattle.dta_model.proofs.Onward.{vehicles_are_conserved}
 use Rattle.dta_model.specs.Laws.{EndInOrder}
 use Rattle.serial_loader.specs.Phases.{cells_before}
-use Rattle.node_transfer.proofs.Handed.{all-within, given-back}
-use Rattle.node_transfer.proofs.Numbers.{cell-count}
+use Rattle.node_transfer.proofs.OfHandOver.Handed.{all-within, given-back}
+use Rattle.node_transfer.proofs.OfMail.Numbers.{cell-count}
 use Rattle.serial_loader.proofs.Ends.{starts-before}
 use Rattle.serial_loader.proofs.plain.load_plain.Goals as goal
 

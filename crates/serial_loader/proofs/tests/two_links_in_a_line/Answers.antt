@@ -3,7 +3,7 @@ use Rattle.net_core.specs.Network.{is_named, turn, turn_at}
 use Rattle.net_core.specs.Rows.{link_in}
 use Rattle.dta_model.specs.Walks.{begins_in, ends_in}
 use Rattle.net_core.proofs.Checked.{net-checked}
-use Rattle.node_transfer.proofs.Cases.{sound-checked}
+use Rattle.node_transfer.proofs.OfTests.Cases.{sound-checked}
 use Rattle.serial_loader.proofs.tests.two_links_in_a_line.Goals as goal
 
 pub shows-requires : goal.shows-requires

@@ -1,18 +1,28 @@
-use Rattle.std.proofs.Common.{◌∙◌, ap, subst, sym, arith}
+use Rattle.std.proofs.Common.{◌≡◌, ◌∙◌, ap, subst, sym, arith}
 use Rattle.std.specs.Prelude.{All}
-use Rattle.node_transfer.specs.Cells.{CanGather, gathered}
-use Rattle.node_transfer.proofs.Gather.{can-gather, gather-stage}
+use Rattle.std.proofs.lemmas.List.{with_items_is}
+use Rattle.cell_stages.specs.CellState.{CellState}
+use Rattle.node_transfer.specs.Gathered.{gathered}
+use Rattle.node_transfer.specs.Inside.Cells.{CanGather}
+use Rattle.node_transfer.proofs.OfStep.Gather.{can-gather, gather-stage}
 use Rattle.node_transfer.proofs.cell.NodeCell.gather.Goals as goal
 
-pub join_batches-requires-clause-step : goal.join_batches-requires-clause-step
-join_batches-requires-clause-step c =
+pub gather_links-requires-clause-step : goal.gather_links-requires-clause-step
+gather_links-requires-clause-step c =
     let s = c.requires.2 in
     let step = s.step in let ends = s.sound.horizon_most in omega (arith, step, ends)
 
-pub join_batches-requires-clause-can : goal.join_batches-requires-clause-can
-join_batches-requires-clause-can c =
+pub gather_links-requires-clause-can : goal.gather_links-requires-clause-can
+gather_links-requires-clause-can c =
     let r = c.requires in
-    subst (λ x. All (CanGather c.args.step) x.ins) (sym r.3) (can-gather r.0 r.1 c.args.step r.2.sound r.2.node)
+    rw (c.deref_mut-2.ensures.value, c.deref_mut.ensures.value)
+    (subst (λ x. All (CanGather c.args.step) x.ins) (sym (c.self.view_is ∙ r.3)) (can-gather r.0 r.1 c.args.step r.2.sound r.2.node))
 
 pub returns : goal.returns
-returns c p n s e = c.join_batches.ensures ∙ ap (λ x. gathered c.args.step x) e ∙ gather-stage p n c.args.step s.sound s.node
+returns c p n s e =
+    let was : CellState = record { ins = c.deref_mut-2.result.now; outs = c.deref_mut.result.now.outs.items; arrived = c.deref_mut.result.now.arrived; delta = c.deref_mut.result.now.delta } in
+    let same : was ≡ c.args.self.now = rw (c.deref_mut-2.ensures.value, c.deref_mut.ensures.value) c.self.view_is in
+    let ins = with_items_is c.deref_mut.result.now.ins c.gather_links.new.ins (c.gather_links.auto.ins ∙ c.deref_mut-2.ensures.len) in
+    rw ins
+    (ap (λ ls. record was { ins = ls }) c.gather_links.ensures
+    ∙ ap (λ x. gathered c.args.step x) (same ∙ e) ∙ gather-stage p n c.args.step s.sound s.node)

@@ -1,4 +1,4 @@
-use Rattle.node_transfer.proofs.Totals.{line-count}
+use Rattle.node_transfer.proofs.OfStep.Totals.{line-count}
 use Rattle.node_transfer.proofs.cell.NodeCell.on_link.Goals as goal
 
 pub returns-clause-count : goal.returns-clause-count

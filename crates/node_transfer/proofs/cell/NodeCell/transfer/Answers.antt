@@ -1,14 +1,23 @@
-use Rattle.std.proofs.Common.{◌∙◌, ap, subst, sym}
-use Rattle.node_transfer.specs.Cells.{CanTransfer, transferred}
+use Rattle.std.proofs.Common.{◌≡◌, ◌∙◌, ap, subst, sym}
+use Rattle.std.proofs.lemmas.List.{with_items_is}
+use Rattle.cell_stages.specs.CellState.{CellState}
 use Rattle.cell_stages.specs.Contents.{away, room_of}
-use Rattle.node_transfer.proofs.Totals.{can-transfer}
-use Rattle.node_transfer.proofs.Transfer.{transfer-stage}
+use Rattle.node_transfer.specs.Inside.Cells.{CanTransfer, transferred}
+use Rattle.node_transfer.proofs.OfStep.Totals.{can-transfer}
+use Rattle.node_transfer.proofs.OfStep.Transfer.{transfer-stage}
 use Rattle.node_transfer.proofs.cell.NodeCell.transfer.Goals as goal
 
-pub pass_vehicles-requires : goal.pass_vehicles-requires
-pass_vehicles-requires c =
+pub transfer_links-requires-clause-can : goal.transfer_links-requires-clause-can
+transfer_links-requires-clause-can c =
     let r = c.requires in
-    subst CanTransfer (sym r.3) (can-transfer r.0 r.1 c.args.step r.2.sound r.2.node away (room_of r.0 c.args.step))
+    rw (c.deref_mut.ensures.value, c.deref_mut-2.ensures.value, c.deref_mut-parts.ensures.value)
+    (subst CanTransfer (sym (c.self.view_is ∙ r.3)) (can-transfer r.0 r.1 c.args.step r.2.sound r.2.node away (room_of r.0 c.args.step)))
 
 pub returns : goal.returns
-returns c p n s e = c.pass_vehicles.ensures ∙ ap (λ x. transferred c.args.step x) e ∙ transfer-stage p s.sound n c.args.step
+returns c p n s e =
+    let was : CellState = record { ins = c.deref_mut.result.now; outs = c.deref_mut-2.result.now; arrived = c.deref_mut-parts.result.now.arrived; delta = c.deref_mut-parts.result.now.delta } in
+    let same : was ≡ c.args.self.now = rw (c.deref_mut.ensures.value, c.deref_mut-2.ensures.value, c.deref_mut-parts.ensures.value) c.self.view_is in
+    let ins = with_items_is c.deref_mut-parts.result.now.ins c.transfer_links.new.ins (c.transfer_links.auto.ins ∙ c.deref_mut.ensures.len) in
+    let outs = with_items_is c.deref_mut-parts.result.now.outs c.transfer_links.new.outs (c.transfer_links.auto.outs ∙ c.deref_mut-2.ensures.len) in
+    rw (ins, outs)
+    (sym c.transfer_links.ensures ∙ ap (λ x. transferred c.args.step x) (same ∙ e) ∙ transfer-stage p s.sound n c.args.step)

@@ -3,10 +3,10 @@ use Rattle.std.specs.Prelude.{slice_set}
 use Rattle.dta_model.specs.Lent.{plan_of}
 use Rattle.dta_model.specs.Plans.{link_at}
 use Rattle.cell_stages.specs.Contents.{away, batch_of, cell_after, cell_before, room_of}
-use Rattle.node_transfer.specs.Driven.{cell_in_gather, mail_in_gather}
-use Rattle.node_transfer.proofs.Finished.{all-done, cell-of-it, cell-one-more, mail-more, mail-of-it, none-done, to-below}
-use Rattle.node_transfer.proofs.Numbers.{cell-count, mail-count}
-use Rattle.node_transfer.proofs.Parts.{ins-after}
+use Rattle.node_transfer.specs.Inside.Driven.{cell_in_gather, mail_in_gather}
+use Rattle.node_transfer.proofs.OfMail.Finished.{all-done, cell-of-it, cell-one-more, mail-more, mail-of-it, none-done, to-below}
+use Rattle.node_transfer.proofs.OfMail.Numbers.{cell-count, mail-count}
+use Rattle.node_transfer.proofs.OfMail.Parts.{ins-after}
 use Rattle.node_transfer.proofs.driven.phases.gather_all.Goals as goal
 
 pub loop-node-init : goal.loop-node-init

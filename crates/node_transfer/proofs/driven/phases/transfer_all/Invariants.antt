@@ -1,6 +1,6 @@
 use Rattle.std.proofs.Common.{◌≡◌}
 use Rattle.dta_model.specs.Lent.{plan_of}
-use Rattle.node_transfer.specs.Driven.{all_cells, all_mail, cell_in_transfer, mail_in_transfer}
+use Rattle.node_transfer.specs.Inside.Driven.{all_cells, all_mail, cell_in_transfer, mail_in_transfer}
 use Rattle.node_transfer.proofs.driven.phases.transfer_all.Given as goal
 
 abbrev pub invariant-loop-n : goal.invariant-loop-n

@@ -1,0 +1,3 @@
+-- How many vehicles cells have.
+pub mod Capped
+pub mod AddUp

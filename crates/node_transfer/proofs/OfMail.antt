@@ -1,0 +1,10 @@
+-- Mail in the places of cells, and in the list of all links.
+pub mod Numbers
+pub mod ListPlaces
+pub mod Sets
+pub mod Parts
+pub mod MailPlaces
+pub mod Puts
+pub mod Exchanges
+pub mod Lending
+pub mod Finished

@@ -1,0 +1,96 @@
+-- The mail of a node's links, put one link after another.
+use Rattle.std.specs.Prelude.{cond, nat_eq, slice_get, slice_set, ◌≢◌}
+use Rattle.std.proofs.Common.{◌≡◌, ℕ, zero, suc, ◌+◌, ◌<◌, ◌≤◌, Bool, true, false, ◌||◌, List, [], ◌∷◌, length, map, refl, ap, sym, ◌∙◌, subst, arith, Some, take, add-one, ◌⊎◌, inl, inr}
+use Rattle.std.proofs.lemmas.Bool.{eq-eqb, ne_eqb}
+use Rattle.std.proofs.lemmas.Bool.Decides.{eqb_tells}
+use Rattle.std.proofs.lemmas.List.FromFn.{length-map-range_with_len}
+use Rattle.std.proofs.lemmas.Option.{slice_get_within}
+use Rattle.std.proofs.Math.Dec.{eqb}
+use Rattle.net_core.specs.Network.{numbers_below}
+use Rattle.node_transfer.specs.Exchange.{ArePut, ChangesOnly, is_among}
+use Rattle.cell_stages.specs.declared.mail.Mail.{Mail}
+use Rattle.node_transfer.proofs.OfMail.ListPlaces.{among-next, take-all}
+use Rattle.node_transfer.proofs.OfMail.Numbers.{found-below}
+use Rattle.node_transfer.proofs.OfMail.Sets.{count-set, same-elements, set-here, set-other}
+
+-- a link among those up to a place
+pub among-here : (links : List ℕ) (j b : ℕ) → slice_get links j ≡ Some b → is_among (take (suc j) links) b ≡ true
+among-here links j b e = among-next links j b b e ∙ ap (λ c. c || is_among (take j links) b) (eq-eqb b b refl)
+
+pub among-other : (links : List ℕ) (j b l : ℕ) → slice_get links j ≡ Some b → l ≢ b → is_among (take (suc j) links) l ≡ is_among (take j links) l
+among-other links j b l e ne = among-next links j b l e ∙ ap (λ c. c || is_among (take j links) l) (ne_eqb b l (λ q. ne (sym q)))
+
+clash : (c : Bool) → c ≡ true → c ≡ false → ⊥
+clash true y z = cc
+clash false y z = cc
+
+pub not-among : (links : List ℕ) (j b l : ℕ) → slice_get links j ≡ Some b → is_among (take (suc j) links) l ≡ false → l ≢ b
+not-among links j b l e not_in same = clash (is_among (take (suc j) links) l) (ap (λ k. is_among (take (suc j) links) k) same ∙ among-here links j b e) not_in
+
+pub among-links : (links : List ℕ) (j b : ℕ) → slice_get links j ≡ Some b → is_among links b ≡ true
+among-links [] j b e = cc
+among-links (x ∷ xs) zero b e = let same : x ≡ b = cc in ap (λ c. c || is_among xs b) (eq-eqb x b same)
+among-links (x ∷ xs) (suc j) b e = or_true (nat_eq x b) (is_among xs b) (among-links xs j b e)
+  where
+    or_true : (c d : Bool) → d ≡ true → (c || d) ≡ true
+    or_true true d h = refl
+    or_true false d h = h
+
+-- changes of mail
+pub none-changed : (links : List ℕ) (mail : List Mail) → ChangesOnly (take 0 links) mail mail
+none-changed links mail = record { count = refl; others = λ l not_in. refl }
+
+pub same-mail : (links : List ℕ) (j b : ℕ) (old mid : List Mail) → slice_get links j ≡ Some b → ChangesOnly (take j links) old mid → ChangesOnly (take (suc j) links) old mid
+same-mail links j b old mid e f = record { count = f.count; others = λ l not_in. f.others l (sym (among-other links j b l e (not-among links j b l e not_in)) ∙ not_in) }
+
+pub set-mail : (links : List ℕ) (j b : ℕ) (m : Mail) (old mid : List Mail) → slice_get links j ≡ Some b → ChangesOnly (take j links) old mid → ChangesOnly (take (suc j) links) old (slice_set mid b m)
+set-mail links j b m old mid e f = record {
+  count = count-set mid b m ∙ f.count;
+  others = λ l not_in. set-other mid b l m (not-among links j b l e not_in) ∙ f.others l (sym (among-other links j b l e (not-among links j b l e not_in)) ∙ not_in);
+}
+
+pub all-changed : (links : List ℕ) (j : ℕ) (old new : List Mail) → length links ≤ j → ChangesOnly (take j links) old new → ChangesOnly links old new
+all-changed links j old new over f = subst (λ xs. ChangesOnly xs old new) (take-all links j over) f
+
+pub changed-again : (links : List ℕ) (old mid new : List Mail) → ChangesOnly links old mid → ChangesOnly links mid new → ChangesOnly links old new
+changed-again links old mid new f g = record { count = g.count ∙ f.count; others = λ l not_in. g.others l not_in ∙ f.others l not_in }
+
+-- mail that is put by a rule
+module _ (rule : ℕ → Mail) (links : List ℕ) where
+  pub none-put : (mail : List Mail) → ArePut rule (take 0 links) mail mail
+  none-put mail = record { own = λ l is_in. cc; others = none-changed links mail }
+
+  pub put-next : (j b : ℕ) (m : Mail) (old mid : List Mail) → slice_get links j ≡ Some b → b < length mid → m ≡ rule b
+      → ArePut rule (take j links) old mid → ArePut rule (take (j + 1) links) old (slice_set mid b m)
+  put-next j b m old mid e inside is f =
+      rw add-one (record { own = λ l is_in. by_place l is_in (eqb_tells l b); others = set-mail links j b m old mid e f.others })
+    where
+      by_place : (l : ℕ) → is_among (take (suc j) links) l ≡ true → ((eqb l b ≡ true) × (l ≡ b)) ⊎ ((eqb l b ≡ false) × (l ≢ b)) → slice_get (slice_set mid b m) l ≡ Some (rule l)
+      by_place l is_in (inl (s, same)) = ap (λ k. slice_get (slice_set mid b m) k) same ∙ set-here mid b m inside ∙ ap (λ x. Some x) (is ∙ ap rule (sym same))
+      by_place l is_in (inr (s, other)) = set-other mid b l m other ∙ f.own l (sym (among-other links j b l e other) ∙ is_in)
+
+  pub all-put : (j : ℕ) (old new : List Mail) → length links ≤ j → ArePut rule (take j links) old new → ArePut rule links old new
+  all-put j old new over f = subst (λ xs. ArePut rule xs old new) (take-all links j over) f
+
+  pub put-again : (first : ℕ → Mail) (old mid new : List Mail) → ArePut first links old mid → ArePut rule links mid new → ArePut rule links old new
+  put-again first old mid new f g = record { own = g.own; others = changed-again links old mid new f.others g.others }
+
+  -- the mail of a whole table, by one rule and then by another
+  pub put-below : (before after : ℕ → Mail) (count : ℕ) (new : List Mail) → ArePut rule links (map before (numbers_below count)) new
+      → ((l : ℕ) → l < count → cond (is_among links l) (rule l) (before l) ≡ after l) → new ≡ map after (numbers_below count)
+  put-below before after count new f same =
+      same-elements new (map after (numbers_below count)) (f.others.count ∙ length-map-range_with_len before 0 count ∙ sym (length-map-range_with_len after 0 count))
+      (λ l x y got there. some_mail x y (sym got ∙ at l (below l y there) (is_among links l) refl ∙ sym (found-below after count l (below l y there)) ∙ there))
+    where
+      some_mail : (x y : Mail) → Some x ≡ Some y → x ≡ y
+      some_mail x y h = cc
+
+      below : (l : ℕ) (y : Mail) → slice_get (map after (numbers_below count)) l ≡ Some y → l < count
+      below l y there =
+          let inside = slice_get_within (map after (numbers_below count)) l y there in
+          let many = length-map-range_with_len after 0 count in
+          omega (arith, inside, many)
+
+      at : (l : ℕ) → l < count → (c : Bool) → is_among links l ≡ c → slice_get new l ≡ Some (after l)
+      at l low true e = f.own l e ∙ ap (λ x. Some x) (sym (ap (λ c. cond c (rule l) (before l)) e) ∙ same l low)
+      at l low false e = f.others.others l e ∙ found-below before count l low ∙ ap (λ x. Some x) (sym (ap (λ c. cond c (rule l) (before l)) e) ∙ same l low)

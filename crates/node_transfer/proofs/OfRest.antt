@@ -1,0 +1,5 @@
+-- Nodes at which nobody moves.
+pub mod Quiet
+pub mod Idle
+pub mod Rested
+pub mod Ready

@@ -1,0 +1,3 @@
+-- How a loading is opened.
+pub mod Starts
+pub mod Opened

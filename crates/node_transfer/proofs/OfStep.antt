@@ -1,0 +1,20 @@
+-- A transfer and a gather.
+pub mod Maps
+pub mod Outs
+pub mod Passes
+pub mod Crossings
+pub mod Steps
+pub mod ByKey
+pub mod Mid
+pub mod Verdicts
+pub mod Meters
+pub mod OneMove
+pub mod Movers
+pub mod Facts
+pub mod LinkPass
+pub mod InPass
+pub mod OutPass
+pub mod Due
+pub mod Transfer
+pub mod Gather
+pub mod Totals

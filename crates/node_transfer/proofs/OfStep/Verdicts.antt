@@ -1,0 +1,155 @@
+-- What the head of a line does is the head's move of the definitions.
+use Rattle.std.specs.Prelude.{slice_get, find, nat_eq, nat_lt, nat_le, option_map}
+use Rattle.std.specs.List.{last_or}
+use Rattle.std.specs.Option.{is_none}
+use Rattle.std.proofs.Common.{◌≡◌, ℕ, ◌+◌, ◌-◌, Bool, true, false, cond, ◌&&◌, not, List, [], ◌∷◌, length, map, refl, ap, sym, ◌∙◌, arith, Option, Some, None}
+use Rattle.std.proofs.lemmas.Bool.{eqb-true}
+use Rattle.std.proofs.lemmas.Bool.Decides.{nat_tests}
+use Rattle.std.proofs.Math.Dec.{eqb}
+use Rattle.dta_model.specs.Allowance.{allowance}
+use Rattle.dta_model.specs.NodeMoves.{left, entered, turned, may_enter, may_turn, may_move}
+use Rattle.dta_model.specs.Plans.{link_at, link_allowance, has_pass, turn, outs}
+use Rattle.dta_model.specs.Riders.{RiderState, rider_at}
+use Rattle.dta_model.specs.Room.{room, has_room}
+use Rattle.dta_model.specs.Trace.{Move, Onto, Arrived}
+use Rattle.dta_model.specs.declared.plan.Plan.{Plan}
+use Rattle.net_core.specs.declared.rows.Turn.{Turn}
+use Rattle.cell_stages.specs.Contents.{kept_turns, is_kept, turn_by}
+use Rattle.node_transfer.specs.Inside.Pass.{place_of, verdict, by_target, entry_at, is_entry, turn_links, out_links, turn_open, limit_open, out_open, penalty_of}
+use Rattle.cell_stages.specs.declared.out_link.OutLink.{OutLink}
+use Rattle.cell_stages.specs.declared.exit.Exit.{Exit}
+use Rattle.node_transfer.specs.declared.step.pass.Verdict.{Verdict}
+use Rattle.node_transfer.specs.declared.step.pass.Verdict.TheVariants.{Stays, Arrives, Enters}
+use Rattle.cell_stages.specs.declared.turn.LimitedTurn.{LimitedTurn}
+use Rattle.node_transfer.proofs.OfStep.Mid.{T, meter_mid, capped_room, turn_mid, exit_mid, out_mid}
+use Rattle.node_transfer.proofs.OfStep.ByKey.{both_true}
+use Rattle.capacity_credits.specs.Meter.{MeterState}
+use Rattle.node_transfer.proofs.OfStep.ByKey.{get-at, find_kept}
+
+-- a turn that the network allows, to a link out of the node
+pub record Allowed (p : Plan) (n l b : ℕ) : Type 0 where
+  pub way : Turn
+  pub allows : turn p l b ≡ Some way
+  pub there : find (λ o. nat_eq o b) (outs p n) ≡ Some b
+
+pub lt_sub : (a u : ℕ) → nat_lt 0 (a - u) ≡ nat_lt u a
+lt_sub a u = grind (arith, nat_tests)
+
+takes_test : (r : Option ℕ) (a e : ℕ) → nat_lt 0 (capped_room r a - e) ≡ (nat_lt e a && has_room r e)
+takes_test None a e = grind (arith, nat_tests)
+takes_test (Some places) a e = grind (arith, nat_tests)
+
+is_none_of : (r : Option ℕ) → is_none r ≡ true → r ≡ None
+is_none_of None h = refl
+is_none_of (Some x) h = cc
+
+not_false_of : (b : Bool) → not b ≡ false → b ≡ true
+not_false_of true h = refl
+not_false_of false h = cc
+
+-- a turn that isn't kept has no penalty and no limit
+plain-parts : (way : Turn) → is_kept (Some way) ≡ false → (way.penalty ≡ 0) × (way.rate ≡ None)
+plain-parts way h =
+    let b = both_true (nat_eq way.penalty 0) (is_none way.rate) (not_false_of (nat_eq way.penalty 0 && is_none way.rate) h) in
+    (eqb-true way.penalty 0 b.0, is_none_of way.rate b.1)
+
+-- the turn that a cell finds
+abbrev found_turn : (ℕ → MeterState) → ℕ → Turn → Bool → Option LimitedTurn
+found_turn meter b way c = cond c (Some (turn_by meter b (Some way))) None
+
+and_assoc : (a b c : Bool) → (a && (b && c)) ≡ ((a && b) && c)
+and_assoc true b c = refl
+and_assoc false b c = refl
+
+conds : (p q : Bool) (x y : Verdict) → cond p (cond q x y) y ≡ cond (q && p) x y
+conds true true x y = refl
+conds true false x y = refl
+conds false true x y = refl
+conds false false x y = refl
+
+conds_and : (p q : Bool) (x y : Verdict) → cond p (cond q x y) y ≡ cond (p && q) x y
+conds_and true true x y = refl
+conds_and true false x y = refl
+conds_and false true x y = refl
+conds_and false false x y = refl
+
+verdict-of : (t : ℕ) (exit : Exit) (os : List OutLink) (r : RiderState) (entry : ℕ) (o : Option ℕ) → last_or None r.entries ≡ Some entry → slice_get r.route (length r.entries) ≡ o
+    → verdict t exit os r ≡ cond (nat_lt 0 exit.outflow.left) (by_target t (entry + exit.free) exit.turns os o) Stays
+unfolding verdict
+verdict-of t exit os r entry o e q = rw (e, q) refl
+
+module _ (p : Plan) (n t : ℕ) (M : List Move) where
+  pub out-test : (b : ℕ) → out_open (Some (out_mid p n t M b)) ≡ may_enter p n t (T p n t) M b
+  unfolding may_enter
+  out-test b = takes_test (room p b t (T p n t)) (link_allowance p b t) (entered p n t (T p n t) M b)
+
+  found-penalty : (l b : ℕ) (way : Turn) (c : Bool) → is_kept (Some way) ≡ c
+      → penalty_of (found_turn (λ rate. meter_mid p t rate (turned p n t (T p n t) M l b)) b way c) ≡ way.penalty
+  found-penalty l b way true h = refl
+  found-penalty l b way false h = sym (plain-parts way h).0
+
+  found-open : (l b : ℕ) (way : Turn) (c : Bool) → is_kept (Some way) ≡ c
+      → turn_open (found_turn (λ rate. meter_mid p t rate (turned p n t (T p n t) M l b)) b way c) ≡ has_pass p way.rate t (turned p n t (T p n t) M l b)
+  found-open l b way true h = by_rate way.rate
+    where
+      by_rate : (r : Option ℕ) → limit_open (option_map (λ rate. meter_mid p t rate (turned p n t (T p n t) M l b)) r) ≡ has_pass p r t (turned p n t (T p n t) M l b)
+      by_rate None = refl
+      by_rate (Some rate) = lt_sub (allowance rate p.delta t) (turned p n t (T p n t) M l b)
+  found-open l b way false h = ap (λ r. has_pass p r t (turned p n t (T p n t) M l b)) (sym (plain-parts way h).1)
+
+  -- the links of the turns and of the out-links
+  pub turn_links-mid : (l : ℕ) (xs : List ℕ) → turn_links (map (turn_mid p n t M l) xs) ≡ xs
+  turn_links-mid l [] = refl
+  turn_links-mid l (x ∷ xs) = rw (turn_links-mid l xs) (ap (λ y. y ∷ xs) (to_same (turn p l x)))
+    where
+      to_same : (o : Option Turn) → (turn_by (λ rate. meter_mid p t rate (turned p n t (T p n t) M l x)) x o).to.0 ≡ x
+      to_same None = refl
+      to_same (Some way) = refl
+
+  pub out_links-mid : (xs : List ℕ) → out_links (map (out_mid p n t M) xs) ≡ xs
+  out_links-mid [] = refl
+  out_links-mid (x ∷ xs) = ap (λ ys. x ∷ ys) (out_links-mid xs)
+
+  get_turn : (l b : ℕ) (a : Allowed p n l b)
+      → slice_get (map (turn_mid p n t M l) (kept_turns p n l)) (place_of b (kept_turns p n l))
+      ≡ found_turn (λ rate. meter_mid p t rate (turned p n t (T p n t) M l b)) b a.way (is_kept (Some a.way))
+  get_turn l b a =
+      get-at (turn_mid p n t M l) b (kept_turns p n l)
+      ∙ ap (λ o. option_map (turn_mid p n t M l) o) (find_kept (λ x. is_kept (turn p l x)) b (outs p n) ∙ ap (λ o. cond (is_kept (turn p l b)) o None) a.there)
+      ∙ push (is_kept (turn p l b))
+      ∙ ap (λ o. cond (is_kept o) (Some (turn_by (λ rate. meter_mid p t rate (turned p n t (T p n t) M l b)) b o)) None) a.allows
+    where
+      push : (c : Bool) → option_map (turn_mid p n t M l) (cond c (Some b) None) ≡ cond c (Some (turn_mid p n t M l b)) None
+      push true = refl
+      push false = refl
+
+  get_out : (l b : ℕ) (a : Allowed p n l b) → slice_get (map (out_mid p n t M) (outs p n)) (place_of b (outs p n)) ≡ Some (out_mid p n t M b)
+  get_out l b a = get-at (out_mid p n t M) b (outs p n) ∙ ap (λ o. option_map (out_mid p n t M) o) a.there
+
+  entry-test : (l ready b : ℕ) → Allowed p n l b
+      → is_entry t ready (map (turn_mid p n t M l) (kept_turns p n l)) (map (out_mid p n t M) (outs p n)) (place_of b (outs p n)) (place_of b (kept_turns p n l))
+      ≡ may_turn p n t (T p n t) M ready l b
+  unfolding may_turn
+  entry-test l ready b a =
+      rw (get_turn l b a, get_out l b a, out-test b, found-open l b a.way (is_kept (Some a.way)) refl, found-penalty l b a.way (is_kept (Some a.way)) refl, a.allows)
+      (and_assoc (nat_le (ready + a.way.penalty) t) (has_pass p a.way.rate t (turned p n t (T p n t) M l b)) (may_enter p n t (T p n t) M b))
+
+  -- the verdict on a head, by its next link
+  abbrev pub head_verdict : ℕ → ℕ → Option ℕ → Verdict
+  head_verdict l ready None = cond (may_move p n t (T p n t) M l ready Arrived) Arrives Stays
+  head_verdict l ready (Some b) = cond (may_move p n t (T p n t) M l ready (Onto b)) (Enters (place_of b (outs p n)) (place_of b (kept_turns p n l))) Stays
+
+  -- the code's verdict is that of the definitions
+  pub verdict-head : (l v entry : ℕ) (o : Option ℕ) → last_or None (rider_at p (T p n t) v).entries ≡ Some entry
+      → slice_get (rider_at p (T p n t) v).route (length (rider_at p (T p n t) v).entries) ≡ o → ((b : ℕ) → o ≡ Some b → Allowed p n l b)
+      → verdict t (exit_mid p n t M l) (map (out_mid p n t M) (outs p n)) (rider_at p (T p n t) v) ≡ head_verdict l (entry + (link_at p l).free) o
+  unfolding may_move link_allowance
+  verdict-head l v entry None e q a =
+      verdict-of t (exit_mid p n t M l) (map (out_mid p n t M) (outs p n)) (rider_at p (T p n t) v) entry None e q
+      ∙ ap (λ c. cond c (cond (nat_le (entry + (link_at p l).free) t) Arrives Stays) Stays) (lt_sub (allowance (link_at p l).rate p.delta t) (left p n t (T p n t) M l))
+      ∙ conds (nat_lt (left p n t (T p n t) M l) (allowance (link_at p l).rate p.delta t)) (nat_le (entry + (link_at p l).free) t) Arrives Stays
+  verdict-head l v entry (Some b) e q a =
+      verdict-of t (exit_mid p n t M l) (map (out_mid p n t M) (outs p n)) (rider_at p (T p n t) v) entry (Some b) e q
+      ∙ ap (λ c. cond c (entry_at t (entry + (link_at p l).free) (map (turn_mid p n t M l) (kept_turns p n l)) (map (out_mid p n t M) (outs p n)) (place_of b (out_links (map (out_mid p n t M) (outs p n)))) (place_of b (turn_links (map (turn_mid p n t M l) (kept_turns p n l))))) Stays) (lt_sub (allowance (link_at p l).rate p.delta t) (left p n t (T p n t) M l))
+      ∙ rw (out_links-mid (outs p n), turn_links-mid l (kept_turns p n l), entry-test l (entry + (link_at p l).free) b (a b refl))
+      (conds_and (nat_lt (left p n t (T p n t) M l) (allowance (link_at p l).rate p.delta t)) (may_turn p n t (T p n t) M (entry + (link_at p l).free) l b) _ Stays)

@@ -1,7 +1,0 @@
-use Rattle.std.proofs.Common.{◌≡◌}
-use Rattle.dta_model.specs.Lent.{plan_of}
-use Rattle.node_transfer.specs.StartInside.{lines_below}
-use Rattle.node_transfer.proofs.start_lines.put_riders.Given as goal
-
-abbrev pub invariant-loop-v : goal.invariant-loop-v
-invariant-loop-v l = l.lines ≡ lines_below (plan_of l.loading) l.v

@@ -1,7 +1,0 @@
-use Rattle.std.proofs.Common.{◌≡◌, map}
-use Rattle.node_transfer.specs.Pass.{closed_turn}
-use Rattle.node_transfer.proofs.Maps.{mapped_from}
-use Rattle.node_transfer.proofs.turn.close_turns.Given as goal
-
-abbrev pub invariant-loop-i : goal.invariant-loop-i
-invariant-loop-i l = mapped_from closed_turn l.i l.turns ≡ map closed_turn l.initial.turns

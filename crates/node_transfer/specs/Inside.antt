@@ -1,0 +1,10 @@
+-- What the functions of this crate promise each other.
+pub mod Lengths
+pub mod Pass
+pub mod Outs
+pub mod Cells
+pub mod Counted
+pub mod Skip
+pub mod StartLines
+pub mod StartCells
+pub mod Driven

@@ -1,0 +1,115 @@
+// An in-link of a node.
+ghost use Rattle.std.specs.Prelude.{◌≡◌, ◌+◌, ◌-◌, ◌<◌, ◌≤◌, length, map, All, Option, None, Some};
+ghost use Rattle.std.specs.List.{sum_by};
+ghost use Rattle.node_transfer.specs.Inside.Pass.{CanPass, total, out_links, waitings, held};
+ghost use Rattle.node_transfer.specs.Inside.Cells.{passed_link, passed_links, passed_rotated};
+ghost use Rattle.node_transfer.specs.Inside.Cells.{CanCross, cell_total, IsBatch, CanGather};
+ghost use Rattle.node_transfer.specs.Gathered.{mail_line, room_after, gathered_link};
+
+use crate::step::pass::{close_exit, open_exit, pass};
+use cell_stages::{InLink, Mail, OutLink};
+use dta_model::MOST_HORIZON;
+use fixed_units::MOST_STEP;
+use link_queues::{Line, MOST_RIDERS};
+
+/// Moves the heads of an in-link that may move in the step.
+pub fn pass_link(link: &mut InLink, outs: &mut [OutLink], arrived: &mut Line, delta: u32, step: u32)
+    requires delta { delta ≤ MOST_STEP }
+    requires can { CanPass link.old.line outs.old arrived.old }
+    ensures kept { CanPass link.new.line outs.new arrived.new }
+    ensures links { out_links outs.new ≡ out_links outs.old }
+    ensures waits { waitings outs.new ≡ waitings outs.old }
+    ensures total { total link.new.line outs.new arrived.new
+        ≤ total link.old.line outs.old arrived.old }
+    ensures done { passed_link delta step link.old outs.old arrived.old
+        ≡ record { link = link.new; outs = outs.new; arrived = arrived.new } }
+{
+    open_exit(&mut link.exit, delta);
+    pass(&mut link.line, &mut link.exit, outs, arrived, step);
+    close_exit(&mut link.exit);
+}
+
+/// Moves the heads of all in-links, in order.
+pub fn pass_links(
+    ins: &mut [InLink],
+    outs: &mut [OutLink],
+    arrived: &mut Line,
+    delta: u32,
+    step: u32,
+)
+    requires delta { delta ≤ MOST_STEP }
+    requires can { CanCross ins.old outs.old arrived.old }
+    ensures kept { CanCross ins.new outs.new arrived.new }
+    ensures links { out_links outs.new ≡ out_links outs.old }
+    ensures waits { waitings outs.new ≡ waitings outs.old }
+    ensures total { cell_total ins.new outs.new arrived.new
+        ≤ cell_total ins.old outs.old arrived.old }
+    ensures count { length ins.new ≡ length ins.old }
+    ensures done { passed_links delta step ins.old outs.old arrived.old
+        ≡ record { ins = ins.new; outs = outs.new; arrived = arrived.new } }
+{
+    for i in 0..ins.len() {
+        pass_link(&mut ins[i], outs, arrived, delta, step);
+    }
+}
+
+/// Moves the heads of all in-links, beginning at a place.
+pub fn pass_rotated(
+    ins: &mut [InLink],
+    outs: &mut [OutLink],
+    arrived: &mut Line,
+    delta: u32,
+    step: u32,
+    start: usize,
+)
+    requires delta { delta ≤ MOST_STEP }
+    requires start { start ≤ length ins.old }
+    requires can { CanCross ins.old outs.old arrived.old }
+    ensures links { out_links outs.new ≡ out_links outs.old }
+    ensures waits { waitings outs.new ≡ waitings outs.old }
+    ensures fits { length arrived.new + sum_by held outs.new ≤ MOST_RIDERS }
+    ensures done { passed_rotated delta step start ins.old outs.old arrived.old
+        ≡ record { ins = ins.new; outs = outs.new; arrived = arrived.new } }
+{
+    let (front, back) = ins.split_at_mut(start);
+    pass_links(back, outs, arrived, delta, step);
+    pass_links(front, outs, arrived, delta, step);
+}
+
+/// Puts those that came last in the line, and tells the room that is left for the next step.
+pub fn gather_link(link: &mut InLink, step: u32)
+    requires step { step < MOST_HORIZON }
+    requires batch { IsBatch step link.old.mail }
+    requires fits { length link.old.line + length (mail_line link.old.mail) ≤ MOST_RIDERS }
+    ensures { link.new ≡ gathered_link step link.old }
+{
+    if let Mail::Batch { line, .. } = &mut link.mail {
+        link.line.append(line);
+    }
+    let room = room_left(&link.line, link.storage);
+    link.mail = Mail::Room {
+        step: step + 1,
+        room,
+    };
+}
+
+/// The room that a storage leaves; none is told where there is no bound.
+pub fn room_left(line: &Line, storage: Option<u32>) -> Option<u32>
+    ensures { result ≡ room_after storage line.now }
+{
+    match storage {
+        None => None,
+        Some(storage) => Some(storage.saturating_sub(line.len())),
+    }
+}
+
+/// Gathers on all in-links.
+pub fn gather_links(ins: &mut [InLink], step: u32)
+    requires step { step < MOST_HORIZON }
+    requires can { All (CanGather step) ins.old }
+    ensures { ins.new ≡ map (gathered_link step) ins.old }
+{
+    for i in 0..ins.len() {
+        gather_link(&mut ins[i], step);
+    }
+}

@@ -1,0 +1,188 @@
+// One pass over one in-link.
+ghost use Rattle.std.specs.Prelude.{◌≡◌, ℕ, ◌+◌, ◌-◌, ◌<◌, ◌≤◌, length, IfSome, IsSomeAnd, nat_le};
+ghost use Rattle.std.specs.Prelude.{slice_get, drop, IsTrue, true, false, None, Some};
+ghost use Rattle.node_transfer.specs.Inside.Pass.{verdict, passed, CanPass, Rides, total};
+ghost use Rattle.node_transfer.specs.Inside.Pass.{out_links, waitings, entered_at, turn_open};
+ghost use Rattle.node_transfer.specs.Inside.Pass.{out_open, is_entry, after_arrival, after_entry};
+ghost use Rattle.node_transfer.specs.Exits.{opened_exit, closed_exit};
+
+use crate::step::out_link::place_to;
+use crate::step::turn::{close_all, has_pass, open_all, place_of_turn, turn_at, use_one};
+use cell_stages::{Exit, LimitedTurns, OutLink};
+use fixed_units::MOST_STEP;
+use link_queues::{Line, MOST_RIDERS, Rider};
+
+/// What the head of a line does.
+#[derive(Drop)]
+pub enum Verdict {
+    Stays,
+    Arrives,
+    Enters(usize, usize),
+}
+
+/// Grants an exit its allowances.
+pub fn open_exit(exit: &mut Exit, delta: u32)
+    requires { delta ≤ MOST_STEP }
+    ensures { exit.new ≡ opened_exit delta exit.old }
+{
+    exit.outflow.open(delta);
+    open_all(&mut exit.turns, delta);
+}
+
+/// Ends the step for an exit.
+pub fn close_exit(exit: &mut Exit)
+    ensures { exit.new ≡ closed_exit exit.old }
+{
+    exit.outflow.close();
+    close_all(&mut exit.turns);
+}
+
+/// Whether a rider that is ready at a step may take the turn at a place into the out-link at a
+/// place.
+pub fn may_enter(
+    turns: &LimitedTurns,
+    outs: &[OutLink],
+    ready: u64,
+    step: u32,
+    place: usize,
+    turn: usize,
+) -> bool
+    requires there { place < length outs.now }
+    ensures { result ≡ is_entry step ready turns.now outs.now place turn }
+{
+    match turn_at(turns, turn) {
+        None => ready <= step as u64 && outs[place].inflow.left() > 0,
+        Some(way) => is_served(ready, way.penalty, step)
+            && has_pass(way)
+            && outs[place].inflow.left() > 0,
+    }
+}
+
+/// Whether one that is ready at a step has served the penalty of a turn by another.
+pub fn is_served(ready: u64, penalty: u32, step: u32) -> bool
+    ensures { result ≡ nat_le (ready + penalty) step }
+{
+    ready <= step as u64 && penalty as u64 <= step as u64 - ready
+}
+
+/// What the rider does next.
+#[tactic(auto, unfolding(crate::specs::Inside::Pass::verdict))]
+pub fn judge(rider: &Rider, exit: &Exit, outs: &[OutLink], step: u32) -> Verdict
+    requires { Rides (out_links outs.now) rider.now }
+    ensures value { result ≡ verdict step exit.now outs.now rider.now }
+    ensures arrives { result ≡ Verdict.Arrives → 0 < exit.now.outflow.left }
+    ensures enters { (p k : ℕ) → result ≡ Verdict.Enters p k
+        → (0 < exit.now.outflow.left) × (out_open (slice_get outs.now p) ≡ true)
+        × (turn_open (slice_get exit.now.turns k) ≡ true) }
+{
+    let ready = match rider.last_entry() {
+        Some(entry) => entry as u64 + exit.free as u64,
+        None => return Verdict::Stays,
+    };
+    if exit.outflow.left() > 0 {
+        match rider.next_link() {
+            None => {
+                if ready <= step as u64 {
+                    Verdict::Arrives
+                } else {
+                    Verdict::Stays
+                }
+            }
+            Some(link) => {
+                let place = place_to(outs, link);
+                let turn = place_of_turn(&exit.turns, link);
+                if may_enter(&exit.turns, outs, ready, step, place, turn) {
+                    Verdict::Enters(place, turn)
+                } else {
+                    Verdict::Stays
+                }
+            }
+        }
+    } else {
+        Verdict::Stays
+    }
+}
+
+/// One vehicle arrives at the end of the link.
+pub fn count_arrival(exit: &mut Exit)
+    requires { 0 < exit.old.outflow.left }
+    ensures { exit.new ≡ after_arrival exit.old }
+{
+    exit.outflow.pass();
+}
+
+/// One vehicle leaves by the turn at a place.
+pub fn count_entry(exit: &mut Exit, turn: usize)
+    requires left { 0 < exit.old.outflow.left }
+    requires open { turn_open (slice_get exit.old.turns turn) ≡ true }
+    ensures { exit.new ≡ after_entry turn exit.old }
+{
+    exit.outflow.pass();
+    use_one(&mut exit.turns, turn);
+}
+
+/// Moves the head of the line into an out-link.
+pub fn enter_at(line: &mut Line, outs: &mut [OutLink], place: usize, step: u32)
+    requires rides { IsSomeAnd (slice_get line.old 0) (λ r. r.arrival ≡ None) }
+    requires open { out_open (slice_get outs.old place) ≡ true }
+    requires fits { IfSome (slice_get outs.old place) (λ o. length o.batch < MOST_RIDERS) }
+    ensures rest { line.new ≡ drop 1 line.old }
+    ensures entered { IfSome (slice_get line.old 0)
+        (λ r. outs.new ≡ entered_at place step r outs.old) }
+{
+    let out = &mut outs[place];
+    line.move_front_to(&mut out.batch, step);
+    out.inflow.pass();
+}
+
+/// Moves the head of the line, where it may move, and says whether it did.
+#[tactic(auto, using(crate::proofs::OfStep::Passes::pass_steps))]
+pub fn advance(
+    line: &mut Line,
+    exit: &mut Exit,
+    outs: &mut [OutLink],
+    arrived: &mut Line,
+    step: u32,
+) -> bool
+    requires { CanPass line.old outs.old arrived.old }
+    ensures kept { CanPass line.new outs.new arrived.new }
+    ensures links { out_links outs.new ≡ out_links outs.old }
+    ensures waits { waitings outs.new ≡ waitings outs.old }
+    ensures total { total line.new outs.new arrived.new ≤ total line.old outs.old arrived.old }
+    ensures goes { passed step line.old exit.old outs.old arrived.old
+        ≡ passed step line.new exit.new outs.new arrived.new }
+    ensures shorter { IsTrue result → length line.new + 1 ≡ length line.old }
+    ensures done { result ≡ false → passed step line.new exit.new outs.new arrived.new
+        ≡ record { line = line.new; exit = exit.new; outs = outs.new; arrived = arrived.new } }
+{
+    let what = match line.front() {
+        None => return false,
+        Some(rider) => judge(rider, exit, outs, step),
+    };
+    match what {
+        Verdict::Stays => false,
+        Verdict::Arrives => {
+            line.move_front_to(arrived, step);
+            count_arrival(exit);
+            true
+        }
+        Verdict::Enters(place, turn) => {
+            enter_at(line, outs, place, step);
+            count_entry(exit, turn);
+            true
+        }
+    }
+}
+
+/// Moves heads of the line until none may move.
+pub fn pass(line: &mut Line, exit: &mut Exit, outs: &mut [OutLink], arrived: &mut Line, step: u32)
+    requires { CanPass line.old outs.old arrived.old }
+    ensures kept { CanPass line.new outs.new arrived.new }
+    ensures links { out_links outs.new ≡ out_links outs.old }
+    ensures waits { waitings outs.new ≡ waitings outs.old }
+    ensures total { total line.new outs.new arrived.new ≤ total line.old outs.old arrived.old }
+    ensures done { passed step line.old exit.old outs.old arrived.old
+        ≡ record { line = line.new; exit = exit.new; outs = outs.new; arrived = arrived.new } }
+{
+    while advance(line, exit, outs, arrived, step) {}
+}
