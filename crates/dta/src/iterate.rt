@@ -194,10 +194,11 @@ fn leave<R: AllocGlobal + Threads>(
     ensures routes { IfOk result (λ r. AreRoutesOf job.now r.1) }
     ensures memory { IfErr result (λ why. why ≡ halt.Memory) }
 {
+    let trips = job.trips.as_slice();
     let both = gap_and_next_routes(
         rt,
         &job.net,
-        &job.trips,
+        trips,
         times,
         routes,
         iteration,

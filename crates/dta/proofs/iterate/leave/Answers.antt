@@ -3,8 +3,8 @@ use Rattle.dta.proofs.iterate.leave.Goals as goal
 
 pub gap_and_next_routes-requires-clause-walks : goal.gap_and_next_routes-requires-clause-walks
 gap_and_next_routes-requires-clause-walks g c =
-    walks-of c.args.job.now c.job.inside.net c.deref.result.now c.args.routes.now (rw c.deref.ensures.value c.job.view_is) c.requires.routes
+    walks-of c.args.job.now c.job.inside.net c.as_slice-trips.result.now c.args.routes.now (rw c.as_slice-trips.ensures.value c.job.view_is) c.requires.routes
 
 pub returns-clause-routes : goal.returns-clause-routes
 returns-clause-routes g c =
-    routes-of c.args.job.now c.job.inside.net c.deref.result.now c.in_ok-both.both.1 (rw c.deref.ensures.value c.job.view_is) c.in_ok-both.ensures.next.as_many c.in_ok-both.ensures.walks
+    routes-of c.args.job.now c.job.inside.net c.as_slice-trips.result.now c.in_ok-both.both.1 (rw c.as_slice-trips.ensures.value c.job.view_is) c.in_ok-both.ensures.next.as_many c.in_ok-both.ensures.walks
