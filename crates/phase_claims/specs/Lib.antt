@@ -6,3 +6,4 @@ pub mod Plays
 pub mod Passes
 pub mod Floors
 pub mod Tried
+pub mod Examples

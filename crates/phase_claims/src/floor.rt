@@ -174,7 +174,8 @@ impl<'a> Floor<'a> {
         pass.stage = Stage::Idle;
     }
 
-    /// Performs the unit that the pass has open, a transfer or a gather, and finishes it.
+    /// Performs the unit that the pass has open, a transfer or a gather, and finishes it. Its work
+    /// isn't done yet.
     pub fn perform(&self, pass: &mut Pass)
         requires own { IsOf self.now pass.old }
         requires open { IsOpen pass.old.view.stage }
@@ -185,7 +186,7 @@ impl<'a> Floor<'a> {
         self.finish(pass);
     }
 
-    /// Performs the unit that the pass has open, a posting, and finishes it.
+    /// Performs the unit that the pass has open, a posting, and finishes it. Its work isn't done yet.
     pub fn perform_posting<R: Wait>(&self, _rt: &R, pass: &mut Pass)
         requires own { IsOf self.now pass.old }
         requires open { IsOpen pass.old.view.stage }
