@@ -41,16 +41,7 @@ fn opens_without_nodes(rt: HostRuntime) -> Result<(), Fail> {
         trips: &[],
         routes: &routes,
     };
-    let start = opening(rt.alloc(), &loading);
-    let Loading {
-        net: _,
-        queue: _,
-        delta: _,
-        horizon: _,
-        trips: _,
-        routes: _,
-    } = loading;
-    let start = start?;
+    let start = opening(rt.alloc(), &loading)?;
     assert!(rt; start.cells.as_slice().is_empty());
     Ok(())
 }

@@ -11,7 +11,7 @@ use crate::start::links::{start_ins, start_outs};
 use dta_model::Loading;
 use link_queues::Line;
 use net_core::{Memory, NodeNo};
-use std::alloc::{AllocError, Global};
+use std::alloc::Global;
 
 /// The cell of each node before the first step. The waiting lines are moved into them.
 #[tactic(auto, using(crate::proofs::OfStart::Starts::start_steps))]
@@ -30,10 +30,7 @@ pub fn start_cells(
     let mut cells = Vec::new(alloc);
     for n in 0..loading.net.node_count() {
         let cell = start_cell(alloc, loading, NodeNo(n), lines)?;
-        match cells.push(cell) {
-            Ok(()) => {}
-            Err(_) => return Err(AllocError),
-        }
+        cells.push(cell)?;
     }
     Ok(cells)
 }

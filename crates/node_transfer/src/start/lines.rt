@@ -30,10 +30,7 @@ fn empty_lines(alloc: Global, count: u32) -> Result<Vec<Line>, Memory>
 {
     let mut lines = Vec::new(alloc);
     for b in 0..count {
-        match lines.push(Line::new(alloc)) {
-            Ok(()) => {}
-            Err(_) => return Err(AllocError),
-        }
+        lines.push(Line::new(alloc))?;
     }
     Ok(lines)
 }

@@ -15,7 +15,7 @@ use dta_model::{Loading, Queue};
 use fixed_units::MOST_RATE;
 use link_queues::Line;
 use net_core::{LinkNo, Memory};
-use std::alloc::{AllocError, Global};
+use std::alloc::Global;
 
 /// Out-links before the first step. Their waiting lines are moved into them.
 #[tactic(auto, using(crate::proofs::OfStart::Starts::start_steps))]
@@ -46,10 +46,7 @@ pub fn start_outs(
             batch: Line::new(alloc),
             mail: Mail::Away,
         };
-        match out_links.push(out) {
-            Ok(()) => {}
-            Err(_) => return Err(AllocError),
-        }
+        out_links.push(out)?;
     }
     Ok(out_links)
 }
@@ -72,10 +69,7 @@ pub fn start_ins(
     let mut in_links = Vec::new(alloc);
     for i in 0..ins.len() {
         let link = start_in_link(alloc, loading, ins[i], outs)?;
-        match in_links.push(link) {
-            Ok(()) => {}
-            Err(_) => return Err(AllocError),
-        }
+        in_links.push(link)?;
     }
     Ok(in_links)
 }
@@ -131,10 +125,7 @@ fn start_turns(
     }
     for i in 0..outs.len() {
         if let Some(turn) = start_turn(loading, link, outs[i]) {
-            match list.push(turn) {
-                Ok(()) => {}
-                Err(_) => return Err(AllocError),
-            }
+            list.push(turn)?;
         }
     }
     Ok(LimitedTurns { list })

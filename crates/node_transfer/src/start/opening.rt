@@ -11,7 +11,7 @@ use crate::start::links::storage_of;
 use cell_stages::Mail;
 use dta_model::{Journey, Loaded, Loading, Steps};
 use net_core::{LinkNo, Memory};
-use std::alloc::{AllocError, Global};
+use std::alloc::Global;
 
 /// The parts of a loading at the start of step 0. Every place for mail in the cells is empty.
 pub fn opening(alloc: Global, loading: &Loading) -> Result<Opening, Memory>
@@ -38,10 +38,7 @@ fn start_rooms(alloc: Global, loading: &Loading) -> Result<Vec<Mail>, Memory>
     for l in 0..loading.net.link_count() {
         let storage = loading.net.link(LinkNo(l)).storage;
         let room = storage_of(loading.queue, storage);
-        match mail.push(Mail::Room { step: 0, room }) {
-            Ok(()) => {}
-            Err(_) => return Err(AllocError),
-        }
+        mail.push(Mail::Room { step: 0, room })?;
     }
     Ok(mail)
 }
@@ -57,10 +54,7 @@ fn start_journeys(alloc: Global, count: usize) -> Result<Vec<Journey>, Memory>
             entries: Steps::of(Vec::new(alloc)),
             arrival: None,
         };
-        match journeys.push(journey) {
-            Ok(()) => {}
-            Err(_) => return Err(AllocError),
-        }
+        journeys.push(journey)?;
     }
     Ok(journeys)
 }

@@ -9,7 +9,7 @@ loop-n-preserved c =
     let count = c.node_count-n-end.ensures.count in
     let here = c.loop-n-test.true in
     let below : c.loop-n.n < length p.net.nodes = omega (arith, count, here) in (
-      rw (c.in-Ok.ensures.items, c.in_ok-cell.ensures.cell, c.in_ok-cell.ensures.left) (sym (cells_next p c.loop-n.lines c.loop-n.cells.items c.loop-n.n (length p.net.nodes) below) ∙ c.loop-n.invariant.0),
+      rw (c.in_ok-push.ensures.items, c.in_ok-cell.ensures.cell, c.in_ok-cell.ensures.left) (sym (cells_next p c.loop-n.lines c.loop-n.cells.items c.loop-n.n (length p.net.nodes) below) ∙ c.loop-n.invariant.0),
       c.in_ok-cell.ensures.count ∙ c.loop-n.invariant.1,
     )
 
