@@ -1,7 +1,7 @@
 #!/bin/sh
-# Measures the shared words of a floor: 1, 2 and 4 workers claim, open and finish the units of 1,200 steps over 3,600 nodes without links
-# and vehicles, beside a plain Rust program of the same steps. Prints the nanoseconds for each unit, five times each; the work of a unit is not done
-# in either. Where more workers than processors run, the numbers say nothing.
+# Measures the shared words of a floor: 1, 2 and 4 workers claim, open and finish the units of 1,200 steps over 3,600 nodes without
+# links and vehicles, beside a plain Rust program of the same steps. Prints the nanoseconds for each unit, five times each. The work
+# of a unit is done in neither. Where more workers run than there are processors free, the numbers say nothing.
 set -e
 bench=$(dirname "$(readlink -f "$0")")
 . "$bench/begin.sh"
