@@ -34,7 +34,7 @@ last_place : {X : Type 0} (xs : List X) (x : X) → last_or None xs ≡ Some x �
 last_place [] x e = absurd (none-some x e)
 last_place (y ∷ xs) x e = (length xs, refl, last_at y xs x e)
 
-onto_one : (l : ℕ) (x : Target) → is_link l x ≡ true → x ≡ Onto l
+pub onto_one : (l : ℕ) (x : Target) → is_link l x ≡ true → x ≡ Onto l
 onto_one l (Onto b) e = ap Onto (eqb-true b l e)
 onto_one l Arrived e = cc
 

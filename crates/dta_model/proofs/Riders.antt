@@ -95,7 +95,7 @@ pub nothing_enters : Enters []
 unfolding moves_of
 nothing_enters v h = refl
 
-enters : (p : Plan) (t : ℕ) → Enters (trace_after p t)
+pub enters : (p : Plan) (t : ℕ) → Enters (trace_after p t)
 enters p t = enters_all p (trace_after p t) [] (trace-follows p t) nothing_enters
 
 pub no_arrival : (L : List Move) → filter is_entry L ≡ L → find (λ m. not (is_entry m)) L ≡ None

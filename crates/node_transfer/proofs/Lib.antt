@@ -39,4 +39,3 @@ pub mod Exchanges
 pub mod Lending
 pub mod Finished
 pub mod Handed
-pub mod Cases

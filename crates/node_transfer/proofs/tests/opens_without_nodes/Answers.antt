@@ -1,5 +1,0 @@
-use Rattle.node_transfer.proofs.NoNodes.{no_loading}
-use Rattle.node_transfer.proofs.tests.opens_without_nodes.Goals as goal
-
-pub opening-start-requires : goal.opening-start-requires
-opening-start-requires g c = rw (c.in_ok-net.ensures, c.no_routes-routes.ensures) no_loading
