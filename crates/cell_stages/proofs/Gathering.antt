@@ -78,7 +78,7 @@ filter_kept : (q : ℕ → Bool) (xs : List ℕ) → ((i v : ℕ) → slice_get 
 filter_kept q [] h = refl
 filter_kept q (x ∷ xs) h = rw (h 0 x refl) (ap (λ ys. x ∷ ys) (filter_kept q xs (λ i v e. h (suc i) v e)))
 
-filter_like : (f g : ℕ → Bool) (xs : List ℕ) → ((i v : ℕ) → slice_get xs i ≡ Some v → f v ≡ g v) → filter f xs ≡ filter g xs
+pub filter_like : (f g : ℕ → Bool) (xs : List ℕ) → ((i v : ℕ) → slice_get xs i ≡ Some v → f v ≡ g v) → filter f xs ≡ filter g xs
 filter_like f g [] h = refl
 filter_like f g (x ∷ xs) h = rw (h 0 x refl, filter_like f g xs (λ i v e. h (suc i) v e)) refl
 

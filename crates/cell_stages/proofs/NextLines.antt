@@ -28,7 +28,7 @@ map_all : (P : ℕ → Type 0) (f g : ℕ → List RiderState) (xs : List ℕ) �
 map_all P f g [] all h = refl
 map_all P f g (x ∷ xs) all h = rw (h x (All-head P x xs all), map_all P f g xs (All-tail P x xs all) h) refl
 
-below_all : (k from : ℕ) → All (λ x. x < from + k) (range_with_len from k)
+pub below_all : (k from : ℕ) → All (λ x. x < from + k) (range_with_len from k)
 below_all zero from = All-nil (λ x. x < from + zero)
 below_all (suc k) from = All-cons (λ x. x < from + suc k) from (range_with_len (from + 1) k) (here from k) (All-weaker (λ x. x < from + 1 + k) (λ x. x < from + suc k) (λ x h. more x from k h) (range_with_len (from + 1) k) (below_all k (from + 1)))
   where
@@ -50,7 +50,7 @@ in_links p n =
     (All-filter test (λ l. l < length p.net.links) (numbers_below (length p.net.links)) (All-weaker (λ x. x < 0 + length p.net.links) (λ l. l < length p.net.links) (λ x h. omega (arith, h)) (numbers_below (length p.net.links)) (below_all (length p.net.links) 0)))
     (All-weaker (λ l. test l ≡ true) (λ l. (link_at p l).to.0 ≡ n) (λ l h. eqb-true (link_at p l).to.0 n h) (filter test (numbers_below (length p.net.links))) (filter_passes test (numbers_below (length p.net.links))))
 
-out_links : (p : Plan) (n : ℕ) → All (λ b. (link_at p b).from.0 ≡ n) (outs p n)
+pub out_links : (p : Plan) (n : ℕ) → All (λ b. (link_at p b).from.0 ≡ n) (outs p n)
 unfolding network.outs
 out_links p n =
     let test : ℕ → Bool = λ l. nat_eq (link_at p l).from.0 n in

@@ -25,7 +25,7 @@ use Rattle.dta_model.proofs.Riders.{other_move}
 use Rattle.cell_stages.proofs.Riders.{filter_two}
 use Rattle.std.proofs.lemmas.Option.{same_Some}
 
-moved_two : (v : ℕ) (M : List Move) (m : Move) → not (has_moved v (M ++ m ∷ [])) ≡ (not (has_moved v M) && not (eqb v m.vehicle))
+pub moved_two : (v : ℕ) (M : List Move) (m : Move) → not (has_moved v (M ++ m ∷ [])) ≡ (not (has_moved v M) && not (eqb v m.vehicle))
 unfolding has_moved
 moved_two v M m = ap not (has_moved-append v M (m ∷ [])) ∙ two (list_any (is_of v) M) (eqb_tells m.vehicle v)
   where
@@ -34,10 +34,10 @@ moved_two v M m = ap not (has_moved-append v M (m ∷ [])) ∙ two (list_any (is
     two false (inl (s, same)) = rw (s, eq-eqb v m.vehicle (sym same)) refl
     two false (inr (s, other)) = rw (s, ne_eqb v m.vehicle (λ e. other (sym e))) refl
 
-staying_push : (M : List Move) (m : Move) (Q : List ℕ) → staying (M ++ m ∷ []) Q ≡ without m.vehicle (staying M Q)
+pub staying_push : (M : List Move) (m : Move) (Q : List ℕ) → staying (M ++ m ∷ []) Q ≡ without m.vehicle (staying M Q)
 staying_push M m Q = filter_two (λ v. not (has_moved v (M ++ m ∷ []))) (λ v. not (has_moved v M)) (λ v. not (eqb v m.vehicle)) (λ v. moved_two v M m) Q
 
-absent_filter : (q : ℕ → Bool) (w : ℕ) (xs : List ℕ) → absent w xs ≡ true → absent w (filter q xs) ≡ true
+pub absent_filter : (q : ℕ → Bool) (w : ℕ) (xs : List ℕ) → absent w xs ≡ true → absent w (filter q xs) ≡ true
 absent_filter q w [] h = refl
 absent_filter q w (x ∷ xs) h = af_step (q x) (eqb x w) refl h (absent_filter q w xs)
   where
@@ -50,7 +50,7 @@ absent_filter q w (x ∷ xs) h = af_step (q x) (eqb x w) refl h (absent_filter q
     af_step true true r e ih = cc
     af_step true false r e ih = rw (← r) (ih e)
 
-distinct_filter : (q : ℕ → Bool) (xs : List ℕ) → distinct xs ≡ true → distinct (filter q xs) ≡ true
+pub distinct_filter : (q : ℕ → Bool) (xs : List ℕ) → distinct xs ≡ true → distinct (filter q xs) ≡ true
 distinct_filter q [] h = refl
 distinct_filter q (x ∷ xs) h = let parts = and_parts (absent x xs) (distinct xs) h in df_step (q x) (absent_filter q x xs parts.0) (distinct_filter q xs parts.1)
   where
@@ -58,7 +58,7 @@ distinct_filter q (x ∷ xs) h = let parts = and_parts (absent x xs) (distinct x
     df_step true a d = rw (a, d) refl
     df_step false a d = d
 
-first_leaves : (xs : List ℕ) (v : ℕ) → distinct xs ≡ true → slice_get xs 0 ≡ Some v → without v xs ≡ drop 1 xs
+pub first_leaves : (xs : List ℕ) (v : ℕ) → distinct xs ≡ true → slice_get xs 0 ≡ Some v → without v xs ≡ drop 1 xs
 first_leaves [] v d h = cc
 first_leaves (x ∷ xs) v d h =
     let same : x ≡ v = same_Some x v h in
@@ -98,13 +98,17 @@ absent_failing q v (x ∷ xs) h = failing_step (q x) refl (eqb_tells x v) (absen
     failing_step true r (inl (s, same)) ih = let clash : true ≡ false = r ∙ ap q same ∙ h in cc
     failing_step true r (inr (s, other)) ih = rw s ih
 
-range_absent : (v k from : ℕ) → v < from → absent v (range_with_len from k) ≡ true
-range_absent v zero from h = refl
-range_absent v (suc k) from h = rw (ne_eqb from v (λ e. absurd (omega (arith, h, e)))) (range_absent v k (from + 1) (omega (arith, h)))
+pub absent_range : (v k from : ℕ) → v < from → absent v (range_with_len from k) ≡ true
+absent_range v zero from h = refl
+absent_range v (suc k) from h = rw (ne_eqb from v (λ e. absurd (omega (arith, h, e)))) (absent_range v k (from + 1) (omega (arith, h)))
 
-range_distinct : (k from : ℕ) → distinct (range_with_len from k) ≡ true
-range_distinct zero from = refl
-range_distinct (suc k) from = rw (range_absent from k (from + 1) (omega arith)) (range_distinct k (from + 1))
+pub distinct_range : (k from : ℕ) → distinct (range_with_len from k) ≡ true
+distinct_range zero from = refl
+distinct_range (suc k) from = rw (absent_range from k (from + 1) (omega arith)) (distinct_range k (from + 1))
+
+pub one_rider : (p : Plan) (c : Bool) (m : Move) (U : List Move) → riders p U (cond c (m.vehicle ∷ []) []) ≡ cond c (rider_at p U m.vehicle ∷ []) []
+one_rider p true m U = refl
+one_rider p false m U = refl
 
 module _ (p : Plan) (T0 M : List Move) (m : Move) (new : has_moved m.vehicle M ≡ false) where
   pushed : (Q : List ℕ) → absent m.vehicle Q ≡ true → staying (M ++ m ∷ []) Q ≡ staying M Q
@@ -141,7 +145,7 @@ module _ (p : Plan) (T0 M : List Move) (m : Move) (new : has_moved m.vehicle M �
       let parts = and_parts (is_first b (first_link p m.vehicle)) (not (has_moved m.vehicle T0)) (y.0) in
       let none : has_moved m.vehicle T0 ≡ false = not-true (has_moved m.vehicle T0) parts.1 in
       record {
-        first = shifted (waiting_for p b T0) (distinct_filter test (vehicles_of p) (range_distinct (vehicle_count p) 0)) h;
+        first = shifted (waiting_for p b T0) (distinct_filter test (vehicles_of p) (distinct_range (vehicle_count p) 0)) h;
         waiting = λ c other. pushed (waiting_for p c T0) (absent_failing (λ v. is_first c (first_link p v) && not (has_moved v T0)) m.vehicle (vehicles_of p) (rw (other_first (first_link p m.vehicle) b c other parts.0) refl));
         lines = λ k. pushed (queue_of k T0) (absent-filter (leads_to k) m.vehicle (last_moves T0) (absent-last m.vehicle T0 none));
         stands = λ k. ap (leads_there k) (no-last m.vehicle T0 none);
@@ -159,16 +163,12 @@ module _ (p : Plan) (T0 M : List Move) (m : Move) (new : has_moved m.vehicle M �
       clash : (c : Bool) → c ≡ true → c ≡ false → ⊥
       clash c e f = let g : true ≡ false = sym e ∙ f in cc
 
-  one_rider : (c : Bool) (U : List Move) → riders p U (cond c (m.vehicle ∷ []) []) ≡ cond c (rider_at p U m.vehicle ∷ []) []
-  one_rider true U = refl
-  one_rider false U = refl
-
   comes_of : (b : ℕ) → riders p (T0 ++ (M ++ m ∷ [])) (brought b (M ++ m ∷ [])) ≡ riders p (T0 ++ M) (brought b M) ++ cond (leads_to b m) (rider_at p (T0 ++ (M ++ m ∷ [])) m.vehicle ∷ []) []
   comes_of b =
       let U = T0 ++ (M ++ m ∷ []) in
       ap (λ Q. riders p U Q) (brought_push b M m) ∙ map-append (rider_at p U) (brought b M) (cond (leads_to b m) (m.vehicle ∷ []) [])
       ∙ ap (λ K. K ++ riders p U (cond (leads_to b m) (m.vehicle ∷ []) [])) (map_like (rider_at p U) (rider_at p (T0 ++ M)) (brought b M) (like b))
-      ∙ ap (λ K. riders p (T0 ++ M) (brought b M) ++ K) (one_rider (leads_to b m) U)
+      ∙ ap (λ K. riders p (T0 ++ M) (brought b M) ++ K) (one_rider p (leads_to b m) m U)
 
 pub moves_pass : MovesPass
 moves_pass p T0 M m new = record { line = line_of p T0 M m new; waiting = waiting_of p T0 M m new; comes = comes_of p T0 M m new }

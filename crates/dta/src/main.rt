@@ -12,8 +12,6 @@ mod gate;
 mod iterate;
 mod job;
 mod laws;
-#[cfg(test)]
-mod link_time_cases;
 mod outputs;
 mod run;
 mod sizes;

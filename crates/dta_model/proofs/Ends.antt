@@ -1,8 +1,8 @@
 -- When the visits of a journey end.
-use Rattle.std.proofs.Common.{◌≡◌, ℕ, zero, suc, ◌<◌, ◌≤◌, true, not, List, [], ◌∷◌, ◌++◌, map, refl, ap, sym, ◌∙◌, subst, arith, Option, Some, None}
+use Rattle.std.proofs.Common.{◌≡◌, ℕ, zero, suc, ◌<◌, ◌≤◌, Bool, true, false, cond, not, List, [], ◌∷◌, ◌++◌, length, map, refl, ap, sym, ◌∙◌, subst, arith, Option, Some, None}
 use Rattle.std.specs.Prelude.{filter, find, option_map, option_to_list, slice_get}
 use Rattle.std.proofs.lemmas.Bool.{eq-eqb}
-use Rattle.std.proofs.lemmas.List.{map-append}
+use Rattle.std.proofs.lemmas.List.{length-map, map-append}
 use Rattle.std.proofs.lemmas.List.FromFn.{get_or-range_with_len, length-range_with_len}
 use Rattle.std.proofs.lemmas.Option.{get_or_from_slice_get, option_and_then_some, slice_get-map, slice_get_within, none-some, same_Some}
 use Rattle.net_core.specs.Network.{numbers_below}
@@ -22,7 +22,8 @@ got_number n i w e =
     let h = slice_get_within (numbers_below n) i w e in
     sym (get_or_from_slice_get (numbers_below n) i w 0 e) ∙ get_or-range_with_len 0 n i 0 (subst (λ k. i < k) (length-range_with_len 0 n) h) ∙ omega arith
 
-map_some : {A B : Type 0} (f : A → B) (o : Option A) (y : B) → option_map f o ≡ Some y → (x : A) × (o ≡ Some x) × (f x ≡ y)
+-- what a present value was mapped from
+pub map_some : {A B : Type 0} (f : A → B) (o : Option A) (y : B) → option_map f o ≡ Some y → (x : A) × (o ≡ Some x) × (f x ≡ y)
 map_some f None y e = absurd (none-some y e)
 map_some f (Some x) y e = (x, refl, same_Some (f x) y e)
 
@@ -53,11 +54,25 @@ entry_is p t v i s e =
     (x.0, sym (ap (λ L. slice_get L i) (sym (arrival_is_last p t v))) ∙ got_first (filter is_entry ms) (option_to_list (find (λ m. not (is_entry m)) ms)) i x.0 (x.1), x.2)
 
 -- the journey of a vehicle among all
-journey_is : (p : Plan) (v : ℕ) (j : Journey) → slice_get (journeys_of p) v ≡ Some j → j ≡ journey_of p v
+pub journey_is : (p : Plan) (v : ℕ) (j : Journey) → slice_get (journeys_of p) v ≡ Some j → j ≡ journey_of p v
 unfolding journeys_of
 journey_is p v j e =
     let x = map_some (journey_of p) (slice_get (vehicles_of p) v) j (sym (slice_get-map (journey_of p) (vehicles_of p) v) ∙ e) in
     sym (x.2) ∙ ap (journey_of p) (got_number (vehicle_count p) v x.0 (x.1))
+
+-- each vehicle has a journey
+pub journeys_many : (p : Plan) → length (journeys_of p) ≡ length p.trips
+unfolding journeys_of
+journeys_many p = length-map (vehicles_of p) (journey_of p) ∙ length-range_with_len 0 (length p.trips)
+
+-- what is found among moves that are no entries is none
+pub found_fails : (L : List Move) (m : Move) → find (λ x. not (is_entry x)) L ≡ Some m → is_entry m ≡ false
+found_fails [] m e = cc
+found_fails (x ∷ L) m e = found_step (is_entry x) refl e (found_fails L m)
+  where
+    found_step : (b : Bool) → b ≡ is_entry x → cond (not b) (Some x) (find (λ y. not (is_entry y)) L) ≡ Some m → (find (λ y. not (is_entry y)) L ≡ Some m → is_entry m ≡ false) → is_entry m ≡ false
+    found_step true r e ih = ih e
+    found_step false r e ih = let q : x ≡ m = cc in subst (λ y. is_entry y ≡ false) q (sym r)
 
 opened : (p : Plan) (v : ℕ) → journey_of p v ≡ record { entries = entries_of (trace_after p p.horizon) v; arrival = arrival_of (trace_after p p.horizon) v }
 unfolding journey_of

@@ -8,6 +8,8 @@ use Rattle.std.proofs.lemmas.List.Elements.{All-head, All-tail, All-push, All-ni
 use Rattle.std.proofs.Math.Dec.{eqb}
 use Rattle.dta_model.proofs.Blocked.{next_target-other}
 use Rattle.dta_model.proofs.NoMoves.{no-moves}
+pub use Rattle.dta_model.proofs.Following.{Follows}
+use Rattle.dta_model.proofs.Following.{Follows-append, Follows-at, whole-follows}
 use Rattle.dta_model.specs.declared.plan.Plan.{Plan}
 use Rattle.dta_model.specs.Laws.{HeadsMove, LeftInOrder, MovesInTurn}
 use Rattle.dta_model.specs.Loading.{after_step, step_moves, trace_after}
@@ -26,19 +28,6 @@ use Rattle.dta_model.proofs.Fuel.{has_moved-if, absent_without}
 use Rattle.dta_model.proofs.Conserved.{one_link}
 use Rattle.std.proofs.lemmas.Option.{same_Some}
 
--- each of these moves is as the relation says, after those before it
-abbrev pub Follows : (List Move → Move → Type 0) → List Move → List Move → Type 0
-Follows R U [] = ⊤
-Follows R U (m ∷ M) = R U m × Follows R (U ++ m ∷ []) M
-
-Follows-append : (R : List Move → Move → Type 0) (M N U : List Move) → Follows R U M → Follows R (U ++ M) N → Follows R U (M ++ N)
-Follows-append R [] N U f g = subst (λ L. Follows R L N) (append-nil U) g
-Follows-append R (m ∷ M) N U f g = (f.0, Follows-append R M N (U ++ m ∷ []) f.1 (subst (λ L. Follows R L N) (sym (append_assoc U (m ∷ []) M)) g))
-
-Follows-at : (R : List Move → Move → Type 0) (S X : List Move) (m : Move) (U : List Move) → Follows R U (S ++ m ∷ X) → R (U ++ S) m
-Follows-at R [] X m U f = subst (λ L. R L m) (sym (append-nil U)) f.0
-Follows-at R (x ∷ S) X m U f = subst (λ L. R L m) (append_assoc U (x ∷ []) S) (Follows-at R S X m (U ++ x ∷ []) f.1)
-
 -- a move in turn, to the next target
 abbrev pub Fits : Plan → List Move → Move → Type 0
 Fits p S m = MovesInTurn S m × (m.target ≡ next_target p S m.vehicle)
@@ -56,21 +45,14 @@ turn-other : (W : List Move) (d m : Move) → d.vehicle ≢ m.vehicle → MovesI
 turn-other W d m n (inl h) = inl (none_more W d m.vehicle n h)
 turn-other W d m n (inr (l, e)) = inr (l, ap (λ Q. slice_get Q 0) (queue-push l W d) ∙ head_stays (queue_of l W) (cond (leads_to l d) (d.vehicle ∷ []) []) m.vehicle d.vehicle n e)
 
-fits-others : (p : Plan) (D W : List Move) (m : Move) → All (λ d. d.vehicle ≢ m.vehicle) D → Fits p W m → Fits p (W ++ D) m
-fits-others p [] W m all h = subst (λ L. Fits p L m) (sym (append-nil W)) h
-fits-others p (d ∷ D) W m all h =
-    let other = All-head (λ x. x.vehicle ≢ m.vehicle) d D all in
-    subst (λ L. Fits p L m) (append_assoc W (d ∷ []) D) (fits-others p D (W ++ d ∷ []) m (All-tail (λ x. x.vehicle ≢ m.vehicle) d D all) (turn-other W d m other h.0, h.1 ∙ sym (next_target-other p W d m.vehicle other)))
+fits-other : (p : Plan) (W : List Move) (d m : Move) → d.vehicle ≢ m.vehicle → Fits p W m → Fits p (W ++ d ∷ []) m
+fits-other p W d m n h = (turn-other W d m n h.0, h.1 ∙ sym (next_target-other p W d m.vehicle n))
 
 fits-same : (p : Plan) (T U : List Move) (m : Move) → Same T U → Fits p T m → Fits p U m
 fits-same p T U m s (inl h, e) = (inl (sym (has_moved-same T U s m.vehicle) ∙ h), e ∙ next_target-same p T U s m.vehicle)
 fits-same p T U m s (inr (l, h), e) = (inr (l, ap (λ Q. slice_get Q 0) (sym (s.queues l)) ∙ h), e ∙ next_target-same p T U s m.vehicle)
 
 module _ (p : Plan) (t : ℕ) (T : List Move) where
-  -- a move of a node before this one
-  Earlier : ℕ → Move → Type 0
-  Earlier n d = (a : ℕ) × (a < n) × AtNode p a t T d
-
   starts : (M : List Move) (b : ℕ) (m : Move) → is_first b (first_link p m.vehicle) ≡ true → has_moved m.vehicle (T ++ M) ≡ false → Onto b ≡ next_target p (T ++ M) m.vehicle
   unfolding next_target first_link
   starts M b m f h =
@@ -90,45 +72,8 @@ module _ (p : Plan) (t : ℕ) (T : List Move) where
       let still = not-true _ parts.1 in
       (inl still, h.goes ∙ starts M b m more.0 still)
 
-  less_apart : (a n : ℕ) → a < n → a ≢ n
-  less_apart a n l e = absurd (omega (arith, l, e))
-
-  node-follows : (n : ℕ) (D : List Move) → All (Earlier n) D → Follows (Fits p) (T ++ D) (node_moves p n t T) × All (AtNode p n t T) (node_moves p n t T)
-  unfolding Earlier
-  node-follows n D early = moves-keep p n t T (λ M. Follows (Fits p) (T ++ D) M × All (AtNode p n t T) M) step (tt, All-nil (AtNode p n t T))
-    where
-      step : (M : List Move) (m : Move) → Follows (Fits p) (T ++ D) M × All (AtNode p n t T) M → next_move p n t T M ≡ Some m → Follows (Fits p) (T ++ D) (M ++ m ∷ []) × All (AtNode p n t T) (M ++ m ∷ [])
-      step M m so_far e =
-          let k = next_cases p n t T M m e in
-          let here : AtNode p n t T m = kind_at p n t T M m so_far.1 k in
-          let others : All (λ d. d.vehicle ≢ m.vehicle) D = All-weaker (Earlier n) (λ d. d.vehicle ≢ m.vehicle) (λ d x. (apart_of p t T (x.0) n (less_apart (x.0) n (x.1)) d m (x.2) here).others) D early in
-          let apart : All (λ d. All (λ a. Apart a d) M) D = All-weaker (Earlier n) (λ d. All (λ a. Apart a d) M) (λ d x. All-weaker (AtNode p n t T) (λ a. Apart a d) (λ a y. apart_of p t T n (x.0) (λ q. less_apart (x.0) n (x.1) (sym q)) a d y (x.2)) M so_far.1) D early in
-          let now = fits-same p ((T ++ M) ++ D) ((T ++ D) ++ M) m (Same-blocks D M T apart) (fits-others p D (T ++ M) m others (kind_fits n M m k)) in
-          (Follows-append (Fits p) M (m ∷ []) (T ++ D) so_far.0 (now, tt), All-push (AtNode p n t T) M m so_far.1 here)
-
-  nodes-follow : (k from : ℕ) (D : List Move) → All (Earlier from) D → Follows (Fits p) (T ++ D) (flat_map (λ n. node_moves p n t T) (range_with_len from k))
-  unfolding Earlier
-  nodes-follow zero from D early = tt
-  nodes-follow (suc k) from D early =
-      let M = node_moves p from t T in
-      let more : All (Earlier (from + 1)) (D ++ M) = All-append (Earlier (from + 1)) D M
-      (All-weaker (Earlier from) (Earlier (from + 1)) (λ d x. (x.0, less_more (x.0) from (x.1), x.2)) D early)
-      (All-weaker (AtNode p from t T) (Earlier (from + 1)) (λ d x. (from, less_next from, x)) M (at-node p from t T)) in
-      Follows-append (Fits p) M (flat_map (λ n. node_moves p n t T) (range_with_len (from + 1) k)) (T ++ D) (node-follows from D early).0
-      (subst (λ L. Follows (Fits p) L (flat_map (λ n. node_moves p n t T) (range_with_len (from + 1) k))) (sym (append_assoc T D M)) (nodes-follow k (from + 1) (D ++ M) more))
-    where
-      less_more : (a b : ℕ) → a < b → a < b + 1
-      less_more a b h = omega (arith, h)
-
-      less_next : (b : ℕ) → b < b + 1
-      less_next b = omega arith
-
 pub trace-follows : (p : Plan) (t : ℕ) → Follows (Fits p) [] (trace_after p t)
-unfolding trace_after after_step
-trace-follows p zero = tt
-trace-follows p (suc t) =
-    let T = trace_after p t in
-    Follows-append (Fits p) T (step_moves p t T (all_nodes p)) [] (trace-follows p t) (subst (λ L. Follows (Fits p) L (step_moves p t T (all_nodes p))) (append-nil T) (nodes-follow p t T (length p.net.nodes) 0 [] (All-nil (Earlier p t T 0))))
+trace-follows p t = whole-follows p (Fits p) (fits-other p) (fits-same p) (kind_fits p) t
 
 pub heads_move : HeadsMove
 heads_move p t S R m e = (Follows-at (Fits p) S R m [] (subst (λ L. Follows (Fits p) [] L) e (trace-follows p t))).0

@@ -11,6 +11,7 @@ pub mod Fuel
 pub mod Conserved
 pub mod Start
 pub mod Totals
+pub mod Following
 pub mod InTurn
 pub mod Blocked
 pub mod Riders

@@ -139,7 +139,7 @@ and_cond true false = refl
 and_cond false true = refl
 and_cond false false = refl
 
-vehicle_count_one : (v n : ℕ) (e : Bool) → v < n → sum_by (λ w. cond (eqb v w && e) 1 0) (numbers_below n) ≡ cond e 1 0
+pub vehicle_count_one : (v n : ℕ) (e : Bool) → v < n → sum_by (λ w. cond (eqb v w && e) 1 0) (numbers_below n) ≡ cond e 1 0
 vehicle_count_one v n true h = sum_alike (λ w. cond (eqb v w && true) 1 0) (λ w. cond (eqb v w) 1 0) (λ w. and_cond (eqb v w) true) (numbers_below n) ∙ one_below v n h
 vehicle_count_one v n false h = sum_alike (λ w. cond (eqb v w && false) 1 0) (λ w. 0) (λ w. and_cond (eqb v w) false) (numbers_below n) ∙ sum_zero n 0
 

@@ -130,7 +130,7 @@ unfolding loadings_on_literals trip two_links_in_a_line
 two_links_in_a_line-state = refl
 
 -- ---- the second link has no capacity
-unfoldable a_link_without_capacity : Plan
+unfoldable pub a_link_without_capacity : Plan
 a_link_without_capacity =
     record two_links_in_a_line {
       net = in_a_line (link 0 0 1 10 125 600000000) (link 1 1 2 10 125 0) [];
@@ -147,7 +147,7 @@ unfolding loadings_on_literals trip two_links_in_a_line a_link_without_capacity
 a_link_without_capacity-arrivals = refl
 
 -- ---- a turn of two penalty steps between the links
-unfoldable turn_penalty : Plan
+unfoldable pub turn_penalty : Plan
 turn_penalty = record two_links_in_a_line {
   net = in_a_line (link 0 0 1 10 125 600000000) (link 1 1 2 10 125 600000000)
       (record { a = number 0; b = number 1; penalty = 2; rate = None } ∷ []);
@@ -165,7 +165,7 @@ turn_penalty-arrivals = refl
 
 -- ---- the second link stores ten vehicles. Of those on it, six leave in step 11, and make no room
 -- in that step
-unfoldable room_at_the_start_of_the_step : Plan
+unfoldable pub room_at_the_start_of_the_step : Plan
 room_at_the_start_of_the_step = record {
   net = in_a_line (link 0 0 1 10 125 3600000000) (link 1 1 2 1 10 3600000000) [];
   queue = queue.Spatial;
@@ -189,7 +189,7 @@ unfolding loadings_on_literals trip room_at_the_start_of_the_step
 room_at_the_start_of_the_step-arrivals = refl
 
 -- ---- the second link stores one vehicle
-unfoldable storage_of_one : Plan
+unfoldable pub storage_of_one : Plan
 storage_of_one = record room_at_the_start_of_the_step {
   net = in_a_line (link 0 0 1 10 125 3600000000) (link 1 1 2 1 1 3600000000) [];
   trips = trip 0 0 ∷ trip 1 0 ∷ [];
@@ -207,10 +207,10 @@ storage_of_one-arrivals = refl
 
 -- ---- two links lead to one that takes a vehicle in a step; they take turns, the second of them
 -- first
-unfoldable two_links_merge : Plan
+unfoldable pub two_links_merge : Plan
 two_links_merge = record {
   net = record {
-    nodes = node 1 ∷ node 1 ∷ node 2 ∷ node 3 ∷ [];
+    nodes = node 1 ∷ record (node 1) { id = 4 } ∷ node 2 ∷ node 3 ∷ [];
     links = link 0 0 2 1 12 3600000000 ∷ link 1 1 2 1 12 3600000000
         ∷ link 2 2 3 1 12 600000000 ∷ [];
     turns = [];

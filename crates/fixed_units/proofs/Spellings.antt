@@ -96,7 +96,7 @@ spellings-are-read s h short =
 is-43 : (x : ℕ) → (x == 43) ≡ true → x ≡ 43
 is-43 x h = grind arith
 
-is-45 : (x : ℕ) → (x == 45) ≡ true → x ≡ 45
+pub is-45 : (x : ℕ) → (x == 45) ≡ true → x ≡ 45
 is-45 x h = grind arith
 
 -- a text is its sign and what stands after it
@@ -134,7 +134,7 @@ pointed-text m =
       | false ↦ λ e. append-nil (whole_part m) ∙ whole_part-None m (missing is_point m e)
     ] refl
 
-not-none-length : (n : ℕ) → not (n == 0) ≡ true → 0 < n
+pub not-none-length : (n : ℕ) → not (n == 0) ≡ true → 0 < n
 not-none-length n h = grind arith
 
 pub quantities-are-spelled : QuantitiesAreSpelled

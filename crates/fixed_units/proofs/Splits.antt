@@ -195,7 +195,7 @@ IsEnd-from_end_of (x ∷ text) tens e =
     let parts = some-of (is_exponent_mark x) (is_exponent text) (record { up = tens_up text; down = tens_down text }) tens e in
     subst (λ (t : Tens). IsEnd (x ∷ text) t) parts.2 (end-marked x text parts.0 parts.1)
 
-and-false : (b : Bool) → (b && false) ≡ false
+pub and-false : (b : Bool) → (b && false) ≡ false
 and-false true = refl
 and-false false = refl
 

@@ -14,7 +14,7 @@ use Rattle.dta_model.specs.declared.trip.Trip.{Trip}
 use Rattle.gap.specs.Gap.{AreLeasts, AreWalks, has_route, IsLeastOf, over_vehicles, route_time, routed, steps_of}
 use Rattle.gap.specs.Told.{asks_for, least_at, least_at_place, least_in}
 use Rattle.time_routes.specs.Destinations.{AreTold, asks_least, LeastOf}
-use Rattle.time_routes.proofs.OfStates.ByZoneFacts.{numbers_more}
+use Rattle.net_core.proofs.Numbers.{numbers_more}
 
 -- ---- one vehicle more
 pub over-more : (n : ℕ) (f : ℕ → ℕ) → over_vehicles (n + 1) f ≡ over_vehicles n f + f n

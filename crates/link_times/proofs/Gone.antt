@@ -19,6 +19,7 @@ use Rattle.dta_model.proofs.Arrivals.{arrival_is_last}
 use Rattle.dta_model.proofs.Onward.{vehicles_are_conserved}
 use Rattle.dta_model.proofs.Ends.{got_number}
 use Rattle.dta_model.proofs.NoMoves.{no-moves}
+use Rattle.dta_model.proofs.Ends.{found_fails, journey_is}
 use Rattle.dta_model.proofs.Journeys.{routes_are_followed, steps_rise}
 use Rattle.dta_model.proofs.Steady.{steady_of}
 use Rattle.link_times.proofs.TravelTimes.{Spaced, moves_are_spaced}
@@ -48,14 +49,6 @@ all_links : (most : ℕ) (L : List LinkNo) → All (λ l. l < most) (link_number
 all_links most [] all i d h = absurd (omega (arith, h))
 all_links most (x ∷ L) all zero d h = All-head (λ l. l < most) x.0 (link_numbers L) all
 all_links most (x ∷ L) all (suc i) d h = all_links most L (All-tail (λ l. l < most) x.0 (link_numbers L) all) i d (omega (arith, h))
-
-found_fails : (L : List Move) (m : Move) → find (λ x. not (is_entry x)) L ≡ Some m → is_entry m ≡ false
-found_fails [] m e = cc
-found_fails (x ∷ L) m e = found_step (is_entry x) refl e (found_fails L m)
-  where
-    found_step : (b : Bool) → b ≡ is_entry x → cond (not b) (Some x) (find (λ y. not (is_entry y)) L) ≡ Some m → (find (λ y. not (is_entry y)) L ≡ Some m → is_entry m ≡ false) → is_entry m ≡ false
-    found_step true r e ih = ih e
-    found_step false r e ih = let q : x ≡ m = cc in subst (λ y. is_entry y ≡ false) q (sym r)
 
 found_in : (P : Move → Type 0) (q : Move → Bool) (L : List Move) (m : Move) → All P L → find q L ≡ Some m → P m
 found_in P q [] m all e = cc
@@ -128,20 +121,6 @@ module _ (p : Plan) (sound : IsSound p) (v : ℕ) where
   pub unrouted : slice_get p.routes v ≡ Some None → moves_of v (trace_after p p.horizon) ≡ []
   unfolding is_routed
   unrouted e = no-moves v (trace_after p p.horizon) (stays p v (ap some_route e))
-
-map_some : {A B : Type 0} (f : A → B) (o : Option A) (y : B) → option_map f o ≡ Some y → (x : A) × (o ≡ Some x) × (f x ≡ y)
-map_some f None y e = absurd (none-some y e)
-map_some f (Some x) y e = (x, refl, same_Some (f x) y e)
-
-journey_is : (p : Plan) (v : ℕ) (j : Journey) → slice_get (journeys_of p) v ≡ Some j → j ≡ journey_of p v
-unfolding journeys_of
-journey_is p v j e =
-    let x = map_some (journey_of p) (slice_get (vehicles_of p) v) j (sym (slice_get-map (journey_of p) (vehicles_of p) v) ∙ e) in
-    sym (x.2) ∙ ap (journey_of p) (got_number (vehicle_count p) v x.0 (x.1))
-
-pub journeys_many : (p : Plan) → length (journeys_of p) ≡ length p.trips
-unfolding journeys_of
-journeys_many p = length-map (vehicles_of p) (journey_of p) ∙ length-range_with_len 0 (length p.trips)
 
 pub gone_by : (p : Plan) → IsSound p → (v : ℕ) (loaded : List Journey) (route way : List LinkNo) (journey : Journey) (entries : List ℕ) → slice_get p.routes v ≡ Some (Some route) → way ≡ route → loaded ≡ journeys_of p → slice_get loaded v ≡ Some journey → entries ≡ journey.entries → HasGone p v way entries journey.arrival
 unfolding journey_of

@@ -2,6 +2,7 @@
 use Rattle.std.specs.Prelude.{nat_lt, slice_index, cond}
 use Rattle.std.proofs.Common.{◌≡◌, ℕ, zero, suc, ◌+◌, ◌*◌, ◌/◌, ◌<◌, ◌≤◌, true, List, [], ◌∷◌, length, refl, arith, get_or, ap, sym, ◌∙◌, subst}
 use Rattle.std.proofs.lemmas.Bool.Decides.{nat_tests}
+use Rattle.net_core.proofs.Orders.{is_lt}
 use Rattle.dta_model.specs.LinkTimes.{buckets_to, place_in, time_at}
 use Rattle.link_times.specs.Tables.{IsTable, table_view}
 use Rattle.link_times.specs.declared.table.LinkTimes.TheInside.{Inside}
@@ -11,9 +12,6 @@ default_is : (xs : List ℕ) (q d e : ℕ) → q < length xs → get_or xs q d �
 default_is [] q d e h = absurd (omega (arith, h))
 default_is (x ∷ xs) zero d e h = refl
 default_is (x ∷ xs) (suc q) d e h = default_is xs q d e (omega (arith, h))
-
-is_below : (a b : ℕ) → a < b → nat_lt a b ≡ true
-is_below a b h = grind (arith, nat_tests)
 
 module _ (t : Inside) (sound : IsTable t) (l step : ℕ) (link : l < length t.free.items) (early : step < t.horizon) where
   place_there : l * t.buckets + step / t.bucket < length t.times.items
@@ -27,7 +25,7 @@ module _ (t : Inside) (sound : IsTable t) (l step : ℕ) (link : l < length t.fr
   read_is d =
       default_is t.times.items (l * t.buckets + step / t.bucket) d 0 place_there
       ∙ ap (λ n. slice_index t.times.items (l * n + step / t.bucket)) sound.buckets
-      ∙ sym (ap (λ b. cond b (slice_index t.times.items (place_in (buckets_to t.bucket t.horizon) l (step / t.bucket))) (slice_index t.free.items l)) (is_below step t.horizon early))
+      ∙ sym (ap (λ b. cond b (slice_index t.times.items (place_in (buckets_to t.bucket t.horizon) l (step / t.bucket))) (slice_index t.free.items l)) (is_lt step t.horizon early))
 
   pub read_least : (d : ℕ) → 1 ≤ get_or t.times.items (l * t.buckets + step / t.bucket) d
   read_least d = sound.times (l * t.buckets + step / t.bucket) d place_there

@@ -3,9 +3,11 @@ use Rattle.std.specs.List.{last_or, range_with_len, flat_map}
 use Rattle.std.specs.Prelude.{All, ◌≢◌, ⊤, nat_le}
 use Rattle.std.proofs.Common.{◌≡◌, ◌&&◌, ℕ, zero, suc, ◌+◌, ◌<◌, ◌≤◌, Bool, true, false, not, List, [], ◌∷◌, ◌++◌, length, refl, ap, sym, ◌∙◌, subst, arith, Some, ◌⊎◌, inl, inr, append_assoc, append-nil, Option, None}
 use Rattle.std.proofs.lemmas.Bool.Decides.{eqb_tells, nat_tests}
-use Rattle.std.proofs.lemmas.Bool.{eqb-true}
+use Rattle.std.proofs.lemmas.Bool.{and_parts, not-true}
 use Rattle.std.proofs.lemmas.List.Elements.{All-head, All-tail, All-push, All-nil, All-append, All-weaker}
 use Rattle.std.proofs.Math.Dec.{eqb}
+use Rattle.std.proofs.lemmas.Option.{same_Some}
+use Rattle.net_core.proofs.Orders.{le_holds}
 use Rattle.net_core.specs.declared.rows.Turn.{Turn}
 use Rattle.dta_model.specs.declared.plan.Plan.{Plan}
 use Rattle.dta_model.specs.LinkTimes.{penalty_to}
@@ -20,12 +22,9 @@ use Rattle.dta_model.proofs.NextMoves.{Kind, head, waiting, next_cases, moves-ke
 use Rattle.dta_model.proofs.Same.{Same, Same-blocks, Apart}
 use Rattle.dta_model.proofs.Places.{AtNode, at-node, kind_at}
 use Rattle.dta_model.proofs.AnyOrder.{apart_of}
-use Rattle.dta_model.proofs.InTurn.{Follows}
+use Rattle.dta_model.proofs.Following.{Follows, whole-follows}
+use Rattle.dta_model.proofs.Onward.{onto_one}
 use Rattle.dta_model.proofs.Riders.{last_move_is, own_move, other_move}
-
-both_true : (a b : Bool) → (a && b) ≡ true → (a ≡ true) × (b ≡ true)
-both_true true b e = (refl, e)
-both_true false b e = cc
 
 abbrev free_at : Plan → Target → ℕ
 free_at p Arrived = 0
@@ -43,47 +42,29 @@ Lasts p e m = e.step + free_at p e.target + penalty_at p e.target m.target ≤ m
 abbrev Takes : Plan → List Move → Move → Type 0
 Takes p S m = (e : Move) → last_move m.vehicle S ≡ Some e → Lasts p e m
 
-follows-append : (R : List Move → Move → Type 0) (M N U : List Move) → Follows R U M → Follows R (U ++ M) N → Follows R U (M ++ N)
-follows-append R [] N U f g = subst (λ L. Follows R L N) (append-nil U) g
-follows-append R (m ∷ M) N U f g = (f.0, follows-append R M N (U ++ m ∷ []) f.1 (subst (λ L. Follows R L N) (sym (append_assoc U (m ∷ []) M)) g))
+takes-other : (p : Plan) (W : List Move) (d m : Move) → d.vehicle ≢ m.vehicle → Takes p W m → Takes p (W ++ d ∷ []) m
+takes-other p W d m other h = λ e q. h e (sym (last_move-other W d m.vehicle other) ∙ q)
 
-takes-others : (p : Plan) (D W : List Move) (m : Move) → All (λ d. d.vehicle ≢ m.vehicle) D → Takes p W m → Takes p (W ++ D) m
-takes-others p [] W m all h = subst (λ L. Takes p L m) (sym (append-nil W)) h
-takes-others p (d ∷ D) W m all h =
-    let other = All-head (λ x. x.vehicle ≢ m.vehicle) d D all in
-    subst (λ L. Takes p L m) (append_assoc W (d ∷ []) D)
-    (takes-others p D (W ++ d ∷ []) m (All-tail (λ x. x.vehicle ≢ m.vehicle) d D all) (λ e q. h e (sym (last_move-other W d m.vehicle other) ∙ q)))
-
-some_move : (x y : Move) → Some x ≡ Some y → x ≡ y
-some_move x y e = cc
-
-le_true : (a b : ℕ) → nat_le a b ≡ true → a ≤ b
-le_true a b h = grind (arith, nat_tests)
+takes-same : (p : Plan) (T U : List Move) (m : Move) → Same T U → Takes p T m → Takes p U m
+takes-same p T U m s h = λ e q. h e (s.last m.vehicle ∙ q)
 
 module _ (p : Plan) (t : ℕ) (T : List Move) where
-  Earlier : ℕ → Move → Type 0
-  Earlier n d = (a : ℕ) × (a < n) × AtNode p a t T d
-
   module _ (n : ℕ) where
     by_turn : (M : List Move) (ready l b : ℕ) (o : Option Turn) → turn_test p n t T M ready l b o ≡ true → ready + penalty_steps o ≤ t
     by_turn M ready l b None h = cc
-    by_turn M ready l b (Some way) h = le_true (ready + way.penalty) t (both_true _ _ (both_true _ _ h).0).0
+    by_turn M ready l b (Some way) h = le_holds (ready + way.penalty) t (and_parts _ _ (and_parts _ _ h).0).0
 
     by_target : (M : List Move) (l ready : ℕ) (x : Target) → may_move p n t T M l ready x ≡ true → ready + penalty_to p l x ≤ t
     unfolding may_move may_turn
-    by_target M l ready Arrived h = let k = le_true ready t (both_true _ _ h).0 in omega (arith, k)
-    by_target M l ready (Onto b) h = by_turn M ready l b (turn p l b) (both_true _ _ h).1
-
-    onto : (l : ℕ) (x : Target) → is_link l x ≡ true → x ≡ Onto l
-    onto l (Onto b) h = ap Onto (eqb-true b l h)
-    onto l Arrived h = cc
+    by_target M l ready Arrived h = let k = le_holds ready t (and_parts _ _ h).0 in omega (arith, k)
+    by_target M l ready (Onto b) h = by_turn M ready l b (turn p l b) (and_parts _ _ h).1
 
     head_takes : (M : List Move) (l : ℕ) (m : Move) → OfHead p n t T M l m → Takes p (T ++ M) m
     head_takes M l m h e q =
         let x = in-queue l (T ++ M) 0 m.vehicle h.first in
-        let same : x.0 ≡ e = some_move (x.0) e (sym (x.1) ∙ q) in
-        let entry : h.entry ≡ e = some_move h.entry e (sym h.entered ∙ q) in
-        let at : e.target ≡ Onto l = onto l e.target (subst (λ z. is_link l z.target ≡ true) same (x.2)) in
+        let same : x.0 ≡ e = same_Some (x.0) e (sym (x.1) ∙ q) in
+        let entry : h.entry ≡ e = same_Some h.entry e (sym h.entered ∙ q) in
+        let at : e.target ≡ Onto l = onto_one l e.target (subst (λ z. is_link l z.target ≡ true) same (x.2)) in
         let long : h.entry.step + (link_at p l).free + penalty_to p l m.target ≤ t = by_target M l (h.entry.step + (link_at p l).free) m.target h.may in
         subst (λ y. e.step + free_at p y + penalty_at p y m.target ≤ m.step) (sym at)
         (subst (λ s. e.step + (link_at p l).free + penalty_to p l m.target ≤ s) (sym h.now)
@@ -93,54 +74,11 @@ module _ (p : Plan) (t : ℕ) (T : List Move) where
     unfolding waits_for
     kind_takes M m (head l into h) = head_takes M l m h
     kind_takes M m (waiting b out h) = λ e q.
-        let none : last_move m.vehicle (T ++ M) ≡ None = no-last m.vehicle (T ++ M) (not_true _ (both_true _ _ h.waits).1) in
+        let none : last_move m.vehicle (T ++ M) ≡ None = no-last m.vehicle (T ++ M) (not-true _ (and_parts _ _ h.waits).1) in
         let clash : None ≡ Some e = sym none ∙ q in cc
-      where
-        not_true : (c : Bool) → not c ≡ true → c ≡ false
-        not_true true e = cc
-        not_true false e = refl
-
-  less_apart : (a n : ℕ) → a < n → a ≢ n
-  less_apart a n l e = absurd (omega (arith, l, e))
-
-  node-follows : (n : ℕ) (D : List Move) → All (Earlier n) D → Follows (Takes p) (T ++ D) (node_moves p n t T) × All (AtNode p n t T) (node_moves p n t T)
-  unfolding Earlier
-  node-follows n D early = moves-keep p n t T (λ M. Follows (Takes p) (T ++ D) M × All (AtNode p n t T) M) step (tt, All-nil (AtNode p n t T))
-    where
-      step : (M : List Move) (m : Move) → Follows (Takes p) (T ++ D) M × All (AtNode p n t T) M → next_move p n t T M ≡ Some m → Follows (Takes p) (T ++ D) (M ++ m ∷ []) × All (AtNode p n t T) (M ++ m ∷ [])
-      step M m so_far e =
-          let k = next_cases p n t T M m e in
-          let here : AtNode p n t T m = kind_at p n t T M m so_far.1 k in
-          let others : All (λ d. d.vehicle ≢ m.vehicle) D = All-weaker (Earlier n) (λ d. d.vehicle ≢ m.vehicle) (λ d x. (apart_of p t T (x.0) n (less_apart (x.0) n (x.1)) d m (x.2) here).others) D early in
-          let apart : All (λ d. All (λ a. Apart a d) M) D = All-weaker (Earlier n) (λ d. All (λ a. Apart a d) M) (λ d x. All-weaker (AtNode p n t T) (λ a. Apart a d) (λ a y. apart_of p t T n (x.0) (λ q. less_apart (x.0) n (x.1) (sym q)) a d y (x.2)) M so_far.1) D early in
-          let same : Same ((T ++ M) ++ D) ((T ++ D) ++ M) = Same-blocks D M T apart in
-          let before = takes-others p D (T ++ M) m others (kind_takes n M m k) in
-          let now : Takes p ((T ++ D) ++ M) m = λ x q. before x (same.last m.vehicle ∙ q) in
-          (follows-append (Takes p) M (m ∷ []) (T ++ D) so_far.0 (now, tt), All-push (AtNode p n t T) M m so_far.1 here)
-
-  nodes-follow : (k from : ℕ) (D : List Move) → All (Earlier from) D → Follows (Takes p) (T ++ D) (flat_map (λ n. node_moves p n t T) (range_with_len from k))
-  unfolding Earlier
-  nodes-follow zero from D early = tt
-  nodes-follow (suc k) from D early =
-      let M = node_moves p from t T in
-      let more : All (Earlier (from + 1)) (D ++ M) = All-append (Earlier (from + 1)) D M
-      (All-weaker (Earlier from) (Earlier (from + 1)) (λ d x. (x.0, less_more (x.0) from (x.1), x.2)) D early)
-      (All-weaker (AtNode p from t T) (Earlier (from + 1)) (λ d x. (from, less_next from, x)) M (at-node p from t T)) in
-      follows-append (Takes p) M (flat_map (λ n. node_moves p n t T) (range_with_len (from + 1) k)) (T ++ D) (node-follows from D early).0
-      (subst (λ L. Follows (Takes p) L (flat_map (λ n. node_moves p n t T) (range_with_len (from + 1) k))) (sym (append_assoc T D M)) (nodes-follow k (from + 1) (D ++ M) more))
-    where
-      less_more : (a b : ℕ) → a < b → a < b + 1
-      less_more a b h = omega (arith, h)
-
-      less_next : (b : ℕ) → b < b + 1
-      less_next b = omega arith
 
 trace-takes : (p : Plan) (t : ℕ) → Follows (Takes p) [] (trace_after p t)
-unfolding trace_after after_step
-trace-takes p zero = tt
-trace-takes p (suc t) =
-    let T = trace_after p t in
-    follows-append (Takes p) T (step_moves p t T (all_nodes p)) [] (trace-takes p t) (subst (λ L. Follows (Takes p) L (step_moves p t T (all_nodes p))) (append-nil T) (nodes-follow p t T (length p.net.nodes) 0 [] (All-nil (Earlier p t T 0))))
+trace-takes p t = whole-follows p (Takes p) (takes-other p) (takes-same p) (kind_takes p) t
 
 -- moves, each long enough after the one before
 abbrev pub Spaced : Plan → Option Move → List Move → Type 0

@@ -2,12 +2,13 @@
 use Rattle.std.proofs.Common.{◌≡◌, ◌≢◌, ℕ, ◌+◌, List, [], ◌∷◌, ◌++◌, length, refl, ap, ◌∙◌, arith, rules, map, Bool, true, false, nat_eq}
 use Rattle.std.specs.Prelude.{Some, find, filter}
 use Rattle.std.proofs.lemmas.List.FromFn.{map-range_with_len_more}
+use Rattle.std.proofs.lemmas.Bool.{and_parts}
 use Rattle.net_core.specs.ByNode.{all_links, end_of, start_of, node_of, is_from_to}
 use Rattle.net_core.specs.Network.{as_links, as_turn, free_turn, ins, is_named, link_at, numbers_below, outs, turn_at}
 use Rattle.net_core.specs.declared.rows.LinkNo.{LinkNo}
 use Rattle.net_core.specs.declared.rows.NetRows.{NetRows}
 use Rattle.net_core.specs.declared.rows.TurnRow.{TurnRow}
-use Rattle.net_core.proofs.FindFacts.{find-filter, two-parts, list_any-no, list_any-some}
+use Rattle.net_core.proofs.FindFacts.{find-filter, list_any-no, list_any-some}
 
 pub as_links-more : (n : ℕ)
     → as_links (numbers_below (n + 1)) ≡ as_links (numbers_below n) ++ record { 0 = n } ∷ []
@@ -62,7 +63,7 @@ module _ (net : NetRows) (n a b : ℕ) (listed : List TurnRow) (here : (link_at 
   -- a turn of the pair is at the node
   from_to-here : (turn : TurnRow) → is_from_to a b turn ≡ true → is_here turn ≡ true
   from_to-here turn e =
-      let parts = two-parts (nat_eq turn.a.0 a) (nat_eq turn.b.0 b) e in
+      let parts = and_parts (nat_eq turn.a.0 a) (nat_eq turn.b.0 b) e in
       let same : turn.a.0 ≡ a = search (rules, parts.0) in
       let ends : node_of net.links turn ≡ n = ap (λ l. (link_at net l).to.0) same ∙ here in
       rw ends (search rules)

@@ -3,7 +3,9 @@ use Rattle.std.proofs.Common.{◌≡◌, ◌<◌, ◌≤◌, ℕ, List, [], ◌�
 use Rattle.std.specs.Prelude.{◌&&◌, All, None, Option, Some, IfSome, nat_le}
 use Rattle.std.specs.List.{AllByRecursion, IsDistinct, list_all, list_any}
 use Rattle.std.proofs.lemmas.List.Elements.{All-cons, All-nil}
+use Rattle.std.proofs.lemmas.Bool.{and_parts}
 use Rattle.fixed_units.specs.declared.link.TheConstants.{MOST_FREE_STEPS, MOST_STORAGE}
+use Rattle.net_core.proofs.Orders.{le_holds, lt_holds}
 use Rattle.net_core.specs.Ids.{pair_eq}
 use Rattle.net_core.specs.Network.{IsNet}
 use Rattle.net_core.specs.Rows.{AreLinks, AreNodes, AreTurns, IsBetween, IsLinkInRange, IsTurnInRange, IsTurning, link_ids, link_in, node_ids, turn_pairs}
@@ -15,7 +17,6 @@ use Rattle.fixed_units.specs.declared.turn.TheConstants.{MOST_PENALTY_STEPS}
 use Rattle.fixed_units.specs.declared.link.TheConstants.{MOST_RATE}
 use Rattle.net_core.specs.declared.rows.TheConstants.{MOST_NODES, MOST_LINKS, MOST_TURNS}
 use Rattle.net_core.specs.declared.rows.TurnRow.{TurnRow}
-use Rattle.net_core.proofs.FindFacts.{two-parts}
 
 abbrev differ : {K : Type 0} → (K → K → Bool) → List K → Bool
 differ eq [] = true
@@ -75,39 +76,33 @@ distinct-checked : {K : Type 0} (eq : K → K → Bool) (ks : List K) → differ
 unfolding IsDistinct
 distinct-checked eq [] e = tt
 distinct-checked eq (k ∷ ks) e =
-    let parts = two-parts (not (list_any (eq k) ks)) (differ eq ks) e in
+    let parts = and_parts (not (list_any (eq k) ks)) (differ eq ks) e in
     (none-equal eq k ks parts.0, distinct-checked eq ks parts.1)
 
-all-checked : {X : Type 0} (P : X → Type 0) (p : X → Bool) → ((x : X) → p x ≡ true → P x)
+pub all-checked : {X : Type 0} (P : X → Type 0) (p : X → Bool) → ((x : X) → p x ≡ true → P x)
     → (xs : List X) → list_all p xs ≡ true → All P xs
 all-checked P p f [] e = All-nil P
 all-checked P p f (x ∷ xs) e =
-    let parts = two-parts (p x) (list_all p xs) e in
+    let parts = and_parts (p x) (list_all p xs) e in
     All-cons P x xs (f x parts.0) (all-checked P p f xs parts.1)
-
-at-most : (a b : ℕ) → nat_le a b ≡ true → a ≤ b
-at-most a b e = search (rules, e)
-
-below : (a b : ℕ) → nat_lt a b ≡ true → a < b
-below a b e = search (rules, e)
 
 range-checked : (link : LinkRow) → has_range link ≡ true → IsLinkInRange link
 range-checked link e =
-    let moves = two-parts (nat_le 1 link.free) _ e in
-    let free = two-parts (nat_le link.free MOST_FREE_STEPS) _ moves.1 in
-    let stores = two-parts (nat_le 1 link.storage) _ free.1 in
-    let storage = two-parts (nat_le link.storage MOST_STORAGE) _ stores.1 in
+    let moves = and_parts (nat_le 1 link.free) _ e in
+    let free = and_parts (nat_le link.free MOST_FREE_STEPS) _ moves.1 in
+    let stores = and_parts (nat_le 1 link.storage) _ free.1 in
+    let storage = and_parts (nat_le link.storage MOST_STORAGE) _ stores.1 in
     record {
-      moves = at-most 1 link.free moves.0;
-      free = at-most link.free MOST_FREE_STEPS free.0;
-      stores = at-most 1 link.storage stores.0;
-      storage = at-most link.storage MOST_STORAGE storage.0;
-      rate = at-most link.rate MOST_RATE storage.1;
+      moves = le_holds 1 link.free moves.0;
+      free = le_holds link.free MOST_FREE_STEPS free.0;
+      stores = le_holds 1 link.storage stores.0;
+      storage = le_holds link.storage MOST_STORAGE storage.0;
+      rate = le_holds link.rate MOST_RATE storage.1;
     }
 
 rate-checked : (rate : Option ℕ) → is_rate rate ≡ true → IfSome rate (λ r. r ≤ MOST_RATE)
 rate-checked None e = tt
-rate-checked (Some r) e = at-most r MOST_RATE e
+rate-checked (Some r) e = le_holds r MOST_RATE e
 
 same-node : (x y : NodeNo) → nat_eq x.0 y.0 ≡ true → x ≡ y
 same-node x y e =
@@ -117,67 +112,67 @@ same-node x y e =
 
 nodes-checked : (nodes : List NodeRow) → are_nodes nodes ≡ true → AreNodes nodes
 nodes-checked nodes e =
-    let parts = two-parts (differ nat_eq (node_ids nodes)) _ e in
+    let parts = and_parts (differ nat_eq (node_ids nodes)) _ e in
     record {
       distinct = distinct-checked nat_eq (node_ids nodes) parts.0;
-      few = at-most (length nodes) MOST_NODES parts.1;
+      few = le_holds (length nodes) MOST_NODES parts.1;
     }
 
 links-checked : (links : List LinkRow) → are_links links ≡ true → AreLinks links
 links-checked links e =
-    let parts = two-parts (differ nat_eq (link_ids links)) _ e in
-    let more = two-parts (nat_le (length links) MOST_LINKS) _ parts.1 in
+    let parts = and_parts (differ nat_eq (link_ids links)) _ e in
+    let more = and_parts (nat_le (length links) MOST_LINKS) _ parts.1 in
     record {
       distinct = distinct-checked nat_eq (link_ids links) parts.0;
-      few = at-most (length links) MOST_LINKS more.0;
+      few = le_holds (length links) MOST_LINKS more.0;
       range = all-checked IsLinkInRange has_range range-checked links more.1;
     }
 
 between-checked : (nodes : List NodeRow) (link : LinkRow) → is_between (length nodes) link ≡ true
     → IsBetween nodes link
 between-checked nodes link e =
-    let parts = two-parts (nat_lt link.from.0 (length nodes)) _ e in
+    let parts = and_parts (nat_lt link.from.0 (length nodes)) _ e in
     record {
-      from = below link.from.0 (length nodes) parts.0;
-      to = below link.to.0 (length nodes) parts.1;
+      from = lt_holds link.from.0 (length nodes) parts.0;
+      to = lt_holds link.to.0 (length nodes) parts.1;
     }
 
 turn_range-checked : (turn : TurnRow) → has_turn_range turn ≡ true → IsTurnInRange turn
 turn_range-checked turn e =
-    let parts = two-parts (nat_le turn.penalty MOST_PENALTY_STEPS) _ e in
+    let parts = and_parts (nat_le turn.penalty MOST_PENALTY_STEPS) _ e in
     record {
-      penalty = at-most turn.penalty MOST_PENALTY_STEPS parts.0;
+      penalty = le_holds turn.penalty MOST_PENALTY_STEPS parts.0;
       rate = rate-checked turn.rate parts.1;
     }
 
 turns-checked : (turns : List TurnRow) → are_turns turns ≡ true → AreTurns turns
 turns-checked turns e =
-    let parts = two-parts (differ pair_eq (turn_pairs turns)) _ e in
-    let more = two-parts (nat_le (length turns) MOST_TURNS) _ parts.1 in
+    let parts = and_parts (differ pair_eq (turn_pairs turns)) _ e in
+    let more = and_parts (nat_le (length turns) MOST_TURNS) _ parts.1 in
     record {
       distinct = distinct-checked pair_eq (turn_pairs turns) parts.0;
-      few = at-most (length turns) MOST_TURNS more.0;
+      few = le_holds (length turns) MOST_TURNS more.0;
       range = all-checked IsTurnInRange has_turn_range turn_range-checked turns more.1;
     }
 
 turning-checked : (links : List LinkRow) (turn : TurnRow) → is_turning links turn ≡ true
     → IsTurning links turn
 turning-checked links turn e =
-    let parts = two-parts (nat_lt turn.a.0 (length links)) _ e in
-    let more = two-parts (nat_lt turn.b.0 (length links)) _ parts.1 in
+    let parts = and_parts (nat_lt turn.a.0 (length links)) _ e in
+    let more = and_parts (nat_lt turn.b.0 (length links)) _ parts.1 in
     record {
-      from = below turn.a.0 (length links) parts.0;
-      to = below turn.b.0 (length links) more.0;
+      from = lt_holds turn.a.0 (length links) parts.0;
+      to = lt_holds turn.b.0 (length links) more.0;
       meets = same-node (link_in links turn.a.0).to (link_in links turn.b.0).from more.1;
     }
 
 -- rows that pass the test make a network
 pub net-checked : (net : NetRows) → is_net net ≡ true → IsNet net
 net-checked net e =
-    let nodes = two-parts (are_nodes net.nodes) _ e in
-    let links = two-parts (are_links net.links) _ nodes.1 in
-    let between = two-parts (list_all (is_between (length net.nodes)) net.links) _ links.1 in
-    let turns = two-parts (are_turns net.turns) _ between.1 in
+    let nodes = and_parts (are_nodes net.nodes) _ e in
+    let links = and_parts (are_links net.links) _ nodes.1 in
+    let between = and_parts (list_all (is_between (length net.nodes)) net.links) _ links.1 in
+    let turns = and_parts (are_turns net.turns) _ between.1 in
     record {
       nodes = nodes-checked net.nodes nodes.0;
       links = links-checked net.links links.0;

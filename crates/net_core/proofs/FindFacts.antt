@@ -23,11 +23,6 @@ find-passed p xs i d b n t = rw (take_more xs i d b, find-append p (take i xs) (
 
 pub ruleset finding = (find-first, find-passed)
 
--- both of two tests pass
-pub two-parts : (a b : Bool) → (a && b) ≡ true → (a ≡ true) × (b ≡ true)
-two-parts true b e = (refl, e)
-two-parts false b e = absurd cc
-
 -- elements that another test needs are enough to look at
 pub find-filter : {X : Type 0} (p q : X → Bool) (xs : List X) → ((x : X) → p x ≡ true → q x ≡ true)
     → find p (filter q xs) ≡ find p xs

@@ -4,6 +4,8 @@ pub mod Checked
 pub mod FindFacts
 pub mod GroupedFacts
 pub mod IdsFacts
+pub mod Numbers
+pub mod Orders
 pub mod RowsFacts
 pub mod TurnsFacts
 pub mod ZonesFacts

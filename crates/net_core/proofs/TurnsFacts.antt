@@ -5,6 +5,7 @@ use Rattle.std.specs.List.{IsDistinct, list_any}
 use Rattle.std.proofs.lemmas.List.{get_or-map, length-map}
 use Rattle.std.proofs.lemmas.List.Folds.{Any-from_list_any, list_any-from_Any, list_any_at, list_any_none}
 use Rattle.std.proofs.lemmas.Map.Keys.{apart_from_distinct}
+use Rattle.std.proofs.lemmas.Bool.{and_parts}
 use Rattle.net_core.specs.ByNode.{is_from_to}
 use Rattle.net_core.specs.Ids.{pair_eq}
 use Rattle.net_core.specs.Network.{as_turn, is_named, link_at, turn, turn_at}
@@ -13,7 +14,7 @@ use Rattle.net_core.specs.Turns.{IsAllowed, ListedTurnsCostTheirRows, OtherTurns
 use Rattle.net_core.specs.declared.rows.NetRows.{NetRows}
 use Rattle.net_core.specs.declared.rows.NodeNo.{NodeNo}
 use Rattle.net_core.specs.declared.rows.TurnRow.{TurnRow}
-use Rattle.net_core.proofs.FindFacts.{find-first, find-passed, two-parts}
+use Rattle.net_core.proofs.FindFacts.{find-first, find-passed}
 use Rattle.net_core.proofs.ZonesFacts.{is_some-None}
 
 abbrev numbered : ℕ → NodeNo
@@ -67,7 +68,7 @@ module _ (net : NetRows) (a b : ℕ) where
 
   this-told : (row : TurnRow) → is_from_to a b row ≡ true → IsThis row
   this-told row e =
-      let parts = two-parts (nat_eq row.a.0 a) (nat_eq row.b.0 b) e in
+      let parts = and_parts (nat_eq row.a.0 a) (nat_eq row.b.0 b) e in
       (search (rules, parts.0), search (rules, parts.1))
 
   tell-this : (row : TurnRow) → IsThis row → is_from_to a b row ≡ true

@@ -4,4 +4,3 @@ pub mod OfHandOver
 pub mod OfCounts
 pub mod OfMail
 pub mod OfRest
-pub mod OfTests

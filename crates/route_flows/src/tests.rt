@@ -1,108 +1,98 @@
-// Worked cases of two iterations: routes, loadings, link times and gaps.
+// Worked cases: the link times of a loading, and two iterations of routes, loadings and gaps.
 ghost use Rattle.dta_model.specs.Lent.{plan_of};
 ghost use Rattle.dta_model.specs.LinkTimes.{table_of};
 ghost use Rattle.dta_model.specs.Sound.{IsSound};
-ghost use Rattle.dta_model.specs.declared.queue.Queue.TheVariants as queue;
 ghost use Rattle.gap.specs.Gap.{IsShort};
-ghost use Rattle.std.specs.Prelude.{◌≡◌, [], IfOk, length, map, None, Some};
+ghost use Rattle.std.specs.Prelude.{◌≡◌, IfOk, length};
 
 use crate::{first_routes, gap_and_next_routes, is_selected, next_routes};
-use dta_model::{Loading, Queue, Route, Routes, Trip};
+use dta_model::{Loading, Route, Routes};
 use gap::{GapLine, gap};
 use link_times::LinkTimes;
-use net_core::{LinkRow, Memory, Net, NodeNo, NodeRow};
+use net_core::{LinkNo, Memory};
 use serial_loader::load_plain;
 use std::alloc::Global;
 use std::test::Fail;
 use std::thread::Threads;
+use worked_cases::Case;
 
-// A network, who travels in it, and what is wanted of two iterations: both gap lines, and the
-// number of links of each route of the second one, 0 where there is none.
+// The link times of the plain loading, by buckets of 50 steps.
+fn times_of(alloc: Global, loading: &Loading) -> Result<LinkTimes, Memory>
+    requires { IsSound (plan_of loading.now) }
+    ensures table { IfOk result (λ times. times ≡ table_of (plan_of loading.now) 50) }
+    ensures many { IfOk result (λ times. length times.free ≡ length loading.now.net.now.links) }
+    ensures short { IfOk result IsShort }
+{
+    let loaded = load_plain(alloc, loading)?;
+    LinkTimes::of(alloc, loading, &loaded, 50)
+}
+
+// A link, a step, and the time of the link in this step.
 #[derive(Drop)]
-struct Case<'a> {
-    nodes: &'a [NodeRow],
-    links: &'a [LinkRow],
-    trips: &'a [Trip],
+struct Time(u32, u64, u32);
+
+// Whether the loading of a case has these link times.
+fn has_times(alloc: Global, case: &Case, wanted: &[Time]) -> Result<bool, Memory> {
+    let loading = case.loading();
+    let times = times_of(alloc, &loading)?;
+    Ok(are_times(&times, loading.net.link_count(), wanted))
+}
+
+// Whether a table of so many links has these times.
+fn are_times(times: &LinkTimes, links: u32, wanted: &[Time]) -> bool
+    requires { length times.now.free ≡ links }
+{
+    for i in 0..wanted.len() {
+        let Time(link, step, steps) = &wanted[i];
+        if *link >= links || times.at(LinkNo(*link), *step) != *steps {
+            return false;
+        }
+    }
+    true
+}
+
+// What is wanted of two iterations: both gap lines, and the number of links of each route of the
+// second one, 0 where there is none.
+#[derive(Drop)]
+struct Wanted<'a> {
     lines: (GapLine, GapLine),
     lengths: &'a [usize],
 }
 
-// Whether two iterations of sixty steps of six seconds are as they are wanted.
-fn shows<R: AllocGlobal + Threads>(rt: &R, case: &Case) -> Result<bool, Fail>
-    requires { IsSound (record {
-      net = record {
-        nodes = case.now.nodes.now;
-        links = case.now.links.now;
-        turns = [];
-      };
-      queue = queue.Point;
-      delta = 6;
-      horizon = 60;
-      trips = case.now.trips.now;
-      routes = map (λ trip. None) case.now.trips.now;
-    }) }
-{
+// Whether two iterations over the network and trips of a case are as they are wanted.
+fn shows<R: AllocGlobal + Threads>(rt: &R, case: &Case, wanted: &Wanted) -> Result<bool, Memory> {
     let alloc = rt.alloc();
-    let net = Net::of(
-        alloc,
-        Vec::from_slice(alloc, case.nodes)?,
-        Vec::from_slice(alloc, case.links)?,
-        Vec::new(alloc),
-    )?;
-    let first = first_routes(rt, &net, case.trips, 60, 4)?;
-    let times = times_of(alloc, &net, case.trips, &first)?;
-    let (line, second) = gap_and_next_routes(rt, &net, case.trips, &times, &first, 1, 4)?;
-    let same = next_routes(rt, &net, case.trips, &times, &first, 1, 1)?;
-    let again = times_of(alloc, &net, case.trips, &second)?;
-    let last = gap(alloc, &net, &again, case.trips, &second)?;
-    Ok(
-        line == case.lines.0
-            && last == case.lines.1
-            && are_wanted(&second, case.lengths)
-            && are_wanted(&same, case.lengths),
-    )
-}
-
-// The link times of the plain loading over these routes.
-fn times_of(alloc: Global, net: &Net, trips: &[Trip], routes: &Routes) -> Result<LinkTimes, Memory>
-    requires { IsSound (record {
-      net = net.now;
-      queue = queue.Point;
-      delta = 6;
-      horizon = 60;
-      trips = trips.now;
-      routes = routes.now;
-    }) }
-    ensures table { IfOk result (λ times. times
-        ≡ table_of (record {
-          net = net.now;
-          queue = queue.Point;
-          delta = 6;
-          horizon = 60;
-          trips = trips.now;
-          routes = routes.now;
-        }) 50) }
-    ensures many { IfOk result (λ times. length times.free ≡ length net.now.links) }
-    ensures short { IfOk result IsShort }
-{
-    let loading = Loading {
-        net,
-        queue: Queue::Point,
-        delta: 6,
-        horizon: 60,
-        trips,
-        routes,
-    };
-    let times = loaded_times(alloc, &loading);
+    let loading = case.loading();
     let Loading {
-        net: _,
-        queue: _,
-        delta: _,
-        horizon: _,
-        trips: _,
-        routes: _,
+        net,
+        trips,
+        horizon,
+        ..
     } = loading;
-    times
+    let first = first_routes(rt, net, trips, horizon, 4)?;
+    let times = times_of(
+        alloc,
+        &Loading {
+            routes: &first,
+            ..loading
+        },
+    )?;
+    let (line, second) = gap_and_next_routes(rt, net, trips, &times, &first, 1, 4)?;
+    let same = next_routes(rt, net, trips, &times, &first, 1, 1)?;
+    let again = times_of(
+        alloc,
+        &Loading {
+            routes: &second,
+            ..loading
+        },
+    )?;
+    let last = gap(alloc, net, &again, trips, &second)?;
+    Ok(
+        line == wanted.lines.0
+            && last == wanted.lines.1
+            && are_wanted(&second, wanted.lengths)
+            && are_wanted(&same, wanted.lengths),
+    )
 }
 
 // Whether the routes of all vehicles have so many links.
@@ -127,62 +117,6 @@ fn length_of(route: &Option<Route>) -> usize {
     }
 }
 
-// The link times of the plain loading.
-fn loaded_times(alloc: Global, loading: &Loading) -> Result<LinkTimes, Memory>
-    requires { IsSound (plan_of loading.now) }
-    ensures table { IfOk result (λ times. times ≡ table_of (plan_of loading.now) 50) }
-    ensures many { IfOk result (λ times. length times.free ≡ length loading.now.net.now.links) }
-    ensures short { IfOk result IsShort }
-{
-    let loaded = load_plain(alloc, loading)?;
-    LinkTimes::of(alloc, loading, &loaded, 50)
-}
-
-fn node(id: u64, zone: u64) -> NodeRow
-    ensures { result ≡ record { id = id; zone = Some zone } }
-{
-    NodeRow {
-        id,
-        zone: Some(zone),
-    }
-}
-
-fn link(id: u64, from: u32, to: u32, free: u32, rate: u64) -> LinkRow
-    ensures { result ≡ record {
-      id = id;
-      from = record { 0 = from };
-      to = record { 0 = to };
-      free = free;
-      storage = 125;
-      rate = rate;
-    } }
-{
-    LinkRow {
-        id,
-        from: NodeNo(from),
-        to: NodeNo(to),
-        free,
-        storage: 125,
-        rate,
-    }
-}
-
-fn trip(number: u32, destination: u64) -> Trip
-    ensures { result ≡ record {
-      number = number;
-      origin = 1;
-      destination = destination;
-      departure = 0;
-    } }
-{
-    Trip {
-        number,
-        origin: 1,
-        destination,
-        departure: 0,
-    }
-}
-
 fn line(route_steps: u128, least_steps: u128, gap_steps: u128, ppm: u128) -> GapLine {
     GapLine {
         route_steps,
@@ -194,34 +128,67 @@ fn line(route_steps: u128, least_steps: u128, gap_steps: u128, ppm: u128) -> Gap
 
 #[test]
 fn a_narrow_link_and_a_way_round(rt: HostRuntime) -> Result<(), Fail> {
-    let case = Case {
-        nodes: &[node(1, 1), node(2, 2), node(3, 3)],
-        links: &[
-            link(20, 0, 1, 10, 3_600_000_000),
-            link(30, 1, 2, 10, 600_000_000),
-            link(40, 0, 2, 21, 3_600_000_000),
-        ],
-        trips: &[trip(0, 3), trip(1, 3), trip(2, 3), trip(3, 3)],
+    let case = worked_cases::nobody_goes(rt.alloc())?;
+    let wanted = Wanted {
         lines: (line(88, 84, 4, 47619), line(84, 84, 0, 0)),
         lengths: &[1, 2, 1, 2],
     };
-    assert!(rt; shows(&rt, &case)?);
+    assert!(rt; shows(&rt, &case, &wanted)?);
     Ok(())
 }
 
 #[test]
 fn an_unrouted_zone(rt: HostRuntime) -> Result<(), Fail> {
-    let case = Case {
-        nodes: &[node(1, 1), node(2, 2), node(3, 3)],
-        links: &[
-            link(10, 0, 1, 10, 600_000_000),
-            link(20, 1, 2, 10, 600_000_000),
-        ],
-        trips: &[trip(0, 9), trip(1, 3)],
+    let case = worked_cases::an_unknown_zone(rt.alloc())?;
+    let wanted = Wanted {
         lines: (line(20, 20, 0, 0), line(20, 20, 0, 0)),
         lengths: &[0, 2],
     };
-    assert!(rt; shows(&rt, &case)?);
+    assert!(rt; shows(&rt, &case, &wanted)?);
+    Ok(())
+}
+
+#[test]
+fn link_times_of_two_links_in_a_line(rt: HostRuntime) -> Result<(), Fail> {
+    let case = worked_cases::two_links_in_a_line(rt.alloc())?;
+    let wanted = [
+        Time(0, 0, 10),
+        Time(0, 50, 10),
+        Time(1, 0, 10),
+        Time(1, 59, 10),
+        Time(1, 60, 10),
+    ];
+    assert!(rt; has_times(rt.alloc(), &case, &wanted)?);
+    Ok(())
+}
+
+#[test]
+fn link_times_of_a_link_without_capacity(rt: HostRuntime) -> Result<(), Fail> {
+    let case = worked_cases::a_link_without_capacity(rt.alloc())?;
+    let wanted = [
+        Time(0, 0, 45),
+        Time(0, 49, 45),
+        Time(0, 50, 10),
+        Time(0, 60, 10),
+        Time(1, 0, 10),
+    ];
+    assert!(rt; has_times(rt.alloc(), &case, &wanted)?);
+    Ok(())
+}
+
+#[test]
+fn link_times_of_a_narrow_link(rt: HostRuntime) -> Result<(), Fail> {
+    let case = worked_cases::a_narrow_link(rt.alloc())?;
+    let wanted = [Time(0, 0, 12), Time(1, 0, 10), Time(2, 0, 21)];
+    assert!(rt; has_times(rt.alloc(), &case, &wanted)?);
+    Ok(())
+}
+
+#[test]
+fn link_times_of_a_way_round(rt: HostRuntime) -> Result<(), Fail> {
+    let case = worked_cases::a_way_round(rt.alloc())?;
+    let wanted = [Time(0, 0, 11), Time(1, 0, 10), Time(2, 0, 21)];
+    assert!(rt; has_times(rt.alloc(), &case, &wanted)?);
     Ok(())
 }
 

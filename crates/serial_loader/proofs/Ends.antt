@@ -5,6 +5,7 @@ use Rattle.std.proofs.lemmas.Bool.Decides.{eqb_tells}
 use Rattle.std.proofs.lemmas.List.FromFn.{length-map-range_with_len}
 use Rattle.std.proofs.lemmas.Option.{slice_get-get_or, slice_get_within}
 use Rattle.std.proofs.Math.Dec.{eqb}
+use Rattle.std.proofs.lemmas.Option.{same_Some}
 use Rattle.net_core.specs.Network.{numbers_below}
 use Rattle.dta_model.specs.declared.plan.Plan.{Plan}
 use Rattle.cell_stages.specs.CellState.{CellState}
@@ -21,12 +22,9 @@ use Rattle.node_transfer.proofs.OfMail.Sets.{count-set, same-elements, set-got, 
 abbrev pub new_clock : Clock
 new_clock = record { since = 0; wake = 0 }
 
-some-same : {X : Type 0} (a b : X) → Some a ≡ Some b → a ≡ b
-some-same a b h = cc
-
 got-all : {X : Type 0} (n i : ℕ) (x y : X) → slice_get (replicate n x) i ≡ Some y → y ≡ x
 got-all zero i x y h = cc
-got-all (suc n) zero x y h = sym (some-same x y h)
+got-all (suc n) zero x y h = sym (same_Some x y h)
 got-all (suc n) (suc i) x y h = got-all n i x y h
 
 count-all : {X : Type 0} (n : ℕ) (x : X) → length (replicate n x) ≡ n
@@ -37,7 +35,7 @@ got-number : {X : Type 0} (f : ℕ → X) (n i : ℕ) (y : X) → slice_get (map
 got-number f n i y h =
     let inside = slice_get_within (map f (numbers_below n)) i y h in
     let count = length-map-range_with_len f 0 n in
-    some-same y (f i) (sym h ∙ found-below f n i (omega (arith, inside, count)))
+    same_Some y (f i) (sym h ∙ found-below f n i (omega (arith, inside, count)))
 
 -- before the first step
 pub starts-before : (p : Plan) (cells : List CellState) (clocks : List Clock) (mail : List Mail) (count : ℕ) → count ≡ length cells

@@ -3,4 +3,3 @@ pub mod Mails
 pub mod Passed
 pub mod Steps
 pub mod Ends
-pub mod Cases

@@ -1,13 +1,12 @@
 -- Equal options, tests of numbers, and parts of lists.
+pub use Rattle.std.proofs.lemmas.Option.{same_Some as some_same}
+pub use Rattle.net_core.proofs.Orders.{is_lt as is_below, lt_holds as below}
 use Rattle.std.proofs.Common.{◌≡◌, ℕ, ◌+◌, ◌-◌, ◌<◌, ◌≤◌, true, false, List, length, drop, arith, get_or, rules, sym, ◌∙◌, subst, Some, nat_eq}
 use Rattle.std.specs.Prelude.{nat_lt, All}
 use Rattle.std.specs.List.{slice_range}
 use Rattle.std.proofs.lemmas.Bool.Decides.{nat_tests}
 use Rattle.std.proofs.lemmas.Grind.{common_steps}
 use Rattle.std.proofs.lemmas.List.{get_or-take, get_or-drop}
-
-pub some_same : {X : Type 0} (a b : X) → Some a ≡ Some b → a ≡ b
-some_same a b h = cc
 
 pub same_true : (a b : ℕ) → a ≡ b → nat_eq a b ≡ true
 same_true a b h = grind (arith, nat_tests)
@@ -17,12 +16,6 @@ equal_of a b h = search (rules, h)
 
 pub differs : (a b : ℕ) → (a ≡ b → ⊥) → nat_eq a b ≡ false
 differs a b h = grind (arith, nat_tests)
-
-pub below : (a b : ℕ) → nat_lt a b ≡ true → a < b
-below a b e = search (rules, e)
-
-pub is_below : (a b : ℕ) → a < b → nat_lt a b ≡ true
-is_below a b h = grind (arith, nat_tests)
 
 pub All_range : {X : Type 0} (P : X → Type 0) (xs : List X) (a b : ℕ) → a ≤ b → b ≤ length xs → All P xs → All P (slice_range xs a b)
 All_range P xs a b h k all i d within =

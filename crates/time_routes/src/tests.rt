@@ -3,66 +3,9 @@ ghost use Rattle.std.specs.Prelude.{◌≡◌, ◌≤◌, ◌↔◌, length, All
 
 use crate::{GroupLabels, Labels};
 use link_times::LinkTimes;
-use net_core::{LinkNo, LinkRow, Memory, Net, NodeNo, NodeRow, TurnRow, ZoneNo};
+use net_core::{LinkNo, Memory, Net, ZoneNo};
 use std::alloc::Global;
 use std::test::Fail;
-
-fn node(id: u64, zone: Option<u64>) -> NodeRow
-    ensures { result ≡ record { id = id; zone = zone } }
-{
-    NodeRow { id, zone }
-}
-
-fn link(id: u64, from: u32, to: u32) -> LinkRow
-    ensures { result ≡ record {
-      id = id;
-      from = record { 0 = from };
-      to = record { 0 = to };
-      free = 10;
-      storage = 125;
-      rate = 600000000;
-    } }
-{
-    LinkRow {
-        id,
-        from: NodeNo(from),
-        to: NodeNo(to),
-        free: 10,
-        storage: 125,
-        rate: 600_000_000,
-    }
-}
-
-// A line of two links, with a loop at the node between them.
-fn loop_net(alloc: Global) -> Result<Net, Memory> {
-    let nodes = vec![in alloc; node(1, Some(1)), node(2, None), node(3, Some(3))]?;
-    let links = vec![in alloc; link(10, 0, 1), link(20, 1, 2), link(30, 1, 1)]?;
-    let net = Net::of(alloc, nodes, links, Vec::new(alloc))?;
-    Ok(net)
-}
-
-// A line of two links, with a second way over its second half listed before the first.
-fn parallel_net(alloc: Global) -> Result<Net, Memory> {
-    let nodes = vec![in alloc; node(1, Some(1)), node(2, None), node(3, Some(3))]?;
-    let links = vec![in alloc; link(10, 0, 1), link(21, 1, 2), link(20, 1, 2)]?;
-    let net = Net::of(alloc, nodes, links, Vec::new(alloc))?;
-    Ok(net)
-}
-
-// The same, where one turn alone is allowed.
-fn one_turn_net(alloc: Global) -> Result<Net, Memory> {
-    let nodes = vec![in alloc; node(1, Some(1)), node(2, None), node(3, Some(3))]?;
-    let links = vec![in alloc; link(10, 0, 1), link(21, 1, 2), link(20, 1, 2)]?;
-    let only = TurnRow {
-        a: LinkNo(0),
-        b: LinkNo(2),
-        penalty: 0,
-        rate: None,
-    };
-    let turns = vec![in alloc; only]?;
-    let net = Net::of(alloc, nodes, links, turns)?;
-    Ok(net)
-}
 
 // A table of buckets of 50 steps up to step 100, where its numbers fit the network.
 fn given(net: &Net, free: Vec<u32>, steps: Vec<u32>) -> Option<LinkTimes>
@@ -118,7 +61,7 @@ fn told(
 #[test]
 fn a_loop_that_pays(rt: HostRuntime) -> Result<(), Fail> {
     let alloc = rt.alloc();
-    let net = loop_net(alloc)?;
+    let net = worked_cases::a_loop_that_pays(alloc)?;
     let steps = vec![in alloc; 10, 10, 300, 10, 10, 10]?;
     let times = given(&net, vec![in alloc; 10, 10, 10]?, steps);
     assert!(rt; times.is_some());
@@ -140,7 +83,7 @@ fn a_loop_that_pays(rt: HostRuntime) -> Result<(), Fail> {
 #[test]
 fn a_further_link_listed_earlier(rt: HostRuntime) -> Result<(), Fail> {
     let alloc = rt.alloc();
-    let net = parallel_net(alloc)?;
+    let net = worked_cases::a_second_way(alloc)?;
     let (least, links) = told(alloc, &net, &free(alloc, &net)?, (1, 0), 0)?;
     assert_eq!(rt; least, Some(20));
     assert_eq!(rt; links.as_slice(), [LinkNo(0), LinkNo(1)].as_slice());
@@ -150,7 +93,7 @@ fn a_further_link_listed_earlier(rt: HostRuntime) -> Result<(), Fail> {
 #[test]
 fn one_turn_is_allowed(rt: HostRuntime) -> Result<(), Fail> {
     let alloc = rt.alloc();
-    let net = one_turn_net(alloc)?;
+    let net = worked_cases::one_turn_is_allowed(alloc)?;
     let (least, links) = told(alloc, &net, &free(alloc, &net)?, (1, 0), 0)?;
     assert_eq!(rt; least, Some(20));
     assert_eq!(rt; links.as_slice(), [LinkNo(0), LinkNo(2)].as_slice());
@@ -161,7 +104,7 @@ fn one_turn_is_allowed(rt: HostRuntime) -> Result<(), Fail> {
 #[test]
 fn an_unrouted_zone(rt: HostRuntime) -> Result<(), Fail> {
     let alloc = rt.alloc();
-    let net = loop_net(alloc)?;
+    let net = worked_cases::a_loop_that_pays(alloc)?;
     let (least, links) = told(alloc, &net, &free(alloc, &net)?, (0, 1), 0)?;
     assert_eq!(rt; least, None);
     assert_eq!(rt; links.len(), 0);
@@ -172,7 +115,7 @@ fn an_unrouted_zone(rt: HostRuntime) -> Result<(), Fail> {
 #[test]
 fn times_of_32_bits(rt: HostRuntime) -> Result<(), Fail> {
     let alloc = rt.alloc();
-    let net = loop_net(alloc)?;
+    let net = worked_cases::a_loop_that_pays(alloc)?;
     let steps = vec![in alloc; 4_294_967_295, 4_294_967_295, 10, 10, 10, 10]?;
     let times = given(
         &net,
@@ -192,7 +135,7 @@ fn times_of_32_bits(rt: HostRuntime) -> Result<(), Fail> {
 #[test]
 fn labels_of_a_zone(rt: HostRuntime) -> Result<(), Fail> {
     let alloc = rt.alloc();
-    let net = loop_net(alloc)?;
+    let net = worked_cases::a_loop_that_pays(alloc)?;
     let times = free(alloc, &net)?;
     if net.zone_count() > 1 {
         let labels = Labels::to_zone(alloc, &net, &times, ZoneNo(1))?;

@@ -3,6 +3,8 @@ use Rattle.std.specs.List.{flat_map, range_with_len}
 use Rattle.std.specs.Prelude.{All}
 use Rattle.std.proofs.Common.{◌≡◌, List, [], ◌∷◌, ◌++◌, length, map, take, drop, refl, ap, sym, ◌∙◌, subst, ℕ, arith, zero, suc, ◌+◌, ◌<◌, ◌≤◌}
 use Rattle.std.proofs.lemmas.List.Elements.{All-append, All-nil}
+use Rattle.std.proofs.lemmas.List.FromFn.{length-map-range_with_len}
+use Rattle.dta_model.specs.Loading.{journeys_of}
 use Rattle.dta_model.specs.Plans.{vehicle_count}
 use Rattle.dta_model.specs.Riders.{RiderState}
 use Rattle.dta_model.specs.Sound.{IsSound}
@@ -14,6 +16,8 @@ use Rattle.node_transfer.proofs.OfHandOver.Hands.{all_split}
 use Rattle.cell_stages.specs.Contents.{away, cell_before}
 use Rattle.node_transfer.proofs.OfHandOver.HandOver.{cells_hand_over, handed-length}
 use Rattle.node_transfer.specs.Inside.Driven.{cells_before}
+use Rattle.node_transfer.specs.Start.{cells_at_start, no_journey, no_journeys}
+use Rattle.node_transfer.proofs.OfMail.Numbers.{cell-count}
 
 handed-append : (xs ys : List RiderState) (loaded : List Journey) → handed (xs ++ ys) loaded ≡ handed ys (handed xs loaded)
 unfolding handed
@@ -68,3 +72,27 @@ pub all-within : (p : Plan) → IsSound p → (t : ℕ) → All (Within (vehicle
 all-within p sound t =
     let law = cells_hand_over p sound in
     flat-range (vehicle_count p) (λ n. cell_before p n t away away) (length p.net.nodes) 0 (λ i low high. law.within i t away away (omega (arith, high)))
+
+-- the cells at the end of a loading, written into the list that they came in, hand over its journeys
+module _ (p : Plan) (sound : IsSound p) (count : ℕ) (start end : List CellState) (loaded : List Journey)
+    (many : length start ≡ count) (first : start ≡ cells_at_start p) (last : end ≡ cells_before p p.horizon)
+    (fresh : loaded ≡ no_journeys (vehicle_count p)) where
+  at-end : take count (end ++ drop (length end) start) ≡ cells_before p p.horizon
+  at-end =
+      let given = ap (λ xs. length xs) first in
+      let done = ap (λ xs. length xs) last in
+      let before = cell-count p (λ n. cell_before p n 0 away away) in
+      let after = cell-count p (λ n. cell_before p n p.horizon away away) in
+      given-back count end start (omega (arith, many, given, before, after, done)) many ∙ last
+
+  pub end-within : All (Within (length loaded)) (flat_map riders_in (take count (end ++ drop (length end) start)))
+  end-within =
+      let vehicles = ap (λ xs. length xs) fresh ∙ length-map-range_with_len (λ v. no_journey) 0 (vehicle_count p) in
+      subst (λ cells. All (Within (length loaded)) (flat_map riders_in cells)) (sym at-end)
+      (subst (λ n. All (Within n) (flat_map riders_in (cells_before p p.horizon))) (sym vehicles) (all-within p sound p.horizon))
+
+  pub end-handed : handed (flat_map riders_in (take count (end ++ drop (length end) start))) loaded ≡ journeys_of p
+  end-handed =
+      ap (λ cells. handed (flat_map riders_in cells) loaded) at-end
+      ∙ ap (λ xs. handed (flat_map riders_in (cells_before p p.horizon)) xs) fresh
+      ∙ (cells_hand_over p sound).journeys

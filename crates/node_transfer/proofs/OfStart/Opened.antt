@@ -14,6 +14,7 @@ use Rattle.std.proofs.lemmas.List.FromFn.{length-range_with_len, length-map-rang
 use Rattle.std.proofs.lemmas.List.Sums.{length-filter, count_by-le-length}
 use Rattle.std.proofs.lemmas.Option.{slice_get-get_or, slice_get_within}
 use Rattle.std.proofs.Math.Dec.{eqb}
+use Rattle.net_core.proofs.Numbers.{numbers_more}
 use Rattle.dta_model.specs.Loading.{trace_after, entries_of, arrival_of}
 use Rattle.dta_model.specs.NodeMoves.{is_first}
 use Rattle.dta_model.specs.Plans.{departure_of, first_link, ins, link_at, link_numbers, outs, route_in, route_of, turn, vehicle_count, vehicles_of}
@@ -50,22 +51,6 @@ route_links p v route sound e =
     let each = sound.each in
     (sound.walks v _ route (slice_get-get_or p.trips v some_trip (omega (arith, h, each))) e).links
 
-range_suc : (n a : ℕ) → range_with_len a (suc n) ≡ range_with_len a n ++ (a + n) ∷ []
-range_suc zero a = ap (λ k. k ∷ []) (same a)
-  where
-    same : (a : ℕ) → a ≡ a + 0
-    same a = omega arith
-range_suc (suc n) a = ap (λ xs. a ∷ xs) (range_suc n (a + 1) ∙ ap (λ k. range_with_len (a + 1) n ++ k ∷ []) (same a n))
-  where
-    same : (a n : ℕ) → a + 1 + n ≡ a + suc n
-    same a n = omega arith
-
-below_suc : (n : ℕ) → numbers_below (n + 1) ≡ numbers_below n ++ n ∷ []
-below_suc n = ap (λ k. range_with_len 0 k) (add-one n) ∙ range_suc n 0 ∙ ap (λ k. range_with_len 0 n ++ k ∷ []) (same n)
-  where
-    same : (n : ℕ) → 0 + n ≡ n
-    same n = omega arith
-
 place_range : (b k a : ℕ) → b < k → place_of (a + b) (range_with_len a k) ≡ b
 unfolding place_of
 place_range b zero a h = absurd (omega (arith, h))
@@ -84,7 +69,7 @@ module _ (p : Plan) where
   -- one more vehicle
   line_more : (v b : ℕ) → line_below p (v + 1) b ≡ line_below p v b ++ cond (is_first b (first_link p v)) (rider_at p [] v ∷ []) []
   line_more v b =
-      ap (λ xs. riders p [] (filter (λ u. is_first b (first_link p u)) xs)) (below_suc v)
+      ap (λ xs. riders p [] (filter (λ u. is_first b (first_link p u)) xs)) (numbers_more v)
       ∙ ap (λ xs. riders p [] xs) (filter-append (λ u. is_first b (first_link p u)) (numbers_below v) (v ∷ []))
       ∙ map-append (rider_at p []) (filter (λ u. is_first b (first_link p u)) (numbers_below v)) (cond (is_first b (first_link p v)) (v ∷ []) [])
       ∙ ap (λ xs. line_below p v b ++ xs) (one_rider (is_first b (first_link p v)))

@@ -38,6 +38,7 @@ use Rattle.node_transfer.specs.Inside.StartCells.{emptied, lines_left, start_out
 use Rattle.cell_stages.specs.declared.mail.Mail.{Mail}
 use Rattle.cell_stages.specs.declared.mail.Mail.TheVariants.{Room}
 use Rattle.cell_stages.specs.declared.out_link.OutLink.{OutLink}
+use Rattle.cell_stages.proofs.NextLines.{below_all}
 
 abbrev pub start_room : Plan → ℕ → Mail
 start_room p l = Room 0 (storage_by p.queue (link_at p l).storage)
@@ -150,12 +151,8 @@ below_links : (L : ℕ) (xs : List ℕ) → All (λ x. x < L) xs → All (λ l. 
 below_links L [] a = All-nil _
 below_links L (x ∷ xs) a = All-cons (λ l. l.0 < L) (record { 0 = x }) (network.as_links xs) (All-head (λ x. x < L) x xs a) (below_links L xs (All-tail (λ x. x < L) x xs a))
 
-below_range : (k from : ℕ) → All (λ x. x < from + k) (range_with_len from k)
-below_range zero from = All-nil _
-below_range (suc k) from = All-cons (λ x. x < from + suc k) from (range_with_len (from + 1) k) (omega arith) (All-weaker (λ x. x < from + 1 + k) (λ x. x < from + suc k) (λ x h. omega (arith, h)) (range_with_len (from + 1) k) (below_range k (from + 1)))
-
 below : (k : ℕ) → All (λ x. x < k) (numbers_below k)
-below k = All-weaker (λ x. x < 0 + k) (λ x. x < k) (λ x h. omega (arith, h)) (numbers_below k) (below_range k 0)
+below k = All-weaker (λ x. x < 0 + k) (λ x. x < k) (λ x h. omega (arith, h)) (numbers_below k) (below_all k 0)
 
 pub ins_below : (p : Plan) (n : ℕ) → All (λ l. l.0 < length p.net.links) (network.as_links (ins p n))
 unfolding network.ins

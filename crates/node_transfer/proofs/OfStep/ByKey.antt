@@ -5,13 +5,10 @@ use Rattle.std.specs.List.{list_any}
 use Rattle.std.proofs.lemmas.Bool.{eqb-true, eqb-false}
 use Rattle.std.proofs.lemmas.Bool.Decides.{eqb_tells}
 use Rattle.std.proofs.Math.Dec.{eqb}
+pub use Rattle.std.proofs.lemmas.Bool.{and_parts as both_true}
 use Rattle.dta_model.proofs.Queues.{absent, distinct}
 use Rattle.node_transfer.specs.Inside.Pass.{place_of}
 use Rattle.node_transfer.specs.Places.{set_some, changed_at}
-
-pub both_true : (a b : Bool) → (a && b) ≡ true → (a ≡ true) × (b ≡ true)
-both_true true b h = (refl, h)
-both_true false b h = cc
 
 pub bool_cases : (b : Bool) → (b ≡ true) ⊎ (b ≡ false)
 bool_cases true = inl refl

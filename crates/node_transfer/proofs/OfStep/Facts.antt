@@ -11,6 +11,7 @@ use Rattle.std.proofs.lemmas.Bool.Decides.{eqb_tells}
 use Rattle.std.proofs.lemmas.List.{length-map}
 use Rattle.std.proofs.lemmas.Option.{slice_get-get_or, slice_get_within}
 use Rattle.std.proofs.Math.Dec.{eqb}
+use Rattle.dta_model.proofs.Onward.{onto_one}
 use Rattle.dta_model.specs.Loading.{trace_after, is_entry, entries_of}
 use Rattle.dta_model.specs.Plans.{link_at, outs, turn, route_of, route_in, link_numbers}
 use Rattle.dta_model.specs.Riders.{rider_at}
@@ -20,24 +21,17 @@ use Rattle.dta_model.specs.Trace.{Move, Target, Onto, Arrived, moves_of, last_mo
 use Rattle.cell_stages.specs.Transfers.{OnlyEnters}
 use Rattle.dta_model.specs.declared.plan.Plan.{Plan}
 use Rattle.dta_model.specs.declared.trip.Trip.{Trip}
-use Rattle.dta_model.proofs.InTurn.{Follows, Fits, trace-follows}
 use Rattle.dta_model.proofs.Journeys.{routes_are_followed}
 use Rattle.dta_model.proofs.Conserved.{link_onto}
 use Rattle.dta_model.proofs.Fuel.{has_moved-if}
 use Rattle.dta_model.proofs.Riders.{Enters, enters_push, nothing_enters, last_move_is}
 use Rattle.cell_stages.proofs.Riders.{riders_tell}
+use Rattle.dta_model.proofs.Riders.{enters}
 use Rattle.dta_model.proofs.Standing.{in-queue}
 use Rattle.dta_model.proofs.Steady.{all_at}
 use Rattle.node_transfer.proofs.OfStep.ByKey.{find_kept}
 use Rattle.node_transfer.proofs.OfStep.Mid.{T}
 use Rattle.node_transfer.proofs.OfStep.Verdicts.{Allowed}
-
-enters_all : (p : Plan) (M U : List Move) → Follows (Fits p) U M → Enters U → Enters (U ++ M)
-enters_all p [] U f e = subst Enters (sym (append-nil U)) e
-enters_all p (m ∷ M) U f e = subst Enters (append_assoc U (m ∷ []) M) (enters_all p M (U ++ m ∷ []) f.1 (enters_push U m f.0.0 e))
-
-enters : (p : Plan) (t : ℕ) → Enters (trace_after p t)
-enters p t = enters_all p (trace_after p t) [] (trace-follows p t) nothing_enters
 
 last_at : (o : Option Move) (xs : List Move) (x : Move) → last_or o xs ≡ Some x → (o ≡ Some x × (xs ≡ [])) ⊎ ((i : ℕ) × (slice_get xs i ≡ Some x) × (suc i ≡ length xs))
 last_at o [] x h = inl (h, refl)
@@ -55,10 +49,6 @@ find_range b (suc k) from low high = range_step (eqb_tells from b) (find_range b
         → find (λ x. nat_eq x b) (range_with_len from (suc k)) ≡ Some b
     range_step (inl (s, same)) ih = rw s (ap (λ j. Some j) same)
     range_step (inr (s, other)) ih = rw s (ih (omega (arith, low, other)) (omega (arith, high)))
-
-onto_link : (l : ℕ) (x : Target) → is_link l x ≡ true → x ≡ Onto l
-onto_link l (Onto b) h = ap (λ k. Onto k) (eqb-true b l h)
-onto_link l Arrived h = cc
 
 target_link : (o : Option ℕ) (l : ℕ) → Onto l ≡ target_at o → o ≡ Some l
 target_link None l h = cc
@@ -137,7 +127,7 @@ module _ (p : Plan) (sound : IsSound p) (n t l : ℕ) (to : (link_at p l).to.0 �
       allow : (b : ℕ) (x : Move) → leads_to l x ≡ true → (None ≡ Some x × (moves_of v (T p n t) ≡ [])) ⊎ ((i : ℕ) × (slice_get (moves_of v (T p n t)) i ≡ Some x) × (suc i ≡ length (moves_of v (T p n t)))) → slice_get (route_of p v) (length (moves_of v (T p n t))) ≡ Some b → Allowed p n l b
       allow b x leads (inl (e, none)) h = cc
       allow b x leads (inr (i, e, k)) h =
-          let here : slice_get (route_of p v) i ≡ Some l = target_link (slice_get (route_of p v) i) l (sym (onto_link l x.target leads) ∙ routes_are_followed p t v i x e) in
+          let here : slice_get (route_of p v) i ≡ Some l = target_link (slice_get (route_of p v) i) l (sym (onto_one l x.target leads) ∙ routes_are_followed p t v i x e) in
           let way = turn-next p sound v i l b here (ap (λ j. slice_get (route_of p v) j) k ∙ h) in
           let found = some-turn p sound l b n to way.0 in
           record { way = found.1.0; allows = found.1.1; there = out-found b found.0 way.1 }

@@ -25,11 +25,9 @@ use Rattle.cell_stages.proofs.Riders.{filter_two}
 use Rattle.cell_stages.proofs.Lines.{riders_move}
 use Rattle.cell_stages.proofs.Passing.{moves_pass}
 use Rattle.node_transfer.proofs.OfStep.Mid.{T, due_now, due_later}
-
--- filters that agree, and filters one after another
-pub filter_like : (f g : ℕ → Bool) (xs : List ℕ) → ((i v : ℕ) → slice_get xs i ≡ Some v → f v ≡ g v) → filter f xs ≡ filter g xs
-filter_like f g [] h = refl
-filter_like f g (x ∷ xs) h = rw (h 0 x refl, filter_like f g xs (λ i v e. h (suc i) v e)) refl
+pub use Rattle.cell_stages.proofs.Gathering.{filter_like}
+pub use Rattle.cell_stages.proofs.Passing.{distinct_filter, distinct_range, first_leaves, staying_push}
+use Rattle.cell_stages.proofs.Passing.{moved_two, one_rider}
 
 filter_pair : (q s s' : ℕ → Bool) → ((u : ℕ) → (s' u && q u) ≡ (s u && q u)) → (xs : List ℕ) → filter q (filter s' xs) ≡ filter q (filter s xs)
 filter_pair q s s' same xs =
@@ -44,45 +42,6 @@ and_swap false false = refl
 filter_swap : (q r : ℕ → Bool) (xs : List ℕ) → filter q (filter r xs) ≡ filter r (filter q xs)
 filter_swap q r xs = sym (filter_two (λ u. r u && q u) r q (λ u. refl) xs) ∙ filter_two (λ u. r u && q u) q r (λ u. and_swap (r u) (q u)) xs
 
-absent_filter : (q : ℕ → Bool) (w : ℕ) (xs : List ℕ) → absent w xs ≡ true → absent w (filter q xs) ≡ true
-absent_filter q w [] h = refl
-absent_filter q w (x ∷ xs) h = af_step (q x) (eqb x w) refl h (absent_filter q w xs)
-  where
-    rest_of : (c d : Bool) → not (c || d) ≡ true → not d ≡ true
-    rest_of true d e = cc
-    rest_of false d e = e
-
-    af_step : (b c : Bool) → c ≡ eqb x w → not (c || list_any (λ y. eqb y w) xs) ≡ true → (absent w xs ≡ true → absent w (filter q xs) ≡ true) → absent w (cond b (x ∷ filter q xs) (filter q xs)) ≡ true
-    af_step false c r e ih = ih (rest_of c _ e)
-    af_step true true r e ih = cc
-    af_step true false r e ih = rw (← r) (ih e)
-
-pub distinct_filter : (q : ℕ → Bool) (xs : List ℕ) → distinct xs ≡ true → distinct (filter q xs) ≡ true
-distinct_filter q [] h = refl
-distinct_filter q (x ∷ xs) h = let parts = both_true (absent x xs) (distinct xs) h in df_step (q x) (absent_filter q x xs parts.0) (distinct_filter q xs parts.1)
-  where
-    df_step : (b : Bool) → absent x (filter q xs) ≡ true → distinct (filter q xs) ≡ true → distinct (cond b (x ∷ filter q xs) (filter q xs)) ≡ true
-    df_step true a d = rw (a, d) refl
-    df_step false a d = d
-
-absent_range : (v k from : ℕ) → v < from → absent v (range_with_len from k) ≡ true
-absent_range v zero from h = refl
-absent_range v (suc k) from h = let other : eqb from v ≡ false = ne_eqb from v (λ e. absurd (omega (arith, h, e))) in rw other (absent_range v k (from + 1) (omega (arith, h)))
-
-pub distinct_range : (k from : ℕ) → distinct (range_with_len from k) ≡ true
-distinct_range zero from = refl
-distinct_range (suc k) from = rw (absent_range from k (from + 1) (omega arith), distinct_range k (from + 1)) refl
-
-pub first_leaves : (xs : List ℕ) (v : ℕ) → distinct xs ≡ true → slice_get xs 0 ≡ Some v → without v xs ≡ drop 1 xs
-first_leaves [] v d h = cc
-first_leaves (x ∷ xs) v d h =
-    let same : x ≡ v = some_nat x v h in
-    let parts = both_true (absent x xs) (distinct xs) d in
-    rw (eq-eqb x v same) (without-absent v xs (subst (λ w. absent w xs ≡ true) same parts.0))
-  where
-    some_nat : (a b : ℕ) → Some a ≡ Some b → a ≡ b
-    some_nat a b h = cc
-
 or_none : (a b : Bool) → b ≡ false → (a || b) ≡ a
 or_none true b h = refl
 or_none false b h = h
@@ -95,18 +54,6 @@ staying-same M R Q still =
 pub unmoved_one : (m : Move) (u : ℕ) → u ≢ m.vehicle → has_moved u (m ∷ []) ≡ false
 unfolding has_moved
 unmoved_one m u other = rw (ne_eqb m.vehicle u (λ e. other (sym e))) refl
-
-moved_two : (v : ℕ) (M : List Move) (m : Move) → not (has_moved v (M ++ m ∷ [])) ≡ (not (has_moved v M) && not (eqb v m.vehicle))
-unfolding has_moved
-moved_two v M m = ap not (has_moved-append v M (m ∷ [])) ∙ two (list_any (is_of v) M) (eqb_tells m.vehicle v)
-  where
-    two : (a : Bool) → ((eqb m.vehicle v ≡ true) × (m.vehicle ≡ v)) ⊎ ((eqb m.vehicle v ≡ false) × (m.vehicle ≢ v)) → not (a || (eqb m.vehicle v || false)) ≡ (not a && not (eqb v m.vehicle))
-    two true x = refl
-    two false (inl (s, same)) = rw (s, eq-eqb v m.vehicle (sym same)) refl
-    two false (inr (s, other)) = rw (s, ne_eqb v m.vehicle (λ e. other (sym e))) refl
-
-pub staying_push : (M : List Move) (m : Move) (Q : List ℕ) → staying (M ++ m ∷ []) Q ≡ without m.vehicle (staying M Q)
-staying_push M m Q = filter_two (λ v. not (has_moved v (M ++ m ∷ []))) (λ v. not (has_moved v M)) (λ v. not (eqb v m.vehicle)) (λ v. moved_two v M m) Q
 
 arriving_push : (M : List Move) (m : Move) → arriving (M ++ m ∷ []) ≡ arriving M ++ cond (not (is_onto m.target)) (m.vehicle ∷ []) []
 unfolding arriving
@@ -156,16 +103,12 @@ module _ (p : Plan) (n t : ℕ) (M : List Move) (m : Move) (new : has_moved m.ve
       rider-like p (T p n t ++ (M ++ m ∷ [])) (T p n t ++ M) v
       (ap (λ L. moves_of v L) (sym (append_assoc (T p n t) M (m ∷ []))) ∙ moves_of-append v (T p n t ++ M) (m ∷ []) ∙ ap (λ L. moves_of v (T p n t ++ M) ++ L) (other_move v m (λ e. clash (has_moved v M) (arriving_moved M i v h) (subst (λ w. has_moved w M ≡ false) e new))) ∙ append-nil (moves_of v (T p n t ++ M)))
 
-  one_rider : (c : Bool) (U : List Move) → riders p U (cond c (m.vehicle ∷ []) []) ≡ cond c (rider_at p U m.vehicle ∷ []) []
-  one_rider true U = refl
-  one_rider false U = refl
-
   pub arrive-push : arrive_by p (T p n t) (M ++ m ∷ []) ≡ arrive_by p (T p n t) M ++ cond (not (is_onto m.target)) (moved (rider_at p (T p n t) m.vehicle) t ∷ []) []
   arrive-push =
       let U = T p n t ++ (M ++ m ∷ []) in
       ap (λ Q. riders p U Q) (arriving_push M m) ∙ map-append (rider_at p U) (arriving M) (cond (not (is_onto m.target)) (m.vehicle ∷ []) [])
       ∙ ap (λ K. K ++ riders p U (cond (not (is_onto m.target)) (m.vehicle ∷ []) [])) (map_like (rider_at p U) (rider_at p (T p n t ++ M)) (arriving M) arrive-like)
-      ∙ ap (λ K. arrive_by p (T p n t) M ++ K) (one_rider (not (is_onto m.target)) U ∙ ap (λ r. cond (not (is_onto m.target)) (r ∷ []) []) rider-after)
+      ∙ ap (λ K. arrive_by p (T p n t) M ++ K) (one_rider p (not (is_onto m.target)) m U ∙ ap (λ r. cond (not (is_onto m.target)) (r ∷ []) []) rider-after)
 
 -- who waits
 module _ (p : Plan) (n t : ℕ) where

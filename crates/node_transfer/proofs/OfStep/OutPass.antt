@@ -7,6 +7,7 @@ use Rattle.std.proofs.lemmas.Bool.{eqb-true, eqb-false, eq-eqb, ne_eqb}
 use Rattle.std.proofs.lemmas.Bool.Decides.{nat_tests}
 use Rattle.std.proofs.lemmas.List.Elements.{All-head, All-tail}
 use Rattle.std.proofs.Math.Dec.{eqb}
+use Rattle.dta_model.proofs.Totals.{first_place}
 use Rattle.dta_model.specs.Allowance.{carried}
 use Rattle.dta_model.specs.Loading.{is_entry}
 use Rattle.dta_model.specs.NodeMoves.{grow, admission, admit, may_enter, where_true, is_first, entered}
@@ -36,10 +37,6 @@ use Rattle.node_transfer.proofs.OfStep.Movers.{distinct_filter, staying-same, un
 use Rattle.node_transfer.proofs.OfStep.OneMove.{entered-push, take_one}
 use Rattle.node_transfer.proofs.OfStep.Outs.{admitted-none, admitted-stop, admitted-go}
 use Rattle.node_transfer.proofs.OfStep.Verdicts.{out-test}
-
-first_is : (o : Option ℕ) (b : ℕ) → is_first b o ≡ true → o ≡ Some b
-first_is None b h = cc
-first_is (Some l) b h = ap (λ x. Some x) (eqb-true l b h)
 
 first_apart : (o : Option ℕ) (b c : ℕ) → b ≢ c → is_first b o ≡ true → is_first c o ≡ true → ⊥
 first_apart None b c other h k = let e : false ≡ true = h in cc
@@ -97,7 +94,7 @@ module _ (p : Plan) (sound : IsSound p) (n t : ℕ) where
     unfolding next_target first_link
     goes =
         let none : moves_made v (T p n t) ≡ 0 = moves_made_is v (T p n t) ∙ ap (λ L. length L) (no-moves v (T p n t) still.1) in
-        sym (ap (λ k. target_at (slice_get (route_of p v) k)) none ∙ ap (λ o. target_at o) (first_is (slice_get (route_of p v) 0) b still.0))
+        sym (ap (λ k. target_at (slice_get (route_of p v) k)) none ∙ ap (λ o. target_at o) (first_place (slice_get (route_of p v) 0) b still.0))
 
     waits-other : (c : ℕ) → b ≢ c → waiting_mid p n t (M ++ m0 ∷ []) c ≡ waiting_mid p n t M c
     waits-other c other =

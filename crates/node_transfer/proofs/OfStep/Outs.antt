@@ -3,18 +3,10 @@ use Rattle.std.proofs.Common.{◌≡◌, ℕ, ◌<◌, ◌≤◌, true, false, L
 use Rattle.std.specs.Prelude.{slice_get}
 use Rattle.std.specs.Prelude.{nat_le, nat_lt}
 use Rattle.std.proofs.lemmas.Bool.Decides.{nat_tests}
+pub use Rattle.net_core.proofs.Orders.{is_le, is_lt, not_le}
 use Rattle.dta_model.specs.Riders.{RiderState, moved}
 use Rattle.capacity_credits.specs.Meter.{MeterState, passed_one}
 use Rattle.node_transfer.specs.Inside.Outs.{released, admitted}
-
-pub not_le : (a b : ℕ) → b < a → nat_le a b ≡ false
-not_le a b h = grind (arith, nat_tests)
-
-is_le : (a b : ℕ) → a ≤ b → nat_le a b ≡ true
-is_le a b h = grind (arith, nat_tests)
-
-is_lt : (a b : ℕ) → a < b → nat_lt a b ≡ true
-is_lt a b h = grind (arith, nat_tests)
 
 -- a list with a first element
 pub as_cons : (xs : List RiderState) (r : RiderState) → slice_get xs 0 ≡ Some r → xs ≡ r ∷ drop 1 xs

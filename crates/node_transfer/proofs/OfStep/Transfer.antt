@@ -6,6 +6,7 @@ use Rattle.std.proofs.Common.{◌≡◌, ℕ, zero, suc, ◌%◌, true, false, L
 use Rattle.std.proofs.lemmas.Bool.{eqb-true, ne_eqb}
 use Rattle.std.proofs.lemmas.List.{length-map}
 use Rattle.std.proofs.lemmas.List.Elements.{All-weaker, filter_passes}
+pub use Rattle.cell_stages.proofs.NextLines.{out_links}
 use Rattle.dta_model.specs.NodeMoves.{node_moves, in_order, rotated, head_move, admission}
 use Rattle.cell_stages.specs.OnePass.{one_pass, pass_links}
 use Rattle.dta_model.specs.Plans.{ins, link_at, outs, vehicle_count}
@@ -34,12 +35,6 @@ unfolding network.ins
 in_links p n =
     All-weaker (λ l. nat_eq (link_at p l).to.0 n ≡ true) (λ l. (link_at p l).to.0 ≡ n) (λ l h. eqb-true (link_at p l).to.0 n h)
     (ins p n) (filter_passes (λ l. nat_eq (link_at p l).to.0 n) (numbers_below (length p.net.links)))
-
-pub out_links : (p : Plan) (n : ℕ) → All (λ b. (link_at p b).from.0 ≡ n) (outs p n)
-unfolding network.outs
-out_links p n =
-    All-weaker (λ l. nat_eq (link_at p l).from.0 n ≡ true) (λ l. (link_at p l).from.0 ≡ n) (λ l h. eqb-true (link_at p l).from.0 n h)
-    (outs p n) (filter_passes (λ l. nat_eq (link_at p l).from.0 n) (numbers_below (length p.net.links)))
 
 pub ins-distinct : (p : Plan) (n : ℕ) → distinct (ins p n) ≡ true
 unfolding network.ins

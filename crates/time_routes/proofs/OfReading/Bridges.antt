@@ -5,10 +5,10 @@ use Rattle.std.specs.Cmp.Lexicographic.{slice_cmp}
 use Rattle.std.specs.Ordering.{is_le, nat_cmp, ordering_then}
 use Rattle.std.proofs.lemmas.Bool.Decides.{nat_tests}
 use Rattle.std.proofs.lemmas.List.Elements.{All-cons, All-nil, All-head, All-tail}
+use Rattle.std.proofs.lemmas.Bool.{and_parts}
 use Rattle.net_core.specs.Network.{turn}
 use Rattle.net_core.specs.declared.rows.NetRows.{NetRows}
 use Rattle.net_core.specs.declared.rows.Turn.{Turn}
-use Rattle.net_core.proofs.FindFacts.{two-parts}
 use Rattle.dta_model.specs.Least.{IsLeast, HaveNoWalk, IsChosen}
 use Rattle.dta_model.specs.TimedWalks.{penalty_steps, arrival_after, walk_time}
 use Rattle.dta_model.specs.Walks.{IsWalk, begins_in, ends_in}
@@ -103,7 +103,7 @@ module _ (at : ℕ → ℕ → ℕ) (net : NetRows) (zone : ℕ) where
   unfolding path_after arrival_after ends_to wait_between
   on_of l e [] k h =
       let p = ended (ends_to net zone l) (at l e) k h in
-      let q = two-parts (nat_lt l (length net.links)) (ends_in net (zone_named net zone) l) (p.0) in
+      let q = and_parts (nat_lt l (length net.links)) (ends_in net (zone_named net zone) l) (p.0) in
       (one_on l (below l (length net.links) (q.0)) (q.1), ap (λ x. e + x) (p.1))
   on_of l e (b ∷ rest) k h =
       let s = split (ends_to net zone l) (wait_between net l b) (at l e) k (λ w. path_after (ways_to at net zone) b (e + (at l e + w)) rest) h in
@@ -155,7 +155,7 @@ module _ (at : ℕ → ℕ → ℕ) (net : NetRows) (zone : ℕ) where
     walk_of s k [] h = cc
     walk_of s k (l ∷ rest) h =
         let b = begun (begins_from net origin l) (path_after (ways_to at net zone) l s rest) k h in
-        let q = two-parts (nat_lt l (length net.links)) (begins_in net (zone_named net origin) l) (b.0) in
+        let q = and_parts (nat_lt l (length net.links)) (begins_in net (zone_named net origin) l) (b.0) in
         let on = on_of l s rest k (b.1) in (
           record {
             some = omega arith;

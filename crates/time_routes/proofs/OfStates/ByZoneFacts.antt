@@ -6,11 +6,12 @@ use Rattle.std.proofs.lemmas.Bool.Decides.{nat_tests}
 use Rattle.std.proofs.lemmas.List.{append-nil}
 use Rattle.std.proofs.lemmas.List.Elements.{filter-append}
 use Rattle.std.proofs.lemmas.Option.{slice_get-get_or}
+use Rattle.std.proofs.lemmas.Bool.{and_parts}
 use Rattle.net_core.specs.Grouped.{Grouped}
 use Rattle.net_core.specs.Network.{IsNet, link_at, numbers_below, zones}
 use Rattle.net_core.specs.declared.rows.NetRows.{NetRows}
 use Rattle.net_core.proofs.GroupedFacts.{grouped-more}
-use Rattle.net_core.proofs.FindFacts.{two-parts}
+use Rattle.net_core.proofs.Numbers.{numbers_more}
 use Rattle.dta_model.specs.Walks.{begins_in, is_zone, zone_at}
 use Rattle.time_routes.specs.Reading.FirstLinks.{AreFirsts}
 use Rattle.time_routes.specs.Named.{zone_named}
@@ -38,13 +39,6 @@ grouped_out lists bound number items item zone is past g = record {
         let other : nat_eq (number item) n ≡ false = differs (number item) n (λ e. absurd (omega (arith, e, is, past, h))) in
         let none : filter (λ x. nat_eq (number x) n) (item ∷ []) ≡ [] = rw other refl in
         filter-append (λ x. nat_eq (number x) n) items (item ∷ []) ∙ ap (λ l. filter (λ x. nat_eq (number x) n) items ++ l) none ∙ append-nil (filter (λ x. nat_eq (number x) n) items)
-
-numbers_grow : (a n j : ℕ) → a + n ≡ j → range_with_len a (suc n) ≡ range_with_len a n ++ j ∷ []
-numbers_grow a zero j h = let same : a ≡ j = omega (arith, h) in ap (λ x. x ∷ []) same
-numbers_grow a (suc n) j h = ap (λ l. a ∷ l) (numbers_grow (a + 1) n j (omega (arith, h)))
-
-pub numbers_more : (n : ℕ) → numbers_below (n + 1) ≡ numbers_below n ++ n ∷ []
-numbers_more n = let next : n + 1 ≡ suc n = omega arith in ap (λ m. numbers_below m) next ∙ numbers_grow 0 n n (omega arith)
 
 -- one more link
 pub grouped_more : (old new : List (List ℕ)) (bound : ℕ) (number : ℕ → ℕ) (link zone : ℕ) → zone ≡ number link
@@ -75,7 +69,7 @@ module _ (net : NetRows) (sound : IsNet net) (origin : ℕ) (small : origin < le
   unfolding begins_from begins_in
   are_firsts = record {
     listed = λ l h. (
-        let p = two-parts (nat_lt l (length net.links)) (is_zone (zone_named net origin) (zone_at net (link_at net l).from.0)) h in
+        let p = and_parts (nat_lt l (length net.links)) (is_zone (zone_named net origin) (zone_at net (link_at net l).from.0)) h in
         let inside : l < length net.links = search (rules, p.0) in
         let r = of_filter starts (numbers_below (length net.links)) l l (number_stands (length net.links) l inside) (zone_same net (link_at net l).from.0 origin sound small ∙ p.1) in
         (r.0, ap (λ xs. slice_get xs (r.0)) list_is ∙ r.1));

@@ -8,13 +8,13 @@ use Rattle.std.proofs.Math.Seq.{drop-append_seam, take-append_seam}
 use Rattle.std.proofs.lemmas.List.{append-nil, length-append, length-drop, get_or_append_left, take-append-le, drop-append-le, get_or-append-add}
 use Rattle.std.proofs.lemmas.List.Elements.{All-append}
 use Rattle.std.proofs.lemmas.Option.{slice_get-get_or}
+use Rattle.std.proofs.lemmas.Bool.{and_parts}
 use Rattle.net_core.specs.Network.{as_links, as_turn, free_turn, IsNet, is_named, link_at, outs, turn, turn_at, zone_of, zones}
 use Rattle.net_core.specs.declared.rows.NetRows.{NetRows}
 use Rattle.fixed_units.specs.declared.turn.TheConstants.{MOST_PENALTY_STEPS}
 use Rattle.net_core.specs.declared.rows.Turn.{Turn}
 use Rattle.net_core.specs.declared.rows.TurnRow.{TurnRow}
 use Rattle.net_core.specs.Rows.{IsTurnInRange}
-use Rattle.net_core.proofs.FindFacts.{two-parts}
 use Rattle.dta_model.specs.Walks.{ends_in, is_zone, zone_at}
 use Rattle.time_routes.specs.Named.{zone_named}
 use Rattle.time_routes.specs.States.Onwards.{ways_from, zone_or_none, end_zone, AreStates, AreOnwards}
@@ -225,7 +225,7 @@ router_is net leads r sound st o = record { many = st.many; few = (let n = o.zon
     }
       where
         end_in : (l : ℕ) → ends_to net zone l ≡ true → l < length r.states.items
-        end_in l h = let p = two-parts (nat_lt l (length net.links)) _ h in let q : l < length net.links = search (rules, p.0) in omega (arith, q, st.many)
+        end_in l h = let p = and_parts (nat_lt l (length net.links)) _ h in let q : l < length net.links = search (rules, p.0) in omega (arith, q, st.many)
 
         ends_there : (l : ℕ) → l < length r.states.items → is_own r zone (get_or r.states.items l 0) ≡ ends_to net zone l
         ends_there l h =

@@ -2,7 +2,8 @@ use Rattle.std.specs.Prelude.{option_copied}
 use Rattle.std.proofs.Common.{◌<◌, length, ap, sym, ◌∙◌, subst, Some}
 use Rattle.dta_model.specs.Lent.{plan_of}
 use Rattle.link_times.specs.Sums.{AreAdded}
-use Rattle.link_times.proofs.Gone.{gone_by, journeys_many, unrouted}
+use Rattle.dta_model.proofs.Ends.{journeys_many}
+use Rattle.link_times.proofs.Gone.{gone_by, unrouted}
 use Rattle.link_times.proofs.Totals.{none_added}
 use Rattle.link_times.proofs.adding.add_vehicle.Goals as goal
 

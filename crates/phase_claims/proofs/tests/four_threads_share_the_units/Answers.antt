@@ -3,7 +3,7 @@ use Rattle.net_core.specs.Network.{is_named, turn, turn_at}
 use Rattle.net_core.specs.Rows.{link_in}
 use Rattle.dta_model.specs.Walks.{begins_in, ends_in}
 use Rattle.net_core.proofs.Checked.{net-checked}
-use Rattle.node_transfer.proofs.Cases.{sound-checked}
+use Rattle.worked_cases.proofs.SoundChecked.{sound-checked}
 use Rattle.phase_claims.proofs.tests.four_threads_share_the_units.Goals as goal
 
 pub new-requires-2-clause-sound : goal.new-requires-2-clause-sound

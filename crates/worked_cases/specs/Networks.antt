@@ -1,0 +1,49 @@
+-- The networks of the worked cases. A link has ten free-flow steps, room for 125 vehicles, and
+-- takes one vehicle in a step of six seconds.
+use Rattle.std.specs.Prelude.{ℕ, List, [], ◌∷◌, Option, None, Some}
+use Rattle.net_core.specs.declared.rows.LinkRow.{LinkRow}
+use Rattle.net_core.specs.declared.rows.NetRows.{NetRows}
+use Rattle.net_core.specs.declared.rows.NodeRow.{NodeRow}
+
+abbrev node : ℕ → Option ℕ → NodeRow
+node id zone = record { id = id; zone = zone }
+
+abbrev link : ℕ → ℕ → ℕ → LinkRow
+link id from to = record {
+  id = id;
+  from = record { 0 = from };
+  to = record { 0 = to };
+  free = 10;
+  storage = 125;
+  rate = 600000000;
+}
+
+-- from zone 1 by a node without zone to zone 3
+abbrev by_a_node : List NodeRow
+by_a_node = node 1 (Some 1) ∷ node 2 None ∷ node 3 (Some 3) ∷ []
+
+-- a link after another
+abbrev pub two_links : NetRows
+two_links = record { nodes = by_a_node; links = link 10 0 1 ∷ link 20 1 2 ∷ []; turns = [] }
+
+-- and a loop at the node between them
+abbrev pub a_loop_that_pays : NetRows
+a_loop_that_pays = record {
+  nodes = by_a_node;
+  links = link 10 0 1 ∷ link 20 1 2 ∷ link 30 1 1 ∷ [];
+  turns = [];
+}
+
+-- a further link over the second half, listed before the other
+abbrev pub a_second_way : NetRows
+a_second_way = record {
+  nodes = by_a_node;
+  links = link 10 0 1 ∷ link 21 1 2 ∷ link 20 1 2 ∷ [];
+  turns = [];
+}
+
+-- the turn onto the link that is listed last is the only one
+abbrev pub one_turn_is_allowed : NetRows
+one_turn_is_allowed = record a_second_way {
+  turns = record { a = record { 0 = 0 }; b = record { 0 = 2 }; penalty = 0; rate = None } ∷ [];
+}
