@@ -22,7 +22,9 @@ use Rattle.dta_model.specs.declared.plan.Plan.{Plan}
 use Rattle.dta_model.specs.declared.trip.Trip.{Trip}
 use Rattle.reports.specs.Texts.{AreOnNet}
 use Rattle.link_times.proofs.Links.{steps_most}
-use Rattle.gap.specs.Gap.{AreWalks, IsGapLine, IsShort}
+use Rattle.dta_model.specs.Sound.{AreWalks}
+use Rattle.link_times.specs.TimeTables.{IsShort}
+use Rattle.gap.specs.Gap.{IsGapLine}
 use Rattle.gap.specs.declared.line.GapLine.{GapLine}
 use Rattle.route_flows.specs.Averages.{AreFirstRoutes, AreNextRoutes}
 use Rattle.dta_words.specs.Ranges.{AreSettings}

@@ -12,7 +12,7 @@ use Rattle.dta_model.specs.Sound.{AreTrips}
 use Rattle.dta_model.specs.declared.plan.Plan.{Plan}
 use Rattle.dta_model.specs.declared.trip.Trip.{Trip}
 use Rattle.vehicle_release.specs.Limits.{IsWithin}
-use Rattle.gap.specs.Gap.{AreWalks}
+use Rattle.dta_model.specs.Sound.{AreWalks}
 use Rattle.grid_maker.specs.Grid.{node_text, link_text, demand_text}
 use Rattle.dta_model.specs.declared.loading.TheConstants.{MOST_LINK_STEPS}
 use Rattle.dta_words.specs.declared.command.Command.{Command}

@@ -12,7 +12,7 @@ use Rattle.net_core.specs.declared.rows.LinkRow.{LinkRow}
 use Rattle.net_core.specs.declared.rows.NetRows.{NetRows}
 use Rattle.dta_model.specs.Examples.{in_a_line, link, number, trip, two_links_in_a_line}
 use Rattle.dta_model.specs.Plans.{link_numbers}
-use Rattle.dta_model.specs.Sound.{AreRoutes, AreTrips, IsSound}
+use Rattle.dta_model.specs.Sound.{AreWalks, AreTrips, IsSound}
 use Rattle.dta_model.specs.Walks.{IsWalk, begins_in, ends_in}
 use Rattle.dta_model.specs.declared.trip.Trip.{Trip}
 use Rattle.dta_model.proofs.Rising.{rising-cons, rising-same}
@@ -115,7 +115,7 @@ walk_of v d x route e f =
     subst (λ y. IsWalk line y.origin y.destination (link_numbers route)) (same_Some (trip v d) x e)
     (subst (λ y. IsWalk line 1 3 (link_numbers y)) (same_Some (number 0 ∷ number 1 ∷ []) route (same_Some way (Some route) f)) is_walk)
 
-are_walks : AreRoutes two_links_in_a_line
+are_walks : AreWalks two_links_in_a_line.net two_links_in_a_line.trips two_links_in_a_line.routes
 unfolding two_links_in_a_line
 are_walks zero x route e f = walk_of 0 5 x route e f
 are_walks (suc zero) x route e f = walk_of 1 15 x route e f

@@ -1,9 +1,11 @@
 -- When a loading is sound.
-use Rattle.std.specs.Prelude.{◌≡◌, ◌≢◌, ℕ, ◌<◌, ◌≤◌, List, length, map, All, Some, slice_get}
+use Rattle.std.specs.Prelude.{◌≡◌, ◌≢◌, ℕ, ◌<◌, ◌≤◌, List, length, map, All, Option, Some}
+use Rattle.std.specs.Prelude.{slice_get}
 use Rattle.std.specs.List.Sorted.{IsNonDecreasingBy}
 use Rattle.fixed_units.specs.declared.link.TheConstants.{MOST_STEP}
 use Rattle.net_core.specs.Network.{IsNet, numbers_below}
 use Rattle.net_core.specs.declared.rows.LinkNo.{LinkNo}
+use Rattle.net_core.specs.declared.rows.NetRows.{NetRows}
 use Rattle.dta_model.specs.Plans.{link_numbers}
 use Rattle.dta_model.specs.Walks.{IsWalk}
 use Rattle.dta_model.specs.declared.loading.TheConstants.{MOST_HORIZON}
@@ -18,11 +20,11 @@ pub record AreTrips (trips : List Trip) : Type 0 where
   pub apart : All (λ trip. trip.origin ≢ trip.destination) trips
 
 -- a route, where a vehicle has one, is a walk between the zones of its trip
-abbrev pub AreRoutes : Plan → Type 0
-AreRoutes p =
-    (v : ℕ) (trip : Trip) (route : List LinkNo)
-    → slice_get p.trips v ≡ Some trip → slice_get p.routes v ≡ Some (Some route)
-    → IsWalk p.net trip.origin trip.destination (link_numbers route)
+abbrev pub AreWalks : NetRows → List Trip → List (Option (List LinkNo)) → Type 0
+AreWalks net trips routes =
+    (v : ℕ) (trip : Trip) (route : List LinkNo) → slice_get trips v ≡ Some trip
+    → slice_get routes v ≡ Some (Some route)
+    → IsWalk net trip.origin trip.destination (link_numbers route)
 
 -- a plan of a sound loading
 pub record IsSound (p : Plan) : Type 0 where
@@ -38,4 +40,4 @@ pub record IsSound (p : Plan) : Type 0 where
   pub early : All (λ trip. trip.departure < p.horizon) p.trips
   -- there are as many routes as trips
   pub each : length p.routes ≡ length p.trips
-  pub walks : AreRoutes p
+  pub walks : AreWalks p.net p.trips p.routes

@@ -8,7 +8,7 @@ use Rattle.net_core.specs.declared.rows.NetRows.{NetRows}
 use Rattle.dta_model.specs.LinkTimes.{TimeTable, free_steps, table_in, table_of}
 use Rattle.dta_model.specs.declared.loading.TheConstants.{MOST_HORIZON}
 use Rattle.dta_model.specs.declared.plan.Plan.{Plan}
-use Rattle.gap.specs.Gap.{IsShort}
+use Rattle.link_times.specs.TimeTables.{IsShort}
 
 free-short : (net : NetRows) → IsNet net → All (λ x. x ≤ MOST_HORIZON) (free_steps net)
 free-short net sound k d h =

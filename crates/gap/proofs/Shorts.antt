@@ -12,7 +12,7 @@ use Rattle.dta_model.specs.LinkTimes.{TimeTable, bucket_count, place_in, time_at
 use Rattle.dta_model.specs.Plans.{link_numbers}
 use Rattle.dta_model.specs.TimedWalks.{arrival_after, penalty_steps}
 use Rattle.dta_model.specs.declared.loading.TheConstants.{MOST_HORIZON}
-use Rattle.gap.specs.Gap.{IsShort}
+use Rattle.link_times.specs.TimeTables.{IsShort}
 use Rattle.time_routes.proofs.OfStates.RouterFacts.{penalty-in}
 use Rattle.time_routes.proofs.OfStates.LongestFacts.{late_same}
 

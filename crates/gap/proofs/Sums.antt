@@ -11,7 +11,8 @@ use Rattle.net_core.specs.declared.rows.NetRows.{NetRows}
 use Rattle.dta_model.specs.Plans.{link_numbers}
 use Rattle.dta_model.specs.Walks.{IsWalk}
 use Rattle.dta_model.specs.declared.trip.Trip.{Trip}
-use Rattle.gap.specs.Gap.{AreLeasts, AreWalks, has_route, IsLeastOf, over_vehicles, route_time, routed, steps_of}
+use Rattle.dta_model.specs.Sound.{AreWalks}
+use Rattle.gap.specs.Gap.{AreLeasts, has_route, IsLeastOf, over_vehicles, route_time, routed, steps_of}
 use Rattle.gap.specs.Told.{asks_for, least_at, least_at_place, least_in}
 use Rattle.time_routes.specs.Destinations.{AreTold, asks_least, LeastOf}
 use Rattle.net_core.proofs.Numbers.{numbers_more}

@@ -1,32 +1,18 @@
 -- The gap of an iteration: how many steps its routes take above the least ones. Routes and least
 -- times are by one table of link times, each from its vehicle's departure.
-use Rattle.std.specs.Prelude.{◌≡◌, ℕ, zero, suc, ◌+◌, ◌*◌, ◌/◌, ◌≤◌, All, Bool, false, is_some}
+use Rattle.std.specs.Prelude.{◌≡◌, ℕ, zero, suc, ◌+◌, ◌*◌, ◌/◌, Bool, false, is_some}
 use Rattle.std.specs.Prelude.{List, length, Option, None, Some, slice_get, sum_by}
 use Rattle.net_core.specs.Network.{numbers_below}
 use Rattle.net_core.specs.declared.rows.LinkNo.{LinkNo}
 use Rattle.net_core.specs.declared.rows.NetRows.{NetRows}
 use Rattle.fixed_units.specs.declared.turn.TheConstants.{MOST_PENALTY_STEPS}
 use Rattle.dta_model.specs.Least.{IsLeast}
-use Rattle.dta_model.specs.LinkTimes.{TimeTable}
 use Rattle.dta_model.specs.Plans.{link_numbers}
 use Rattle.dta_model.specs.TimedWalks.{walk_time}
-use Rattle.dta_model.specs.Walks.{IsWalk}
 use Rattle.dta_model.specs.declared.loading.TheConstants.{MOST_HORIZON}
 use Rattle.dta_model.specs.declared.trip.Trip.{Trip}
 use Rattle.gap.specs.declared.line.GapLine.{GapLine}
 use Rattle.gap.specs.declared.measure.TheConstants.{PER_MILLION}
-
--- a table in which no link takes more steps than the longest horizon has
-pub record IsShort (t : TimeTable) : Type 0 where
-  pub times : All (λ x. x ≤ MOST_HORIZON) t.times
-  pub free : All (λ x. x ≤ MOST_HORIZON) t.free
-
--- a route, where a vehicle has one, is a walk between the zones of its trip
-abbrev pub AreWalks : NetRows → List Trip → List (Option (List LinkNo)) → Type 0
-AreWalks net trips routes =
-    (v : ℕ) (trip : Trip) (route : List LinkNo) → slice_get trips v ≡ Some trip
-    → slice_get routes v ≡ Some (Some route)
-    → IsWalk net trip.origin trip.destination (link_numbers route)
 
 -- the steps of a vehicle's route from its departure, and 0 where it has no route
 abbrev pub steps_of : (ℕ → ℕ → ℕ) → NetRows → Option Trip → Option (Option (List LinkNo)) → ℕ

@@ -2,7 +2,9 @@
 ghost use Rattle.std.specs.Prelude.{◌≡◌, ◌<◌, ◌≤◌, ◌*◌, ◌^◌, ℕ, List, length, All, Some, IfOk};
 ghost use Rattle.dta_model.specs.LinkTimes.{time_at};
 ghost use Rattle.dta_model.specs.Sound.{AreTrips};
-ghost use Rattle.gap.specs.Gap.{AreWalks, IsGapLine, IsShort, has_route, over_vehicles, ppm_of};
+ghost use Rattle.dta_model.specs.Sound.{AreWalks};
+ghost use Rattle.link_times.specs.TimeTables.{IsShort};
+ghost use Rattle.gap.specs.Gap.{IsGapLine, has_route, over_vehicles, ppm_of};
 ghost use Rattle.gap.specs.Gap.{route_time, steps_of};
 ghost use Rattle.gap.specs.Told.{asks_for, least_at, least_in};
 ghost use Rattle.net_core.specs.declared.rows.LinkNo.{LinkNo as LinkOf};

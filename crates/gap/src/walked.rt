@@ -4,7 +4,8 @@ ghost use Rattle.dta_model.specs.LinkTimes.{time_at};
 ghost use Rattle.dta_model.specs.Plans.{link_numbers};
 ghost use Rattle.dta_model.specs.TimedWalks.{arrival_after, penalty_steps, walk_time};
 ghost use Rattle.dta_model.specs.declared.loading.TheConstants.{MOST_HORIZON};
-ghost use Rattle.gap.specs.Gap.{IsShort, most_of_a_link};
+ghost use Rattle.link_times.specs.TimeTables.{IsShort};
+ghost use Rattle.gap.specs.Gap.{most_of_a_link};
 ghost use Rattle.net_core.specs.Network.{IsNet, turn};
 ghost use Rattle.fixed_units.specs.declared.turn.TheConstants.{MOST_PENALTY_STEPS};
 

@@ -20,7 +20,7 @@ use Rattle.net_core.specs.Rows.{link_in}
 use Rattle.net_core.specs.declared.rows.LinkNo.{LinkNo}
 use Rattle.net_core.specs.declared.rows.LinkRow.{LinkRow}
 use Rattle.net_core.specs.declared.rows.NetRows.{NetRows}
-use Rattle.dta_model.specs.Sound.{AreRoutes}
+use Rattle.dta_model.specs.Sound.{AreWalks}
 use Rattle.dta_model.specs.declared.plan.Plan.{Plan}
 use Rattle.dta_model.specs.declared.loaded.Journey.{Journey}
 use Rattle.dta_model.specs.declared.trip.Trip.{Trip}
@@ -150,7 +150,7 @@ pub length-ids_of : (net : NetRows) (route : List LinkNo) → length (ids_of net
 length-ids_of net route = length-map route (λ l. (link_at net l.0).id)
 
 -- the routes of a plan whose routes are walks are over the links of its network
-pub walks-on-net : (p : Plan) → AreRoutes p → length p.routes ≡ length p.trips → AreOnNet p.net p.routes
+pub walks-on-net : (p : Plan) → AreWalks p.net p.trips p.routes → length p.routes ≡ length p.trips → AreOnNet p.net p.routes
 walks-on-net p walks each v d k = each_route (get_or p.routes v d) (slice_get-get_or p.routes v d k)
   where
     trip : Trip

@@ -9,7 +9,8 @@ use Rattle.net_core.specs.declared.rows.NetRows.{NetRows}
 use Rattle.dta_model.specs.Plans.{link_numbers}
 use Rattle.dta_model.specs.Walks.{IsWalk}
 use Rattle.dta_model.specs.declared.trip.Trip.{Trip}
-use Rattle.gap.specs.Gap.{AreWalks, has_route, routed}
+use Rattle.dta_model.specs.Sound.{AreWalks}
+use Rattle.gap.specs.Gap.{has_route, routed}
 use Rattle.gap.proofs.Sums.{told_where_routed}
 use Rattle.time_routes.specs.Destinations.{AreTold, asked_least, asked_walk, asks_least, asks_walk, LeastOf, WalkOf}
 use Rattle.time_routes.specs.declared.reading.tell.Ask.{Ask}

@@ -3,7 +3,9 @@ ghost use Rattle.std.specs.Prelude.{◌≡◌, ◌≤◌, ℕ, length, IfOk};
 ghost use Rattle.dta_model.specs.LinkTimes.{free_table, time_at};
 ghost use Rattle.dta_model.specs.Sound.{AreTrips};
 ghost use Rattle.dta_model.specs.declared.loading.TheConstants.{MOST_HORIZON};
-ghost use Rattle.gap.specs.Gap.{AreWalks, IsGapLine, IsShort};
+ghost use Rattle.dta_model.specs.Sound.{AreWalks};
+ghost use Rattle.link_times.specs.TimeTables.{IsShort};
+ghost use Rattle.gap.specs.Gap.{IsGapLine};
 ghost use Rattle.route_flows.specs.Averages.{AreChosenRoutes, AreFirstRoutes, AreNextRoutes};
 ghost use Rattle.route_flows.specs.declared.selection.TheConstants.{MOST_ITERATION};
 

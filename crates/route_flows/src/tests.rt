@@ -2,7 +2,7 @@
 ghost use Rattle.dta_model.specs.Lent.{plan_of};
 ghost use Rattle.dta_model.specs.LinkTimes.{table_of};
 ghost use Rattle.dta_model.specs.Sound.{IsSound};
-ghost use Rattle.gap.specs.Gap.{IsShort};
+ghost use Rattle.link_times.specs.TimeTables.{IsShort};
 ghost use Rattle.std.specs.Prelude.{◌≡◌, IfOk, length};
 
 use crate::{first_routes, gap_and_next_routes, is_selected, next_routes};

@@ -1,6 +1,7 @@
 use Rattle.std.proofs.Common.{◌≡◌, length, arith, sym, ◌∙◌, subst, ap}
 use Rattle.dta_model.specs.LinkTimes.{time_at}
-use Rattle.gap.specs.Gap.{AreWalks, over_vehicles, route_time}
+use Rattle.dta_model.specs.Sound.{AreWalks}
+use Rattle.gap.specs.Gap.{over_vehicles, route_time}
 use Rattle.gap.specs.Told.{least_at}
 use Rattle.gap.proofs.Sums.{are_leasts, none_less, over-le}
 use Rattle.gap.proofs.measure.gap_line.Goals as goal

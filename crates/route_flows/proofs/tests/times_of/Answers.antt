@@ -4,7 +4,7 @@ use Rattle.dta_model.specs.Lent.{plan_of}
 use Rattle.dta_model.specs.LinkTimes.{TimeTable, table_of}
 use Rattle.dta_model.specs.declared.loading.TheConstants.{MOST_HORIZON}
 use Rattle.gap.proofs.OfLoadings.{many-of, short-of}
-use Rattle.gap.specs.Gap.{IsShort}
+use Rattle.link_times.specs.TimeTables.{IsShort}
 use Rattle.route_flows.proofs.tests.times_of.Goals as goal
 
 both : {T E : Type 0} (P Q R : T → Type 0) → ((t : T) → P t → Q t → R t) → (r : Result T E) → IfOk r P → IfOk r Q → IfOk r R
