@@ -7,7 +7,7 @@ use Rattle.std.proofs.lemmas.List.Elements.{filter-append}
 use Rattle.std.proofs.lemmas.List.Folds.{find-append}
 use Rattle.std.proofs.Math.Dec.{eqb}
 use Rattle.dta_model.specs.declared.plan.Plan.{Plan}
-use Rattle.dta_model.specs.Laws.{ArrivalIsLast, MovesInTurn}
+use Rattle.dta_model.specs.Laws.{ArrivalIsLast, MovesInOrder}
 use Rattle.dta_model.specs.Loading.{is_entry, trace_after}
 use Rattle.dta_model.specs.State.{leads_onto}
 use Rattle.dta_model.specs.Trace.{Move, moves_of}
@@ -15,14 +15,14 @@ use Rattle.dta_model.proofs.Pushes.{moves_of-append}
 use Rattle.dta_model.proofs.Standing.{in-queue}
 use Rattle.dta_model.proofs.NoMoves.{no-moves}
 use Rattle.dta_model.proofs.Conserved.{link_onto}
-use Rattle.dta_model.proofs.InTurn.{Follows, Fits, trace-follows}
+use Rattle.dta_model.proofs.InOrder.{Follows, Fits, trace-follows}
 use Rattle.dta_model.proofs.Riders.{own_move, other_move, Enters, enters_push, nothing_enters, no_arrival}
 
 abbrev Whole : List Move → Type 0
 Whole L = L ≡ filter is_entry L ++ option_to_list (find (λ m. not (is_entry m)) L)
 
 -- who moves in turn only entered links so far
-only_entered : (T : List Move) (m : Move) → MovesInTurn T m → Enters T → filter is_entry (moves_of m.vehicle T) ≡ moves_of m.vehicle T
+only_entered : (T : List Move) (m : Move) → MovesInOrder T m → Enters T → filter is_entry (moves_of m.vehicle T) ≡ moves_of m.vehicle T
 only_entered T m (inl none) so_far = rw (no-moves m.vehicle T none) refl
 only_entered T m (inr (l, e)) so_far = let x = in-queue l T 0 m.vehicle e in so_far m.vehicle (ap leads_onto (x.1) ∙ link_onto l (x.0).target (x.2))
 
@@ -40,7 +40,7 @@ whole_push L m only =
     last_step true = append-nil (L ++ m ∷ [])
     last_step false = ap (λ K. K ++ m ∷ []) (append-nil L)
 
-wholes_push : (T : List Move) (m : Move) → MovesInTurn T m → Enters T → ((v : ℕ) → Whole (moves_of v T)) → (v : ℕ) → Whole (moves_of v (T ++ m ∷ []))
+wholes_push : (T : List Move) (m : Move) → MovesInOrder T m → Enters T → ((v : ℕ) → Whole (moves_of v T)) → (v : ℕ) → Whole (moves_of v (T ++ m ∷ []))
 wholes_push T m turn so_far whole v = push_step (eqb_tells m.vehicle v)
   where
     push_step : ((eqb m.vehicle v ≡ true) × (m.vehicle ≡ v)) ⊎ ((eqb m.vehicle v ≡ false) × (m.vehicle ≢ v)) → Whole (moves_of v (T ++ m ∷ []))

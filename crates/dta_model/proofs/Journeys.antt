@@ -13,7 +13,7 @@ use Rattle.dta_model.specs.Trace.{Move, moves_made, moves_of, next_target, targe
 use Rattle.dta_model.proofs.Pushes.{moves_of-append, moves_made_is}
 use Rattle.dta_model.proofs.NextMoves.{Kind, head, waiting, next_cases, moves-keep}
 use Rattle.dta_model.proofs.Fuel.{All-flat}
-use Rattle.dta_model.proofs.InTurn.{Follows, Fits, trace-follows}
+use Rattle.dta_model.proofs.InOrder.{Follows, Fits, trace-follows}
 use Rattle.dta_model.proofs.Riders.{own_move, other_move}
 
 -- an element of a list with one more

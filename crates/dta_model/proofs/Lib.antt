@@ -12,7 +12,7 @@ pub mod Conserved
 pub mod Start
 pub mod Totals
 pub mod Following
-pub mod InTurn
+pub mod InOrder
 pub mod Blocked
 pub mod Riders
 pub mod Journeys

@@ -7,7 +7,7 @@ use Rattle.std.proofs.lemmas.List.Elements.{filter-append}
 use Rattle.std.proofs.lemmas.List.Sums.{length-filter, count_by-le-length}
 use Rattle.std.proofs.Math.Dec.{eqb}
 use Rattle.dta_model.specs.declared.plan.Plan.{Plan}
-use Rattle.dta_model.specs.Laws.{MovesInTurn}
+use Rattle.dta_model.specs.Laws.{MovesInOrder}
 use Rattle.dta_model.specs.Loading.{is_entry, trace_after}
 use Rattle.dta_model.specs.State.{leads_onto}
 use Rattle.dta_model.specs.Trace.{Move, last_move, last_moves, moves_of}
@@ -16,7 +16,7 @@ use Rattle.dta_model.proofs.Pushes.{last_move-own, last_move-other, moves_of-app
 use Rattle.dta_model.proofs.Standing.{in-queue}
 use Rattle.dta_model.proofs.NoMoves.{no-moves}
 use Rattle.dta_model.proofs.Conserved.{link_onto}
-use Rattle.dta_model.proofs.InTurn.{Follows, Fits, trace-follows}
+use Rattle.dta_model.proofs.InOrder.{Follows, Fits, trace-follows}
 
 pub own_move : (v : ℕ) (m : Move) → m.vehicle ≡ v → moves_of v (m ∷ []) ≡ m ∷ []
 unfolding moves_of
@@ -59,10 +59,10 @@ last_move_is v T = last_is v T [] (nothing_last v)
 abbrev pub Enters : List Move → Type 0
 Enters T = (v : ℕ) → leads_onto (last_move v T) ≡ true → filter is_entry (moves_of v T) ≡ moves_of v T
 
-pub enters_push : (T : List Move) (m : Move) → MovesInTurn T m → Enters T → Enters (T ++ m ∷ [])
+pub enters_push : (T : List Move) (m : Move) → MovesInOrder T m → Enters T → Enters (T ++ m ∷ [])
 enters_push T m turn so_far v h = push_step (eqb_tells m.vehicle v)
   where
-    old : moves_of m.vehicle T ≡ moves_of m.vehicle T → MovesInTurn T m → filter is_entry (moves_of m.vehicle T) ≡ moves_of m.vehicle T
+    old : moves_of m.vehicle T ≡ moves_of m.vehicle T → MovesInOrder T m → filter is_entry (moves_of m.vehicle T) ≡ moves_of m.vehicle T
     old r (inl none) = rw (no-moves m.vehicle T none) refl
     old r (inr (l, e)) = let x = in-queue l T 0 m.vehicle e in so_far m.vehicle (ap leads_onto (x.1) ∙ link_onto l (x.0).target (x.2))
 

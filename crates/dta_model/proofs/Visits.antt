@@ -10,7 +10,7 @@ use Rattle.dta_model.specs.Laws.{VisitsEndInOrder}
 use Rattle.dta_model.specs.Loading.{trace_after}
 use Rattle.dta_model.specs.Trace.{Move, has_moved, leads_to, moves_of}
 use Rattle.dta_model.proofs.Pushes.{moves_of-append, has_moved_is}
-use Rattle.dta_model.proofs.InTurn.{left_in_order}
+use Rattle.dta_model.proofs.InOrder.{left_in_order}
 use Rattle.dta_model.proofs.Journeys.{steps_rise}
 
 -- a list cut at the i-th move of a vehicle

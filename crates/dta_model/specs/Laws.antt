@@ -60,13 +60,13 @@ abbrev pub NothingAtTheStart : Type 0
 NothingAtTheStart = (p : Plan) → eight_after p 0 ≡ no_vehicles
 
 -- a vehicle moves for the first time, or as the head of its link
-abbrev pub MovesInTurn : List Move → Move → Type 0
-MovesInTurn S m =
+abbrev pub MovesInOrder : List Move → Move → Type 0
+MovesInOrder S m =
     (has_moved m.vehicle S ≡ false) ⊎ ((l : ℕ) × (slice_get (queue_of l S) 0 ≡ Some m.vehicle))
 
 abbrev pub HeadsMove : Type 0
 HeadsMove =
-    (p : Plan) (t : ℕ) (S R : List Move) (m : Move) → trace_after p t ≡ S ++ m ∷ R → MovesInTurn S m
+    (p : Plan) (t : ℕ) (S R : List Move) (m : Move) → trace_after p t ≡ S ++ m ∷ R → MovesInOrder S m
 
 -- the moves of a vehicle follow its route: move i leads to the link at place i, and after the last
 -- link it leads out

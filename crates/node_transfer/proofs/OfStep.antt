@@ -6,7 +6,7 @@ pub mod Crossings
 pub mod Steps
 pub mod ByKey
 pub mod Mid
-pub mod Verdicts
+pub mod HeadActions
 pub mod Meters
 pub mod OneMove
 pub mod Movers

@@ -10,7 +10,7 @@ use Rattle.node_transfer.specs.Inside.Cells.{finished, joined_behind, link_after
 use Rattle.node_transfer.specs.Places.{out_mail_put}
 use Rattle.capacity_credits.specs.Meter.{MeterState, closed, granted}
 use Rattle.node_transfer.specs.Inside.Outs.{capped_by, closed_out, closed_with, opened_out, released}
-use Rattle.node_transfer.specs.Inside.Pass.{by_target, passed, penalty_of, place_of, turn_links, verdict, verdict_by}
+use Rattle.node_transfer.specs.Inside.Pass.{by_target, passed, penalty_of, place_of, turn_links, head_action, head_action_by}
 use Rattle.node_transfer.specs.Exits.{opened_exit}
 use Rattle.node_transfer.specs.Rest.{HeadIsLater, IsQuiet, WaitLater, rested, rested_in, rested_once, rested_out}
 use Rattle.cell_stages.specs.declared.in_link.InLink.{InLink}
@@ -18,7 +18,7 @@ use Rattle.cell_stages.specs.declared.mail.Mail.{Mail}
 use Rattle.cell_stages.specs.declared.mail.Mail.TheVariants.{Away, Batch, Room}
 use Rattle.cell_stages.specs.declared.out_link.OutLink.{OutLink}
 use Rattle.cell_stages.specs.declared.exit.Exit.{Exit}
-use Rattle.node_transfer.specs.declared.step.pass.Verdict.TheVariants.{Stays}
+use Rattle.node_transfer.specs.declared.step.pass.HeadAction.TheVariants.{Stays}
 use Rattle.cell_stages.specs.declared.turn.LimitedTurn.{LimitedTurn}
 use Rattle.node_transfer.proofs.OfStep.Outs.{admitted-none, not_le}
 
@@ -29,10 +29,10 @@ target-stays step ready turns outs None h = rw (not_le ready step h) refl
 target-stays step ready turns outs (Some b) h =
     rw (not_le (ready + penalty_of (slice_get turns (place_of b (turn_links turns)))) step (omega (arith, h))) refl
 
-verdict-stays : (step : ℕ) (exit : Exit) (outs : List OutLink) (r : RiderState)
-    → IfSome (last_or None r.entries) (λ entry. step < entry + exit.free) → verdict step exit outs r ≡ Stays
-unfolding verdict
-verdict-stays step exit outs r h = by_entry (last_or None r.entries) h
+head_action-stays : (step : ℕ) (exit : Exit) (outs : List OutLink) (r : RiderState)
+    → IfSome (last_or None r.entries) (λ entry. step < entry + exit.free) → head_action step exit outs r ≡ Stays
+unfolding head_action
+head_action-stays step exit outs r h = by_entry (last_or None r.entries) h
   where
     by_test : (c : Bool) (entry : ℕ) → step < entry + exit.free
         → cond c (by_target step (entry + exit.free) exit.turns outs (slice_get r.route (length r.entries))) Stays ≡ Stays
@@ -40,7 +40,7 @@ verdict-stays step exit outs r h = by_entry (last_or None r.entries) h
     by_test false entry later = refl
 
     by_entry : (o : Option ℕ) → IfSome o (λ entry. step < entry + exit.free)
-        → verdict_by step exit outs o (slice_get r.route (length r.entries)) ≡ Stays
+        → head_action_by step exit outs o (slice_get r.route (length r.entries)) ≡ Stays
     by_entry None later = refl
     by_entry (Some entry) later = by_test (nat_lt 0 exit.outflow.left) entry later
 
@@ -49,7 +49,7 @@ passed-stays : (step : ℕ) (line : List RiderState) (exit : Exit) (outs : List 
     → passed step line exit outs arrived ≡ record { line = line; exit = exit; outs = outs; arrived = arrived }
 unfolding passed
 passed-stays step [] exit outs arrived h = refl
-passed-stays step (r ∷ line) exit outs arrived h = rw (verdict-stays step exit outs r h, passed) refl
+passed-stays step (r ∷ line) exit outs arrived h = rw (head_action-stays step exit outs r h, passed) refl
 
 link-stays : (delta step : ℕ) (link : InLink) (outs : List OutLink) (arrived : List RiderState) → HeadIsLater step link
     → passed_link delta step link outs arrived ≡ record { link = rested_in delta link; outs = outs; arrived = arrived }

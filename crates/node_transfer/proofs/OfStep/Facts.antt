@@ -31,7 +31,7 @@ use Rattle.dta_model.proofs.Standing.{in-queue}
 use Rattle.dta_model.proofs.Steady.{all_at}
 use Rattle.node_transfer.proofs.OfStep.ByKey.{find_kept}
 use Rattle.node_transfer.proofs.OfStep.Mid.{T}
-use Rattle.node_transfer.proofs.OfStep.Verdicts.{Allowed}
+use Rattle.node_transfer.proofs.OfStep.HeadActions.{Allowed}
 
 last_at : (o : Option Move) (xs : List Move) (x : Move) → last_or o xs ≡ Some x → (o ≡ Some x × (xs ≡ [])) ⊎ ((i : ℕ) × (slice_get xs i ≡ Some x) × (suc i ≡ length xs))
 last_at o [] x h = inl (h, refl)

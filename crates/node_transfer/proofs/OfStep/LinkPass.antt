@@ -17,16 +17,16 @@ use Rattle.cell_stages.proofs.Gathering.{kept_at}
 use Rattle.cell_stages.proofs.Lines.{heads_of_lines}
 use Rattle.dta_model.proofs.Queues.{distinct, queue-distinct}
 use Rattle.cell_stages.specs.Contents.{kept_turns}
-use Rattle.node_transfer.specs.Inside.Pass.{Work, passed, verdict, place_of}
+use Rattle.node_transfer.specs.Inside.Pass.{Work, passed, head_action, place_of}
 use Rattle.cell_stages.specs.declared.out_link.OutLink.{OutLink}
 use Rattle.cell_stages.specs.declared.exit.Exit.{Exit}
-use Rattle.node_transfer.specs.declared.step.pass.Verdict.TheVariants.{Stays, Arrives, Enters}
+use Rattle.node_transfer.specs.declared.step.pass.HeadAction.TheVariants.{Stays, Arrives, Enters}
 use Rattle.node_transfer.proofs.OfStep.Facts.{OnLink, on-link}
 use Rattle.node_transfer.proofs.OfStep.Mid.{T, line_mid, exit_mid, out_mid, arrived_mid, waiting_mid}
 use Rattle.node_transfer.proofs.OfStep.Movers.{distinct_filter, distinct_range, first_leaves, staying_push, staying-same, unmoved_one, waits-unmoved, clash, batch-push, arrive-push}
 use Rattle.node_transfer.proofs.OfStep.OneMove.{outs-arrival, outs-entry, exit-arrival, exit-entry}
 use Rattle.node_transfer.proofs.OfStep.Passes.{passed-none, passed-stays, passed-arrives, passed-enters}
-use Rattle.node_transfer.proofs.OfStep.Verdicts.{verdict-head}
+use Rattle.node_transfer.proofs.OfStep.HeadActions.{head_action-head}
 
 pub first_map : {X Y : Type 0} (f : X → Y) (xs : List X) (o : Option X) → slice_get xs 0 ≡ o → slice_get (map f xs) 0 ≡ elim o as (λ _. Option Y) [ None ↦ None | Some x ↦ Some (f x) ]
 first_map f [] None h = refl
@@ -80,20 +80,20 @@ module _ (p : Plan) (sound : IsSound p) (n t l : ℕ) (to : (link_at p l).to.0 �
     first-rider : slice_get (line_mid p n t M l) 0 ≡ Some (rider_at p (T p n t) v)
     first-rider = first_map (rider_at p (T p n t)) (staying M (queue_of l (T p n t))) (Some v) first
 
-    goes-out : next_target p (T p n t) v ≡ Arrived → verdict t (exit_mid p n t M l) (map (out_mid p n t M) (outs p n)) (rider_at p (T p n t) v) ≡ Arrives → pass_of M ≡ pass_of (M ++ m0 ∷ [])
+    goes-out : next_target p (T p n t) v ≡ Arrived → head_action t (exit_mid p n t M l) (map (out_mid p n t M) (outs p n)) (rider_at p (T p n t) v) ≡ Arrives → pass_of M ≡ pass_of (M ++ m0 ∷ [])
     goes-out e w =
         passed-arrives t (line_mid p n t M l) (exit_mid p n t M l) (map (out_mid p n t M) (outs p n)) (arrived_mid p n t M) (rider_at p (T p n t) v) first-rider w
         ∙ pass_same t _ _ _ _ _ _ _ _ line-drops (exit-arrival p n t M m0 l F.stood e) (sym (outs-arrival p n t M m0 (batch-push p n t M m0 new F.only refl refl) waits (outs p n) e))
         (append_assoc (arrived_before p n t) (arrive_by p (T p n t) M) (moved (rider_at p (T p n t) v) t ∷ [])
         ∙ ap (λ A. arrived_before p n t ++ A) (sym (arrive-push p n t M m0 new F.only refl refl ∙ ap (λ x. arrive_by p (T p n t) M ++ cond (not (is_onto x)) (moved (rider_at p (T p n t) v) t ∷ []) []) e)))
 
-    goes-on : (b : ℕ) → next_target p (T p n t) v ≡ Onto b → verdict t (exit_mid p n t M l) (map (out_mid p n t M) (outs p n)) (rider_at p (T p n t) v) ≡ Enters (place_of b (outs p n)) (place_of b (kept_turns p n l)) → pass_of M ≡ pass_of (M ++ m0 ∷ [])
+    goes-on : (b : ℕ) → next_target p (T p n t) v ≡ Onto b → head_action t (exit_mid p n t M l) (map (out_mid p n t M) (outs p n)) (rider_at p (T p n t) v) ≡ Enters (place_of b (outs p n)) (place_of b (kept_turns p n l)) → pass_of M ≡ pass_of (M ++ m0 ∷ [])
     goes-on b e w =
         passed-enters t (line_mid p n t M l) (exit_mid p n t M l) (map (out_mid p n t M) (outs p n)) (arrived_mid p n t M) (rider_at p (T p n t) v) (place_of b (outs p n)) (place_of b (kept_turns p n l)) first-rider w
         ∙ pass_same t _ _ _ _ _ _ _ _ line-drops (exit-entry p n t M m0 l F.stood b (distinct_filter _ (outs p n) (outs-distinct p n)) e) (outs-entry p n t M m0 (batch-push p n t M m0 new F.only refl refl) waits (outs p n) b (outs-distinct p n) e)
         (ap (λ A. arrived_before p n t ++ A) (sym (arrive-push p n t M m0 new F.only refl refl ∙ ap (λ x. arrive_by p (T p n t) M ++ cond (not (is_onto x)) (moved (rider_at p (T p n t) v) t ∷ []) []) e ∙ append-nil (arrive_by p (T p n t) M))))
 
-    stays-put : verdict t (exit_mid p n t M l) (map (out_mid p n t M) (outs p n)) (rider_at p (T p n t) v) ≡ Stays → pass_of M ≡ work_of M
+    stays-put : head_action t (exit_mid p n t M l) (map (out_mid p n t M) (outs p n)) (rider_at p (T p n t) v) ≡ Stays → pass_of M ≡ work_of M
     stays-put w = passed-stays t (line_mid p n t M l) (exit_mid p n t M l) (map (out_mid p n t M) (outs p n)) (arrived_mid p n t M) (rider_at p (T p n t) v) first-rider w
 
     head-is : All (λ m. m.step ≡ t) M → head_move p n t (T p n t) M l ≡ where_true (may_move p n t (T p n t) M l (F.entry.step + (link_at p l).free) (next_target p (T p n t) v)) m0
@@ -115,12 +115,12 @@ module _ (p : Plan) (sound : IsSound p) (n t l : ℕ) (to : (link_at p l).to.0 �
 
         by_next : (o : Option ℕ) → slice_get (rider_at p (T p n t) v).route (length (rider_at p (T p n t) v).entries) ≡ o → HeadStep M
         by_next None q =
-            let w = verdict-head p n t M l v F.entry.step None F.last q (λ b h. F.allowed b (q ∙ h)) in
+            let w = head_action-head p n t M l v F.entry.step None F.last q (λ b h. F.allowed b (q ∙ h)) in
             let e : next_target p (T p n t) v ≡ Arrived = F.next ∙ ap (λ y. target_at y) q in
             by_test None Arrived (may_move p n t (T p n t) M l (F.entry.step + (link_at p l).free) Arrived) e refl
             (λ c. goes-out e (w ∙ ap (λ d. cond d Arrives Stays) c)) (λ c. stays-put (w ∙ ap (λ d. cond d Arrives Stays) c))
         by_next (Some b) q =
-            let w = verdict-head p n t M l v F.entry.step (Some b) F.last q (λ x h. F.allowed x (q ∙ h)) in
+            let w = head_action-head p n t M l v F.entry.step (Some b) F.last q (λ x h. F.allowed x (q ∙ h)) in
             let e : next_target p (T p n t) v ≡ Onto b = F.next ∙ ap (λ y. target_at y) q in
             by_test (Some b) (Onto b) (may_move p n t (T p n t) M l (F.entry.step + (link_at p l).free) (Onto b)) e refl
             (λ c. goes-on b e (w ∙ ap (λ d. cond d (Enters (place_of b (outs p n)) (place_of b (kept_turns p n l))) Stays) c)) (λ c. stays-put (w ∙ ap (λ d. cond d (Enters (place_of b (outs p n)) (place_of b (kept_turns p n l))) Stays) c))

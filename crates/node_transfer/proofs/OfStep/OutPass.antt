@@ -36,7 +36,7 @@ use Rattle.node_transfer.proofs.OfStep.Mid.{T, takes, due_now, due_later, waitin
 use Rattle.node_transfer.proofs.OfStep.Movers.{distinct_filter, staying-same, unmoved_one, waits-unmoved, waiting-distinct, clash, batch-push, arrive-push, admission-is, due-leaves, later-stay}
 use Rattle.node_transfer.proofs.OfStep.OneMove.{entered-push, take_one}
 use Rattle.node_transfer.proofs.OfStep.Outs.{admitted-none, admitted-stop, admitted-go}
-use Rattle.node_transfer.proofs.OfStep.Verdicts.{out-test}
+use Rattle.node_transfer.proofs.OfStep.HeadActions.{out-test}
 
 first_apart : (o : Option ℕ) (b c : ℕ) → b ≢ c → is_first b o ≡ true → is_first c o ≡ true → ⊥
 first_apart None b c other h k = let e : false ≡ true = h in cc

@@ -7,30 +7,30 @@ use Rattle.std.proofs.lemmas.List.Sums.{sum_by-cons}
 use Rattle.std.proofs.lemmas.List.Elements.{All-head, All-tail}
 use Rattle.std.proofs.lemmas.Grind.{common_steps}
 use Rattle.dta_model.specs.Riders.{RiderState, moved}
-use Rattle.node_transfer.specs.Inside.Pass.{verdict, passed, CanPass, Rides, FitsAll, total, held, out_links, waitings, entered_at, entered_in, after_arrival, after_entry}
+use Rattle.node_transfer.specs.Inside.Pass.{head_action, passed, CanPass, Rides, FitsAll, total, held, out_links, waitings, entered_at, entered_in, after_arrival, after_entry}
 use Rattle.cell_stages.specs.declared.exit.Exit.{Exit}
 use Rattle.cell_stages.specs.declared.out_link.OutLink.{OutLink}
-use Rattle.node_transfer.specs.declared.step.pass.Verdict.TheVariants.{Stays, Arrives, Enters}
+use Rattle.node_transfer.specs.declared.step.pass.HeadAction.TheVariants.{Stays, Arrives, Enters}
 
 pub passed-none : (step : ℕ) (line : List RiderState) (exit : Exit) (outs : List OutLink) (arrived : List RiderState) → slice_get line 0 ≡ None → passed step line exit outs arrived ≡ record { line = line; exit = exit; outs = outs; arrived = arrived }
 unfolding passed
 passed-none step [] exit outs arrived h = refl
 passed-none step (r ∷ line) exit outs arrived h = cc
 
-pub passed-stays : (step : ℕ) (line : List RiderState) (exit : Exit) (outs : List OutLink) (arrived : List RiderState) (r : RiderState) → slice_get line 0 ≡ Some r → verdict step exit outs r ≡ Stays → passed step line exit outs arrived ≡ record { line = line; exit = exit; outs = outs; arrived = arrived }
+pub passed-stays : (step : ℕ) (line : List RiderState) (exit : Exit) (outs : List OutLink) (arrived : List RiderState) (r : RiderState) → slice_get line 0 ≡ Some r → head_action step exit outs r ≡ Stays → passed step line exit outs arrived ≡ record { line = line; exit = exit; outs = outs; arrived = arrived }
 unfolding passed
 passed-stays step [] exit outs arrived r h v = cc
-passed-stays step (x ∷ line) exit outs arrived r h v = let same : x ≡ r = cc in rw (ap (λ y. verdict step exit outs y) same ∙ v, passed) refl
+passed-stays step (x ∷ line) exit outs arrived r h v = let same : x ≡ r = cc in rw (ap (λ y. head_action step exit outs y) same ∙ v, passed) refl
 
-pub passed-arrives : (step : ℕ) (line : List RiderState) (exit : Exit) (outs : List OutLink) (arrived : List RiderState) (r : RiderState) → slice_get line 0 ≡ Some r → verdict step exit outs r ≡ Arrives → passed step line exit outs arrived ≡ passed step (drop 1 line) (after_arrival exit) outs (arrived ++ moved r step ∷ [])
+pub passed-arrives : (step : ℕ) (line : List RiderState) (exit : Exit) (outs : List OutLink) (arrived : List RiderState) (r : RiderState) → slice_get line 0 ≡ Some r → head_action step exit outs r ≡ Arrives → passed step line exit outs arrived ≡ passed step (drop 1 line) (after_arrival exit) outs (arrived ++ moved r step ∷ [])
 unfolding passed
 passed-arrives step [] exit outs arrived r h v = cc
-passed-arrives step (x ∷ line) exit outs arrived r h v = let same : x ≡ r = cc in rw (ap (λ y. verdict step exit outs y) same ∙ v, passed) (ap (λ y. passed step line (after_arrival exit) outs (arrived ++ moved y step ∷ [])) same)
+passed-arrives step (x ∷ line) exit outs arrived r h v = let same : x ≡ r = cc in rw (ap (λ y. head_action step exit outs y) same ∙ v, passed) (ap (λ y. passed step line (after_arrival exit) outs (arrived ++ moved y step ∷ [])) same)
 
-pub passed-enters : (step : ℕ) (line : List RiderState) (exit : Exit) (outs : List OutLink) (arrived : List RiderState) (r : RiderState) (p k : ℕ) → slice_get line 0 ≡ Some r → verdict step exit outs r ≡ Enters p k → passed step line exit outs arrived ≡ passed step (drop 1 line) (after_entry k exit) (entered_at p step r outs) arrived
+pub passed-enters : (step : ℕ) (line : List RiderState) (exit : Exit) (outs : List OutLink) (arrived : List RiderState) (r : RiderState) (p k : ℕ) → slice_get line 0 ≡ Some r → head_action step exit outs r ≡ Enters p k → passed step line exit outs arrived ≡ passed step (drop 1 line) (after_entry k exit) (entered_at p step r outs) arrived
 unfolding passed
 passed-enters step [] exit outs arrived r p k h v = cc
-passed-enters step (x ∷ line) exit outs arrived r p k h v = let same : x ≡ r = cc in rw (ap (λ y. verdict step exit outs y) same ∙ v, passed) (ap (λ y. passed step line (after_entry k exit) (entered_at p step y outs) arrived) same)
+passed-enters step (x ∷ line) exit outs arrived r p k h v = let same : x ≡ r = cc in rw (ap (λ y. head_action step exit outs y) same ∙ v, passed) (ap (λ y. passed step line (after_entry k exit) (entered_at p step y outs) arrived) same)
 
 -- the head of a line rides
 pub head_rides : (links : List ℕ) (line : List RiderState) (r : RiderState) → All (Rides links) line → slice_get line 0 ≡ Some r → Rides links r
@@ -70,7 +70,7 @@ CanPass-enters (x ∷ line) outs arrived r c h p step = record {
   fits = let h : length (x ∷ line) + (length arrived + sum_by held outs) ≤ MOST_RIDERS = c.fits in let s = entered_sum (slice_get outs p) p step r outs refl in omega arith;
 }
 
--- what a verdict to enter tells
+-- what it tells that a head enters
 pub held_fits : (outs : List OutLink) (p n : ℕ) (o : OutLink) → slice_get outs p ≡ Some o → sum_by held outs ≤ n → length o.batch ≤ n
 held_fits [] p n o h s = cc
 held_fits (x ∷ outs) zero n o h s = let same : x ≡ o = cc in let e : held x ≡ held o = ap (λ y. held y) same in omega (arith, sum_by-cons held x outs)

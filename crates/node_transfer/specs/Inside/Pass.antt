@@ -10,8 +10,8 @@ use Rattle.cell_stages.specs.declared.turn.LimitedTurn.{LimitedTurn}
 use Rattle.cell_stages.specs.declared.exit.Exit.{Exit}
 use Rattle.cell_stages.specs.declared.out_link.OutLink.{OutLink}
 use Rattle.cell_stages.specs.declared.out_link.Waiting.{Waiting}
-use Rattle.node_transfer.specs.declared.step.pass.Verdict.{Verdict}
-use Rattle.node_transfer.specs.declared.step.pass.Verdict.TheVariants.{Stays, Arrives, Enters}
+use Rattle.node_transfer.specs.declared.step.pass.HeadAction.{HeadAction}
+use Rattle.node_transfer.specs.declared.step.pass.HeadAction.TheVariants.{Stays, Arrives, Enters}
 
 -- the place of a link in a list, which is the length where it isn't there
 unfoldable pub place_of : ℕ → List ℕ → ℕ
@@ -82,27 +82,27 @@ is_entry step ready turns outs p k =
     && (turn_open (slice_get turns k) && out_open (slice_get outs p))
 
 -- one that is ready enters, or stays
-abbrev pub entry_at : ℕ → ℕ → List LimitedTurn → List OutLink → ℕ → ℕ → Verdict
+abbrev pub entry_at : ℕ → ℕ → List LimitedTurn → List OutLink → ℕ → ℕ → HeadAction
 entry_at step ready turns outs p k = cond (is_entry step ready turns outs p k) (Enters p k) Stays
 
 -- what one does that is ready: without a next link it arrives, else it enters that link if it may
-abbrev pub by_target : ℕ → ℕ → List LimitedTurn → List OutLink → Option ℕ → Verdict
+abbrev pub by_target : ℕ → ℕ → List LimitedTurn → List OutLink → Option ℕ → HeadAction
 by_target step ready turns outs None = cond (nat_le ready step) Arrives Stays
 by_target step ready turns outs (Some b) =
     entry_at step ready turns outs (place_of b (out_links outs)) (place_of b (turn_links turns))
 
 -- what one does that entered its link at a step: nobody leaves beyond the link's allowance
-abbrev pub verdict_by : ℕ → Exit → List OutLink → Option ℕ → Option ℕ → Verdict
-verdict_by step exit outs None target = Stays
-verdict_by step exit outs (Some entry) target =
+abbrev pub head_action_by : ℕ → Exit → List OutLink → Option ℕ → Option ℕ → HeadAction
+head_action_by step exit outs None target = Stays
+head_action_by step exit outs (Some entry) target =
     cond (nat_lt 0 exit.outflow.left)
     (by_target step (entry + exit.free) exit.turns outs target)
     Stays
 
 -- what the head of the line does
-unfoldable pub verdict : ℕ → Exit → List OutLink → RiderState → Verdict
-verdict step exit outs r =
-    verdict_by step exit outs (last_or None r.entries) (slice_get r.route (length r.entries))
+unfoldable pub head_action : ℕ → Exit → List OutLink → RiderState → HeadAction
+head_action step exit outs r =
+    head_action_by step exit outs (last_or None r.entries) (slice_get r.route (length r.entries))
 
 -- a line, its exit, the out-links and those who arrived, while heads move
 pub record Work : Type 0 where
@@ -121,7 +121,7 @@ after_entry k exit = record exit { outflow = passed_one exit.outflow; turns = us
 -- the lists once no head moves
 unfoldable pub passed : ℕ → List RiderState → Exit → List OutLink → List RiderState → Work
 passed step [] exit outs arrived = record { line = []; exit = exit; outs = outs; arrived = arrived }
-passed step (r ∷ line) exit outs arrived = elim (verdict step exit outs r) as (λ _. Work) [
+passed step (r ∷ line) exit outs arrived = elim (head_action step exit outs r) as (λ _. Work) [
   | Stays ↦ record { line = r ∷ line; exit = exit; outs = outs; arrived = arrived }
   | Arrives ↦ passed step line (after_arrival exit) outs (arrived ++ moved r step ∷ [])
   | Enters p k ↦ passed step line (after_entry k exit) (entered_at p step r outs) arrived

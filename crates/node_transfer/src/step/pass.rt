@@ -1,7 +1,7 @@
 // One pass over one in-link.
 ghost use Rattle.std.specs.Prelude.{◌≡◌, ℕ, ◌+◌, ◌-◌, ◌<◌, ◌≤◌, length, IfSome, IsSomeAnd, nat_le};
 ghost use Rattle.std.specs.Prelude.{slice_get, drop, IsTrue, true, false, None, Some};
-ghost use Rattle.node_transfer.specs.Inside.Pass.{verdict, passed, CanPass, Rides, total};
+ghost use Rattle.node_transfer.specs.Inside.Pass.{head_action, passed, CanPass, Rides, total};
 ghost use Rattle.node_transfer.specs.Inside.Pass.{out_links, waitings, entered_at, turn_open};
 ghost use Rattle.node_transfer.specs.Inside.Pass.{out_open, is_entry, after_arrival, after_entry};
 ghost use Rattle.node_transfer.specs.Exits.{opened_exit, closed_exit};
@@ -14,7 +14,7 @@ use link_queues::{Line, MOST_RIDERS, Rider};
 
 /// What the head of a line does.
 #[derive(Drop)]
-pub enum Verdict {
+pub enum HeadAction {
     Stays,
     Arrives,
     Enters(usize, usize),
@@ -66,40 +66,40 @@ pub fn is_served(ready: u64, penalty: u32, step: u32) -> bool
 }
 
 /// What the rider does next.
-#[tactic(auto, unfolding(crate::specs::Inside::Pass::verdict))]
-pub fn judge(rider: &Rider, exit: &Exit, outs: &[OutLink], step: u32) -> Verdict
+#[tactic(auto, unfolding(crate::specs::Inside::Pass::head_action))]
+pub fn judge(rider: &Rider, exit: &Exit, outs: &[OutLink], step: u32) -> HeadAction
     requires { Rides (out_links outs.now) rider.now }
-    ensures value { result ≡ verdict step exit.now outs.now rider.now }
-    ensures arrives { result ≡ Verdict.Arrives → 0 < exit.now.outflow.left }
-    ensures enters { (p k : ℕ) → result ≡ Verdict.Enters p k
+    ensures value { result ≡ head_action step exit.now outs.now rider.now }
+    ensures arrives { result ≡ HeadAction.Arrives → 0 < exit.now.outflow.left }
+    ensures enters { (p k : ℕ) → result ≡ HeadAction.Enters p k
         → (0 < exit.now.outflow.left) × (out_open (slice_get outs.now p) ≡ true)
         × (turn_open (slice_get exit.now.turns k) ≡ true) }
 {
     let ready = match rider.last_entry() {
         Some(entry) => entry as u64 + exit.free as u64,
-        None => return Verdict::Stays,
+        None => return HeadAction::Stays,
     };
     if exit.outflow.left() > 0 {
         match rider.next_link() {
             None => {
                 if ready <= step as u64 {
-                    Verdict::Arrives
+                    HeadAction::Arrives
                 } else {
-                    Verdict::Stays
+                    HeadAction::Stays
                 }
             }
             Some(link) => {
                 let place = place_to(outs, link);
                 let turn = place_of_turn(&exit.turns, link);
                 if may_enter(&exit.turns, outs, ready, step, place, turn) {
-                    Verdict::Enters(place, turn)
+                    HeadAction::Enters(place, turn)
                 } else {
-                    Verdict::Stays
+                    HeadAction::Stays
                 }
             }
         }
     } else {
-        Verdict::Stays
+        HeadAction::Stays
     }
 }
 
@@ -160,13 +160,13 @@ pub fn advance(
         Some(rider) => judge(rider, exit, outs, step),
     };
     match what {
-        Verdict::Stays => false,
-        Verdict::Arrives => {
+        HeadAction::Stays => false,
+        HeadAction::Arrives => {
             line.move_front_to(arrived, step);
             count_arrival(exit);
             true
         }
-        Verdict::Enters(place, turn) => {
+        HeadAction::Enters(place, turn) => {
             enter_at(line, outs, place, step);
             count_entry(exit, turn);
             true

@@ -1,7 +1,7 @@
 use Rattle.std.proofs.Common.{◌∙◌, length, ap, sym, subst, arith}
 use Rattle.dta_model.specs.Lent.{plan_of}
 use Rattle.dta_model.proofs.Ends.{journeys_end_in_order}
-use Rattle.dta_model.proofs.InTurn.{left_in_order}
+use Rattle.dta_model.proofs.InOrder.{left_in_order}
 use Rattle.dta_model.proofs.Onward.{vehicles_are_conserved}
 use Rattle.dta_model.specs.Laws.{EndInOrder}
 use Rattle.node_transfer.proofs.OfHandOver.Handed.{end-handed, end-within}

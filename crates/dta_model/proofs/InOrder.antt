@@ -11,7 +11,7 @@ use Rattle.dta_model.proofs.NoMoves.{no-moves}
 pub use Rattle.dta_model.proofs.Following.{Follows}
 use Rattle.dta_model.proofs.Following.{Follows-append, Follows-at, whole-follows}
 use Rattle.dta_model.specs.declared.plan.Plan.{Plan}
-use Rattle.dta_model.specs.Laws.{HeadsMove, LeftInOrder, MovesInTurn}
+use Rattle.dta_model.specs.Laws.{HeadsMove, LeftInOrder, MovesInOrder}
 use Rattle.dta_model.specs.Loading.{after_step, step_moves, trace_after}
 use Rattle.dta_model.specs.NodeMoves.{is_first, next_move, node_moves, waits_for}
 use Rattle.dta_model.specs.Plans.{all_nodes, first_link, route_of}
@@ -30,7 +30,7 @@ use Rattle.std.proofs.lemmas.Option.{same_Some}
 
 -- a move in turn, to the next target
 abbrev pub Fits : Plan → List Move → Move → Type 0
-Fits p S m = MovesInTurn S m × (m.target ≡ next_target p S m.vehicle)
+Fits p S m = MovesInOrder S m × (m.target ≡ next_target p S m.vehicle)
 
 head_stays : (Q X : List ℕ) (v w : ℕ) → w ≢ v → slice_get Q 0 ≡ Some v → slice_get (without w Q ++ X) 0 ≡ Some v
 head_stays [] X v w n h = cc
@@ -41,7 +41,7 @@ unfolding has_moved
 none_more W d v n h = has_moved-append v W (d ∷ []) ∙ rw (h, ne_eqb d.vehicle v n) refl
 
 -- a move of another vehicle before it
-turn-other : (W : List Move) (d m : Move) → d.vehicle ≢ m.vehicle → MovesInTurn W m → MovesInTurn (W ++ d ∷ []) m
+turn-other : (W : List Move) (d m : Move) → d.vehicle ≢ m.vehicle → MovesInOrder W m → MovesInOrder (W ++ d ∷ []) m
 turn-other W d m n (inl h) = inl (none_more W d m.vehicle n h)
 turn-other W d m n (inr (l, e)) = inr (l, ap (λ Q. slice_get Q 0) (queue-push l W d) ∙ head_stays (queue_of l W) (cond (leads_to l d) (d.vehicle ∷ []) []) m.vehicle d.vehicle n e)
 
@@ -159,7 +159,7 @@ module _ (l : ℕ) (A B C : List Move) (a b c : Move) (at_a : leads_to l a ≡ t
       let three = keeps_place l a.vehicle C (((A ++ a ∷ []) ++ B) ++ b ∷ []) (without b.vehicle one.front) (without b.vehicle one.back ++ b.vehicle ∷ []) two (parts.2) in
       not_front three.front three.back a.vehicle b.vehicle (three.fewer b.vehicle (gone b.vehicle one.front)) other (ap (λ Q. slice_get Q 0) (sym three.is) ∙ h)
 
-  in_order : MovesInTurn whole c → has_moved a.vehicle (B ++ b ∷ C) ≡ true
+  in_order : MovesInOrder whole c → has_moved a.vehicle (B ++ b ∷ C) ≡ true
   in_order turn = order_step (cases_Bool (has_moved a.vehicle (B ++ b ∷ C))) (subst (λ v. (has_moved v whole ≡ false) ⊎ ((k : ℕ) × (slice_get (queue_of k whole) 0 ≡ Some v))) of_b turn)
     where
       order_step : (has_moved a.vehicle (B ++ b ∷ C) ≡ true) ⊎ (has_moved a.vehicle (B ++ b ∷ C) ≡ false) → (has_moved b.vehicle whole ≡ false) ⊎ ((k : ℕ) × (slice_get (queue_of k whole) 0 ≡ Some b.vehicle)) → has_moved a.vehicle (B ++ b ∷ C) ≡ true

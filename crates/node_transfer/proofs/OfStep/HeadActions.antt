@@ -15,11 +15,11 @@ use Rattle.dta_model.specs.Trace.{Move, Onto, Arrived}
 use Rattle.dta_model.specs.declared.plan.Plan.{Plan}
 use Rattle.net_core.specs.declared.rows.Turn.{Turn}
 use Rattle.cell_stages.specs.Contents.{kept_turns, is_kept, turn_by}
-use Rattle.node_transfer.specs.Inside.Pass.{place_of, verdict, by_target, entry_at, is_entry, turn_links, out_links, turn_open, limit_open, out_open, penalty_of}
+use Rattle.node_transfer.specs.Inside.Pass.{place_of, head_action, by_target, entry_at, is_entry, turn_links, out_links, turn_open, limit_open, out_open, penalty_of}
 use Rattle.cell_stages.specs.declared.out_link.OutLink.{OutLink}
 use Rattle.cell_stages.specs.declared.exit.Exit.{Exit}
-use Rattle.node_transfer.specs.declared.step.pass.Verdict.{Verdict}
-use Rattle.node_transfer.specs.declared.step.pass.Verdict.TheVariants.{Stays, Arrives, Enters}
+use Rattle.node_transfer.specs.declared.step.pass.HeadAction.{HeadAction}
+use Rattle.node_transfer.specs.declared.step.pass.HeadAction.TheVariants.{Stays, Arrives, Enters}
 use Rattle.cell_stages.specs.declared.turn.LimitedTurn.{LimitedTurn}
 use Rattle.node_transfer.proofs.OfStep.Mid.{T, meter_mid, capped_room, turn_mid, exit_mid, out_mid}
 use Rattle.node_transfer.proofs.OfStep.ByKey.{both_true}
@@ -61,22 +61,22 @@ and_assoc : (a b c : Bool) → (a && (b && c)) ≡ ((a && b) && c)
 and_assoc true b c = refl
 and_assoc false b c = refl
 
-conds : (p q : Bool) (x y : Verdict) → cond p (cond q x y) y ≡ cond (q && p) x y
+conds : (p q : Bool) (x y : HeadAction) → cond p (cond q x y) y ≡ cond (q && p) x y
 conds true true x y = refl
 conds true false x y = refl
 conds false true x y = refl
 conds false false x y = refl
 
-conds_and : (p q : Bool) (x y : Verdict) → cond p (cond q x y) y ≡ cond (p && q) x y
+conds_and : (p q : Bool) (x y : HeadAction) → cond p (cond q x y) y ≡ cond (p && q) x y
 conds_and true true x y = refl
 conds_and true false x y = refl
 conds_and false true x y = refl
 conds_and false false x y = refl
 
-verdict-of : (t : ℕ) (exit : Exit) (os : List OutLink) (r : RiderState) (entry : ℕ) (o : Option ℕ) → last_or None r.entries ≡ Some entry → slice_get r.route (length r.entries) ≡ o
-    → verdict t exit os r ≡ cond (nat_lt 0 exit.outflow.left) (by_target t (entry + exit.free) exit.turns os o) Stays
-unfolding verdict
-verdict-of t exit os r entry o e q = rw (e, q) refl
+head_action-of : (t : ℕ) (exit : Exit) (os : List OutLink) (r : RiderState) (entry : ℕ) (o : Option ℕ) → last_or None r.entries ≡ Some entry → slice_get r.route (length r.entries) ≡ o
+    → head_action t exit os r ≡ cond (nat_lt 0 exit.outflow.left) (by_target t (entry + exit.free) exit.turns os o) Stays
+unfolding head_action
+head_action-of t exit os r entry o e q = rw (e, q) refl
 
 module _ (p : Plan) (n t : ℕ) (M : List Move) where
   pub out-test : (b : ℕ) → out_open (Some (out_mid p n t M b)) ≡ may_enter p n t (T p n t) M b
@@ -134,22 +134,22 @@ module _ (p : Plan) (n t : ℕ) (M : List Move) where
       rw (get_turn l b a, get_out l b a, out-test b, found-open l b a.way (is_kept (Some a.way)) refl, found-penalty l b a.way (is_kept (Some a.way)) refl, a.allows)
       (and_assoc (nat_le (ready + a.way.penalty) t) (has_pass p a.way.rate t (turned p n t (T p n t) M l b)) (may_enter p n t (T p n t) M b))
 
-  -- the verdict on a head, by its next link
-  abbrev pub head_verdict : ℕ → ℕ → Option ℕ → Verdict
-  head_verdict l ready None = cond (may_move p n t (T p n t) M l ready Arrived) Arrives Stays
-  head_verdict l ready (Some b) = cond (may_move p n t (T p n t) M l ready (Onto b)) (Enters (place_of b (outs p n)) (place_of b (kept_turns p n l))) Stays
+  -- what a head does, by its next link
+  abbrev pub next_head_action : ℕ → ℕ → Option ℕ → HeadAction
+  next_head_action l ready None = cond (may_move p n t (T p n t) M l ready Arrived) Arrives Stays
+  next_head_action l ready (Some b) = cond (may_move p n t (T p n t) M l ready (Onto b)) (Enters (place_of b (outs p n)) (place_of b (kept_turns p n l))) Stays
 
-  -- the code's verdict is that of the definitions
-  pub verdict-head : (l v entry : ℕ) (o : Option ℕ) → last_or None (rider_at p (T p n t) v).entries ≡ Some entry
+  -- what the code finds is what the definitions say
+  pub head_action-head : (l v entry : ℕ) (o : Option ℕ) → last_or None (rider_at p (T p n t) v).entries ≡ Some entry
       → slice_get (rider_at p (T p n t) v).route (length (rider_at p (T p n t) v).entries) ≡ o → ((b : ℕ) → o ≡ Some b → Allowed p n l b)
-      → verdict t (exit_mid p n t M l) (map (out_mid p n t M) (outs p n)) (rider_at p (T p n t) v) ≡ head_verdict l (entry + (link_at p l).free) o
+      → head_action t (exit_mid p n t M l) (map (out_mid p n t M) (outs p n)) (rider_at p (T p n t) v) ≡ next_head_action l (entry + (link_at p l).free) o
   unfolding may_move link_allowance
-  verdict-head l v entry None e q a =
-      verdict-of t (exit_mid p n t M l) (map (out_mid p n t M) (outs p n)) (rider_at p (T p n t) v) entry None e q
+  head_action-head l v entry None e q a =
+      head_action-of t (exit_mid p n t M l) (map (out_mid p n t M) (outs p n)) (rider_at p (T p n t) v) entry None e q
       ∙ ap (λ c. cond c (cond (nat_le (entry + (link_at p l).free) t) Arrives Stays) Stays) (lt_sub (allowance (link_at p l).rate p.delta t) (left p n t (T p n t) M l))
       ∙ conds (nat_lt (left p n t (T p n t) M l) (allowance (link_at p l).rate p.delta t)) (nat_le (entry + (link_at p l).free) t) Arrives Stays
-  verdict-head l v entry (Some b) e q a =
-      verdict-of t (exit_mid p n t M l) (map (out_mid p n t M) (outs p n)) (rider_at p (T p n t) v) entry (Some b) e q
+  head_action-head l v entry (Some b) e q a =
+      head_action-of t (exit_mid p n t M l) (map (out_mid p n t M) (outs p n)) (rider_at p (T p n t) v) entry (Some b) e q
       ∙ ap (λ c. cond c (entry_at t (entry + (link_at p l).free) (map (turn_mid p n t M l) (kept_turns p n l)) (map (out_mid p n t M) (outs p n)) (place_of b (out_links (map (out_mid p n t M) (outs p n)))) (place_of b (turn_links (map (turn_mid p n t M l) (kept_turns p n l))))) Stays) (lt_sub (allowance (link_at p l).rate p.delta t) (left p n t (T p n t) M l))
       ∙ rw (out_links-mid (outs p n), turn_links-mid l (kept_turns p n l), entry-test l (entry + (link_at p l).free) b (a b refl))
       (conds_and (nat_lt (left p n t (T p n t) M l) (allowance (link_at p l).rate p.delta t)) (may_turn p n t (T p n t) M (entry + (link_at p l).free) l b) _ Stays)
