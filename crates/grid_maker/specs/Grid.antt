@@ -61,7 +61,7 @@ unfoldable pub demand_line : ℕ → ℕ → ℕ → List ℕ
 demand_line n origin destination =
     if nat_eq origin destination then []
     else decimal origin ++ codes "," ++ decimal destination ++ codes ","
-      ++ decimal (25 * n) ++ codes "\n"
+    ++ decimal (25 * n) ++ codes "\n"
 
 unfoldable pub demand_text : ℕ → List ℕ
 demand_text n = demand_header ++ flat_map (λ origin. flat_map (demand_line n origin) zones) zones

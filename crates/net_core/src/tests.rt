@@ -1,9 +1,7 @@
 // Small networks, through all calls.
 ghost use Rattle.std.specs.Prelude.{◌≡◌, IfOk, length};
 
-use crate::{
-    Ids, LinkNo, LinkRow, Net, NodeNo, NodeRow, Pairs, Turn, TurnRow, ZoneNo,
-};
+use crate::{Ids, LinkNo, LinkRow, Net, NodeNo, NodeRow, Pairs, Turn, TurnRow, ZoneNo};
 use std::alloc::{AllocError, Global};
 use std::test::Fail;
 

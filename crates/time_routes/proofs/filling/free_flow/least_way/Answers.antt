@@ -9,9 +9,9 @@ use Rattle.time_routes.proofs.filling.free_flow.least_way.Goals as goal
 pub loop-way-preserved : goal.loop-way-preserved
 loop-way-preserved c =
     let none : Onward = record { wait = 0; link = 0; to = 0 } in (
-  omega (arith, c.min-least.ensures, c.loop-way.invariant.0),
-  still_step c.args.tail.now c.args.free.now c.args.ways.now c.loop-way.way-index none _ _ _ _ c.loop-way-test.true refl c.min-least.ensures (c.loop-way.invariant.1),
-)
+      omega (arith, c.min-least.ensures, c.loop-way.invariant.0),
+      still_step c.args.tail.now c.args.free.now c.args.ways.now c.loop-way.way-index none _ _ _ _ c.loop-way-test.true refl c.min-least.ensures (c.loop-way.invariant.1),
+    )
 
 pub returns-clause-is : goal.returns-clause-is
 returns-clause-is c =
