@@ -66,7 +66,8 @@ MovesInOrder S m =
 
 abbrev pub HeadsMove : Type 0
 HeadsMove =
-    (p : Plan) (t : ℕ) (S R : List Move) (m : Move) → trace_after p t ≡ S ++ m ∷ R → MovesInOrder S m
+    (p : Plan) (t : ℕ) (S R : List Move) (m : Move) → trace_after p t ≡ S ++ m ∷ R
+    → MovesInOrder S m
 
 -- the moves of a vehicle follow its route: move i leads to the link at place i, and after the last
 -- link it leads out

@@ -143,7 +143,8 @@ pub fn read_movements(
 ) -> Result<TurnRows, TableRefusal>
     requires units { IsUnits units.now }
     requires there { 1 ≤ length text.now }
-    ensures rows { Tells (movement_verdict nodes.now links.now units.now (records text.now)) result }
+    ensures rows { Tells (movement_verdict nodes.now links.now units.now
+        (records text.now)) result }
     ensures sound { IfOk result AreTurns }
     ensures turning { IfOk result (All (IsTurning links.now)) }
 {

@@ -57,7 +57,11 @@ impl Net {
         links: Vec<LinkRow>,
         turns: Vec<TurnRow>,
     ) -> Result<Self, Memory>
-        requires { IsNet (record { nodes = nodes.items; links = links.items; turns = turns.items }) }
+        requires { IsNet (record {
+          nodes = nodes.items;
+          links = links.items;
+          turns = turns.items;
+        }) }
         ensures { IfOk result (λ net.
             net ≡ record { nodes = nodes.items; links = links.items; turns = turns.items }) }
     {
