@@ -4,6 +4,7 @@ use Rattle.std.specs.List.{flat_map}
 use Rattle.std.proofs.Common.{◌≡◌, ℕ, suc, ◌+◌, ◌*◌, ◌<◌, ◌≤◌, min, Bool, true, false, cond, List, [], ◌∷◌, ◌++◌, length, refl, ap, sym, ◌∙◌, arith, Option, Some, None}
 use Rattle.std.proofs.lemmas.Bool.Decides.{nat_tests}
 use Rattle.std.proofs.lemmas.List.{append_assoc, append-nil}
+use Rattle.net_core.proofs.Numbers.{numbers_grow}
 use Rattle.net_core.specs.Network.{numbers_below}
 use Rattle.dta_model.specs.Machine.{Claims, Effect, all_idle, claim_by, effect_of, finish_by, finished, is_finished, may_open, open_by, outcome, outcomes_of, run_machine, step_machine, with_stage}
 use Rattle.dta_model.specs.Sound.{IsSound}
@@ -20,7 +21,7 @@ use Rattle.claim_core.specs.Laws.{Always, EarlierAreFinished, HeldWereGiven, IsH
 use Rattle.claim_core.specs.Parts.{done_in, moves, stage_in, stage_of}
 use Rattle.claim_core.specs.Sums.{below, once_below, one_if}
 use Rattle.claim_core.proofs.Claimed.{finished_le}
-use Rattle.claim_core.proofs.Counts.{drawn_in, held_in, min_high, min_low, none_past, range_more}
+use Rattle.claim_core.proofs.Counts.{drawn_in, held_in, min_high, min_low, none_past}
 use Rattle.claim_core.proofs.Cuts.{below_cut}
 use Rattle.claim_core.proofs.Events.{Kept, always_kept, in_phase}
 use Rattle.claim_core.proofs.Phases.{whole_start}
@@ -162,7 +163,7 @@ module _ (p : Plan) (s : Claims) where
           let low : drawn_in p s ≡ s.drawn = min_low s.drawn (unit_count p) (omega (arith, l)) in
           let next : min (suc s.drawn) (unit_count p) ≡ suc s.drawn = min_low (suc s.drawn) (unit_count p) (omega (arith, l)) in
           let zero_on : 0 + s.drawn ≡ s.drawn = omega arith in
-          ap (λ x. numbers_below x ++ s.drawn ∷ []) low ∙ sym (range_more s.drawn 0 ∙ ap (λ x. numbers_below s.drawn ++ x ∷ []) zero_on) ∙ ap (λ x. numbers_below x) (sym next)
+          ap (λ x. numbers_below x ++ s.drawn ∷ []) low ∙ sym (numbers_grow 0 s.drawn (0 + s.drawn) refl ∙ ap (λ x. numbers_below s.drawn ++ x ∷ []) zero_on) ∙ ap (λ x. numbers_below x) (sym next)
       by false few all =
           let l = all refl in
           same_numbers ∙ ap (λ x. numbers_below x) (min_high s.drawn (unit_count p) l ∙ sym (min_high (suc s.drawn) (unit_count p) (omega (arith, l))))

@@ -3,17 +3,12 @@ use Rattle.std.specs.Prelude.{nat_lt}
 use Rattle.std.proofs.Common.{◌≡◌, ℕ, ◌+◌, ◌-◌, ◌*◌, ◌/◌, ◌%◌, ◌<◌, ◌≤◌, true, false, cond, ap, sym, ◌∙◌, subst, arith}
 use Rattle.std.proofs.lemmas.Bool.Decides.{nat_tests}
 use Rattle.std.proofs.lemmas.Nat.{div-add-mod'}
+use Rattle.net_core.proofs.Orders.{is_lt, not_lt}
 use Rattle.dta_model.specs.Units.{Gather, Posting, Transfer, phase_start, step_units, task_at, task_of}
 use Rattle.claim_core.specs.Kinds.{kind_by}
 use Rattle.claim_core.specs.declared.units.UnitKind.TheVariants as kind
 use Rattle.claim_core.proofs.Phases.{start_is, starts}
 use Rattle.claim_core.proofs.Parts.{transfers}
-
-is_lt : (a b : ℕ) → a < b → nat_lt a b ≡ true
-is_lt a b h = grind (arith, nat_tests)
-
-not_lt : (a b : ℕ) → b ≤ a → nat_lt a b ≡ false
-not_lt a b h = grind (arith, nat_tests)
 
 pub gathers_at : (n j : ℕ) → n ≤ j → j < n + n → task_at n j ≡ Gather (j - n)
 gathers_at n j low high =

@@ -4,6 +4,7 @@ use Rattle.std.specs.List.{list_any, range_with_len}
 use Rattle.std.proofs.Common.{◌≡◌, ℕ, zero, suc, ◌+◌, ◌-◌, ◌≤◌, min, Bool, true, false, ◌&&◌, ◌||◌, not, cond, List, [], ◌∷◌, ◌++◌, refl, ap, sym, ◌∙◌, subst, arith, Some, ◌⊎◌, inl, inr}
 use Rattle.std.proofs.lemmas.Bool.Decides.{nat_tests}
 use Rattle.std.proofs.lemmas.List.Sums.{sum_by-append, sum_by-cons}
+use Rattle.net_core.proofs.Numbers.{numbers_grow}
 use Rattle.net_core.specs.Network.{numbers_below}
 use Rattle.dta_model.specs.Machine.{Claims, finished, holds_unit, is_finished}
 use Rattle.dta_model.specs.Units.{unit_count}
@@ -59,15 +60,11 @@ done_is p s x = by (nat_lt x (drawn_in p s)) (list_any (holds_unit x) s.stages) 
     by false true n h k = omega arith
     by false false n h k = omega arith
 
-pub range_more : (n a : ℕ) → range_with_len a (suc n) ≡ range_with_len a n ++ (a + n) ∷ []
-range_more zero a = ap (λ x. x ∷ []) (omega arith)
-range_more (suc n) a = ap (λ xs. a ∷ xs) (range_more n (a + 1) ∙ ap (λ x. range_with_len (a + 1) n ++ x ∷ []) (omega arith))
-
 -- counted among the numbers below a bound
 pub count_below : (f : ℕ → Bool) (m : ℕ) → count_by f (numbers_below m) ≡ below m (λ x. one_if (f x))
 count_below f zero = refl
 count_below f (suc m) =
-    let a = ap (λ xs. count_by f xs) (range_more m 0) in
+    let a = ap (λ xs. count_by f xs) (numbers_grow 0 m (0 + m) refl) in
     let b = sum_by-append (λ y. cond (f y) 1 0) (range_with_len 0 m) ((0 + m) ∷ []) in
     let z : 0 + m ≡ m = omega arith in
     let c : count_by f ((0 + m) ∷ []) ≡ one_if (f m) = ap (λ y. count_by f (y ∷ [])) z ∙ one (f m) in

@@ -3,6 +3,7 @@ use Rattle.std.specs.Prelude.{nat_le, nat_lt, slice_get, slice_index_or, slice_s
 use Rattle.std.proofs.Common.{◌≡◌, ℕ, suc, ◌+◌, ◌<◌, ◌≤◌, Bool, true, false, cond, List, length, refl, ap, sym, ◌∙◌, subst, arith, lt_of_not-le, Option, Some, None, inl, inr, add-one}
 use Rattle.std.proofs.lemmas.Bool.Decides.{nat_tests}
 use Rattle.std.proofs.lemmas.Option.{slice_get-get_or}
+use Rattle.net_core.proofs.Orders.{is_le, is_lt, not_le, not_lt}
 use mathlib.Core.Logic.{dite}
 use native.Mathlib.Decide.{dec_le}
 use Rattle.dta_model.specs.Machine.{Claims, Effect, claim_by, effect_of, finish_by, finished, misplaced, open_by, with_stage}
@@ -30,18 +31,6 @@ use Rattle.claim_core.proofs.Working.{gather_of, index_of, moves_by, transfer_of
 
 pub kept_of : (p : Plan) (s : Claims) → AreReached p s → Kept p s
 kept_of p s r = subst (λ x. Kept p x) (sym r.claims) (always_kept p r.workers r.events)
-
-is_lt : (a b : ℕ) → a < b → nat_lt a b ≡ true
-is_lt a b h = grind (arith, nat_tests)
-
-not_lt : (a b : ℕ) → b ≤ a → nat_lt a b ≡ false
-not_lt a b h = grind (arith, nat_tests)
-
-is_le : (a b : ℕ) → a ≤ b → nat_le a b ≡ true
-is_le a b h = grind (arith, nat_tests)
-
-not_le : (a b : ℕ) → b < a → nat_le a b ≡ false
-not_le a b h = grind (arith, nat_tests)
 
 pub has : (stages : List Stage) (w : ℕ) (x : Stage) → w < length stages → slice_index_or stages w stage.Idle ≡ x → slice_get stages w ≡ Some x
 has stages w x h e = slice_get-get_or stages w stage.Idle h ∙ ap (λ y. Some y) e

@@ -4,6 +4,7 @@ use Rattle.std.specs.Prelude.{nat_lt, slice_get, slice_set}
 use Rattle.std.specs.List.{repeat}
 use Rattle.std.proofs.Common.{◌≡◌, ℕ, zero, suc, ◌+◌, ◌<◌, ◌≤◌, Bool, true, false, cond, List, [], ◌∷◌, length, refl, sym, subst, arith, Option, Some, None}
 use Rattle.std.proofs.lemmas.Bool.Decides.{nat_tests}
+use Rattle.net_core.proofs.Orders.{lt_fails, lt_holds}
 use Rattle.dta_model.specs.Machine.{Claims, Effect, all_idle, claim_by, effect_of, finish_by, finished, may_open, open_by, run_machine, step_machine, with_stage}
 use Rattle.dta_model.specs.Units.{unit_count}
 use Rattle.dta_model.specs.declared.plan.Plan.{Plan}
@@ -22,19 +23,13 @@ has_ended (stage.Held c) = 0
 has_ended (stage.Open c) = 0
 has_ended stage.Ended = 1
 
-below_of : (a b : ℕ) → nat_lt a b ≡ true → a < b
-below_of a b h = grind (arith, nat_tests)
-
-past_of : (a b : ℕ) → nat_lt a b ≡ false → b ≤ a
-past_of a b h = grind (arith, nat_tests)
-
 module _ (p : Plan) (s : Claims) (k : s.drawn ≡ drawn_in p s + total has_ended s.stages) where
   set_to : (w : ℕ) (old new : Stage) → slice_get s.stages w ≡ Some old → total has_ended (slice_set s.stages w new) + has_ended old ≡ total has_ended s.stages + has_ended new
   set_to w old new e = total_slice has_ended s.stages w old new e
 
   ended_claim : (w : ℕ) (o : Option Stage) → slice_get s.stages w ≡ o → (claim_by p s w o).claims.drawn ≡ drawn_in p (claim_by p s w o).claims + total has_ended (claim_by p s w o).claims.stages
   ended_claim w None e = k
-  ended_claim w (Some stage.Idle) e = by (nat_lt s.drawn (unit_count p)) (λ b. below_of s.drawn (unit_count p) b) (λ b. past_of s.drawn (unit_count p) b)
+  ended_claim w (Some stage.Idle) e = by (nat_lt s.drawn (unit_count p)) (λ b. lt_holds s.drawn (unit_count p) b) (λ b. lt_fails s.drawn (unit_count p) b)
     where
       by : (b : Bool) → (b ≡ true → s.drawn < unit_count p) → (b ≡ false → unit_count p ≤ s.drawn)
           → (cond {A = Effect} b (record { claims = record (with_stage s w (stage.Held s.drawn)) { drawn = suc s.drawn }; outcome = outcomes.Given s.drawn }) (record { claims = record (with_stage s w stage.Ended) { drawn = suc s.drawn }; outcome = outcomes.Over s.drawn })).claims.drawn

@@ -2,6 +2,7 @@
 use Rattle.std.specs.Prelude.{nat_lt, slice_get, slice_set}
 use Rattle.std.proofs.Common.{◌≡◌, ℕ, zero, suc, ◌+◌, ◌*◌, ◌<◌, ◌≤◌, ◌^◌, Bool, true, false, cond, List, [], ◌∷◌, ◌++◌, length, take, drop, refl, ap, sym, ◌∙◌, subst, arith, Option, Some, None}
 use Rattle.std.proofs.lemmas.Bool.Decides.{nat_tests}
+use Rattle.net_core.proofs.Orders.{lt_fails, lt_holds}
 use Rattle.dta_model.specs.Machine.{Claims, Effect, all_idle, claim_by, effect_of, finish_by, finished, is_finished, may_open, open_by, run_machine, step_machine, with_stage}
 use Rattle.dta_model.specs.Units.{mail_part, unit_count}
 use Rattle.dta_model.specs.declared.plan.Plan.{Plan}
@@ -24,12 +25,6 @@ use Rattle.claim_core.proofs.Effects.{kept_of}
 use Rattle.claim_core.proofs.Ended.{drawn_most}
 use Rattle.claim_core.proofs.Events.{Kept, done_same, done_stays}
 
-below_of : (a b : ℕ) → nat_lt a b ≡ true → a < b
-below_of a b h = grind (arith, nat_tests)
-
-past_of : (a b : ℕ) → nat_lt a b ≡ false → b ≤ a
-past_of a b h = grind (arith, nat_tests)
-
 set_count : (xs : List Stage) (i : ℕ) (x : Stage) → length (slice_set xs i x) ≡ length xs
 set_count [] i x = refl
 set_count (y ∷ xs) zero x = refl
@@ -39,7 +34,7 @@ module _ (p : Plan) (s : Claims) (k : Kept p s) where
   -- a claim and an open finish nothing
   claim_done : (w : ℕ) (o : Option Stage) → slice_get s.stages w ≡ o → (x : ℕ) → done_in p (claim_by p s w o).claims x ≡ done_in p s x
   claim_done w None e x = refl
-  claim_done w (Some stage.Idle) e x = by (nat_lt s.drawn (unit_count p)) (λ b. below_of s.drawn (unit_count p) b) (λ b. past_of s.drawn (unit_count p) b)
+  claim_done w (Some stage.Idle) e x = by (nat_lt s.drawn (unit_count p)) (λ b. lt_holds s.drawn (unit_count p) b) (λ b. lt_fails s.drawn (unit_count p) b)
     where
       by : (b : Bool) → (b ≡ true → s.drawn < unit_count p) → (b ≡ false → unit_count p ≤ s.drawn)
           → done_in p (cond {A = Effect} b (record { claims = record (with_stage s w (stage.Held s.drawn)) { drawn = suc s.drawn }; outcome = outcomes.Given s.drawn }) (record { claims = record (with_stage s w stage.Ended) { drawn = suc s.drawn }; outcome = outcomes.Over s.drawn })).claims x ≡ done_in p s x

@@ -4,6 +4,7 @@ use Rattle.std.specs.Prelude.{filter, nat_eq, nat_lt}
 use Rattle.std.specs.List.{range_with_len}
 use Rattle.std.proofs.Common.{◌≡◌, ◌≢◌, ℕ, zero, suc, ◌+◌, ◌-◌, ◌*◌, ◌%◌, ◌<◌, ◌≤◌, Bool, true, false, cond, List, [], ◌∷◌, length, map, refl, ap, sym, ◌∙◌, arith}
 use Rattle.std.proofs.lemmas.Bool.Decides.{nat_tests}
+use Rattle.net_core.proofs.Orders.{is_lt, not_lt}
 use mathlib.Core.Logic.{dite}
 use native.Mathlib.Decide.{ℕ_discrete}
 use Rattle.net_core.specs.Network.{numbers_below}
@@ -14,7 +15,7 @@ use Rattle.dta_model.specs.declared.plan.Plan.{Plan}
 use Rattle.node_transfer.proofs.OfMail.Finished.{from-below, to-below}
 use Rattle.claim_core.specs.Parts.{moves}
 use Rattle.claim_core.specs.Sums.{below, is_at, once_below, one_if, times}
-use Rattle.claim_core.proofs.Counts.{range_more}
+use Rattle.net_core.proofs.Numbers.{numbers_grow}
 use Rattle.claim_core.proofs.Cuts.{below_none, below_same}
 use Rattle.claim_core.proofs.Stages.{below_shift, whole_steps}
 use Rattle.claim_core.proofs.Sums.{below_at, below_at_le, total-append}
@@ -41,7 +42,7 @@ once_out x g h = grind (arith, nat_tests)
 pub times_range : (x m : ℕ) → times x (numbers_below m) ≡ once_below x m
 times_range x zero = sym (once_out x 0 (omega arith))
 times_range x (suc m) =
-    let a = ap (λ xs. times x xs) (range_more m 0) in
+    let a = ap (λ xs. times x xs) (numbers_grow 0 m (0 + m) refl) in
     let b = total-append (is_at x) (range_with_len 0 m) ((0 + m) ∷ []) in
     let z : 0 + m ≡ m = omega arith in
     omega (arith, a, b, ap (λ y. is_at x y) z, times_range x m, once_more x m)
@@ -121,26 +122,19 @@ module _ (p : Plan) (a : ℕ) (links : List ℕ) where
   pub mail_of : a < node_count p → (l : ℕ) → times (node_count p + l) (a ∷ map (mail_part p) links) ≡ times l links
   mail_of h l = omega (arith, mail_at_part (node_count p) l links, at_other (node_count p + l) a (λ e. omega (arith, e, h)))
 
--- the tasks of a step by their places
-lt_is : (a b : ℕ) → a < b → nat_lt a b ≡ true
-lt_is a b h = grind (arith, nat_tests)
-
-lt_not : (a b : ℕ) → b ≤ a → nat_lt a b ≡ false
-lt_not a b h = grind (arith, nat_tests)
-
 pub transfers : (n i : ℕ) → i < n → task_at n i ≡ Transfer i
-transfers n i h = ap (λ b. cond b (Transfer i) (cond (nat_lt i (n + n)) (Gather (i - n)) Posting)) (lt_is i n h)
+transfers n i h = ap (λ b. cond b (Transfer i) (cond (nat_lt i (n + n)) (Gather (i - n)) Posting)) (is_lt i n h)
 
 pub gathers : (n i : ℕ) → i < n → task_at n (n + i) ≡ Gather i
 gathers n i h =
-    ap (λ b. cond b (Transfer (n + i)) (cond (nat_lt (n + i) (n + n)) (Gather (n + i - n)) Posting)) (lt_not (n + i) n (omega arith))
-    ∙ ap (λ b. cond b (Gather (n + i - n)) Posting) (lt_is (n + i) (n + n) (omega (arith, h)))
+    ap (λ b. cond b (Transfer (n + i)) (cond (nat_lt (n + i) (n + n)) (Gather (n + i - n)) Posting)) (not_lt (n + i) n (omega arith))
+    ∙ ap (λ b. cond b (Gather (n + i - n)) Posting) (is_lt (n + i) (n + n) (omega (arith, h)))
     ∙ ap (λ j. Gather j) (omega arith)
 
 pub posts : (n : ℕ) → task_at n (n + n) ≡ Posting
 posts n =
-    ap (λ b. cond b (Transfer (n + n)) (cond (nat_lt (n + n) (n + n)) (Gather (n + n - n)) Posting)) (lt_not (n + n) n (omega arith))
-    ∙ ap (λ b. cond b (Gather (n + n - n)) Posting) (lt_not (n + n) (n + n) (omega arith))
+    ap (λ b. cond b (Transfer (n + n)) (cond (nat_lt (n + n) (n + n)) (Gather (n + n - n)) Posting)) (not_lt (n + n) n (omega arith))
+    ∙ ap (λ b. cond b (Gather (n + n - n)) Posting) (not_lt (n + n) (n + n) (omega arith))
 
 module _ (p : Plan) (k : ℕ) where
   abbrev pub in_task : Task → ℕ

@@ -3,11 +3,11 @@ ghost use Rattle.claim_core.specs.Machine.{worker_of};
 ghost use Rattle.dta_model.specs.Lent.{plan_of};
 ghost use Rattle.dta_model.specs.Sound.{IsSound};
 ghost use Rattle.std.specs.List.{list_all};
-ghost use Rattle.std.specs.Prelude.{◌≡◌, ◌≤◌, [], IfOk, None, length, nat_lt, true};
+ghost use Rattle.std.specs.Prelude.{◌≡◌, ◌≤◌, nat_lt, true};
 
 use crate::{Event, Machine, Outcome};
-use dta_model::{Loading, Queue, Routes};
-use net_core::{Memory, Net, NodeRow};
+use dta_model::Loading;
+use net_core::Memory;
 use std::alloc::Global;
 use std::test::Fail;
 
@@ -40,38 +40,13 @@ fn answers(
     Ok(true)
 }
 
-fn node(id: u64) -> NodeRow
-    ensures { result ≡ record { id = id; zone = None } }
-{
-    NodeRow { id, zone: None }
-}
-
 // Whether the machine of two nodes and one step does.
 fn two_nodes_answer(alloc: Global, workers: u32, cases: &[(Event, Outcome)]) -> Result<bool, Fail>
     requires workers { 1 ≤ workers }
     requires each { list_all (λ case. nat_lt (worker_of case.0) workers) cases.now ≡ true }
 {
-    let nodes = Vec::from_slice(alloc, &[node(1), node(2)])?;
-    let net = Net::of(alloc, nodes, Vec::new(alloc), Vec::new(alloc))?;
-    let routes = Routes::of(Vec::new(alloc));
-    let loading = Loading {
-        net: &net,
-        queue: Queue::Point,
-        delta: 6,
-        horizon: 1,
-        trips: &[],
-        routes: &routes,
-    };
-    let answer = answers(alloc, &loading, workers, cases);
-    let Loading {
-        net: _,
-        queue: _,
-        delta: _,
-        horizon: _,
-        trips: _,
-        routes: _,
-    } = loading;
-    Ok(answer?)
+    let case = worked_cases::two_nodes(alloc)?;
+    Ok(answers(alloc, &case.loading(), workers, cases)?)
 }
 
 #[test]

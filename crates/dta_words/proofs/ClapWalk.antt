@@ -7,6 +7,8 @@ use Rattle.std.specs.List.{list_any, before_first}
 use Rattle.std.specs.Str.{bytes_eq}
 use Rattle.std.proofs.lemmas.Bool.Decides.{Decides-eqb}
 use Rattle.std.proofs.lemmas.List.{map-append}
+use Rattle.fixed_units.proofs.Splits.{and-false}
+use Rattle.fixed_units.proofs.Spellings.{is-45}
 use Rattle.clap.specs.Lexer.{long_of, long_of_rest, short_of, short_of_rest, strip_byte}
 use Rattle.clap.specs.Kinds.{Kinds, or_else}
 use Rattle.clap.specs.Walk.{Held, Row, Rule, Waiting, Walk, idle, next, option, option_word, value as stray, more_values, used, used_by_id, with_values, without, after_flag, after_step, arg_by_id, arg_by_index, at_row, has_row, is_pending, long_met, next_position, pushed, settled, to_positional, walked}
@@ -384,9 +386,6 @@ pub record IsLong (word : Text) : Type 0 where
   pub text : Text
   pub is : word ≡ 45 ∷ 45 ∷ first ∷ text
 
-dash_is : (x : ℕ) → (x == 45) ≡ true → x ≡ 45
-dash_is x e = (Decides-eqb x 45).0 e
-
 pub read_word : (word : Text) → is_short word ≡ false → (after_dash word ≡ None) ⊎ IsLong word
 read_word [] e = inl refl
 read_word (x ∷ xs) e = go (x == 45) refl e
@@ -398,7 +397,7 @@ read_word (x ∷ xs) e = go (x == 45) refl e
     second y (z ∷ zs) true t u f = record {
       first = z;
       text = zs;
-      is = ap₂ (λ a b. a ∷ b ∷ z ∷ zs) (dash_is x t) (dash_is y u);
+      is = ap₂ (λ a b. a ∷ b ∷ z ∷ zs) (is-45 x t) (is-45 y u);
     }
 
     rest : (ys : List ℕ) → (x == 45) ≡ true → is_short_rest (after_dash ys) ≡ false → IsLong (x ∷ ys)
@@ -421,10 +420,6 @@ number_or_none true p = go (1 == p)
     go true = inr refl
     go false = inl refl
 
-and_false : (b : Bool) → (b && false) ≡ false
-and_false true = refl
-and_false false = refl
-
 -- clap reads the number's argument from a word that stands alone
 number_fault : (takes : Takes) (command : Text) (h : Held) (p : ℕ)
     → arg_by_index (rules_of takes) p ≡ Some number_rule
@@ -433,7 +428,7 @@ number_fault takes command h p found =
     ap (λ (o : Option Rule). option_map_or (λ a. positional_fault (rules_of takes) false a h) o
     (kind.UnknownArgument ∷ [])) found
     ∙ ap (λ b. cond b [] (settle_fault (rules_of takes) false h))
-    (and_false (is_pending number_rule h.pending))
+    (and-false (is_pending number_rule h.pending))
 
 stray_fails : (takes : Takes) (command : Text) (h : Held) (p : ℕ)
     → arg_by_index (rules_of takes) p ≡ None
@@ -609,7 +604,7 @@ idle_plain takes command sound word words none idles done before pending settles
     kept : cond (is_pending number_rule pending && false) (held before pending)
         (settled (rules_of takes) (held before pending)) ≡ held done None
     kept = ap (λ b. cond b (held before pending) (settled (rules_of takes) (held before pending)))
-        (and_false (is_pending number_rule pending)) ∙ settles.rows
+        (and-false (is_pending number_rule pending)) ∙ settles.rows
 
     moved : next_position number_rule (place done) ≡ place more
     moved = ap (λ b. next_position number_rule (cond b 2 1)) e

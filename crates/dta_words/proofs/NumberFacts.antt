@@ -1,17 +1,14 @@
 -- Words of digits, as they are parsed.
 use Rattle.std.proofs.Common.{◌≡◌, ◌∙◌, ◌≤◌, ◌<◌, ◌==◌, ◌&&◌, ◌^◌, ℕ, Bool, true, false, not, refl, sym, ap, arith, [], ◌∷◌, length, Result, Ok, true≢false, zero, suc}
-use Rattle.std.proofs.lemmas.Bool.{leb-true}
+use Rattle.std.proofs.lemmas.Bool.{and_parts, leb-true}
 use Rattle.std.specs.List.{list_all}
 use Rattle.std.specs.Str.{all_ascii_digits}
 use Rattle.std.specs.Char.{is_ascii_digit}
 use Rattle.std.specs.Str.Parse.{ParsesUnsigned, digits_value}
 use Rattle.std.proofs.lemmas.Str.Parse.{IsNumeralModel, digits_value_short, numerals_by_value, parse_gives, tells_all_ascii_digits}
+use Rattle.fixed_units.proofs.Spellings.{not-none-length}
 use Rattle.dta_words.specs.Uses.{Text}
 use Rattle.dta_words.specs.Numbers.{is_number}
-
-both : (a b : Bool) → (a && b) ≡ true → (a ≡ true) × (b ≡ true)
-both true b e = (refl, e)
-both false b e = absurd (true≢false (sym e))
 
 all_digits : (text : Text) → all_ascii_digits text ≡ list_all is_ascii_digit text
 all_digits [] = refl
@@ -20,16 +17,12 @@ all_digits (c ∷ text) = ap (λ b. is_ascii_digit c && b) (all_digits text)
 model : IsNumeralModel (λ ds. all_ascii_digits ds ≡ true) (digits_value 10)
 model = numerals_by_value (λ ds. all_ascii_digits ds ≡ true) tells_all_ascii_digits
 
-some_length : (n : ℕ) → not (n == 0) ≡ true → 0 < n
-some_length zero e = absurd (true≢false (sym e))
-some_length (suc n) e = omega arith
-
 pub parsed : {E : Type 0} (text : Text) (r : Result ℕ E) → is_number text ≡ true
     → ParsesUnsigned 32 10 text r → r ≡ Ok (digits_value 10 text)
 parsed text r is h =
-    let parts = both _ _ is in
-    let rest = both _ _ parts.1 in
+    let parts = and_parts _ _ is in
+    let rest = and_parts _ _ parts.1 in
     let digits : all_ascii_digits text ≡ true = all_digits text ∙ rest.1 in
     let short : length text ≤ 9 = leb-true (length text) 9 rest.0 in
     let below : digits_value 10 text < 10 ^ 9 = digits_value_short model text 9 digits short in
-    parse_gives model 32 text r h digits (some_length (length text) parts.0) (omega arith)
+    parse_gives model 32 text r h digits (not-none-length (length text) parts.0) (omega arith)

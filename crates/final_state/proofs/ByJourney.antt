@@ -14,7 +14,7 @@ use Rattle.dta_model.specs.Plans.{link_numbers, route_in, route_of, vehicle_coun
 use Rattle.dta_model.specs.State.{is_routed, some_route}
 use Rattle.dta_model.specs.Trace.{Arrived, Move, Onto, Target, last_move, moves_of, target_at}
 use Rattle.dta_model.proofs.Arrivals.{arrival_is_last}
-use Rattle.dta_model.proofs.Ends.{got_number}
+use Rattle.dta_model.proofs.Ends.{found_fails, journey_is}
 use Rattle.dta_model.proofs.Journeys.{routes_are_followed}
 use Rattle.dta_model.proofs.Riders.{last_move_is, last_push}
 use Rattle.dta_model.proofs.Steady.{all_at}
@@ -80,14 +80,6 @@ tells route (m ∷ E) (Some a) entries out on =
       whereabouts = sym (ap whereabouts_after (last_push (Some m) E a) ∙ out_place a.target (out a refl));
     }
 
-found_fails : (L : List Move) (m : Move) → find (λ x. not (is_entry x)) L ≡ Some m → is_entry m ≡ false
-found_fails [] m e = cc
-found_fails (x ∷ L) m e = found_step (is_entry x) refl e (found_fails L m)
-  where
-    found_step : (b : Bool) → b ≡ is_entry x → cond (not b) (Some x) (find (λ y. not (is_entry y)) L) ≡ Some m → (find (λ y. not (is_entry y)) L ≡ Some m → is_entry m ≡ false) → is_entry m ≡ false
-    found_step true r e ih = ih e
-    found_step false r e ih = let q : x ≡ m = cc in subst (λ y. is_entry y ≡ false) q (sym r)
-
 -- a vehicle that has a route is where its entries and its arrival tell
 pub journey_tells : (p : Plan) (t v : ℕ) (route : List LinkNo) → slice_get p.routes v ≡ Some (Some route)
     → Tells route (entries_of (trace_after p t) v) (arrival_of (trace_after p t) v) (whereabouts_at p (trace_after p t) v)
@@ -104,21 +96,6 @@ journey_tells p t v route there =
     let whereabouts : whereabouts_after (last_or None (filter is_entry ms ++ option_to_list o)) ≡ whereabouts_at p T v =
     sym (ap (λ r. cond (some_route r) (whereabouts_after (last_move v T)) whereabouts.Unrouted) there ∙ ap whereabouts_after (last_move_is v T ∙ ap (λ L. last_or None L) parts)) in
     record { within = told.within; whereabouts = told.whereabouts ∙ whereabouts }
-
-map_some : {A B : Type 0} (f : A → B) (o : Option A) (y : B) → option_map f o ≡ Some y → (x : A) × (o ≡ Some x) × (f x ≡ y)
-map_some f None y e = absurd (none-some y e)
-map_some f (Some x) y e = (x, refl, same_Some (f x) y e)
-
-journey_is : (p : Plan) (v : ℕ) (j : Journey) → slice_get (journeys_of p) v ≡ Some j → j ≡ journey_of p v
-unfolding journeys_of
-journey_is p v j e =
-    let x = map_some (journey_of p) (slice_get (vehicles_of p) v) j (sym (slice_get-map (journey_of p) (vehicles_of p) v) ∙ e) in
-    sym (x.2) ∙ ap (journey_of p) (got_number (vehicle_count p) v x.0 (x.1))
-
--- each vehicle has a journey
-pub journeys_many : (p : Plan) → length (journeys_of p) ≡ length p.trips
-unfolding journeys_of
-journeys_many p = length-map (vehicles_of p) (journey_of p) ∙ length-range_with_len 0 (length p.trips)
 
 -- the same of what a loading gives
 pub loaded_tells : (p : Plan) (v : ℕ) (loaded : List Journey) (route way : List LinkNo) (journey : Journey) (entries : List ℕ)

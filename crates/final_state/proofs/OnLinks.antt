@@ -16,23 +16,10 @@ use Rattle.dta_model.specs.Trace.{Move, is_of, last_move, last_moves, leads_ther
 use Rattle.dta_model.proofs.Fuel.{Lawful, trace-lawful}
 use Rattle.dta_model.proofs.Queues.{absent, distinct, last_moves-distinct, vehicles}
 use Rattle.dta_model.proofs.Standing.{find_absent}
-use Rattle.dta_model.proofs.Totals.{all_last, one_below, sum_alike, sum_both, sum_zero}
+use Rattle.dta_model.proofs.Totals.{all_last, sum_alike, sum_both, sum_zero, vehicle_count_one}
 
 abbrev one_if : Bool → ℕ
 one_if b = cond b 1 0
-
--- a vehicle counts once, where a test passes
-one_vehicle : (v n : ℕ) (e : Bool) → v < n → sum_by (λ w. cond (eqb v w && e) 1 0) (numbers_below n) ≡ cond e 1 0
-one_vehicle v n true h = sum_alike (λ w. cond (eqb v w && true) 1 0) (λ w. cond (eqb v w) 1 0) (λ w. and_yes (eqb v w)) (numbers_below n) ∙ one_below v n h
-  where
-    and_yes : (c : Bool) → one_if (c && true) ≡ one_if c
-    and_yes true = refl
-    and_yes false = refl
-one_vehicle v n false h = sum_alike (λ w. cond (eqb v w && false) 1 0) (λ w. 0) (λ w. and_no (eqb v w)) (numbers_below n) ∙ sum_zero n 0
-  where
-    and_no : (c : Bool) → one_if (c && false) ≡ 0
-    and_no true = refl
-    and_no false = refl
 
 -- a move is that of its vehicle, and no other move here is
 split_there : (l : ℕ) (m : Move) (L : List Move) (v : ℕ) → absent m.vehicle (vehicles L) ≡ true
@@ -59,7 +46,7 @@ moves_there l n (m ∷ L) d all =
     let a = sum_by-cons (λ x. cond (leads_to l x) 1 0) m L in
     let b = sum_alike (λ v. cond (leads_there l (find (is_of v) (m ∷ L))) 1 0) (λ v. cond (eqb m.vehicle v && leads_to l m) 1 0 + cond (leads_there l (find (is_of v) L)) 1 0) (λ v. split_there l m L v parts.0) (numbers_below n) in
     let c = sum_both (λ v. cond (eqb m.vehicle v && leads_to l m) 1 0) (λ v. cond (leads_there l (find (is_of v) L)) 1 0) (numbers_below n) in
-    let e = one_vehicle m.vehicle n (leads_to l m) (All-head (λ x. x.vehicle < n) m L all) in
+    let e = vehicle_count_one m.vehicle n (leads_to l m) (All-head (λ x. x.vehicle < n) m L all) in
     let rest = moves_there l n L parts.1 (All-tail (λ x. x.vehicle < n) m L all) in
     omega (arith, a, b, c, e, rest)
 

@@ -4,17 +4,13 @@ use Rattle.std.specs.List.{flat_map, range_with_len}
 use Rattle.std.proofs.lemmas.List.{take_more, append-nil}
 use Rattle.std.proofs.lemmas.List.FromFn.{map-range_with_len_more}
 use Rattle.std.proofs.lemmas.Grind.{flat_map-append}
+use Rattle.net_core.proofs.Numbers.{numbers_grow}
 use Rattle.grid_maker.specs.declared.links.GridLink.{GridLink}
 use Rattle.grid_maker.specs.Grid.{link_line, link_lines}
 use Rattle.grid_maker.specs.Places.{places_of_row}
 
--- one number more
-next : (a n j : ℕ) → a + n ≡ j → range_with_len a (suc n) ≡ range_with_len a n ++ j ∷ []
-next a zero j e = ap (λ x. x ∷ []) (omega (arith, e))
-next a (suc n) j e = ap (λ x. a ∷ x) (next (a + 1) n j (omega (arith, e)))
-
 range-more : (a n : ℕ) → range_with_len a (n + 1) ≡ range_with_len a n ++ (a + n) ∷ []
-range-more a n = let e : n + 1 ≡ suc n = omega arith in rw e (next a n (a + n) refl)
+range-more a n = let e : n + 1 ≡ suc n = omega arith in rw e (numbers_grow a n (a + n) refl)
 
 -- and what it adds
 pub flat_map-range-more : {X : Type 0} (f : ℕ → List X) (a n : ℕ) → flat_map f (range_with_len a (n + 1)) ≡ flat_map f (range_with_len a n) ++ f (a + n)

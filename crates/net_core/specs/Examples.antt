@@ -11,11 +11,11 @@ use Rattle.net_core.specs.declared.rows.TheConstants.{MOST_NODES, MOST_LINKS, MO
 use Rattle.net_core.specs.declared.rows.TurnRow.{TurnRow}
 
 -- ---- rows
-abbrev node : ℕ → Option ℕ → NodeRow
+abbrev pub node : ℕ → Option ℕ → NodeRow
 node id zone = record { id = id; zone = zone }
 
 -- a link with 10 free-flow steps, room for 125 vehicles, and 600 vehicles an hour
-abbrev link : ℕ → ℕ → ℕ → LinkRow
+abbrev pub link : ℕ → ℕ → ℕ → LinkRow
 link id from to = record {
   id = id;
   from = record { 0 = from };

@@ -1,20 +1,17 @@
 // Worked cases of each text, and puts that fail.
-ghost use Rattle.std.specs.Prelude.{◌≡◌, [], ◌∷◌, IfOk, None, Some};
-ghost use Rattle.reports.specs.Examples.{both_links, four_journeys, four_routes, four_trips};
-ghost use Rattle.reports.specs.Examples.{the_network};
-
 use crate::{
     Refusal, Summary, put_agents, put_free, put_gaps, put_link_times, put_refusal, put_summary,
     put_watch,
 };
 use desk_io::{Failed, MemDesk, Output, Table};
-use dta_model::{Eight, Journey, Loaded, Route, Routes, Steps, Trip};
+use dta_model::{Eight, Loading};
 use gap::GapLine;
 use link_times::LinkTimes;
-use net_core::{LinkNo, LinkRow, Memory, Net, NodeNo, NodeRow};
+use net_core::Memory;
 use row_reader::{Code, Column, TableFault};
 use std::alloc::Global;
 use std::test::Fail;
+use worked_cases::{Seen, four_vehicles, journeys, two_links};
 
 // Vehicles of all four statuses.
 const AGENTS: &[u8] =
@@ -100,110 +97,24 @@ fn empty_desk(alloc: Global) -> MemDesk {
     )
 }
 
-fn node(id: u64, zone: Option<u64>) -> NodeRow
-    ensures { result ≡ record { id = id; zone = zone } }
-{
-    NodeRow { id, zone }
-}
-
-fn link(id: u64, from: u32, to: u32) -> LinkRow
-    ensures { result ≡ record {
-      id = id;
-      from = record { 0 = from };
-      to = record { 0 = to };
-      free = 10;
-      storage = 125;
-      rate = 600000000;
-    } }
-{
-    LinkRow {
-        id,
-        from: NodeNo(from),
-        to: NodeNo(to),
-        free: 10,
-        storage: 125,
-        rate: 600_000_000,
-    }
-}
-
-// Two links in a line.
-fn two_links(alloc: Global) -> Result<Net, Memory>
-    ensures { IfOk result (λ net. net ≡ the_network) }
-{
-    let nodes = vec![in alloc; node(1, Some(1)), node(2, None), node(3, Some(3))]?;
-    let links = vec![in alloc; link(10, 0, 1), link(20, 1, 2)]?;
-    let net = Net::of(alloc, nodes, links, Vec::new(alloc))?;
-    Ok(net)
-}
-
-fn trip(number: u32, origin: u64, destination: u64, departure: u32) -> Trip
-    ensures { result ≡ record {
-      number = number;
-      origin = origin;
-      destination = destination;
-      departure = departure;
-    } }
-{
-    Trip {
-        number,
-        origin,
-        destination,
-        departure,
-    }
-}
-
-// The route over both links.
-fn over_both(alloc: Global) -> Result<Option<Route>, Memory>
-    ensures { IfOk result (λ route. route ≡ both_links) }
-{
-    Ok(Some(Route::of(vec![in alloc; LinkNo(0), LinkNo(1)]?)))
-}
-
-// The routes of four vehicles, of which the last has none.
-fn routes(alloc: Global) -> Result<Routes, Memory>
-    ensures { IfOk result (λ routes. routes ≡ four_routes) }
-{
-    let first = over_both(alloc)?;
-    let second = over_both(alloc)?;
-    let third = over_both(alloc)?;
-    let all = vec![in alloc; first, second, third, None]?;
-    Ok(Routes::of(all))
-}
-
-fn journey(entries: Vec<u32>, arrival: Option<u32>) -> Journey
-    ensures { result ≡ record { entries = entries.items; arrival = arrival } }
-{
-    Journey {
-        entries: Steps::of(entries),
-        arrival,
-    }
-}
-
-// The journeys of four vehicles: one that has arrived, one on its first link, and two that have
-// entered nothing.
-fn journeys(alloc: Global) -> Result<Loaded, Memory>
-    ensures { IfOk result (λ loaded. loaded ≡ four_journeys) }
-{
-    let arrived = journey(vec![in alloc; 0, 10]?, Some(20));
-    let running = journey(vec![in alloc; 6]?, None);
-    let waiting = journey(Vec::new(alloc), None);
-    let unrouted = journey(Vec::new(alloc), None);
-    let all = vec![in alloc; arrived, running, waiting, unrouted]?;
-    Ok(Loaded::of(all))
-}
-
-// Puts the four vehicles to a desk.
+// Puts four vehicles to a desk: one that has arrived, one on its first link, and two that have
+// entered nothing, of which the last has no route.
 fn put_four(alloc: Global, desk: &mut MemDesk) -> Result<Result<(), Failed>, Memory> {
-    let net = two_links(alloc)?;
-    let routes = routes(alloc)?;
-    let loaded = journeys(alloc)?;
-    let trips = [
-        trip(0, 1, 3, 0),
-        trip(1, 1, 3, 6),
-        trip(2, 1, 3, 13),
-        trip(3, 3, 1, 19),
+    let case = four_vehicles(alloc)?;
+    let Loading {
+        net,
+        trips,
+        routes,
+        ..
+    } = case.loading();
+    let seen = [
+        Seen(&[0, 10], Some(20)),
+        Seen(&[6], None),
+        Seen(&[], None),
+        Seen(&[], None),
     ];
-    Ok(put_agents(desk, &net, &trips, &routes, &loaded))
+    let loaded = journeys(alloc, &seen)?;
+    Ok(put_agents(desk, net, trips, routes, &loaded))
 }
 
 #[test]

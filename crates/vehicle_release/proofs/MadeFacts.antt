@@ -9,6 +9,7 @@ use Rattle.std.proofs.lemmas.List.Elements.{All-append}
 use Rattle.std.proofs.lemmas.List.FromFn.{get_or-map-range_with_len, length-map-range_with_len, map-range_with_len_more}
 use Rattle.std.proofs.lemmas.Option.{slice_get-get_or}
 use Rattle.std.proofs.lemmas.Simd.{map-map}
+use Rattle.net_core.proofs.Numbers.{numbers_more}
 use Rattle.net_core.specs.Network.{numbers_below}
 use Rattle.dta_model.specs.Release.{counted, departure, released, released_by, trip_by, vehicle_of_row, vehicles_before, vehicles_of_row}
 use Rattle.dta_model.specs.declared.trip.DemandCell.{DemandCell}
@@ -31,11 +32,6 @@ row_more old now new period vehicles cell place step so_far at is =
     ∙ ap (λ l. old ++ l) (sym (map-range_with_len_more trip 0 place place (omega arith)))
 
 -- ---- all rows
-range_more : (n : ℕ) → numbers_below (n + 1) ≡ numbers_below n ++ n ∷ []
-range_more n =
-    sym (map-id (numbers_below (n + 1))) ∙ map-range_with_len_more (λ k. k) 0 n n (omega arith)
-    ∙ ap (λ l. l ++ n ∷ []) (map-id (numbers_below n))
-
 -- what a row brings, where a sum of volumes grows from one to another
 abbrev pub brought : ℕ → ℕ → ℕ
 brought volume more = more / VOLUME_OF_A_VEHICLE - volume / VOLUME_OF_A_VEHICLE
@@ -95,7 +91,7 @@ module _ (cells : List DemandCell) where
     pub made-more : (row : ℕ) → made (row + 1) ≡ made row ++ made_by row
     made-more row =
         let by = released_by cells period in
-        ap (λ l. map (unnumbered cells) (flat_map by l)) (range_more row)
+        ap (λ l. map (unnumbered cells) (flat_map by l)) (numbers_more row)
         ∙ ap (map (unnumbered cells)) (flat_map-append by (numbers_below row) (row ∷ []))
         ∙ map-append (unnumbered cells) (flat_map by (numbers_below row)) (by row ++ [])
         ∙ ap (λ l. made row ++ map (unnumbered cells) l) (append-nil (by row))

@@ -1,22 +1,9 @@
 -- The networks of the worked cases. A link has ten free-flow steps, room for 125 vehicles, and
 -- takes one vehicle in a step of six seconds.
 use Rattle.std.specs.Prelude.{ℕ, List, [], ◌∷◌, Option, None, Some}
-use Rattle.net_core.specs.declared.rows.LinkRow.{LinkRow}
 use Rattle.net_core.specs.declared.rows.NetRows.{NetRows}
 use Rattle.net_core.specs.declared.rows.NodeRow.{NodeRow}
-
-abbrev node : ℕ → Option ℕ → NodeRow
-node id zone = record { id = id; zone = zone }
-
-abbrev link : ℕ → ℕ → ℕ → LinkRow
-link id from to = record {
-  id = id;
-  from = record { 0 = from };
-  to = record { 0 = to };
-  free = 10;
-  storage = 125;
-  rate = 600000000;
-}
+use Rattle.net_core.specs.Examples.{link, node}
 
 -- from zone 1 by a node without zone to zone 3
 abbrev by_a_node : List NodeRow

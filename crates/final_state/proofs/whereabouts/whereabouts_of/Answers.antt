@@ -2,7 +2,8 @@ use Rattle.std.specs.Prelude.{option_copied}
 use Rattle.std.proofs.Common.{◌<◌, length, ap, sym, ◌∙◌, subst, Some}
 use Rattle.dta_model.specs.Lent.{plan_of}
 use Rattle.dta_model.specs.Loading.{trace_after}
-use Rattle.final_state.proofs.ByJourney.{journeys_many, loaded_tells, unrouted_is}
+use Rattle.dta_model.proofs.Ends.{journeys_many}
+use Rattle.final_state.proofs.ByJourney.{loaded_tells, unrouted_is}
 use Rattle.final_state.proofs.whereabouts.whereabouts_of.Goals as goal
 
 pub get-journey-requires : goal.get-journey-requires
