@@ -14,14 +14,14 @@ mod job;
 mod laws;
 mod outputs;
 mod run;
+#[cfg(test)]
+mod run_cases;
 mod sizes;
 mod status;
 mod stop;
 mod tables;
 #[cfg(test)]
 mod tests;
-#[cfg(test)]
-mod worked_cases;
 
 use arguments::run_arguments;
 use desk_io::FileDesk;
