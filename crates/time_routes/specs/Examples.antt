@@ -3,11 +3,10 @@ use Rattle.std.specs.Prelude.{◌≡◌, ℕ, ◌-◌, ◌^◌, List, [], ◌∷
 use Rattle.std.specs.Prelude.{refl}
 use Rattle.std.specs.Cmp.Lexicographic.{slice_cmp}
 use Rattle.std.specs.Ordering.{is_le, nat_cmp}
+use Rattle.net_core.specs.Examples.{link, node}
 use Rattle.net_core.specs.Network.{zones, turn, turn_at, is_named}
 use Rattle.net_core.specs.Rows.{link_in}
-use Rattle.net_core.specs.declared.rows.LinkRow.{LinkRow}
 use Rattle.net_core.specs.declared.rows.NetRows.{NetRows}
-use Rattle.net_core.specs.declared.rows.NodeRow.{NodeRow}
 use Rattle.net_core.specs.declared.rows.TurnRow.{TurnRow}
 use Rattle.dta_model.specs.LinkTimes.{TimeTable, time_at}
 use Rattle.dta_model.specs.TimedWalks.{arrival_after, walk_time}
@@ -17,19 +16,6 @@ use Rattle.time_routes.specs.declared.states.zone_numbers.TheConstants.{NO_ZONE}
 use Rattle.time_routes.specs.declared.filling.no_walk.TheConstants.{FAR, NARROW_FAR}
 use Rattle.time_routes.specs.declared.reading.group_labels.TheConstants.{MOST_GROUP}
 use Rattle.time_routes.specs.declared.states.link_states.TheConstants.{NO_STATE}
-
-abbrev pub node : ℕ → Option ℕ → NodeRow
-node id zone = record { id = id; zone = zone }
-
-abbrev pub link : ℕ → ℕ → ℕ → LinkRow
-link id from to = record {
-  id = id;
-  from = record { 0 = from };
-  to = record { 0 = to };
-  free = 10;
-  storage = 125;
-  rate = 600000000;
-}
 
 -- ---- a loop that pays: link 1 takes 300 steps in the first bucket of fifty, and link 2 leads back
 -- to its begin
