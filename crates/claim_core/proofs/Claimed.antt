@@ -5,16 +5,11 @@ use Rattle.std.proofs.lemmas.Bool.Decides.{nat_tests}
 use mathlib.Core.Logic.{dite}
 use native.Mathlib.Decide.{dec_le}
 use Rattle.dta_model.specs.Units.{phase_start, phase_end}
+use Rattle.claim_core.specs.Claimed.{Claimed}
 use Rattle.claim_core.specs.Sums.{is_at, once_below, below}
 use Rattle.claim_core.proofs.Sums.{below_plus, below_at, below_at_le, bounded, all_there}
 use Rattle.claim_core.proofs.Phases.{start_le, lt_stop, same_start, same_stop, next_start, start_at}
 use Rattle.claim_core.proofs.Cuts.{below_same, below_cut}
-
-pub record Claimed (N : ℕ) (g n : ℕ) (D H : ℕ → ℕ) : Type 0 where
-  pub once : (x : ℕ) → D x + H x ≡ once_below x g
-  pub sum : n ≡ below g D
-  pub before : (x : ℕ) → x < phase_start N n → 1 ≤ D x
-  pub after : (x : ℕ) → phase_end N n ≤ x → D x ≡ 0
 
 once_le : (x g : ℕ) → once_below x g ≤ 1
 once_le x g = grind (arith, nat_tests)

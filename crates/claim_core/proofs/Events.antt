@@ -11,9 +11,10 @@ use Rattle.dta_model.specs.declared.machine.Event.TheVariants as event
 use Rattle.dta_model.specs.declared.machine.Outcome.TheVariants as outcomes
 use Rattle.dta_model.specs.declared.machine.Stage.{Stage}
 use Rattle.dta_model.specs.declared.machine.Stage.TheVariants as stage
+use Rattle.claim_core.specs.Claimed.{Claimed}
 use Rattle.claim_core.specs.Parts.{done_in}
 use Rattle.claim_core.specs.Sums.{below, is_at, once_below, one_if, total}
-use Rattle.claim_core.proofs.Claimed.{Claimed, draw, finish, open_now}
+use Rattle.claim_core.proofs.Claimed.{draw, finish, open_now}
 use Rattle.claim_core.proofs.Counts.{count_is, done_is, drawn_in, get_set, held_in, held_set, min_high, min_low, none_past, sum_of}
 use Rattle.claim_core.proofs.Cuts.{below_same}
 use Rattle.claim_core.proofs.Phases.{start_le}

@@ -5,11 +5,12 @@ use Rattle.std.proofs.lemmas.Nat.{mod-mul-add}
 use mathlib.Core.Logic.{dite}
 use native.Mathlib.Decide.{dec_le, ℕ_discrete}
 use Rattle.dta_model.specs.Units.{phase_start, phase_end}
+use Rattle.claim_core.specs.Claimed.{Claimed}
 use Rattle.claim_core.specs.Sums.{is_at, once_below, below}
 use Rattle.claim_core.proofs.Sums.{below_plus, full}
 use Rattle.claim_core.proofs.Phases.{start_le, same_start}
 use Rattle.claim_core.proofs.Cuts.{below_same, below_cut, point}
-use Rattle.claim_core.proofs.Claimed.{Claimed, finished_le}
+use Rattle.claim_core.proofs.Claimed.{finished_le}
 
 once_le : (x g : ℕ) → once_below x g ≤ 1
 once_le x g = grind (arith, nat_tests)

@@ -1,4 +1,5 @@
 pub mod Sums
+pub mod Claimed
 pub mod Machine
 pub mod Parts
 pub mod Kinds
