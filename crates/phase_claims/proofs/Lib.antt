@@ -1,0 +1,4 @@
+pub mod Owners
+pub mod Counts
+pub mod Steps
+pub mod Allowed

@@ -1,0 +1,6 @@
+pub mod Scopes
+pub mod Views
+pub mod Running
+pub mod Plays
+pub mod Passes
+pub mod Floors

@@ -9,3 +9,15 @@
 //! alone takes memory.
 #![tactic(auto)]
 
+mod floor;
+mod part;
+mod pass;
+mod rule;
+mod start;
+mod unit;
+mod view;
+
+pub use claim_core::UnitKind;
+pub use floor::{Floor, MOST_PASSES};
+pub use pass::Pass;
+pub use unit::{Open, Unit};

@@ -1,0 +1,123 @@
+-- What each step of a floor's table owes.
+use Rattle.std.proofs.Common.{◌≡◌, ℕ, suc, ◌+◌, ◌-◌, ◌*◌, ◌%◌, ◌^◌, ◌<◌, ◌≤◌, true, List, [], ◌∷◌, set, get_or, refl, sym, ap, ◌∙◌, subst, lt_of_not-le, mul-le-mul_right, arith}
+use mathlib.Core.Option.{Option, some, none}
+use mathlib.Core.Logic.{dite}
+use native.Mathlib.Decide.{dec_le}
+use lib.ListN.{get_elem?}
+use Rattle.atomic_table.specs.Table.{Allows, Joins, Me, Splits, State, keeps, step}
+use Rattle.atomic_table.proofs.Lists.{set_again}
+use Rattle.dta_model.specs.Sound.{IsSound}
+use Rattle.dta_model.specs.Units.{node_count, phase_start, step_units, unit_count}
+use Rattle.dta_model.specs.declared.plan.Plan.{Plan}
+use Rattle.dta_model.specs.declared.machine.Stage.TheVariants as stage
+use Rattle.claim_core.proofs.Sums.{total_at}
+use Rattle.phase_claims.specs.declared.floor.TheConstants.{MOST_PASSES}
+use Rattle.phase_claims.specs.declared.view.Scope.{Scope}
+use Rattle.phase_claims.specs.declared.view.View.{View}
+use Rattle.phase_claims.specs.Passes.{IsHeld, IsOpen, HoldsNoUnit}
+use Rattle.phase_claims.specs.Plays.{Draws, Finishes, IsBounded, Looks, LooksAt}
+use Rattle.phase_claims.specs.Running.{Holds, Running}
+use Rattle.phase_claims.specs.Views.{beginning, done_with, ended, having_open, holding, joined, less_spare, nobody, rights, seeing, unit_in}
+use Rattle.phase_claims.proofs.Steps.{alone, begins, draws_none, draws_unit, drawn_most, finished_most, finishes, joins, opens, own, splits, waits}
+
+module _ {S : Type 0} (k : Scope) where
+  -- the rule after a step
+  kept : (w n : ℕ) (views : List View) → k.passes ≤ MOST_PASSES → unit_count k.plan < 2 ^ 50 → Running k w n views → (l : List ℕ) → l ≡ 0 ∷ w ∷ n ∷ [] → (homes : List (Option S)) → Holds {S = S} k record { words = l; homes = homes; views = views }
+  kept w n views few small r l is homes = record { few = few; small = small; drawn = w; finished = n; words = is; running = r }
+
+  pub draws_allowed : (slots id : ℕ) (m : Me S View) → m.0.stage ≡ stage.Idle → 1 ≤ m.0.weight → Allows (Holds k) slots id m 1 (λ n. (n + 1) % 2 ^ 64) (Draws (step slots 1 1 0 none) m)
+  draws_allowed slots id m idle has s h long at room =
+      let r = h.running in
+      let w : ℕ = h.drawn in let n : ℕ = h.finished in
+      let found : get_or s.words 1 0 ≡ w = ap (λ l. get_or l 1 0) h.words in
+      let scope : m.0.scope ≡ k = (r.each id m.0 at).scope has in
+      let count : unit_count m.0.scope.plan ≡ unit_count k.plan = ap (λ (j : Scope). unit_count j.plan) scope in
+      let next : (get_or s.words 1 0 + 1) % 2 ^ 64 ≡ suc w = ap (λ x. (x + 1) % 2 ^ 64) found ∙ omega (arith, drawn_most k w n s.views r, h.few, h.small) in
+      let words : set s.words 1 ((get_or s.words 1 0 + 1) % 2 ^ 64) ≡ 0 ∷ suc w ∷ n ∷ [] = ap (λ x. set s.words 1 x) next ∙ ap (λ l. set l 1 (suc w)) h.words in
+      dite (dec_le (unit_count k.plan) w)
+      (λ over. (
+        ended m.0,
+        keeps,
+        tt,
+        kept (suc w) n (set s.views id (ended m.0)) h.few h.small (draws_none k w n s.views r id m.0 at idle has over) _ words s.homes,
+        (refl, record { given = λ l. absurd (omega arith); over = λ _. refl }),
+      ))
+      (λ under. let u : w < unit_count k.plan = lt_of_not-le under in (
+        holding m.0 w,
+        keeps,
+        tt,
+        kept (suc w) n (set s.views id (holding m.0 w)) h.few h.small (draws_unit k w n s.views r id m.0 at idle has u) _ words s.homes,
+        (refl, record { given = λ l. ap (holding m.0) (sym found); over = λ l. absurd (omega arith) }),
+      ))
+
+  pub looks_allowed : (slots id : ℕ) (m : Me S View) → IsHeld m.0.stage → 1 ≤ m.0.weight → Allows (Holds k) slots id m 2 (λ n. n) (Looks (step slots 2 0 0 none) m)
+  looks_allowed slots id m is has s h long at room =
+      let r = h.running in
+      let c : ℕ = unit_in m.0.stage in
+      let w : ℕ = h.drawn in let n : ℕ = h.finished in
+      let found : n ≡ get_or s.words 2 0 = sym (ap (λ l. get_or l 2 0) h.words) in
+      let f = r.each id m.0 at in
+      let scope : k ≡ m.0.scope = sym (f.scope has) in
+      let words : set s.words 2 (get_or s.words 2 0) ≡ 0 ∷ w ∷ n ∷ [] = ap (λ x. set s.words 2 x) (sym found) ∙ ap (λ l. set l 2 n) h.words in
+      let first : phase_start (node_count k.plan) c ≡ phase_start (node_count m.0.scope.plan) c = ap (λ (j : Scope). phase_start (node_count j.plan) c) scope in
+      let passes : k.passes ≡ m.0.scope.passes = ap (λ (j : Scope). j.passes) scope in
+      let mine = own k w n s.views r id m.0 at in
+      let whole : rights m.0 ≡ m.0.scope.passes → phase_start (node_count k.plan) c ≤ n = λ all. alone k w n s.views r id c m.0 at is (all ∙ sym passes) in
+      let told : (v : View) → LooksAt m.0 n v → LooksAt m.0 (get_or s.words 2 0) v = λ v t. subst (λ (x : ℕ). LooksAt m.0 x v) found t in
+      dite (dec_le (phase_start (node_count k.plan) c) n)
+      (λ le. (
+        having_open m.0 n,
+        keeps,
+        tt,
+        kept w n (set s.views id (having_open m.0 n)) h.few h.small (opens k w n s.views r id c m.0 at is has le) _ words s.homes,
+        (refl, told (having_open m.0 n) record { seen = f.seen; own = mine; alone = λ all. omega (arith, whole all, first); opens = λ _. refl; waits = λ lt. absurd (omega (arith, lt, first)) }),
+      ))
+      (λ late. (
+        seeing m.0 n,
+        keeps,
+        tt,
+        kept w n (set s.views id (seeing m.0 n)) h.few h.small (waits k w n s.views r id m.0 at has) _ words s.homes,
+        (refl, told (seeing m.0 n) record { seen = f.seen; own = mine; alone = λ all. omega (arith, whole all, first); opens = λ le. absurd (late (omega (arith, le, first))); waits = λ _. refl }),
+      ))
+
+  pub finishes_allowed : (slots id : ℕ) (m : Me S View) → IsOpen m.0.stage → 1 ≤ m.0.weight → Allows (Holds k) slots id m 2 (λ n. (n + 1) % 2 ^ 64) (Finishes (step slots 2 1 0 none) m)
+  finishes_allowed slots id m is has s h long at room =
+      let r = h.running in
+      let w : ℕ = h.drawn in let n : ℕ = h.finished in
+      let found : get_or s.words 2 0 ≡ n = ap (λ l. get_or l 2 0) h.words in
+      let next : (get_or s.words 2 0 + 1) % 2 ^ 64 ≡ suc n = ap (λ x. (x + 1) % 2 ^ 64) found ∙ omega (arith, finished_most k w n s.views r, h.small) in
+      let words : set s.words 2 ((get_or s.words 2 0 + 1) % 2 ^ 64) ≡ 0 ∷ w ∷ suc n ∷ [] = ap (λ x. set s.words 2 x) next ∙ ap (λ l. set l 2 (suc n)) h.words in
+      (done_with m.0, keeps, tt, kept w (suc n) (set s.views id (done_with m.0)) h.few h.small (finishes k w n s.views r id (unit_in m.0.stage) m.0 at is has) _ words s.homes, (refl, refl))
+
+  pub splits_allowed : (id : ℕ) (v : View) → 1 ≤ v.weight → 1 ≤ v.spare → Splits {S = S} (Holds k) id v (less_spare v) (beginning v.scope 0)
+  splits_allowed id v has spare s h at = record { few = h.few; small = h.small; drawn = h.drawn; finished = h.finished; words = h.words; running = splits k h.drawn h.finished s.views h.running id v at has spare }
+
+  pub joins_allowed : (id other : ℕ) (v u : View) → HoldsNoUnit v.stage → HoldsNoUnit u.stage → 1 ≤ v.weight → Joins {S = S} (Holds k) id v other u (joined v u) nobody
+  joins_allowed id other v u hv hu has s h at ne there = record { few = h.few; small = h.small; drawn = h.drawn; finished = h.finished; words = h.words; running = joins k h.drawn h.finished s.views h.running id other v u at ne there hv hu has }
+
+  pub bounds_allowed : (slots id : ℕ) (m : Me S View) → Allows (Holds k) slots id m 0 (λ n. n) (IsBounded (step slots 0 0 0 none) m)
+  bounds_allowed slots id m s h long at room =
+      let r = h.running in
+      let w : ℕ = h.drawn in let n : ℕ = h.finished in
+      let words : set s.words 0 (get_or s.words 0 0) ≡ 0 ∷ w ∷ n ∷ [] = ap (λ x. set s.words 0 x) (ap (λ l. get_or l 0 0) h.words) ∙ ap (λ l. set l 0 0) h.words in (
+        m.0,
+        keeps,
+        tt,
+        kept w n (set s.views id m.0) h.few h.small (subst (Running k w n) (sym (set_again s.views id m.0 at)) r) _ words s.homes,
+        (refl, omega (arith, total_at rights s.views id m.0 at, r.rights, h.few)),
+      )
+
+-- a sound plan has fewer units than a word can count
+few_units : (p : Plan) → IsSound p → unit_count p < 2 ^ 50
+unfolding unit_count
+few_units p sound =
+    let n : ℕ = node_count p in
+    let few : n ≤ 1000000 = sound.net.nodes.few in
+    let most : p.horizon * step_units n ≤ 86400 * step_units n = mul-le-mul_right (step_units n) sound.horizon_most in
+    let all : ℕ = p.horizon * step_units n in
+    let bound : all ≤ 86400 * (n + n + 1) = most in
+    omega arith
+
+-- a new table
+pub begins_allowed : {S : Type 0} (k : Scope) (homes : List (Option S)) → IsSound k.plan → 1 ≤ k.passes → k.passes ≤ MOST_PASSES → Holds {S = S} k record { words = 0 ∷ 0 ∷ 0 ∷ []; homes = homes; views = beginning k (k.passes - 1) ∷ [] }
+begins_allowed k homes sound least most = record { few = most; small = few_units k.plan sound; drawn = 0; finished = 0; words = refl; running = begins k least }

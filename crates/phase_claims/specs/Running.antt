@@ -1,0 +1,62 @@
+-- The running rule of a floor: what holds of its words and of the views of its passes between any
+-- two steps, whatever the threads do.
+use Rattle.std.specs.Prelude.{◌≡◌, ℕ, ◌+◌, ◌<◌, ◌≤◌, ◌^◌, min, List, [], ◌∷◌}
+use mathlib.Core.Option.{some}
+use lib.ListN.{get_elem?}
+use Rattle.atomic_table.specs.Table.{State}
+use Rattle.dta_model.specs.Units.{node_count, phase_end, phase_start, unit_count}
+use Rattle.dta_model.specs.declared.machine.Stage.{Stage}
+use Rattle.dta_model.specs.declared.machine.Stage.TheVariants as stage
+use Rattle.claim_core.specs.Claimed.{Claimed}
+use Rattle.claim_core.specs.Sums.{total}
+use Rattle.phase_claims.specs.declared.floor.TheConstants.{MOST_PASSES}
+use Rattle.phase_claims.specs.declared.view.Scope.{Scope}
+use Rattle.phase_claims.specs.declared.view.View.{View}
+use Rattle.phase_claims.specs.Views.{held_by, nobody, performed_by, performed_count, rights}
+
+-- a pass that has ended drew a number of no unit, and one that hasn't drew none
+abbrev pub FitsPast : Stage → ℕ → Type 0
+FitsPast stage.Ended past = 1 ≤ past
+FitsPast stage.Idle past = past ≡ 0
+FitsPast (stage.Held c) past = past ≡ 0
+FitsPast (stage.Open c) past = past ≡ 0
+
+-- what holds of the view of each pass, where so many units are finished
+pub record FitsView (k : Scope) (finished : ℕ) (v : View) : Type 0 where
+  -- it names the floor's loading, its board and its number of passes
+  pub scope : 1 ≤ v.weight → v.scope ≡ k
+  -- it hasn't seen more finished units than there are
+  pub seen : v.seen ≤ finished
+  -- its draws past the last unit fit its stage, and aren't more than its weight
+  pub past : FitsPast v.stage v.past
+  pub most : v.past ≤ v.weight
+  -- without a weight it is the view that is left over by a join
+  pub empty : v.weight ≡ 0 → v ≡ nobody
+  -- a unit that it has open is of the phase in which the number of finished units stands
+  pub phase : (c : ℕ) → v.stage ≡ stage.Open c
+      → (phase_start (node_count k.plan) finished ≤ c)
+      × (c < phase_end (node_count k.plan) finished)
+
+-- the words and the views, where so many numbers are drawn and so many units finished
+pub record Running (k : Scope) (drawn finished : ℕ) (views : List View) : Type 0 where
+  -- each unit whose number was drawn is held or performed, once; the units before the phase in
+  -- which the number of finished ones stands are performed, and none after it is
+  pub claimed : Claimed (node_count k.plan) (min drawn (unit_count k.plan)) finished
+      (performed_by views) (held_by views)
+  -- the finished units are those that the passes have performed
+  pub performed : finished ≡ total performed_count views
+  -- the other numbers drawn were draws past the last unit
+  pub past : drawn ≡ min drawn (unit_count k.plan) + total (λ v. v.past) views
+  -- all weights and spare passes together are the passes of the floor
+  pub rights : total rights views ≡ k.passes
+  pub each : (by : ℕ) (v : View) → get_elem? views by ≡ some v → FitsView k finished v
+
+-- the rule: the first word never changes, the second counts the numbers drawn, and the third the
+-- units finished
+pub record Holds {S : Type 0} (k : Scope) (s : State S View) : Type 0 where
+  pub few : k.passes ≤ MOST_PASSES
+  pub small : unit_count k.plan < 2 ^ 50
+  pub drawn : ℕ
+  pub finished : ℕ
+  pub words : s.words ≡ 0 ∷ drawn ∷ finished ∷ []
+  pub running : Running k drawn finished s.views

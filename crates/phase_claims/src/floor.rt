@@ -1,0 +1,259 @@
+// The floor and its calls.
+ghost use Rattle.std.specs.Prelude.{◌≡◌, ◌≢◌, ◌<◌, ◌≤◌, ◌-◌, [], IfOk};
+ghost use Rattle.dta_model.specs.Lent.{plan_of};
+ghost use Rattle.dta_model.specs.Sound.{IsSound};
+ghost use Rattle.dta_model.specs.Units.{unit_count};
+ghost use Rattle.phase_claims.specs.Passes.{Claims, HoldsNoUnit, IsHeld, IsOf, IsOpen, Opens};
+ghost use Rattle.phase_claims.specs.Passes.{kind_in, unit_at};
+ghost use Rattle.phase_claims.specs.Views.{beginning, done_with, joined, less_spare, rights};
+
+use crate::pass::Pass;
+use crate::rule::{Bound, Cut, Draw, Finish, Glue, Key, Look, Words};
+use crate::start::parts_at_start;
+use crate::unit::{Open, Unit};
+use atomic_table::Table;
+use claim_core::{UnitKind, Units};
+use dta_model::{Loaded, Loading, Stage};
+use monitors::{Board, WriterPass};
+use net_core::Memory;
+use node_transfer::opening;
+use std::alloc::{AllocError, Global};
+use std::marker::Model;
+use std::sync::Wait;
+
+/// The most passes that a floor can have.
+pub const MOST_PASSES: u32 = 64;
+
+/// The units of a loading, with the words that count how many are claimed and finished. To a
+/// contract it is its table, and what it is for.
+#[derive(Drop)]
+pub struct Floor<'a> {
+    table: Words<'a>,
+    loading: Loading<'a>,
+    board: &'a Board,
+    units: Units,
+    loaded: Loaded,
+}
+
+impl<'a> Model for Floor<'a> {
+    ghost use Rattle.dta_model.specs.Lent.{plan_of};
+    ghost use Rattle.phase_claims.specs.Floors.{IsFloor};
+    ghost use Rattle.phase_claims.specs.Passes.{FloorState};
+    ghost use Rattle.phase_claims.specs.Scopes.{scope_of};
+
+    ghost Value = { FloorState };
+
+    ghost view = { λ f. record {
+      table = f.table.shared.table_id;
+      scope = scope_of f.table.shared.key;
+    } };
+
+    ghost invariant = { λ f. IsFloor (scope_of f.table.shared.key) f.table.shared.table_id.words
+        (plan_of f.loading) f.board.now f.units f.loaded };
+}
+
+impl<'a> Floor<'a> {
+    /// A floor of a loading, with nothing claimed, and its first pass, from which the others can be
+    /// split off. Where there isn't enough memory the writer is dropped.
+    pub fn new(
+        alloc: Global,
+        loading: &Loading<'a>,
+        board: &'a Board,
+        writer: WriterPass,
+        passes: u32,
+    ) -> Result<(Floor<'a>, Pass), Memory>
+        requires sound { IsSound (plan_of loading.now) }
+        requires own { writer.board ≡ board.now }
+        requires new { writer.list ≡ [] }
+        requires least { 1 ≤ passes }
+        requires most { passes ≤ MOST_PASSES }
+        ensures floor { IfOk result (λ r. r.0.scope ≡ record {
+          plan = plan_of loading.now;
+          board = board.entry.now;
+          passes = passes;
+        }) }
+        ensures table { IfOk result (λ r. r.1.table ≡ r.0.table) }
+        ensures pass { IfOk result (λ r. r.1.view ≡ beginning r.0.scope (passes - 1)) }
+    {
+        let start = opening(alloc, loading)?;
+        let cells = start.cells.into_vec();
+        let parts = parts_at_start(alloc, cells, start.mail.into_vec(), writer)?;
+        let key = Key {
+            loading: *loading,
+            board,
+            passes,
+        };
+        let units = Units::of(loading);
+        let (table, seat) = match Table::new(alloc, &[0, 0, 0], parts, &key) {
+            Ok(made) => made,
+            Err(_) => return Err(AllocError),
+        };
+        let floor = Floor {
+            table,
+            loading: *loading,
+            board,
+            units,
+            loaded: start.loaded,
+        };
+        let pass = Pass {
+            seat,
+            spare: passes - 1,
+            stage: Stage::Idle,
+        };
+        Ok((floor, pass))
+    }
+
+    // How many units there are.
+    #[tactic(auto, unfolding(dta_model::specs::Units::unit_count))]
+    fn count(&self) -> u64
+        ensures { result ≡ unit_count self.now.scope.plan }
+    {
+        self.units.count()
+    }
+
+    // The unit of a number.
+    #[tactic(auto, unfolding(dta_model::specs::Units::unit_count))]
+    fn unit(&self, number: u64) -> Unit
+        requires { number < unit_count self.now.scope.plan }
+        ensures { result ≡ unit_at self.now.scope.plan number }
+    {
+        Unit {
+            number,
+            step: self.units.step_of(number),
+            kind: self.units.kind_of(number),
+        }
+    }
+
+    /// Draws the next number. The pass holds the unit of that number then. Where there is none it
+    /// has ended.
+    pub fn claim(&self, pass: &mut Pass) -> Option<Unit>
+        requires own { IsOf self.now pass.old }
+        requires idle { pass.old.view.stage ≡ Stage.Idle }
+        ensures table { pass.new.table ≡ pass.old.table }
+        ensures told { Claims self.now.scope.plan pass.old.view result pass.new.view }
+    {
+        let number = self.table.shared.fetch_add::<Draw>(&mut pass.seat, 1, 1);
+        if number < self.count() {
+            pass.stage = Stage::Held(number);
+            Some(self.unit(number))
+        } else {
+            pass.stage = Stage::Ended;
+            None
+        }
+    }
+
+    /// Opens the unit that the pass holds, where all units of earlier phases are finished.
+    pub fn open(&self, pass: &mut Pass) -> Open
+        requires own { IsOf self.now pass.old }
+        requires held { IsHeld pass.old.view.stage }
+        ensures table { pass.new.table ≡ pass.old.table }
+        ensures told { Opens pass.old.view result pass.new.view }
+        ensures alone { rights pass.old.view ≡ self.now.scope.passes → result ≡ Open.Yes }
+    {
+        let Stage::Held(number) = pass.stage else {
+            unreachable!()
+        };
+        let first = self.units.phase_start(number);
+        let finished = self.table.shared.load::<Look>(&mut pass.seat, 2);
+        if first <= finished {
+            pass.stage = Stage::Open(number);
+            Open::Yes
+        } else {
+            Open::NotYet { finished }
+        }
+    }
+
+    // Finishes the unit that the pass has open.
+    fn finish(&self, pass: &mut Pass)
+        requires own { IsOf self.now pass.old }
+        requires open { IsOpen pass.old.view.stage }
+        ensures table { pass.new.table ≡ pass.old.table }
+        ensures done { pass.new.view ≡ done_with pass.old.view }
+    {
+        self.table.shared.fetch_add::<Finish>(&mut pass.seat, 2, 1);
+        pass.stage = Stage::Idle;
+    }
+
+    /// Performs the unit that the pass has open, a transfer or a gather, and finishes it.
+    pub fn perform(&self, pass: &mut Pass)
+        requires own { IsOf self.now pass.old }
+        requires open { IsOpen pass.old.view.stage }
+        requires kind { kind_in pass.old.view ≢ UnitKind.Posting }
+        ensures table { pass.new.table ≡ pass.old.table }
+        ensures done { pass.new.view ≡ done_with pass.old.view }
+    {
+        self.finish(pass);
+    }
+
+    /// Performs the unit that the pass has open, a posting, and finishes it.
+    pub fn perform_posting<R: Wait>(&self, _rt: &R, pass: &mut Pass)
+        requires own { IsOf self.now pass.old }
+        requires open { IsOpen pass.old.view.stage }
+        requires kind { kind_in pass.old.view ≡ UnitKind.Posting }
+        ensures table { pass.new.table ≡ pass.old.table }
+        ensures done { pass.new.view ≡ done_with pass.old.view }
+    {
+        self.finish(pass);
+    }
+
+    /// Splits a pass off from one that may still do so. The first of the two keeps the rest of the
+    /// spare passes, and the second has none.
+    pub fn split(&self, pass: Pass) -> (Pass, Pass)
+        requires own { IsOf self.now pass }
+        requires free { HoldsNoUnit pass.view.stage }
+        requires spare { 1 ≤ pass.view.spare }
+        ensures tables { (result.0.table ≡ pass.table) × (result.1.table ≡ pass.table) }
+        ensures first { result.0.view ≡ less_spare pass.view }
+        ensures second { result.1.view ≡ beginning pass.view.scope 0 }
+    {
+        let Pass {
+            mut seat,
+            spare,
+            stage,
+        } = pass;
+        let other = self.table.shared.split_seat::<Cut>(&mut seat);
+        let first = Pass {
+            seat,
+            spare: spare - 1,
+            stage,
+        };
+        let second = Pass {
+            seat: other,
+            spare: 0,
+            stage: Stage::Idle,
+        };
+        (first, second)
+    }
+
+    /// Joins two passes into one, which has ended where one of them had.
+    pub fn join(&self, a: Pass, b: Pass) -> Pass
+        requires own { IsOf self.now a }
+        requires own_too { IsOf self.now b }
+        requires free { HoldsNoUnit a.view.stage }
+        requires free_too { HoldsNoUnit b.view.stage }
+        ensures table { result.table ≡ a.table }
+        ensures view { result.view ≡ joined a.view b.view }
+    {
+        let Pass {
+            mut seat,
+            spare,
+            stage,
+        } = a;
+        let Pass {
+            seat: other,
+            spare: more,
+            stage: second,
+        } = b;
+        self.table.shared.join_seat::<Glue>(&mut seat, other);
+        self.table.shared.load::<Bound>(&mut seat, 0);
+        let stage = match stage {
+            Stage::Ended => Stage::Ended,
+            _ => second,
+        };
+        Pass {
+            seat,
+            spare: spare + more,
+            stage,
+        }
+    }
+}

@@ -1,0 +1,91 @@
+// The rule of a floor's words, and the steps that keep it.
+use crate::part::Part;
+use crate::view::View;
+use atomic_table::{Join, Play, Seat, Split, Table, TableRule};
+use dta_model::Loading;
+use monitors::Board;
+use std::alloc::Global;
+
+// What a floor's table is told when it is made.
+#[derive(Clone, Copy, Drop)]
+pub struct Key<'a> {
+    pub loading: Loading<'a>,
+    pub board: &'a Board,
+    pub passes: u32,
+}
+
+// The rule: the words and the views are a state of the claim machine.
+pub struct Claiming;
+
+impl<'a> TableRule<Part, View, Key<'a>> for Claiming {
+    ghost use Rattle.std.specs.Prelude.{◌-◌};
+    ghost use Rattle.phase_claims.specs.Running.{Holds};
+    ghost use Rattle.phase_claims.specs.Scopes.{scope_of};
+    ghost use Rattle.phase_claims.specs.Views.{beginning};
+
+    ghost holds = { λ key. Holds (scope_of key) };
+
+    ghost first = { λ key. beginning (scope_of key) (key.passes - 1) };
+}
+
+// The step that draws a number.
+pub struct Draw;
+
+impl Play<Part, View> for Draw {
+    ghost use Rattle.phase_claims.specs.Plays.{Draws};
+
+    ghost then = { Draws };
+}
+
+// The step that reads how many units are finished, for a pass that holds one.
+pub struct Look;
+
+impl Play<Part, View> for Look {
+    ghost use Rattle.phase_claims.specs.Plays.{Looks};
+
+    ghost then = { Looks };
+}
+
+// The step that finishes the unit that is open.
+pub struct Finish;
+
+impl Play<Part, View> for Finish {
+    ghost use Rattle.phase_claims.specs.Plays.{Finishes};
+
+    ghost then = { Finishes };
+}
+
+// A look that tells that a pass has no more rights than there are passes.
+pub struct Bound;
+
+impl Play<Part, View> for Bound {
+    ghost use Rattle.phase_claims.specs.Plays.{IsBounded};
+
+    ghost then = { IsBounded };
+}
+
+// The step that splits a pass off.
+pub struct Cut;
+
+impl Split<View> for Cut {
+    ghost use Rattle.phase_claims.specs.Views.{beginning, less_spare};
+
+    ghost left = { less_spare };
+
+    ghost right = { λ view. beginning view.scope 0 };
+}
+
+// The step that joins two passes. The second is used up.
+pub struct Glue;
+
+impl Join<View> for Glue {
+    ghost use Rattle.phase_claims.specs.Views.{joined, nobody};
+
+    ghost both = { joined };
+
+    ghost spent = { nobody };
+}
+
+pub type Words<'a> = Table<Part, View, Key<'a>, Claiming, Global>;
+
+pub type PassSeat = Seat<Part, View>;
