@@ -4,3 +4,4 @@ pub mod Running
 pub mod Plays
 pub mod Passes
 pub mod Floors
+pub mod PlacesHeld

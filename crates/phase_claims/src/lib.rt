@@ -16,6 +16,9 @@ mod rule;
 mod start;
 mod unit;
 mod view;
+mod work;
+mod work_links;
+mod work_unit;
 
 pub use claim_core::UnitKind;
 pub use floor::{Floor, MOST_PASSES};
