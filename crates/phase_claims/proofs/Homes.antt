@@ -10,6 +10,7 @@ use Rattle.claim_core.specs.Sums.{below, is_at, times, total}
 use Rattle.claim_core.proofs.Sums.{total_set}
 use Rattle.claim_core.proofs.Cuts.{below_same}
 use Rattle.claim_core.proofs.Stages.{stage_by, stage_more}
+use Rattle.phase_claims.specs.PlacesHome.{home_of, parts_of}
 use Rattle.phase_claims.proofs.Turning.{takes_all, gives_all, Free, Apart, AllHome, AllOut, home_else, all_out, given_else, all_given}
 
 -- the slots are there, and each stands once
@@ -18,10 +19,6 @@ Once slots [] = Unit {0}
 Once slots (k ∷ ks) = (k < slots) × (times k ks ≡ 0) × Once slots ks
 
 module _ {S : Type 0} where
-  abbrev pub home_of : ℕ → S → Option S
-  home_of zero y = some y
-  home_of (suc n) y = none
-
   is_in : (m : ℕ) (y : S) → m ≡ 0 → home_of m y ≡ some y
   is_in m y e = ap (λ n. home_of n y) e
 
@@ -29,17 +26,12 @@ module _ {S : Type 0} where
   is_out zero y h = absurd (omega arith)
   is_out (suc m) y h = refl
 
-  -- the slots ks, each with its part at a stage
-  abbrev pub parts_of : (ℕ → ℕ → S) → List ℕ → (ℕ → ℕ) → List (ℕ × S)
-  parts_of part_at [] m = []
-  parts_of part_at (k ∷ ks) m = (k, part_at k (m k)) ∷ parts_of part_at ks m
-
   module _ (part_at : ℕ → ℕ → S) where
     free_of : (ks : List ℕ) (m : ℕ → ℕ) (k : ℕ) → times k ks ≡ 0 → Free k (parts_of part_at ks m)
     free_of [] m k h = tt
     free_of (x ∷ ks) m k h = ((λ e. (let s : is_at k x ≡ 1 = subst (λ (y : ℕ). is_at k y ≡ 1) e (grind (arith, nat_tests)) in absurd (omega arith))), free_of ks m k (omega arith))
 
-    apart_of : (slots : ℕ) (ks : List ℕ) (m : ℕ → ℕ) → Once slots ks → Apart (parts_of part_at ks m)
+    pub apart_of : (slots : ℕ) (ks : List ℕ) (m : ℕ → ℕ) → Once slots ks → Apart (parts_of part_at ks m)
     apart_of slots [] m o = tt
     apart_of slots (k ∷ ks) m o = (free_of ks m k o.1, apart_of slots ks m o.2)
 
@@ -61,7 +53,7 @@ module _ {S V : Type 0} (Q : ℕ) (moves : ℕ → ℕ → ℕ) (part_at : ℕ �
   abbrev pub Homes : ℕ → List (Option S) → List V → Type 0
   Homes slots homes views = (k : ℕ) → k < slots → get_elem? homes k ≡ some (home_of (total (opens k) views) (part_at k (stage_now k views)))
 
-  all_home : (slots : ℕ) (homes : List (Option S)) (views : List V) → Homes slots homes views → (ks : List ℕ) → Once slots ks → ((k : ℕ) → 1 ≤ times k ks → total (opens k) views ≡ 0) → AllHome homes (parts_of part_at ks (λ k. stage_now k views))
+  pub all_home : (slots : ℕ) (homes : List (Option S)) (views : List V) → Homes slots homes views → (ks : List ℕ) → Once slots ks → ((k : ℕ) → 1 ≤ times k ks → total (opens k) views ≡ 0) → AllHome homes (parts_of part_at ks (λ k. stage_now k views))
   all_home slots homes views h [] o closed = tt
   all_home slots homes views h (k ∷ ks) o closed =
       (h k o.0 ∙ ap some (is_in (total (opens k) views) (part_at k (stage_now k views)) (closed k (let s : is_at k k ≡ 1 = grind (arith, nat_tests) in omega arith))),

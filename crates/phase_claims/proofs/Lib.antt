@@ -6,3 +6,5 @@ pub mod Turning
 pub mod Homes
 pub mod PlacesTurn
 pub mod PlacesRound
+pub mod PlacesFree
+pub mod PlacesSteps

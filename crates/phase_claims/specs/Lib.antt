@@ -5,3 +5,4 @@ pub mod Plays
 pub mod Passes
 pub mod Floors
 pub mod PlacesHeld
+pub mod PlacesHome
