@@ -8,3 +8,5 @@ pub mod PlacesTurn
 pub mod PlacesRound
 pub mod PlacesFree
 pub mod PlacesSteps
+pub mod PlacesUnit
+pub mod PlacesStart

@@ -13,15 +13,15 @@ use Rattle.claim_core.specs.Sums.{below, is_at, times, total}
 use Rattle.claim_core.proofs.Claimed.{finished_le, open_now}
 use Rattle.claim_core.proofs.Cuts.{below_same}
 use Rattle.claim_core.proofs.Places.{moved_is_placed}
-use Rattle.claim_core.proofs.Sums.{at_self, total-append, total_at}
+use Rattle.claim_core.proofs.Sums.{at_self, total-append, total_at, total_set, total_snoc}
 use Rattle.phase_claims.specs.declared.part.Part.{Part}
 use Rattle.phase_claims.specs.declared.view.Scope.{Scope}
 use Rattle.phase_claims.specs.declared.view.View.{View}
 use Rattle.phase_claims.specs.PlacesHome.{AreHome, brought, carried, has_slot, home_of, part_at, parts_of}
 use Rattle.phase_claims.specs.Passes.{HoldsNoUnit}
 use Rattle.phase_claims.specs.Running.{Running}
-use Rattle.phase_claims.specs.Views.{held_by, holds, performed_by, performs}
-use Rattle.phase_claims.proofs.Counts.{holds_held, holds_open, once_in}
+use Rattle.phase_claims.specs.Views.{beginning, both_stages, held_by, holds, joined, less_spare, nobody, performed_by, performs}
+use Rattle.phase_claims.proofs.Counts.{holds_held, holds_open, none_both, once_in}
 use Rattle.phase_claims.proofs.Homes.{all_home, apart_of, finishes_homes, opens_homes}
 use Rattle.phase_claims.proofs.PlacesFree.{one_place, only_own, places_once, stage_is}
 use Rattle.phase_claims.proofs.Turning.{gives_all, in_order, takes_all, valid_takes}
@@ -51,6 +51,32 @@ module _ (k : Scope) where
       let at : stage_of k.plan (performed_by views) slot ≡ stage_of k.plan (performed_by views') slot =
       below_same (λ u. moves k.plan slot u * performed_by views u) (λ u. moves k.plan slot u * performed_by views' u) (unit_count k.plan) (λ u _. ap (λ d. moves k.plan slot u * d) (sym (done u))) in
       h slot l ∙ (λ i. some (home_of (sym (same slot) i) (part_at k slot (at i))))
+
+  -- a view with the same slots, which has performed the same units
+  pub homes_set : (homes : List (Option Part)) (views : List View) (by : ℕ) (v v' : View) → get_elem? views by ≡ some v → ((slot : ℕ) → Has slot v' ≡ Has slot v) → ((x : ℕ) → performs x v' ≡ performs x v) → AreHome k homes views → AreHome k homes (set views by v')
+  homes_set homes views by v v' e same done h =
+      homes_same homes views (set views by v') (λ slot. omega (arith, total_set (Has slot) views by v v' e, same slot)) (λ x. omega (arith, total_set (performs x) views by v v' e, done x)) h
+
+  pub homes_split : (homes : List (Option Part)) (views : List View) (by : ℕ) (v : View) → get_elem? views by ≡ some v → AreHome k homes views → AreHome k homes (set views by (less_spare v) ++ beginning v.scope 0 ∷ [])
+  homes_split homes views by v e h =
+      let u : View = beginning v.scope 0 in
+      homes_same homes views (set views by (less_spare v) ++ u ∷ [])
+      (λ slot. omega (arith, total_set (Has slot) views by v (less_spare v) e, total_snoc (Has slot) (set views by (less_spare v)) u))
+      (λ x. omega (arith, total_set (performs x) views by v (less_spare v) e, total_snoc (performs x) (set views by (less_spare v)) u)) h
+
+  has_none : (slot : ℕ) (s : Stage) → HoldsNoUnit s → has_slot k.plan slot s ≡ 0
+  has_none slot stage.Idle q = refl
+  has_none slot (stage.Held c) q = refl
+  has_none slot (stage.Open c) q = absurd (cc)
+  has_none slot stage.Ended q = refl
+
+  pub homes_join : (homes : List (Option Part)) (views : List View) (by other : ℕ) (v u : View) → get_elem? views by ≡ some v → get_elem? (set views by (joined v u)) other ≡ some u → HoldsNoUnit v.stage → HoldsNoUnit u.stage
+      → AreHome k homes views → AreHome k homes (set (set views by (joined v u)) other nobody)
+  homes_join homes views by other v u e there hv hu h =
+      let v' : View = joined v u in
+      homes_same homes views (set (set views by v') other nobody)
+      (λ slot. omega (arith, total_set (Has slot) views by v v' e, total_set (Has slot) (set views by v') other u nobody there, has_none slot v.stage hv, has_none slot u.stage hu, has_none slot (both_stages v.stage u.stage) (none_both v.stage u.stage hv hu)))
+      (λ x. (let both : performs x v' ≡ performs x v + performs x u = total-append (is_at x) v.performed u.performed in omega (arith, total_set (performs x) views by v v' e, total_set (performs x) (set views by v') other u nobody there, both))) h
 
   module _ (w n : ℕ) (views : List View) (r : Running k w n views) (homes : List (Option Part)) (h : AreHome k homes views) (by c : ℕ) (v : View) (e : get_elem? views by ≡ some v) where
     abbrev N : ℕ
