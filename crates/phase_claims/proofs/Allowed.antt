@@ -44,7 +44,7 @@ module _ (k : Scope) where
         keeps,
         tt,
         kept (suc w) n (set s.views id (ended m.0)) h.few h.small (draws_none k w n s.views r id m.0 at idle has over) _ words s.homes
-        (homes_set k s.homes s.views id m.0 (ended m.0) at (λ slot. sym (ap (λ x. has_slot k.plan slot x) idle)) (λ x. refl) h.homes),
+            (homes_set k s.homes s.views id m.0 (ended m.0) at (λ slot. sym (ap (λ x. has_slot k.plan slot x) idle)) (λ x. refl) h.homes),
         (refl, record { given = λ l. absurd (omega arith); over = λ _. refl }),
       ))
       (λ under. let u : w < unit_count k.plan = lt_of_not-le under in (
@@ -52,7 +52,7 @@ module _ (k : Scope) where
         keeps,
         tt,
         kept (suc w) n (set s.views id (holding m.0 w)) h.few h.small (draws_unit k w n s.views r id m.0 at idle has u) _ words s.homes
-        (homes_set k s.homes s.views id m.0 (holding m.0 w) at (λ slot. sym (ap (λ x. has_slot k.plan slot x) idle)) (λ x. refl) h.homes),
+            (homes_set k s.homes s.views id m.0 (holding m.0 w) at (λ slot. sym (ap (λ x. has_slot k.plan slot x) idle)) (λ x. refl) h.homes),
         (refl, record { given = λ l. ap (holding m.0) (sym found); over = λ l. absurd (omega arith) }),
       ))
 
@@ -77,7 +77,7 @@ module _ (k : Scope) where
         takes_all (carried k (stage.Open c)),
         subst (λ xs. Valid s.homes xs (takes_all (carried k (stage.Open c)))) (sym none) (opens_valid k w n s.views r s.homes h.homes id c m.0 at is le),
         kept w n (set s.views id (having_open m.0 n)) h.few h.small (opens k w n s.views r id c m.0 at is has le) _ words (homes_after s.homes m.1 (takes_all (carried k (stage.Open c))))
-        (subst (λ xs. AreHome k (homes_after s.homes xs (takes_all (carried k (stage.Open c)))) (set s.views id (having_open m.0 n))) (sym none) (opens_places k w n s.views r s.homes h.homes id c m.0 at is le n)),
+            (subst (λ xs. AreHome k (homes_after s.homes xs (takes_all (carried k (stage.Open c)))) (set s.views id (having_open m.0 n))) (sym none) (opens_places k w n s.views r s.homes h.homes id c m.0 at is le n)),
         (ap (λ xs. carried_after xs (takes_all (carried k (stage.Open c)))) none ∙ in_order [] (carried k (stage.Open c)) ∙ append-nil (carried k (stage.Open c)) ∙ ap (λ (j : Scope). carried j (stage.Open c)) scope, told (having_open m.0 n) record { seen = f.seen; own = mine; alone = λ all. omega (arith, whole all, first); opens = λ _. refl; waits = λ lt. absurd (omega (arith, lt, first)) }),
       ))
       (λ late. (
@@ -85,7 +85,7 @@ module _ (k : Scope) where
         keeps,
         tt,
         kept w n (set s.views id (seeing m.0 n)) h.few h.small (waits k w n s.views r id m.0 at has) _ words s.homes
-        (homes_set k s.homes s.views id m.0 (seeing m.0 n) at (λ slot. refl) (λ x. refl) h.homes),
+            (homes_set k s.homes s.views id m.0 (seeing m.0 n) at (λ slot. refl) (λ x. refl) h.homes),
         (held, told (seeing m.0 n) record { seen = f.seen; own = mine; alone = λ all. omega (arith, whole all, first); opens = λ le. absurd (late (omega (arith, le, first))); waits = λ _. refl }),
       ))
 
@@ -102,7 +102,7 @@ module _ (k : Scope) where
         gives_all (length m.1),
         valid_gives s.homes m.1 (length m.1),
         kept w (suc n) (set s.views id (done_with m.0)) h.few h.small (finishes k w n s.views r id (unit_in m.0.stage) m.0 at is has) _ words (homes_after s.homes m.1 (gives_all (length m.1)))
-        (finishes_places k w n s.views r s.homes h.homes id (unit_in m.0.stage) m.0 at is m.1 home),
+            (finishes_places k w n s.views r s.homes h.homes id (unit_in m.0.stage) m.0 at is m.1 home),
         (none_left m.1, refl),
       )
 
@@ -121,7 +121,7 @@ module _ (k : Scope) where
         keeps,
         tt,
         kept w n (set s.views id m.0) h.few h.small (subst (Running k w n) (sym (set_again s.views id m.0 at)) r) _ words s.homes
-        (subst (AreHome k s.homes) (sym (set_again s.views id m.0 at)) h.homes),
+            (subst (AreHome k s.homes) (sym (set_again s.views id m.0 at)) h.homes),
         (refl, omega (arith, total_at rights s.views id m.0 at, r.rights, h.few)),
       )
 

@@ -55,9 +55,10 @@ module _ {S V : Type 0} (Q : ℕ) (moves : ℕ → ℕ → ℕ) (part_at : ℕ �
 
   pub all_home : (slots : ℕ) (homes : List (Option S)) (views : List V) → Homes slots homes views → (ks : List ℕ) → Once slots ks → ((k : ℕ) → 1 ≤ times k ks → total (opens k) views ≡ 0) → AllHome homes (parts_of part_at ks (λ k. stage_now k views))
   all_home slots homes views h [] o closed = tt
-  all_home slots homes views h (k ∷ ks) o closed =
-      (h k o.0 ∙ ap some (is_in (total (opens k) views) (part_at k (stage_now k views)) (closed k (let s : is_at k k ≡ 1 = grind (arith, nat_tests) in omega arith))),
-        all_home slots homes views h ks o.2 (λ j l. closed j (omega arith)))
+  all_home slots homes views h (k ∷ ks) o closed = (
+    h k o.0 ∙ ap some (is_in (total (opens k) views) (part_at k (stage_now k views)) (closed k (let s : is_at k k ≡ 1 = grind (arith, nat_tests) in omega arith))),
+    all_home slots homes views h ks o.2 (λ j l. closed j (omega arith)),
+  )
 
   same_stage : (k by : ℕ) (views : List V) (v v' : V) → get_elem? views by ≡ some v → ((x : ℕ) → done x v' ≡ done x v) → stage_now k (set views by v') ≡ stage_now k views
   same_stage k by views v v' at same = below_same (λ x. moves k x * total (done x) (set views by v')) (λ x. moves k x * total (done x) views) Q
@@ -72,11 +73,11 @@ module _ {S V : Type 0} (Q : ℕ) (moves : ℕ → ℕ → ℕ) (part_at : ℕ �
       let same = same_stage k by views v v' at same_done in
       let more : total (opens k) (set views by v') ≡ total (opens k) views + times k ps = omega (arith, total_set (opens k) views by v v' at, takes k) in
       dite (dec_le 1 (times k ps))
-          (λ here. out_at part_at (homes_after homes [] (takes_all xs)) ps (λ k. stage_now k views) k here (all_out homes [] xs (apart_of part_at slots ps (λ k. stage_now k views) o) (all_home slots homes views h ps o closed))
-              ∙ ap some (sym (is_out (total (opens k) (set views by v')) (part_at k (stage_now k (set views by v'))) (omega (arith, more)))))
-          (λ away. let z : times k ps ≡ 0 = (let t : times k ps < 1 = lt_of_not-le away in omega arith) in
-              home_else homes [] xs k (free_of part_at ps (λ k. stage_now k views) k z) ∙ h k l
-              ∙ (λ i. some (home_of (sym (let e : total (opens k) (set views by v') ≡ total (opens k) views = omega (arith, more, z) in e) i) (part_at k (sym same i)))))
+      (λ here. out_at part_at (homes_after homes [] (takes_all xs)) ps (λ k. stage_now k views) k here (all_out homes [] xs (apart_of part_at slots ps (λ k. stage_now k views) o) (all_home slots homes views h ps o closed))
+      ∙ ap some (sym (is_out (total (opens k) (set views by v')) (part_at k (stage_now k (set views by v'))) (omega (arith, more)))))
+      (λ away. let z : times k ps ≡ 0 = (let t : times k ps < 1 = lt_of_not-le away in omega arith) in
+      home_else homes [] xs k (free_of part_at ps (λ k. stage_now k views) k z) ∙ h k l
+      ∙ (λ i. some (home_of (sym (let e : total (opens k) (set views by v') ≡ total (opens k) views = omega (arith, more, z) in e) i) (part_at k (sym same i)))))
 
   -- a finish that brings home each part at its next stage; those that the unit doesn't move come home as they went
   pub finishes_homes : (slots by c : ℕ) (ps : List ℕ) (homes : List (Option S)) (views : List V) (v v' : V) → Homes slots homes views → get_elem? views by ≡ some v → Once slots ps → c < Q
@@ -91,14 +92,14 @@ module _ {S V : Type 0} (Q : ℕ) (moves : ℕ → ℕ → ℕ) (part_at : ℕ �
       let fewer : total (opens k) (set views by v') + times k ps ≡ total (opens k) views = omega (arith, total_set (opens k) views by v v' at, gives_back k) in
       let gone : AllOut homes ys = every_out ps o (λ j t. t) in
       subst (λ (zs : List (ℕ × S)). get_elem? (homes_after homes zs (gives_all (length zs))) k ≡ some (home_of (total (opens k) (set views by v')) (part_at k (stage_now k (set views by v'))))) (sym e)
-          (dite (dec_le 1 (times k ps))
-              (λ here. let q = mine k here in
-                  home_at part_at (homes_after homes ys (gives_all (length ys))) ps m k here (all_given homes ys (apart_of part_at slots ps m o) gone)
-                  ∙ ap some (sym (is_in (total (opens k) (set views by v')) (part_at k (stage_now k (set views by v'))) (omega (arith, fewer, q.0, q.1)) ∙ (λ i. some (part_at k (later i))))))
-              (λ away. let z : times k ps ≡ 0 = (let t : times k ps < 1 = lt_of_not-le away in omega arith) in
-                  let as_was : stage_now k (set views by v') ≡ stage_now k views = omega (arith, later, others k z) in
-                  given_else homes ys k (free_of part_at ps m k z) ∙ h k l
-                  ∙ (λ i. some (home_of (sym (let s : total (opens k) (set views by v') ≡ total (opens k) views = omega (arith, fewer, z) in s) i) (part_at k (sym as_was i))))))
+      (dite (dec_le 1 (times k ps))
+      (λ here. let q = mine k here in
+      home_at part_at (homes_after homes ys (gives_all (length ys))) ps m k here (all_given homes ys (apart_of part_at slots ps m o) gone)
+      ∙ ap some (sym (is_in (total (opens k) (set views by v')) (part_at k (stage_now k (set views by v'))) (omega (arith, fewer, q.0, q.1)) ∙ (λ i. some (part_at k (later i))))))
+      (λ away. let z : times k ps ≡ 0 = (let t : times k ps < 1 = lt_of_not-le away in omega arith) in
+      let as_was : stage_now k (set views by v') ≡ stage_now k views = omega (arith, later, others k z) in
+      given_else homes ys k (free_of part_at ps m k z) ∙ h k l
+      ∙ (λ i. some (home_of (sym (let s : total (opens k) (set views by v') ≡ total (opens k) views = omega (arith, fewer, z) in s) i) (part_at k (sym as_was i))))))
     where
       every_out : (ks : List ℕ) → Once slots ks → ((j : ℕ) → 1 ≤ times j ks → 1 ≤ times j ps) → AllOut homes (parts_of part_at ks (λ k. stage_now k views + moves k c))
       every_out [] o t = tt

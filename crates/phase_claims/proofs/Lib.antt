@@ -10,3 +10,6 @@ pub mod PlacesFree
 pub mod PlacesSteps
 pub mod PlacesUnit
 pub mod PlacesStart
+pub mod PlacesSums
+pub mod PlacesPosted
+pub mod PlacesPosting

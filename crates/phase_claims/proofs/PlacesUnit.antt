@@ -83,9 +83,6 @@ module _ (k : Scope) where
         ∙ ap (λ xs. (a, Cell (cell_at p a s)) ∷ xs) (links_parts (stage_before p c) F links
         (λ l h. part_mail l (stage_before p c (mail_slot p l)) (within l h) ∙ ap (λ x. Mail (mail_at p l x)) (m.mail_stage l (within l h)) ∙ ap (λ x. Mail x) (is l)))
 
-
-
-
     cell_later : stage_before p c a + moves p a c ≡ suc s
     cell_later = omega (arith, m.cell_stage a m.node, m.cell_moves a m.node, at_self a)
 

@@ -6,3 +6,4 @@ pub mod Passes
 pub mod Floors
 pub mod PlacesHeld
 pub mod PlacesHome
+pub mod PlacesCounted

@@ -6,8 +6,9 @@ use Rattle.dta_model.specs.Units.{mail_slot}
 use Rattle.dta_model.specs.declared.plan.Plan.{Plan}
 use Rattle.node_transfer.specs.Cells.{CellState}
 use Rattle.node_transfer.specs.declared.mail.Mail as mail
+use Rattle.monitors.specs.Posted.{Known}
 use Rattle.phase_claims.specs.declared.part.Part.{Part}
-use Rattle.phase_claims.specs.declared.part.Part.TheVariants.{Cell, Mail, Out}
+use Rattle.phase_claims.specs.declared.part.Part.TheVariants.{Cell, Mail, Out, Writer}
 
 -- the same seat of the same table, with the same view
 pub record IsSameSeat {V : Type 0} (old new : Seat Part V) : Type 0 where
@@ -15,12 +16,15 @@ pub record IsSameSeat {V : Type 0} (old new : Seat Part V) : Type 0 where
   pub id : new.id ≡ old.id
   pub view : new.me.0 ≡ old.me.0
 
--- the first place is that slot, and mail lies in it, or a cell, or nothing
+-- the first place is that slot, and mail lies in it, or a cell, the writer's pass, or nothing
 abbrev pub HoldsMail : ℕ → List (ℕ × Part) → Type 0
 HoldsMail slot held = (m : mail.Mail) × (held ≡ (slot, Mail m) ∷ rest held)
 
 abbrev pub HoldsCell : ℕ → List (ℕ × Part) → Type 0
 HoldsCell slot held = (c : CellState) × (held ≡ (slot, Cell c) ∷ rest held)
+
+abbrev pub HoldsWriter : ℕ → List (ℕ × Part) → Type 0
+HoldsWriter slot held = (w : Known) × (held ≡ (slot, Writer w) ∷ rest held)
 
 abbrev pub HoldsNothing : ℕ → List (ℕ × Part) → Type 0
 HoldsNothing slot held = held ≡ (slot, Out) ∷ rest held

@@ -14,6 +14,7 @@ use crate::pass::Pass;
 use crate::rule::{Bound, Cut, Draw, Finish, Glue, Key, Look, PassSeat, Words};
 use crate::start::parts_at_start;
 use crate::unit::{Open, Unit};
+use crate::work_posting::post_held;
 use crate::work_unit::{gather_held, transfer_held};
 use atomic_table::Table;
 use claim_core::{UnitKind, Units};
@@ -186,6 +187,27 @@ impl<'a> Floor<'a> {
         }
     }
 
+    // Does the work of a posting, on the slots that a seat has for it.
+    #[tactic(auto, unfolding(dta_model::specs::Units::unit_count))]
+    fn do_posting<R: Wait>(&self, rt: &R, seat: &mut PassSeat, number: u64)
+        requires table { seat.old.table_id ≡ self.now.table }
+        requires number { number < unit_count self.now.scope.plan }
+        requires kind { kind_at self.now.scope.plan number ≡ UnitKind.Posting }
+        requires held { seat.old.me.1 ≡ carried self.now.scope (Stage.Open number) }
+        ensures seat { IsSameSeat seat.old seat.new }
+        ensures done { seat.new.me.1 ≡ brought self.now.scope number }
+    {
+        let step = self.units.step_of(number);
+        post_held(
+            rt,
+            &self.table.shared,
+            seat,
+            &self.loading,
+            self.board,
+            step,
+        );
+    }
+
     // Finishes the unit that a seat has open, once its work is done: its slots come home.
     fn finish(&self, seat: &mut PassSeat)
         requires table { seat.old.table_id ≡ self.now.table }
@@ -216,13 +238,17 @@ impl<'a> Floor<'a> {
     }
 
     /// Performs the unit that the pass has open, a posting, and finishes it.
-    pub fn perform_posting<R: Wait>(&self, _rt: &R, pass: &mut Pass)
+    pub fn perform_posting<R: Wait>(&self, rt: &R, pass: &mut Pass)
         requires own { IsOf self.now pass.old }
         requires open { IsOpen pass.old.view.stage }
         requires kind { kind_in pass.old.view ≡ UnitKind.Posting }
         ensures table { pass.new.table ≡ pass.old.table }
         ensures done { pass.new.view ≡ done_with pass.old.view }
     {
+        let Stage::Open(number) = pass.stage else {
+            unreachable!()
+        };
+        self.do_posting(rt, &mut pass.seat, number);
         self.finish(&mut pass.seat);
         pass.stage = Stage::Idle;
     }

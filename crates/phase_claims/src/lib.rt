@@ -17,7 +17,9 @@ mod start;
 mod unit;
 mod view;
 mod work;
+mod work_counts;
 mod work_links;
+mod work_posting;
 mod work_unit;
 
 pub use claim_core::UnitKind;

@@ -44,7 +44,7 @@ pub(crate) fn give_mail<V, K, P: TableRule<Part, V, K>>(
     seat.turn();
 }
 
-/// Takes the cell out of the first slot that the seat holds, and turns to the next one.
+/// Takes the cell out of the first slot that the seat holds, which stays the first one.
 pub(crate) fn take_cell<V, K, P: TableRule<Part, V, K>>(
     shared: &Shared<Part, V, K, P>,
     seat: &mut Seat<Part, V>,
@@ -54,12 +54,11 @@ pub(crate) fn take_cell<V, K, P: TableRule<Part, V, K>>(
     requires held { HoldsCell slot seat.old.me.1 }
     ensures seat { IsSameSeat seat.old seat.new }
     ensures cell { seat.old.me.1 ≡ (slot, Part.Cell result) ∷ rest seat.old.me.1 }
-    ensures held { seat.new.me.1 ≡ turned ((slot, Part.Out) ∷ rest seat.old.me.1) }
+    ensures held { seat.new.me.1 ≡ (slot, Part.Out) ∷ rest seat.old.me.1 }
 {
     let Part::Cell(cell) = shared.exchange(seat, slot, Part::Out) else {
         unreachable!()
     };
-    seat.turn();
     cell
 }
 

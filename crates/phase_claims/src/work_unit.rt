@@ -33,6 +33,7 @@ pub(crate) fn transfer_held<V, K, P: TableRule<Part, V, K>>(
         (batch_of (plan_of loading.now) step) (outs_of (plan_of loading.now) node.0) }
 {
     let mut cell = take_cell(shared, seat, node.0 as usize);
+    seat.turn();
     fill_outs(shared, seat, loading, node, step, &mut cell);
     cell.transfer(step);
     seat.turn();
@@ -60,6 +61,7 @@ pub(crate) fn gather_held<V, K, P: TableRule<Part, V, K>>(
         (room_of (plan_of loading.now) (suc step)) (ins_of (plan_of loading.now) node.0) }
 {
     let mut cell = take_cell(shared, seat, node.0 as usize);
+    seat.turn();
     fill_ins(shared, seat, loading, node, step, &mut cell);
     cell.gather(step);
     seat.turn();

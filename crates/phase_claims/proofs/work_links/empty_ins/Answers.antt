@@ -26,9 +26,9 @@ loop-place-preserved g c =
     let made = ins-before p c.args.node.0 (suc c.args.step) away in (
       stays c.args.seat.now c.loop-place.seat c.give_mail.new.seat c.loop-place.invariant.0 c.give_mail.ensures.seat,
       mail_collected made (room_of p (suc c.args.step)) c.ins-ins.result.now c.ins-ins.ensures c.node_count-nodes.result c.node_count-nodes.ensures.count ((c.args.node.0, Out) ∷ []) c.loop-place.place
-      c.loop-place-test.true c.loop-place.cell c.give_in-room.new.self c.loop-place.invariant.1 c.give_in-room.ensures.away,
+          c.loop-place-test.true c.loop-place.cell c.give_in-room.new.self c.loop-place.invariant.1 c.give_in-room.ensures.away,
       mail_round made (room_of p (suc c.args.step)) c.ins-ins.result.now c.ins-ins.ensures c.node_count-nodes.result c.node_count-nodes.ensures.count ((c.args.node.0, Out) ∷ []) c.loop-place.place
-      c.loop-place-test.true c.give_in-room.result c.loop-place.cell c.loop-place.seat.me.1 c.give_mail.new.seat.me.1 c.loop-place.invariant.1 c.give_in-room.ensures.mail c.loop-place.invariant.2 c.give_mail.ensures.held,
+          c.loop-place-test.true c.give_in-room.result c.loop-place.cell c.loop-place.seat.me.1 c.give_mail.new.seat.me.1 c.loop-place.invariant.1 c.give_in-room.ensures.mail c.loop-place.invariant.2 c.give_mail.ensures.held,
     )
 
 pub returns-clause-cell : goal.returns-clause-cell

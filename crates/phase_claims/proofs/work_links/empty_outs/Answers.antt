@@ -26,9 +26,9 @@ loop-place-preserved g c =
     let made = outs-after p c.args.node.0 c.args.step away in (
       stays c.args.seat.now c.loop-place.seat c.give_mail.new.seat c.loop-place.invariant.0 c.give_mail.ensures.seat,
       mail_collected made (batch_of p c.args.step) c.outs-outs.result.now c.outs-outs.ensures c.node_count-nodes.result c.node_count-nodes.ensures.count ((c.args.node.0, Out) ∷ []) c.loop-place.place
-      c.loop-place-test.true c.loop-place.cell c.give_out-batch.new.self c.loop-place.invariant.1 c.give_out-batch.ensures.away,
+          c.loop-place-test.true c.loop-place.cell c.give_out-batch.new.self c.loop-place.invariant.1 c.give_out-batch.ensures.away,
       mail_round made (batch_of p c.args.step) c.outs-outs.result.now c.outs-outs.ensures c.node_count-nodes.result c.node_count-nodes.ensures.count ((c.args.node.0, Out) ∷ []) c.loop-place.place
-      c.loop-place-test.true c.give_out-batch.result c.loop-place.cell c.loop-place.seat.me.1 c.give_mail.new.seat.me.1 c.loop-place.invariant.1 c.give_out-batch.ensures.mail c.loop-place.invariant.2 c.give_mail.ensures.held,
+          c.loop-place-test.true c.give_out-batch.result c.loop-place.cell c.loop-place.seat.me.1 c.give_mail.new.seat.me.1 c.loop-place.invariant.1 c.give_out-batch.ensures.mail c.loop-place.invariant.2 c.give_mail.ensures.held,
     )
 
 pub returns-clause-cell : goal.returns-clause-cell

@@ -33,9 +33,9 @@ loop-place-preserved g c =
     let made = ins-after p c.args.node.0 c.args.step away in (
       stays c.args.seat.now c.loop-place.seat c.take_mail-mail.new.seat c.loop-place.invariant.0 c.take_mail-mail.ensures.seat,
       mail_lent made (batch_of p c.args.step) c.ins-ins.result.now c.ins-ins.ensures c.node_count-nodes.result c.node_count-nodes.ensures.count ((c.args.node.0, Out) ∷ []) c.loop-place.place
-      c.loop-place-test.true c.loop-place.seat.me.1 c.take_mail-mail.result c.loop-place.cell c.take_in.new.self c.loop-place.invariant.2 c.take_mail-mail.ensures.mail c.loop-place.invariant.1 c.take_in.ensures,
+          c.loop-place-test.true c.loop-place.seat.me.1 c.take_mail-mail.result c.loop-place.cell c.take_in.new.self c.loop-place.invariant.2 c.take_mail-mail.ensures.mail c.loop-place.invariant.1 c.take_in.ensures,
       out_round made (batch_of p c.args.step) c.ins-ins.result.now c.ins-ins.ensures c.node_count-nodes.result c.node_count-nodes.ensures.count ((c.args.node.0, Out) ∷ []) c.loop-place.place
-      c.loop-place-test.true c.loop-place.seat.me.1 c.take_mail-mail.new.seat.me.1 c.loop-place.invariant.2 c.take_mail-mail.ensures.held,
+          c.loop-place-test.true c.loop-place.seat.me.1 c.take_mail-mail.new.seat.me.1 c.loop-place.invariant.2 c.take_mail-mail.ensures.held,
     )
 
 pub returns-clause-cell : goal.returns-clause-cell
