@@ -1,5 +1,5 @@
 -- Lists of views, and how often they hold and perform a unit.
-use Rattle.std.proofs.Common.{◌≡◌, ◌≢◌, ℕ, suc, ◌+◌, ◌<◌, ◌≤◌, Bool, true, false, List, [], ◌∷◌, ◌++◌, set, refl, sym, ap, ◌∙◌, subst, ⊎_elim, arith}
+use Rattle.std.proofs.Common.{◌≡◌, ◌≢◌, ℕ, ◌<◌, ◌≤◌, true, false, List, set, refl, sym, ap, ◌∙◌, subst, ⊎_elim, arith}
 use Rattle.std.proofs.lemmas.Bool.Decides.{nat_tests}
 use mathlib.Core.Option.{some}
 use lib.ListN.{get_elem?}
@@ -10,7 +10,6 @@ use Rattle.dta_model.specs.declared.machine.Stage.TheVariants as stage
 use Rattle.claim_core.specs.Claimed.{Claimed}
 use Rattle.claim_core.specs.Sums.{is_at, once_below, one_if}
 use Rattle.claim_core.proofs.Cuts.{below_same}
-use Rattle.claim_core.proofs.Sums.{at_self}
 use Rattle.phase_claims.specs.declared.view.View.{View}
 use Rattle.phase_claims.specs.Passes.{holds_no_unit}
 use Rattle.phase_claims.specs.Views.{both_stages}

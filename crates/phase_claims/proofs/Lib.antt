@@ -13,3 +13,4 @@ pub mod PlacesStart
 pub mod PlacesSums
 pub mod PlacesPosted
 pub mod PlacesPosting
+pub mod Machines

@@ -1,5 +1,5 @@
 -- Each step on the words keeps the running rule.
-use Rattle.std.proofs.Common.{◌≡◌, ◌≢◌, ℕ, zero, suc, ◌+◌, ◌-◌, ◌<◌, ◌≤◌, min, max, true, false, List, [], ◌∷◌, ◌++◌, length, length-append, set, refl, sym, ap, ◌∙◌, subst, ⊎_elim, lt_of_not-le, arith}
+use Rattle.std.proofs.Common.{◌≡◌, ◌≢◌, ℕ, zero, suc, ◌+◌, ◌-◌, ◌<◌, ◌≤◌, min, true, List, [], ◌∷◌, ◌++◌, length, length-append, set, refl, sym, ap, ◌∙◌, subst, ⊎_elim, lt_of_not-le, arith}
 use Rattle.std.proofs.lemmas.Bool.Decides.{nat_tests}
 use mathlib.Core.Option.{some, some-injective, some-ne-none}
 use mathlib.Core.Logic.{dite}
@@ -20,8 +20,8 @@ use Rattle.phase_claims.specs.declared.view.Scope.{Scope}
 use Rattle.phase_claims.specs.declared.view.View.{View}
 use Rattle.phase_claims.specs.Passes.{holds_no_unit}
 use Rattle.phase_claims.specs.Running.{FitsPast, FitsView, Running}
-use Rattle.phase_claims.specs.Views.{beginning, both_stages, done_with, ended, having_open, held_by, holding, holds, joined, less_spare, nobody, performed_by, performed_count, performs, rights, seeing, unit_in}
-use Rattle.phase_claims.proofs.Counts.{claimed_same, each_set, holds_held, holds_none, holds_open, none_both, not_open, once_here, once_in, once_le}
+use Rattle.phase_claims.specs.Views.{beginning, both_stages, ended, held_by, holding, holds, joined, less_spare, nobody, performed_by, performed_count, performs, rights, seeing}
+use Rattle.phase_claims.proofs.Counts.{claimed_same, each_set, holds_held, holds_none, holds_open, none_both, not_open, once_here, once_in}
 
 module _ (k : Scope) (w n : ℕ) (views : List View) (r : Running k w n views) where
   abbrev N : ℕ

@@ -1,9 +1,12 @@
 pub mod Scopes
 pub mod Views
 pub mod Running
+pub mod Laws
 pub mod Plays
 pub mod Passes
 pub mod Floors
 pub mod PlacesHeld
 pub mod PlacesHome
 pub mod PlacesCounted
+pub mod Tried
+pub mod Examples

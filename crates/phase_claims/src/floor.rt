@@ -221,7 +221,8 @@ impl<'a> Floor<'a> {
         self.table.shared.fetch_add::<Finish>(seat, 2, 1);
     }
 
-    /// Performs the unit that the pass has open, a transfer or a gather, and finishes it.
+    /// Performs the unit that the pass has open, a transfer or a gather: takes its parts, does its
+    /// work, brings them home and finishes it.
     pub fn perform(&self, pass: &mut Pass)
         requires own { IsOf self.now pass.old }
         requires open { IsOpen pass.old.view.stage }
@@ -237,7 +238,8 @@ impl<'a> Floor<'a> {
         pass.stage = Stage::Idle;
     }
 
-    /// Performs the unit that the pass has open, a posting, and finishes it.
+    /// Performs the unit that the pass has open, a posting: counts the cells, posts the state to the
+    /// floor's board and finishes it.
     pub fn perform_posting<R: Wait>(&self, rt: &R, pass: &mut Pass)
         requires own { IsOf self.now pass.old }
         requires open { IsOpen pass.old.view.stage }

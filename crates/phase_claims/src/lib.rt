@@ -10,6 +10,7 @@
 #![tactic(auto)]
 
 mod floor;
+mod laws;
 mod part;
 mod pass;
 mod rule;
@@ -24,5 +25,12 @@ mod work_unit;
 
 pub use claim_core::UnitKind;
 pub use floor::{Floor, MOST_PASSES};
+pub use laws::{
+    earlier_units_are_performed, finished_units_are_counted, finished_units_are_performed,
+    passes_are_apart,
+};
 pub use pass::Pass;
 pub use unit::{Open, Unit};
+
+#[cfg(test)]
+mod tests;

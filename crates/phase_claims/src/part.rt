@@ -2,8 +2,8 @@
 use monitors::WriterPass;
 use node_transfer::{Mail, NodeCell};
 
-/// What a slot holds: a node's cell, a link's mail, the writer's pass, or nothing while a unit is at
-/// work on it.
+/// What a slot holds: a node's cell, a link's mail, the writer's pass, or nothing while a unit is
+/// at work on it.
 #[derive(Drop)]
 pub enum Part {
     Out,

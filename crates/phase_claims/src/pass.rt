@@ -5,8 +5,8 @@ use crate::rule::PassSeat;
 use dta_model::Stage;
 use std::marker::Model;
 
-/// The right to claim, open and perform units of a floor. To a contract it is its floor's table, and
-/// what it knows.
+/// The right to claim, open and perform units of a floor. To a contract it is its floor's table,
+/// and what it knows.
 #[derive(Drop)]
 pub struct Pass {
     pub(crate) seat: PassSeat,
