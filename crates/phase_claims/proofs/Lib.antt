@@ -14,3 +14,5 @@ pub mod PlacesSums
 pub mod PlacesPosted
 pub mod PlacesPosting
 pub mod Machines
+pub mod PlacesClosed
+pub mod PlacesEnd

@@ -10,3 +10,4 @@ pub mod PlacesHome
 pub mod PlacesCounted
 pub mod Tried
 pub mod Examples
+pub mod PlacesClosed

@@ -18,6 +18,7 @@ mod start;
 mod unit;
 mod view;
 mod work;
+mod work_close;
 mod work_counts;
 mod work_links;
 mod work_posting;
