@@ -17,6 +17,12 @@ mod rule;
 mod start;
 mod unit;
 mod view;
+mod work;
+mod work_close;
+mod work_counts;
+mod work_links;
+mod work_posting;
+mod work_unit;
 
 pub use claim_core::UnitKind;
 pub use floor::{Floor, MOST_PASSES};
