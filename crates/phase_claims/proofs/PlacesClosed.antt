@@ -14,11 +14,11 @@ use Rattle.dta_model.specs.Sound.{IsSound}
 use Rattle.dta_model.specs.Units.{node_count}
 use Rattle.dta_model.specs.declared.loaded.Journey.{Journey}
 use Rattle.dta_model.specs.declared.plan.Plan.{Plan}
-use Rattle.node_transfer.specs.Cells.{CellState}
-use Rattle.node_transfer.specs.Contents.{away, cell_before}
+use Rattle.cell_stages.specs.CellState.{CellState}
+use Rattle.cell_stages.specs.Contents.{away, cell_before}
 use Rattle.node_transfer.specs.Hand.{Within, handed, riders_in}
 use Rattle.node_transfer.specs.Start.{no_journeys}
-use Rattle.node_transfer.proofs.HandOver.{cells_hand_over, handed-length}
+use Rattle.node_transfer.proofs.OfHandOver.HandOver.{cells_hand_over, handed-length}
 use Rattle.claim_core.proofs.Counts.{range_more}
 use Rattle.phase_claims.specs.declared.part.Part.{Part}
 use Rattle.phase_claims.specs.declared.part.Part.TheVariants.{Cell}

@@ -5,17 +5,17 @@ use mathlib.Core.Option.{some, some-injective}
 use lib.ListN.{get_elem?}
 use Rattle.atomic_table.specs.Table.{State}
 use Rattle.atomic_table.proofs.Lists.{set_else}
-use Rattle.dta_model.specs.Units.{mail_slot, node_count, posting_slot, step_units, unit_count}
+use Rattle.dta_model.specs.Units.{mail_part, node_count, posting_part, step_units, unit_count}
 use Rattle.dta_model.specs.declared.machine.Stage.{Stage}
 use Rattle.dta_model.specs.declared.machine.Stage.TheVariants as stage
 use Rattle.dta_model.specs.declared.plan.Plan.{Plan}
-use Rattle.node_transfer.specs.Contents.{away, cell_at, cell_before}
-use Rattle.node_transfer.proofs.TwoStages.{steps_have_two_stages}
+use Rattle.cell_stages.specs.Contents.{away, cell_at, cell_before}
+use Rattle.cell_stages.proofs.TwoStages.{steps_have_two_stages}
 use Rattle.claim_core.specs.Parts.{moves, stage_of}
 use Rattle.claim_core.specs.Sums.{below, is_at, once_below, total}
 use Rattle.claim_core.proofs.Claimed.{finished_le}
 use Rattle.claim_core.proofs.Cuts.{below_same}
-use Rattle.claim_core.proofs.Slots.{at_place, of_whole_steps, step_cell, step_posting}
+use Rattle.claim_core.proofs.Parts.{at_place, of_whole_steps, step_cell, step_posting}
 use Rattle.claim_core.proofs.Sums.{full, total_at, total_only, total_set}
 use Rattle.phase_claims.specs.declared.part.Part.{Part}
 use Rattle.phase_claims.specs.declared.part.Part.TheVariants.{Cell, Writer}
@@ -96,7 +96,7 @@ module _ (k : Scope) (s : State Part View) (h : Holds k s) (id : ℕ) (v : View)
         (λ u l. ap (λ d. moves k.plan slot u * d) (own_performed u ∙ each_once u ∙ once_in u Q l) ∙ omega arith)
         ∙ of_whole_steps k.plan slot k.plan.horizon
 
-    home : (slot : ℕ) → slot < suc (posting_slot k.plan) → get_elem? s.homes slot ≡ some (some (part_at k slot (k.plan.horizon * below (step_units (node_count k.plan)) (at_place k.plan slot))))
+    home : (slot : ℕ) → slot < suc (posting_part k.plan) → get_elem? s.homes slot ≡ some (some (part_at k slot (k.plan.horizon * below (step_units (node_count k.plan)) (at_place k.plan slot))))
     home slot l =
         let none : total (λ u. has_slot k.plan slot u.stage) s.views ≡ 0 = own_total (λ u. has_slot k.plan slot u.stage) refl ∙ no_slot k.plan slot v.stage free in
         h.homes slot l ∙ (λ i. some (home_of (none i) (part_at k slot (last_stage slot i))))
@@ -108,9 +108,9 @@ module _ (k : Scope) (s : State Part View) (h : Holds k s) (id : ℕ) (v : View)
           values n (part_at k n (k.plan.horizon * below (step_units (node_count k.plan)) (at_place k.plan n))) (home n (omega (arith, l)))
           ∙ ap (λ x. some x) (part_cell k n (k.plan.horizon * below (step_units (node_count k.plan)) (at_place k.plan n)) l ∙ ap (λ x. Cell (cell_at k.plan n x)) two ∙ ap (λ x. Cell x) ((steps_have_two_stages k.plan k.plan.horizon).0.cell n))
 
-      pub last_writer : get_elem? parts (posting_slot k.plan) ≡ some (Writer (record { board = k.board; list = posted_in k.plan k.plan.horizon }))
+      pub last_writer : get_elem? parts (posting_part k.plan) ≡ some (Writer (record { board = k.board; list = posted_in k.plan k.plan.horizon }))
       last_writer =
-          let slot : ℕ = posting_slot k.plan in
+          let slot : ℕ = posting_part k.plan in
           let one : k.plan.horizon * below (step_units (node_count k.plan)) (at_place k.plan slot) ≡ k.plan.horizon = ap (λ x. k.plan.horizon * x) (step_posting k.plan) ∙ omega arith in
           values slot (part_at k slot (k.plan.horizon * below (step_units (node_count k.plan)) (at_place k.plan slot))) (home slot (omega arith))
           ∙ ap (λ x. some x) (part_writer k (k.plan.horizon * below (step_units (node_count k.plan)) (at_place k.plan slot)) ∙ ap (λ x. Writer (record { board = k.board; list = posted_in k.plan x })) one)

@@ -7,7 +7,7 @@ use native.Mathlib.Decide.{dec_le}
 use lib.ListN.{get_elem?}
 use Rattle.atomic_table.proofs.Lists.{set_else}
 use Rattle.dta_model.specs.Machine.{holds_unit}
-use Rattle.dta_model.specs.Units.{node_count, phase_end, phase_start, places, posting_slot, unit_count}
+use Rattle.dta_model.specs.Units.{node_count, phase_end, phase_start, places, posting_part, unit_count}
 use Rattle.dta_model.specs.declared.machine.Stage.{Stage}
 use Rattle.dta_model.specs.declared.machine.Stage.TheVariants as stage
 use Rattle.claim_core.specs.Parts.{moves, stage_before, stage_of}
@@ -15,7 +15,7 @@ use Rattle.claim_core.specs.Sums.{is_at, once_below, one_if, times, total}
 use Rattle.claim_core.proofs.Phases.{same_start, same_stop}
 use Rattle.claim_core.proofs.Places.{Rises, moved_is_placed, none_lower, one_has_it, places_in_order}
 use Rattle.claim_core.proofs.Stages.{stage_held}
-use Rattle.claim_core.proofs.Slots.{at_is}
+use Rattle.claim_core.proofs.Parts.{at_is}
 use Rattle.claim_core.proofs.Sums.{at_self, total_at, total_only, total_set}
 use Rattle.phase_claims.specs.declared.view.Scope.{Scope}
 use Rattle.phase_claims.specs.declared.view.View.{View}
@@ -30,8 +30,8 @@ once_of : (low slots : ℕ) (ks : List ℕ) → Rises low slots ks → Once slot
 once_of low slots [] r = tt
 once_of low slots (k ∷ ks) r = (r.1, none_lower (suc k) slots ks r.2 k (omega arith), once_of (suc k) slots ks r.2)
 
-pub places_once : (k : Scope) (c : ℕ) → Once (suc (posting_slot k.plan)) (places k.plan c)
-places_once k c = once_of 0 (suc (posting_slot k.plan)) (places k.plan c) (places_in_order k.plan c)
+pub places_once : (k : Scope) (c : ℕ) → Once (suc (posting_part k.plan)) (places k.plan c)
+places_once k c = once_of 0 (suc (posting_part k.plan)) (places k.plan c) (places_in_order k.plan c)
 
 pub one_place : (slots : ℕ) (ks : List ℕ) → Once slots ks → (slot : ℕ) → times slot ks ≤ 1
 one_place slots [] o slot = omega arith

@@ -11,11 +11,11 @@ use Rattle.dta_model.specs.Loading.{trace_after}
 use Rattle.dta_model.specs.Plans.{all_nodes, link_at}
 use Rattle.dta_model.specs.Sound.{IsSound}
 use Rattle.dta_model.specs.State.{count_on, eight_after, eight_in}
-use Rattle.dta_model.specs.Units.{node_count, posting_slot}
+use Rattle.dta_model.specs.Units.{node_count, posting_part}
 use Rattle.dta_model.specs.declared.eight.Eight.{Eight}
 use Rattle.dta_model.specs.declared.plan.Plan.{Plan}
-use Rattle.node_transfer.specs.Cells.{CellState}
-use Rattle.node_transfer.specs.Contents.{away, cell_before}
+use Rattle.cell_stages.specs.CellState.{CellState}
+use Rattle.cell_stages.specs.Contents.{away, cell_before}
 use Rattle.monitors.specs.Posted.{IsLater, Known}
 use Rattle.claim_core.proofs.Counts.{range_more}
 use Rattle.phase_claims.specs.declared.part.Part.{Part}
@@ -99,7 +99,7 @@ later_than p (suc n) a t h e s =
 
 -- past the last cell
 module _ (p : Plan) (sound : IsSound p) (board : TableId) (t N L n : ℕ) (nodes : N ≡ node_count p) (links : L ≡ length p.net.links) (over : N ≤ n) (l : List (ℕ × Part)) (is : l ≡ midway (cell_place p (suc t)) (cell_place p (suc t)) (writer_place p board t ∷ []) (all_nodes p) n) where
-  slot_is : posting_slot p ≡ N + L
+  slot_is : posting_part p ≡ N + L
   slot_is = omega (arith, nodes, links)
 
   last : l ≡ writer_place p board t ∷ map (cell_place p (suc t)) (all_nodes p)

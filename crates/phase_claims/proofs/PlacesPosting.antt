@@ -5,19 +5,20 @@ use Rattle.std.proofs.lemmas.Bool.Decides.{nat_tests}
 use Rattle.net_core.specs.Network.{numbers_below}
 use Rattle.dta_model.specs.Plans.{all_nodes}
 use Rattle.dta_model.specs.Sound.{IsSound}
-use Rattle.dta_model.specs.Units.{Posting, Task, node_count, phase_begins, places, places_in, posting_slot, step_of, step_units, task_of, unit_count}
+use Rattle.dta_model.specs.Units.{Posting, Task, node_count, phase_begins, places, places_in, posting_part, step_of, step_units, task_of, unit_count}
 use Rattle.dta_model.specs.declared.machine.Stage.TheVariants as stage
 use Rattle.dta_model.specs.declared.plan.Plan.{Plan}
 use Rattle.atomic_table.specs.Seated.{TableId}
-use Rattle.node_transfer.specs.Contents.{away, cell_at, cell_before}
-use Rattle.node_transfer.proofs.TwoStages.{steps_have_two_stages}
+use Rattle.cell_stages.specs.Contents.{away, cell_at, cell_before}
+use Rattle.cell_stages.proofs.TwoStages.{steps_have_two_stages}
 use Rattle.claim_core.specs.Kinds.{kind_by}
 use Rattle.claim_core.specs.Parts.{moves, stage_before}
 use Rattle.claim_core.specs.Sums.{below, is_at}
 use Rattle.claim_core.specs.declared.units.UnitKind.{UnitKind}
 use Rattle.claim_core.specs.declared.units.UnitKind.TheVariants as kind
 use Rattle.claim_core.proofs.Apart.{before_is}
-use Rattle.claim_core.proofs.Slots.{at_place, in_task, posts, step_cell, step_posting}
+use Rattle.claim_core.proofs.Parts.{at_place, in_task, step_cell, step_posting}
+use Rattle.claim_core.proofs.Parts.{posts}
 use Rattle.claim_core.proofs.Working.{in_time, moves_by, posting_kind}
 use Rattle.phase_claims.specs.declared.part.Part.{Part}
 use Rattle.phase_claims.specs.declared.part.Part.TheVariants.{Cell, Writer}
@@ -43,7 +44,7 @@ module _ (k : Scope) (sound : IsSound k.plan) (c t : ℕ) (now : step_of (node_c
   abbrev N : ℕ
   N = node_count p
 
-  places_are : places p c ≡ all_nodes p ++ posting_slot p ∷ []
+  places_are : places p c ≡ all_nodes p ++ posting_part p ∷ []
   unfolding places
   places_are = ap (λ x. places_in p x) e
 
@@ -62,18 +63,18 @@ module _ (k : Scope) (sound : IsSound k.plan) (c t : ℕ) (now : step_of (node_c
   cell_before_it : (n : ℕ) → n < N → stage_before p c n ≡ 2 * suc t
   cell_before_it n h =
       let two : below (step_units N) (at_place p n) ≡ 2 = step_cell p n h in
-      let rest : below (N + N) (at_place p n) ≡ 2 = omega (arith, two, last_of_step n, no_part n (posting_slot p) (omega (arith, h))) in
+      let rest : below (N + N) (at_place p n) ≡ 2 = omega (arith, two, last_of_step n, no_part n (posting_part p) (omega (arith, h))) in
       let steps : step_of N c * below (step_units N) (at_place p n) ≡ t * 2 = ap (λ x. step_of N c * x) two ∙ ap (λ x. x * 2) now in
       omega (arith, before n, rest, steps)
 
-  writer_before_it : stage_before p c (posting_slot p) ≡ t
+  writer_before_it : stage_before p c (posting_part p) ≡ t
   writer_before_it =
-      let one : below (step_units N) (at_place p (posting_slot p)) ≡ 1 = step_posting p in
-      let rest : below (N + N) (at_place p (posting_slot p)) ≡ 0 = omega (arith, one, last_of_step (posting_slot p), self (posting_slot p)) in
-      let steps : step_of N c * below (step_units N) (at_place p (posting_slot p)) ≡ t * 1 = ap (λ x. step_of N c * x) one ∙ ap (λ x. x * 1) now in
-      omega (arith, before (posting_slot p), rest, steps)
+      let one : below (step_units N) (at_place p (posting_part p)) ≡ 1 = step_posting p in
+      let rest : below (N + N) (at_place p (posting_part p)) ≡ 0 = omega (arith, one, last_of_step (posting_part p), self (posting_part p)) in
+      let steps : step_of N c * below (step_units N) (at_place p (posting_part p)) ≡ t * 1 = ap (λ x. step_of N c * x) one ∙ ap (λ x. x * 1) now in
+      omega (arith, before (posting_part p), rest, steps)
 
-  moved : (slot : ℕ) → moves p slot c ≡ is_at slot (posting_slot p) + 0
+  moved : (slot : ℕ) → moves p slot c ≡ is_at slot (posting_part p) + 0
   moved slot = moves_by p sound c 0 Posting e slot
 
   cells_are : (at : ℕ → ℕ) → ((n : ℕ) → n < N → at n ≡ 2 * suc t) → (n a : ℕ) → a + n ≤ N → parts_of (part_at k) (range_with_len a n) at ≡ map (cell_place p (suc t)) (range_with_len a n)
@@ -83,12 +84,12 @@ module _ (k : Scope) (sound : IsSound k.plan) (c t : ℕ) (now : step_of (node_c
       ap (λ x. (a, x) ∷ parts_of (part_at k) (range_with_len (a + 1) n) at) (part_cell k a (at a) l ∙ ap (λ x. Cell (cell_at p a x)) (is a l) ∙ ap (λ x. Cell x) ((steps_have_two_stages p (suc t)).0.cell a))
       ∙ ap (λ xs. cell_place p (suc t) a ∷ xs) (cells_are at is n (a + 1) (omega (arith, h)))
 
-  all_are : (at : ℕ → ℕ) (postings : ℕ) → ((n : ℕ) → n < N → at n ≡ 2 * suc t) → at (posting_slot p) ≡ postings → parts_of (part_at k) (places p c) at ≡ posting_places p k.board (suc t) postings
+  all_are : (at : ℕ → ℕ) (postings : ℕ) → ((n : ℕ) → n < N → at n ≡ 2 * suc t) → at (posting_part p) ≡ postings → parts_of (part_at k) (places p c) at ≡ posting_places p k.board (suc t) postings
   all_are at postings cells writer =
       ap (λ xs. parts_of (part_at k) xs at) places_are
-      ∙ parts_append (part_at k) (all_nodes p) (posting_slot p ∷ []) at
-      ∙ ap (λ xs. xs ++ (posting_slot p, part_at k (posting_slot p) (at (posting_slot p))) ∷ []) (cells_are at cells N 0 (omega arith))
-      ∙ ap (λ x. map (cell_place p (suc t)) (all_nodes p) ++ (posting_slot p, x) ∷ []) (part_writer k (at (posting_slot p)) ∙ ap (λ x. Writer (record { board = k.board; list = posted_in p x })) writer)
+      ∙ parts_append (part_at k) (all_nodes p) (posting_part p ∷ []) at
+      ∙ ap (λ xs. xs ++ (posting_part p, part_at k (posting_part p) (at (posting_part p))) ∷ []) (cells_are at cells N 0 (omega arith))
+      ∙ ap (λ x. map (cell_place p (suc t)) (all_nodes p) ++ (posting_part p, x) ∷ []) (part_writer k (at (posting_part p)) ∙ ap (λ x. Writer (record { board = k.board; list = posted_in p x })) writer)
 
   pub posting_carried : carried k (stage.Open c) ≡ posting_places p k.board (suc t) t
   posting_carried = all_are (stage_before p c) t cell_before_it writer_before_it
@@ -96,8 +97,8 @@ module _ (k : Scope) (sound : IsSound k.plan) (c t : ℕ) (now : step_of (node_c
   pub posting_brought : brought k c ≡ posting_places p k.board (suc t) (suc t)
   posting_brought =
       all_are (λ slot. stage_before p c slot + moves p slot c) (suc t)
-      (λ n h. omega (arith, cell_before_it n h, moved n, no_part n (posting_slot p) (omega (arith, h))))
-      (omega (arith, writer_before_it, moved (posting_slot p), self (posting_slot p)))
+      (λ n h. omega (arith, cell_before_it n h, moved n, no_part n (posting_part p) (omega (arith, h))))
+      (omega (arith, writer_before_it, moved (posting_part p), self (posting_part p)))
 
 -- where the work is done, as for a transfer
 module _ (k k' : Scope) (q : Plan) (shown : TableId) (same : k ≡ k') (plan : q ≡ k.plan) (board : shown ≡ k.board) (sound : IsSound k.plan) (u N t : ℕ) (few : u < unit_count k'.plan) (nodes : N ≡ node_count k.plan) (step : t ≡ step_of N u)

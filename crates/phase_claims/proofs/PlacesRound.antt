@@ -5,15 +5,15 @@ use Rattle.atomic_table.specs.Table.{rest, turned}
 use Rattle.atomic_table.specs.declared.shared.Seat.{Seat}
 use Rattle.net_core.specs.Network.{as_links}
 use Rattle.net_core.specs.declared.rows.LinkNo.{LinkNo}
-use Rattle.dta_model.specs.Units.{mail_slot, node_count}
+use Rattle.dta_model.specs.Units.{mail_part, node_count}
 use Rattle.dta_model.specs.declared.plan.Plan.{Plan}
-use Rattle.node_transfer.specs.Cells.{CellState}
-use Rattle.node_transfer.specs.Contents.{away}
+use Rattle.cell_stages.specs.CellState.{CellState}
+use Rattle.cell_stages.specs.Contents.{away}
 use Rattle.node_transfer.specs.declared.mail.Mail as mail
 use Rattle.node_transfer.specs.declared.mail.Mail.TheVariants.{Away}
-use Rattle.node_transfer.proofs.Exchanges.{emptied-next, filled-next, replaced}
-use Rattle.node_transfer.proofs.Lending.{at-place, is-told, link_of}
-use Rattle.node_transfer.proofs.Parts.{IsMadeOf}
+use Rattle.node_transfer.proofs.OfMail.Exchanges.{emptied-next, filled-next, replaced}
+use Rattle.node_transfer.proofs.OfMail.Lending.{at-place, is-told, link_of}
+use Rattle.node_transfer.proofs.OfMail.Parts.{IsMadeOf}
 use Rattle.phase_claims.specs.PlacesHeld.{HoldsCell, HoldsMail, HoldsNothing, IsSameSeat, empty_place, mail_place, node_places}
 use Rattle.phase_claims.specs.declared.part.Part.{Part}
 use Rattle.phase_claims.specs.declared.part.Part.TheVariants.{Cell, Mail, Out}
@@ -40,7 +40,7 @@ module _ {p : Plan} {n : ℕ} {ends : ℕ → ℕ} {links : List ℕ} {cell : (�
   there : slice_get links j ≡ Some here
   there = at-place made F ls are j within
 
-  slot_is : mail_slot p here ≡ N + here
+  slot_is : mail_part p here ≡ N + here
   slot_is = ap (λ k. k + here) (sym nodes)
 
   -- the mail of the next link is first, and goes into the cell
@@ -73,4 +73,4 @@ module _ {p : Plan} {n : ℕ} {ends : ℕ → ℕ} {links : List ℕ} {cell : (�
   mail_round m c l l' at tells is now =
       let same : m ≡ F here = some_mail m (F here) (sym tells ∙ is-told made F ls are j within c at) in
       round (empty_place p) (mail_place p F) z links j here l l' there is
-      (now ∙ ap (λ k. turned ((k, Mail m) ∷ rest l)) (sym slot_is) ∙ ap (λ x. turned ((mail_slot p here, Mail x) ∷ rest l)) same)
+      (now ∙ ap (λ k. turned ((k, Mail m) ∷ rest l)) (sym slot_is) ∙ ap (λ x. turned ((mail_part p here, Mail x) ∷ rest l)) same)

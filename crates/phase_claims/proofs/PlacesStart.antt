@@ -9,13 +9,13 @@ use lib.ListN.{get_elem?}
 use Rattle.atomic_table.proofs.Lists.{at_longer, at_map}
 use Rattle.net_core.specs.Network.{numbers_below}
 use Rattle.dta_model.specs.Plans.{all_nodes}
-use Rattle.dta_model.specs.Units.{mail_slot, node_count, posting_slot, unit_count}
+use Rattle.dta_model.specs.Units.{mail_part, node_count, posting_part, unit_count}
 use Rattle.dta_model.specs.declared.plan.Plan.{Plan}
-use Rattle.node_transfer.specs.Cells.{CellState}
-use Rattle.node_transfer.specs.Contents.{away, cell_at, cell_before, mail_at, room_of}
+use Rattle.cell_stages.specs.CellState.{CellState}
+use Rattle.cell_stages.specs.Contents.{away, cell_at, cell_before, mail_at, room_of}
 use Rattle.node_transfer.specs.Start.{cells_at_start, rooms_at_start}
 use Rattle.node_transfer.specs.declared.mail.Mail as mail
-use Rattle.node_transfer.proofs.TwoStages.{steps_have_two_stages}
+use Rattle.cell_stages.proofs.TwoStages.{steps_have_two_stages}
 use Rattle.monitors.specs.Posted.{Known}
 use Rattle.claim_core.specs.Parts.{moves, stage_of}
 use Rattle.claim_core.specs.Sums.{total}
@@ -75,31 +75,31 @@ module _ (k : Scope) (writer : Known) (cells : List CellState) (letters : List m
       (at_map Cell cells n (cell_at p n 0) (ap (λ xs. get_elem? xs n) first ∙ below_at (λ m. cell_before p m 0 away away) N n h ∙ ap (λ x. some x) (sym ((steps_have_two_stages p 0).0.cell n) ∙ ap (λ x. cell_at p n x) no_stage)))
       ∙ ap (λ x. some x) (sym (part_cell k n 0 h))
 
-  at_mail : (l : ℕ) → l < L → get_elem? parts (mail_slot p l) ≡ some (part_at k (mail_slot p l) 0)
+  at_mail : (l : ℕ) → l < L → get_elem? parts (mail_part p l) ≡ some (part_at k (mail_part p l) 0)
   at_mail l h =
-      ap (λ xs. get_elem? xs (mail_slot p l)) laid
-      ∙ after_front (map Cell cells) (map Mail letters ++ Writer writer ∷ []) N (mail_slot p l) cell_count (omega arith)
+      ap (λ xs. get_elem? xs (mail_part p l)) laid
+      ∙ after_front (map Cell cells) (map Mail letters ++ Writer writer ∷ []) N (mail_part p l) cell_count (omega arith)
       ∙ ap (λ x. get_elem? (map Mail letters ++ Writer writer ∷ []) x) (let e : N + l - N ≡ l = omega arith in e)
       ∙ at_longer (map Mail letters) (Writer writer ∷ []) l (Mail (mail_at p l 0))
       (at_map Mail letters l (mail_at p l 0) (ap (λ xs. get_elem? xs l) rooms ∙ below_at (room_of p 0) L l h ∙ ap (λ x. some x) (sym ((steps_have_two_stages p 0).0.mail l) ∙ ap (λ x. mail_at p l x) no_stage)))
       ∙ ap (λ x. some x) (sym (part_mail k l 0 h))
 
-  at_writer : get_elem? parts (posting_slot p) ≡ some (part_at k (posting_slot p) 0)
+  at_writer : get_elem? parts (posting_part p) ≡ some (part_at k (posting_part p) 0)
   at_writer =
-      ap (λ xs. get_elem? xs (posting_slot p)) laid
-      ∙ after_front (map Cell cells) (map Mail letters ++ Writer writer ∷ []) N (posting_slot p) cell_count (omega arith)
+      ap (λ xs. get_elem? xs (posting_part p)) laid
+      ∙ after_front (map Cell cells) (map Mail letters ++ Writer writer ∷ []) N (posting_part p) cell_count (omega arith)
       ∙ ap (λ x. get_elem? (map Mail letters ++ Writer writer ∷ []) x) (let e : N + L - N ≡ L = omega arith in e)
       ∙ after_front (map Mail letters) (Writer writer ∷ []) L L mail_count (omega arith)
       ∙ ap (λ x. get_elem? (Writer writer ∷ []) x) (let e : L - L ≡ 0 = omega arith in e)
       ∙ ap (λ x. some (Writer x)) (λ i. record { board = own i; list = new i })
       ∙ ap (λ x. some x) (sym (part_writer k 0))
 
-  at_slot : (slot : ℕ) → slot < suc (posting_slot p) → get_elem? parts slot ≡ some (part_at k slot 0)
+  at_slot : (slot : ℕ) → slot < suc (posting_part p) → get_elem? parts slot ≡ some (part_at k slot 0)
   at_slot slot h = dite (dec_le N slot)
-      (λ past. dite (dec_le (posting_slot p) slot)
-      (λ last. let e : posting_slot p ≡ slot = omega (arith, last, h) in ap (λ x. get_elem? parts x) (sym e) ∙ at_writer ∙ ap (λ x. some (part_at k x 0)) e)
-      (λ mid. let low : slot < posting_slot p = lt_of_not-le mid in
-      let e : mail_slot p (slot - N) ≡ slot = omega (arith, past) in ap (λ x. get_elem? parts x) (sym e) ∙ at_mail (slot - N) (omega (arith, past, low)) ∙ ap (λ x. some (part_at k x 0)) e))
+      (λ past. dite (dec_le (posting_part p) slot)
+      (λ last. let e : posting_part p ≡ slot = omega (arith, last, h) in ap (λ x. get_elem? parts x) (sym e) ∙ at_writer ∙ ap (λ x. some (part_at k x 0)) e)
+      (λ mid. let low : slot < posting_part p = lt_of_not-le mid in
+      let e : mail_part p (slot - N) ≡ slot = omega (arith, past) in ap (λ x. get_elem? parts x) (sym e) ∙ at_mail (slot - N) (omega (arith, past, low)) ∙ ap (λ x. some (part_at k x 0)) e))
       (λ cell. at_cell slot (lt_of_not-le cell))
 
   no_moves : (spare slot : ℕ) → stage_of p (performed_by (beginning k spare ∷ [])) slot ≡ 0

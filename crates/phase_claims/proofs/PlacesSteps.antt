@@ -5,7 +5,7 @@ use mathlib.Core.Logic.{dite}
 use native.Mathlib.Decide.{dec_le}
 use lib.ListN.{get_elem?}
 use Rattle.atomic_table.specs.Table.{Valid, carried_after, homes_after}
-use Rattle.dta_model.specs.Units.{node_count, phase_end, phase_start, places, posting_slot, unit_count}
+use Rattle.dta_model.specs.Units.{node_count, phase_end, phase_start, places, posting_part, unit_count}
 use Rattle.dta_model.specs.declared.machine.Stage.{Stage}
 use Rattle.dta_model.specs.declared.machine.Stage.TheVariants as stage
 use Rattle.claim_core.specs.Parts.{moves, stage_before, stage_of}
@@ -115,15 +115,15 @@ module _ (k : Scope) where
       opens_valid =
           subst (λ xs. Valid homes [] (takes_all xs)) (now_carried holds_it in_phase)
           (valid_takes homes [] (parts_of (part_at k) ps (λ slot. stage_of k.plan (performed_by views) slot))
-          (apart_of (part_at k) (suc (posting_slot k.plan)) ps (λ slot. stage_of k.plan (performed_by views) slot) (places_once k c))
-          (all_home (unit_count k.plan) (moves k.plan) (part_at k) Has performs (suc (posting_slot k.plan)) homes views h ps (places_once k c) closed))
+          (apart_of (part_at k) (suc (posting_part k.plan)) ps (λ slot. stage_of k.plan (performed_by views) slot) (places_once k c))
+          (all_home (unit_count k.plan) (moves k.plan) (part_at k) Has performs (suc (posting_part k.plan)) homes views h ps (places_once k c) closed))
 
       pub opens_places : (seen : ℕ) → AreHome k (homes_after homes [] (takes_all (carried k (stage.Open c)))) (set views by (record v { stage = stage.Open c; seen = seen }))
       unfolding stage_of
       opens_places seen =
           let v' : View = record v { stage = stage.Open c; seen = seen } in
           subst (λ xs. AreHome k (homes_after homes [] (takes_all xs)) (set views by v')) (now_carried holds_it in_phase)
-          (opens_homes (unit_count k.plan) (moves k.plan) (part_at k) Has performs (suc (posting_slot k.plan)) by ps homes views v v' h e (places_once k c)
+          (opens_homes (unit_count k.plan) (moves k.plan) (part_at k) Has performs (suc (posting_part k.plan)) by ps homes views v v' h e (places_once k c)
           (λ slot. (let z : has_slot k.plan slot v.stage ≡ 0 = ap (λ s. has_slot k.plan slot s) is in omega (arith, z)))
           (λ x. refl) closed)
 
@@ -142,10 +142,10 @@ module _ (k : Scope) where
       unfolding stage_of
       finishes_places xs back =
           let v' : View = record v { stage = stage.Idle; performed = v.performed ++ c ∷ [] } in
-          finishes_homes (unit_count k.plan) (moves k.plan) (part_at k) Has performs (suc (posting_slot k.plan)) by c ps homes views v v' h e (places_once k c) (inside has_it)
+          finishes_homes (unit_count k.plan) (moves k.plan) (part_at k) Has performs (suc (posting_part k.plan)) by c ps homes views v v' h e (places_once k c) (inside has_it)
           (λ slot. omega (arith, own_slots slot))
           (λ x. (let s : times x (v.performed ++ c ∷ []) ≡ times x v.performed + (is_at x c + 0) = total-append (is_at x) v.performed (c ∷ []) in omega (arith, s)))
-          (λ slot in_c. (let one = one_place (suc (posting_slot k.plan)) ps (places_once k c) slot in
+          (λ slot in_c. (let one = one_place (suc (posting_part k.plan)) ps (places_once k c) slot in
           (omega (arith, one, in_c), only_own k w n views r by c slot v e has_it its_phase in_c ∙ own_slots slot ∙ omega (arith, one, in_c))))
           (λ slot z. omega (arith, z, moved_is_placed k.plan slot c))
           xs

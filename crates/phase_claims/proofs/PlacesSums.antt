@@ -19,11 +19,11 @@ use Rattle.dta_model.specs.declared.plan.Plan.{Plan}
 use Rattle.dta_model.proofs.Onward.{none_outside}
 use Rattle.node_transfer.specs.Counts.{counts_at}
 use Rattle.node_transfer.specs.Exchange.{is_among}
-use Rattle.node_transfer.proofs.AddUp.{counts_add_up}
-use Rattle.node_transfer.proofs.Finished.{to-below}
-use Rattle.node_transfer.proofs.Lending.{link_of}
-use Rattle.node_transfer.proofs.ListPlaces.{link-here}
-use Rattle.node_transfer.proofs.Parts.{ins-among, ins-member}
+use Rattle.node_transfer.proofs.OfCounts.AddUp.{counts_add_up}
+use Rattle.node_transfer.proofs.OfMail.Finished.{to-below}
+use Rattle.node_transfer.proofs.OfMail.Lending.{link_of}
+use Rattle.node_transfer.proofs.OfMail.ListPlaces.{link-here}
+use Rattle.node_transfer.proofs.OfMail.Parts.{ins-among, ins-member}
 use Rattle.claim_core.specs.Sums.{below}
 use Rattle.claim_core.proofs.Counts.{range_more}
 use Rattle.claim_core.proofs.Places.{Rises, ins_rise}

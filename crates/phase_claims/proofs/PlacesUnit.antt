@@ -6,20 +6,20 @@ use mathlib.Core.Logic.{dite}
 use native.Mathlib.Decide.{dec_le}
 use Rattle.dta_model.specs.Plans.{ins, link_at, outs}
 use Rattle.dta_model.specs.Sound.{IsSound}
-use Rattle.dta_model.specs.Units.{Gather, Task, Transfer, mail_slot, node_count, places, places_in, posting_slot, step_of, task_of, unit_count}
+use Rattle.dta_model.specs.Units.{Gather, Task, Transfer, mail_part, node_count, places, places_in, posting_part, step_of, task_of, unit_count}
 use Rattle.dta_model.specs.declared.machine.Stage.TheVariants as stage
 use Rattle.dta_model.specs.declared.plan.Plan.{Plan}
-use Rattle.node_transfer.specs.Contents.{IsStep, away, batch_of, cell_after, cell_at, cell_before, mail_at, room_of}
+use Rattle.cell_stages.specs.Contents.{IsStep, away, batch_of, cell_after, cell_at, cell_before, mail_at, room_of}
 use Rattle.node_transfer.specs.Exchange.{is_among}
 use Rattle.node_transfer.specs.declared.mail.Mail as mail
-use Rattle.node_transfer.proofs.TwoStages.{steps_have_two_stages}
+use Rattle.cell_stages.proofs.TwoStages.{steps_have_two_stages}
 use Rattle.net_core.specs.declared.rows.NodeNo.{NodeNo}
 use Rattle.claim_core.specs.Kinds.{kind_by}
 use Rattle.claim_core.specs.declared.units.UnitKind.{UnitKind}
 use Rattle.claim_core.specs.declared.units.UnitKind.TheVariants as kind
 use Rattle.claim_core.specs.Parts.{moves, stage_before}
 use Rattle.claim_core.specs.Sums.{is_at, one_if, times}
-use Rattle.claim_core.proofs.Slots.{cell_of, ins_past, mail_of, outs_past}
+use Rattle.claim_core.proofs.Parts.{cell_of, ins_past, mail_of, outs_past}
 use Rattle.claim_core.proofs.Sums.{at_self}
 use Rattle.claim_core.proofs.Working.{IsOfNode, gather_kind, gather_of, gather_step, moves_by, transfer_kind, transfer_of, transfer_step}
 use Rattle.phase_claims.specs.declared.part.Part.{Part}
@@ -46,25 +46,25 @@ module _ (k : Scope) where
 
   pub part_cell : (n at : ℕ) → n < node_count p → part_at k n at ≡ Cell (cell_at p n at)
   unfolding part_at
-  part_cell n at h = ap (λ b. cond b (Cell (cell_at p n at)) (cond (nat_lt n (posting_slot p)) (Mail (mail_at p (n - node_count p) at)) (writer_at at))) (lt_is n (node_count p) h)
+  part_cell n at h = ap (λ b. cond b (Cell (cell_at p n at)) (cond (nat_lt n (posting_part p)) (Mail (mail_at p (n - node_count p) at)) (writer_at at))) (lt_is n (node_count p) h)
 
-  pub part_mail : (l at : ℕ) → l < length p.net.links → part_at k (mail_slot p l) at ≡ Mail (mail_at p l at)
+  pub part_mail : (l at : ℕ) → l < length p.net.links → part_at k (mail_part p l) at ≡ Mail (mail_at p l at)
   unfolding part_at
   part_mail l at h =
-      let slot : ℕ = mail_slot p l in
-      by_tests (nat_lt slot (node_count p)) (nat_lt slot (posting_slot p)) false true (Cell (cell_at p slot at)) (Mail (mail_at p (slot - node_count p) at)) (writer_at at) (lt_not slot (node_count p) (omega arith)) (lt_is slot (posting_slot p) (omega (arith, h)))
+      let slot : ℕ = mail_part p l in
+      by_tests (nat_lt slot (node_count p)) (nat_lt slot (posting_part p)) false true (Cell (cell_at p slot at)) (Mail (mail_at p (slot - node_count p) at)) (writer_at at) (lt_not slot (node_count p) (omega arith)) (lt_is slot (posting_part p) (omega (arith, h)))
       ∙ ap (λ x. Mail (mail_at p x at)) (let e : slot - node_count p ≡ l = omega arith in e)
 
-  pub part_writer : (at : ℕ) → part_at k (posting_slot p) at ≡ writer_at at
+  pub part_writer : (at : ℕ) → part_at k (posting_part p) at ≡ writer_at at
   unfolding part_at
   part_writer at =
-      let slot : ℕ = posting_slot p in
-      by_tests (nat_lt slot (node_count p)) (nat_lt slot (posting_slot p)) false false (Cell (cell_at p slot at)) (Mail (mail_at p (slot - node_count p) at)) (writer_at at) (lt_not slot (node_count p) (omega arith)) (lt_not slot (posting_slot p) (omega arith))
+      let slot : ℕ = posting_part p in
+      by_tests (nat_lt slot (node_count p)) (nat_lt slot (posting_part p)) false false (Cell (cell_at p slot at)) (Mail (mail_at p (slot - node_count p) at)) (writer_at at) (lt_not slot (node_count p) (omega arith)) (lt_not slot (posting_part p) (omega arith))
 
-  links_parts : (at : ℕ → ℕ) (F : ℕ → mail.Mail) (links : List ℕ) → ((l : ℕ) → 1 ≤ times l links → part_at k (mail_slot p l) (at (mail_slot p l)) ≡ Mail (F l)) → parts_of (part_at k) (map (mail_slot p) links) at ≡ mail_places p F links
+  links_parts : (at : ℕ → ℕ) (F : ℕ → mail.Mail) (links : List ℕ) → ((l : ℕ) → 1 ≤ times l links → part_at k (mail_part p l) (at (mail_part p l)) ≡ Mail (F l)) → parts_of (part_at k) (map (mail_part p) links) at ≡ mail_places p F links
   links_parts at F [] same = refl
   links_parts at F (x ∷ links) same =
-      ap (λ y. (mail_slot p x, y) ∷ parts_of (part_at k) (map (mail_slot p) links) at) (same x (omega (arith, at_self x)))
+      ap (λ y. (mail_part p x, y) ∷ parts_of (part_at k) (map (mail_part p) links) at) (same x (omega (arith, at_self x)))
       ∙ ap (λ xs. mail_place p F x ∷ xs) (links_parts at F links (λ l h. same l (omega (arith, h))))
 
   one_most : (b : Bool) → one_if b ≤ 1
@@ -72,29 +72,29 @@ module _ (k : Scope) where
   one_most false = omega arith
 
   -- the places of a unit of one node, where all are at stage s before its phase
-  module _ (c a s : ℕ) (links : List ℕ) (task : Task) (m : IsOfNode p c a links s) (are : places p c ≡ a ∷ map (mail_slot p) links) (past : (l : ℕ) → length p.net.links ≤ l → times l links ≡ 0) (moved : (l : ℕ) → moves p (mail_slot p l) c ≡ times l links) where
+  module _ (c a s : ℕ) (links : List ℕ) (task : Task) (m : IsOfNode p c a links s) (are : places p c ≡ a ∷ map (mail_part p) links) (past : (l : ℕ) → length p.net.links ≤ l → times l links ≡ 0) (moved : (l : ℕ) → moves p (mail_part p l) c ≡ times l links) where
     within : (l : ℕ) → 1 ≤ times l links → l < length p.net.links
     within l h = dite (dec_le (length p.net.links) l) (λ over. absurd (omega (arith, past l over, h))) (λ low. lt_of_not-le low)
 
     pub node_carried : (F : ℕ → mail.Mail) → ((l : ℕ) → mail_at p l s ≡ F l) → carried k (stage.Open c) ≡ node_places p a (cell_at p a s) F links
     node_carried F is =
         ap (λ xs. parts_of (part_at k) xs (stage_before p c)) are
-        ∙ ap (λ y. (a, y) ∷ parts_of (part_at k) (map (mail_slot p) links) (stage_before p c)) (part_cell a (stage_before p c a) m.node ∙ ap (λ x. Cell (cell_at p a x)) (m.cell_stage a m.node))
+        ∙ ap (λ y. (a, y) ∷ parts_of (part_at k) (map (mail_part p) links) (stage_before p c)) (part_cell a (stage_before p c a) m.node ∙ ap (λ x. Cell (cell_at p a x)) (m.cell_stage a m.node))
         ∙ ap (λ xs. (a, Cell (cell_at p a s)) ∷ xs) (links_parts (stage_before p c) F links
-        (λ l h. part_mail l (stage_before p c (mail_slot p l)) (within l h) ∙ ap (λ x. Mail (mail_at p l x)) (m.mail_stage l (within l h)) ∙ ap (λ x. Mail x) (is l)))
+        (λ l h. part_mail l (stage_before p c (mail_part p l)) (within l h) ∙ ap (λ x. Mail (mail_at p l x)) (m.mail_stage l (within l h)) ∙ ap (λ x. Mail x) (is l)))
 
     cell_later : stage_before p c a + moves p a c ≡ suc s
     cell_later = omega (arith, m.cell_stage a m.node, m.cell_moves a m.node, at_self a)
 
-    mail_later : (l : ℕ) → 1 ≤ times l links → stage_before p c (mail_slot p l) + moves p (mail_slot p l) c ≡ suc s
+    mail_later : (l : ℕ) → 1 ≤ times l links → stage_before p c (mail_part p l) + moves p (mail_part p l) c ≡ suc s
     mail_later l h = let in_range = within l h in omega (arith, m.mail_stage l in_range, m.mail_moves l in_range, moved l, one_most (is_among links l), h)
 
     pub node_brought : (F : ℕ → mail.Mail) → ((l : ℕ) → mail_at p l (suc s) ≡ F l) → brought k c ≡ node_places p a (cell_at p a (suc s)) F links
     node_brought F is =
         ap (λ xs. parts_of (part_at k) xs (λ slot. stage_before p c slot + moves p slot c)) are
-        ∙ ap (λ y. (a, y) ∷ parts_of (part_at k) (map (mail_slot p) links) (λ slot. stage_before p c slot + moves p slot c)) (part_cell a (stage_before p c a + moves p a c) m.node ∙ ap (λ x. Cell (cell_at p a x)) cell_later)
+        ∙ ap (λ y. (a, y) ∷ parts_of (part_at k) (map (mail_part p) links) (λ slot. stage_before p c slot + moves p slot c)) (part_cell a (stage_before p c a + moves p a c) m.node ∙ ap (λ x. Cell (cell_at p a x)) cell_later)
         ∙ ap (λ xs. (a, Cell (cell_at p a (suc s))) ∷ xs) (links_parts (λ slot. stage_before p c slot + moves p slot c) F links
-        (λ l h. part_mail l (stage_before p c (mail_slot p l) + moves p (mail_slot p l) c) (within l h) ∙ ap (λ x. Mail (mail_at p l x)) (mail_later l h) ∙ ap (λ x. Mail x) (is l)))
+        (λ l h. part_mail l (stage_before p c (mail_part p l) + moves p (mail_part p l) c) (within l h) ∙ ap (λ x. Mail (mail_at p l x)) (mail_later l h) ∙ ap (λ x. Mail x) (is l)))
 
   places_are : (c : ℕ) (task : Task) → task_of (node_count p) c ≡ task → places p c ≡ places_in p task
   unfolding places
@@ -105,8 +105,8 @@ module _ (k : Scope) where
       abbrev m_out : IsOfNode p c a (outs p a) (2 * step_of (node_count p) c)
       m_out = transfer_of p sound c a e
 
-      abbrev moved_out : (l : ℕ) → moves p (mail_slot p l) c ≡ times l (outs p a)
-      moved_out l = moves_by p sound c a (Transfer a) e (mail_slot p l) ∙ mail_of p a (outs p a) m_out.node l
+      abbrev moved_out : (l : ℕ) → moves p (mail_part p l) c ≡ times l (outs p a)
+      moved_out l = moves_by p sound c a (Transfer a) e (mail_part p l) ∙ mail_of p a (outs p a) m_out.node l
 
       pub transfer_carried : carried k (stage.Open c) ≡ node_places p a (cell_before p a t away away) (room_of p t) (outs p a)
       transfer_carried =
@@ -126,8 +126,8 @@ module _ (k : Scope) where
       abbrev m_in : IsOfNode p c a (ins p a) (2 * step_of (node_count p) c + 1)
       m_in = gather_of p sound c a e
 
-      abbrev moved_in_links : (l : ℕ) → moves p (mail_slot p l) c ≡ times l (ins p a)
-      moved_in_links l = moves_by p sound c a (Gather a) e (mail_slot p l) ∙ mail_of p a (ins p a) m_in.node l
+      abbrev moved_in_links : (l : ℕ) → moves p (mail_part p l) c ≡ times l (ins p a)
+      moved_in_links l = moves_by p sound c a (Gather a) e (mail_part p l) ∙ mail_of p a (ins p a) m_in.node l
 
       pub gather_carried : carried k (stage.Open c) ≡ node_places p a (cell_after p a t away away) (batch_of p t) (ins p a)
       gather_carried =

@@ -98,7 +98,7 @@ IsInside p (stage.Held c) = c < unit_count p
 IsInside p (stage.Open c) = c < unit_count p
 IsInside p stage.Ended = Unit {0}
 
--- what a pass keeps: it has the slots of the unit that it has open, and no others; its fields say
+-- what a pass keeps: it has the places of the unit that it has open, and no others; its fields say
 -- what it knows
 pub record IsPass (me : Me Part View) (left : ℕ) (has : Stage) : Type 0 where
   pub slots : me.1 ≡ carried me.0.scope me.0.stage

@@ -1,16 +1,16 @@
--- The slots of a floor that is closed.
+-- The places of a floor that is closed.
 use Rattle.std.specs.Prelude.{◌≡◌, ℕ, ◌<◌, Bool, false, List, slice_set}
 use mathlib.Core.Option.{some}
 use lib.ListN.{get_elem?}
 use Rattle.dta_model.specs.Units.{node_count}
 use Rattle.dta_model.specs.declared.plan.Plan.{Plan}
 use Rattle.monitors.specs.Posted.{Known}
-use Rattle.node_transfer.specs.Cells.{CellState}
-use Rattle.node_transfer.specs.Contents.{away, cell_before}
+use Rattle.cell_stages.specs.CellState.{CellState}
+use Rattle.cell_stages.specs.Contents.{away, cell_before}
 use Rattle.phase_claims.specs.declared.part.Part.{Part}
 use Rattle.phase_claims.specs.declared.part.Part.TheVariants.{Cell, Writer}
 
--- a cell lies in a slot, or the writer's pass
+-- a cell lies in a place, or the writer's pass
 abbrev pub HasCell : ℕ → List Part → Type 0
 HasCell slot parts = (c : CellState) × (get_elem? parts slot ≡ some (Cell c))
 
@@ -23,7 +23,7 @@ AreLast p parts =
     (n : ℕ) → n < node_count p
     → get_elem? parts n ≡ some (Cell (cell_before p n p.horizon away away))
 
--- the value of one slot was taken out: the slot is no more filled, and the others stay
+-- the value of one place was taken out: the place is no more filled, and the others stay
 pub record IsTaken (old new : List Part) (was is_now : List Bool) (slot : ℕ) : Type 0 where
   pub parts : new ≡ old
   pub filled : is_now ≡ slice_set was slot false

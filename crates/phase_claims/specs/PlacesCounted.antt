@@ -6,10 +6,10 @@ use Rattle.net_core.specs.Network.{numbers_below}
 use Rattle.dta_model.specs.Loading.{trace_after}
 use Rattle.dta_model.specs.Plans.{all_nodes, link_at}
 use Rattle.dta_model.specs.State.{count_on}
-use Rattle.dta_model.specs.Units.{posting_slot}
+use Rattle.dta_model.specs.Units.{posting_part}
 use Rattle.dta_model.specs.declared.eight.Eight.{Eight}
 use Rattle.dta_model.specs.declared.plan.Plan.{Plan}
-use Rattle.node_transfer.specs.Contents.{away, cell_before}
+use Rattle.cell_stages.specs.Contents.{away, cell_before}
 use Rattle.node_transfer.specs.Counts.{counts_at}
 use Rattle.phase_claims.specs.declared.part.Part.{Part}
 use Rattle.phase_claims.specs.declared.part.Part.TheVariants.{Cell, Writer}
@@ -35,13 +35,13 @@ counted_in p t nodes = record {
   first = firsts_on p t nodes;
 }
 
--- the slots of all cells after t steps, and that of the writer's pass with so many postings
+-- the places of all cells after t steps, and that of the writer's pass with so many postings
 abbrev pub cell_place : Plan → ℕ → ℕ → ℕ × Part
 cell_place p t n = (n, Cell (cell_before p n t away away))
 
 abbrev pub writer_place : Plan → TableId → ℕ → ℕ × Part
 writer_place p board t =
-    (posting_slot p, Writer (record { board = board; list = posted_in p t }))
+    (posting_part p, Writer (record { board = board; list = posted_in p t }))
 
 -- what a posting has with it
 abbrev pub posting_places : Plan → TableId → ℕ → ℕ → List (ℕ × Part)

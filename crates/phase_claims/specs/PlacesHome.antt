@@ -1,15 +1,15 @@
--- The slots of a floor: what lies in each that is at home, and what a pass has with it.
+-- The places of a floor: what lies in each that is at home, and what a pass has with it.
 use Rattle.std.specs.Prelude.{◌≡◌, ℕ, zero, suc, ◌+◌, ◌-◌, ◌<◌, cond, nat_lt, List, [], ◌∷◌, map}
 use mathlib.Core.Option.{Option, none, some}
 use lib.ListN.{get_elem?}
 use Rattle.net_core.specs.Network.{numbers_below}
 use Rattle.dta_model.specs.State.{eight_after}
-use Rattle.dta_model.specs.Units.{node_count, places, posting_slot}
+use Rattle.dta_model.specs.Units.{node_count, places, posting_part}
 use Rattle.dta_model.specs.declared.eight.Eight.{Eight}
 use Rattle.dta_model.specs.declared.machine.Stage.{Stage}
 use Rattle.dta_model.specs.declared.machine.Stage.TheVariants as stage
 use Rattle.dta_model.specs.declared.plan.Plan.{Plan}
-use Rattle.node_transfer.specs.Contents.{cell_at, mail_at}
+use Rattle.cell_stages.specs.Contents.{cell_at, mail_at}
 use Rattle.claim_core.specs.Parts.{moves, stage_before, stage_of}
 use Rattle.claim_core.specs.Sums.{times, total}
 use Rattle.phase_claims.specs.declared.part.Part.{Part}
@@ -22,36 +22,36 @@ use Rattle.phase_claims.specs.Views.{performed_by}
 abbrev pub posted_in : Plan → ℕ → List Eight
 posted_in p steps = map (λ t. eight_after p (suc t)) (numbers_below steps)
 
--- what lies in a slot at a stage: the cell of a node, the mail of a link, or the writer's pass
+-- what lies in a place at a stage: the cell of a node, the mail of a link, or the writer's pass
 unfoldable pub part_at : Scope → ℕ → ℕ → Part
 part_at k slot at =
     cond (nat_lt slot (node_count k.plan))
     (Cell (cell_at k.plan slot at))
-    (cond (nat_lt slot (posting_slot k.plan))
+    (cond (nat_lt slot (posting_part k.plan))
     (Mail (mail_at k.plan (slot - node_count k.plan) at))
     (Writer (record { board = k.board; list = posted_in k.plan at })))
 
--- slots, each with its part at a stage
+-- places, each with its part at a stage
 abbrev pub parts_of : {S : Type 0} → (ℕ → ℕ → S) → List ℕ → (ℕ → ℕ) → List (ℕ × S)
 parts_of part [] at = []
 parts_of part (slot ∷ slots) at = (slot, part slot (at slot)) ∷ parts_of part slots at
 
--- how often a pass has a slot with it: once where its unit is open and the slot is a place of it
+-- how often a pass has a place with it: once where its unit is open and the place is a place of it
 abbrev pub has_slot : Plan → ℕ → Stage → ℕ
 has_slot p slot stage.Idle = 0
 has_slot p slot (stage.Held c) = 0
 has_slot p slot (stage.Open c) = times slot (places p c)
 has_slot p slot stage.Ended = 0
 
--- a slot that no pass has is at home with its part, and one that a pass has is out
+-- a place that no pass has is at home with its part, and one that a pass has is out
 abbrev pub home_of : {S : Type 0} → ℕ → S → Option S
 home_of zero part = some part
 home_of (suc passes) part = none
 
--- each slot that no pass has holds its part at the stage that the performed units tell
+-- each place that no pass has holds its part at the stage that the performed units tell
 abbrev pub AreHome : Scope → List (Option Part) → List View → Type 0
 AreHome k homes views =
-    (slot : ℕ) → slot < suc (posting_slot k.plan)
+    (slot : ℕ) → slot < suc (posting_part k.plan)
     → get_elem? homes slot ≡ some (home_of (total (λ v. has_slot k.plan slot v.stage) views)
     (part_at k slot (stage_of k.plan (performed_by views) slot)))
 

@@ -19,7 +19,7 @@ abbrev pub Draws : Step Part → Me Part View → ℕ → Me Part View → Type 
 Draws st m number m' = (m'.1 ≡ m.1) × DrawsNumber m.0 number m'.0
 
 -- a look, of a pass that holds a unit, at how many units are finished: no fewer than it has seen
--- before, and than it has performed itself. Where its unit is open it has the unit's slots
+-- before, and than it has performed itself. Where its unit is open it has the unit's places
 pub record LooksAt (old : View) (finished : ℕ) (new : View) : Type 0 where
   pub seen : old.seen ≤ finished
   pub own : performed_count old ≤ finished
@@ -32,7 +32,7 @@ pub record LooksAt (old : View) (finished : ℕ) (new : View) : Type 0 where
 abbrev pub Looks : Step Part → Me Part View → ℕ → Me Part View → Type 0
 Looks st m finished m' = (m'.1 ≡ carried m.0.scope m'.0.stage) × LooksAt m.0 finished m'.0
 
--- a finish: the pass has performed its unit, and has no slot any more
+-- a finish: the pass has performed its unit, and has no place any more
 abbrev pub Finishes : Step Part → Me Part View → ℕ → Me Part View → Type 0
 Finishes st m finished m' = (m'.1 ≡ []) × (m'.0 ≡ done_with m.0)
 

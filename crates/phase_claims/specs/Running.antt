@@ -54,7 +54,7 @@ pub record Running (k : Scope) (drawn finished : ℕ) (views : List View) : Type
   pub each : (by : ℕ) (v : View) → get_elem? views by ≡ some v → FitsView k finished v
 
 -- the rule: the first word never changes, the second counts the numbers drawn, and the third the
--- units finished; each slot that no open unit needs holds its part, and the others are out
+-- units finished; each place that no open unit needs holds its part, and the others are out
 pub record Holds (k : Scope) (s : State Part View) : Type 0 where
   pub few : k.passes ≤ MOST_PASSES
   pub small : unit_count k.plan < 2 ^ 50

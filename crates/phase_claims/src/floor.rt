@@ -168,7 +168,7 @@ impl<'a> Floor<'a> {
         }
     }
 
-    // Does the work of a transfer or a gather, on the slots that a seat has for it.
+    // Does the work of a transfer or a gather, on the places that a seat has for it.
     #[tactic(auto, unfolding(dta_model::specs::Units::unit_count))]
     fn do_work(&self, seat: &mut PassSeat, number: u64)
         requires table { seat.old.table_id ≡ self.now.table }
@@ -187,7 +187,7 @@ impl<'a> Floor<'a> {
         }
     }
 
-    // Does the work of a posting, on the slots that a seat has for it.
+    // Does the work of a posting, on the places that a seat has for it.
     #[tactic(auto, unfolding(dta_model::specs::Units::unit_count))]
     fn do_posting<R: Wait>(&self, rt: &R, seat: &mut PassSeat, number: u64)
         requires table { seat.old.table_id ≡ self.now.table }
@@ -208,7 +208,7 @@ impl<'a> Floor<'a> {
         );
     }
 
-    // Finishes the unit that a seat has open, once its work is done: its slots come home.
+    // Finishes the unit that a seat has open, once its work is done: its places come home.
     fn finish(&self, seat: &mut PassSeat)
         requires table { seat.old.table_id ≡ self.now.table }
         requires open { IsOpen seat.old.me.0.stage }

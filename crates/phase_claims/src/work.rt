@@ -1,4 +1,4 @@
-// Parts that a seat holds, one at a time: each is taken out of its slot, or brought into it.
+// Parts that a seat holds, one at a time: each is taken out of its place, or brought into it.
 ghost use Rattle.atomic_table.specs.Table.{rest, turned};
 ghost use Rattle.phase_claims.specs.PlacesHeld.{HoldsCell, HoldsMail, HoldsNothing, IsSameSeat};
 ghost use Rattle.std.specs.Prelude.{◌≡◌, ◌∷◌};
@@ -7,7 +7,7 @@ use crate::part::Part;
 use atomic_table::{Seat, Shared, TableRule};
 use node_transfer::{Mail, NodeCell};
 
-/// Takes the mail out of the first slot that the seat holds, and turns to the next one.
+/// Takes the mail out of the first place that the seat holds, and turns to the next one.
 pub(crate) fn take_mail<V, K, P: TableRule<Part, V, K>>(
     shared: &Shared<Part, V, K, P>,
     seat: &mut Seat<Part, V>,
@@ -26,7 +26,7 @@ pub(crate) fn take_mail<V, K, P: TableRule<Part, V, K>>(
     mail
 }
 
-/// Brings mail into the first slot that the seat holds, and turns to the next one.
+/// Brings mail into the first place that the seat holds, and turns to the next one.
 pub(crate) fn give_mail<V, K, P: TableRule<Part, V, K>>(
     shared: &Shared<Part, V, K, P>,
     seat: &mut Seat<Part, V>,
@@ -44,7 +44,7 @@ pub(crate) fn give_mail<V, K, P: TableRule<Part, V, K>>(
     seat.turn();
 }
 
-/// Takes the cell out of the first slot that the seat holds, which stays the first one.
+/// Takes the cell out of the first place that the seat holds, which stays the first one.
 pub(crate) fn take_cell<V, K, P: TableRule<Part, V, K>>(
     shared: &Shared<Part, V, K, P>,
     seat: &mut Seat<Part, V>,
@@ -62,7 +62,7 @@ pub(crate) fn take_cell<V, K, P: TableRule<Part, V, K>>(
     cell
 }
 
-/// Brings a cell into the first slot that the seat holds, which stays the first one.
+/// Brings a cell into the first place that the seat holds, which stays the first one.
 pub(crate) fn give_cell<V, K, P: TableRule<Part, V, K>>(
     shared: &Shared<Part, V, K, P>,
     seat: &mut Seat<Part, V>,

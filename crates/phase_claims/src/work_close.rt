@@ -5,7 +5,7 @@ ghost use Rattle.dta_model.specs.Lent.{plan_of};
 ghost use Rattle.dta_model.specs.Loading.{journeys_of};
 ghost use Rattle.dta_model.specs.Plans.{vehicle_count};
 ghost use Rattle.dta_model.specs.Sound.{IsSound};
-ghost use Rattle.dta_model.specs.Units.{posting_slot};
+ghost use Rattle.dta_model.specs.Units.{posting_part};
 ghost use Rattle.node_transfer.specs.Start.{no_journeys};
 ghost use Rattle.phase_claims.specs.PlacesClosed.{AreLast, HasCell, HasWriter, IsTaken};
 ghost use Rattle.std.specs.Prelude.{◌≡◌, ◌<◌, suc, IsTrue, false, slice_index_or};
@@ -37,12 +37,12 @@ pub(crate) fn take_parts(
 ) -> WriterPass
     requires sound { IsSound (plan_of loading.now) }
     requires full { IsFull closed.slots }
-    requires count { slots_len closed.slots ≡ suc (posting_slot (plan_of loading.now)) }
+    requires count { slots_len closed.slots ≡ suc (posting_part (plan_of loading.now)) }
     requires cells { AreLast (plan_of loading.now) (slots_items closed.slots) }
-    requires writer { HasWriter (posting_slot (plan_of loading.now)) (slots_items closed.slots) }
+    requires writer { HasWriter (posting_part (plan_of loading.now)) (slots_items closed.slots) }
     requires loaded { loaded.old ≡ no_journeys (vehicle_count (plan_of loading.now)) }
     ensures loaded { loaded.new ≡ journeys_of (plan_of loading.now) }
-    ensures writer { get_elem? (slots_items closed.slots) (posting_slot (plan_of loading.now))
+    ensures writer { get_elem? (slots_items closed.slots) (posting_part (plan_of loading.now))
         ≡ some (Part.Writer result) }
 {
     let nodes = loading.net.node_count() as usize;

@@ -1,4 +1,4 @@
-// The mail of a node's links goes between the slots that a seat holds and the node's cell.
+// The mail of a node's links goes between the places that a seat holds and the node's cell.
 ghost use Rattle.dta_model.specs.Lent.{plan_of};
 ghost use Rattle.dta_model.specs.Plans.{ins as ins_of, outs as outs_of};
 ghost use Rattle.node_transfer.specs.Contents.{IsStep, away, batch_of, cell_after, cell_before};
@@ -14,7 +14,7 @@ use dta_model::Loading;
 use net_core::NodeNo;
 use node_transfer::NodeCell;
 
-/// Fills the places of a node's out-links with the rooms of a step, out of the slots of their mail.
+/// Fills the places of a node's out-links with the rooms of a step, out of the places of their mail.
 pub(crate) fn fill_outs<V, K, P: TableRule<Part, V, K>>(
     shared: &Shared<Part, V, K, P>,
     seat: &mut Seat<Part, V>,
@@ -43,7 +43,7 @@ pub(crate) fn fill_outs<V, K, P: TableRule<Part, V, K>>(
     }
 }
 
-/// Takes the batches of a step out of the places of a node's out-links, into the slots of their
+/// Takes the batches of a step out of the places of a node's out-links, into the places of their
 /// mail.
 pub(crate) fn empty_outs<V, K, P: TableRule<Part, V, K>>(
     shared: &Shared<Part, V, K, P>,
@@ -73,7 +73,7 @@ pub(crate) fn empty_outs<V, K, P: TableRule<Part, V, K>>(
     }
 }
 
-/// Fills the places of a node's in-links with the batches of a step, out of the slots of their mail.
+/// Fills the places of a node's in-links with the batches of a step, out of the places of their mail.
 pub(crate) fn fill_ins<V, K, P: TableRule<Part, V, K>>(
     shared: &Shared<Part, V, K, P>,
     seat: &mut Seat<Part, V>,
@@ -102,7 +102,7 @@ pub(crate) fn fill_ins<V, K, P: TableRule<Part, V, K>>(
     }
 }
 
-/// Takes the rooms of the next step out of the places of a node's in-links, into the slots of their
+/// Takes the rooms of the next step out of the places of a node's in-links, into the places of their
 /// mail.
 pub(crate) fn empty_ins<V, K, P: TableRule<Part, V, K>>(
     shared: &Shared<Part, V, K, P>,

@@ -54,7 +54,7 @@ pub(crate) fn post_held<R: Wait, V, K, P: TableRule<Part, V, K>>(
     give_writer(shared, seat, slot, writer);
 }
 
-// Takes the writer's pass out of the first slot that the seat holds, which stays the first one.
+// Takes the writer's pass out of the first place that the seat holds, which stays the first one.
 fn take_writer<V, K, P: TableRule<Part, V, K>>(
     shared: &Shared<Part, V, K, P>,
     seat: &mut Seat<Part, V>,
@@ -72,7 +72,7 @@ fn take_writer<V, K, P: TableRule<Part, V, K>>(
     writer
 }
 
-// Brings the writer's pass into the first slot that the seat holds, and turns to the next one.
+// Brings the writer's pass into the first place that the seat holds, and turns to the next one.
 fn give_writer<V, K, P: TableRule<Part, V, K>>(
     shared: &Shared<Part, V, K, P>,
     seat: &mut Seat<Part, V>,

@@ -13,7 +13,7 @@ use atomic_table::{Seat, Shared, TableRule};
 use dta_model::Loading;
 use net_core::NodeNo;
 
-/// The transfer of a node in a step: out of the slots of its cell and of the rooms of its out-links,
+/// The transfer of a node in a step: out of the places of its cell and of the rooms of its out-links,
 /// and back into them with batches.
 pub(crate) fn transfer_held<V, K, P: TableRule<Part, V, K>>(
     shared: &Shared<Part, V, K, P>,
@@ -41,7 +41,7 @@ pub(crate) fn transfer_held<V, K, P: TableRule<Part, V, K>>(
     give_cell(shared, seat, node.0 as usize, cell);
 }
 
-/// The gather of a node in a step: out of the slots of its cell and of the batches of its in-links,
+/// The gather of a node in a step: out of the places of its cell and of the batches of its in-links,
 /// and back into them with the rooms of the next step.
 pub(crate) fn gather_held<V, K, P: TableRule<Part, V, K>>(
     shared: &Shared<Part, V, K, P>,

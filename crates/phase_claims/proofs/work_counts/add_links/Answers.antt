@@ -4,11 +4,11 @@ use Rattle.dta_model.specs.Lent.{plan_of}
 use Rattle.dta_model.specs.Loading.{trace_after}
 use Rattle.dta_model.specs.Plans.{ins}
 use Rattle.dta_model.specs.State.{count_on}
-use Rattle.node_transfer.specs.Cells.{CellState}
-use Rattle.node_transfer.specs.Contents.{away}
-use Rattle.node_transfer.proofs.Lending.{link_of}
-use Rattle.node_transfer.proofs.ListPlaces.{link-here, links-count}
-use Rattle.node_transfer.proofs.Parts.{ins-count-before}
+use Rattle.cell_stages.specs.CellState.{CellState}
+use Rattle.cell_stages.specs.Contents.{away}
+use Rattle.node_transfer.proofs.OfMail.Lending.{link_of}
+use Rattle.node_transfer.proofs.OfMail.ListPlaces.{link-here, links-count}
+use Rattle.node_transfer.proofs.OfMail.Parts.{ins-count-before}
 use Rattle.phase_claims.specs.PlacesCounted.{firsts_on}
 use Rattle.phase_claims.proofs.PlacesSums.{all_put, puts_next}
 use Rattle.phase_claims.proofs.work_counts.add_links.Goals as goal

@@ -1,8 +1,8 @@
 use Rattle.std.proofs.Common.{suc, [], ◌∷◌}
 use Rattle.dta_model.specs.Lent.{plan_of}
-use Rattle.node_transfer.specs.Contents.{away, room_of}
-use Rattle.node_transfer.proofs.Lending.{all-collected, in-there, is-told, link_of}
-use Rattle.node_transfer.proofs.Parts.{ins-before}
+use Rattle.cell_stages.specs.Contents.{away, room_of}
+use Rattle.node_transfer.proofs.OfMail.Lending.{all-collected, in-there, is-told, link_of}
+use Rattle.node_transfer.proofs.OfMail.Parts.{ins-before}
 use Rattle.phase_claims.specs.declared.part.Part.TheVariants.{Out}
 use Rattle.phase_claims.proofs.PlacesRound.{mail_collected, mail_round, nothing_first, stays}
 use Rattle.phase_claims.proofs.work_links.empty_ins.Goals as goal

@@ -1,8 +1,8 @@
 use Rattle.std.proofs.Common.{[], ◌∷◌}
 use Rattle.dta_model.specs.Lent.{plan_of}
-use Rattle.node_transfer.specs.Contents.{away, batch_of}
-use Rattle.node_transfer.proofs.Lending.{all-collected, out-there, is-told, link_of}
-use Rattle.node_transfer.proofs.Parts.{outs-after}
+use Rattle.cell_stages.specs.Contents.{away, batch_of}
+use Rattle.node_transfer.proofs.OfMail.Lending.{all-collected, out-there, is-told, link_of}
+use Rattle.node_transfer.proofs.OfMail.Parts.{outs-after}
 use Rattle.phase_claims.specs.declared.part.Part.TheVariants.{Out}
 use Rattle.phase_claims.proofs.PlacesRound.{mail_collected, mail_round, nothing_first, stays}
 use Rattle.phase_claims.proofs.work_links.empty_outs.Goals as goal

@@ -1,8 +1,8 @@
 use Rattle.std.proofs.Common.{◌≡◌, [], ◌∷◌, take}
 use Rattle.dta_model.specs.Lent.{plan_of}
 use Rattle.dta_model.specs.Plans.{ins}
-use Rattle.node_transfer.specs.Contents.{away, batch_of, cell_after}
-use Rattle.node_transfer.proofs.Exchanges.{replaced}
+use Rattle.cell_stages.specs.Contents.{away, batch_of, cell_after}
+use Rattle.node_transfer.proofs.OfMail.Exchanges.{replaced}
 use Rattle.phase_claims.specs.PlacesHeld.{IsSameSeat, empty_place, mail_place}
 use Rattle.phase_claims.specs.declared.part.Part.TheVariants.{Out}
 use Rattle.phase_claims.proofs.PlacesTurn.{midway}

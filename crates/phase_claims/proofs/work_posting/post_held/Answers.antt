@@ -1,7 +1,7 @@
 use Rattle.std.proofs.Common.{◌≡◌, suc, ◌+◌, ◌<◌, [], ◌∷◌, ap, ◌∙◌, arith}
 use Rattle.dta_model.specs.Lent.{plan_of}
 use Rattle.dta_model.specs.Units.{node_count}
-use Rattle.node_transfer.specs.Contents.{away, cell_before}
+use Rattle.cell_stages.specs.Contents.{away, cell_before}
 use Rattle.phase_claims.specs.PlacesCounted.{counted_in, writer_place}
 use Rattle.phase_claims.proofs.PlacesPosted.{cell_back, cell_held, cell_is, may_post, own_board, posted, writer_held}
 use Rattle.phase_claims.proofs.PlacesRound.{stays}

@@ -1,6 +1,6 @@
 use Rattle.dta_model.specs.Lent.{plan_of}
 use Rattle.dta_model.specs.Plans.{ins}
-use Rattle.node_transfer.specs.Contents.{away, batch_of, cell_after}
+use Rattle.cell_stages.specs.Contents.{away, batch_of, cell_after}
 use Rattle.phase_claims.proofs.PlacesRound.{cell_first}
 use Rattle.phase_claims.proofs.work_unit.gather_held.Goals as goal
 

@@ -1,6 +1,6 @@
 use Rattle.dta_model.specs.Lent.{plan_of}
 use Rattle.dta_model.specs.Plans.{outs}
-use Rattle.node_transfer.specs.Contents.{away, cell_before, room_of}
+use Rattle.cell_stages.specs.Contents.{away, cell_before, room_of}
 use Rattle.phase_claims.proofs.PlacesRound.{cell_first}
 use Rattle.phase_claims.proofs.work_unit.transfer_held.Goals as goal
 
