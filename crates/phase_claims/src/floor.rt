@@ -243,8 +243,8 @@ impl<'a> Floor<'a> {
         pass.stage = Stage::Idle;
     }
 
-    /// Performs the unit that the pass has open, a posting: counts the cells, posts the state to the
-    /// floor's board and finishes it.
+    /// Performs the unit that the pass has open, a posting: counts the cells, posts the state to
+    /// the floor's board and finishes it.
     pub fn perform_posting<R: Wait>(&self, rt: &R, pass: &mut Pass)
         requires own { IsOf self.now pass.old }
         requires open { IsOpen pass.old.view.stage }
