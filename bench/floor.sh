@@ -1,0 +1,23 @@
+#!/bin/sh
+# Measures the shared words of a floor: 1, 2 and 4 workers claim, open and finish the units of 1,200 steps over 3,600 nodes without
+# links and vehicles, beside a plain Rust program of the same steps. Prints the nanoseconds for each unit, five times each. The work
+# of a unit is done in neither. Where more workers run than there are processors free, the numbers say nothing.
+set -e
+bench=$(dirname "$(readlink -f "$0")")
+. "$bench/begin.sh"
+begin floor
+begin_plain floor
+"$bench/grid.sh" 60
+head -n 1 link.csv >first && mv first link.csv
+
+measure() {
+    name=$1
+    shift
+    for _ in 1 2 3 4 5; do
+        "$@" | awk -v name="$name" '{ printf "%s: %d units, %.1f nanoseconds a unit\n", name, $1, $2 / $1 }'
+    done
+}
+for workers in 1 2 4; do
+    measure "the floor, $workers workers" "$program" "$workers"
+    if [ -n "$plain" ]; then measure "plain Rust, $workers workers" "$plain" "$workers" 3600; fi
+done
