@@ -1,5 +1,5 @@
 -- The last state of a floor, where all passes were joined into one that holds no unit.
-use Rattle.std.proofs.Common.{◌≡◌, ◌≢◌, ℕ, zero, suc, ◌+◌, ◌*◌, ◌<◌, ◌≤◌, min, List, [], ◌∷◌, length, set, refl, sym, ap, ◌∙◌, subst, arith}
+use Rattle.std.proofs.Common.{◌≡◌, ◌≢◌, ℕ, zero, suc, ◌+◌, ◌-◌, ◌*◌, ◌<◌, ◌≤◌, true, false, min, List, [], ◌∷◌, length, set, refl, sym, ap, ◌∙◌, subst, arith}
 use Rattle.std.proofs.lemmas.Bool.Decides.{nat_tests}
 use mathlib.Core.Option.{some, some-injective}
 use lib.ListN.{get_elem?}
@@ -22,6 +22,11 @@ use Rattle.phase_claims.specs.declared.part.Part.TheVariants.{Cell, Writer}
 use Rattle.phase_claims.specs.declared.view.Scope.{Scope}
 use Rattle.phase_claims.specs.declared.view.View.{View}
 use Rattle.phase_claims.specs.Passes.{HoldsNoUnit}
+use Rattle.monitors.specs.Posted.{Known}
+use Rattle.dta_model.specs.Loading.{journeys_of}
+use Rattle.dta_model.specs.declared.loaded.Journey.{Journey}
+use Rattle.phase_claims.specs.PlacesClosed.{AreLast, HasWriter}
+use Rattle.phase_claims.specs.PlacesEnd.{IsClosed, IsEarly}
 use Rattle.phase_claims.specs.PlacesHome.{has_slot, home_of, part_at, posted_in}
 use Rattle.phase_claims.specs.Running.{FitsPast, Holds, Running}
 use Rattle.phase_claims.specs.Views.{held_by, holds, nobody, performed_by, performed_count, performs, rights}
@@ -114,3 +119,62 @@ module _ (k : Scope) (s : State Part View) (h : Holds k s) (id : ℕ) (v : View)
           let one : k.plan.horizon * below (step_units (node_count k.plan)) (at_place k.plan slot) ≡ k.plan.horizon = ap (λ x. k.plan.horizon * x) (step_posting k.plan) ∙ omega arith in
           values slot (part_at k slot (k.plan.horizon * below (step_units (node_count k.plan)) (at_place k.plan slot))) (home slot (omega arith))
           ∙ ap (λ x. some x) (part_writer k (k.plan.horizon * below (step_units (node_count k.plan)) (at_place k.plan slot)) ∙ ap (λ x. Writer (record { board = k.board; list = posted_in k.plan x })) one)
+
+-- where a floor is closed: q is the plan that the code has, k the scope that the table was told, k' that of the
+-- floor, v' the view of the pass
+module _ (k k' : Scope) (q : Plan) (same : k ≡ k') (plan : q ≡ k.plan) (s : State Part View) (h : Holds k s) (id : ℕ) (v v' : View) (same_view : v ≡ v') (at : get_elem? s.views id ≡ some v) (all' : rights v' ≡ k'.passes) (free' : HoldsNoUnit v'.stage)
+    (ws : List ℕ) (words : s.words ≡ ws) (f : ℕ) (found : get_elem? ws 2 ≡ some f) where
+  all_here : rights v ≡ k.passes
+  all_here = ap rights same_view ∙ all' ∙ sym (ap (λ (j : Scope). j.passes) same)
+
+  free_here : HoldsNoUnit v.stage
+  free_here = subst (λ (u : View). HoldsNoUnit u.stage) (sym same_view) free'
+
+  found_is : f ≡ h.finished
+  found_is = some-injective f h.finished (sym found ∙ ap (λ xs. get_elem? xs 2) (sym words) ∙ ap (λ xs. get_elem? xs 2) h.words)
+
+  quota_here : unit_count k.plan ≡ unit_count k'.plan
+  quota_here = ap (λ (j : Scope). unit_count j.plan) same
+
+  quota_q : unit_count q ≡ unit_count k.plan
+  quota_q = ap (λ (x : Plan). unit_count x) plan
+
+  module _ (count : ℕ) (counts : count ≡ unit_count k.plan) where
+    pub is_early : f < count → IsEarly k' v' (record { finished = f })
+    is_early l = record {
+      finished = found_is ∙ finished_is k s h id v at all_here free_here ∙ ap performed_count same_view;
+      fewer = omega (arith, l, counts, quota_here);
+    }
+
+    pub not_ended : f < count → v'.stage ≡ stage.Ended → false ≡ true
+    not_ended l e = absurd (omega (arith, l, counts, found_is, ended_whole k s h id v at all_here free_here (ap (λ (u : View). u.stage) same_view ∙ e)))
+
+    module _ (enough : count ≤ f) (parts : List Part) (values : (slot : ℕ) (y : Part) → get_elem? s.homes slot ≡ some (some y) → get_elem? parts slot ≡ some y) where
+      whole_here : unit_count k.plan ≤ h.finished
+      whole_here = omega (arith, enough, counts, found_is)
+
+      pub cells_last : AreLast q parts
+      cells_last = subst (λ (x : Plan). AreLast x parts) (sym plan) (last_cell k s h id v at all_here free_here whole_here parts values)
+
+      writer_last : get_elem? parts (posting_slot q) ≡ some (Writer (record { board = k.board; list = posted_in k.plan k.plan.horizon }))
+      writer_last = ap (λ (x : Plan). get_elem? parts (posting_slot x)) plan ∙ last_writer k s h id v at all_here free_here whole_here parts values
+
+      pub writer_there : HasWriter (posting_slot q) parts
+      writer_there = (record { board = k.board; list = posted_in k.plan k.plan.horizon }, writer_last)
+
+      same_writer : (x y : Known) → Writer x ≡ Writer y → x ≡ y
+      same_writer x y e = cc
+
+      pub closes : (journeys : List Journey) → journeys ≡ journeys_of q → (w : Known) → get_elem? parts (posting_slot q) ≡ some (Writer w) → (units passes left vehicles : ℕ) → units ≡ unit_count k.plan → passes ≡ k.passes → left ≡ v.spare → vehicles ≡ length q.trips
+          → IsClosed k' v' journeys w (record { units = units; passes = passes - left; vehicles = vehicles })
+      closes journeys ej w ew units passes left vehicles eu ep el ev =
+          let is : w ≡ record { board = k.board; list = posted_in k.plan k.plan.horizon } = same_writer w _ (some-injective (Writer w) _ (sym ew ∙ writer_last)) in
+          record {
+            performed = λ x. ap (performs x) (sym same_view) ∙ each_once k s h id v at all_here free_here whole_here x ∙ ap (λ b. once_below x b) quota_here;
+            loaded = ej ∙ ap (λ (x : Plan). journeys_of x) plan ∙ ap (λ (j : Scope). journeys_of j.plan) same;
+            board = ap (λ (x : Known). x.board) is ∙ ap (λ (j : Scope). j.board) same;
+            posted = ap (λ (x : Known). x.list) is ∙ ap (λ (j : Scope). posted_in j.plan j.plan.horizon) same;
+            units = eu ∙ quota_here;
+            passes = (let a = all_here in let w = ap (λ (u : View). u.weight) same_view in omega (arith, ep, el, a, w));
+            vehicles = ev ∙ ap (λ (x : Plan). length x.trips) plan ∙ ap (λ (j : Scope). length j.plan.trips) same;
+          }

@@ -1,6 +1,6 @@
 -- The slots of a new floor.
 use Rattle.std.specs.List.{range_with_len}
-use Rattle.std.proofs.Common.{◌≡◌, ℕ, zero, suc, ◌+◌, ◌-◌, ◌*◌, ◌<◌, ◌≤◌, List, [], ◌∷◌, ◌++◌, length, map, refl, sym, ap, ◌∙◌, append_assoc, lt_of_not-le, arith}
+use Rattle.std.proofs.Common.{◌≡◌, ℕ, zero, suc, ◌+◌, ◌-◌, ◌*◌, ◌<◌, ◌≤◌, List, [], ◌∷◌, ◌++◌, length, map, refl, sym, ap, ◌∙◌, append_assoc, length-append, lt_of_not-le, arith}
 use Rattle.std.proofs.lemmas.List.{length-map}
 use mathlib.Core.Option.{Option, some, none}
 use mathlib.Core.Logic.{dite}
@@ -64,6 +64,9 @@ module _ (k : Scope) (writer : Known) (cells : List CellState) (letters : List m
 
   mail_count : length (map Mail letters) ≡ L
   mail_count = length-map letters Mail ∙ ap (λ xs. length xs) rooms ∙ length-map (numbers_below L) (room_of p 0) ∙ count_range L 0
+
+  pub parts_count : length parts ≡ suc (posting_slot p)
+  parts_count = ap (λ xs. length xs) laid ∙ length-append (map Cell cells) (map Mail letters ++ Writer writer ∷ []) ∙ (let b = length-append (map Mail letters) (Writer writer ∷ []) in omega (arith, b, cell_count, mail_count))
 
   no_stage : 2 * 0 ≡ 0
   no_stage = omega arith

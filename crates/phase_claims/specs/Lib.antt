@@ -11,3 +11,4 @@ pub mod PlacesCounted
 pub mod Tried
 pub mod Examples
 pub mod PlacesClosed
+pub mod PlacesEnd

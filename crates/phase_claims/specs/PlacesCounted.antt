@@ -15,7 +15,8 @@ use Rattle.phase_claims.specs.declared.part.Part.{Part}
 use Rattle.phase_claims.specs.declared.part.Part.TheVariants.{Cell, Writer}
 use Rattle.phase_claims.specs.PlacesHome.{posted_in}
 
--- the vehicles on a link after t steps, where it is in the table and leads to one of the first nodes
+-- the vehicles on a link after t steps, where it is in the table and leads to one of the first
+-- nodes
 abbrev pub first_on : Plan → ℕ → ℕ → ℕ → ℕ
 first_on p t nodes l =
     cond (nat_lt l (length p.net.links) && nat_lt (link_at p l).to.0 nodes)

@@ -1,19 +1,22 @@
 // The floor and its calls.
-ghost use Rattle.std.specs.Prelude.{◌≡◌, ◌≢◌, ◌<◌, ◌≤◌, ◌-◌, [], IfOk};
+ghost use Rattle.std.specs.Prelude.{◌≡◌, ◌≢◌, ◌<◌, ◌≤◌, ◌-◌, [], IfErr, IfOk, IsOk};
 ghost use Rattle.dta_model.specs.Lent.{plan_of};
 ghost use Rattle.dta_model.specs.Sound.{IsSound};
 ghost use Rattle.dta_model.specs.Units.{unit_count};
 ghost use Rattle.phase_claims.specs.Passes.{Claims, HoldsNoUnit, IsHeld, IsOf, IsOpen, Opens};
 ghost use Rattle.phase_claims.specs.Passes.{kind_at, kind_in, unit_at};
+ghost use Rattle.phase_claims.specs.PlacesEnd.{IsClosed, IsEarly};
 ghost use Rattle.phase_claims.specs.PlacesHeld.{IsSameSeat};
 ghost use Rattle.phase_claims.specs.PlacesHome.{brought, carried};
 ghost use Rattle.phase_claims.specs.Views.{beginning, done_with, joined, less_spare, rights};
 ghost use Rattle.phase_claims.specs.Views.{unit_in};
 
 use crate::pass::Pass;
+use crate::receipt::{Early, Receipt};
 use crate::rule::{Bound, Cut, Draw, Finish, Glue, Key, Look, PassSeat, Words};
 use crate::start::parts_at_start;
 use crate::unit::{Open, Unit};
+use crate::work_close::{drop_parts, take_parts};
 use crate::work_posting::post_held;
 use crate::work_unit::{gather_held, transfer_held};
 use atomic_table::Table;
@@ -37,6 +40,7 @@ pub struct Floor<'a> {
     loading: Loading<'a>,
     board: &'a Board,
     units: Units,
+    passes: u32,
     loaded: Loaded,
 }
 
@@ -54,7 +58,7 @@ impl<'a> Model for Floor<'a> {
     } };
 
     ghost invariant = { λ f. IsFloor (scope_of f.table.shared.key) f.table.shared.table_id.words
-        (plan_of f.loading) f.board.now f.units f.loaded };
+        f.table.shared.table_id.slots (plan_of f.loading) f.board.now f.units f.passes f.loaded };
 }
 
 impl<'a> Floor<'a> {
@@ -98,6 +102,7 @@ impl<'a> Floor<'a> {
             loading: *loading,
             board,
             units,
+            passes,
             loaded: start.loaded,
         };
         let pass = Pass {
@@ -238,8 +243,8 @@ impl<'a> Floor<'a> {
         pass.stage = Stage::Idle;
     }
 
-    /// Performs the unit that the pass has open, a posting: counts the cells, posts the state to the
-    /// floor's board and finishes it.
+    /// Performs the unit that the pass has open, a posting: counts the cells, posts the state to
+    /// the floor's board and finishes it.
     pub fn perform_posting<R: Wait>(&self, rt: &R, pass: &mut Pass)
         requires own { IsOf self.now pass.old }
         requires open { IsOpen pass.old.view.stage }
@@ -314,5 +319,44 @@ impl<'a> Floor<'a> {
             spare: spare + more,
             stage,
         }
+    }
+
+    /// Closes the floor, with a pass into which all others were joined. Where units are left, all
+    /// is dropped.
+    #[tactic(auto, unfolding(dta_model::specs::Units::unit_count))]
+    pub fn close(self, pass: Pass) -> Result<(Loaded, WriterPass, Receipt), Early>
+        requires own { IsOf self pass }
+        requires whole { rights pass.view ≡ self.scope.passes }
+        requires free { HoldsNoUnit pass.view.stage }
+        ensures early { IfErr result (λ e. IsEarly self.entry.scope pass.view e) }
+        ensures closed { IfOk result (λ r. IsClosed self.entry.scope pass.view r.0 r.1 r.2) }
+        ensures ended { pass.view.stage ≡ Stage.Ended → IsOk result }
+    {
+        let Floor {
+            table,
+            loading,
+            board: _,
+            units,
+            passes,
+            mut loaded,
+        } = self;
+        let Pass {
+            seat,
+            spare,
+            stage: _,
+        } = pass;
+        let closed = table.close_with(seat);
+        let finished = closed.word(2);
+        if finished < units.count() {
+            drop_parts(closed);
+            return Err(Early { finished });
+        }
+        let writer = take_parts(closed, &loading, &mut loaded);
+        let receipt = Receipt {
+            units: units.count(),
+            passes: passes - spare,
+            vehicles: loading.trips.len() as u32,
+        };
+        Ok((loaded, writer, receipt))
     }
 }

@@ -13,6 +13,7 @@ mod floor;
 mod laws;
 mod part;
 mod pass;
+mod receipt;
 mod rule;
 mod start;
 mod unit;
@@ -31,6 +32,7 @@ pub use laws::{
     passes_are_apart,
 };
 pub use pass::Pass;
+pub use receipt::{Early, Receipt};
 pub use unit::{Open, Unit};
 
 #[cfg(test)]

@@ -73,7 +73,8 @@ pub(crate) fn empty_outs<V, K, P: TableRule<Part, V, K>>(
     }
 }
 
-/// Fills the places of a node's in-links with the batches of a step, out of the places of their mail.
+/// Fills the places of a node's in-links with the batches of a step, out of the slots of their
+/// mail.
 pub(crate) fn fill_ins<V, K, P: TableRule<Part, V, K>>(
     shared: &Shared<Part, V, K, P>,
     seat: &mut Seat<Part, V>,

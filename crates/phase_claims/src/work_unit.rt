@@ -13,8 +13,8 @@ use atomic_table::{Seat, Shared, TableRule};
 use dta_model::Loading;
 use net_core::NodeNo;
 
-/// The transfer of a node in a step: out of the places of its cell and of the rooms of its out-links,
-/// and back into them with batches.
+/// The transfer of a node in a step: out of the slots of its cell and of the rooms of its
+/// out-links, and back into them with batches.
 pub(crate) fn transfer_held<V, K, P: TableRule<Part, V, K>>(
     shared: &Shared<Part, V, K, P>,
     seat: &mut Seat<Part, V>,

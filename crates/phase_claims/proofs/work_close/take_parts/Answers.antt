@@ -39,7 +39,7 @@ loop-n-preserved c =
       (λ k low high. still_filled (slots_filled c.loop-n.closed.slots) (slots_filled c.take_cell-cell.new.closed.slots) c.loop-n.n (slots_len c.loop-n.closed.slots) taken.filled c.loop-n.invariant.2 k low (omega (arith, high, c.take_cell-cell.ensures.count))),
       no_more_filled (slots_filled c.loop-n.closed.slots) (slots_filled c.take_cell-cell.new.closed.slots) c.loop-n.n taken.filled c.loop-n.invariant.3,
       hands_over p c.requires.sound (slots_items c.loop-n.closed.slots) (subst (AreLast p) (sym c.loop-n.invariant.0) c.requires.cells) c.loop-n.n inside
-      c.take_cell-cell.result c.take_cell-cell.ensures.cell c.loop-n.loaded c.hand_over.new.loaded c.loop-n.invariant.4 c.hand_over.ensures,
+          c.take_cell-cell.result c.take_cell-cell.ensures.cell c.loop-n.loaded c.hand_over.new.loaded c.loop-n.invariant.4 c.hand_over.ensures,
     )
 
 pub returns-clause-loaded : goal.returns-clause-loaded
