@@ -156,16 +156,16 @@ module _ (k k' : Scope) (q : Plan) (same : k ≡ k') (plan : q ≡ k.plan) (s : 
       pub cells_last : AreLast q parts
       cells_last = subst (λ (x : Plan). AreLast x parts) (sym plan) (last_cell k s h id v at all_here free_here whole_here parts values)
 
-      writer_last : get_elem? parts (posting_slot q) ≡ some (Writer (record { board = k.board; list = posted_in k.plan k.plan.horizon }))
-      writer_last = ap (λ (x : Plan). get_elem? parts (posting_slot x)) plan ∙ last_writer k s h id v at all_here free_here whole_here parts values
+      writer_last : get_elem? parts (posting_part q) ≡ some (Writer (record { board = k.board; list = posted_in k.plan k.plan.horizon }))
+      writer_last = ap (λ (x : Plan). get_elem? parts (posting_part x)) plan ∙ last_writer k s h id v at all_here free_here whole_here parts values
 
-      pub writer_there : HasWriter (posting_slot q) parts
+      pub writer_there : HasWriter (posting_part q) parts
       writer_there = (record { board = k.board; list = posted_in k.plan k.plan.horizon }, writer_last)
 
       same_writer : (x y : Known) → Writer x ≡ Writer y → x ≡ y
       same_writer x y e = cc
 
-      pub closes : (journeys : List Journey) → journeys ≡ journeys_of q → (w : Known) → get_elem? parts (posting_slot q) ≡ some (Writer w) → (units passes left vehicles : ℕ) → units ≡ unit_count k.plan → passes ≡ k.passes → left ≡ v.spare → vehicles ≡ length q.trips
+      pub closes : (journeys : List Journey) → journeys ≡ journeys_of q → (w : Known) → get_elem? parts (posting_part q) ≡ some (Writer w) → (units passes left vehicles : ℕ) → units ≡ unit_count k.plan → passes ≡ k.passes → left ≡ v.spare → vehicles ≡ length q.trips
           → IsClosed k' v' journeys w (record { units = units; passes = passes - left; vehicles = vehicles })
       closes journeys ej w ew units passes left vehicles eu ep el ev =
           let is : w ≡ record { board = k.board; list = posted_in k.plan k.plan.horizon } = same_writer w _ (some-injective (Writer w) _ (sym ew ∙ writer_last)) in

@@ -65,7 +65,7 @@ module _ (k : Scope) (writer : Known) (cells : List CellState) (letters : List m
   mail_count : length (map Mail letters) ≡ L
   mail_count = length-map letters Mail ∙ ap (λ xs. length xs) rooms ∙ length-map (numbers_below L) (room_of p 0) ∙ count_range L 0
 
-  pub parts_count : length parts ≡ suc (posting_slot p)
+  pub parts_count : length parts ≡ suc (posting_part p)
   parts_count = ap (λ xs. length xs) laid ∙ length-append (map Cell cells) (map Mail letters ++ Writer writer ∷ []) ∙ (let b = length-append (map Mail letters) (Writer writer ∷ []) in omega (arith, b, cell_count, mail_count))
 
   no_stage : 2 * 0 ≡ 0

@@ -3,7 +3,7 @@ use Rattle.std.specs.Prelude.{◌≡◌, ℕ, suc, List}
 use Rattle.atomic_table.specs.Seated.{TableId}
 use Rattle.dta_model.specs.Plans.{vehicle_count}
 use Rattle.dta_model.specs.Sound.{IsSound}
-use Rattle.dta_model.specs.Units.{node_count, posting_slot}
+use Rattle.dta_model.specs.Units.{node_count, posting_part}
 use Rattle.dta_model.specs.declared.loaded.Journey.{Journey}
 use Rattle.dta_model.specs.declared.plan.Plan.{Plan}
 use Rattle.claim_core.specs.declared.units.Units.{Units}
@@ -15,7 +15,7 @@ use Rattle.phase_claims.specs.declared.view.Scope.{Scope}
 pub record IsFloor (k : Scope) (count parts : ℕ) (p : Plan) (shown : TableId) (own : Units)
     (most : ℕ) (journeys : List Journey) : Type 0 where
   pub words : count ≡ 3
-  pub slots : parts ≡ suc (posting_slot k.plan)
+  pub slots : parts ≡ suc (posting_part k.plan)
   pub plan : p ≡ k.plan
   pub board : shown ≡ k.board
   pub sound : IsSound k.plan

@@ -1,7 +1,7 @@
 // The counts of a node's cell are added to those of the nodes before it.
 ghost use Rattle.dta_model.specs.Lent.{plan_of};
 ghost use Rattle.dta_model.specs.Sound.{IsSound};
-ghost use Rattle.node_transfer.specs.Contents.{away, cell_before};
+ghost use Rattle.cell_stages.specs.Contents.{away, cell_before};
 ghost use Rattle.phase_claims.specs.PlacesCounted.{counted_in, firsts_on};
 ghost use Rattle.std.specs.Prelude.{◌≡◌, ◌<◌, suc, length, slice_set};
 

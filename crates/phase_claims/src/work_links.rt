@@ -1,8 +1,8 @@
 // The mail of a node's links goes between the places that a seat holds and the node's cell.
 ghost use Rattle.dta_model.specs.Lent.{plan_of};
 ghost use Rattle.dta_model.specs.Plans.{ins as ins_of, outs as outs_of};
-ghost use Rattle.node_transfer.specs.Contents.{IsStep, away, batch_of, cell_after, cell_before};
-ghost use Rattle.node_transfer.specs.Contents.{room_of};
+ghost use Rattle.cell_stages.specs.Contents.{IsStep, away, batch_of, cell_after, cell_before};
+ghost use Rattle.cell_stages.specs.Contents.{room_of};
 ghost use Rattle.phase_claims.specs.PlacesHeld.{IsSameSeat, after_cell, before_cell, empty_places};
 ghost use Rattle.phase_claims.specs.PlacesHeld.{mail_places};
 ghost use Rattle.std.specs.Prelude.{◌≡◌, suc};
@@ -73,7 +73,7 @@ pub(crate) fn empty_outs<V, K, P: TableRule<Part, V, K>>(
     }
 }
 
-/// Fills the places of a node's in-links with the batches of a step, out of the slots of their
+/// Fills the places of a node's in-links with the batches of a step, out of the places of their
 /// mail.
 pub(crate) fn fill_ins<V, K, P: TableRule<Part, V, K>>(
     shared: &Shared<Part, V, K, P>,

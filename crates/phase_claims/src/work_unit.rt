@@ -1,8 +1,8 @@
 // The work of a transfer and of a gather, on the parts that a seat holds for it.
 ghost use Rattle.dta_model.specs.Lent.{plan_of};
 ghost use Rattle.dta_model.specs.Plans.{ins as ins_of, outs as outs_of};
-ghost use Rattle.node_transfer.specs.Contents.{IsStep, away, batch_of, cell_after, cell_before};
-ghost use Rattle.node_transfer.specs.Contents.{room_of};
+ghost use Rattle.cell_stages.specs.Contents.{IsStep, away, batch_of, cell_after, cell_before};
+ghost use Rattle.cell_stages.specs.Contents.{room_of};
 ghost use Rattle.phase_claims.specs.PlacesHeld.{IsSameSeat, node_places};
 ghost use Rattle.std.specs.Prelude.{◌≡◌, suc};
 
@@ -13,7 +13,7 @@ use atomic_table::{Seat, Shared, TableRule};
 use dta_model::Loading;
 use net_core::NodeNo;
 
-/// The transfer of a node in a step: out of the slots of its cell and of the rooms of its
+/// The transfer of a node in a step: out of the places of its cell and of the rooms of its
 /// out-links, and back into them with batches.
 pub(crate) fn transfer_held<V, K, P: TableRule<Part, V, K>>(
     shared: &Shared<Part, V, K, P>,

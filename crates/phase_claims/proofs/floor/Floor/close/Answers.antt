@@ -1,7 +1,7 @@
 use Rattle.std.proofs.Common.{suc, refl, sym, ap, ◌∙◌, arith}
 use Rattle.std.specs.Mem.Slots.{slots_items}
 use Rattle.dta_model.specs.Lent.{plan_of}
-use Rattle.dta_model.specs.Units.{posting_slot}
+use Rattle.dta_model.specs.Units.{posting_part}
 use Rattle.claim_core.proofs.Working.{count_is_all}
 use Rattle.phase_claims.specs.Passes.{FloorState, PassState}
 use Rattle.phase_claims.specs.Scopes.{scope_of}
@@ -24,7 +24,7 @@ returns-then-finished-count-clause-ended c =
 
 pub take_parts-writer-requires-clause-count : goal.take_parts-writer-requires-clause-count
 take_parts-writer-requires-clause-count c =
-    c.close_with-closed.ensures.counts.1 ∙ c.self.invariant.slots ∙ ap (λ p. suc (posting_slot p)) (sym c.self.invariant.plan)
+    c.close_with-closed.ensures.counts.1 ∙ c.self.invariant.slots ∙ ap (λ p. suc (posting_part p)) (sym c.self.invariant.plan)
 
 pub take_parts-writer-requires-clause-cells : goal.take_parts-writer-requires-clause-cells
 take_parts-writer-requires-clause-cells c =

@@ -1,5 +1,5 @@
 use Rattle.std.proofs.Common.{suc, ◌-◌, ap, sym, ◌∙◌, rules}
-use Rattle.dta_model.specs.Units.{posting_slot}
+use Rattle.dta_model.specs.Units.{posting_part}
 use Rattle.phase_claims.specs.Scopes.{scope_of}
 use Rattle.phase_claims.specs.declared.rule.Key.{Key}
 use Rattle.phase_claims.proofs.Allowed.{begins_allowed}
@@ -18,7 +18,7 @@ invariant_of-floor c =
     let count = parts_count (scope_of (record { loading = c.args.loading.now; board = c.args.board; passes = c.args.passes })) _ _ _ _ (c.into_vec-cells.ensures ∙ start.cells) (c.into_vec.ensures ∙ start.mail) c.requires.own c.requires.new c.in_ok-parts.ensures in
     record {
       words = search rules;
-      slots = c.in-Ok.ensures.ok.1 ∙ count ∙ ap (λ (key : Key). suc (posting_slot (scope_of key).plan)) (sym c.in-Ok.ensures.ok.5);
+      slots = c.in-Ok.ensures.ok.1 ∙ count ∙ ap (λ (key : Key). suc (posting_part (scope_of key).plan)) (sym c.in-Ok.ensures.ok.5);
       plan = search rules;
       board = search rules;
       sound = search rules;
