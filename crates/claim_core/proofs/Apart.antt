@@ -108,7 +108,7 @@ module _ (p : Plan) where
       ∙ once (link_at p l).from.0 (node_count p) (from-below p sound (node_count p) (omega arith) l h)
 
   -- the stage of a part before the phase of a unit, by the unit's task
-  before_is : (k c r : ℕ) → r ≤ step_units (node_count p) → phase_begins (node_count p) (task_of (node_count p) c) ≡ r → stage_before p c k ≡ step_of (node_count p) c * below (step_units (node_count p)) (at_place p k) + below r (at_place p k)
+  pub before_is : (k c r : ℕ) → r ≤ step_units (node_count p) → phase_begins (node_count p) (task_of (node_count p) c) ≡ r → stage_before p c k ≡ step_of (node_count p) c * below (step_units (node_count p)) (at_place p k) + below r (at_place p k)
   unfolding stage_before phase_start
   before_is k c r le e =
       let t : ℕ = step_of (node_count p) c in

@@ -109,11 +109,11 @@ module _ (p : Plan) where
             (lower (node_count p + 0) (suc n) (posting_part p) (map (mail_part p) links) (omega (arith, h)) mail),
       )
 
-  outs_rise : (n : ℕ) → Rises 0 (length p.net.links) (outs p n)
+  pub outs_rise : (n : ℕ) → Rises 0 (length p.net.links) (outs p n)
   unfolding network.outs
   outs_rise n = filter_rises (λ l. nat_eq (link_at p l).from.0 n) 0 (length p.net.links) (numbers_below (length p.net.links)) (numbers_rise (length p.net.links))
 
-  ins_rise : (n : ℕ) → Rises 0 (length p.net.links) (ins p n)
+  pub ins_rise : (n : ℕ) → Rises 0 (length p.net.links) (ins p n)
   unfolding network.ins
   ins_rise n = filter_rises (λ l. nat_eq (link_at p l).to.0 n) 0 (length p.net.links) (numbers_below (length p.net.links)) (numbers_rise (length p.net.links))
 

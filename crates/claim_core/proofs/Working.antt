@@ -188,7 +188,7 @@ pub in_count : (p : Plan) (u H N : ℕ) → H ≡ p.horizon → N ≡ node_count
 unfolding unit_count
 in_count p u H N h n l = let e : H * step_units N ≡ p.horizon * step_units (node_count p) = ap (λ x. x * step_units N) h ∙ ap (λ x. p.horizon * step_units x) n in omega (arith, l, e)
 
-in_time : (W H u : ℕ) → 1 ≤ W → u < H * W → u / W < H
+pub in_time : (W H u : ℕ) → 1 ≤ W → u < H * W → u / W < H
 in_time W H u one l = dite (dec_le H (u / W))
     (λ le. let m : H * W ≤ u / W * W = mul-le-mul_right W le in absurd (omega (arith, m, l, div-add-mod' u W)))
     (λ n. lt_of_not-le n)

@@ -2,4 +2,17 @@ pub mod Owners
 pub mod Counts
 pub mod Steps
 pub mod Allowed
+pub mod Turning
+pub mod Homes
+pub mod PlacesTurn
+pub mod PlacesRound
+pub mod PlacesFree
+pub mod PlacesSteps
+pub mod PlacesUnit
+pub mod PlacesStart
+pub mod PlacesSums
+pub mod PlacesPosted
+pub mod PlacesPosting
 pub mod Machines
+pub mod PlacesClosed
+pub mod PlacesEnd

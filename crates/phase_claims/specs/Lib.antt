@@ -5,5 +5,10 @@ pub mod Laws
 pub mod Plays
 pub mod Passes
 pub mod Floors
+pub mod PlacesHeld
+pub mod PlacesHome
+pub mod PlacesCounted
 pub mod Tried
 pub mod Examples
+pub mod PlacesClosed
+pub mod PlacesEnd

@@ -1,5 +1,5 @@
 -- What a floor and a pass are to a contract, and what the calls answer.
-use Rattle.std.specs.Prelude.{◌≡◌, ℕ, ◌<◌, ◌≤◌, Bool, true, false, [], Option, Some, None}
+use Rattle.std.specs.Prelude.{◌≡◌, ℕ, ◌<◌, ◌≤◌, Bool, true, false, Option, Some, None}
 use Rattle.atomic_table.specs.Seated.{TableId}
 use Rattle.atomic_table.specs.Table.{Me}
 use Rattle.dta_model.specs.Units.{node_count, step_of, task_of, unit_count}
@@ -14,6 +14,7 @@ use Rattle.phase_claims.specs.declared.unit.Open.TheVariants as answer
 use Rattle.phase_claims.specs.declared.unit.Unit.{Unit as LoadingUnit}
 use Rattle.phase_claims.specs.declared.view.Scope.{Scope}
 use Rattle.phase_claims.specs.declared.view.View.{View}
+use Rattle.phase_claims.specs.PlacesHome.{carried}
 use Rattle.phase_claims.specs.Views.{ended, first_of_phase, having_open, holding}
 use Rattle.phase_claims.specs.Views.{performed_count, seeing, unit_in}
 
@@ -48,16 +49,19 @@ holds_no_unit stage.Ended = true
 abbrev pub HoldsNoUnit : Stage → Type 0
 HoldsNoUnit s = holds_no_unit s ≡ true
 
--- what the unit that a pass holds does
+-- what a unit does, and what the one does that a pass holds
+abbrev pub kind_at : Plan → ℕ → UnitKind
+kind_at p number = kind_by (task_of (node_count p) number)
+
 abbrev pub kind_in : View → UnitKind
-kind_in v = kind_by (task_of (node_count v.scope.plan) (unit_in v.stage))
+kind_in v = kind_at v.scope.plan (unit_in v.stage)
 
 -- the unit of a number, with its step and what it does
 abbrev pub unit_at : Plan → ℕ → LoadingUnit
 unit_at p number = record {
   number = number;
   step = step_of (node_count p) number;
-  kind = kind_by (task_of (node_count p) number);
+  kind = kind_at p number;
 }
 
 -- the answer of a claim that drew a number: its unit exactly where there is one, and else none
@@ -87,9 +91,18 @@ pub record Opens (old : View) (result : Open) (new : View) : Type 0 where
   pub own : performed_count old ≤ finished
   pub answer : AnswersOpen old finished result new
 
--- what a pass keeps: it holds no place, and its fields say what it knows
+-- the unit that a pass holds is one of the plan
+abbrev pub IsInside : Plan → Stage → Type 0
+IsInside p stage.Idle = Unit {0}
+IsInside p (stage.Held c) = c < unit_count p
+IsInside p (stage.Open c) = c < unit_count p
+IsInside p stage.Ended = Unit {0}
+
+-- what a pass keeps: it has the places of the unit that it has open, and no others; its fields say
+-- what it knows
 pub record IsPass (me : Me Part View) (left : ℕ) (has : Stage) : Type 0 where
-  pub slots : me.1 ≡ []
+  pub slots : me.1 ≡ carried me.0.scope me.0.stage
+  pub inside : IsInside me.0.scope.plan me.0.stage
   pub weight : 1 ≤ me.0.weight
   pub spare : left ≡ me.0.spare
   pub stage : has ≡ me.0.stage

@@ -1,10 +1,12 @@
 -- What each step on a floor's words tells the pass that makes it: what it was, the word that was
 -- found, and what it is after.
-use Rattle.std.specs.Prelude.{◌≡◌, ℕ, ◌<◌, ◌≤◌}
+use Rattle.std.specs.Prelude.{◌≡◌, ℕ, ◌<◌, ◌≤◌, []}
 use Rattle.atomic_table.specs.Table.{Me, Step}
 use Rattle.dta_model.specs.Units.{unit_count}
 use Rattle.phase_claims.specs.declared.floor.TheConstants.{MOST_PASSES}
+use Rattle.phase_claims.specs.declared.part.Part.{Part}
 use Rattle.phase_claims.specs.declared.view.View.{View}
+use Rattle.phase_claims.specs.PlacesHome.{carried}
 use Rattle.phase_claims.specs.Views.{done_with, ended, first_of_phase, having_open, holding}
 use Rattle.phase_claims.specs.Views.{performed_count, rights, seeing}
 
@@ -13,11 +15,11 @@ pub record DrawsNumber (old : View) (number : ℕ) (new : View) : Type 0 where
   pub given : number < unit_count old.scope.plan → new ≡ holding old number
   pub over : unit_count old.scope.plan ≤ number → new ≡ ended old
 
-abbrev pub Draws : {S : Type 0} → Step S → Me S View → ℕ → Me S View → Type 0
+abbrev pub Draws : Step Part → Me Part View → ℕ → Me Part View → Type 0
 Draws st m number m' = (m'.1 ≡ m.1) × DrawsNumber m.0 number m'.0
 
 -- a look, of a pass that holds a unit, at how many units are finished: no fewer than it has seen
--- before, and than it has performed itself
+-- before, and than it has performed itself. Where its unit is open it has the unit's places
 pub record LooksAt (old : View) (finished : ℕ) (new : View) : Type 0 where
   pub seen : old.seen ≤ finished
   pub own : performed_count old ≤ finished
@@ -27,13 +29,13 @@ pub record LooksAt (old : View) (finished : ℕ) (new : View) : Type 0 where
   pub opens : first_of_phase old ≤ finished → new ≡ having_open old finished
   pub waits : finished < first_of_phase old → new ≡ seeing old finished
 
-abbrev pub Looks : {S : Type 0} → Step S → Me S View → ℕ → Me S View → Type 0
-Looks st m finished m' = (m'.1 ≡ m.1) × LooksAt m.0 finished m'.0
+abbrev pub Looks : Step Part → Me Part View → ℕ → Me Part View → Type 0
+Looks st m finished m' = (m'.1 ≡ carried m.0.scope m'.0.stage) × LooksAt m.0 finished m'.0
 
--- a finish: the pass has performed its unit
-abbrev pub Finishes : {S : Type 0} → Step S → Me S View → ℕ → Me S View → Type 0
-Finishes st m finished m' = (m'.1 ≡ m.1) × (m'.0 ≡ done_with m.0)
+-- a finish: the pass has performed its unit, and has no place any more
+abbrev pub Finishes : Step Part → Me Part View → ℕ → Me Part View → Type 0
+Finishes st m finished m' = (m'.1 ≡ []) × (m'.0 ≡ done_with m.0)
 
 -- a look at the word that never changes tells that a pass has no more rights than there may be
-abbrev pub IsBounded : {S : Type 0} → Step S → Me S View → ℕ → Me S View → Type 0
+abbrev pub IsBounded : Step Part → Me Part View → ℕ → Me Part View → Type 0
 IsBounded st m found m' = (m' ≡ m) × (rights m.0 ≤ MOST_PASSES)

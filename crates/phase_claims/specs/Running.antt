@@ -10,8 +10,10 @@ use Rattle.dta_model.specs.declared.machine.Stage.TheVariants as stage
 use Rattle.claim_core.specs.Claimed.{Claimed}
 use Rattle.claim_core.specs.Sums.{total}
 use Rattle.phase_claims.specs.declared.floor.TheConstants.{MOST_PASSES}
+use Rattle.phase_claims.specs.declared.part.Part.{Part}
 use Rattle.phase_claims.specs.declared.view.Scope.{Scope}
 use Rattle.phase_claims.specs.declared.view.View.{View}
+use Rattle.phase_claims.specs.PlacesHome.{AreHome}
 use Rattle.phase_claims.specs.Views.{held_by, nobody, performed_by, performed_count, rights}
 
 -- a pass that has ended drew a number of no unit, and one that hasn't drew none
@@ -52,11 +54,12 @@ pub record Running (k : Scope) (drawn finished : ℕ) (views : List View) : Type
   pub each : (by : ℕ) (v : View) → get_elem? views by ≡ some v → FitsView k finished v
 
 -- the rule: the first word never changes, the second counts the numbers drawn, and the third the
--- units finished
-pub record Holds {S : Type 0} (k : Scope) (s : State S View) : Type 0 where
+-- units finished; each place that no open unit needs holds its part, and the others are out
+pub record Holds (k : Scope) (s : State Part View) : Type 0 where
   pub few : k.passes ≤ MOST_PASSES
   pub small : unit_count k.plan < 2 ^ 50
   pub drawn : ℕ
   pub finished : ℕ
   pub words : s.words ≡ 0 ∷ drawn ∷ finished ∷ []
   pub running : Running k drawn finished s.views
+  pub homes : AreHome k s.homes s.views

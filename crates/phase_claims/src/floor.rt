@@ -1,16 +1,24 @@
 // The floor and its calls.
-ghost use Rattle.std.specs.Prelude.{◌≡◌, ◌≢◌, ◌<◌, ◌≤◌, ◌-◌, [], IfOk};
+ghost use Rattle.std.specs.Prelude.{◌≡◌, ◌≢◌, ◌<◌, ◌≤◌, ◌-◌, [], IfErr, IfOk, IsOk};
 ghost use Rattle.dta_model.specs.Lent.{plan_of};
 ghost use Rattle.dta_model.specs.Sound.{IsSound};
 ghost use Rattle.dta_model.specs.Units.{unit_count};
 ghost use Rattle.phase_claims.specs.Passes.{Claims, HoldsNoUnit, IsHeld, IsOf, IsOpen, Opens};
-ghost use Rattle.phase_claims.specs.Passes.{kind_in, unit_at};
+ghost use Rattle.phase_claims.specs.Passes.{kind_at, kind_in, unit_at};
+ghost use Rattle.phase_claims.specs.PlacesEnd.{IsClosed, IsEarly};
+ghost use Rattle.phase_claims.specs.PlacesHeld.{IsSameSeat};
+ghost use Rattle.phase_claims.specs.PlacesHome.{brought, carried};
 ghost use Rattle.phase_claims.specs.Views.{beginning, done_with, joined, less_spare, rights};
+ghost use Rattle.phase_claims.specs.Views.{unit_in};
 
 use crate::pass::Pass;
-use crate::rule::{Bound, Cut, Draw, Finish, Glue, Key, Look, Words};
+use crate::receipt::{Early, Receipt};
+use crate::rule::{Bound, Cut, Draw, Finish, Glue, Key, Look, PassSeat, Words};
 use crate::start::parts_at_start;
 use crate::unit::{Open, Unit};
+use crate::work_close::{drop_parts, take_parts};
+use crate::work_posting::post_held;
+use crate::work_unit::{gather_held, transfer_held};
 use atomic_table::Table;
 use claim_core::{UnitKind, Units};
 use dta_model::{Loaded, Loading, Stage};
@@ -32,6 +40,7 @@ pub struct Floor<'a> {
     loading: Loading<'a>,
     board: &'a Board,
     units: Units,
+    passes: u32,
     loaded: Loaded,
 }
 
@@ -49,7 +58,7 @@ impl<'a> Model for Floor<'a> {
     } };
 
     ghost invariant = { λ f. IsFloor (scope_of f.table.shared.key) f.table.shared.table_id.words
-        (plan_of f.loading) f.board.now f.units f.loaded };
+        f.table.shared.table_id.slots (plan_of f.loading) f.board.now f.units f.passes f.loaded };
 }
 
 impl<'a> Floor<'a> {
@@ -93,6 +102,7 @@ impl<'a> Floor<'a> {
             loading: *loading,
             board,
             units,
+            passes,
             loaded: start.loaded,
         };
         let pass = Pass {
@@ -163,19 +173,61 @@ impl<'a> Floor<'a> {
         }
     }
 
-    // Finishes the unit that the pass has open.
-    fn finish(&self, pass: &mut Pass)
-        requires own { IsOf self.now pass.old }
-        requires open { IsOpen pass.old.view.stage }
-        ensures table { pass.new.table ≡ pass.old.table }
-        ensures done { pass.new.view ≡ done_with pass.old.view }
+    // Does the work of a transfer or a gather, on the places that a seat has for it.
+    #[tactic(auto, unfolding(dta_model::specs::Units::unit_count))]
+    fn do_work(&self, seat: &mut PassSeat, number: u64)
+        requires table { seat.old.table_id ≡ self.now.table }
+        requires number { number < unit_count self.now.scope.plan }
+        requires kind { kind_at self.now.scope.plan number ≢ UnitKind.Posting }
+        requires held { seat.old.me.1 ≡ carried self.now.scope (Stage.Open number) }
+        ensures seat { IsSameSeat seat.old seat.new }
+        ensures done { seat.new.me.1 ≡ brought self.now.scope number }
     {
-        self.table.shared.fetch_add::<Finish>(&mut pass.seat, 2, 1);
-        pass.stage = Stage::Idle;
+        let shared = &self.table.shared;
+        let step = self.units.step_of(number);
+        match self.units.kind_of(number) {
+            UnitKind::Transfer(node) => transfer_held(shared, seat, &self.loading, node, step),
+            UnitKind::Gather(node) => gather_held(shared, seat, &self.loading, node, step),
+            UnitKind::Posting => unreachable!(),
+        }
     }
 
-    /// Performs the unit that the pass has open, a transfer or a gather, and finishes it. Its work
-    /// isn't done yet.
+    // Does the work of a posting, on the places that a seat has for it.
+    #[tactic(auto, unfolding(dta_model::specs::Units::unit_count))]
+    fn do_posting<R: Wait>(&self, rt: &R, seat: &mut PassSeat, number: u64)
+        requires table { seat.old.table_id ≡ self.now.table }
+        requires number { number < unit_count self.now.scope.plan }
+        requires kind { kind_at self.now.scope.plan number ≡ UnitKind.Posting }
+        requires held { seat.old.me.1 ≡ carried self.now.scope (Stage.Open number) }
+        ensures seat { IsSameSeat seat.old seat.new }
+        ensures done { seat.new.me.1 ≡ brought self.now.scope number }
+    {
+        let step = self.units.step_of(number);
+        post_held(
+            rt,
+            &self.table.shared,
+            seat,
+            &self.loading,
+            self.board,
+            step,
+        );
+    }
+
+    // Finishes the unit that a seat has open, once its work is done: its places come home.
+    fn finish(&self, seat: &mut PassSeat)
+        requires table { seat.old.table_id ≡ self.now.table }
+        requires open { IsOpen seat.old.me.0.stage }
+        requires weight { 1 ≤ seat.old.me.0.weight }
+        requires done { seat.old.me.1 ≡
+            brought seat.old.me.0.scope (unit_in seat.old.me.0.stage) }
+        ensures table { seat.new.table_id ≡ seat.old.table_id }
+        ensures done { seat.new.me ≡ (done_with seat.old.me.0, []) }
+    {
+        self.table.shared.fetch_add::<Finish>(seat, 2, 1);
+    }
+
+    /// Performs the unit that the pass has open, a transfer or a gather: takes its parts, does its
+    /// work, brings them home and finishes it.
     pub fn perform(&self, pass: &mut Pass)
         requires own { IsOf self.now pass.old }
         requires open { IsOpen pass.old.view.stage }
@@ -183,18 +235,29 @@ impl<'a> Floor<'a> {
         ensures table { pass.new.table ≡ pass.old.table }
         ensures done { pass.new.view ≡ done_with pass.old.view }
     {
-        self.finish(pass);
+        let Stage::Open(number) = pass.stage else {
+            unreachable!()
+        };
+        self.do_work(&mut pass.seat, number);
+        self.finish(&mut pass.seat);
+        pass.stage = Stage::Idle;
     }
 
-    /// Performs the unit that the pass has open, a posting, and finishes it. Its work isn't done yet.
-    pub fn perform_posting<R: Wait>(&self, _rt: &R, pass: &mut Pass)
+    /// Performs the unit that the pass has open, a posting: counts the cells, posts the state to
+    /// the floor's board and finishes it.
+    pub fn perform_posting<R: Wait>(&self, rt: &R, pass: &mut Pass)
         requires own { IsOf self.now pass.old }
         requires open { IsOpen pass.old.view.stage }
         requires kind { kind_in pass.old.view ≡ UnitKind.Posting }
         ensures table { pass.new.table ≡ pass.old.table }
         ensures done { pass.new.view ≡ done_with pass.old.view }
     {
-        self.finish(pass);
+        let Stage::Open(number) = pass.stage else {
+            unreachable!()
+        };
+        self.do_posting(rt, &mut pass.seat, number);
+        self.finish(&mut pass.seat);
+        pass.stage = Stage::Idle;
     }
 
     /// Splits a pass off from one that may still do so. The first of the two keeps the rest of the
@@ -256,5 +319,44 @@ impl<'a> Floor<'a> {
             spare: spare + more,
             stage,
         }
+    }
+
+    /// Closes the floor, with a pass into which all others were joined. Where units are left, all
+    /// is dropped.
+    #[tactic(auto, unfolding(dta_model::specs::Units::unit_count))]
+    pub fn close(self, pass: Pass) -> Result<(Loaded, WriterPass, Receipt), Early>
+        requires own { IsOf self pass }
+        requires whole { rights pass.view ≡ self.scope.passes }
+        requires free { HoldsNoUnit pass.view.stage }
+        ensures early { IfErr result (λ e. IsEarly self.entry.scope pass.view e) }
+        ensures closed { IfOk result (λ r. IsClosed self.entry.scope pass.view r.0 r.1 r.2) }
+        ensures ended { pass.view.stage ≡ Stage.Ended → IsOk result }
+    {
+        let Floor {
+            table,
+            loading,
+            board: _,
+            units,
+            passes,
+            mut loaded,
+        } = self;
+        let Pass {
+            seat,
+            spare,
+            stage: _,
+        } = pass;
+        let closed = table.close_with(seat);
+        let finished = closed.word(2);
+        if finished < units.count() {
+            drop_parts(closed);
+            return Err(Early { finished });
+        }
+        let writer = take_parts(closed, &loading, &mut loaded);
+        let receipt = Receipt {
+            units: units.count(),
+            passes: passes - spare,
+            vehicles: loading.trips.len() as u32,
+        };
+        Ok((loaded, writer, receipt))
     }
 }

@@ -13,10 +13,17 @@ mod floor;
 mod laws;
 mod part;
 mod pass;
+mod receipt;
 mod rule;
 mod start;
 mod unit;
 mod view;
+mod work;
+mod work_close;
+mod work_counts;
+mod work_links;
+mod work_posting;
+mod work_unit;
 
 pub use claim_core::UnitKind;
 pub use floor::{Floor, MOST_PASSES};
@@ -25,6 +32,7 @@ pub use laws::{
     passes_are_apart,
 };
 pub use pass::Pass;
+pub use receipt::{Early, Receipt};
 pub use unit::{Open, Unit};
 
 #[cfg(test)]

@@ -1,5 +1,29 @@
+use Rattle.std.proofs.Common.{suc, ◌-◌, ap, sym, ◌∙◌, rules}
+use Rattle.dta_model.specs.Units.{posting_part}
+use Rattle.phase_claims.specs.Scopes.{scope_of}
+use Rattle.phase_claims.specs.declared.rule.Key.{Key}
 use Rattle.phase_claims.proofs.Allowed.{begins_allowed}
+use Rattle.phase_claims.proofs.PlacesStart.{homes_start, parts_count}
 use Rattle.phase_claims.proofs.floor.Floor.new.Goals as goal
 
 pub new-requires : goal.new-requires
-new-requires c = begins_allowed _ _ c.requires.sound c.requires.least c.requires.most
+new-requires c =
+    let start = c.in_ok-start.ensures in
+    let homes = homes_start _ _ _ _ _ (c.into_vec-cells.ensures ∙ start.cells) (c.into_vec.ensures ∙ start.mail) c.requires.own c.requires.new c.in_ok-parts.ensures (c.args.passes - 1) in
+    begins_allowed _ _ homes c.requires.sound c.requires.least c.requires.most
+
+pub invariant_of-floor : goal.invariant_of-floor
+invariant_of-floor c =
+    let start = c.in_ok-start.ensures in
+    let count = parts_count (scope_of (record { loading = c.args.loading.now; board = c.args.board; passes = c.args.passes })) _ _ _ _ (c.into_vec-cells.ensures ∙ start.cells) (c.into_vec.ensures ∙ start.mail) c.requires.own c.requires.new c.in_ok-parts.ensures in
+    record {
+      words = search rules;
+      slots = c.in-Ok.ensures.ok.1 ∙ count ∙ ap (λ (key : Key). suc (posting_part (scope_of key).plan)) (sym c.in-Ok.ensures.ok.5);
+      plan = search rules;
+      board = search rules;
+      sound = search rules;
+      nodes = search rules;
+      horizon = search rules;
+      passes = search rules;
+      loaded = search rules;
+    }

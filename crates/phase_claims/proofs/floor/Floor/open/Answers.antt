@@ -9,5 +9,5 @@ load-finished-requires c =
     let held = subst (λ (p : PassState). IsHeld p.view.stage) (sym c.pass.view_is) c.requires.held in (
       same_table _ _ _ _ c.self.view_is c.pass.view_is c.requires.own,
       omega (arith, c.self.invariant.words),
-      looks_allowed _ _ _ _ held c.pass.invariant.weight,
+      looks_allowed _ _ _ _ held c.pass.invariant.weight c.pass.invariant.slots,
     )

@@ -1,0 +1,86 @@
+-- Which slots are free for a unit: those of its places that no other open unit has.
+use Rattle.std.proofs.Common.{◌≡◌, ◌≢◌, ℕ, zero, suc, ◌+◌, ◌*◌, ◌<◌, ◌≤◌, min, List, [], ◌∷◌, length, set, refl, sym, ap, ◌∙◌, subst, lt_of_not-le, arith}
+use Rattle.std.proofs.lemmas.Bool.Decides.{nat_tests}
+use mathlib.Core.Option.{some}
+use mathlib.Core.Logic.{dite}
+use native.Mathlib.Decide.{dec_le}
+use lib.ListN.{get_elem?}
+use Rattle.atomic_table.proofs.Lists.{set_else}
+use Rattle.dta_model.specs.Machine.{holds_unit}
+use Rattle.dta_model.specs.Units.{node_count, phase_end, phase_start, places, posting_part, unit_count}
+use Rattle.dta_model.specs.declared.machine.Stage.{Stage}
+use Rattle.dta_model.specs.declared.machine.Stage.TheVariants as stage
+use Rattle.claim_core.specs.Parts.{moves, stage_before, stage_of}
+use Rattle.claim_core.specs.Sums.{is_at, once_below, one_if, times, total}
+use Rattle.claim_core.proofs.Phases.{same_start, same_stop}
+use Rattle.claim_core.proofs.Places.{Rises, moved_is_placed, none_lower, one_has_it, places_in_order}
+use Rattle.claim_core.proofs.Stages.{stage_held}
+use Rattle.claim_core.proofs.Parts.{at_is}
+use Rattle.claim_core.proofs.Sums.{at_self, total_at, total_only, total_set}
+use Rattle.phase_claims.specs.declared.view.Scope.{Scope}
+use Rattle.phase_claims.specs.declared.view.View.{View}
+use Rattle.phase_claims.specs.PlacesHome.{has_slot}
+use Rattle.phase_claims.specs.Running.{Running}
+use Rattle.phase_claims.specs.Views.{held_by, holds, nobody, performed_by}
+use Rattle.phase_claims.proofs.Counts.{holds_open, once_le}
+use Rattle.phase_claims.proofs.Homes.{Once}
+
+-- the places of a unit are there, each once
+once_of : (low slots : ℕ) (ks : List ℕ) → Rises low slots ks → Once slots ks
+once_of low slots [] r = tt
+once_of low slots (k ∷ ks) r = (r.1, none_lower (suc k) slots ks r.2 k (omega arith), once_of (suc k) slots ks r.2)
+
+pub places_once : (k : Scope) (c : ℕ) → Once (suc (posting_part k.plan)) (places k.plan c)
+places_once k c = once_of 0 (suc (posting_part k.plan)) (places k.plan c) (places_in_order k.plan c)
+
+pub one_place : (slots : ℕ) (ks : List ℕ) → Once slots ks → (slot : ℕ) → times slot ks ≤ 1
+one_place slots [] o slot = omega arith
+one_place slots (k ∷ ks) o slot = dite (dec_le 1 (is_at slot k))
+    (λ here. let same : slot ≡ k = at_is slot k here in omega (arith, one slot k, ap (λ x. times x ks) same, o.1))
+    (λ away. let z : is_at slot k < 1 = lt_of_not-le away in omega (arith, z, one_place slots ks o.2 slot))
+  where
+    one : (x y : ℕ) → is_at x y ≤ 1
+    one x y = grind (arith, nat_tests)
+
+module _ (k : Scope) (w n : ℕ) (views : List View) (r : Running k w n views) where
+  abbrev N : ℕ
+  N = node_count k.plan
+
+  abbrev InPhase : ℕ → Type 0
+  InPhase c = (phase_start N n ≤ c) × (c < phase_end N n)
+
+  -- of the units of the phase only one has a place
+  same_unit : (c d slot : ℕ) → InPhase c → InPhase d → 1 ≤ times slot (places k.plan c) → 1 ≤ times slot (places k.plan d) → c ≡ d
+  same_unit c d slot ic id in_c in_d = one_has_it k.plan c d slot (omega (arith, same_start N n c ic.0 ic.1, id.0)) (omega (arith, same_stop N n c ic.0 ic.1, id.1)) in_c in_d
+
+  -- the stage of a place of a unit that is held in the phase
+  pub stage_is : (c slot : ℕ) → 1 ≤ held_by views c → InPhase c → 1 ≤ times slot (places k.plan c) → stage_of k.plan (performed_by views) slot ≡ stage_before k.plan c slot
+  unfolding stage_of stage_before
+  stage_is c slot held ic in_c =
+      stage_held (unit_count k.plan) N (min w (unit_count k.plan)) n (performed_by views) (held_by views) r.claimed (omega arith) (moves k.plan slot) c held ic.0 ic.1
+      (λ x lo hi ne. dite (dec_le 1 (times slot (places k.plan x)))
+      (λ one. absurd (ne (sym (same_unit c x slot ic (lo, hi) in_c one))))
+      (λ away. let z : times slot (places k.plan x) < 1 = lt_of_not-le away in omega (arith, z, moved_is_placed k.plan slot x)))
+
+  -- no other pass has a place of it
+  module _ (by c slot : ℕ) (v : View) (e : get_elem? views by ≡ some v) (is : (x : ℕ) → holds x v ≡ is_at x c) (ic : InPhase c) (in_c : 1 ≤ times slot (places k.plan c)) where
+    two : (j : ℕ) (u : View) → j ≢ by → get_elem? views j ≡ some u → holds c u ≡ 0
+    two j u ne a =
+        let s = total_set (holds c) views j u nobody a in
+        let t = total_at (holds c) (set views j nobody) by v (set_else views j by nobody (λ q. ne (sym q)) ∙ e) in
+        omega (arith, s, t, is c, at_self c, r.claimed.once c, once_le c (min w (unit_count k.plan)))
+
+    others : (j : ℕ) (u : View) → j ≢ by → get_elem? views j ≡ some u → has_slot k.plan slot u.stage ≡ 0
+    others j u ne a = by_stage u.stage refl
+      where
+        by_stage : (s : Stage) → u.stage ≡ s → has_slot k.plan slot s ≡ 0
+        by_stage stage.Idle q = refl
+        by_stage (stage.Held d) q = refl
+        by_stage stage.Ended q = refl
+        by_stage (stage.Open d) q = dite (dec_le 1 (times slot (places k.plan d)))
+            (λ one. let same : c ≡ d = same_unit c d slot ic ((r.each j u a).phase d q) in_c one in
+            absurd (omega (arith, two j u ne a, holds_open u.stage d c q, ap (λ x. is_at c x) (sym same), at_self c)))
+            (λ away. let z : times slot (places k.plan d) < 1 = lt_of_not-le away in omega (arith, z))
+
+    pub only_own : total (λ u. has_slot k.plan slot u.stage) views ≡ has_slot k.plan slot v.stage
+    only_own = total_only (λ u. has_slot k.plan slot u.stage) views by v e others

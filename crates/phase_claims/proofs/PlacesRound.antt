@@ -1,0 +1,76 @@
+-- One round of a loop in which the mail of a node's links goes between held slots and the node's cell.
+use Rattle.std.specs.Prelude.{slice_get}
+use Rattle.std.proofs.Common.{◌≡◌, ℕ, ◌+◌, ◌<◌, ◌≤◌, List, [], ◌∷◌, length, take, sym, ap, ◌∙◌, Option, Some}
+use Rattle.atomic_table.specs.Table.{rest, turned}
+use Rattle.atomic_table.specs.declared.shared.Seat.{Seat}
+use Rattle.net_core.specs.Network.{as_links}
+use Rattle.net_core.specs.declared.rows.LinkNo.{LinkNo}
+use Rattle.dta_model.specs.Units.{mail_part, node_count}
+use Rattle.dta_model.specs.declared.plan.Plan.{Plan}
+use Rattle.cell_stages.specs.CellState.{CellState}
+use Rattle.cell_stages.specs.Contents.{away}
+use Rattle.node_transfer.specs.declared.mail.Mail as mail
+use Rattle.node_transfer.specs.declared.mail.Mail.TheVariants.{Away}
+use Rattle.node_transfer.proofs.OfMail.Exchanges.{emptied-next, filled-next, replaced}
+use Rattle.node_transfer.proofs.OfMail.Lending.{at-place, is-told, link_of}
+use Rattle.node_transfer.proofs.OfMail.Parts.{IsMadeOf}
+use Rattle.phase_claims.specs.PlacesHeld.{HoldsCell, HoldsMail, HoldsNothing, IsSameSeat, empty_place, mail_place, node_places}
+use Rattle.phase_claims.specs.declared.part.Part.{Part}
+use Rattle.phase_claims.specs.declared.part.Part.TheVariants.{Cell, Mail, Out}
+use Rattle.phase_claims.proofs.PlacesTurn.{first_is, midway, round, same_first}
+
+pub stays : {V : Type 0} (a b c : Seat Part V) → IsSameSeat a b → IsSameSeat b c → IsSameSeat a c
+stays a b c x y = record { table = y.table ∙ x.table; id = y.id ∙ x.id; view = y.view ∙ x.view }
+
+-- the cell of a node is first among its places
+pub cell_first : (p : Plan) (n : ℕ) (cell : CellState) (by : ℕ → mail.Mail) (links : List ℕ) (l : List (ℕ × Part)) → l ≡ node_places p n cell by links → HoldsCell n l
+cell_first p n cell by links l e = (cell, e ∙ ap (λ xs. (n, Cell cell) ∷ rest xs) (sym e))
+
+same_mail : (x y : mail.Mail) → Mail x ≡ Mail y → x ≡ y
+same_mail x y e = cc
+
+some_mail : (x y : mail.Mail) → Some x ≡ Some y → x ≡ y
+some_mail x y e = cc
+
+module _ {p : Plan} {n : ℕ} {ends : ℕ → ℕ} {links : List ℕ} {cell : (ℕ → mail.Mail) → CellState} {put : ℕ → mail.Mail → CellState → CellState} {told : ℕ → CellState → Option mail.Mail}
+    (made : IsMadeOf p n ends links cell put told) (F : ℕ → mail.Mail) (ls : List LinkNo) (are : ls ≡ as_links links) (N : ℕ) (nodes : N ≡ node_count p) (z : List (ℕ × Part)) (j : ℕ) (within : j < length ls) where
+  abbrev here : ℕ
+  here = link_of ls j
+
+  there : slice_get links j ≡ Some here
+  there = at-place made F ls are j within
+
+  slot_is : mail_part p here ≡ N + here
+  slot_is = ap (λ k. k + here) (sym nodes)
+
+  -- the mail of the next link is first, and goes into the cell
+  first_mail : (l : List (ℕ × Part)) → l ≡ midway (mail_place p F) (empty_place p) z links j → l ≡ (N + here, Mail (F here)) ∷ rest l
+  first_mail l is = first_is (mail_place p F) (empty_place p) z links j here l there is ∙ ap (λ k. (k, Mail (F here)) ∷ rest l) slot_is
+
+  pub mail_first : (l : List (ℕ × Part)) → l ≡ midway (mail_place p F) (empty_place p) z links j → HoldsMail (N + here) l
+  mail_first l is = (F here, first_mail l is)
+
+  mail_is : (l : List (ℕ × Part)) (m : mail.Mail) → l ≡ midway (mail_place p F) (empty_place p) z links j → l ≡ (N + here, Mail m) ∷ rest l → m ≡ F here
+  mail_is l m is got = same_mail m (F here) (same_first (N + here) (Mail m) (Mail (F here)) l got (first_mail l is))
+
+  pub mail_lent : (l : List (ℕ × Part)) (m : mail.Mail) (c c' : CellState) → l ≡ midway (mail_place p F) (empty_place p) z links j → l ≡ (N + here, Mail m) ∷ rest l
+      → c ≡ cell (replaced (take j links) F away) → c' ≡ put j m c → c' ≡ cell (replaced (take (j + 1) links) F away)
+  mail_lent l m c c' is got at now = filled-next p n ends links cell put told made F j here m c c' there at (mail_is l m is got) now
+
+  pub out_round : (l l' : List (ℕ × Part)) → l ≡ midway (mail_place p F) (empty_place p) z links j → l' ≡ turned ((N + here, Out) ∷ rest l)
+      → l' ≡ midway (mail_place p F) (empty_place p) z links (j + 1)
+  out_round l l' is now = round (mail_place p F) (empty_place p) z links j here l l' there is (now ∙ ap (λ k. turned ((k, Out) ∷ rest l)) (sym slot_is))
+
+  -- the empty slot of the next link is first, and takes what comes out of the cell
+  pub nothing_first : (l : List (ℕ × Part)) → l ≡ midway (empty_place p) (mail_place p F) z links j → HoldsNothing (N + here) l
+  nothing_first l is = first_is (empty_place p) (mail_place p F) z links j here l there is ∙ ap (λ k. (k, Out) ∷ rest l) slot_is
+
+  pub mail_collected : (c c' : CellState) → c ≡ cell (replaced (take j links) away F) → c' ≡ put j Away c → c' ≡ cell (replaced (take (j + 1) links) away F)
+  mail_collected c c' at now = emptied-next p n ends links cell put told made F j here c c' there at now
+
+  pub mail_round : (m : mail.Mail) (c : CellState) (l l' : List (ℕ × Part)) → c ≡ cell (replaced (take j links) away F) → told j c ≡ Some m
+      → l ≡ midway (empty_place p) (mail_place p F) z links j → l' ≡ turned ((N + here, Mail m) ∷ rest l) → l' ≡ midway (empty_place p) (mail_place p F) z links (j + 1)
+  mail_round m c l l' at tells is now =
+      let same : m ≡ F here = some_mail m (F here) (sym tells ∙ is-told made F ls are j within c at) in
+      round (empty_place p) (mail_place p F) z links j here l l' there is
+      (now ∙ ap (λ k. turned ((k, Mail m) ∷ rest l)) (sym slot_is) ∙ ap (λ x. turned ((mail_part p here, Mail x) ∷ rest l)) same)

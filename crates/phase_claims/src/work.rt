@@ -1,0 +1,80 @@
+// Parts that a seat holds, one at a time: each is taken out of its place, or brought into it.
+ghost use Rattle.atomic_table.specs.Table.{rest, turned};
+ghost use Rattle.phase_claims.specs.PlacesHeld.{HoldsCell, HoldsMail, HoldsNothing, IsSameSeat};
+ghost use Rattle.std.specs.Prelude.{◌≡◌, ◌∷◌};
+
+use crate::part::Part;
+use atomic_table::{Seat, Shared, TableRule};
+use node_transfer::{Mail, NodeCell};
+
+/// Takes the mail out of the first place that the seat holds, and turns to the next one.
+pub(crate) fn take_mail<V, K, P: TableRule<Part, V, K>>(
+    shared: &Shared<Part, V, K, P>,
+    seat: &mut Seat<Part, V>,
+    slot: usize,
+) -> Mail
+    requires table { seat.old.table_id ≡ shared.now.table_id }
+    requires held { HoldsMail slot seat.old.me.1 }
+    ensures seat { IsSameSeat seat.old seat.new }
+    ensures mail { seat.old.me.1 ≡ (slot, Part.Mail result) ∷ rest seat.old.me.1 }
+    ensures held { seat.new.me.1 ≡ turned ((slot, Part.Out) ∷ rest seat.old.me.1) }
+{
+    let Part::Mail(mail) = shared.exchange(seat, slot, Part::Out) else {
+        unreachable!()
+    };
+    seat.turn();
+    mail
+}
+
+/// Brings mail into the first place that the seat holds, and turns to the next one.
+pub(crate) fn give_mail<V, K, P: TableRule<Part, V, K>>(
+    shared: &Shared<Part, V, K, P>,
+    seat: &mut Seat<Part, V>,
+    slot: usize,
+    mail: Mail,
+)
+    requires table { seat.old.table_id ≡ shared.now.table_id }
+    requires held { HoldsNothing slot seat.old.me.1 }
+    ensures seat { IsSameSeat seat.old seat.new }
+    ensures held { seat.new.me.1 ≡ turned ((slot, Part.Mail mail) ∷ rest seat.old.me.1) }
+{
+    let Part::Out = shared.exchange(seat, slot, Part::Mail(mail)) else {
+        unreachable!()
+    };
+    seat.turn();
+}
+
+/// Takes the cell out of the first place that the seat holds, which stays the first one.
+pub(crate) fn take_cell<V, K, P: TableRule<Part, V, K>>(
+    shared: &Shared<Part, V, K, P>,
+    seat: &mut Seat<Part, V>,
+    slot: usize,
+) -> NodeCell
+    requires table { seat.old.table_id ≡ shared.now.table_id }
+    requires held { HoldsCell slot seat.old.me.1 }
+    ensures seat { IsSameSeat seat.old seat.new }
+    ensures cell { seat.old.me.1 ≡ (slot, Part.Cell result) ∷ rest seat.old.me.1 }
+    ensures held { seat.new.me.1 ≡ (slot, Part.Out) ∷ rest seat.old.me.1 }
+{
+    let Part::Cell(cell) = shared.exchange(seat, slot, Part::Out) else {
+        unreachable!()
+    };
+    cell
+}
+
+/// Brings a cell into the first place that the seat holds, which stays the first one.
+pub(crate) fn give_cell<V, K, P: TableRule<Part, V, K>>(
+    shared: &Shared<Part, V, K, P>,
+    seat: &mut Seat<Part, V>,
+    slot: usize,
+    cell: NodeCell,
+)
+    requires table { seat.old.table_id ≡ shared.now.table_id }
+    requires held { HoldsNothing slot seat.old.me.1 }
+    ensures seat { IsSameSeat seat.old seat.new }
+    ensures held { seat.new.me.1 ≡ (slot, Part.Cell cell) ∷ rest seat.old.me.1 }
+{
+    let Part::Out = shared.exchange(seat, slot, Part::Cell(cell)) else {
+        unreachable!()
+    };
+}

@@ -1,0 +1,134 @@
+// The mail of a node's links goes between the places that a seat holds and the node's cell.
+ghost use Rattle.dta_model.specs.Lent.{plan_of};
+ghost use Rattle.dta_model.specs.Plans.{ins as ins_of, outs as outs_of};
+ghost use Rattle.cell_stages.specs.Contents.{IsStep, away, batch_of, cell_after, cell_before};
+ghost use Rattle.cell_stages.specs.Contents.{room_of};
+ghost use Rattle.phase_claims.specs.PlacesHeld.{IsSameSeat, after_cell, before_cell, empty_places};
+ghost use Rattle.phase_claims.specs.PlacesHeld.{mail_places};
+ghost use Rattle.std.specs.Prelude.{◌≡◌, suc};
+
+use crate::part::Part;
+use crate::work::{give_mail, take_mail};
+use atomic_table::{Seat, Shared, TableRule};
+use dta_model::Loading;
+use net_core::NodeNo;
+use node_transfer::NodeCell;
+
+/// Fills the places of a node's out-links with the rooms of a step, out of the places of their mail.
+pub(crate) fn fill_outs<V, K, P: TableRule<Part, V, K>>(
+    shared: &Shared<Part, V, K, P>,
+    seat: &mut Seat<Part, V>,
+    loading: &Loading,
+    node: NodeNo,
+    step: u32,
+    cell: &mut NodeCell,
+)
+    requires table { seat.old.table_id ≡ shared.now.table_id }
+    requires step { IsStep (plan_of loading.now) node.0 step }
+    requires cell { cell.old ≡ cell_before (plan_of loading.now) node.0 step away away }
+    requires held { seat.old.me.1 ≡ before_cell node.0
+        (mail_places (plan_of loading.now) (room_of (plan_of loading.now) step)
+        (outs_of (plan_of loading.now) node.0)) }
+    ensures seat { IsSameSeat seat.old seat.new }
+    ensures cell { cell.new ≡ cell_before (plan_of loading.now) node.0 step
+        away (room_of (plan_of loading.now) step) }
+    ensures held { seat.new.me.1 ≡ after_cell node.0
+        (empty_places (plan_of loading.now) (outs_of (plan_of loading.now) node.0)) }
+{
+    let nodes = loading.net.node_count() as usize;
+    let outs = loading.net.outs(node);
+    for place in 0..outs.len() {
+        let mail = take_mail(shared, seat, nodes + outs[place].0 as usize);
+        cell.take_out(place, mail);
+    }
+}
+
+/// Takes the batches of a step out of the places of a node's out-links, into the places of their
+/// mail.
+pub(crate) fn empty_outs<V, K, P: TableRule<Part, V, K>>(
+    shared: &Shared<Part, V, K, P>,
+    seat: &mut Seat<Part, V>,
+    loading: &Loading,
+    node: NodeNo,
+    step: u32,
+    cell: &mut NodeCell,
+)
+    requires table { seat.old.table_id ≡ shared.now.table_id }
+    requires step { IsStep (plan_of loading.now) node.0 step }
+    requires cell { cell.old ≡ cell_after (plan_of loading.now) node.0 step
+        away (batch_of (plan_of loading.now) step) }
+    requires held { seat.old.me.1 ≡ before_cell node.0
+        (empty_places (plan_of loading.now) (outs_of (plan_of loading.now) node.0)) }
+    ensures seat { IsSameSeat seat.old seat.new }
+    ensures cell { cell.new ≡ cell_after (plan_of loading.now) node.0 step away away }
+    ensures held { seat.new.me.1 ≡ after_cell node.0
+        (mail_places (plan_of loading.now) (batch_of (plan_of loading.now) step)
+        (outs_of (plan_of loading.now) node.0)) }
+{
+    let nodes = loading.net.node_count() as usize;
+    let outs = loading.net.outs(node);
+    for place in 0..outs.len() {
+        let batch = cell.give_out(place);
+        give_mail(shared, seat, nodes + outs[place].0 as usize, batch);
+    }
+}
+
+/// Fills the places of a node's in-links with the batches of a step, out of the places of their
+/// mail.
+pub(crate) fn fill_ins<V, K, P: TableRule<Part, V, K>>(
+    shared: &Shared<Part, V, K, P>,
+    seat: &mut Seat<Part, V>,
+    loading: &Loading,
+    node: NodeNo,
+    step: u32,
+    cell: &mut NodeCell,
+)
+    requires table { seat.old.table_id ≡ shared.now.table_id }
+    requires step { IsStep (plan_of loading.now) node.0 step }
+    requires cell { cell.old ≡ cell_after (plan_of loading.now) node.0 step away away }
+    requires held { seat.old.me.1 ≡ before_cell node.0
+        (mail_places (plan_of loading.now) (batch_of (plan_of loading.now) step)
+        (ins_of (plan_of loading.now) node.0)) }
+    ensures seat { IsSameSeat seat.old seat.new }
+    ensures cell { cell.new ≡ cell_after (plan_of loading.now) node.0 step
+        (batch_of (plan_of loading.now) step) away }
+    ensures held { seat.new.me.1 ≡ after_cell node.0
+        (empty_places (plan_of loading.now) (ins_of (plan_of loading.now) node.0)) }
+{
+    let nodes = loading.net.node_count() as usize;
+    let ins = loading.net.ins(node);
+    for place in 0..ins.len() {
+        let mail = take_mail(shared, seat, nodes + ins[place].0 as usize);
+        cell.take_in(place, mail);
+    }
+}
+
+/// Takes the rooms of the next step out of the places of a node's in-links, into the places of their
+/// mail.
+pub(crate) fn empty_ins<V, K, P: TableRule<Part, V, K>>(
+    shared: &Shared<Part, V, K, P>,
+    seat: &mut Seat<Part, V>,
+    loading: &Loading,
+    node: NodeNo,
+    step: u32,
+    cell: &mut NodeCell,
+)
+    requires table { seat.old.table_id ≡ shared.now.table_id }
+    requires step { IsStep (plan_of loading.now) node.0 step }
+    requires cell { cell.old ≡ cell_before (plan_of loading.now) node.0 (suc step)
+        (room_of (plan_of loading.now) (suc step)) away }
+    requires held { seat.old.me.1 ≡ before_cell node.0
+        (empty_places (plan_of loading.now) (ins_of (plan_of loading.now) node.0)) }
+    ensures seat { IsSameSeat seat.old seat.new }
+    ensures cell { cell.new ≡ cell_before (plan_of loading.now) node.0 (suc step) away away }
+    ensures held { seat.new.me.1 ≡ after_cell node.0
+        (mail_places (plan_of loading.now) (room_of (plan_of loading.now) (suc step))
+        (ins_of (plan_of loading.now) node.0)) }
+{
+    let nodes = loading.net.node_count() as usize;
+    let ins = loading.net.ins(node);
+    for place in 0..ins.len() {
+        let room = cell.give_in(place);
+        give_mail(shared, seat, nodes + ins[place].0 as usize, room);
+    }
+}
