@@ -19,7 +19,7 @@ use Rattle.cell_stages.specs.Contents.{away, cell_before}
 use Rattle.node_transfer.specs.Hand.{Within, handed, riders_in}
 use Rattle.node_transfer.specs.Start.{no_journeys}
 use Rattle.node_transfer.proofs.OfHandOver.HandOver.{cells_hand_over, handed-length}
-use Rattle.claim_core.proofs.Counts.{range_more}
+use Rattle.net_core.proofs.Numbers.{numbers_grow}
 use Rattle.phase_claims.specs.declared.part.Part.{Part}
 use Rattle.phase_claims.specs.declared.part.Part.TheVariants.{Cell}
 use Rattle.phase_claims.specs.PlacesClosed.{AreLast, HasCell}
@@ -76,7 +76,7 @@ module _ (p : Plan) (sound : IsSound p) where
       pub hands_over : (loaded loaded' : List Journey) → loaded ≡ handed_by p n → loaded' ≡ handed (riders_in cell) loaded → loaded' ≡ handed_by p (n + 1)
       hands_over loaded loaded' e now =
           let next : handed_by p (suc n) ≡ handed (riders_in (cell_at_end n)) (handed_by p n) =
-          ap (λ xs. handed (flat_map riders_in (map cell_at_end xs)) (no_journeys (vehicle_count p))) (range_more n 0)
+          ap (λ xs. handed (flat_map riders_in (map cell_at_end xs)) (no_journeys (vehicle_count p))) (numbers_grow 0 n (0 + n) refl)
           ∙ ap (λ xs. handed xs (no_journeys (vehicle_count p))) (flat_snoc cell_at_end (numbers_below n) (0 + n))
           ∙ handed_append (flat_map riders_in (map cell_at_end (numbers_below n))) (riders_in (cell_at_end (0 + n))) (no_journeys (vehicle_count p))
           ∙ ap (λ x. handed (riders_in (cell_at_end x)) (handed_by p n)) (let z : 0 + n ≡ n = omega arith in z) in

@@ -17,7 +17,7 @@ use Rattle.dta_model.specs.declared.plan.Plan.{Plan}
 use Rattle.cell_stages.specs.CellState.{CellState}
 use Rattle.cell_stages.specs.Contents.{away, cell_before}
 use Rattle.monitors.specs.Posted.{IsLater, Known}
-use Rattle.claim_core.proofs.Counts.{range_more}
+use Rattle.net_core.proofs.Numbers.{numbers_grow}
 use Rattle.phase_claims.specs.declared.part.Part.{Part}
 use Rattle.phase_claims.specs.declared.part.Part.TheVariants.{Cell, Out, Writer}
 use Rattle.phase_claims.specs.PlacesCounted.{cell_place, counted_in, first_on, firsts_on, posting_places, writer_place}
@@ -84,7 +84,7 @@ map_snoc f (y ∷ xs) x = ap (λ ys. f y ∷ ys) (map_snoc f xs x)
 
 posted_more : (p : Plan) (t : ℕ) → posted_in p (suc t) ≡ posted_in p t ++ eight_after p (suc t) ∷ []
 posted_more p t =
-    ap (λ xs. map (λ i. eight_after p (suc i)) xs) (range_more t 0)
+    ap (λ xs. map (λ i. eight_after p (suc i)) xs) (numbers_grow 0 t (0 + t) refl)
     ∙ map_snoc (λ i. eight_after p (suc i)) (numbers_below t) (0 + t)
     ∙ ap (λ x. posted_in p t ++ eight_after p (suc x) ∷ []) (let e : 0 + t ≡ t = omega arith in e)
 

@@ -9,8 +9,8 @@ use Rattle.dta_model.specs.Units.{mail_part, node_count}
 use Rattle.dta_model.specs.declared.plan.Plan.{Plan}
 use Rattle.cell_stages.specs.CellState.{CellState}
 use Rattle.cell_stages.specs.Contents.{away}
-use Rattle.node_transfer.specs.declared.mail.Mail as mail
-use Rattle.node_transfer.specs.declared.mail.Mail.TheVariants.{Away}
+use Rattle.cell_stages.specs.declared.mail.Mail as mail
+use Rattle.cell_stages.specs.declared.mail.Mail.TheVariants.{Away}
 use Rattle.node_transfer.proofs.OfMail.Exchanges.{emptied-next, filled-next, replaced}
 use Rattle.node_transfer.proofs.OfMail.Lending.{at-place, is-told, link_of}
 use Rattle.node_transfer.proofs.OfMail.Parts.{IsMadeOf}

@@ -14,7 +14,7 @@ use Rattle.dta_model.specs.declared.plan.Plan.{Plan}
 use Rattle.cell_stages.specs.CellState.{CellState}
 use Rattle.cell_stages.specs.Contents.{away, cell_at, cell_before, mail_at, room_of}
 use Rattle.node_transfer.specs.Start.{cells_at_start, rooms_at_start}
-use Rattle.node_transfer.specs.declared.mail.Mail as mail
+use Rattle.cell_stages.specs.declared.mail.Mail as mail
 use Rattle.cell_stages.proofs.TwoStages.{steps_have_two_stages}
 use Rattle.monitors.specs.Posted.{Known}
 use Rattle.claim_core.specs.Parts.{moves, stage_of}

@@ -25,7 +25,7 @@ use Rattle.node_transfer.proofs.OfMail.Lending.{link_of}
 use Rattle.node_transfer.proofs.OfMail.ListPlaces.{link-here}
 use Rattle.node_transfer.proofs.OfMail.Parts.{ins-among, ins-member}
 use Rattle.claim_core.specs.Sums.{below}
-use Rattle.claim_core.proofs.Counts.{range_more}
+use Rattle.net_core.proofs.Numbers.{numbers_grow}
 use Rattle.claim_core.proofs.Places.{Rises, ins_rise}
 use Rattle.phase_claims.specs.PlacesCounted.{counted_in, first_on, firsts_on}
 
@@ -33,7 +33,7 @@ sum_more : (f : ℕ → ℕ) (m : ℕ) → sum_by f (numbers_below (suc m)) ≡ 
 sum_more f m =
     let z : 0 + m ≡ m = omega arith in
     let one : sum_by f ((0 + m) ∷ []) ≡ f m = ap (λ x. sum_by f (x ∷ [])) z ∙ omega arith in
-    omega (arith, ap (λ xs. sum_by f xs) (range_more m 0), sum_by-append f (range_with_len 0 m) ((0 + m) ∷ []), one)
+    omega (arith, ap (λ xs. sum_by f xs) (numbers_grow 0 m (0 + m) refl), sum_by-append f (range_with_len 0 m) ((0 + m) ∷ []), one)
 
 sum_grows : (f : ℕ → ℕ) (m n : ℕ) → m ≤ n → sum_by f (numbers_below m) ≤ sum_by f (numbers_below n)
 sum_grows f m zero h = let z : m ≡ 0 = omega (arith, h) in omega (arith, ap (λ x. sum_by f (numbers_below x)) z)

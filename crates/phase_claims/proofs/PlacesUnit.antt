@@ -11,7 +11,7 @@ use Rattle.dta_model.specs.declared.machine.Stage.TheVariants as stage
 use Rattle.dta_model.specs.declared.plan.Plan.{Plan}
 use Rattle.cell_stages.specs.Contents.{IsStep, away, batch_of, cell_after, cell_at, cell_before, mail_at, room_of}
 use Rattle.node_transfer.specs.Exchange.{is_among}
-use Rattle.node_transfer.specs.declared.mail.Mail as mail
+use Rattle.cell_stages.specs.declared.mail.Mail as mail
 use Rattle.cell_stages.proofs.TwoStages.{steps_have_two_stages}
 use Rattle.net_core.specs.declared.rows.NodeNo.{NodeNo}
 use Rattle.claim_core.specs.Kinds.{kind_by}

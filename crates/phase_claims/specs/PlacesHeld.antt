@@ -5,7 +5,7 @@ use Rattle.atomic_table.specs.declared.shared.Seat.{Seat}
 use Rattle.dta_model.specs.Units.{mail_part}
 use Rattle.dta_model.specs.declared.plan.Plan.{Plan}
 use Rattle.cell_stages.specs.CellState.{CellState}
-use Rattle.node_transfer.specs.declared.mail.Mail as mail
+use Rattle.cell_stages.specs.declared.mail.Mail as mail
 use Rattle.monitors.specs.Posted.{Known}
 use Rattle.phase_claims.specs.declared.part.Part.{Part}
 use Rattle.phase_claims.specs.declared.part.Part.TheVariants.{Cell, Mail, Out, Writer}

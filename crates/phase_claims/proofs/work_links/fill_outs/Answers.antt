@@ -1,7 +1,7 @@
 use Rattle.std.proofs.Common.{[], ◌∷◌}
 use Rattle.dta_model.specs.Lent.{plan_of}
 use Rattle.cell_stages.specs.Contents.{away, room_of}
-use Rattle.node_transfer.specs.declared.mail.Mail.TheVariants.{Away}
+use Rattle.cell_stages.specs.declared.mail.Mail.TheVariants.{Away}
 use Rattle.node_transfer.proofs.OfMail.Lending.{all-lent, is-away, out-there}
 use Rattle.node_transfer.proofs.OfMail.Parts.{outs-before}
 use Rattle.phase_claims.specs.declared.part.Part.TheVariants.{Out}
