@@ -9,6 +9,7 @@ pub mod PlacesRound
 pub mod PlacesFree
 pub mod PlacesSteps
 pub mod PlacesUnit
+pub mod PlacesShown
 pub mod PlacesStart
 pub mod PlacesSums
 pub mod PlacesPosted

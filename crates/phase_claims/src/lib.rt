@@ -29,7 +29,7 @@ pub use claim_core::UnitKind;
 pub use floor::{Floor, MOST_PASSES};
 pub use laws::{
     earlier_units_are_performed, finished_units_are_counted, finished_units_are_performed,
-    passes_are_apart,
+    passes_are_apart, states_are_shown,
 };
 pub use pass::Pass;
 pub use receipt::{Early, Receipt};
