@@ -192,7 +192,7 @@ full-tables command.Freeflow loads = absurd (loads refl)
 full-tables command.Assign loads = refl
 full-tables (command.Demo n) loads = refl
 
-within-of : (s : Settings) (rows : TableRows) (c : Command) → c ≢ command.Freeflow → HasRoom s rows × IsWithin rows.cells → AreWithin c s rows
+within-of : (s : Settings) (rows : TableRows) (c : Command) → c ≢ command.Freeflow → HasRoom s rows × IsWithin rows.demand_cells → AreWithin c s rows
 within-of s rows command.Freeflow loads w = absurd (loads refl)
 within-of s rows command.Assign loads w = w
 within-of s rows (command.Demo n) loads w = w
@@ -200,7 +200,7 @@ within-of s rows (command.Demo n) loads w = w
 -- the job of all four tables
 pub full-job : (s : Settings) (rows : TableRows) (job : JobRows) (left rest : Left) → s.command ≢ command.Freeflow
     → AreAccepted s.units (table.Node ∷ table.Link ∷ table.Movement ∷ table.Demand ∷ []) no_rows rows left rest
-    → HasRoom s rows × IsWithin rows.cells → job ≡ job_of s rows → IsJobOf s job left rest
+    → HasRoom s rows × IsWithin rows.demand_cells → job ≡ job_of s rows → IsJobOf s job left rest
 full-job s rows job left rest loads read within makes = record {
   rows = rows;
   read = subst (λ (ts : List Table). AreAccepted s.units ts no_rows rows left rest) (sym (full-tables s.command loads)) read;
@@ -214,9 +214,9 @@ full-made (Err e) P Q K f k p = tt
 
 pub full-jobs : {E : Type 0} (s : Settings) (rows : TableRows) (r : Result JobRows E) (left rest : Left) → s.command ≢ command.Freeflow
     → AreAccepted s.units (table.Node ∷ table.Link ∷ table.Movement ∷ table.Demand ∷ []) no_rows rows left rest
-    → OnOk r (HasRoom s rows × IsWithin rows.cells) → IfOk r (λ job. job ≡ job_of s rows) → IfOk r (λ job. IsJobOf s job left rest)
+    → OnOk r (HasRoom s rows × IsWithin rows.demand_cells) → IfOk r (λ job. job ≡ job_of s rows) → IfOk r (λ job. IsJobOf s job left rest)
 full-jobs s rows r left rest loads read within makes =
-    full-made r (λ job. job ≡ job_of s rows) (λ job. IsJobOf s job left rest) (HasRoom s rows × IsWithin rows.cells)
+    full-made r (λ job. job ≡ job_of s rows) (λ job. IsJobOf s job left rest) (HasRoom s rows × IsWithin rows.demand_cells)
     (λ job w m. full-job s rows job left rest loads read w m) within makes
 
 -- what stopped the reading of all four tables, or was over their rows

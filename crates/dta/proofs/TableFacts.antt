@@ -32,7 +32,7 @@ use Rattle.demand.specs.declared.demand_rows.TheConstants.{MOST_DEMAND_CELLS}
 use Rattle.desk_io.specs.declared.transfers.TheConstants.{MOST_TABLE_BYTES}
 use Rattle.dta.specs.Outcome.{DeskState}
 use Rattle.dta.specs.Stops.{StopsAt, stop_of}
-use Rattle.dta.specs.Calls.{rows_in_roads, rows_with_turns, with_cells}
+use Rattle.dta.specs.Calls.{rows_in_roads, rows_with_turns, with_demand_cells}
 use Rattle.dta.specs.Tables.{IsAccepted, TableRows, no_rows, road_rows, turns_of, with_table}
 use Rattle.dta.specs.declared.tables.Roads.{Roads}
 
@@ -93,11 +93,11 @@ turns-told : (units : Units) (rows : TableRows) (bytes : List ℕ) (why : TableR
 turns-told units rows bytes (refusal.Fault f) told = (rw (told) refl, turns-table units rows bytes f told)
 turns-told units rows bytes refusal.Memory told = tt
 
-cells-told : (units : Units) (rows : TableRows) (bytes : List ℕ) (why : TableRefusal) → Tells (demand_verdict (records bytes)) (Err why)
+demand_cells-told : (units : Units) (rows : TableRows) (bytes : List ℕ) (why : TableRefusal) → Tells (demand_verdict (records bytes)) (Err why)
     → IsToldBy units table.Demand rows bytes why
-cells-told units rows bytes (refusal.Fault f) told =
+demand_cells-told units rows bytes (refusal.Fault f) told =
     (rw (told) refl, verdict-table table.Demand MOST_DEMAND_CELLS demand_places demand_cell_of (records bytes) f told)
-cells-told units rows bytes refusal.Memory told = tt
+demand_cells-told units rows bytes refusal.Memory told = tt
 
 pub nodes-stop : (units : Units) (rows : TableRows) (bytes text : List ℕ) (before after : DeskState) (why : TableRefusal) → IsRead table.Node bytes before.left after.left
     → length bytes ≤ MOST_TABLE_BYTES → text ≡ bytes → Tells (node_verdict (records text)) (Err why) → StopsAt units table.Node rows (stop_of why) before after
@@ -114,10 +114,10 @@ pub turns-stop : (units : Units) (rows : TableRows) (bytes text : List ℕ) (bef
 turns-stop units rows bytes text before after why read short same told =
     stop-at units table.Movement rows bytes before after why read short (turns-told units rows bytes why (subst (λ x. Tells (turns_of units rows x) (Err why)) same told))
 
-pub cells-stop : (units : Units) (rows : TableRows) (bytes text : List ℕ) (before after : DeskState) (why : TableRefusal) → IsRead table.Demand bytes before.left after.left
+pub demand_cells-stop : (units : Units) (rows : TableRows) (bytes text : List ℕ) (before after : DeskState) (why : TableRefusal) → IsRead table.Demand bytes before.left after.left
     → length bytes ≤ MOST_TABLE_BYTES → text ≡ bytes → Tells (demand_verdict (records text)) (Err why) → StopsAt units table.Demand rows (stop_of why) before after
-cells-stop units rows bytes text before after why read short same told =
-    stop-at units table.Demand rows bytes before after why read short (cells-told units rows bytes why (subst (λ x. Tells (demand_verdict (records x)) (Err why)) same told))
+demand_cells-stop units rows bytes text before after why read short same told =
+    stop-at units table.Demand rows bytes before after why read short (demand_cells-told units rows bytes why (subst (λ x. Tells (demand_verdict (records x)) (Err why)) same told))
 
 -- ---- a table was read to its end, and its reader gave rows
 
@@ -149,11 +149,11 @@ turns-accepted units roads bytes text turns before after read short same is =
     subst (λ x. turns_of units (rows_in_roads roads) x ≡ Ok (listed_turns turns)) same is in
     record { bytes = bytes; read = read; short = short; accepted = rw k refl }
 
-pub cells-accepted : (units : Units) (rows : TableRows) (bytes text : List ℕ)
-    (cells : Vec DemandCell Global) (before after : Left) → IsRead table.Demand bytes before after
-    → length bytes ≤ MOST_TABLE_BYTES → text ≡ bytes → demand_verdict (records text) ≡ Ok cells.items
-    → IsAccepted units table.Demand rows (with_cells rows cells) before after
-cells-accepted units rows bytes text cells before after read short same is =
-    let k : demand_verdict (records bytes) ≡ Ok cells.items =
-    subst (λ x. demand_verdict (records x) ≡ Ok cells.items) same is in
+pub demand_cells-accepted : (units : Units) (rows : TableRows) (bytes text : List ℕ)
+    (demand_cells : Vec DemandCell Global) (before after : Left) → IsRead table.Demand bytes before after
+    → length bytes ≤ MOST_TABLE_BYTES → text ≡ bytes → demand_verdict (records text) ≡ Ok demand_cells.items
+    → IsAccepted units table.Demand rows (with_demand_cells rows demand_cells) before after
+demand_cells-accepted units rows bytes text demand_cells before after read short same is =
+    let k : demand_verdict (records bytes) ≡ Ok demand_cells.items =
+    subst (λ x. demand_verdict (records x) ≡ Ok demand_cells.items) same is in
     record { bytes = bytes; read = read; short = short; accepted = rw k refl }

@@ -181,23 +181,23 @@ find-first p a (suc n) i low high passes first =
           find-first p (a + 1) n i (omega arith) (omega arith) passes first
     ] refl
 
-no-row-above : (cells : List DemandCell) → IsWithin cells → first_above cells ≡ None
-no-row-above cells w =
-    find-none (λ row. nat_lt MOST_TRIPS (vehicles_before cells (row + 1))) 0 (length cells)
-    (λ row low high. within-is (vehicles_before cells (row + 1)) MOST_TRIPS (w row (omega arith)))
+no-row-above : (demand_cells : List DemandCell) → IsWithin demand_cells → first_above demand_cells ≡ None
+no-row-above demand_cells w =
+    find-none (λ row. nat_lt MOST_TRIPS (vehicles_before demand_cells (row + 1))) 0 (length demand_cells)
+    (λ row low high. within-is (vehicles_before demand_cells (row + 1)) MOST_TRIPS (w row (omega arith)))
 
-below-length : (cells : List DemandCell) (row : ℕ) (cell : DemandCell) → slice_get cells row ≡ Some cell → row < length cells
+below-length : (demand_cells : List DemandCell) (row : ℕ) (cell : DemandCell) → slice_get demand_cells row ≡ Some cell → row < length demand_cells
 below-length [] row cell e = absurd cc
-below-length (x ∷ cells) zero cell e = omega arith
-below-length (x ∷ cells) (suc row) cell e = let r = below-length cells row cell e in omega arith
+below-length (x ∷ demand_cells) zero cell e = omega arith
+below-length (x ∷ demand_cells) (suc row) cell e = let r = below-length demand_cells row cell e in omega arith
 
-row-above : (cells : List DemandCell) (line total : ℕ) (h : IsFirstAbove cells line total) → first_above cells ≡ Some h.row
-row-above cells line total h =
-    let there = below-length cells h.row h.cell h.at in
-    let many : MOST_TRIPS < vehicles_before cells (h.row + 1) = rw h.so_many h.above in
-    find-first (λ row. nat_lt MOST_TRIPS (vehicles_before cells (row + 1))) 0 (length cells) h.row (omega arith) (omega arith)
-    (above-is (vehicles_before cells (h.row + 1)) MOST_TRIPS many)
-    (λ row below. within-is (vehicles_before cells (row + 1)) MOST_TRIPS (h.first row below))
+row-above : (demand_cells : List DemandCell) (line total : ℕ) (h : IsFirstAbove demand_cells line total) → first_above demand_cells ≡ Some h.row
+row-above demand_cells line total h =
+    let there = below-length demand_cells h.row h.cell h.at in
+    let many : MOST_TRIPS < vehicles_before demand_cells (h.row + 1) = rw h.so_many h.above in
+    find-first (λ row. nat_lt MOST_TRIPS (vehicles_before demand_cells (row + 1))) 0 (length demand_cells) h.row (omega arith) (omega arith)
+    (above-is (vehicles_before demand_cells (h.row + 1)) MOST_TRIPS many)
+    (λ row below. within-is (vehicles_before demand_cells (row + 1)) MOST_TRIPS (h.first row below))
 
 -- a command but `freeflow` has sizes
 has-sizes : (c : Command) (s : Settings) (rows : TableRows) → c ≢ command.Freeflow → verdict_on_rows c s rows ≡ verdict_on_sizes s rows
@@ -205,10 +205,10 @@ has-sizes command.Freeflow s rows n = absurd (n refl)
 has-sizes command.Assign s rows n = refl
 has-sizes (command.Demo size) s rows n = refl
 
-on-sizes : (s : Settings) (rows : TableRows) → HasRoom s rows → IsWithin rows.cells → verdict_on_sizes s rows ≡ Accepted s (job_of s rows)
+on-sizes : (s : Settings) (rows : TableRows) → HasRoom s rows → IsWithin rows.demand_cells → verdict_on_sizes s rows ≡ Accepted s (job_of s rows)
 on-sizes s rows room w =
     let r : nat_le (length rows.links * s.horizon) MOST_LINK_STEPS ≡ true = short-is (length rows.links * s.horizon) MOST_LINK_STEPS room in
-    let n : first_above rows.cells ≡ None = no-row-above rows.cells w in
+    let n : first_above rows.demand_cells ≡ None = no-row-above rows.demand_cells w in
     rw (r, n) refl
 
 on-within : (c : Command) (s : Settings) (rows : TableRows) → AreWithin c s rows → verdict_on_rows c s rows ≡ Accepted s (job_of s rows)
@@ -216,21 +216,21 @@ on-within command.Freeflow s rows w = refl
 on-within command.Assign s rows w = on-sizes s rows w.0 w.1
 on-within (command.Demo size) s rows w = on-sizes s rows w.0 w.1
 
-on-many-cells : (s : Settings) (rows : TableRows) (links steps : ℕ) → links ≡ length rows.links → steps ≡ s.horizon → MOST_LINK_STEPS < links * steps
+on-many-demand_cells : (s : Settings) (rows : TableRows) (links steps : ℕ) → links ≡ length rows.links → steps ≡ s.horizon → MOST_LINK_STEPS < links * steps
     → verdict_on_sizes s rows ≡ Refused (refusal.Cells links steps)
-on-many-cells s rows links steps l t m =
+on-many-demand_cells s rows links steps l t m =
     let n : MOST_LINK_STEPS < length rows.links * s.horizon = rw (l, t) at m in
     let r : nat_le (length rows.links * s.horizon) MOST_LINK_STEPS ≡ false = long-is (length rows.links * s.horizon) MOST_LINK_STEPS n in
     rw (l, t, r) refl
 
-on-many-vehicles : (s : Settings) (rows : TableRows) (line total : ℕ) → HasRoom s rows → IsFirstAbove rows.cells line total
+on-many-vehicles : (s : Settings) (rows : TableRows) (line total : ℕ) → HasRoom s rows → IsFirstAbove rows.demand_cells line total
     → verdict_on_sizes s rows ≡ Refused (refusal.Vehicles line total)
 on-many-vehicles s rows line total room h =
     let r : nat_le (length rows.links * s.horizon) MOST_LINK_STEPS ≡ true = short-is (length rows.links * s.horizon) MOST_LINK_STEPS room in
-    let f : first_above rows.cells ≡ Some h.row = row-above rows.cells line total h in
-    let at : slice_get rows.cells h.row ≡ Some h.cell = h.at in
+    let f : first_above rows.demand_cells ≡ Some h.row = row-above rows.demand_cells line total h in
+    let at : slice_get rows.demand_cells h.row ≡ Some h.cell = h.at in
     let on : h.cell.line ≡ line = h.on in
-    let many : vehicles_before rows.cells (h.row + 1) ≡ total = h.so_many in
+    let many : vehicles_before rows.demand_cells (h.row + 1) ≡ total = h.so_many in
     rw (r, f, at, on, many) refl
 
 -- ---- the verdict of a run whose words are in the grammar
@@ -291,9 +291,9 @@ verdict-refused s (refusal.LongTable t) texts before after i told h =
 verdict-refused s (refusal.Cells links steps) texts before after i told h =
     verdict-counted s (λ rows. (links ≡ length rows.links) × (steps ≡ s.horizon) × (MOST_LINK_STEPS < links * steps)) texts
     (source s.command before) h.rest (Refused (refusal.Cells links steps)) told h.part.0 h.part.1
-    (λ rows p. on-many-cells s rows links steps p.0 p.1 p.2)
+    (λ rows p. on-many-demand_cells s rows links steps p.0 p.1 p.2)
 verdict-refused s (refusal.Vehicles line total) texts before after i told h =
-    verdict-counted s (λ rows. HasRoom s rows × IsFirstAbove rows.cells line total) texts
+    verdict-counted s (λ rows. HasRoom s rows × IsFirstAbove rows.demand_cells line total) texts
     (source s.command before) h.rest (Refused (refusal.Vehicles line total)) told h.part.0 h.part.1
     (λ rows p. on-many-vehicles s rows line total p.0 p.1)
 

@@ -71,11 +71,11 @@ rows_in_roads roads = road_rows roads.nodes roads.links
 abbrev pub rows_with_turns : Roads → Option (List TurnRow) → TableRows
 rows_with_turns roads turns = rows_of roads.nodes roads.links (listed_turns turns) []
 
-abbrev pub with_cells : TableRows → Vec DemandCell Global → TableRows
-with_cells rows cells = record rows { cells = cells.items }
+abbrev pub with_demand_cells : TableRows → Vec DemandCell Global → TableRows
+with_demand_cells rows demand_cells = record rows { demand_cells = demand_cells.items }
 
 abbrev pub rows_in_tables : Tables → TableRows
-rows_in_tables t = rows_of t.roads.nodes t.roads.links (listed_turns t.turns) t.cells.items
+rows_in_tables t = rows_of t.roads.nodes t.roads.links (listed_turns t.turns) t.demand_cells.items
 
 -- ---- calls that put
 

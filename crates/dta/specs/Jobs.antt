@@ -57,7 +57,7 @@ abbrev pub net_of : TableRows → NetRows
 net_of rows = record { nodes = rows.nodes; links = rows.links; turns = rows.turns }
 
 abbrev pub job_of : Settings → TableRows → JobRows
-job_of s rows = record { net = net_of rows; trips = trips_of rows.cells s.period }
+job_of s rows = record { net = net_of rows; trips = trips_of rows.demand_cells s.period }
 
 -- the links of a network times the steps of a run are not too many
 abbrev pub HasRoom : Settings → TableRows → Type 0
@@ -66,7 +66,7 @@ HasRoom s rows = length rows.links * s.horizon ≤ MOST_LINK_STEPS
 -- rows that are within the limits of a run; `freeflow` has none but those of its tables
 abbrev pub AreWithin : Command → Settings → TableRows → Type 0
 AreWithin command.Freeflow s rows = ⊤
-AreWithin c s rows = HasRoom s rows × IsWithin rows.cells
+AreWithin c s rows = HasRoom s rows × IsWithin rows.demand_cells
 
 -- the tables were read one after the other and accepted, are within the limits, and make this job
 pub record IsJobOf (s : Settings) (job : JobRows) (before after : Left) : Type 0 where

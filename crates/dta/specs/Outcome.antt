@@ -66,7 +66,7 @@ IsCauseAmong tables s (refusal.Cells links steps) before after =
     before after
 IsCauseAmong tables s (refusal.Vehicles line total) before after =
     (s.command ≢ command.Freeflow)
-    × AreCounted s (λ rows. HasRoom s rows × IsFirstAbove rows.cells line total)
+    × AreCounted s (λ rows. HasRoom s rows × IsFirstAbove rows.demand_cells line total)
     before after
 
 -- the same where only reads of the desk can fail: `demo` reads nothing of it

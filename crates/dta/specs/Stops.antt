@@ -55,7 +55,7 @@ StopsJob s rows Memory = ⊤
 StopsJob s rows (Refused (refusal.Cells links steps)) =
     (links ≡ length rows.links) × (steps ≡ s.horizon) × (MOST_LINK_STEPS < links * steps)
 StopsJob s rows (Refused (refusal.Vehicles line total)) =
-    HasRoom s rows × IsFirstAbove rows.cells line total
+    HasRoom s rows × IsFirstAbove rows.demand_cells line total
 StopsJob s rows (Refused _) = ⊥
 
 -- a count of failed reads rose where a table couldn't be read

@@ -30,22 +30,22 @@ pub record TableRows : Type 0 where
   pub nodes : List NodeRow
   pub links : List LinkRow
   pub turns : List TurnRow
-  pub cells : List DemandCell
+  pub demand_cells : List DemandCell
 
 abbrev pub no_rows : TableRows
-no_rows = record { nodes = []; links = []; turns = []; cells = [] }
+no_rows = record { nodes = []; links = []; turns = []; demand_cells = [] }
 
 -- the rows of a node and a link table
 abbrev pub road_rows : List NodeRow → List LinkRow → TableRows
-road_rows nodes links = record { nodes = nodes; links = links; turns = []; cells = [] }
+road_rows nodes links = record { nodes = nodes; links = links; turns = []; demand_cells = [] }
 
 -- the rows of all four tables
 abbrev pub rows_of : List NodeRow → List LinkRow → List TurnRow → List DemandCell → TableRows
-rows_of nodes links turns cells = record {
+rows_of nodes links turns demand_cells = record {
   nodes = nodes;
   links = links;
   turns = turns;
-  cells = cells;
+  demand_cells = demand_cells;
 }
 
 -- a movement table of zero bytes stands for none
@@ -64,7 +64,8 @@ with_table units rows table.Link bytes =
 with_table units rows table.Movement bytes =
     then_with (turns_of units rows bytes) (λ turns. Ok (record rows { turns = turns }))
 with_table units rows table.Demand bytes =
-    then_with (demand_verdict (records bytes)) (λ cells. Ok (record rows { cells = cells }))
+    then_with (demand_verdict (records bytes))
+    (λ demand_cells. Ok (record rows { demand_cells = demand_cells }))
 
 -- a table was read to its end and accepted after these rows, which are then those
 pub record IsAccepted (units : Units) (t : Table) (rows more : TableRows) (before after : Left)

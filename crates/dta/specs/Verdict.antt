@@ -57,8 +57,9 @@ verdict_on units (t ∷ others) texts rows next =
 
 -- the first row of a demand table with which the vehicles are too many
 abbrev pub first_above : List DemandCell → Option ℕ
-first_above cells =
-    find (λ row. nat_lt MOST_TRIPS (vehicles_before cells (row + 1))) (numbers_below (length cells))
+first_above demand_cells =
+    find (λ row. nat_lt MOST_TRIPS (vehicles_before demand_cells (row + 1)))
+    (numbers_below (length demand_cells))
 
 abbrev pub line_in : Option DemandCell → ℕ
 line_in None = 0
@@ -67,14 +68,14 @@ line_in (Some cell) = cell.line
 abbrev pub verdict_on_trips : Settings → TableRows → Option ℕ → Verdict
 verdict_on_trips s rows None = Accepted s (job_of s rows)
 verdict_on_trips s rows (Some row) = Refused (refusal.Vehicles
-    (line_in (slice_get rows.cells row))
-    (vehicles_before rows.cells (row + 1)))
+    (line_in (slice_get rows.demand_cells row))
+    (vehicles_before rows.demand_cells (row + 1)))
 
 -- the sizes of a loading: its links times its steps, and then its vehicles
 abbrev pub verdict_on_sizes : Settings → TableRows → Verdict
 verdict_on_sizes s rows =
     if nat_le (length rows.links * s.horizon) MOST_LINK_STEPS
-    then verdict_on_trips s rows (first_above rows.cells)
+    then verdict_on_trips s rows (first_above rows.demand_cells)
     else Refused (refusal.Cells (length rows.links) s.horizon)
 
 abbrev pub verdict_on_rows : Command → Settings → TableRows → Verdict

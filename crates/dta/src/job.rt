@@ -66,16 +66,18 @@ impl Job {
 fn trips_within(
     alloc: Global,
     links: u32,
-    cells: &[DemandCell],
+    demand_cells: &[DemandCell],
     settings: &Settings,
 ) -> Result<Vec<Trip>, Stop>
     requires settings { AreSettings settings.now }
-    requires cells { AreDemandCells cells.now }
-    ensures trips { IfOk result (λ trips. trips.items ≡ trips_of cells.now settings.now.period) }
+    requires demand_cells { AreDemandCells demand_cells.now }
+    ensures trips { IfOk result (λ trips.
+        trips.items ≡ trips_of demand_cells.now settings.now.period) }
     ensures sound { IfOk result (λ trips. AreTripsBelow settings.now.horizon trips.items) }
     ensures within { OnOk result (
-        (links * settings.now.horizon ≤ MOST_LINK_STEPS) × IsWithin cells.now) }
-    ensures stops { (rows : TableRows) → length rows.links ≡ links → rows.cells ≡ cells.now
+        (links * settings.now.horizon ≤ MOST_LINK_STEPS) × IsWithin demand_cells.now) }
+    ensures stops { (rows : TableRows)
+        → length rows.links ≡ links → rows.demand_cells ≡ demand_cells.now
         → IfErr result (StopsJob settings.now rows) }
 {
     if sizes(links, settings.horizon).is_err() {
@@ -84,28 +86,28 @@ fn trips_within(
             steps: settings.horizon,
         }));
     }
-    Ok(release(alloc, cells, settings.period)?)
+    Ok(release(alloc, demand_cells, settings.period)?)
 }
 
 // The job of accepted tables.
 fn job_of(alloc: Global, tables: Tables, settings: &Settings) -> Result<Job, Stop>
     requires settings { AreSettings settings.now }
     requires net { IsNet (joined tables.roads.nodes tables.roads.links tables.turns) }
-    requires cells { AreDemandCells tables.cells.items }
+    requires demand_cells { AreDemandCells tables.demand_cells.items }
     ensures makes { IfOk result (λ job.
         job ≡ job_of_rows settings.now (rows_in_tables tables)) }
     ensures sound { IfOk result (IsJob settings.now) }
     ensures within { OnOk result (
-        HasRoom settings.now (rows_in_tables tables) × IsWithin tables.cells.items) }
+        HasRoom settings.now (rows_in_tables tables) × IsWithin tables.demand_cells.items) }
     ensures stops { IfErr result (StopsJob settings.now (rows_in_tables tables)) }
 {
     let Tables {
         roads,
         turns,
-        cells,
+        demand_cells,
     } = tables;
     let links = roads.links.as_slice().len() as u32;
-    let trips = trips_within(alloc, links, &cells, settings)?;
+    let trips = trips_within(alloc, links, &demand_cells, settings)?;
     let net = join_net(alloc, roads.nodes, roads.links, turns)?;
     Ok(Job { net, trips })
 }

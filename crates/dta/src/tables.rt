@@ -9,7 +9,8 @@ ghost use Rattle.net_core.specs.Network.{IsNet};
 ghost use Rattle.net_core.specs.Rows.{AreLinks, AreNodes, AreTurns, IsBetween, IsTurning};
 ghost use Rattle.row_reader.specs.FirstFault.{Tells};
 ghost use Rattle.dta.specs.Calls.{Accepts, AcceptsAll, IsWhole, OnlyReads};
-ghost use Rattle.dta.specs.Calls.{rows_in_roads, rows_in_tables, rows_with_turns, with_cells};
+ghost use Rattle.dta.specs.Calls.{rows_in_roads, rows_in_tables, rows_with_turns};
+ghost use Rattle.dta.specs.Calls.{with_demand_cells};
 ghost use Rattle.dta.specs.Outcome.{state_of};
 ghost use Rattle.dta.specs.Stops.{StopsAt};
 ghost use Rattle.dta.specs.Tables.{TableRows, all_tables, no_rows, road_rows, road_tables};
@@ -137,12 +138,12 @@ fn accept_turns<D: Desk>(
 }
 
 // Reads and checks the demand table.
-fn accept_cells<D: Desk>(alloc: Global, desk: &mut D) -> Result<Vec<DemandCell>, Stop>
+fn accept_demand_cells<D: Desk>(alloc: Global, desk: &mut D) -> Result<Vec<DemandCell>, Stop>
     ensures reads { let state = state_of D.left D.taken D.read_faults D.put_faults in
         (units : Units) (rows : TableRows)
-        → Accepts units table.Demand rows (with_cells rows) (state desk.old) (state desk.new)
+        → Accepts units table.Demand rows (with_demand_cells rows) (state desk.old) (state desk.new)
         result }
-    ensures sound { IfOk result (λ cells. AreDemandCells cells.items) }
+    ensures sound { IfOk result (λ demand_cells. AreDemandCells demand_cells.items) }
 {
     let bytes = bytes_of(alloc, desk, Table::Demand)?;
     Ok(read_demand(alloc, &bytes)?)
@@ -153,7 +154,7 @@ fn accept_cells<D: Desk>(alloc: Global, desk: &mut D) -> Result<Vec<DemandCell>,
 pub(crate) struct Tables {
     pub(crate) roads: Roads,
     pub(crate) turns: Option<TurnRows>,
-    pub(crate) cells: Vec<DemandCell>,
+    pub(crate) demand_cells: Vec<DemandCell>,
 }
 
 /// Reads and checks all four tables, one after the other.
@@ -167,14 +168,14 @@ pub(crate) fn accept_all<D: Desk>(
         AcceptsAll units.now all_tables no_rows rows_in_tables (state desk.old) (state desk.new)
         result }
     ensures net { IfOk result (λ t. IsNet (net_of t.roads.nodes t.roads.links t.turns)) }
-    ensures cells { IfOk result (λ t. AreDemandCells t.cells.items) }
+    ensures demand_cells { IfOk result (λ t. AreDemandCells t.demand_cells.items) }
 {
     let roads = accept_roads(alloc, desk, units)?;
     let turns = accept_turns(alloc, desk, units, &roads)?;
-    let cells = accept_cells(alloc, desk)?;
+    let demand_cells = accept_demand_cells(alloc, desk)?;
     Ok(Tables {
         roads,
         turns,
-        cells,
+        demand_cells,
     })
 }

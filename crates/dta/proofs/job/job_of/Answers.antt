@@ -8,4 +8,4 @@ pub returns-in_err-trips-clause-stops : goal.returns-in_err-trips-clause-stops
 returns-in_err-trips-clause-stops c =
     let p = err_from_is_err_and c.from_residual.result c.from_residual.ensures.1 in
     let t = c.args.tables in
-    rw (p.1, p.2) (c.in_err-trips.ensures.stops (rows_of t.roads.nodes t.roads.links (listed_turns t.turns) t.cells.items) (search rules) (search rules))
+    rw (p.1, p.2) (c.in_err-trips.ensures.stops (rows_of t.roads.nodes t.roads.links (listed_turns t.turns) t.demand_cells.items) (search rules) (search rules))

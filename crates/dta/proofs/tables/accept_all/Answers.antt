@@ -20,14 +20,14 @@ returns-in_err-turns-clause-reads g c =
       puts = t.puts ∙ r.puts;
     })
 
-pub returns-in_err-cells-clause-reads : goal.returns-in_err-cells-clause-reads
-returns-in_err-cells-clause-reads g c =
-    let p = err_from_is_err_and c.from_residual-in_err-cells.result c.from_residual-in_err-cells.ensures.1 in
+pub returns-in_err-demand_cells-clause-reads : goal.returns-in_err-demand_cells-clause-reads
+returns-in_err-demand_cells-clause-reads g c =
+    let p = err_from_is_err_and c.from_residual-in_err-demand_cells.result c.from_residual-in_err-demand_cells.ensures.1 in
     let roads = rows_in_roads c.in_ok-roads.roads in
     let turned = rows_with_turns c.in_ok-roads.roads c.in_ok-turns.turns in
     let r = c.in_ok-roads.ensures.reads in
     let t = c.in_ok-turns.ensures.reads in
-    let d = c.in_err-cells.ensures.reads c.args.units.now turned in
+    let d = c.in_err-demand_cells.ensures.reads c.args.units.now turned in
     rw (p.1, p.2) (record {
       done = tt;
       stops = among-then c.args.units.now (table.Node ∷ table.Link ∷ table.Movement ∷ []) [] table.Demand no_rows turned _ _ _ _
@@ -45,7 +45,7 @@ returns-clause-reads g c =
     let turned = rows_with_turns c.in_ok-roads.roads c.in_ok-turns.turns in
     let r = c.in_ok-roads.ensures.reads in
     let t = c.in_ok-turns.ensures.reads in
-    let d = c.in_ok-cells.ensures.reads c.args.units.now turned in
+    let d = c.in_ok-demand_cells.ensures.reads c.args.units.now turned in
     record {
       done = accepted-both c.args.units.now (table.Node ∷ table.Link ∷ []) (table.Movement ∷ table.Demand ∷ []) no_rows roads _ _ _ _ r.done
           (accepted-both c.args.units.now (table.Movement ∷ []) (table.Demand ∷ []) roads turned _ _ _ _

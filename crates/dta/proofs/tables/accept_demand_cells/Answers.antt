@@ -1,6 +1,6 @@
 use Rattle.std.proofs.lemmas.Result.{err_from_is_err_and}
-use Rattle.dta.proofs.TableFacts.{cells-accepted, cells-stop}
-use Rattle.dta.proofs.tables.accept_cells.Goals as goal
+use Rattle.dta.proofs.TableFacts.{demand_cells-accepted, demand_cells-stop}
+use Rattle.dta.proofs.tables.accept_demand_cells.Goals as goal
 
 pub returns-in_err-bytes-clause-reads : goal.returns-in_err-bytes-clause-reads
 returns-in_err-bytes-clause-reads g c = λ units rows.
@@ -20,7 +20,7 @@ returns-in_err-read_demand-clause-reads g c = λ units rows.
     let r = c.in_ok-bytes.ensures.reads units rows in
     rw (p.1, p.2) (record {
       done = tt;
-      stops = cells-stop units rows c.in_ok-bytes.bytes.items c.deref.result.now _ _ c.in_err-read_demand.field-0.0
+      stops = demand_cells-stop units rows c.in_ok-bytes.bytes.items c.deref.result.now _ _ c.in_err-read_demand.field-0.0
           r.done.read r.done.short c.deref.ensures.value c.in_err-read_demand.ensures.refused;
       later = r.later;
       taken = r.taken;
@@ -31,7 +31,7 @@ pub returns-clause-reads : goal.returns-clause-reads
 returns-clause-reads g c = λ units rows.
     let r = c.in_ok-bytes.ensures.reads units rows in
     record {
-      done = cells-accepted units rows c.in_ok-bytes.bytes.items c.deref.result.now c.in_ok-read_demand.field-0 _ _
+      done = demand_cells-accepted units rows c.in_ok-bytes.bytes.items c.deref.result.now c.in_ok-read_demand.field-0 _ _
           r.done.read r.done.short c.deref.ensures.value c.in_ok-read_demand.ensures.cells;
       stops = tt;
       later = r.later;
