@@ -5,7 +5,9 @@ ghost use Rattle.loader.specs.declared.loading.TheConstants.{MOST_WORKERS};
 use crate::{CountGate, Gate, LoadFault, NoGate, Watch, load};
 use desk_io::{MemDesk, Output};
 use std::alloc::Global;
+use std::sync::Wait;
 use std::test::Fail;
+use std::thread::Threads;
 use worked_cases::{Case, Seen, are_seen};
 
 const NO_WATCH: Watch = Watch {
@@ -35,8 +37,8 @@ fn desk(alloc: Global) -> MemDesk {
 }
 
 // Whether so many workers give the journeys of two links in a line.
-fn shows<G: Gate + Sync>(
-    rt: &HostRuntime,
+fn shows<R: AllocGlobal + Threads + Wait + Sync, G: Gate + Sync>(
+    rt: &R,
     case: &Case,
     workers: u32,
     gate: &mut G,
@@ -57,7 +59,11 @@ fn shows<G: Gate + Sync>(
 }
 
 // Whether so many workers give these journeys, and a receipt.
-fn gives_a_receipt(rt: &HostRuntime, case: &Case, workers: u32) -> bool
+fn gives_a_receipt<R: AllocGlobal + Threads + Wait + Sync>(
+    rt: &R,
+    case: &Case,
+    workers: u32,
+) -> bool
     requires { (1 ≤ workers) × (workers ≤ MOST_WORKERS) }
 {
     let mut gate = CountGate::new();
