@@ -1,0 +1,119 @@
+-- What a loading by workers answers.
+use Rattle.std.proofs.Common.{arith, ◌≡◌, ◌≢◌, ◌<◌, ◌≤◌, ℕ, zero, suc, List, [], ◌∷◌, refl, sym, ap, ◌∙◌, subst}
+use Rattle.std.specs.Prelude.{map, false, Option, Result, Ok, Err}
+use Rattle.desk_io.specs.Desk.{Taken}
+use Rattle.desk_io.specs.State.{DeskState}
+use Rattle.desk_io.specs.Transfers.{OnlyPuts}
+use Rattle.dta_model.specs.Loading.{journeys_of}
+use Rattle.dta_model.specs.declared.eight.Eight.{Eight}
+use Rattle.dta_model.specs.declared.loaded.Journey.{Journey}
+use Rattle.dta_model.specs.declared.plan.Plan.{Plan}
+use Rattle.phase_claims.specs.PlacesEnd.{IsClosed}
+use Rattle.phase_claims.specs.PlacesHome.{posted_in}
+use Rattle.phase_claims.specs.declared.receipt.Receipt.{Receipt}
+use Rattle.phase_claims.specs.declared.view.Scope.{Scope}
+use Rattle.phase_claims.specs.declared.view.View.{View}
+use Rattle.monitors.specs.Posted.{Known}
+use Rattle.loader.specs.Gates.{GateState, Numbers, numbers_by, numbers_of, one_more, taking, told_as}
+use Rattle.loader.specs.Lines.{AreCutOff, AreStepsTold, IsWatchCut, IsWatched, line_after}
+use Rattle.loader.specs.Loads.{Loads}
+use Rattle.loader.specs.Watching.{HasWatched, IsSameWatch}
+use Rattle.loader.specs.declared.loading.LoadFault.TheVariants as fault
+use Rattle.loader.specs.declared.watch.Watch.{Watch}
+use Rattle.loader.specs.declared.watch.Watcher.{Watcher}
+use Rattle.loader.proofs.Watches.{nothing-watched}
+
+-- where nothing is watched no line is cut off
+every-is : (p : Plan) (w : Watch) (before after : Taken) → IsWatchCut p w before after → (n : ℕ) → w.every ≡ n → 0 < n
+every-is p w before after c zero e =
+    let none : c.lines_are.steps ≡ [] = subst (λ (n : ℕ). AreStepsTold n p.horizon c.lines_are.steps) e c.lines_are.by_rule in
+    let lines : c.lines ≡ [] = c.lines_are.lines_are ∙ ap (map (line_after p w)) none in
+    absurd (subst (λ (l : List (List ℕ)). AreCutOff l before after) lines c.out)
+every-is p w before after c (suc n) e = omega arith
+
+module _ (p : Plan) (workers : ℕ) (w : Watch) where
+  pub load-memory : (state : DeskState) (gate : GateState) → Loads p workers w state state gate gate (Err fault.Memory)
+  load-memory state gate = record {
+    loaded = tt;
+    watched = tt;
+    cut = λ is. absurd (cc is);
+    every = λ is. absurd (cc is);
+    cause = λ is. absurd (cc is);
+    silent = λ _. refl;
+    left = refl;
+    reads = refl;
+    later = omega arith;
+    receipt = λ other. absurd (other refl);
+    none = λ _. refl;
+  }
+
+  pub load-done : {T E : Type 0} (x : T) (before after : DeskState) (gate gate_now : GateState) (journeys : List Journey)
+      → journeys ≡ journeys_of p → OnlyPuts {T = T} {E = E} (IsWatched p w) (IsWatchCut p w) before after (Ok x)
+      → gate_now ≡ taking (numbers_by p workers) gate → Loads p workers w before after gate gate_now (Ok journeys)
+  load-done x before after gate gate_now journeys is puts took = record {
+    loaded = is;
+    watched = puts.whole;
+    cut = λ is. absurd (cc is);
+    every = λ is. absurd (cc is);
+    cause = λ is. absurd (cc is);
+    silent = λ is. absurd (cc is);
+    left = puts.left;
+    reads = puts.reads;
+    later = puts.cause.later;
+    receipt = λ _. took;
+    none = λ is. absurd (cc is);
+  }
+
+  pub load-cut : {T E : Type 0} (x : E) (before after : DeskState) (gate gate_now : GateState)
+      → OnlyPuts {T = T} {E = E} (IsWatched p w) (IsWatchCut p w) before after (Err x)
+      → gate_now ≡ taking (numbers_by p workers) gate → Loads p workers w before after gate gate_now (Err fault.WatchFault)
+  load-cut x before after gate gate_now puts took = record {
+    loaded = tt;
+    watched = tt;
+    cut = λ _. puts.refused;
+    every = λ _. every-is p w before.taken after.taken puts.refused w.every refl;
+    cause = λ _. puts.cause.failed;
+    silent = λ is. absurd (cc is);
+    left = puts.left;
+    reads = puts.reads;
+    later = puts.cause.later;
+    receipt = λ _. took;
+    none = λ is. absurd (cc is);
+  }
+
+-- the receipt of a floor that is closed
+pub numbers-are : (k : Scope) (v : View) (journeys : List Journey) (writer : Known) (receipt : Receipt) (workers : ℕ)
+    → IsClosed k v journeys writer receipt → v.weight ≡ workers → numbers_of receipt ≡ numbers_by k.plan workers
+numbers-are k v journeys writer receipt workers c weight = rw (c.units, c.passes ∙ weight, c.vehicles) refl
+
+pub took-receipt : (gate gate_now : GateState) (receipt : Receipt) (numbers : Numbers) → gate_now.closes ≡ one_more gate.closes
+    → gate_now.last ≡ told_as (numbers_of receipt) gate.last → numbers_of receipt ≡ numbers → gate_now ≡ taking numbers gate
+took-receipt gate gate_now receipt numbers closes last are =
+    ap (λ (x : Option ℕ). record { closes = x; last = gate_now.last }) closes
+    ∙ ap (λ (x : Option Numbers). record { closes = one_more gate.closes; last = x })
+    (last ∙ ap (λ (n : Numbers). told_as n gate.last) are)
+
+-- what went out from the first unit to the last line
+pub all-put : {T E : Type 0} (p : Plan) (watch : Watch) (first last : Watcher) (posted : List Eight)
+    (start between after : DeskState) (r : Result T E)
+    → first.last ≡ 0 → first.failed ≡ false → first.watch ≡ watch → IsSameWatch first last
+    → ((before : DeskState) → HasWatched first before start → HasWatched last before between)
+    → ((q : Plan) (before : DeskState) → 1 ≤ q.horizon → posted ≡ posted_in q q.horizon → HasWatched last before between
+    → OnlyPuts (IsWatched q last.watch) (IsWatchCut q last.watch) before after r)
+    → 1 ≤ p.horizon → posted ≡ posted_in p p.horizon
+    → OnlyPuts (IsWatched p watch) (IsWatchCut p watch) start after r
+all-put p watch first last posted start between after r none whole is same work end far all =
+    subst (λ (x : Watch). OnlyPuts (IsWatched p x) (IsWatchCut p x) start after r) (same.watch ∙ is)
+    (end p start far all (work start (nothing-watched first start none whole)))
+
+-- what a close of the floor of a loading gives
+pub record HasClosed (p : Plan) (workers : ℕ) (journeys : List Journey) (writer : Known) (receipt : Receipt) : Type 0 where
+  pub loaded : journeys ≡ journeys_of p
+  pub posted : writer.list ≡ posted_in p p.horizon
+  pub numbers : numbers_of receipt ≡ numbers_by p workers
+
+pub has-closed : (p : Plan) (workers : ℕ) (k : Scope) (v : View) (journeys : List Journey) (writer : Known) (receipt : Receipt)
+    → k.plan ≡ p → IsClosed k v journeys writer receipt → v.weight ≡ workers → HasClosed p workers journeys writer receipt
+has-closed p workers k v journeys writer receipt is c weight =
+    subst (λ (q : Plan). HasClosed q workers journeys writer receipt) is
+    (record { loaded = c.loaded; posted = c.posted; numbers = numbers-are k v journeys writer receipt workers c weight })

@@ -1,0 +1,210 @@
+// The workers of a loading.
+ghost use Rattle.std.specs.Prelude.{◌≡◌, ◌<◌, ◌≤◌, ◌+◌, ◌-◌};
+ghost use Rattle.std.specs.Thread.{IsSync};
+ghost use Rattle.desk_io.specs.State.{DeskState, state_of};
+ghost use Rattle.loader.specs.Crews.{HasCrewEnded, HasEnded, HasSameRights, IsCrewReady, IsReady};
+ghost use Rattle.loader.specs.Watching.{HasWatched, IsSameWatch};
+ghost use Rattle.loader.specs.declared.loading.TheConstants.{MOST_WORKERS};
+ghost use Rattle.phase_claims.specs.Passes.{IsOf, unit_at};
+
+use crate::gate::Gate;
+use crate::watch::Watcher;
+use desk_io::Desk;
+use dta_model::Stage;
+use monitors::Board;
+use phase_claims::{Floor, Open, Pass, Unit, UnitKind};
+use std::sync::Wait;
+use std::thread::{Threads, join_mut};
+use std::{hint, thread};
+
+// How often a worker tries again at once before it lets other threads go first.
+const SPINS: u32 = 64;
+
+// Waits a little before another try, and answers how many tries were made. After some of them
+// other threads go first, since there may be more workers than processors.
+fn pause(tries: u32) -> u32 {
+    if tries < SPINS {
+        hint::spin_loop();
+        return tries + 1;
+    }
+    thread::yield_now();
+    tries
+}
+
+// Opens the unit that a pass holds, as soon as all units of earlier phases are finished.
+fn open<R: Wait>(rt: &R, floor: &Floor, pass: &mut Pass, number: u64)
+    requires own { IsOf floor.now pass.old }
+    requires held { pass.old.view.stage ≡ Stage.Held number }
+    ensures own { IsOf floor.now pass.new }
+    ensures open { pass.new.view.stage ≡ Stage.Open number }
+    ensures rights { HasSameRights pass.old.view pass.new.view }
+{
+    let mut tries = 0;
+    for _ in rt.forever() {
+        match floor.open(pass) {
+            Open::Yes => break,
+            Open::NotYet { finished: _ } => tries = pause(tries),
+        }
+    }
+}
+
+// Opens the unit that a pass holds, passes the gate and performs it.
+fn work_on<R: Wait, G: Gate>(
+    rt: &R,
+    floor: &Floor,
+    gate: &G,
+    pass: &mut Pass,
+    worker: u32,
+    unit: Unit,
+)
+    requires own { IsOf floor.now pass.old }
+    requires held { pass.old.view.stage ≡ Stage.Held unit.number }
+    requires unit { unit ≡ unit_at floor.now.scope.plan unit.number }
+    ensures own { IsOf floor.now pass.new }
+    ensures idle { pass.new.view.stage ≡ Stage.Idle }
+    ensures rights { HasSameRights pass.old.view pass.new.view }
+{
+    open(rt, floor, pass, unit.number);
+    gate.at(worker, unit.number);
+    match unit.kind {
+        UnitKind::Posting => floor.perform_posting(rt, pass),
+        _ => floor.perform(pass),
+    }
+}
+
+// Works until no unit is left.
+fn work<R: Wait, G: Gate>(rt: &R, floor: &Floor, gate: &G, pass: &mut Pass, worker: u32)
+    requires { IsReady floor.now 1 pass.old }
+    ensures { HasEnded floor.now 1 pass.new }
+{
+    for _ in rt.forever() {
+        let Some(unit) = floor.claim(pass) else {
+            break;
+        };
+        work_on(rt, floor, gate, pass, worker, unit);
+    }
+}
+
+// A crew of so many workers, of which the first has this number. It takes no memory.
+fn crew<R: Threads + Wait + Sync, G: Gate + Sync>(
+    rt: &R,
+    floor: &Floor,
+    gate: &G,
+    pass: Pass,
+    worker: u32,
+    count: u32,
+) -> Pass
+    requires ready { IsReady floor.now count pass }
+    requires few { worker + count ≤ MOST_WORKERS }
+    ensures { HasEnded floor.now count result }
+{
+    if count == 1 {
+        let mut pass = pass;
+        work(rt, floor, gate, &mut pass, worker);
+        return pass;
+    }
+    let (rest, mut mine) = floor.split(pass);
+    let mut rest = Some(rest);
+    join_mut(
+        rt,
+        &mut ||
+            requires { IsSync R.row × IsSync G.row × IsCrewReady floor.now (count - 1) rest
+                × (1 < count) × (worker + count ≤ MOST_WORKERS) }
+            ensures { HasCrewEnded floor.entry.now (count - 1) rest.exit }
+        {
+            if let Some(pass) = rest.take() {
+                rest = Some(crew(rt, floor, gate, pass, worker + 1, count - 1));
+            }
+        },
+        &mut ||
+            requires { IsReady floor.now 1 mine }
+            ensures { HasEnded floor.entry.now 1 mine.exit }
+        { work(rt, floor, gate, &mut mine, worker) },
+    );
+    match rest {
+        Some(rest) => floor.join(mine, rest),
+        None => unreachable!(),
+    }
+}
+
+// Worker 0 works until no unit is left, and puts watch lines meanwhile.
+fn lead<R: Wait, G: Gate, D: Desk>(
+    rt: &R,
+    floor: &Floor,
+    gate: &G,
+    pass: &mut Pass,
+    board: &Board,
+    watcher: &mut Watcher,
+    desk: &mut D,
+)
+    requires ready { IsReady floor.now 1 pass.old }
+    requires board { watcher.old.monitor.board ≡ board.now }
+    ensures ended { HasEnded floor.now 1 pass.new }
+    ensures same { IsSameWatch watcher.old watcher.new }
+    ensures put { let state = state_of D.left D.taken D.read_faults D.put_faults in
+        (before : DeskState) → HasWatched watcher.old before (state desk.old)
+        → HasWatched watcher.new before (state desk.new) }
+{
+    for _ in rt.forever() {
+        let Some(unit) = floor.claim(pass) else {
+            break;
+        };
+        work_on(rt, floor, gate, pass, 0, unit);
+        watcher.look(rt, board, desk);
+    }
+}
+
+/// Performs all units of a floor, by so many workers. The calling thread is worker 0, which puts
+/// the watch lines meanwhile. If no thread can be made, the workers run one after another. It takes
+/// no memory.
+pub fn perform_all<R: Threads + Wait + Sync, G: Gate + Sync, D: Desk + Send>(
+    rt: &R,
+    floor: &Floor,
+    gate: &G,
+    pass: Pass,
+    workers: u32,
+    board: &Board,
+    watcher: &mut Watcher,
+    desk: &mut D,
+) -> Pass
+    requires ready { IsReady floor.now workers pass }
+    requires few { workers ≤ MOST_WORKERS }
+    requires board { watcher.old.monitor.board ≡ board.now }
+    ensures ended { HasEnded floor.now workers result }
+    ensures same { IsSameWatch watcher.old watcher.new }
+    ensures put { let state = state_of D.left D.taken D.read_faults D.put_faults in
+        (before : DeskState) → HasWatched watcher.old before (state desk.old)
+        → HasWatched watcher.new before (state desk.new) }
+{
+    if workers == 1 {
+        let mut pass = pass;
+        lead(rt, floor, gate, &mut pass, board, watcher, desk);
+        return pass;
+    }
+    let (rest, mut mine) = floor.split(pass);
+    let mut rest = Some(rest);
+    join_mut(
+        rt,
+        &mut ||
+            requires { IsSync R.row × IsSync G.row × IsCrewReady floor.now (workers - 1) rest
+                × (1 < workers) × (workers ≤ MOST_WORKERS) }
+            ensures { HasCrewEnded floor.entry.now (workers - 1) rest.exit }
+        {
+            if let Some(pass) = rest.take() {
+                rest = Some(crew(rt, floor, gate, pass, 1, workers - 1));
+            }
+        },
+        &mut ||
+            requires { IsReady floor.now 1 mine × (watcher.now.monitor.board ≡ board.now) }
+            ensures { let state = state_of D.left D.taken D.read_faults D.put_faults in
+                HasEnded floor.entry.now 1 mine.exit
+                × IsSameWatch watcher.entry.now watcher.exit.now
+                × ((before : DeskState) → HasWatched watcher.entry.now before (state desk.entry.now)
+                → HasWatched watcher.exit.now before (state desk.exit.now)) }
+        { lead(rt, floor, gate, &mut mine, board, watcher, desk) },
+    );
+    match rest {
+        Some(rest) => floor.join(mine, rest),
+        None => unreachable!(),
+    }
+}

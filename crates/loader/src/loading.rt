@@ -1,0 +1,105 @@
+// The loading by workers.
+ghost use Rattle.std.specs.Prelude.{◌≡◌, ◌≤◌, []};
+ghost use Rattle.desk_io.specs.State.{state_of};
+ghost use Rattle.dta_model.specs.Lent.{plan_of};
+ghost use Rattle.dta_model.specs.Sound.{IsSound};
+ghost use Rattle.loader.specs.Gates.{gate_of};
+ghost use Rattle.loader.specs.Loads.{Loads};
+ghost use Rattle.loader.specs.declared.loading.LoadFault.TheVariants as fault;
+
+use crate::crew::perform_all;
+use crate::gate::Gate;
+use crate::watch::{Watch, Watcher};
+use desk_io::{Desk, Failed};
+use dta_model::{Loaded, Loading};
+use monitors::{Board, MonitorPass, WriterPass};
+use phase_claims::Floor;
+use std::alloc::AllocError;
+use std::sync::Wait;
+use std::thread::Threads;
+
+/// The most workers of a loading.
+pub const MOST_WORKERS: u32 = 16;
+
+/// Why a loading by workers gives no journeys.
+#[derive(Clone, Copy, Debug, PartialEq, Eq)]
+pub enum LoadFault {
+    /// There wasn't enough memory.
+    Memory,
+    /// A watch line couldn't be put. The loading was finished all the same.
+    WatchFault,
+}
+
+impl From<AllocError> for LoadFault {
+    ghost from_gives = { λ _ e. e ≡ fault.Memory };
+
+    fn from(_: AllocError) -> Self {
+        LoadFault::Memory
+    }
+}
+
+// Loads over a board, to which the floor posts with this writer's pass.
+fn load_shown<'b, 'l: 'b, R: AllocGlobal + Threads + Wait + Sync, D: Desk + Send, G: Gate + Sync>(
+    rt: &R,
+    loading: &Loading<'l>,
+    workers: u32,
+    board: &'b Board,
+    writer: WriterPass,
+    monitor: MonitorPass,
+    gate: &mut G,
+    desk: &mut D,
+    watch: Watch,
+) -> Result<Loaded, LoadFault>
+    requires sound { IsSound (plan_of loading.now) }
+    requires least { 1 ≤ workers }
+    requires most { workers ≤ MOST_WORKERS }
+    requires writer { (writer.board ≡ board.now) × (writer.list ≡ []) }
+    requires monitor { monitor.board ≡ board.now }
+    ensures { let state = state_of D.left D.taken D.read_faults D.put_faults in
+        let shown = gate_of G.closes G.last in
+        Loads (plan_of loading.entry.now) workers watch
+        (state desk.entry.now) (state desk.exit.now) (shown gate.entry.now) (shown gate.exit.now)
+        result }
+{
+    let (floor, pass) = Floor::new(rt.alloc(), loading, board, writer, workers)?;
+    let mut watcher = Watcher {
+        watch,
+        monitor,
+        last: 0,
+        failed: false,
+    };
+    let pass = perform_all(rt, &floor, &*gate, pass, workers, board, &mut watcher, desk);
+    let Ok((loaded, writer, receipt)) = floor.close(pass) else {
+        unreachable!()
+    };
+    gate.closed(receipt);
+    match watcher.end(rt, board, writer, desk) {
+        Ok(()) => Ok(loaded),
+        Err(Failed) => Err(LoadFault::WatchFault),
+    }
+}
+
+/// Loads by so many workers, of which the calling thread is the first and puts the watch lines. A
+/// worker waits where units of earlier phases aren't finished. If no thread can be made, the
+/// workers run one after another. All memory is taken before the first unit.
+pub fn load<R: AllocGlobal + Threads + Wait + Sync, D: Desk + Send, G: Gate + Sync>(
+    rt: &R,
+    loading: &Loading,
+    workers: u32,
+    gate: &mut G,
+    desk: &mut D,
+    watch: Watch,
+) -> Result<Loaded, LoadFault>
+    requires sound { IsSound (plan_of loading.now) }
+    requires least { 1 ≤ workers }
+    requires most { workers ≤ MOST_WORKERS }
+    ensures { let state = state_of D.left D.taken D.read_faults D.put_faults in
+        let shown = gate_of G.closes G.last in
+        Loads (plan_of loading.now) workers watch
+        (state desk.old) (state desk.new) (shown gate.old) (shown gate.new) result }
+{
+    let (board, writer, monitor) = Board::new(rt)?;
+    load_shown(
+        rt, loading, workers, &board, writer, monitor, gate, desk, watch,
+    )
+}
