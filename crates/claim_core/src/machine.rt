@@ -9,7 +9,7 @@ use crate::claims::{claim_unit, finish_unit, open_unit};
 use dta_model::{Event, Loading, Outcome, Stage};
 use net_core::Memory;
 use node_transfer::{Mail, NodeCell, opening};
-use std::alloc::{AllocError, Global};
+use std::alloc::Global;
 use std::marker::Model;
 
 /// A loading whose units are claimed by workers, as a machine of three events.
@@ -104,10 +104,7 @@ fn idle_stages(alloc: Global, workers: u32) -> Result<Vec<Stage>, Memory>
 {
     let mut stages = Vec::new(alloc);
     for _ in 0..workers {
-        match stages.push(Stage::Idle) {
-            Ok(()) => {}
-            Err(_) => return Err(AllocError),
-        }
+        stages.push(Stage::Idle)?;
     }
     Ok(stages)
 }

@@ -6,7 +6,7 @@ ghost use Rattle.std.specs.Prelude.{slice_get, option_copied, IfErr, IfSome, IsN
 ghost use Rattle.std.specs.Prelude.{OnErr, OnOk, None};
 
 use crate::rider::Rider;
-use std::alloc::Global;
+use std::alloc::{AllocError, Global};
 use std::collections::LinkedList;
 use std::marker::Model;
 
@@ -36,6 +36,12 @@ impl Model for Line {
 pub struct PushRefused {
     /// The rider who was to be put last.
     pub rider: Rider,
+}
+
+impl From<PushRefused> for AllocError {
+    fn from(_: PushRefused) -> Self {
+        AllocError
+    }
 }
 
 impl Line {

@@ -17,7 +17,8 @@ after_one = record {
   last = Some (record { units = 7; passes = 1; vehicles = 0 });
 }
 
-a-second-receipt : taking three_nodes after_one ≡ record { closes = Some 2; last = Some three_nodes }
+a-second-receipt :
+    taking three_nodes after_one ≡ record { closes = Some 2; last = Some three_nodes }
 a-second-receipt = refl
 
 -- one that tells nothing tells nothing after a receipt

@@ -26,10 +26,7 @@ impl<T: Drop> Groups<T> {
     {
         let mut lists = Vec::new(alloc);
         for _ in 0..count {
-            match lists.push(Vec::new(alloc)) {
-                Ok(()) => {}
-                Err(_) => return Err(AllocError),
-            }
+            lists.push(Vec::new(alloc))?;
         }
         Ok(Groups { lists })
     }
@@ -49,9 +46,7 @@ impl<T: Drop> Groups<T> {
         ensures { OnOk result
             (self.new ≡ set self.old number (get_or self.old number [] ++ item ∷ [])) }
     {
-        match self.lists[number].push(item) {
-            Ok(()) => Ok(()),
-            Err(_) => Err(AllocError),
-        }
+        self.lists[number].push(item)?;
+        Ok(())
     }
 }

@@ -25,10 +25,10 @@ fn note(found: &mut Ids, zone: Option<u64>) -> Result<(), AllocError>
     match zone {
         Some(zone) => match found.place(zone) {
             Some(_) => Ok(()),
-            None => match found.add(zone) {
-                Ok(()) => Ok(()),
-                Err(_) => Err(AllocError),
-            },
+            None => {
+                found.add(zone)?;
+                Ok(())
+            }
         },
         None => Ok(()),
     }

@@ -5,7 +5,7 @@ use crate::part::Part;
 use monitors::WriterPass;
 use net_core::Memory;
 use node_transfer::{Mail, NodeCell};
-use std::alloc::{AllocError, Global};
+use std::alloc::Global;
 
 /// The places: the cells of the nodes, the mail of the links, and the writer's pass.
 pub(crate) fn parts_at_start(
@@ -32,8 +32,6 @@ pub(crate) fn parts_at_start(
 fn put(parts: &mut Vec<Part>, part: Part) -> Result<(), Memory>
     ensures { IfOk result (λ _. parts.new.items ≡ parts.old.items ++ part ∷ []) }
 {
-    match parts.push(part) {
-        Ok(()) => Ok(()),
-        Err(_) => Err(AllocError),
-    }
+    parts.push(part)?;
+    Ok(())
 }

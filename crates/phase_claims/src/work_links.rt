@@ -14,7 +14,7 @@ use dta_model::Loading;
 use net_core::NodeNo;
 use node_transfer::NodeCell;
 
-/// Fills the places of a node's out-links with the rooms of a step, out of the places of their mail.
+/// Fills the places of a node's out-links with the rooms of a step, out of their mail's places.
 pub(crate) fn fill_outs<V, K, P: TableRule<Part, V, K>>(
     shared: &Shared<Part, V, K, P>,
     seat: &mut Seat<Part, V>,
@@ -103,7 +103,7 @@ pub(crate) fn fill_ins<V, K, P: TableRule<Part, V, K>>(
     }
 }
 
-/// Takes the rooms of the next step out of the places of a node's in-links, into the places of their
+/// Takes the rooms of the next step out of the places of a node's in-links, into those of their
 /// mail.
 pub(crate) fn empty_ins<V, K, P: TableRule<Part, V, K>>(
     shared: &Shared<Part, V, K, P>,

@@ -41,8 +41,8 @@ pub(crate) fn transfer_held<V, K, P: TableRule<Part, V, K>>(
     give_cell(shared, seat, node.0 as usize, cell);
 }
 
-/// The gather of a node in a step: out of the places of its cell and of the batches of its in-links,
-/// and back into them with the rooms of the next step.
+/// The gather of a node in a step: out of the places of its cell and of the batches of its
+/// in-links, and back into them with the rooms of the next step.
 pub(crate) fn gather_held<V, K, P: TableRule<Part, V, K>>(
     shared: &Shared<Part, V, K, P>,
     seat: &mut Seat<Part, V>,

@@ -10,7 +10,7 @@ ghost use Rattle.std.specs.Prelude.{◌≡◌, ◌<◌, All, IfOk, OnOk, length}
 use dta_model::{Loading, Route};
 use link_queues::{Line, MOST_RIDERS, Rider};
 use net_core::Memory;
-use std::alloc::{AllocError, Global};
+use std::alloc::Global;
 
 /// The waiting line of each link before the first step: the vehicles whose routes begin there, in
 /// order of number.
@@ -67,10 +67,8 @@ fn put_rider(
         None => Ok(()),
         Some(link) => {
             let rider = Rider::new(alloc, number, departure, route)?;
-            match lines[link.0 as usize].push(rider) {
-                Ok(()) => Ok(()),
-                Err(_) => Err(AllocError),
-            }
+            lines[link.0 as usize].push(rider)?;
+            Ok(())
         }
     }
 }
