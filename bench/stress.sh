@@ -1,0 +1,71 @@
+#!/bin/sh
+# Runs loadings by workers again and again: `bench/stress.sh [RUNS]`. For each number of workers
+# from 1 to 16 so many runs (200 where none is said) of a ring with storage, by spatial queues, and
+# of `demo 6 --iterations 3`, first one after another and then four side by side. Each run must end
+# within a minute with the bytes of the run with --plain. Ends with 0 where all did.
+top=$(dirname "$(dirname "$(readlink -f "$0")")")
+runs=${1:-200}
+folder=$(mktemp -d)
+trap 'rm -rf "$folder"' EXIT
+"$top/dta" demo 2 >/dev/null || exit 1 # built
+program=$top/crates/dta/out/dta
+
+# The tables of a small net with short links, in which queues fill and block one another.
+make_net() {
+    cd "$1" || exit 1
+    printf 'node_id,zone_id\n1,1\n2,2\n3,3\n4,4\n' >node.csv
+    {
+        echo link_id,from_node_id,to_node_id,length,lanes,free_speed,capacity
+        for n in 1 2 3 4; do
+            echo "$n,$n,$((n % 4 + 1)),$((15 + 10 * n)),1,40,$((600 * n))"
+            echo "$((n + 4)),$((n % 4 + 1)),$n,$((35 - 5 * n)),1,50,900"
+        done
+    } >link.csv
+    {
+        echo o_zone_id,d_zone_id,volume
+        for o in 1 2 3 4; do for d in 1 2 3 4; do
+            [ $o = $d ] || echo "$o,$d,12"
+        done; done
+    } >demand.csv
+}
+
+# Both runs with these options, in the folder of the net; prints what they write.
+both() {
+    timeout 60 "$program" assign --period 40 --horizon 300 --iterations 2 --queue spatial "$@" ||
+        return 1
+    cat agent.csv link_performance.csv gap.csv
+    timeout 60 "$program" demo 6 --iterations 3 "$@"
+}
+
+# So many runs of both with each number of workers, in a folder of their own, all like the plain
+# one.
+repeat() {
+    mkdir "$folder/$1"
+    make_net "$folder/$1"
+    for workers in 1 2 3 4 5 6 7 8 9 10 11 12 13 14 15 16; do
+        for run in $(seq "$2"); do
+            both --workers "$workers" >"$folder/$1.now" || {
+                echo "run $run with $workers workers failed or didn't end within a minute"
+                return 1
+            }
+            cmp "$folder/$1.now" "$folder/plain" || {
+                echo "run $run with $workers workers wrote other bytes"
+                return 1
+            }
+        done
+    done
+}
+
+mkdir "$folder/net"
+make_net "$folder/net"
+both --plain >"$folder/plain" || exit 1
+repeat alone "$runs" || exit 1
+echo "one program at a time: $runs runs with each of 16 numbers of workers, one set of bytes"
+for side in 1 2 3 4; do
+    (repeat "side_$side" "$runs" >"$folder/said_$side" 2>&1; echo $? >"$folder/ended_$side") &
+done
+wait
+for side in 1 2 3 4; do
+    [ "$(cat "$folder/ended_$side")" = 0 ] || { cat "$folder/said_$side"; exit 1; }
+done
+echo "four programs at a time: the same, four times"
