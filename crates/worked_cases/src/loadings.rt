@@ -96,20 +96,7 @@ pub fn room_at_the_start_of_the_step(alloc: Global) -> Result<Case, Memory>
                 trip!(10, 0),
                 trip!(11, 0),
             ],
-            ways: &[
-                Way::OverTwo(0, 1),
-                Way::OverTwo(0, 1),
-                Way::OverTwo(0, 1),
-                Way::OverTwo(0, 1),
-                Way::OverTwo(0, 1),
-                Way::OverTwo(0, 1),
-                Way::OverTwo(0, 1),
-                Way::OverTwo(0, 1),
-                Way::OverTwo(0, 1),
-                Way::OverTwo(0, 1),
-                Way::OverTwo(0, 1),
-                Way::OverTwo(0, 1),
-            ],
+            ways: &[Way::OverTwo(0, 1); 12],
         },
     )
 }
