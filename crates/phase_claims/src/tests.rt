@@ -1,9 +1,14 @@
-// Worked cases: a floor that is closed too early, and two passes in turns.
+// Worked cases: floors on one thread and on several.
 use crate::{Floor, Pass};
 
 mod drive;
+mod ends;
+mod four_threads;
+mod grid;
+mod log;
 mod one_pass;
 mod two_passes;
+mod two_threads;
 
 // A pass can be given to other threads, and a floor be lent to them.
 fn goes_to_threads<T: Send>() {}
