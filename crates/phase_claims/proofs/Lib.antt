@@ -1,4 +1,5 @@
 pub mod Owners
+pub mod Resting
 pub mod Counts
 pub mod Steps
 pub mod Allowed

@@ -2,6 +2,7 @@
 ghost use Rattle.std.specs.Prelude.{◌≡◌, ◌++◌, ◌∷◌, [], IfOk, map};
 
 use crate::part::Part;
+use crate::resting_cell::RestingCell;
 use monitors::WriterPass;
 use net_core::Memory;
 use node_transfer::{Mail, NodeCell};
@@ -19,7 +20,7 @@ pub(crate) fn parts_at_start(
 {
     let mut parts = Vec::new(alloc);
     for cell in cells {
-        put(&mut parts, Part::Cell(cell))?;
+        put(&mut parts, Part::Cell(RestingCell::new(alloc, cell)?))?;
     }
     for letter in mail {
         put(&mut parts, Part::Mail(letter))?;

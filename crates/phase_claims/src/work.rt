@@ -4,8 +4,9 @@ ghost use Rattle.phase_claims.specs.PlacesHeld.{HoldsCell, HoldsMail, HoldsNothi
 ghost use Rattle.std.specs.Prelude.{◌≡◌, ◌∷◌};
 
 use crate::part::Part;
+use crate::resting_cell::RestingCell;
 use atomic_table::{Seat, Shared, TableRule};
-use node_transfer::{Mail, NodeCell};
+use node_transfer::Mail;
 
 /// Takes the mail out of the first place that the seat holds, and turns to the next one.
 pub(crate) fn take_mail<V, K, P: TableRule<Part, V, K>>(
@@ -44,12 +45,31 @@ pub(crate) fn give_mail<V, K, P: TableRule<Part, V, K>>(
     seat.turn();
 }
 
+/// Brings mail into the first place that the seat holds in place of the mail there, which is
+/// dropped, and turns to the next one.
+pub(crate) fn swap_mail<V, K, P: TableRule<Part, V, K>>(
+    shared: &Shared<Part, V, K, P>,
+    seat: &mut Seat<Part, V>,
+    slot: usize,
+    mail: Mail,
+)
+    requires table { seat.old.table_id ≡ shared.now.table_id }
+    requires held { HoldsMail slot seat.old.me.1 }
+    ensures seat { IsSameSeat seat.old seat.new }
+    ensures held { seat.new.me.1 ≡ turned ((slot, Part.Mail mail) ∷ rest seat.old.me.1) }
+{
+    let Part::Mail(_) = shared.exchange(seat, slot, Part::Mail(mail)) else {
+        unreachable!()
+    };
+    seat.turn();
+}
+
 /// Takes the cell out of the first place that the seat holds, which stays the first one.
 pub(crate) fn take_cell<V, K, P: TableRule<Part, V, K>>(
     shared: &Shared<Part, V, K, P>,
     seat: &mut Seat<Part, V>,
     slot: usize,
-) -> NodeCell
+) -> RestingCell
     requires table { seat.old.table_id ≡ shared.now.table_id }
     requires held { HoldsCell slot seat.old.me.1 }
     ensures seat { IsSameSeat seat.old seat.new }
@@ -67,7 +87,7 @@ pub(crate) fn give_cell<V, K, P: TableRule<Part, V, K>>(
     shared: &Shared<Part, V, K, P>,
     seat: &mut Seat<Part, V>,
     slot: usize,
-    cell: NodeCell,
+    cell: RestingCell,
 )
     requires table { seat.old.table_id ≡ shared.now.table_id }
     requires held { HoldsNothing slot seat.old.me.1 }

@@ -7,6 +7,7 @@ ghost use Rattle.phase_claims.specs.PlacesHeld.{IsSameSeat, node_places};
 ghost use Rattle.std.specs.Prelude.{◌≡◌, suc};
 
 use crate::part::Part;
+use crate::resting_cell::RestingCell;
 use crate::work::{give_cell, take_cell};
 use crate::work_links::{empty_ins, empty_outs, fill_ins, fill_outs};
 use atomic_table::{Seat, Shared, TableRule};
@@ -32,12 +33,14 @@ pub(crate) fn transfer_held<V, K, P: TableRule<Part, V, K>>(
         (cell_after (plan_of loading.now) node.0 step away away)
         (batch_of (plan_of loading.now) step) (outs_of (plan_of loading.now) node.0) }
 {
-    let mut cell = take_cell(shared, seat, node.0 as usize);
+    let cell = take_cell(shared, seat, node.0 as usize);
     seat.turn();
+    let (mut cell, notes) = cell.into_cell();
     fill_outs(shared, seat, loading, node, step, &mut cell);
     cell.transfer(step);
     seat.turn();
     empty_outs(shared, seat, loading, node, step, &mut cell);
+    let cell = RestingCell::awake(cell, notes);
     give_cell(shared, seat, node.0 as usize, cell);
 }
 
@@ -60,11 +63,13 @@ pub(crate) fn gather_held<V, K, P: TableRule<Part, V, K>>(
         (cell_before (plan_of loading.now) node.0 (suc step) away away)
         (room_of (plan_of loading.now) (suc step)) (ins_of (plan_of loading.now) node.0) }
 {
-    let mut cell = take_cell(shared, seat, node.0 as usize);
+    let cell = take_cell(shared, seat, node.0 as usize);
     seat.turn();
+    let (mut cell, notes) = cell.into_cell();
     fill_ins(shared, seat, loading, node, step, &mut cell);
     cell.gather(step);
     seat.turn();
     empty_ins(shared, seat, loading, node, step, &mut cell);
+    let cell = RestingCell::looked_up(cell, notes, step + 1);
     give_cell(shared, seat, node.0 as usize, cell);
 }
