@@ -3,16 +3,19 @@ ghost use Rattle.dta_model.specs.Lent.{plan_of};
 ghost use Rattle.dta_model.specs.Plans.{ins as ins_of, outs as outs_of};
 ghost use Rattle.cell_stages.specs.Contents.{IsStep, away, batch_of, cell_after, cell_before};
 ghost use Rattle.cell_stages.specs.Contents.{room_of};
+ghost use Rattle.node_transfer.specs.Rest.{IsIdle};
 ghost use Rattle.phase_claims.specs.PlacesHeld.{IsSameSeat, after_cell, before_cell, empty_places};
 ghost use Rattle.phase_claims.specs.PlacesHeld.{mail_places};
 ghost use Rattle.std.specs.Prelude.{◌≡◌, suc};
 
 use crate::part::Part;
-use crate::work::{give_mail, take_mail};
+use crate::work::{give_mail, swap_mail, take_mail};
 use atomic_table::{Seat, Shared, TableRule};
 use dta_model::Loading;
+use link_queues::Line;
 use net_core::NodeNo;
-use node_transfer::NodeCell;
+use node_transfer::{Mail, NodeCell};
+use std::alloc::Global;
 
 /// Fills the places of a node's out-links with the rooms of a step, out of their mail's places.
 pub(crate) fn fill_outs<V, K, P: TableRule<Part, V, K>>(
@@ -70,6 +73,36 @@ pub(crate) fn empty_outs<V, K, P: TableRule<Part, V, K>>(
     for place in 0..outs.len() {
         let batch = cell.give_out(place);
         give_mail(shared, seat, nodes + outs[place].0 as usize, batch);
+    }
+}
+
+/// Takes the rooms of a step out of the places of a node's out-links, and leaves batches without
+/// anybody there, where nobody moves at the node in that step.
+pub(crate) fn leave_batches<V, K, P: TableRule<Part, V, K>>(
+    alloc: Global,
+    shared: &Shared<Part, V, K, P>,
+    seat: &mut Seat<Part, V>,
+    loading: &Loading,
+    node: NodeNo,
+    step: u32,
+)
+    requires table { seat.old.table_id ≡ shared.now.table_id }
+    requires step { IsStep (plan_of loading.now) node.0 step }
+    requires idle { IsIdle (plan_of loading.now) node.0 step }
+    requires held { seat.old.me.1 ≡ before_cell node.0
+        (mail_places (plan_of loading.now) (room_of (plan_of loading.now) step)
+        (outs_of (plan_of loading.now) node.0)) }
+    ensures seat { IsSameSeat seat.old seat.new }
+    ensures held { seat.new.me.1 ≡ after_cell node.0
+        (mail_places (plan_of loading.now) (batch_of (plan_of loading.now) step)
+        (outs_of (plan_of loading.now) node.0)) }
+{
+    let nodes = loading.net.node_count() as usize;
+    let outs = loading.net.outs(node);
+    for place in 0..outs.len() {
+        let line = Line::new(alloc);
+        let slot = nodes + outs[place].0 as usize;
+        swap_mail(shared, seat, slot, Mail::Batch { step, line });
     }
 }
 

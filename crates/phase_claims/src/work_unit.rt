@@ -9,14 +9,17 @@ ghost use Rattle.std.specs.Prelude.{◌≡◌, suc};
 use crate::part::Part;
 use crate::resting_cell::RestingCell;
 use crate::work::{give_cell, take_cell};
-use crate::work_links::{empty_ins, empty_outs, fill_ins, fill_outs};
+use crate::work_links::{empty_ins, empty_outs, fill_ins, fill_outs, leave_batches};
 use atomic_table::{Seat, Shared, TableRule};
 use dta_model::Loading;
 use net_core::NodeNo;
+use std::alloc::Global;
 
 /// The transfer of a node in a step: out of the places of its cell and of the rooms of its
-/// out-links, and back into them with batches.
+/// out-links, and back into them with batches. Where nobody of the cell is ready it only rests, and
+/// the batches are without anybody.
 pub(crate) fn transfer_held<V, K, P: TableRule<Part, V, K>>(
+    alloc: Global,
     shared: &Shared<Part, V, K, P>,
     seat: &mut Seat<Part, V>,
     loading: &Loading,
@@ -33,8 +36,14 @@ pub(crate) fn transfer_held<V, K, P: TableRule<Part, V, K>>(
         (cell_after (plan_of loading.now) node.0 step away away)
         (batch_of (plan_of loading.now) step) (outs_of (plan_of loading.now) node.0) }
 {
-    let cell = take_cell(shared, seat, node.0 as usize);
+    let mut cell = take_cell(shared, seat, node.0 as usize);
     seat.turn();
+    if cell.is_quiet(step) {
+        cell.rest();
+        leave_batches(alloc, shared, seat, loading, node, step);
+        give_cell(shared, seat, node.0 as usize, cell);
+        return;
+    }
     let (mut cell, notes) = cell.into_cell();
     fill_outs(shared, seat, loading, node, step, &mut cell);
     cell.transfer(step);
