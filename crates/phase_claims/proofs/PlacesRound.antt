@@ -1,7 +1,7 @@
 -- One round of a loop in which the mail of a node's links goes between held slots and the node's cell.
 use Rattle.std.specs.Prelude.{slice_get}
 use Rattle.std.proofs.lemmas.Bool.{eqb-true}
-use Rattle.std.proofs.Common.{◌≡◌, ℕ, ◌+◌, ◌<◌, ◌≤◌, List, [], ◌∷◌, length, take, sym, ap, ◌∙◌, subst, Option, Some}
+use Rattle.std.proofs.Common.{◌≡◌, ℕ, ◌+◌, ◌<◌, List, [], ◌∷◌, length, take, sym, ap, ◌∙◌, subst, Option, Some}
 use Rattle.atomic_table.specs.Table.{rest, turned}
 use Rattle.atomic_table.specs.declared.shared.Seat.{Seat}
 use Rattle.net_core.specs.Network.{as_links}
@@ -84,10 +84,13 @@ module _ {p : Plan} {n : ℕ} {ends : ℕ → ℕ} {links : List ℕ} {cell : (�
   pub mail_collected : (c c' : CellState) → c ≡ cell (replaced (take j links) away F) → c' ≡ put j Away c → c' ≡ cell (replaced (take (j + 1) links) away F)
   mail_collected c c' at now = emptied-next p n ends links cell put told made F j here c c' there at now
 
+  pub mail_told : (m : mail.Mail) (c : CellState) → c ≡ cell (replaced (take j links) away F) → told j c ≡ Some m → m ≡ F here
+  mail_told m c at tells = some_mail m (F here) (sym tells ∙ is-told made F ls are j within c at)
+
   pub mail_round : (m : mail.Mail) (c : CellState) (l l' : List (ℕ × Part)) → c ≡ cell (replaced (take j links) away F) → told j c ≡ Some m
       → l ≡ midway (empty_place p) (mail_place p F) z links j → l' ≡ turned ((N + here, Mail m) ∷ rest l) → l' ≡ midway (empty_place p) (mail_place p F) z links (j + 1)
   mail_round m c l l' at tells is now =
-      let same : m ≡ F here = some_mail m (F here) (sym tells ∙ is-told made F ls are j within c at) in
+      let same = mail_told m c at tells in
       round (empty_place p) (mail_place p F) z links j here l l' there is
       (now ∙ ap (λ k. turned ((k, Mail m) ∷ rest l)) (sym slot_is) ∙ ap (λ x. turned ((mail_part p here, Mail x) ∷ rest l)) same)
 
@@ -103,11 +106,16 @@ module _ {p : Plan} {n : ℕ} {ends : ℕ → ℕ} {links : List ℕ} {cell : (�
   next_slot : mail_part p next ≡ N + next
   next_slot = ap (λ k. k + next) (sym nodes)
 
-  next_mail : (l : List (ℕ × Part)) → l ≡ midway (mail_place p F) (mail_place p G) z links j → l ≡ (N + next, Mail (F next)) ∷ rest l
+  pub next_mail : (l : List (ℕ × Part)) → l ≡ midway (mail_place p F) (mail_place p G) z links j → l ≡ (N + next, Mail (F next)) ∷ rest l
   next_mail l is = first_is (mail_place p F) (mail_place p G) z links j next l is_next is ∙ ap (λ k. (k, Mail (F next)) ∷ rest l) next_slot
 
   pub swap_first : (l : List (ℕ × Part)) → l ≡ midway (mail_place p F) (mail_place p G) z links j → HoldsMail (N + next) l
   swap_first l is = (F next, next_mail l is)
+
+  pub turn_round : (l l' : List (ℕ × Part)) → l ≡ midway (mail_place p F) (mail_place p F) z links j → l' ≡ turned l → l' ≡ midway (mail_place p F) (mail_place p F) z links (j + 1)
+  turn_round l l' is now =
+      round (mail_place p F) (mail_place p F) z links j next l l' is_next is
+      (now ∙ ap turned (first_is (mail_place p F) (mail_place p F) z links j next l is_next is))
 
   pub swap_is : (l : List (ℕ × Part)) (m : mail.Mail) → l ≡ midway (mail_place p F) (mail_place p G) z links j → l ≡ (N + next, Mail m) ∷ rest l → m ≡ F next
   swap_is l m is got = same_mail m (F next) (same_first (N + next) (Mail m) (Mail (F next)) l got (next_mail l is))

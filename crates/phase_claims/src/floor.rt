@@ -87,7 +87,7 @@ impl<'a> Floor<'a> {
     {
         let start = opening(alloc, loading)?;
         let cells = start.cells.into_vec();
-        let parts = parts_at_start(alloc, cells, start.mail.into_vec(), writer)?;
+        let parts = parts_at_start(alloc, loading, cells, start.mail.into_vec(), writer)?;
         let key = Key {
             loading: *loading,
             board,

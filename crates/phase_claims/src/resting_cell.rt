@@ -8,8 +8,8 @@ ghost use Rattle.dta_model.specs.declared.plan.Plan.{Plan};
 ghost use Rattle.node_transfer.specs.Counts.{counts_at};
 ghost use Rattle.node_transfer.specs.Hand.{Within, handed, riders_in};
 ghost use Rattle.node_transfer.specs.Rest.{IsQuiet, rested_once};
-ghost use Rattle.phase_claims.specs.Resting.{IsSomeCell};
-ghost use Rattle.std.specs.Prelude.{◌≡◌, ◌<◌, ℕ, true, All, IfOk, Some, length, slice_get};
+ghost use Rattle.phase_claims.specs.Resting.{IsSomeCell, rooms_of};
+ghost use Rattle.std.specs.Prelude.{◌≡◌, ◌<◌, ℕ, true, All, IfOk, IfSome, Some, length, slice_get};
 
 use dta_model::Loaded;
 use net_core::Memory;
@@ -17,10 +17,11 @@ use node_transfer::{CellCounts, NodeCell};
 use std::alloc::Global;
 use std::marker::Model;
 
-// What is kept beside a cell: its counts.
+// What is kept beside a cell: its counts, and the rooms of its in-links.
 #[derive(Drop)]
 pub struct Notes {
     pub counts: CellCounts,
+    pub rooms: Vec<Option<u32>>,
 }
 
 /// A node's cell in its place. The steps in which nobody of it is ready are only counted, and the
@@ -43,12 +44,13 @@ impl Model for RestingCell {
 
     ghost view = { λ c. rested c.missed c.cell };
 
-    ghost invariant = { λ c. IsResting c.cell c.missed c.wake c.known c.notes.value.counts };
+    ghost invariant = { λ c. IsResting c.cell c.missed c.wake c.known c.notes.value.counts
+        c.notes.value.rooms.items };
 }
 
 impl RestingCell {
-    /// A cell of which nothing is known yet.
-    pub(crate) fn new(alloc: Global, cell: NodeCell) -> Result<Self, Memory>
+    /// A cell of which nothing is known yet, with so many in-links.
+    pub(crate) fn new(alloc: Global, cell: NodeCell, places: usize) -> Result<Self, Memory>
         ensures { IfOk result (λ resting. resting ≡ cell) }
     {
         let counts = CellCounts {
@@ -56,7 +58,8 @@ impl RestingCell {
             running: 0,
             arrived: 0,
         };
-        let notes = Box::new(alloc, Notes { counts })?;
+        let rooms = Vec::from_elem(alloc, None, places)?;
+        let notes = Box::new(alloc, Notes { counts, rooms })?;
         Ok(RestingCell::awake(cell, notes))
     }
 
@@ -73,20 +76,25 @@ impl RestingCell {
         }
     }
 
-    /// A cell after so many steps: who of it is ready next is looked up, and it is counted.
-    pub(crate) fn looked_up(cell: NodeCell, notes: Box<Notes>, steps: u32) -> Self
-        requires { IsSomeCell steps cell }
+    /// A cell after so many steps: who of it is ready next is looked up, and it is counted. The
+    /// rooms of its in-links are noted, if there are places for all.
+    pub(crate) fn looked_up(cell: NodeCell, notes: Box<Notes>, steps: u32, places: usize) -> Self
+        requires cell { IsSomeCell steps cell }
+        requires places { places ≡ length cell.ins }
+        requires rooms { length notes.value.rooms.items ≡ places
+            → notes.value.rooms.items ≡ rooms_of cell }
         ensures { result ≡ cell }
     {
         let mut notes = notes;
         notes.counts = cell.counts(steps);
         let wake = cell.next_step();
+        let known = are_all(&notes.rooms, places);
         RestingCell {
             cell,
             notes,
             missed: 0,
             wake,
-            known: true,
+            known,
         }
     }
 
@@ -95,6 +103,17 @@ impl RestingCell {
         ensures { result ≡ true → IsQuiet step self.now }
     {
         step < self.wake
+    }
+
+    /// The rooms of the in-links, where they are known.
+    pub(crate) fn rooms(&self) -> Option<&[Option<u32>]>
+        ensures { IfSome result (λ rooms. rooms.now ≡ rooms_of self.now) }
+    {
+        if self.known {
+            Some(&self.notes.rooms)
+        } else {
+            None
+        }
     }
 
     /// Lets a step go by in which nobody moves.
@@ -152,4 +171,11 @@ impl RestingCell {
     {
         self.cell.on_link(place)
     }
+}
+
+// Whether there are so many rooms.
+fn are_all(rooms: &[Option<u32>], places: usize) -> bool
+    ensures { result ≡ true → length rooms.now ≡ places }
+{
+    rooms.len() == places
 }

@@ -9,7 +9,7 @@ ghost use Rattle.std.specs.Prelude.{◌≡◌, suc};
 use crate::part::Part;
 use crate::resting_cell::RestingCell;
 use crate::work::{give_cell, take_cell};
-use crate::work_links::{empty_ins, empty_outs, fill_ins, fill_outs, leave_batches};
+use crate::work_links::{empty_ins, empty_outs, fill_ins, fill_outs, leave_batches, leave_rooms};
 use atomic_table::{Seat, Shared, TableRule};
 use dta_model::Loading;
 use net_core::NodeNo;
@@ -54,7 +54,8 @@ pub(crate) fn transfer_held<V, K, P: TableRule<Part, V, K>>(
 }
 
 /// The gather of a node in a step: out of the places of its cell and of the batches of its
-/// in-links, and back into them with the rooms of the next step.
+/// in-links, and back into them with the rooms of the next step. Where nobody comes to a cell that
+/// rests it is left as it is.
 pub(crate) fn gather_held<V, K, P: TableRule<Part, V, K>>(
     shared: &Shared<Part, V, K, P>,
     seat: &mut Seat<Part, V>,
@@ -74,11 +75,17 @@ pub(crate) fn gather_held<V, K, P: TableRule<Part, V, K>>(
 {
     let cell = take_cell(shared, seat, node.0 as usize);
     seat.turn();
-    let (mut cell, notes) = cell.into_cell();
+    if leave_rooms(shared, seat, loading, node, step, &cell) {
+        give_cell(shared, seat, node.0 as usize, cell);
+        return;
+    }
+    let (mut cell, mut notes) = cell.into_cell();
     fill_ins(shared, seat, loading, node, step, &mut cell);
     cell.gather(step);
     seat.turn();
-    empty_ins(shared, seat, loading, node, step, &mut cell);
-    let cell = RestingCell::looked_up(cell, notes, step + 1);
+    let rooms = &mut notes.rooms;
+    empty_ins(shared, seat, loading, node, step, &mut cell, rooms);
+    let places = loading.net.ins(node).len();
+    let cell = RestingCell::looked_up(cell, notes, step + 1, places);
     give_cell(shared, seat, node.0 as usize, cell);
 }
