@@ -1,4 +1,6 @@
 pub mod Owners
+pub mod Resting
+pub mod Rooms
 pub mod Counts
 pub mod Steps
 pub mod Allowed

@@ -5,6 +5,7 @@ pub mod Laws
 pub mod Plays
 pub mod Passes
 pub mod Floors
+pub mod Resting
 pub mod PlacesHeld
 pub mod PlacesHome
 pub mod PlacesCounted

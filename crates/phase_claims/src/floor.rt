@@ -36,6 +36,7 @@ pub const MOST_PASSES: u32 = 64;
 /// contract it is its table, and what it is for.
 #[derive(Drop)]
 pub struct Floor<'a> {
+    alloc: Global,
     table: Words<'a>,
     loading: Loading<'a>,
     board: &'a Board,
@@ -86,7 +87,7 @@ impl<'a> Floor<'a> {
     {
         let start = opening(alloc, loading)?;
         let cells = start.cells.into_vec();
-        let parts = parts_at_start(alloc, cells, start.mail.into_vec(), writer)?;
+        let parts = parts_at_start(alloc, loading, cells, start.mail.into_vec(), writer)?;
         let key = Key {
             loading: *loading,
             board,
@@ -98,6 +99,7 @@ impl<'a> Floor<'a> {
             Err(_) => return Err(AllocError),
         };
         let floor = Floor {
+            alloc,
             table,
             loading: *loading,
             board,
@@ -186,7 +188,9 @@ impl<'a> Floor<'a> {
         let shared = &self.table.shared;
         let step = self.units.step_of(number);
         match self.units.kind_of(number) {
-            UnitKind::Transfer(node) => transfer_held(shared, seat, &self.loading, node, step),
+            UnitKind::Transfer(node) => {
+                transfer_held(self.alloc, shared, seat, &self.loading, node, step)
+            }
             UnitKind::Gather(node) => gather_held(shared, seat, &self.loading, node, step),
             UnitKind::Posting => unreachable!(),
         }
@@ -333,6 +337,7 @@ impl<'a> Floor<'a> {
         ensures ended { pass.view.stage ≡ Stage.Ended → IsOk result }
     {
         let Floor {
+            alloc: _,
             table,
             loading,
             board: _,

@@ -14,6 +14,7 @@ mod laws;
 mod part;
 mod pass;
 mod receipt;
+mod resting_cell;
 mod rule;
 mod start;
 mod unit;

@@ -1,13 +1,14 @@
 // What the places of a floor hold.
+use crate::resting_cell::RestingCell;
 use monitors::WriterPass;
-use node_transfer::{Mail, NodeCell};
+use node_transfer::Mail;
 
 /// What a place holds: a cell, a mail, the writer's pass, or nothing while a unit is
 /// at work on it.
 #[derive(Drop)]
 pub enum Part {
     Out,
-    Cell(NodeCell),
+    Cell(RestingCell),
     Mail(Mail),
     Writer(WriterPass),
 }

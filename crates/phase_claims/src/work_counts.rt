@@ -1,20 +1,24 @@
 // The counts of a node's cell are added to those of the nodes before it.
 ghost use Rattle.dta_model.specs.Lent.{plan_of};
+ghost use Rattle.dta_model.specs.Loading.{trace_after};
+ghost use Rattle.dta_model.specs.Plans.{ins as ins_of};
 ghost use Rattle.dta_model.specs.Sound.{IsSound};
+ghost use Rattle.dta_model.specs.State.{count_on};
+ghost use Rattle.dta_model.specs.declared.plan.Plan.{Plan};
 ghost use Rattle.cell_stages.specs.Contents.{away, cell_before};
 ghost use Rattle.phase_claims.specs.PlacesCounted.{counted_in, firsts_on};
-ghost use Rattle.std.specs.Prelude.{◌≡◌, ◌<◌, suc, length, slice_set};
+ghost use Rattle.std.specs.Prelude.{◌≡◌, ◌<◌, ℕ, Some, suc, length, slice_get, slice_set};
 
+use crate::resting_cell::RestingCell;
 use dta_model::{Eight, Loading};
 use net_core::NodeNo;
-use node_transfer::NodeCell;
 
 /// Adds the counts of a node's cell after so many steps. It looks at no vehicle.
 pub(crate) fn add_cell(
     loading: &Loading,
     node: NodeNo,
     steps: u32,
-    cell: &NodeCell,
+    cell: &RestingCell,
     eight: &mut Eight,
 )
     requires sound { IsSound (plan_of loading.now) }
@@ -32,7 +36,7 @@ pub(crate) fn add_cell(
 
 // Adds the vehicles on those of the first four links that lead to the node. They are at the first
 // places of its in-links, since these are in order.
-fn add_links(loading: &Loading, node: NodeNo, steps: u32, cell: &NodeCell, first: &mut [u64; 4])
+fn add_links(loading: &Loading, node: NodeNo, steps: u32, cell: &RestingCell, first: &mut [u64; 4])
     requires node { node.0 < length (plan_of loading.now).net.nodes }
     requires cell { cell.now ≡ cell_before (plan_of loading.now) node.0 steps away away }
     requires first { first.old ≡ firsts_on (plan_of loading.now) steps node.0 }
@@ -40,16 +44,18 @@ fn add_links(loading: &Loading, node: NodeNo, steps: u32, cell: &NodeCell, first
 {
     let ins = loading.net.ins(node);
     for place in 0..ins.len().min(4) {
-        let count = cell.on_link(place);
-        put_count(first, ins[place].0, count);
+        put_count(first, ins[place].0, cell, place);
     }
 }
 
-// Puts the count of a link, where it is one of the first four.
-fn put_count(first: &mut [u64; 4], link: u32, count: u64)
-    ensures { first.new ≡ slice_set first.old link count }
+// Puts the count of the in-link of a place, where it is one of the first four links.
+fn put_count(first: &mut [u64; 4], link: u32, cell: &RestingCell, place: usize)
+    requires { place < length cell.now.ins }
+    ensures { (p : Plan) (n t : ℕ) → cell.now ≡ cell_before p n t away away
+        → slice_get (ins_of p n) place ≡ Some link
+        → first.new ≡ slice_set first.old link (count_on (trace_after p t) link) }
 {
     if (link as usize) < first.len() {
-        first[link as usize] = count;
+        first[link as usize] = cell.on_link(place);
     }
 }

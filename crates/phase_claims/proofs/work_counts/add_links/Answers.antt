@@ -13,8 +13,8 @@ use Rattle.phase_claims.specs.PlacesCounted.{firsts_on}
 use Rattle.phase_claims.proofs.PlacesSums.{all_put, puts_next}
 use Rattle.phase_claims.proofs.work_counts.add_links.Goals as goal
 
-pub on_link-count-requires : goal.on_link-count-requires
-on_link-count-requires c =
+pub put_count-requires : goal.put_count-requires
+put_count-requires c =
     let p = plan_of c.args.loading.now in
     let are = ap (λ xs. length xs) c.ins-ins.ensures in
     let many = links-count (ins p c.args.node.0) in
@@ -29,8 +29,7 @@ loop-place-preserved c =
     let links = ins p c.args.node.0 in
     let b = link_of c.ins-ins.result.now c.loop-place.place in
     let here = link-here links c.ins-ins.result.now c.loop-place.place (record { 0 = 0 }) c.ins-ins.ensures (omega (arith, c.loop-place-test.true, c.min-place-end.ensures)) in
-    c.put_count.ensures
-    ∙ ap (λ x. slice_set c.loop-place.first b x) (c.on_link-count.ensures.count p c.args.node.0 c.args.steps b c.requires.cell here)
+    c.put_count.ensures p c.args.node.0 c.args.steps c.requires.cell here
     ∙ ap (λ xs. slice_set xs b (f b)) c.loop-place.invariant
     ∙ puts_next f links c.loop-place.place b (firsts_on p c.args.steps c.args.node.0) here
 

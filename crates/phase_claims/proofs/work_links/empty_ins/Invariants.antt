@@ -5,7 +5,9 @@ use Rattle.cell_stages.specs.Contents.{away, cell_before, room_of}
 use Rattle.node_transfer.proofs.OfMail.Exchanges.{replaced}
 use Rattle.phase_claims.specs.PlacesHeld.{IsSameSeat, empty_place, mail_place}
 use Rattle.phase_claims.specs.declared.part.Part.TheVariants.{Out}
+use Rattle.cell_stages.specs.Stages.{room_mail}
 use Rattle.phase_claims.proofs.PlacesTurn.{midway}
+use Rattle.phase_claims.proofs.Rooms.{AreNoted}
 use Rattle.phase_claims.proofs.work_links.empty_ins.Given as goal
 
 abbrev pub invariant-loop-place : goal.invariant-loop-place
@@ -15,3 +17,4 @@ invariant-loop-place g l =
     IsSameSeat l.initial.seat l.seat
     × (l.cell ≡ cell_before p l.fn.node.0 (suc l.step) (replaced (take l.place links) away (room_of p (suc l.step))) away)
     × (l.seat.me.1 ≡ midway (empty_place p) (mail_place p (room_of p (suc l.step))) ((l.fn.node.0, Out) ∷ []) links l.place)
+    × AreNoted (λ k. room_mail p k (suc l.step)) links l.place l.rooms
