@@ -19,7 +19,7 @@ mod states;
 
 pub use reading::group_labels::{GroupLabels, MOST_GROUP};
 pub use reading::labels::Labels;
-pub use reading::tell::{Ask, Told, tell};
+pub use reading::tell::{Ask, Told, tell, tell_by_parts};
 
 #[cfg(test)]
 mod tests;

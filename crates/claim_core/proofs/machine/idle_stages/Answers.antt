@@ -4,4 +4,4 @@ use Rattle.claim_core.proofs.AtStart.{one_idle_more}
 use Rattle.claim_core.proofs.machine.idle_stages.Goals as goal
 
 pub loop-preserved : goal.loop-preserved
-loop-preserved c = c.in-Ok.ensures.items ∙ ap (λ xs. xs ++ stage.Idle ∷ []) c.loop.invariant ∙ one_idle_more c.loop.counter
+loop-preserved c = c.in_ok-push.ensures.items ∙ ap (λ xs. xs ++ stage.Idle ∷ []) c.loop.invariant ∙ one_idle_more c.loop.counter
