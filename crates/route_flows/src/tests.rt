@@ -60,7 +60,7 @@ struct Wanted<'a> {
 }
 
 // Whether two iterations over the network and trips of a case are as they are wanted.
-fn shows<R: AllocGlobal + Threads>(rt: &R, case: &Case, wanted: &Wanted) -> Result<bool, Memory> {
+fn shows<R: AllocGlobal + Threads + Sync>(rt: &R, case: &Case, wanted: &Wanted) -> Result<bool, Memory> {
     let alloc = rt.alloc();
     let loading = case.loading();
     let Loading {
