@@ -16,7 +16,7 @@ use gap::{GapLine, gap_line};
 use link_times::LinkTimes;
 use net_core::{Memory, Net};
 use std::thread::Threads;
-use time_routes::{Told, tell_by_parts};
+use time_routes::{Told, tell_by_shares};
 
 /// The most workers.
 pub const MOST_WORKERS: u32 = 16;
@@ -45,7 +45,7 @@ pub fn first_routes<R: AllocGlobal + Threads + Sync>(
     // Free-flow steps stand still, so that a table of one step serves.
     let times = LinkTimes::free(alloc, net, 1, 1)?;
     let asks = all_walks(alloc, trips.len())?;
-    let told = tell_by_parts(rt, net, &times, trips, &asks, workers)?;
+    let told = tell_by_shares(rt, net, &times, trips, &asks, workers)?;
     Ok(Routes::of(told.walks))
 }
 
@@ -77,7 +77,7 @@ pub fn next_routes<R: AllocGlobal + Threads + Sync>(
     let Told {
         leasts: _,
         mut walks,
-    } = tell_by_parts(rt, net, times, trips, &asks, workers)?;
+    } = tell_by_shares(rt, net, times, trips, &asks, workers)?;
     keep_others(alloc, old, k, &mut walks)?;
     Ok(Routes::of(walks))
 }
@@ -111,7 +111,7 @@ pub fn gap_and_next_routes<R: AllocGlobal + Threads + Sync>(
     let alloc = rt.alloc();
     let old = routes.as_slice();
     let asks = asks_of(alloc, old, true, k)?;
-    let Told { leasts, mut walks } = tell_by_parts(rt, net, times, trips, &asks, workers)?;
+    let Told { leasts, mut walks } = tell_by_shares(rt, net, times, trips, &asks, workers)?;
     let line = gap_line(net, times, trips, routes, &leasts);
     keep_others(alloc, old, k, &mut walks)?;
     Ok((line, Routes::of(walks)))

@@ -85,16 +85,16 @@ module _ {X : Type 0} (T : Trip → X → Type 0) (asked : ℕ → Bool) (trips 
   pub settles_asked : Settles asked (IsRight T asked trips) (λ w. w ≡ v) xs (cond (asked v) (set xs v x) xs)
   settles_asked = settles_asked_by (asked v) refl
 
--- ---- one part after others
-pub chunk_more : (net : NetRows) (trips : List Trip) (asks : List Ask) (named : List ZoneNo) (size part : ℕ) (v : ℕ) → LeadsToFirst net trips asks named ((part + 1) * size) v
-    → LeadsToFirst net trips asks named (part * size) v ⊎ LeadsToFirst net trips asks (slice_chunk named size part) (length (slice_chunk named size part)) v
-chunk_more net trips asks named size part v s =
-    let wide : (part + 1) * size - part * size ≡ size = omega arith in
-    subst (λ n. LeadsToFirst net trips asks named (part * size) v ⊎ LeadsToFirst net trips asks (take n (drop (part * size) named)) (length (take n (drop (part * size) named))) v) wide
-    (group_more net trips asks named (part * size) ((part + 1) * size) v s)
+-- ---- one share after others
+pub chunk_more : (net : NetRows) (trips : List Trip) (asks : List Ask) (named : List ZoneNo) (size share : ℕ) (v : ℕ) → LeadsToFirst net trips asks named ((share + 1) * size) v
+    → LeadsToFirst net trips asks named (share * size) v ⊎ LeadsToFirst net trips asks (slice_chunk named size share) (length (slice_chunk named size share)) v
+chunk_more net trips asks named size share v s =
+    let wide : (share + 1) * size - share * size ≡ size = omega arith in
+    subst (λ n. LeadsToFirst net trips asks named (share * size) v ⊎ LeadsToFirst net trips asks (take n (drop (share * size) named)) (length (take n (drop (share * size) named))) v) wide
+    (group_more net trips asks named (share * size) ((share + 1) * size) v s)
 
-pub in_all_parts : (net : NetRows) (trips : List Trip) (asks : List Ask) (named : List ZoneNo) (count : ℕ) (v : ℕ) → length named ≤ count → LeadsToFirst net trips asks named (length named) v → LeadsToFirst net trips asks named count v
-in_all_parts net trips asks named count v h s = let low = s.2 in (s.0, s.1, omega (arith, low, h), s.3, s.4)
+pub in_all : (net : NetRows) (trips : List Trip) (asks : List Ask) (named : List ZoneNo) (count : ℕ) (v : ℕ) → length named ≤ count → LeadsToFirst net trips asks named (length named) v → LeadsToFirst net trips asks named count v
+in_all net trips asks named count v h s = let low = s.2 in (s.0, s.1, omega (arith, low, h), s.3, s.4)
 
 pub put_told : (at : ℕ → ℕ → ℕ) (net : NetRows) (trips : List Trip) (asks : List Ask) (answer : Answer) (old new : Told) → IsAnswer at net trips asks answer
     → new.leasts.items ≡ cond (asks_least asks answer.vehicle) (set old.leasts.items answer.vehicle answer.least) old.leasts.items

@@ -13,8 +13,8 @@ ghost use Rattle.time_routes.specs.Reading.Tell.{wanted, wanted_zone};
 ghost use Rattle.time_routes.specs.ToZone.{zone_numbers};
 
 use crate::reading::answers::{Answer, answers_to};
-use crate::reading::parts::{part_count, part_size};
 use crate::reading::put_answers::put_answers;
+use crate::reading::shares::{share_count, share_size};
 use crate::states::by_zone::ByZone;
 use crate::states::zone_numbers::{NO_ZONE, or_none};
 use dta_model::{MOST_TRIPS, Route, Trip};
@@ -107,9 +107,10 @@ fn destinations(alloc: Global, lists: &ByZone, zones: u32) -> Result<Vec<ZoneNo>
     Ok(found)
 }
 
-// Tells what is asked of the vehicles that go to some zones, each part of so many zones in a thread
-// of its own where one can be made. The answers of all parts are then put in the order of vehicles.
-fn tell_parts<R: AllocGlobal + Threads + Sync>(
+// Tells what is asked of the vehicles that go to some zones, each share of so many zones in a
+// thread of its own where one can be made. The answers of all shares are then put in the order of
+// vehicles.
+fn tell_shares<R: AllocGlobal + Threads + Sync>(
     rt: &R,
     net: &Net,
     times: &LinkTimes,
@@ -133,13 +134,13 @@ fn tell_parts<R: AllocGlobal + Threads + Sync>(
         (LeadsToFirst net.now trips.now asks.now zones.now (length zones.now)) told.old told.new) }
 {
     let alloc = rt.alloc();
-    let answer = |_: usize, part: &[ZoneNo]| -> Result<Vec<Answer>, Memory>
+    let answer = |_: usize, share: &[ZoneNo]| -> Result<Vec<Answer>, Memory>
         requires { IsSearch net.now times.now trips.now asks.now lists.now
-            × All (λ zone. zone.0 < length (zones_of net.now.nodes)) part.now }
+            × All (λ zone. zone.0 < length (zones_of net.now.nodes)) share.now }
         ensures { IfOk result (λ answers. AreAnswers (time_at times.entry.now) net.entry.now
             trips.entry.now asks.entry.now (LeadsToFirst net.entry.now trips.entry.now
-            asks.entry.now part.entry.now (length part.entry.now)) answers.items) }
-    { answers_to(alloc, net, times, trips, asks, lists, part) };
+            asks.entry.now share.entry.now (length share.entry.now)) answers.items) }
+    { answers_to(alloc, net, times, trips, asks, lists, share) };
     for answers in thread::map_chunks(rt, alloc, zones, size, &answer)? {
         put_answers(asks, answers?, told);
     }
@@ -176,10 +177,11 @@ pub fn tell(
     Ok(told)
 }
 
-/// The same as [`tell`], by up to four parts of the destinations side by side, and no more than
-/// workers. Beside each other are no more labels than four tables of eight bytes for each link and
-/// step have, so that there are two parts where each turn is listed, and four on most networks.
-pub fn tell_by_parts<R: AllocGlobal + Threads + Sync>(
+/// The same as [`tell`], by shares of the destinations side by side: at most as many as there are
+/// workers, at most four, and as few that the labels that are there at once take no more than four
+/// tables of eight bytes for each link and step. That leaves two where turns are listed at every
+/// node, and four where at most nodes none is.
+pub fn tell_by_shares<R: AllocGlobal + Threads + Sync>(
     rt: &R,
     net: &Net,
     times: &LinkTimes,
@@ -203,9 +205,9 @@ pub fn tell_by_parts<R: AllocGlobal + Threads + Sync>(
     let alloc = rt.alloc();
     let lists = by_destination(alloc, net, trips, asks)?;
     let zones = destinations(alloc, &lists, net.zone_count())?;
-    let parts = part_count(alloc, net, times, workers)?;
-    let size = part_size(zones.len(), parts);
+    let shares = share_count(alloc, net, times, workers)?;
+    let size = share_size(zones.len(), shares);
     let mut told = Told::none(alloc, trips.len())?;
-    tell_parts(rt, net, times, trips, asks, &lists, &zones, size, &mut told)?;
+    tell_shares(rt, net, times, trips, asks, &lists, &zones, size, &mut told)?;
     Ok(told)
 }

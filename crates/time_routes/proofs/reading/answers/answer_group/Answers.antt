@@ -4,7 +4,7 @@ use Rattle.std.proofs.lemmas.List.{get_or-map}
 use Rattle.dta_model.specs.LinkTimes.{time_at}
 use Rattle.time_routes.specs.Reading.Answers.{AnswersMore}
 use Rattle.time_routes.specs.Reading.Tell.{LeadsTo, LeadsToFirst, Stands}
-use Rattle.time_routes.proofs.OfReading.AnswerFacts.{answers_fewer, answers_then, in_all_parts}
+use Rattle.time_routes.proofs.OfReading.AnswerFacts.{answers_fewer, answers_then, in_all}
 use Rattle.time_routes.proofs.OfReading.TellFacts.{first_more, vehicles_lead}
 use Rattle.time_routes.proofs.reading.answers.answer_group.Goals as goal
 
@@ -36,4 +36,4 @@ returns c =
     let trips = c.args.trips.now in
     let asks = c.args.asks.now in
     answers_fewer (time_at c.args.times.now) net trips asks (LeadsToFirst net trips asks c.args.zones.now c.loop-place.place) _ c.args.answers.now.items c.loop-place.answers.items
-    c.loop-place.invariant (λ v s. in_all_parts net trips asks c.args.zones.now c.loop-place.place v c.loop-place-test.false s)
+    c.loop-place.invariant (λ v s. in_all net trips asks c.args.zones.now c.loop-place.place v c.loop-place-test.false s)

@@ -9,8 +9,13 @@ use Rattle.time_routes.proofs.OfReading.AnswerFacts.{put_more, put_none}
 use Rattle.time_routes.proofs.reading.put_answers.put_answers.Goals as goal
 
 pub loop-answer-preserved : goal.loop-answer-preserved
-loop-answer-preserved c = (tt, tt, c.put.ensures.many, λ at net trips all.
-    put_more at net trips c.args.asks.now c.loop-answer.yielded c.in-Some.answer c.args.told.now c.loop-answer.told c.put.new.told all (λ r. c.loop-answer.invariant.3 at net trips r) (λ r. c.put.ensures.put at net trips r))
+loop-answer-preserved c = (
+  tt,
+  tt,
+  c.put.ensures.many,
+  λ at net trips all.
+      put_more at net trips c.args.asks.now c.loop-answer.yielded c.in-Some.answer c.args.told.now c.loop-answer.told c.put.new.told all (λ r. c.loop-answer.invariant.3 at net trips r) (λ r. c.put.ensures.put at net trips r),
+)
 
 pub returns-clause-put : goal.returns-clause-put
 returns-clause-put c at net trips all =

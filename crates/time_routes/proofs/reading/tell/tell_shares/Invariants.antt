@@ -1,7 +1,7 @@
 use Rattle.std.proofs.Common.{◌*◌, length}
 use Rattle.time_routes.specs.Reading.Tell.{AreAsMany, LeadsToFirst, Tells}
 use Rattle.dta_model.specs.LinkTimes.{time_at}
-use Rattle.time_routes.proofs.reading.tell.tell_parts.Given as goal
+use Rattle.time_routes.proofs.reading.tell.tell_shares.Given as goal
 
 abbrev pub invariant-loop-answers : goal.invariant-loop-answers
 invariant-loop-answers g l =

@@ -9,7 +9,7 @@ use Rattle.time_routes.specs.Reading.Answers.{AreAnswers}
 use Rattle.time_routes.specs.Reading.Tell.{AreAsMany, LeadsToFirst, Tells}
 use Rattle.time_routes.proofs.OfReading.AnswerFacts.{chunk_more, told_by}
 use Rattle.time_routes.proofs.OfReading.TellFacts.{tells_then}
-use Rattle.time_routes.proofs.reading.tell.tell_parts.Goals as goal
+use Rattle.time_routes.proofs.reading.tell.tell_shares.Goals as goal
 
 pub loop-answers-preserved : goal.loop-answers-preserved
 loop-answers-preserved g c =
@@ -27,7 +27,7 @@ loop-answers-preserved g c =
     let chunk = (c.in_ok-answers-items.ensures.each n c.in-Some.answers turn.0).1 in
     let told : IfOk (get_or items.items n c.in-Some.answers) (λ answers. AreAnswers at net trips asks (LeadsToFirst net trips asks chunk.argument.now (length chunk.argument.now)) answers.items) = chunk.call in
     let whole : IfOk (get_or items.items n c.in-Some.answers) (λ answers. AreAnswers at net trips asks (LeadsToFirst net trips asks (slice_chunk named size n) (length (slice_chunk named size n))) answers.items) =
-    subst (λ part. IfOk (get_or items.items n c.in-Some.answers) (λ answers. AreAnswers at net trips asks (LeadsToFirst net trips asks part (length part)) answers.items)) chunk.argument_is.value told in
+    subst (λ share. IfOk (get_or items.items n c.in-Some.answers) (λ answers. AreAnswers at net trips asks (LeadsToFirst net trips asks share (length share)) answers.items)) chunk.argument_is.value told in
     let are : AreAnswers at net trips asks (LeadsToFirst net trips asks (slice_chunk named size n) (length (slice_chunk named size n))) c.in_ok-answers.field-0.items =
     subst (λ r. IfOk r (λ answers. AreAnswers at net trips asks (LeadsToFirst net trips asks (slice_chunk named size n) (length (slice_chunk named size n))) answers.items)) (sym turn.1 ∙ c.in_ok-answers.was) whole in
     let put = told_by at net trips asks _ c.in_ok-answers.field-0.items c.loop-answers.told c.put_answers.new.told are (c.put_answers.ensures.put at net trips are.right) in

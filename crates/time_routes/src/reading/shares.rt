@@ -1,4 +1,4 @@
-// How many groups of zones are worked side by side, and how many zones each part of the work has.
+// How many shares of the zones are worked side by side, and how many zones each of them has.
 ghost use Rattle.std.specs.Prelude.{◌≡◌, ◌<◌, ◌≤◌, ◌^◌, length, IfOk};
 
 use crate::filling::no_walk::NARROW_FAR;
@@ -10,15 +10,16 @@ use link_times::LinkTimes;
 use net_core::{Memory, Net};
 use std::alloc::Global;
 
-/// The most parts in which zones are worked side by side.
-const MOST_PARTS: u64 = 4;
+// The most shares in which zones are worked side by side.
+const MOST_SHARES: u64 = 4;
 
-/// The most tables of labels that are there at once, of eight bytes for each link and step.
+// The most tables of labels that are there at once, of eight bytes for each link and step.
 const MOST_TABLES: u64 = 4;
 
 // The tables of eight bytes for each state and step that the labels of a group fill: two in 32 bits
 // whatever the number of its zones, and else one for each zone.
 const NARROW_TABLES: u64 = 2;
+
 const WIDE_TABLES: u64 = 4;
 
 // Whether the labels of every group surely fit 32 bits. No tail takes more than all states one
@@ -32,9 +33,9 @@ fn are_narrow(router: &Router, times: &LinkTimes, links: u32) -> bool
     tail.saturating_add(times.horizon() as u64 + 2 * longest) < NARROW_FAR as u64
 }
 
-/// In how many parts zones are worked side by side: at most as many as there are workers, at most
+/// In how many shares zones are worked side by side: at most as many as there are workers, at most
 /// four, and no more than there may be tables of labels for.
-pub(crate) fn part_count(
+pub(crate) fn share_count(
     alloc: Global,
     net: &Net,
     times: &LinkTimes,
@@ -42,7 +43,7 @@ pub(crate) fn part_count(
 ) -> Result<u64, Memory>
     requires table { length times.now.free ≡ length net.now.links }
     requires workers { 1 ≤ workers }
-    ensures { IfOk result (λ parts. 1 ≤ parts) }
+    ensures { IfOk result (λ shares. 1 ≤ shares) }
 {
     let links = net.link_count();
     let router = router_of(alloc, net)?;
@@ -53,16 +54,16 @@ pub(crate) fn part_count(
     };
     let states = router.state_count() as u64;
     let groups = MOST_TABLES * links as u64 / tables.saturating_mul(states).max(1);
-    Ok(groups.clamp(1, MOST_PARTS.min(workers as u64)))
+    Ok(groups.clamp(1, MOST_SHARES.min(workers as u64)))
 }
 
-/// How many zones each of some parts has, in whole groups. The last part may have fewer, and where
-/// there are few groups there are fewer parts.
-pub(crate) fn part_size(zones: usize, parts: u64) -> usize
+/// How many zones each of some shares has, in whole groups. The last share may have fewer, and
+/// where there are few groups there are fewer shares.
+pub(crate) fn share_size(zones: usize, shares: u64) -> usize
     requires zones { zones < 2 ^ 63 }
-    requires parts { 1 ≤ parts }
+    requires shares { 1 ≤ shares }
     ensures { 0 < result }
 {
     let groups = zones.div_ceil(MOST_GROUP);
-    groups.div_ceil(parts as usize).max(1) * MOST_GROUP
+    groups.div_ceil(shares as usize).max(1) * MOST_GROUP
 }
