@@ -1,16 +1,21 @@
 #!/bin/sh
 # Makes node.csv, link.csv and demand.csv of a grid of nodes in the current folder, as grid_maker makes them, of any size:
-# `bench/grid.sh SIDE`. From each node a link of 200 to 280 metres leads to each of its neighbours, each corner is a zone, and 25
-# vehicles for each row of the grid go from each zone to each other zone.
+# `bench/grid.sh SIDE [ZONES VEHICLES]`. From each node a link of 200 to 280 metres leads to each of its neighbours, each corner is
+# a zone, and 25 vehicles for each row of the grid go from each zone to each other zone. With ZONES so many nodes all over the grid
+# are zones instead, and about VEHICLES vehicles go between them.
 set -e
 side=$1
-awk -v n="$side" 'BEGIN {
+zones=${2:-4}
+vehicles=${3:-$((25 * side * 12))}
+awk -v n="$side" -v zones="$zones" 'BEGIN {
     print "node_id,zone_id"
-    corner[0] = 1
-    corner[n - 1] = 2
-    corner[n * (n - 1)] = 3
-    corner[n * n - 1] = 4
-    for (k = 0; k < n * n; k++) print k + 1 "," corner[k]
+    if (zones == 4) {
+        zone[0] = 1
+        zone[n - 1] = 2
+        zone[n * (n - 1)] = 3
+        zone[n * n - 1] = 4
+    } else for (z = 1; z <= zones; z++) zone[z * 7919 % (n * n)] = z
+    for (k = 0; k < n * n; k++) print k + 1 "," zone[k]
 }' >node.csv
 awk -v n="$side" 'function add(direction, to) {
     print ++links "," r * n + c + 1 "," to + 1 "," 200 + 10 * ((7 * r + 3 * c + direction) % 9) ",1,40,900"
@@ -24,7 +29,8 @@ BEGIN {
         if (r > 0) add(3, r * n + c - n)
     }
 }' >link.csv
-awk -v n="$side" 'BEGIN {
+awk -v zones="$zones" -v vehicles="$vehicles" 'BEGIN {
     print "o_zone_id,d_zone_id,volume"
-    for (o = 1; o <= 4; o++) for (d = 1; d <= 4; d++) if (o != d) print o "," d "," 25 * n
+    volume = vehicles / (zones * (zones - 1))
+    for (o = 1; o <= zones; o++) for (d = 1; d <= zones; d++) if (o != d) printf "%d,%d,%.6g\n", o, d, volume
 }' >demand.csv

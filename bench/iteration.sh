@@ -1,13 +1,16 @@
 #!/bin/sh
-# Measures ten iterations by parts on the demonstration grid of 60 nodes a side, with 18,000 vehicles over 1,200 steps, point
-# queues, buckets of 50 steps and one worker. Prints the seconds of each part, summed over the iterations: the first routes, the
-# loadings, the link times, and the gaps with the next routes; then the gap of the last iteration, and the seconds and the peak
-# memory of the whole program with its tables, three times. The last gap must be that of `dta demo 60 --iterations 10`. The program
-# makes its tables itself, by grid_maker.
+# Measures three iterations by 1, 2 and 4 workers on a grid of 100 nodes a side, with 100 zones and 20,000 vehicles over 1,200
+# steps, point queues and buckets of 50 steps. Prints the seconds of each kind of work, summed over the iterations: the first routes
+# and the gaps with the next routes, which workers share, and the loadings and link times, which one thread does; then the gap of the
+# last iteration, which is the same for every number of workers, and the seconds that passed, those of all processors, and the peak
+# memory. `bench/iteration.sh SIDE ZONES VEHICLES` measures on another grid. Where more workers run than there are processors free,
+# the seconds that passed say nothing.
 set -e
 bench=$(dirname "$(readlink -f "$0")")
 . "$bench/begin.sh"
 begin iteration
-for _ in 1 2 3; do
-    /usr/bin/time -f 'in all %e seconds, peak %M KB' "$program"
+"$bench/grid.sh" "${1:-100}" "${2:-100}" "${3:-20000}"
+for workers in 1 2 4; do
+    echo "$workers workers:"
+    /usr/bin/time -f 'in all %e seconds, of processors %U + %S, peak %M KB' "$program" "$workers"
 done

@@ -16,14 +16,14 @@ use gap::{GapLine, gap_line};
 use link_times::LinkTimes;
 use net_core::{Memory, Net};
 use std::thread::Threads;
-use time_routes::{Told, tell};
+use time_routes::{Told, tell_by_shares};
 
 /// The most workers.
 pub const MOST_WORKERS: u32 = 16;
 
 /// The routes of the first iteration: each vehicle's chosen walk by free-flow steps, from its
 /// departure. They are those of the free-flow table of any bucket length up to the horizon.
-pub fn first_routes<R: AllocGlobal + Threads>(
+pub fn first_routes<R: AllocGlobal + Threads + Sync>(
     rt: &R,
     net: &Net,
     trips: &[Trip],
@@ -45,13 +45,13 @@ pub fn first_routes<R: AllocGlobal + Threads>(
     // Free-flow steps stand still, so that a table of one step serves.
     let times = LinkTimes::free(alloc, net, 1, 1)?;
     let asks = all_walks(alloc, trips.len())?;
-    let told = tell(alloc, net, &times, trips, &asks)?;
+    let told = tell_by_shares(rt, net, &times, trips, &asks, workers)?;
     Ok(Routes::of(told.walks))
 }
 
 /// The routes of the iteration after k, from those of iteration k and its link times: the vehicles
 /// that are selected have their chosen walks from their departures, the others keep their routes.
-pub fn next_routes<R: AllocGlobal + Threads>(
+pub fn next_routes<R: AllocGlobal + Threads + Sync>(
     rt: &R,
     net: &Net,
     trips: &[Trip],
@@ -77,14 +77,14 @@ pub fn next_routes<R: AllocGlobal + Threads>(
     let Told {
         leasts: _,
         mut walks,
-    } = tell(alloc, net, times, trips, &asks)?;
+    } = tell_by_shares(rt, net, times, trips, &asks, workers)?;
     keep_others(alloc, old, k, &mut walks)?;
     Ok(Routes::of(walks))
 }
 
 /// The gap of iteration k and the routes of the next one, in one pass over the destinations: what
 /// `gap` and [`next_routes`] give.
-pub fn gap_and_next_routes<R: AllocGlobal + Threads>(
+pub fn gap_and_next_routes<R: AllocGlobal + Threads + Sync>(
     rt: &R,
     net: &Net,
     trips: &[Trip],
@@ -111,7 +111,7 @@ pub fn gap_and_next_routes<R: AllocGlobal + Threads>(
     let alloc = rt.alloc();
     let old = routes.as_slice();
     let asks = asks_of(alloc, old, true, k)?;
-    let Told { leasts, mut walks } = tell(alloc, net, times, trips, &asks)?;
+    let Told { leasts, mut walks } = tell_by_shares(rt, net, times, trips, &asks, workers)?;
     let line = gap_line(net, times, trips, routes, &leasts);
     keep_others(alloc, old, k, &mut walks)?;
     Ok((line, Routes::of(walks)))

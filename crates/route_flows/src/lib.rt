@@ -6,8 +6,10 @@
 //! averages (specs/Averages.antt), for every number of workers. [`gap_and_next_routes`] measures
 //! the gap of the iteration with the same labels.
 //!
-//! Destinations are worked one after another, up to four at once; the labels of four are freed
-//! before the next are made. A destination to which no selected vehicle goes has none.
+//! Destinations are worked in shares side by side, at most four and at most as many as there are
+//! workers, in threads where they can be made. In a share they are worked up to four at once; the
+//! labels of four are freed before the next are made. A destination to which no selected vehicle
+//! goes has none.
 #![tactic(auto)]
 
 mod flows;

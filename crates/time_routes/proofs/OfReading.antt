@@ -1,4 +1,5 @@
 -- Least times and chosen walks.
+pub mod AnswerFacts
 pub mod Bridges
 pub mod Chosens
 pub mod GroupFacts

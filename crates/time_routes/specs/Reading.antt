@@ -1,4 +1,5 @@
 -- What labels tell: least times and chosen walks.
+pub mod Answers
 pub mod FirstLinks
 pub mod Follows
 pub mod GroupsTo

@@ -11,6 +11,10 @@
 //! 16 bytes for each state and step, four zones side by side; where times may take more than 32
 //! bits, 8 bytes for each of its zones. `least` looks at the links out of the origin and takes no
 //! memory; `walk` looks once at the turns of each of its links.
+//!
+//! [`tell`] and [`tell_by_shares`] answer what is asked of vehicles, their least times and chosen
+//! walks, whatever their zones: the first in the calling thread, the second by up to four shares of
+//! the destinations side by side.
 #![tactic(auto)]
 
 mod filling;
@@ -19,7 +23,7 @@ mod states;
 
 pub use reading::group_labels::{GroupLabels, MOST_GROUP};
 pub use reading::labels::Labels;
-pub use reading::tell::{Ask, Told, tell};
+pub use reading::tell::{Ask, Told, tell, tell_by_shares};
 
 #[cfg(test)]
 mod tests;

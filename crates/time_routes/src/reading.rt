@@ -1,7 +1,10 @@
 // What tables of labels tell: least times and chosen walks.
+pub(crate) mod answers;
 pub(crate) mod group_labels;
 pub(crate) mod labels;
 pub(crate) mod least;
+pub(crate) mod put_answers;
+pub(crate) mod shares;
 pub(crate) mod tell;
 pub(crate) mod walk;
 pub(crate) mod zone_labels;

@@ -47,3 +47,15 @@ pub(crate) fn most_time(times: &LinkTimes, links: u32) -> u32
     }
     most
 }
+
+/// The greatest time of the links from the horizon on.
+pub(crate) fn most_free(times: &LinkTimes, links: u32) -> u32
+    requires { links ≡ length times.now.free }
+{
+    let horizon = times.horizon() as u64;
+    let mut most = 0u32;
+    for link in 0..links {
+        most = most.max(times.at(LinkNo(link), horizon));
+    }
+    most
+}

@@ -4,8 +4,8 @@ use Rattle.route_flows.proofs.Averaged.{chosen_walk}
 use Rattle.route_flows.proofs.FreeTimes.{first_are, free-many, table_are}
 use Rattle.route_flows.proofs.flows.first_routes.Goals as goal
 
-pub tell-requires-clause-table : goal.tell-requires-clause-table
-tell-requires-clause-table g c = ap (λ t. length t.free) c.in_ok-times.ensures.table ∙ free-many c.args.net.now 1 1
+pub tell_by_shares-requires-clause-table : goal.tell_by_shares-requires-clause-table
+tell_by_shares-requires-clause-table g c _ _ = ap (λ t. length t.free) c.in_ok-times.ensures.table ∙ free-many c.args.net.now 1 1
 
 pub returns-clause-first : goal.returns-clause-first
 returns-clause-first g c =

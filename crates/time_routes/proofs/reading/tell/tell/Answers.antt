@@ -2,9 +2,11 @@ use Rattle.std.proofs.Common.{◌≢◌, ◌≤◌, ◌<◌, ℕ, [], length, ar
 use Rattle.dta_model.specs.LinkTimes.{time_at}
 use Rattle.net_core.specs.Network.{zones}
 use Rattle.time_routes.specs.Destinations.{asks_least, asks_walk, IsRight, LeastOf, WalkOf}
-use Rattle.time_routes.specs.Reading.Tell.{LeadsToFirst, Stands, Tells}
+use Rattle.time_routes.specs.Reading.Answers.{AreAnswers}
+use Rattle.time_routes.specs.Reading.Tell.{LeadsToFirst, Stands}
 use Rattle.time_routes.specs.ToZone.{zone_numbers}
 use Rattle.time_routes.specs.declared.states.zone_numbers.TheConstants.{NO_ZONE}
+use Rattle.time_routes.proofs.OfReading.AnswerFacts.{told_by}
 use Rattle.time_routes.proofs.OfReading.TellFacts.{all_told, asks_some_least, asks_some_walk, unasked_none}
 use Rattle.time_routes.proofs.reading.tell.tell.Goals as goal
 
@@ -16,8 +18,9 @@ returns-clause-leasts c =
     let count = c.zone_count.ensures.count in
     let few : length (zones net.nodes) ≤ NO_ZONE = omega (arith, count, c.zone_count.type_inv) in
     let each = subst (λ n. (z : ℕ) → z < n → get_or c.in_ok-lists.lists z [] ≢ [] → Stands (zone_numbers c.in_ok-zones.zones.items) z) count c.in_ok-zones.ensures.each in
-    let made = subst (λ named. Tells (time_at c.args.times.now) net trips asks (LeadsToFirst net trips asks named (length named)) c.in_ok-told.told c.tell_groups.new.told) c.deref.ensures.value c.in_ok-tell_groups.ensures in
-    all_told net trips asks c.in_ok-lists.lists c.in_ok-lists.ensures few c.in_ok-zones.zones.items each (LeastOf (time_at c.args.times.now) net) (asks_least asks) c.in_ok-told.told.leasts.items c.tell_groups.new.told.leasts.items
+    let are = subst (λ named. AreAnswers (time_at c.args.times.now) net trips asks (LeadsToFirst net trips asks named (length named)) c.in_ok-answers.answers.items) c.deref.ensures.value c.in_ok-answers.ensures in
+    let made = told_by (time_at c.args.times.now) net trips asks _ c.in_ok-answers.answers.items c.in_ok-told.told c.put_answers.new.told are (c.put_answers.ensures.put (time_at c.args.times.now) net trips are.right) in
+    all_told net trips asks c.in_ok-lists.lists c.in_ok-lists.ensures few c.in_ok-zones.zones.items each (LeastOf (time_at c.args.times.now) net) (asks_least asks) c.in_ok-told.told.leasts.items c.put_answers.new.told.leasts.items
     (λ trip none. none) (asks_some_least asks) c.in_ok-told.ensures.leasts made.leasts
 
 pub returns-clause-walks : goal.returns-clause-walks
@@ -28,8 +31,9 @@ returns-clause-walks c =
     let count = c.zone_count.ensures.count in
     let few : length (zones net.nodes) ≤ NO_ZONE = omega (arith, count, c.zone_count.type_inv) in
     let each = subst (λ n. (z : ℕ) → z < n → get_or c.in_ok-lists.lists z [] ≢ [] → Stands (zone_numbers c.in_ok-zones.zones.items) z) count c.in_ok-zones.ensures.each in
-    let made = subst (λ named. Tells (time_at c.args.times.now) net trips asks (LeadsToFirst net trips asks named (length named)) c.in_ok-told.told c.tell_groups.new.told) c.deref.ensures.value c.in_ok-tell_groups.ensures in
-    all_told net trips asks c.in_ok-lists.lists c.in_ok-lists.ensures few c.in_ok-zones.zones.items each (WalkOf (time_at c.args.times.now) net) (asks_walk asks) c.in_ok-told.told.walks.items c.tell_groups.new.told.walks.items
+    let are = subst (λ named. AreAnswers (time_at c.args.times.now) net trips asks (LeadsToFirst net trips asks named (length named)) c.in_ok-answers.answers.items) c.deref.ensures.value c.in_ok-answers.ensures in
+    let made = told_by (time_at c.args.times.now) net trips asks _ c.in_ok-answers.answers.items c.in_ok-told.told c.put_answers.new.told are (c.put_answers.ensures.put (time_at c.args.times.now) net trips are.right) in
+    all_told net trips asks c.in_ok-lists.lists c.in_ok-lists.ensures few c.in_ok-zones.zones.items each (WalkOf (time_at c.args.times.now) net) (asks_walk asks) c.in_ok-told.told.walks.items c.put_answers.new.told.walks.items
     (λ trip none. none) (asks_some_walk asks) c.in_ok-told.ensures.walks made.walks
 
 pub returns-clause-unasked_leasts : goal.returns-clause-unasked_leasts
@@ -37,13 +41,13 @@ returns-clause-unasked_leasts c =
     let net = c.args.net.now in
     let trips = c.args.trips.now in
     let asks = c.args.asks.now in
-    unasked_none (asks_least asks) (IsRight (LeastOf (time_at c.args.times.now) net) (asks_least asks) trips) _ (length trips) c.in_ok-told.told.leasts.items c.tell_groups.new.told.leasts.items
-    c.in_ok-told.ensures.leasts c.in_ok-tell_groups.ensures.leasts
+    unasked_none (asks_least asks) (IsRight (LeastOf (time_at c.args.times.now) net) (asks_least asks) trips) _ (length trips) c.in_ok-told.told.leasts.items c.put_answers.new.told.leasts.items
+    c.in_ok-told.ensures.leasts (c.put_answers.ensures.put (time_at c.args.times.now) net trips c.in_ok-answers.ensures.right).leasts
 
 pub returns-clause-unasked_walks : goal.returns-clause-unasked_walks
 returns-clause-unasked_walks c =
     let net = c.args.net.now in
     let trips = c.args.trips.now in
     let asks = c.args.asks.now in
-    unasked_none (asks_walk asks) (IsRight (WalkOf (time_at c.args.times.now) net) (asks_walk asks) trips) _ (length trips) c.in_ok-told.told.walks.items c.tell_groups.new.told.walks.items
-    c.in_ok-told.ensures.walks c.in_ok-tell_groups.ensures.walks
+    unasked_none (asks_walk asks) (IsRight (WalkOf (time_at c.args.times.now) net) (asks_walk asks) trips) _ (length trips) c.in_ok-told.told.walks.items c.put_answers.new.told.walks.items
+    c.in_ok-told.ensures.walks (c.put_answers.ensures.put (time_at c.args.times.now) net trips c.in_ok-answers.ensures.right).walks

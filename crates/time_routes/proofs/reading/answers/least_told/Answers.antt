@@ -2,7 +2,7 @@ use Rattle.dta_model.specs.LinkTimes.{time_at}
 use Rattle.time_routes.specs.ToZone.{TellsLeast}
 use Rattle.time_routes.proofs.OfReading.TellFacts.{apart_of, from_nowhere, number_of, told_between}
 use Rattle.net_core.specs.Network.{zone_number}
-use Rattle.time_routes.proofs.reading.tell.least_told.Goals as goal
+use Rattle.time_routes.proofs.reading.answers.least_told.Goals as goal
 
 pub least-requires-clause-other : goal.least-requires-clause-other
 least-requires-clause-other c =

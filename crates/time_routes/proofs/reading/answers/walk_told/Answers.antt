@@ -3,7 +3,7 @@ use Rattle.dta_model.specs.LinkTimes.{time_at}
 use Rattle.time_routes.specs.ToZone.{TellsWalk}
 use Rattle.time_routes.proofs.OfReading.TellFacts.{apart_of, from_nowhere, number_of, told_between}
 use Rattle.net_core.specs.Network.{zone_number}
-use Rattle.time_routes.proofs.reading.tell.walk_told.Goals as goal
+use Rattle.time_routes.proofs.reading.answers.walk_told.Goals as goal
 
 pub walk-requires-clause-other : goal.walk-requires-clause-other
 walk-requires-clause-other c =

@@ -1,6 +1,0 @@
-use Rattle.time_routes.specs.Reading.Tell.{StandsBefore, Tells}
-use Rattle.dta_model.specs.LinkTimes.{time_at}
-use Rattle.time_routes.proofs.reading.tell.tell_vehicles.Given as goal
-
-abbrev pub invariant-loop-vehicle : goal.invariant-loop-vehicle
-invariant-loop-vehicle l = Tells (time_at l.labels.times) l.net l.trips l.asks (StandsBefore l.vehicles l.vehicle-index) l.initial.told l.told

@@ -1,0 +1,69 @@
+// How many shares of the zones are worked side by side, and how many zones each of them has.
+ghost use Rattle.std.specs.Prelude.{◌≡◌, ◌<◌, ◌≤◌, ◌^◌, length, IfOk};
+
+use crate::filling::no_walk::NARROW_FAR;
+use crate::reading::group_labels::MOST_GROUP;
+use crate::states::longest_way::{most_free, most_time, most_wait};
+use crate::states::network_router::router_of;
+use crate::states::router::Router;
+use link_times::LinkTimes;
+use net_core::{Memory, Net};
+use std::alloc::Global;
+
+// The most shares in which zones are worked side by side.
+const MOST_SHARES: u64 = 4;
+
+// The most tables of labels that are there at once, of eight bytes for each link and step.
+const MOST_TABLES: u64 = 4;
+
+// The tables of eight bytes for each state and step that the labels of a group fill: two in 32 bits
+// whatever the number of its zones, and else one for each zone.
+const NARROW_TABLES: u64 = 2;
+
+const WIDE_TABLES: u64 = 4;
+
+// Whether the labels of every group surely fit 32 bits. No tail takes more than all states one
+// after another.
+fn are_narrow(router: &Router, times: &LinkTimes, links: u32) -> bool
+    requires { links ≡ length times.now.free }
+{
+    let wait = most_wait(router) as u64;
+    let longest = wait + most_time(times, links) as u64;
+    let tail = (wait + most_free(times, links) as u64).saturating_mul(router.state_count() as u64);
+    tail.saturating_add(times.horizon() as u64 + 2 * longest) < NARROW_FAR as u64
+}
+
+/// In how many shares zones are worked side by side: at most as many as there are workers, at most
+/// four, and no more than there may be tables of labels for.
+pub(crate) fn share_count(
+    alloc: Global,
+    net: &Net,
+    times: &LinkTimes,
+    workers: u32,
+) -> Result<u64, Memory>
+    requires table { length times.now.free ≡ length net.now.links }
+    requires workers { 1 ≤ workers }
+    ensures { IfOk result (λ shares. 1 ≤ shares) }
+{
+    let links = net.link_count();
+    let router = router_of(alloc, net)?;
+    let tables = if are_narrow(&router, times, links) {
+        NARROW_TABLES
+    } else {
+        WIDE_TABLES
+    };
+    let states = router.state_count() as u64;
+    let groups = MOST_TABLES * links as u64 / tables.saturating_mul(states).max(1);
+    Ok(groups.clamp(1, MOST_SHARES.min(workers as u64)))
+}
+
+/// How many zones each of some shares has, in whole groups. The last share may have fewer, and
+/// where there are few groups there are fewer shares.
+pub(crate) fn share_size(zones: usize, shares: u64) -> usize
+    requires zones { zones < 2 ^ 63 }
+    requires shares { 1 ≤ shares }
+    ensures { 0 < result }
+{
+    let groups = zones.div_ceil(MOST_GROUP);
+    groups.div_ceil(shares as usize).max(1) * MOST_GROUP
+}
