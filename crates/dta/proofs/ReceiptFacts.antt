@@ -1,6 +1,6 @@
 -- How many receipts a gate took.
 use Rattle.std.proofs.Common.{◌≡◌, ◌≢◌, ℕ, zero, suc, ◌+◌, ◌≤◌, Bool, true, false, List, refl, sym, ap, subst, ◌∙◌, arith, inl, inr}
-use Rattle.std.specs.Prelude.{Option, Some}
+use Rattle.std.specs.Prelude.{Option, Some, Result, Ok, Err}
 use Rattle.desk_io.specs.declared.desk.Table.{Table}
 use Rattle.desk_io.specs.Desk.{Left, Taken}
 use Rattle.dta_model.specs.Units.{unit_count}
@@ -14,12 +14,13 @@ use Rattle.reports.specs.declared.refusal.Refusal.TheVariants as refusal
 use Rattle.dta.specs.Assignment.{VehicleRoutes}
 use Rattle.dta.specs.Jobs.{IsAcceptedJob, JobRows, plan_of}
 use Rattle.dta.specs.Outcome.{Works}
-use Rattle.dta.specs.Receipts.{HasWorked, RunGives, ToldGives, TookAtMost, WorkGives, numbers_in, receipts_in, receipts_of, taking_all}
+use Rattle.dta.specs.Receipts.{Gives, HasWorked, RunGives, ToldGives, TookAtMost, WorkGives, numbers_in, receipts_in, receipts_of, taking_all}
 use Rattle.dta.specs.Status.{refusal_status}
 use Rattle.dta.specs.Verdict.{Verdict, Accepted, Refused, AreToldBy, verdict, verdict_by}
 use Rattle.dta.specs.declared.status.Status.{Status}
 use Rattle.dta.specs.declared.status.Status.TheVariants as status
-use Rattle.dta.proofs.VerdictFacts.{all-told, verdict-job}
+use Rattle.dta.proofs.RunFacts.{usage_means}
+use Rattle.dta.proofs.VerdictFacts.{all-told, told, verdict-job}
 
 -- the numbers of a loading are those of its job
 pub numbers-are : (s : Settings) (job : JobRows) (routes : VehicleRoutes)
@@ -80,22 +81,38 @@ module _ (plain : Bool) (numbers : Numbers) (gate : GateState) where
         new.2 ∙ ap (taking_all new.0 numbers) old ∙ taking-more new.0 (receipts_of plain n) numbers gate,
       )
 
+  -- so many loadings, and then a call
+  pub gives-more : {T E : Type 0} (r : Result T E) (n m k : ℕ) (between now : GateState) → n + m ≡ k
+      → between ≡ taking_all (receipts_of plain n) numbers gate
+      → Gives (receipts_of plain m) numbers between now r
+      → Gives (receipts_of plain k) numbers gate now r
+  gives-more (Ok x) n m k between now e old new = record { all = all-more n m k between now e old new.all; some = tt }
+  gives-more (Err x) n m k between now e old new =
+      record { all = tt; some = some-more n m k between now (omega (arith, e)) old new.some }
+
 -- ---- the receipts of a run
 
 -- a command that assigns gives one for each iteration
-pub receipts-are : (c : Command) (s : Settings) → c ≢ command.Freeflow → receipts_of s.plain s.iterations ≡ receipts_in c s
+receipts-are : (c : Command) (s : Settings) → c ≢ command.Freeflow → receipts_of s.plain s.iterations ≡ receipts_in c s
 receipts-are command.Freeflow s loads = absurd (loads refl)
 receipts-are command.Assign s loads = refl
 receipts-are (command.Demo n) s loads = refl
 
--- work that gave none
-pub free-none : (s : Settings) (job : JobRows) (gate : GateState) → s.command ≡ command.Freeflow
-    → gate ≡ taking_all (receipts_in s.command s) (numbers_in s job) gate
-free-none s job gate asks = rw asks refl
+-- work that gave all receipts, at most as many, or none
+module _ (s : Settings) (job : JobRows) (gate now : GateState) where
+  pub work-all : s.command ≢ command.Freeflow → now ≡ taking_all (receipts_of s.plain s.iterations) (numbers_in s job) gate
+      → now ≡ taking_all (receipts_in s.command s) (numbers_in s job) gate
+  work-all loads took = took ∙ ap (λ (n : ℕ). taking_all n (numbers_in s job) gate) (receipts-are s.command s loads)
 
-pub free-some : (s : Settings) (job : JobRows) (gate : GateState)
-    → TookAtMost (receipts_in s.command s) (numbers_in s job) gate gate
-free-some s job gate = (0, omega arith, refl)
+  pub work-some : s.command ≢ command.Freeflow → TookAtMost (receipts_of s.plain s.iterations) (numbers_in s job) gate now
+      → TookAtMost (receipts_in s.command s) (numbers_in s job) gate now
+  work-some loads took = subst (λ (n : ℕ). TookAtMost n (numbers_in s job) gate now) (receipts-are s.command s loads) took
+
+  pub free-none : s.command ≡ command.Freeflow → now ≡ gate → now ≡ taking_all (receipts_in s.command s) (numbers_in s job) gate
+  free-none asks same = rw asks same
+
+  pub took-none : now ≡ gate → TookAtMost (receipts_in s.command s) (numbers_in s job) gate now
+  took-none same = (0, omega arith, same)
 
 -- the receipts of the work are those of the run
 pub work-gives : (words : List (List ℕ)) (s : Settings) (job : JobRows) (answer : Status) (left rest : Left) (before after : Taken)
@@ -156,3 +173,5 @@ told_gives words texts status.Usage left rest gate now h told = none-told (verdi
 told_gives words texts status.Table left rest gate now h told = none-told (verdict words texts) status.Table gate now (λ e. absurd cc) h
 told_gives words texts status.ReadFault left rest gate now h told = none-told (verdict words texts) status.ReadFault gate now (λ e. absurd cc) h
 told_gives words texts status.Size left rest gate now h told = none-told (verdict words texts) status.Size gate now (λ e. absurd cc) h
+
+pub ruleset answers = (usage_means, told, told_gives)

@@ -51,8 +51,8 @@ abbrev pub IsWatchCut : Settings → JobRows → ℕ → VehicleRoutes → Taken
 IsWatchCut s job iteration routes before now =
     (lines : List OutText) × AreWatchLines s job iteration routes lines × IsCutOff lines before now
 
--- an assignment ended in the midst of an iteration over these routes. Where memory was wanting, none
--- of its watch lines went out, or all did
+-- an assignment ended in the midst of an iteration over these routes. Where memory was wanting,
+-- none of its watch lines went out, or all did
 abbrev pub HaltsIn : Settings → JobRows → ℕ → VehicleRoutes → Halt → Taken → Taken → Type 0
 HaltsIn s job iteration routes halt.Memory before now =
     (now ≡ before) ⊎ IsWatched s job iteration routes before now

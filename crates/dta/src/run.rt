@@ -161,7 +161,7 @@ fn answer<R: AllocGlobal + Threads + Wait + Sync, D: Desk + Send, G: Gate + Sync
 ///
 /// A table is checked before the next is read. No memory is taken after the first byte of LinkTime
 /// in `freeflow`, or of Agent in `assign`.
-#[tactic(auto, using(crate::proofs::RunFacts::usage_means, crate::proofs::VerdictFacts::told, crate::proofs::ReceiptFacts::told_gives))]
+#[tactic(auto, using(crate::proofs::ReceiptFacts::answers))]
 pub fn run<R: AllocGlobal + Threads + Wait + Sync, D: Desk + Send, G: Gate + Sync>(
     rt: &R,
     words: &Words,

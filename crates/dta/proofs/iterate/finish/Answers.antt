@@ -4,8 +4,8 @@ use Rattle.dta.specs.declared.halt.Halt.TheVariants as halt
 use Rattle.dta.proofs.IterateFacts.{assigned, halts-after, halts-in, not-watch}
 use Rattle.dta.proofs.iterate.finish.Goals as goal
 
-pub returns-in_err-round : goal.returns-in_err-round
-returns-in_err-round g c =
+pub returns-in_err-round-clause-watches : goal.returns-in_err-round-clause-watches
+returns-in_err-round-clause-watches g c =
     let p = err_from_is_err_and c.from_residual.result c.from_residual.ensures.1 in
     let w = c.in_err-round.ensures.watches in
     rw (p.1, p.2) (record {
@@ -18,8 +18,8 @@ returns-in_err-round g c =
       reads = w.reads;
     })
 
-pub returns-in_err-line : goal.returns-in_err-line
-returns-in_err-line g c =
+pub returns-in_err-line-clause-watches : goal.returns-in_err-line-clause-watches
+returns-in_err-line-clause-watches g c =
     let p = err_from_is_err_and c.from_residual-in_err-line.result c.from_residual-in_err-line.ensures.1 in
     let w = c.in_ok-round.ensures.watches in
     rw (p.1, p.2) (record {
@@ -32,8 +32,8 @@ returns-in_err-line g c =
       reads = w.reads;
     })
 
-pub returns-in_err-push : goal.returns-in_err-push
-returns-in_err-push g c =
+pub returns-in_err-push-clause-watches : goal.returns-in_err-push-clause-watches
+returns-in_err-push-clause-watches g c =
     let p = err_from_is_err_and c.from_residual-in_err-push.result c.from_residual-in_err-push.ensures.1 in
     let w = c.in_ok-round.ensures.watches in
     rw (p.1, p.2) (record {
@@ -46,8 +46,8 @@ returns-in_err-push g c =
       reads = w.reads;
     })
 
-pub returns : goal.returns
-returns g c =
+pub returns-clause-watches : goal.returns-clause-watches
+returns-clause-watches g c =
     let w = c.in_ok-round.ensures.watches in
     record {
       done = λ start before. assigned c.args.settings.now c.args.job.now _ c.args.lines.items start
