@@ -33,8 +33,8 @@ use Rattle.dta.specs.Assignment.{AreIterations, VehicleRoutes, end_of, times_of}
 use Rattle.dta.specs.Jobs.{AreRoutesOf, IsJob, JobRows, plan_of}
 use Rattle.dta.specs.Progress.{Halts, HaltsIn, IsAssigned, IsAt, IsLastOf, IsWatched}
 use Rattle.dta.specs.declared.iterate.Assigned.{Assigned}
-use Rattle.dta.specs.declared.iterate.Halt.{Halt}
-use Rattle.dta.specs.declared.iterate.Halt.TheVariants as halt
+use Rattle.dta.specs.declared.halt.Halt.{Halt}
+use Rattle.dta.specs.declared.halt.Halt.TheVariants as halt
 use Rattle.dta.specs.Outputs.{IsCutOff, end_lines}
 use Rattle.dta.specs.Calls.{HaltsFrom, IsFinished}
 use Rattle.dta.proofs.ChainFacts.{rose-earlier}
@@ -283,38 +283,7 @@ module _ (s : Settings) (job : JobRows) where
         watched = grown-more at.texts put.0 start before now at.watched put.2;
       }
 
-  -- memory was wanting before the watch line of an iteration, or the line was cut off
-  pub halts-in : (why : Halt) (number : ℕ) (r : VehicleRoutes) (lines : List GapLine) (start before now : Taken)
-      → IsAt s job number r lines start before → number ≤ s.iterations
-      → HaltsIn s job number r why before now
-      → Halts s job why start now
-  halts-in halt.Memory number r lines start before now at few same =
-      let many = at.as_many in (
-        at.texts,
-        record {
-          routes = at.done;
-          lines = lines;
-          iterations = but-last at.done r lines at.iterations;
-          few = omega (arith, many, few);
-          watch_lines = at.watch_lines;
-        },
-        same ∙ at.watched,
-      )
-  halts-in halt.Watch number r lines start before now at few cut =
-      let many = at.as_many in
-      let long = length-append at.done (r ∷ []) in (
-        at.texts ++ cut.0,
-        record {
-          routes = at.done ++ r ∷ [];
-          lines = lines;
-          iterations = at.iterations;
-          few = omega (arith, many, few, long);
-          watch_lines = watch-more s job 1 number at.done r at.texts cut.0 many at.watch_lines cut.1;
-        },
-        cut-more at.texts cut.0 start before now at.watched cut.2,
-      )
-
-  -- memory was wanting after the watch line
+  -- memory was wanting after the watch lines
   pub halts-after : (why : Halt) (number : ℕ) (r : VehicleRoutes) (lines : List GapLine) (start before now : Taken)
       → IsAt s job number r lines start before → number ≤ s.iterations
       → IsWatched s job number r before now
@@ -333,6 +302,39 @@ module _ (s : Settings) (job : JobRows) where
           watch_lines = watch-more s job 1 number at.done r at.texts put.0 many at.watch_lines put.1;
         },
         grown-more at.texts put.0 start before now at.watched put.2,
+      )
+
+  -- memory was wanting in an iteration, or a watch line was cut off
+  pub halts-in : (why : Halt) (number : ℕ) (r : VehicleRoutes) (lines : List GapLine) (start before now : Taken)
+      → IsAt s job number r lines start before → number ≤ s.iterations
+      → HaltsIn s job number r why before now
+      → Halts s job why start now
+  halts-in halt.Memory number r lines start before now at few (inl same) =
+      let many = at.as_many in (
+        at.texts,
+        record {
+          routes = at.done;
+          lines = lines;
+          iterations = but-last at.done r lines at.iterations;
+          few = omega (arith, many, few);
+          watch_lines = at.watch_lines;
+        },
+        same ∙ at.watched,
+      )
+  halts-in halt.Memory number r lines start before now at few (inr put) =
+      halts-after halt.Memory number r lines start before now at few put refl
+  halts-in halt.Watch number r lines start before now at few cut =
+      let many = at.as_many in
+      let long = length-append at.done (r ∷ []) in (
+        at.texts ++ cut.0,
+        record {
+          routes = at.done ++ r ∷ [];
+          lines = lines;
+          iterations = at.iterations;
+          few = omega (arith, many, few, long);
+          watch_lines = watch-more s job 1 number at.done r at.texts cut.0 many at.watch_lines cut.1;
+        },
+        cut-more at.texts cut.0 start before now at.watched cut.2,
       )
 
   -- the last iteration is done

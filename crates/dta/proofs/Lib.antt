@@ -5,5 +5,8 @@ pub mod VerdictFacts
 pub mod OutputFacts
 pub mod IterateFacts
 pub mod RunFacts
+pub mod WatchFacts
+pub mod ReceiptFacts
+pub mod LoadFacts
 pub mod Determined
 pub mod AnyOrder

@@ -19,7 +19,7 @@ use Rattle.dta.specs.Progress.{Halts, IsAssigned}
 use Rattle.dta.specs.Status.{refusal_status}
 use Rattle.dta.specs.Stops.{HasFault}
 use Rattle.dta.specs.declared.iterate.Assigned.{Assigned}
-use Rattle.dta.specs.declared.iterate.Halt.TheVariants as halt
+use Rattle.dta.specs.declared.halt.Halt.TheVariants as halt
 use Rattle.dta.specs.declared.status.Status.{Status}
 use Rattle.dta.specs.declared.status.Status.TheVariants as status
 use Rattle.dta.proofs.OutputFacts.{cut-later, grown-append}

@@ -249,10 +249,10 @@ source-told command.Assign left texts h = h
 source-told (command.Demo n) left texts h = (refl, (refl, (refl, (refl, tt))))
 
 -- the texts that these settings read are told
-abbrev AreAllTold : Settings → Left → (Table → List ℕ) → Type 0
+abbrev pub AreAllTold : Settings → Left → (Table → List ℕ) → Type 0
 AreAllTold s left texts = AreTold (tables_of s.command) (source s.command left) (texts_of s.command texts)
 
-verdict-job : (s : Settings) (job : JobRows) (texts : Table → List ℕ) (before after : Left) → AreAllTold s before texts
+pub verdict-job : (s : Settings) (job : JobRows) (texts : Table → List ℕ) (before after : Left) → AreAllTold s before texts
     → IsAcceptedJob s job before after → verdict_by (Some s) texts ≡ Accepted s job
 verdict-job s job texts before after told h =
     on-all s.units (tables_of s.command) (texts_of s.command texts) no_rows h.part.rows (source s.command before) h.rest
@@ -299,7 +299,7 @@ verdict-refused s (refusal.Vehicles line total) texts before after i told h =
 
 -- ---- the answer
 
-all-told : (words : List (List ℕ)) (s : Settings) (left : Left) (texts : Table → List ℕ) → settings_of words ≡ Some s
+pub all-told : (words : List (List ℕ)) (s : Settings) (left : Left) (texts : Table → List ℕ) → settings_of words ≡ Some s
     → AreToldBy (settings_of words) left texts → AreAllTold s left texts
 all-told words s left texts e told =
     source-told s.command left texts (subst (λ (o : Option Settings). AreToldBy o left texts) e told)

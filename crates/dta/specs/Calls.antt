@@ -22,8 +22,8 @@ use Rattle.dta.specs.Status.{refusal_status}
 use Rattle.dta.specs.Stops.{StopsAmong, StopsAt}
 use Rattle.dta.specs.Tables.{AreAccepted, IsAccepted, TableRows, road_rows, rows_of}
 use Rattle.dta.specs.declared.iterate.Assigned.{Assigned}
-use Rattle.dta.specs.declared.iterate.Halt.{Halt}
-use Rattle.dta.specs.declared.iterate.Halt.TheVariants as halt
+use Rattle.dta.specs.declared.halt.Halt.{Halt}
+use Rattle.dta.specs.declared.halt.Halt.TheVariants as halt
 use Rattle.dta.specs.declared.status.Status.{Status}
 use Rattle.dta.specs.declared.status.Status.TheVariants as status
 use Rattle.dta.specs.declared.stop.Stop.{Stop}

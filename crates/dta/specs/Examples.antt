@@ -1,5 +1,5 @@
 -- Worked cases of the definitions, computed: two links in a line.
-use Rattle.std.specs.Prelude.{◌≡◌, ℕ, refl, codes, map, [], ◌∷◌, ◌++◌, List}
+use Rattle.std.specs.Prelude.{◌≡◌, ℕ, refl, codes, false, true, map, [], ◌∷◌, ◌++◌, List, Some}
 use Rattle.desk_io.specs.declared.desk.Table.{Table}
 use Rattle.desk_io.specs.declared.desk.Table.TheVariants as table
 use Rattle.desk_io.specs.declared.desk.Output.TheVariants as output
@@ -7,9 +7,11 @@ use Rattle.desk_io.specs.MemDesk.{all_taken}
 use Rattle.row_reader.specs.declared.faults.Code.TheVariants as code
 use Rattle.row_reader.specs.declared.faults.Column.TheVariants as column
 use Rattle.gmns_tables.specs.OnLiterals.{networks_on_literals}
+use Rattle.loader.specs.Gates.{GateState, Numbers}
 use Rattle.reports.specs.declared.refusal.Refusal.TheVariants as refusal
 use Rattle.dta.specs.declared.status.Status.TheVariants as status
 use Rattle.dta.specs.Outputs.{grown_by, text_to}
+use Rattle.dta.specs.Receipts.{receipts_of, taking_all}
 use Rattle.dta.specs.Status.{number_of}
 use Rattle.dta.specs.Verdict.{verdict, Refused}
 
@@ -74,3 +76,22 @@ two-texts :
     (all_taken [] [] [] [] [])
     ≡ all_taken [] [] (codes "a") (codes "b") []
 two-texts = refl
+
+-- two iterations by four workers, over three nodes and 60 steps, with four vehicles: the gate took
+-- two receipts, and tells the numbers of the last one
+abbrev four_workers : Numbers
+four_workers = record { units = 420; passes = 4; vehicles = 4 }
+
+abbrev no_receipts : GateState
+no_receipts = record {
+  closes = Some 0;
+  last = Some (record { units = 0; passes = 0; vehicles = 0 });
+}
+
+two-receipts : taking_all (receipts_of false 2) four_workers no_receipts
+    ≡ record { closes = Some 2; last = Some four_workers }
+two-receipts = refl
+
+-- with the plain loader it took none
+no-receipt : taking_all (receipts_of true 2) four_workers no_receipts ≡ no_receipts
+no-receipt = refl

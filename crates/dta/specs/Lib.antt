@@ -9,5 +9,6 @@ pub mod Outcome
 pub mod Stops
 pub mod Progress
 pub mod Calls
+pub mod Receipts
 pub mod Examples
 pub mod Laws

@@ -1,18 +1,25 @@
 -- How far an assignment came, and what went out until then.
-use Rattle.std.specs.Prelude.{ℕ, ◌≡◌, ◌+◌, List, [], ◌∷◌, ◌++◌, length}
+use Rattle.std.specs.Prelude.{ℕ, ◌≡◌, ◌+◌, ◌⊎◌, List, [], ◌∷◌, ◌++◌, length}
 use Rattle.desk_io.specs.Desk.{Taken}
 use Rattle.dta_model.specs.LinkTimes.{TimeTable}
 use Rattle.dta_model.specs.Loading.{journeys_of}
 use Rattle.dta_model.specs.declared.eight.Eight.{Eight}
 use Rattle.dta_model.specs.declared.loaded.Journey.{Journey}
 use Rattle.gap.specs.declared.line.GapLine.{GapLine}
+use Rattle.loader.specs.declared.loading.LoadFault.{LoadFault}
+use Rattle.loader.specs.declared.loading.LoadFault.TheVariants as fault
 use Rattle.dta_words.specs.declared.command.Settings.{Settings}
 use Rattle.dta.specs.Assignment.{AreIterations, VehicleRoutes, end_of, times_of}
 use Rattle.dta.specs.Jobs.{AreRoutesOf, JobRows, plan_of}
 use Rattle.dta.specs.Outputs.{AreWatchLines, AreWatchTexts, AreWatched, IsCutOff, OutText, grown_by}
 use Rattle.dta.specs.declared.iterate.Assigned.{Assigned}
-use Rattle.dta.specs.declared.iterate.Halt.{Halt}
-use Rattle.dta.specs.declared.iterate.Halt.TheVariants as halt
+use Rattle.dta.specs.declared.halt.Halt.{Halt}
+use Rattle.dta.specs.declared.halt.Halt.TheVariants as halt
+
+-- what a loading by workers that gave no journeys halts
+abbrev pub halt_of : LoadFault → Halt
+halt_of fault.Memory = halt.Memory
+halt_of fault.WatchFault = halt.Watch
 
 -- an iteration is about to be loaded over these routes, and those before it are done
 pub record IsAt (s : Settings) (job : JobRows) (number : ℕ) (routes : VehicleRoutes)
@@ -44,9 +51,11 @@ abbrev pub IsWatchCut : Settings → JobRows → ℕ → VehicleRoutes → Taken
 IsWatchCut s job iteration routes before now =
     (lines : List OutText) × AreWatchLines s job iteration routes lines × IsCutOff lines before now
 
--- an assignment ended in the midst of an iteration over these routes
+-- an assignment ended in the midst of an iteration over these routes. Where memory was wanting,
+-- none of its watch lines went out, or all did
 abbrev pub HaltsIn : Settings → JobRows → ℕ → VehicleRoutes → Halt → Taken → Taken → Type 0
-HaltsIn s job iteration routes halt.Memory before now = now ≡ before
+HaltsIn s job iteration routes halt.Memory before now =
+    (now ≡ before) ⊎ IsWatched s job iteration routes before now
 HaltsIn s job iteration routes halt.Watch before now = IsWatchCut s job iteration routes before now
 
 -- the routes, the journeys, the link times and the last state of an iteration belong together

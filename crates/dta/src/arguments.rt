@@ -3,7 +3,7 @@ ghost use Rattle.std.specs.Prelude.{drop, map, string_bytes};
 ghost use Rattle.std.specs.Vec.Iter.{into_iter_items};
 ghost use Rattle.dta.specs.Outcome.{state_of, Means};
 
-use crate::gate::NoGate;
+use crate::NoGate;
 use crate::run::run;
 use crate::status::Status;
 use desk_io::Desk;
@@ -14,7 +14,7 @@ use std::thread::Threads;
 
 /// Does what the arguments ask for, of which the first is the program's name and the others are the
 /// words.
-pub(crate) fn run_arguments<R: AllocGlobal + Threads + Wait, D: Desk + Send>(
+pub(crate) fn run_arguments<R: AllocGlobal + Threads + Wait + Sync, D: Desk + Send>(
     rt: &R,
     arguments: Args,
     desk: &mut D,

@@ -8,10 +8,11 @@
 #![tactic(auto)]
 
 mod arguments;
-mod gate;
+mod halt;
 mod iterate;
 mod job;
 mod laws;
+mod load;
 mod outputs;
 mod run;
 #[cfg(test)]
@@ -25,6 +26,7 @@ mod tests;
 
 use arguments::run_arguments;
 use desk_io::FileDesk;
+pub use loader::{CountGate, Gate, NoGate};
 use status::Status;
 use std::env;
 use std::io::ErrorKind;

@@ -6,15 +6,17 @@ ghost use Rattle.dta.specs.Jobs.{IsJob};
 ghost use Rattle.desk_io.specs.declared.desk.Table.{Table};
 ghost use Rattle.dta_model.specs.Laws.{JourneysEndInOrder, LeftInOrder, VehiclesAreConserved};
 ghost use Rattle.dta_words.specs.Grammar.{settings_of};
+ghost use Rattle.loader.specs.Gates.{gate_of};
 ghost use Rattle.dta.specs.Status.{refusal_status as status_of_refusal};
 ghost use Rattle.dta.specs.declared.status.Status.TheVariants as status;
 ghost use Rattle.dta.specs.Laws.{TextsAreDetermined, TextsInAnyOrder};
 ghost use Rattle.dta.specs.Calls.{DoesWork, Refuses};
 ghost use Rattle.dta.specs.Outcome.{state_of, Means, Answers};
+ghost use Rattle.dta.specs.Receipts.{RunGives, ToldGives, WorkGives};
 ghost use Rattle.dta.specs.Verdict.{verdict, AreToldBy};
 
-use crate::gate::Gate;
-use crate::iterate::{Halt, iterate};
+use crate::halt::Halt;
+use crate::iterate::iterate;
 use crate::job::{Job, accept};
 use crate::laws::{texts_are_determined, texts_in_any_order};
 use crate::outputs::put_assigned;
@@ -23,6 +25,7 @@ use crate::stop::Stop;
 use desk_io::{Desk, Failed};
 use dta_model::{journeys_end_in_order, links_are_left_in_order, vehicles_are_conserved};
 use dta_words::{Command, Settings, Words, WordsRefusal, settings};
+use loader::Gate;
 use reports::{Refusal, put_free, put_refusal};
 use std::sync::Wait;
 use std::thread::Threads;
@@ -50,19 +53,22 @@ fn refuse<D: Desk>(desk: &mut D, refusal: Refusal) -> Status
 }
 
 // Does the iterations of an assignment and puts its outputs.
-fn assign<R: AllocGlobal + Threads, D: Desk>(
+fn assign<R: AllocGlobal + Threads + Wait + Sync, D: Desk + Send, G: Gate + Sync>(
     rt: &R,
     settings: &Settings,
     job: &Job,
+    gate: &mut G,
     desk: &mut D,
 ) -> Status
     requires settings { AreSettings settings.now }
     requires job { IsJob settings.now job.now }
     requires command { settings.now.command ≢ command.Freeflow }
-    ensures { let state = state_of D.left D.taken D.read_faults D.put_faults in
+    ensures works { let state = state_of D.left D.taken D.read_faults D.put_faults in
         DoesWork settings.now job.now (state desk.old) (state desk.new) result }
+    ensures receipts { let shown = gate_of G.closes G.last in
+        WorkGives settings.now job.now result (shown gate.old) (shown gate.new) }
 {
-    match iterate(rt, settings, job, desk) {
+    match iterate(rt, settings, job, gate, desk) {
         Ok(assigned) => match put_assigned(desk, settings, job, &assigned) {
             Ok(()) => Status::Done,
             Err(Failed) => Status::WriteFault,
@@ -73,55 +79,71 @@ fn assign<R: AllocGlobal + Threads, D: Desk>(
 }
 
 // Does the work over an accepted job.
-fn work<R: AllocGlobal + Threads, D: Desk>(
+fn work<R: AllocGlobal + Threads + Wait + Sync, D: Desk + Send, G: Gate + Sync>(
     rt: &R,
     settings: &Settings,
     job: &Job,
+    gate: &mut G,
     desk: &mut D,
 ) -> Status
     requires settings { AreSettings settings.now }
     requires job { IsJob settings.now job.now }
-    ensures { let state = state_of D.left D.taken D.read_faults D.put_faults in
+    ensures works { let state = state_of D.left D.taken D.read_faults D.put_faults in
         DoesWork settings.now job.now (state desk.old) (state desk.new) result }
+    ensures receipts { let shown = gate_of G.closes G.last in
+        WorkGives settings.now job.now result (shown gate.old) (shown gate.new) }
 {
     match settings.command {
         Command::Freeflow => match put_free(desk, &job.net) {
             Ok(()) => Status::Done,
             Err(Failed) => Status::WriteFault,
         },
-        Command::Assign | Command::Demo(_) => assign(rt, settings, job, desk),
+        Command::Assign | Command::Demo(_) => assign(rt, settings, job, gate, desk),
     }
 }
 
 // Checks the tables, and does the work.
-fn accept_and_work<R: AllocGlobal + Threads, D: Desk>(
+fn accept_and_work<R: AllocGlobal + Threads + Wait + Sync, D: Desk + Send, G: Gate + Sync>(
     rt: &R,
     settings: &Settings,
+    gate: &mut G,
     desk: &mut D,
 ) -> Status
     requires settings { AreSettings settings.now }
     ensures means { let state = state_of D.left D.taken D.read_faults D.put_faults in
         (words : List (List ℕ)) → settings_of words ≡ Some settings.now
         → Means words result (state desk.old) (state desk.new) }
+    ensures receipts { let shown = gate_of G.closes G.last in
+        (words : List (List ℕ)) → settings_of words ≡ Some settings.now
+        → RunGives words result (D.left desk.old) (D.left desk.new)
+        (shown gate.old) (shown gate.new) }
     ensures reads { D.read_faults desk.old ≤ D.read_faults desk.new }
     ensures puts { D.put_faults desk.old ≤ D.put_faults desk.new }
 {
     match accept(rt.alloc(), desk, settings) {
-        Ok(job) => work(rt, settings, &job, desk),
+        Ok(job) => work(rt, settings, &job, gate, desk),
         Err(Stop::Refused(refusal)) => refuse(desk, refusal),
         Err(Stop::Memory) => Status::Memory,
     }
 }
 
 // Checks the words and the tables, and does the work.
-fn answer<R: AllocGlobal + Threads, D: Desk>(rt: &R, words: &Words, desk: &mut D) -> Status
+fn answer<R: AllocGlobal + Threads + Wait + Sync, D: Desk + Send, G: Gate + Sync>(
+    rt: &R,
+    words: &Words,
+    gate: &mut G,
+    desk: &mut D,
+) -> Status
     ensures means { let state = state_of D.left D.taken D.read_faults D.put_faults in
         Means words.now result (state desk.old) (state desk.new) }
+    ensures receipts { let shown = gate_of G.closes G.last in
+        RunGives words.now result (D.left desk.old) (D.left desk.new)
+        (shown gate.old) (shown gate.new) }
     ensures reads { D.read_faults desk.old ≤ D.read_faults desk.new }
     ensures puts { D.put_faults desk.old ≤ D.put_faults desk.new }
 {
     match settings(rt.alloc(), words) {
-        Ok(settings) => accept_and_work(rt, &settings, desk),
+        Ok(settings) => accept_and_work(rt, &settings, gate, desk),
         Err(WordsRefusal::Usage) => refuse(desk, Refusal::Usage),
         Err(WordsRefusal::Memory) => Status::Memory,
     }
@@ -134,16 +156,17 @@ fn answer<R: AllocGlobal + Threads, D: Desk>(rt: &R, words: &Words, desk: &mut D
 /// tables, iterates routes, loadings, link times and gaps (successive averages over a queue-based
 /// simulator, Zhou and Taylor 2014), and puts Agent, LinkTime, Gap and Report, in this order.
 /// `demo` does the same over a made grid, and puts the report alone. With a watch, each iteration
-/// puts lines of counts to Watch, the last one once it is loaded.
+/// puts lines of counts to Watch, the last one once it is loaded. Loadings are by workers, who pass
+/// the gate, unless the words ask for the plain loader.
 ///
 /// A table is checked before the next is read. No memory is taken after the first byte of LinkTime
 /// in `freeflow`, or of Agent in `assign`.
-#[tactic(auto, using(crate::proofs::RunFacts::usage_means, crate::proofs::VerdictFacts::told))]
-pub fn run<R: AllocGlobal + Threads + Wait, D: Desk + Send, G: Gate + Sync>(
+#[tactic(auto, using(crate::proofs::ReceiptFacts::answers))]
+pub fn run<R: AllocGlobal + Threads + Wait + Sync, D: Desk + Send, G: Gate + Sync>(
     rt: &R,
     words: &Words,
     desk: &mut D,
-    _gate: &mut G,
+    gate: &mut G,
 ) -> Status
     // What the answer says of the desk.
     ensures means { let state = state_of D.left D.taken D.read_faults D.put_faults in
@@ -169,6 +192,17 @@ pub fn run<R: AllocGlobal + Threads + Wait, D: Desk + Send, G: Gate + Sync>(
 
     // They are the same where loadings take the nodes of a step in any order.
     ensures any_order { TextsInAnyOrder }
+
+    // The gate took one receipt for each iteration that was loaded by workers, and none otherwise;
+    // where the work wasn't done at most as many.
+    ensures receipts { let shown = gate_of G.closes G.last in
+        RunGives words.now result (D.left desk.old) (D.left desk.new)
+        (shown gate.old) (shown gate.new) }
+
+    // Where the bytes of the tables are told, their numbers are those of the verdict's job.
+    ensures told_receipts { let shown = gate_of G.closes G.last in
+        (texts : Table → List ℕ) → AreToldBy (settings_of words.now) (D.left desk.old) texts
+        → ToldGives (verdict words.now texts) result (shown gate.old) (shown gate.new) }
     ensures reads { D.read_faults desk.old ≤ D.read_faults desk.new }
     ensures puts { D.put_faults desk.old ≤ D.put_faults desk.new }
 {
@@ -177,5 +211,5 @@ pub fn run<R: AllocGlobal + Threads + Wait, D: Desk + Send, G: Gate + Sync>(
     journeys_end_in_order();
     texts_are_determined();
     texts_in_any_order();
-    answer(rt, words, desk)
+    answer(rt, words, gate, desk)
 }

@@ -1,6 +1,6 @@
 // Worked cases: whole runs that end with status 0, with all that they put. What is wanted is worked
 // out by hand from the definitions (docs/MODEL.md).
-use crate::gate::NoGate;
+use crate::NoGate;
 use crate::run::run;
 use crate::status::Status;
 use crate::tests::desk_of;
@@ -101,7 +101,7 @@ static WORKERS: [Case; 5] = [
 static VEHICLES: [Case; 6] = [
     Case {
         name: "two iterations with a watch",
-        words: "assign --period 30 --horizon 60 --watch 10 --iterations 2",
+        words: "assign --period 30 --horizon 60 --watch 10 --iterations 2 --plain",
         gap: "iteration,route_steps,least_steps,gap_steps,gap_ppm\n1,60,60,0,0\n\
 2,60,60,0,0\n",
         report: "nodes 3\nlinks 2\nvehicles 3\nunrouted 0\niterations 2\narrived 3\n\
@@ -435,7 +435,7 @@ fn desk_with(alloc: Global, case: &Case) -> Result<MemDesk, Fail> {
 }
 
 // Whether a run of a case ends with status 0. What it puts is in the desk.
-fn is_done<R: AllocGlobal + Threads + Wait>(
+fn is_done<R: AllocGlobal + Threads + Wait + Sync>(
     rt: &R,
     case: &Case,
     desk: &mut MemDesk,
@@ -462,7 +462,7 @@ fn another_text(case: &Case, desk: &MemDesk) -> Option<Output> {
 
 // The name of the first case that doesn't end with status 0, or that puts something else than what
 // is wanted, with the first such output.
-fn first_failure<R: AllocGlobal + Threads + Wait>(
+fn first_failure<R: AllocGlobal + Threads + Wait + Sync>(
     rt: &R,
     cases: &[Case],
 ) -> Result<Option<(&'static str, Option<Output>)>, Fail> {

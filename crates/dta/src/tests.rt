@@ -3,7 +3,7 @@ mod faults;
 mod refusals;
 mod whole_runs;
 
-use crate::gate::NoGate;
+use crate::NoGate;
 use crate::run::run;
 use crate::status::Status;
 use desk_io::{Desk, MemDesk};
@@ -78,7 +78,7 @@ fn words_of(alloc: Global, given: &[&str]) -> Result<Words, Fail> {
 }
 
 // The status of a run over a desk.
-fn run_over<R: AllocGlobal + Threads + Wait, D: Desk + Send>(
+fn run_over<R: AllocGlobal + Threads + Wait + Sync, D: Desk + Send>(
     rt: &R,
     given: &[&str],
     desk: &mut D,

@@ -1,5 +1,5 @@
 // Reads and puts that fail.
-use crate::gate::NoGate;
+use crate::NoGate;
 use crate::run::run;
 use crate::status::Status;
 use crate::tests::{AGENTS, ASSIGN, GAPS, LINK_TIMES, SUMMARY, two_links, words_of};

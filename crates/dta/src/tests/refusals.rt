@@ -1,5 +1,5 @@
 // Runs that are refused, and the first faults of tables.
-use crate::gate::NoGate;
+use crate::NoGate;
 use crate::run::run;
 use crate::sizes::sizes;
 use crate::status::Status;

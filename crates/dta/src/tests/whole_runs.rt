@@ -1,5 +1,5 @@
 // Runs that end with status 0, in memory and over files, and demonstrations.
-use crate::gate::NoGate;
+use crate::NoGate;
 use crate::run::run;
 use crate::status::Status;
 use crate::tests::{

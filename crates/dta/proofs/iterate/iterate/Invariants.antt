@@ -1,6 +1,8 @@
-use Rattle.std.proofs.Common.{◌≡◌, ◌≤◌}
+use Rattle.std.proofs.Common.{◌≡◌, ◌≤◌, ◌-◌}
+use Rattle.loader.specs.Gates.{gate_of}
 use Rattle.dta.specs.Jobs.{AreRoutesOf}
 use Rattle.dta.specs.Progress.{IsAt}
+use Rattle.dta.specs.Receipts.{numbers_in, receipts_of, taking_all}
 use Rattle.dta.proofs.iterate.iterate.Given as goal
 
 abbrev pub invariant-loop-iteration : goal.invariant-loop-iteration
@@ -10,4 +12,7 @@ invariant-loop-iteration g l = record {
   left : g.D.Desk.left l.desk ≡ g.D.Desk.left l.fn.desk;
   later : g.D.Desk.put_faults l.fn.desk ≤ g.D.Desk.put_faults l.desk;
   reads : g.D.Desk.read_faults l.desk ≡ g.D.Desk.read_faults l.fn.desk;
+  receipts : gate_of g.G.Gate.closes g.G.Gate.last l.gate
+      ≡ taking_all (receipts_of l.settings.plain (l.iteration - 1)) (numbers_in l.settings l.job)
+      (gate_of g.G.Gate.closes g.G.Gate.last l.fn.gate);
 }

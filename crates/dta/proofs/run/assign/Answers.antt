@@ -1,12 +1,14 @@
-use Rattle.std.proofs.Common.{◌≡◌, ◌∙◌, arith}
+use Rattle.std.proofs.Common.{◌≡◌, ◌≤◌, ◌∙◌, arith}
+use Rattle.loader.specs.Gates.{GateState, gate_of}
 use Rattle.dta.specs.declared.status.Status.TheVariants as status
 use Rattle.dta.proofs.ChainFacts.{rose-earlier}
+use Rattle.dta.proofs.ReceiptFacts.{work-all, work-some}
 use Rattle.dta.proofs.RunFacts.{assigned-cut, assigned-done}
 use Rattle.dta.proofs.run.assign.Goals as goal
 
-pub returns-in-Ok-put_assigned : goal.returns-in-Ok-put_assigned
-returns-in-Ok-put_assigned g c =
-    let i = c.in-Ok.ensures in
+pub returns-in-Ok-put_assigned-clause-works : goal.returns-in-Ok-put_assigned-clause-works
+returns-in-Ok-put_assigned-clause-works g c =
+    let i = c.in-Ok.ensures.watches in
     let o = c.in-Ok-put_assigned.ensures in
     record {
       work = assigned-done c.args.settings.now c.args.job.now c.requires.command c.in-Ok.assigned _ _ i.done _ o.whole;
@@ -16,9 +18,13 @@ returns-in-Ok-put_assigned g c =
       reads = o.reads ∙ i.reads;
     }
 
-pub returns-in-Ok : goal.returns-in-Ok
-returns-in-Ok g c =
-    let i = c.in-Ok.ensures in
+pub returns-in-Ok-put_assigned-clause-receipts : goal.returns-in-Ok-put_assigned-clause-receipts
+returns-in-Ok-put_assigned-clause-receipts g c =
+    work-all c.args.settings.now c.args.job.now _ _ c.requires.command c.in-Ok.ensures.receipts.all
+
+pub returns-in-Ok-clause-works : goal.returns-in-Ok-clause-works
+returns-in-Ok-clause-works g c =
+    let i = c.in-Ok.ensures.watches in
     let o = c.in-Err.ensures in
     record {
       work = assigned-cut c.args.settings.now c.args.job.now c.requires.command c.in-Ok.assigned _ _ i.done _ o.refused;

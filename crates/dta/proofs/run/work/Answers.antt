@@ -1,10 +1,11 @@
-use Rattle.std.proofs.Common.{◌≡◌, rules}
+use Rattle.std.proofs.Common.{◌≡◌, refl, rules}
 use Rattle.dta.specs.declared.status.Status.TheVariants as status
+use Rattle.dta.proofs.ReceiptFacts.{free-none, took-none}
 use Rattle.dta.proofs.RunFacts.{free-cut, free-done}
 use Rattle.dta.proofs.run.work.Goals as goal
 
-pub returns-in-Ok : goal.returns-in-Ok
-returns-in-Ok g c =
+pub returns-in-Ok-clause-works : goal.returns-in-Ok-clause-works
+returns-in-Ok-clause-works g c =
     let o = c.in-Ok.ensures in
     record {
       work = rw (← c.job.view_is) (free-done c.args.settings.now _ (search rules) _ _ o.whole);
@@ -14,8 +15,8 @@ returns-in-Ok g c =
       reads = o.reads;
     }
 
-pub returns-in-Err : goal.returns-in-Err
-returns-in-Err g c =
+pub returns-in-Err-clause-works : goal.returns-in-Err-clause-works
+returns-in-Err-clause-works g c =
     let o = c.in-Err.ensures in
     record {
       work = rw (← c.job.view_is) (free-cut c.args.settings.now _ (search rules) _ _ o.refused);
@@ -24,3 +25,9 @@ returns-in-Err g c =
       left = o.left;
       reads = o.reads;
     }
+
+pub returns-in-Ok-clause-receipts : goal.returns-in-Ok-clause-receipts
+returns-in-Ok-clause-receipts g c = free-none c.args.settings.now c.args.job.now _ _ (search rules) refl
+
+pub returns-in-Err-clause-receipts : goal.returns-in-Err-clause-receipts
+returns-in-Err-clause-receipts g c = took-none c.args.settings.now c.args.job.now _ _ refl
