@@ -2,6 +2,7 @@
 mod faults;
 mod refusals;
 mod whole_runs;
+mod workers;
 
 use crate::NoGate;
 use crate::run::run;
