@@ -3,19 +3,18 @@ ghost use Rattle.dta_model.specs.Lent.{plan_of};
 ghost use Rattle.dta_model.specs.LinkTimes.{table_of};
 ghost use Rattle.dta_model.specs.Sound.{IsSound};
 ghost use Rattle.link_times.specs.TimeTables.{IsShort};
-ghost use Rattle.route_flows.specs.declared.flows.TheConstants.{MOST_WORKERS};
-ghost use Rattle.std.specs.Prelude.{◌≡◌, ◌<◌, ◌≤◌, IfOk, length};
+ghost use Rattle.std.specs.Prelude.{◌≡◌, IfOk, length};
 
 use crate::{first_routes, gap_and_next_routes, is_selected, next_routes};
-use dta_model::{Loading, Queue, Route, Routes, Trip};
+use dta_model::{Loading, Route, Routes};
 use gap::{GapLine, gap};
 use link_times::LinkTimes;
-use net_core::{LinkNo, LinkRow, Memory, NodeNo, NodeRow};
+use net_core::{LinkNo, Memory};
 use serial_loader::load_plain;
 use std::alloc::Global;
 use std::test::Fail;
 use std::thread::Threads;
-use worked_cases::{Case, Way, Written};
+use worked_cases::Case;
 
 // The link times of the plain loading, by buckets of 50 steps.
 fn times_of(alloc: Global, loading: &Loading) -> Result<LinkTimes, Memory>
@@ -122,122 +121,6 @@ fn length_of(route: &Option<Route>) -> usize {
     }
 }
 
-// A node of a zone, and a link from a node to another.
-macro_rules! node {
-    ($zone:expr) => {
-        NodeRow {
-            id: $zone,
-            zone: Some($zone),
-        }
-    };
-}
-
-macro_rules! link {
-    ($id:expr, $from:expr => $to:expr) => {
-        LinkRow {
-            id: $id,
-            from: NodeNo($from),
-            to: NodeNo($to),
-            free: 10,
-            storage: 125,
-            rate: 600_000_000,
-        }
-    };
-}
-
-macro_rules! trip {
-    ($number:expr, $origin:expr => $destination:expr) => {
-        Trip {
-            number: $number,
-            origin: $origin,
-            destination: $destination,
-            departure: $number,
-        }
-    };
-}
-
-// Five zones in a ring of links that lead one way, and a vehicle from each of them to the zone
-// before it. Five destinations are two groups.
-#[tactic(auto, unfolding(worked_cases::specs::OnLiterals::cases_on_literals))]
-fn a_ring_of_five_zones(alloc: Global) -> Result<Case, Memory> {
-    Case::of(
-        alloc,
-        &Written {
-            nodes: &[node!(1), node!(2), node!(3), node!(4), node!(5)],
-            links: &[
-                link!(10, 0 => 1),
-                link!(20, 1 => 2),
-                link!(30, 2 => 3),
-                link!(40, 3 => 4),
-                link!(50, 4 => 0),
-            ],
-            turns: &[],
-            queue: Queue::Point,
-            horizon: 60,
-            trips: &[
-                trip!(0, 1 => 5),
-                trip!(1, 2 => 1),
-                trip!(2, 3 => 2),
-                trip!(3, 4 => 3),
-                trip!(4, 5 => 4),
-            ],
-            ways: &[Way::None, Way::None, Way::None, Way::None, Way::None],
-        },
-    )
-}
-
-// Whether all routes of both iterations lead round the ring over four links, by so many workers.
-fn lead_round<R: AllocGlobal + Threads + Sync>(
-    rt: &R,
-    case: &Case,
-    workers: u32,
-) -> Result<bool, Memory>
-    requires { (1 ≤ workers) × (workers ≤ MOST_WORKERS) }
-{
-    let loading = case.loading();
-    let times = times_of(rt.alloc(), &loading)?;
-    let Loading {
-        net,
-        trips,
-        horizon,
-        ..
-    } = loading;
-    let first = first_routes(rt, net, trips, horizon, workers)?;
-    let next = next_routes(rt, net, trips, &times, &first, 1, workers)?;
-    Ok(are_round(&first) && are_round(&next))
-}
-
-// Whether each of five routes has the four links of a ring that begin at its own number.
-fn are_round(routes: &Routes) -> bool {
-    let routes = routes.as_slice();
-    if routes.len() != 5 {
-        return false;
-    }
-    for v in 0..5 {
-        if !is_round(&routes[v], v as u32) {
-            return false;
-        }
-    }
-    true
-}
-
-fn is_round(route: &Option<Route>, first: u32) -> bool
-    requires { first < 5 }
-{
-    match route {
-        Some(route) => {
-            let wanted = [
-                LinkNo(first),
-                LinkNo((first + 1) % 5),
-                LinkNo((first + 2) % 5),
-                LinkNo((first + 3) % 5),
-            ];
-            route.as_slice() == wanted.as_slice()
-        }
-        None => false,
-    }
-}
-
 fn line(route_steps: u128, least_steps: u128, gap_steps: u128, ppm: u128) -> GapLine {
     GapLine {
         route_steps,
@@ -266,16 +149,6 @@ fn an_unrouted_zone(rt: HostRuntime) -> Result<(), Fail> {
         lengths: &[0, 2],
     };
     assert!(rt; shows(&rt, &case, &wanted)?);
-    Ok(())
-}
-
-#[test]
-fn equal_routes_by_any_number_of_workers(rt: HostRuntime) -> Result<(), Fail> {
-    let case = a_ring_of_five_zones(rt.alloc())?;
-    assert!(rt; lead_round(&rt, &case, 1)?);
-    assert!(rt; lead_round(&rt, &case, 2)?);
-    assert!(rt; lead_round(&rt, &case, 3)?);
-    assert!(rt; lead_round(&rt, &case, 16)?);
     Ok(())
 }
 
