@@ -42,7 +42,11 @@ pub(crate) struct Assigned {
 
 // The routes of the first iteration.
 #[tactic(auto, using(crate::proofs::IterateFacts::routings))]
-fn begin<R: AllocGlobal + Threads>(rt: &R, settings: &Settings, job: &Job) -> Result<Routes, Halt>
+fn begin<R: AllocGlobal + Threads + Sync>(
+    rt: &R,
+    settings: &Settings,
+    job: &Job,
+) -> Result<Routes, Halt>
     requires settings { AreSettings settings.now }
     requires job { IsJob settings.now job.now }
     ensures first { IfOk result (λ routes. AreFirstRoutes job.now.net job.now.trips routes) }
@@ -55,7 +59,7 @@ fn begin<R: AllocGlobal + Threads>(rt: &R, settings: &Settings, job: &Job) -> Re
 
 // The gap of an iteration, and the routes of the next.
 #[tactic(auto, using(crate::proofs::IterateFacts::routings))]
-fn leave<R: AllocGlobal + Threads>(
+fn leave<R: AllocGlobal + Threads + Sync>(
     rt: &R,
     settings: &Settings,
     job: &Job,

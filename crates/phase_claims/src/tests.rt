@@ -4,7 +4,6 @@ use crate::{Floor, Pass};
 mod drive;
 mod ends;
 mod four_threads;
-mod grid;
 mod log;
 mod one_pass;
 mod two_passes;

@@ -4,7 +4,6 @@ ghost use Rattle.std.specs.Thread.{IsSync};
 
 use crate::tests::drive::work;
 use crate::tests::ends::{are_same, tells};
-use crate::tests::grid::a_grid;
 use crate::tests::log::Log;
 use crate::{Floor, Pass};
 use monitors::Board;
@@ -74,22 +73,5 @@ fn four_threads_perform_all_units(rt: HostRuntime) -> Result<(), Fail> {
     };
     assert!(rt; are_same(&loaded, &load_plain(rt.alloc(), &loading)?));
     assert!(rt; tells(&receipt, 420, 4, 3));
-    Ok(())
-}
-
-#[test]
-fn four_threads_load_a_grid(rt: HostRuntime) -> Result<(), Fail> {
-    let grid = a_grid(rt.alloc())?;
-    let loading = grid.loading();
-    let (board, writer, _monitor) = Board::new(&rt)?;
-    let (floor, pass) = Floor::new(rt.alloc(), &loading, &board, writer, 4)?;
-    let log = Log::new(rt.alloc(), &loading, 4380)?;
-    let pass = four_work(&rt, &floor, &log, pass);
-    assert!(rt; log.is_whole());
-    let Ok((loaded, _, receipt)) = floor.close(pass) else {
-        unreachable!()
-    };
-    assert!(rt; are_same(&loaded, &load_plain(rt.alloc(), &loading)?));
-    assert!(rt; tells(&receipt, 4380, 4, 60));
     Ok(())
 }
