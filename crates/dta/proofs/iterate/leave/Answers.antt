@@ -1,8 +1,14 @@
-use Rattle.dta.proofs.IterateFacts.{routes-of, walks-of}
+use Rattle.std.proofs.Common.{ap}
+use Rattle.dta.specs.Jobs.{JobRows}
+use Rattle.dta.proofs.IterateFacts.{routes-of, table-links, walks-of}
 use Rattle.dta.proofs.iterate.leave.Goals as goal
 
+pub gap_and_next_routes-requires-clause-table : goal.gap_and_next_routes-requires-clause-table
+gap_and_next_routes-requires-clause-table g c _ _ =
+    table-links c.args.settings.now c.args.job.now c.args.routes.now c.args.times.now c.job.inside.net c.requires.times (ap (λ (job : JobRows). job.net) c.job.view_is)
+
 pub gap_and_next_routes-requires-clause-walks : goal.gap_and_next_routes-requires-clause-walks
-gap_and_next_routes-requires-clause-walks g c =
+gap_and_next_routes-requires-clause-walks g c _ _ =
     walks-of c.args.job.now c.job.inside.net c.as_slice-trips.result.now c.args.routes.now (rw c.as_slice-trips.ensures.value c.job.view_is) c.requires.routes
 
 pub returns-clause-routes : goal.returns-clause-routes
