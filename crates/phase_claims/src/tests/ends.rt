@@ -1,11 +1,22 @@
 // What a floor gives when it is closed, beside the plain loading.
-use crate::Receipt;
-use dta_model::{Journey, Loaded};
+ghost use Rattle.dta_model.specs.Lent.{plan_of};
+ghost use Rattle.dta_model.specs.Sound.{IsSound};
 
-// Whether two loadings give the same journeys.
-pub fn are_same(left: &Loaded, right: &Loaded) -> bool {
-    let left = left.as_slice();
-    let right = right.as_slice();
+use crate::Receipt;
+use dta_model::{Journey, Loaded, Loading};
+use net_core::Memory;
+use serial_loader::load_plain;
+use std::alloc::Global;
+
+// Whether a loading gives the journeys of the plain one.
+pub fn is_plain(alloc: Global, loading: &Loading, loaded: &Loaded) -> Result<bool, Memory>
+    requires { IsSound (plan_of loading.now) }
+{
+    let plain = load_plain(alloc, loading)?;
+    Ok(are_same(loaded.as_slice(), plain.as_slice()))
+}
+
+fn are_same(left: &[Journey], right: &[Journey]) -> bool {
     if left.len() != right.len() {
         return false;
     }

@@ -1,13 +1,17 @@
 // A floor with four passes, each in a thread of its own.
+ghost use Rattle.dta_model.specs.Lent.{plan_of};
+ghost use Rattle.dta_model.specs.Sound.{IsSound};
 ghost use Rattle.phase_claims.specs.Tried.{HasEnded, IsReady};
+ghost use Rattle.std.specs.Prelude.{◌≡◌, []};
 ghost use Rattle.std.specs.Thread.{IsSync};
 
 use crate::tests::drive::work;
-use crate::tests::ends::{are_same, tells};
+use crate::tests::ends::{is_plain, tells};
 use crate::tests::log::Log;
-use crate::{Floor, Pass};
-use monitors::Board;
-use serial_loader::load_plain;
+use crate::{Floor, Pass, Receipt};
+use dta_model::{Loaded, Loading};
+use monitors::{Board, WriterPass};
+use net_core::Memory;
 use std::sync::Wait;
 use std::test::Fail;
 use std::thread::{Threads, join_mut};
@@ -59,19 +63,44 @@ fn four_work<R: Threads + Wait + Sync>(rt: &R, floor: &Floor, log: &Log, pass: P
     floor.join(left, right)
 }
 
+// A loading by four threads, with its receipt.
+fn by_four_threads<'b, 'l: 'b, R: AllocGlobal + Threads + Wait + Sync>(
+    rt: &R,
+    loading: &Loading<'l>,
+    board: &'b Board,
+    writer: WriterPass,
+    log: &Log,
+) -> Result<(Loaded, Receipt), Memory>
+    requires sound { IsSound (plan_of loading.now) }
+    requires writer { (writer.board ≡ board.now) × (writer.list ≡ []) }
+{
+    let (floor, pass) = Floor::new(rt.alloc(), loading, board, writer, 4)?;
+    let pass = four_work(rt, &floor, log, pass);
+    let Ok((loaded, _, receipt)) = floor.close(pass) else {
+        unreachable!()
+    };
+    Ok((loaded, receipt))
+}
+
+// The same, over a board of its own.
+fn by_four<R: AllocGlobal + Threads + Wait + Sync>(
+    rt: &R,
+    loading: &Loading,
+    log: &Log,
+) -> Result<(Loaded, Receipt), Memory>
+    requires { IsSound (plan_of loading.now) }
+{
+    let (board, writer, _monitor) = Board::new(rt)?;
+    by_four_threads(rt, loading, &board, writer, log)
+}
+
 #[test]
 fn four_threads_perform_all_units(rt: HostRuntime) -> Result<(), Fail> {
     let case = two_links_in_a_line(rt.alloc())?;
     let loading = case.loading();
-    let (board, writer, _monitor) = Board::new(&rt)?;
-    let (floor, pass) = Floor::new(rt.alloc(), &loading, &board, writer, 4)?;
     let log = Log::new(rt.alloc(), &loading, 420)?;
-    let pass = four_work(&rt, &floor, &log, pass);
-    assert!(rt; log.is_whole());
-    let Ok((loaded, _, receipt)) = floor.close(pass) else {
-        unreachable!()
-    };
-    assert!(rt; are_same(&loaded, &load_plain(rt.alloc(), &loading)?));
-    assert!(rt; tells(&receipt, 420, 4, 3));
+    let (loaded, receipt) = by_four(&rt, &loading, &log)?;
+    assert!(rt; log.is_whole() && tells(&receipt, 420, 4, 3));
+    assert!(rt; is_plain(rt.alloc(), &loading, &loaded)?);
     Ok(())
 }

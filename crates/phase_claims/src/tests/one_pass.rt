@@ -1,11 +1,16 @@
 // A floor with one pass.
+ghost use Rattle.dta_model.specs.Lent.{plan_of};
+ghost use Rattle.dta_model.specs.Sound.{IsSound};
+ghost use Rattle.std.specs.Prelude.{◌≡◌, [], IfOk};
+
 use crate::tests::drive::work;
-use crate::tests::ends::{are_same, tells};
+use crate::tests::ends::{is_plain, tells};
 use crate::tests::log::Log;
-use crate::{Early, Floor};
-use dta_model::Eight;
-use monitors::Board;
-use serial_loader::load_plain;
+use crate::{Early, Floor, Receipt};
+use dta_model::{Eight, Loaded, Loading};
+use monitors::{Board, WriterPass};
+use net_core::Memory;
+use std::sync::Wait;
 use std::test::Fail;
 use worked_cases::{Seen, are_seen, two_links_in_a_line};
 
@@ -22,6 +27,40 @@ fn a_new_floor_closes_too_early(rt: HostRuntime) -> Result<(), Fail> {
     Ok(())
 }
 
+// A loading by one pass, with the writer's pass and the receipt.
+fn by_one_pass<'b, 'l: 'b, R: AllocGlobal + Wait>(
+    rt: &R,
+    loading: &Loading<'l>,
+    board: &'b Board,
+    writer: WriterPass,
+    log: &Log,
+) -> Result<(Loaded, WriterPass, Receipt), Memory>
+    requires sound { IsSound (plan_of loading.now) }
+    requires writer { (writer.board ≡ board.now) × (writer.list ≡ []) }
+    ensures { IfOk result (λ r. r.1.board ≡ board.entry.now) }
+{
+    let (floor, mut pass) = Floor::new(rt.alloc(), loading, board, writer, 1)?;
+    work(rt, &floor, log, &mut pass);
+    let Ok(closed) = floor.close(pass) else {
+        unreachable!()
+    };
+    Ok(closed)
+}
+
+// The same over a board of its own, with the state that a monitor is shown in the end.
+fn by_one<R: AllocGlobal + Wait>(
+    rt: &R,
+    loading: &Loading,
+    log: &Log,
+) -> Result<(Loaded, Receipt, Eight), Memory>
+    requires { IsSound (plan_of loading.now) }
+{
+    let (board, writer, monitor) = Board::new(rt)?;
+    let (loaded, writer, receipt) = by_one_pass(rt, loading, &board, writer, log)?;
+    let (_, _, eight) = board.settle(rt, writer, monitor);
+    Ok((loaded, receipt, eight))
+}
+
 // The state after the last step: all three vehicles have arrived.
 const LAST: Eight = Eight {
     steps: 60,
@@ -31,27 +70,24 @@ const LAST: Eight = Eight {
     first: [0; 4],
 };
 
-#[test]
-fn one_pass_performs_all_units(rt: HostRuntime) -> Result<(), Fail> {
-    let case = two_links_in_a_line(rt.alloc())?;
-    let loading = case.loading();
-    let (board, writer, monitor) = Board::new(&rt)?;
-    let (floor, mut pass) = Floor::new(rt.alloc(), &loading, &board, writer, 1)?;
-    let log = Log::new(rt.alloc(), &loading, 420)?;
-    work(&rt, &floor, &log, &mut pass);
-    assert!(rt; log.is_whole());
-    let Ok((loaded, writer, receipt)) = floor.close(pass) else {
-        unreachable!()
-    };
+// Whether these are the journeys of two links in a line.
+fn are_wanted(loaded: &Loaded) -> bool {
     let wanted = [
         Seen(&[5, 15], Some(25)),
         Seen(&[15, 25], Some(35)),
         Seen(&[25, 35], Some(45)),
     ];
-    assert!(rt; are_seen(&loaded, &wanted));
-    assert!(rt; are_same(&loaded, &load_plain(rt.alloc(), &loading)?));
-    assert!(rt; tells(&receipt, 420, 1, 3));
-    let (_, _, eight) = board.settle(&rt, writer, monitor);
-    assert_eq!(rt; eight, LAST);
+    are_seen(loaded, &wanted)
+}
+
+#[test]
+fn one_pass_performs_all_units(rt: HostRuntime) -> Result<(), Fail> {
+    let case = two_links_in_a_line(rt.alloc())?;
+    let loading = case.loading();
+    let log = Log::new(rt.alloc(), &loading, 420)?;
+    let (loaded, receipt, eight) = by_one(&rt, &loading, &log)?;
+    assert!(rt; log.is_whole() && are_wanted(&loaded));
+    assert!(rt; tells(&receipt, 420, 1, 3) && eight == LAST);
+    assert!(rt; is_plain(rt.alloc(), &loading, &loaded)?);
     Ok(())
 }
