@@ -1,14 +1,21 @@
 -- Links and turns by their nodes, in the network's words.
-use Rattle.std.proofs.Common.{◌≡◌, ◌≢◌, ℕ, ◌+◌, List, [], ◌∷◌, ◌++◌, length, refl, ap, ◌∙◌, arith, rules, map, Bool, true, false, nat_eq}
-use Rattle.std.specs.Prelude.{Some, find, filter}
+use Rattle.std.proofs.Common.{◌≡◌, ◌≢◌, ℕ, ◌+◌, ◌<◌, List, [], ◌∷◌, ◌++◌, length, refl, ap, sym, ◌∙◌, arith, rules, map, set, get_or, Bool, true, false, nat_eq}
+use Rattle.std.specs.Prelude.{◌||◌, Some, find, filter, replicate}
+use Rattle.std.proofs.Math.Bool.{or-true}
+use Rattle.std.proofs.lemmas.Grind.{get_or-set_at}
+use Rattle.std.proofs.lemmas.List.{get_or_default, length-set, length-replicate, get_or-replicate, get_or-set_other}
+use Rattle.std.proofs.lemmas.List.Folds.{list_any-append}
 use Rattle.std.proofs.lemmas.List.FromFn.{map-range_with_len_more}
-use Rattle.std.proofs.lemmas.Bool.{and_parts}
-use Rattle.net_core.specs.ByNode.{all_links, end_of, start_of, node_of, is_from_to}
-use Rattle.net_core.specs.Network.{as_links, as_turn, free_turn, ins, is_named, link_at, numbers_below, outs, turn_at}
+use Rattle.std.specs.List.{list_any}
+use Rattle.net_core.specs.ByNode.{AreNamed, all_links, end_of, start_of, node_of, is_from_to}
+use Rattle.net_core.specs.Network.{as_links, as_turn, free_turn, ins, is_named, numbers_below, outs, turn_at}
 use Rattle.net_core.specs.declared.rows.LinkNo.{LinkNo}
 use Rattle.net_core.specs.declared.rows.NetRows.{NetRows}
 use Rattle.net_core.specs.declared.rows.TurnRow.{TurnRow}
-use Rattle.net_core.proofs.FindFacts.{find-filter, list_any-no, list_any-some}
+
+or-no : (b : Bool) → (b || false) ≡ b
+or-no true = refl
+or-no false = refl
 
 pub as_links-more : (n : ℕ)
     → as_links (numbers_below (n + 1)) ≡ as_links (numbers_below n) ++ record { 0 = n } ∷ []
@@ -39,38 +46,50 @@ unfolding outs
 outs-filtered net n =
     filter-map as_link (λ link. nat_eq (start_of net.links link) n) (numbers_below (length net.links))
 
--- a node is named where some turn is at it
-module _ (net : NetRows) (n : ℕ) (listed : List TurnRow)
-    (are : listed ≡ filter (λ turn. nat_eq (node_of net.links turn) n) net.turns) where
-  pub is_named-no : length listed ≡ 0 → is_named net n ≡ false
-  unfolding is_named
-  is_named-no e = list_any-no (λ turn. nat_eq (node_of net.links turn) n) net.turns (rw are at e)
+-- a node is named as its entry tells
+pub named-told : (net : NetRows) (named : List Bool) (n : ℕ) (d : Bool) → n < length net.nodes
+    → AreNamed named (length net.nodes) (node_of net.links) net.turns
+    → get_or named n d ≡ is_named net n
+unfolding is_named
+named-told net named n d b are =
+    get_or_default named n d false (rw are.counted b) ∙ are.told n b
 
-  pub is_named-some : length listed ≢ 0 → is_named net n ≡ true
-  unfolding is_named
-  is_named-some e = list_any-some (λ turn. nat_eq (node_of net.links turn) n) net.turns (rw are at e)
+-- a turn is free where none is listed, and else what the listed ones tell
+pub turn_at-free : (net : NetRows) (n a b : ℕ) → is_named net n ≡ false
+    → turn_at net n a b ≡ Some free_turn
+unfolding turn_at
+turn_at-free net n a b e = rw e refl
 
--- the turns at a node, of which the first link ends there
-module _ (net : NetRows) (n a b : ℕ) (listed : List TurnRow) (here : (link_at net a).to.0 ≡ n)
-    (are : listed ≡ filter (λ turn. nat_eq (node_of net.links turn) n) net.turns) where
-  abbrev is_here : TurnRow → Bool
-  is_here turn = nat_eq (node_of net.links turn) n
+pub turn_at-listed : (net : NetRows) (n a b : ℕ) → is_named net n ≡ true
+    → turn_at net n a b ≡ as_turn (find (is_from_to a b) net.turns)
+unfolding turn_at
+turn_at-listed net n a b e = rw e refl
 
-  pub turn_at-free : length listed ≡ 0 → turn_at net n a b ≡ Some free_turn
-  unfolding turn_at is_named
-  turn_at-free e = let k = list_any-no is_here net.turns (rw are at e) in rw k refl
+-- no node is named by no turns
+pub named-none : (count : ℕ) (node : TurnRow → ℕ) → AreNamed (replicate count false) count node []
+named-none count node = record {
+  counted = length-replicate count false;
+  told = λ n b. get_or-replicate count n false false b;
+}
 
-  -- a turn of the pair is at the node
-  from_to-here : (turn : TurnRow) → is_from_to a b turn ≡ true → is_here turn ≡ true
-  from_to-here turn e =
-      let parts = and_parts (nat_eq turn.a.0 a) (nat_eq turn.b.0 b) e in
-      let same : turn.a.0 ≡ a = search (rules, parts.0) in
-      let ends : node_of net.links turn ≡ n = ap (λ l. (link_at net l).to.0) same ∙ here in
-      rw ends (search rules)
-
-  pub turn_at-listed : length listed ≢ 0 → turn_at net n a b ≡ as_turn (find (is_from_to a b) listed)
-  unfolding turn_at is_named
-  turn_at-listed e =
-      let k = list_any-some is_here net.turns (rw are at e) in
-      let f = find-filter (is_from_to a b) is_here net.turns from_to-here in
-      rw (k, are, f) refl
+-- a turn names its node, and no other
+pub named-more : (named : List Bool) (count : ℕ) (node : TurnRow → ℕ) (turns : List TurnRow)
+    (turn : TurnRow) → node turn < count → AreNamed named count node turns
+    → AreNamed (set named (node turn) true) count node (turns ++ turn ∷ [])
+named-more named count node turns turn b are = record {
+  counted = length-set named (node turn) true ∙ are.counted;
+  told = λ n c.
+      let more = list_any-append (λ t. nat_eq (node t) n) turns (turn ∷ []) in
+      elim (nat_eq (node turn) n) as (λ t. nat_eq (node turn) n ≡ t
+      → get_or (set named (node turn) true) n false
+      ≡ list_any (λ t. nat_eq (node t) n) (turns ++ turn ∷ [])) [
+        | true ↦ λ t.
+            let same : node turn ≡ n = search (rules, t) in
+            let here = get_or-set_at named (node turn) n true false (sym same) (rw are.counted b) in
+            rw (more, t, here) (sym (or-true (list_any (λ t. nat_eq (node t) n) turns)))
+        | false ↦ λ t.
+            let apart : n ≢ node turn = (λ q. let z : nat_eq (node turn) n ≡ true = search (rules, sym q) in cc) in
+            let other = get_or-set_other named (node turn) n true false apart in
+            rw (more, t, other, are.told n c) (sym (or-no (list_any (λ t. nat_eq (node t) n) turns)))
+      ] refl;
+}

@@ -1,5 +1,5 @@
 -- A network's condition as a test that computes, for networks that are written out.
-use Rattle.std.proofs.Common.{◌≡◌, ◌<◌, ◌≤◌, ℕ, List, [], ◌∷◌, length, ap, rules, refl, Bool, true, false, nat_eq, nat_lt, not}
+use Rattle.std.proofs.Common.{◌≡◌, ◌≤◌, ℕ, List, [], ◌∷◌, length, ap, rules, refl, Bool, true, false, nat_eq, nat_lt, not}
 use Rattle.std.specs.Prelude.{◌&&◌, All, None, Option, Some, IfSome, nat_le}
 use Rattle.std.specs.List.{AllByRecursion, IsDistinct, list_all, list_any}
 use Rattle.std.proofs.lemmas.List.Elements.{All-cons, All-nil}

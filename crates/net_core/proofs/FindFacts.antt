@@ -1,6 +1,6 @@
 -- The first element that passes a test.
-use Rattle.std.proofs.Common.{◌≡◌, ◌≢◌, ℕ, suc, zero, ◌+◌, ◌<◌, List, [], ◌∷◌, length, refl, arith, take, get_or, Bool, true, false}
-use Rattle.std.specs.Prelude.{◌&&◌, None, Some, find, filter}
+use Rattle.std.proofs.Common.{◌≡◌, ℕ, suc, zero, ◌+◌, ◌<◌, ◌≤◌, List, [], ◌∷◌, length, refl, arith, take, get_or, Bool, true, false}
+use Rattle.std.specs.Prelude.{None, Some, find, is_some}
 use Rattle.std.specs.List.{list_any}
 use Rattle.std.proofs.lemmas.List.{take_more}
 use Rattle.std.proofs.lemmas.List.Folds.{find-append}
@@ -21,36 +21,21 @@ pub find-passed : {X : Type 0} (p : X → Bool) (xs : List X) (i : ℕ) (d : X) 
     → find p (take i xs) ≡ None → p (get_or xs i d) ≡ false → find p (take (i + 1) xs) ≡ None
 find-passed p xs i d b n t = rw (take_more xs i d b, find-append p (take i xs) (get_or xs i d ∷ []), n, t) refl
 
-pub ruleset finding = (find-first, find-passed)
+-- none of so many elements passes
+pub passed-all : {X : Type 0} (p : X → Bool) (xs : List X) (d : X) (n : ℕ) → n ≤ length xs
+    → ((i : ℕ) → i < n → p (get_or xs i d) ≡ false) → find p (take n xs) ≡ None
+passed-all p xs d zero b f = refl
+passed-all p xs d (suc n) b f =
+    let before = passed-all p xs d n (omega arith) (λ i c. f i (omega arith)) in
+    let g = find-passed p xs n d (omega arith) before (f n (omega arith)) in
+    let e : n + 1 ≡ suc n = omega arith in
+    rw e at g
 
--- elements that another test needs are enough to look at
-pub find-filter : {X : Type 0} (p q : X → Bool) (xs : List X) → ((x : X) → p x ≡ true → q x ≡ true)
-    → find p (filter q xs) ≡ find p xs
-find-filter p q [] n = refl
-find-filter p q (x ∷ xs) n = elim (q x) as (λ v. q x ≡ v
-    → find p (filter q (x ∷ xs)) ≡ find p (x ∷ xs)) [
-      | true ↦ λ e. rw (e, find-filter p q xs n) refl
-      | false ↦ λ e.
-          let other : p x ≡ false = elim (p x) as (λ v. p x ≡ v → v ≡ false) [
-            | true ↦ λ t. absurd (let w = n x t in cc)
-            | false ↦ λ t. refl
-          ] refl in
-          rw (e, other) (find-filter p q xs n)
+-- whether an element is found
+pub is_some-find : {X : Type 0} (p : X → Bool) (xs : List X) → is_some (find p xs) ≡ list_any p xs
+is_some-find p [] = refl
+is_some-find p (x ∷ xs) = elim (p x) as (λ v. p x ≡ v
+    → is_some (find p (x ∷ xs)) ≡ list_any p (x ∷ xs)) [
+      | true ↦ λ t. rw t refl
+      | false ↦ λ f. rw f (is_some-find p xs)
     ] refl
-
--- whether there is such an element
-pub list_any-no : {X : Type 0} (q : X → Bool) (xs : List X) → length (filter q xs) ≡ 0
-    → list_any q xs ≡ false
-list_any-no q [] e = refl
-list_any-no q (x ∷ xs) e = elim (q x) as (λ v. q x ≡ v → list_any q (x ∷ xs) ≡ false) [
-  | true ↦ λ t. absurd (let h = rw t at e in omega (arith, h))
-  | false ↦ λ t. rw t (list_any-no q xs (rw t at e))
-] refl
-
-pub list_any-some : {X : Type 0} (q : X → Bool) (xs : List X) → length (filter q xs) ≢ 0
-    → list_any q xs ≡ true
-list_any-some q [] e = absurd (e refl)
-list_any-some q (x ∷ xs) e = elim (q x) as (λ v. q x ≡ v → list_any q (x ∷ xs) ≡ true) [
-  | true ↦ λ t. rw t refl
-  | false ↦ λ t. rw t (list_any-some q xs (rw t at e))
-] refl

@@ -6,6 +6,7 @@ pub mod GroupedFacts
 pub mod IdsFacts
 pub mod Numbers
 pub mod Orders
+pub mod PairsFacts
 pub mod RowsFacts
 pub mod TurnsFacts
 pub mod ZonesFacts

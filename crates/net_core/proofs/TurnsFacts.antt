@@ -1,5 +1,5 @@
 -- Which turns are allowed, and what they cost.
-use Rattle.std.proofs.Common.{◌≡◌, ◌≢◌, ℕ, zero, suc, ◌+◌, ◌<◌, ◌≤◌, List, [], ◌∷◌, length, refl, ap, sym, ◌∙◌, arith, rules, take, get_or, Bool, true, false, nat_eq}
+use Rattle.std.proofs.Common.{◌≡◌, ◌≢◌, ℕ, ◌<◌, List, length, refl, ap, sym, ◌∙◌, arith, rules, take, get_or, Bool, true, false, nat_eq}
 use Rattle.std.specs.Prelude.{◌↔◌, Option, None, Some, Any, find, is_some}
 use Rattle.std.specs.List.{IsDistinct, list_any}
 use Rattle.std.proofs.lemmas.List.{get_or-map, length-map}
@@ -14,7 +14,7 @@ use Rattle.net_core.specs.Turns.{IsAllowed, ListedTurnsCostTheirRows, OtherTurns
 use Rattle.net_core.specs.declared.rows.NetRows.{NetRows}
 use Rattle.net_core.specs.declared.rows.NodeNo.{NodeNo}
 use Rattle.net_core.specs.declared.rows.TurnRow.{TurnRow}
-use Rattle.net_core.proofs.FindFacts.{find-first, find-passed}
+use Rattle.net_core.proofs.FindFacts.{find-first, is_some-find, passed-all}
 use Rattle.net_core.proofs.ZonesFacts.{is_some-None}
 
 abbrev numbered : ℕ → NodeNo
@@ -23,14 +23,6 @@ numbered n = record { 0 = n }
 any-some : {X : Type 0} (P Q : X → Type 0) (xs : List X) → ((x : X) → P x → Q x)
     → Any P xs → Any Q xs
 any-some P Q xs f a = (a.0, a.1, a.2, a.3, f a.1 a.4)
-
-is_some-find : {X : Type 0} (p : X → Bool) (xs : List X) → is_some (find p xs) ≡ list_any p xs
-is_some-find p [] = refl
-is_some-find p (x ∷ xs) = elim (p x) as (λ v. p x ≡ v
-    → is_some (find p (x ∷ xs)) ≡ list_any p (x ∷ xs)) [
-      | true ↦ λ t. rw t refl
-      | false ↦ λ f. rw f (is_some-find p xs)
-    ] refl
 
 is_some-as_turn : (o : Option TurnRow) → is_some (as_turn o) ≡ is_some o
 is_some-as_turn None = refl
@@ -142,17 +134,21 @@ turn-met net a b n here there =
     let m : nat_eq (link_at net b).from.0 (link_at net a).to.0 ≡ true = rw (here, there) (search rules) in
     rw (m, here) refl
 
-passed-all : {X : Type 0} (p : X → Bool) (xs : List X) (d : X) (n : ℕ) → n ≤ length xs
-    → ((i : ℕ) → i < n → p (get_or xs i d) ≡ false) → find p (take n xs) ≡ None
-passed-all p xs d zero b f = refl
-passed-all p xs d (suc n) b f =
-    let before = passed-all p xs d n (omega arith) (λ i c. f i (omega arith)) in
-    let g = find-passed p xs n d (omega arith) before (f n (omega arith)) in
-    let e : n + 1 ≡ suc n = omega arith in
-    rw e at g
-
-abbrev pair_of : TurnRow → ℕ × ℕ
+abbrev pub pair_of : TurnRow → ℕ × ℕ
 pair_of row = (row.a.0, row.b.0)
+
+-- no row before is of its pair
+pub find-before : (turns : List TurnRow) (k : ℕ) (d : TurnRow) → k < length turns
+    → IsDistinct pair_eq (turn_pairs turns)
+    → find (is_from_to (get_or turns k d).a.0 (get_or turns k d).b.0) (take k turns) ≡ None
+find-before turns k d b apart =
+    let row = get_or turns k d in
+    let size : length (turn_pairs turns) ≡ length turns = length-map turns pair_of in
+    let this = get_or-map pair_of turns k d (0, 0) b in
+    passed-all (is_from_to row.a.0 row.b.0) turns d k (omega arith) (λ i c.
+    let differ = apart_from_distinct pair_eq (turn_pairs turns) i k (0, 0) apart c (rw size b) in
+    let other = get_or-map pair_of turns i d (0, 0) (omega arith) in
+    rw (other, this) at differ)
 
 -- a row is the first of its pair
 find-row : (turns : List TurnRow) (k : ℕ) (d : TurnRow) → k < length turns
@@ -160,14 +156,7 @@ find-row : (turns : List TurnRow) (k : ℕ) (d : TurnRow) → k < length turns
     → find (is_from_to (get_or turns k d).a.0 (get_or turns k d).b.0) turns ≡ Some (get_or turns k d)
 find-row turns k d b apart =
     let row = get_or turns k d in
-    let size : length (turn_pairs turns) ≡ length turns = length-map turns pair_of in
-    let this = get_or-map pair_of turns k d (0, 0) b in
-    find-first (is_from_to row.a.0 row.b.0) turns k d b
-    (passed-all (is_from_to row.a.0 row.b.0) turns d k (omega arith) (λ i c.
-    let differ = apart_from_distinct pair_eq (turn_pairs turns) i k (0, 0) apart c (rw size b) in
-    let other = get_or-map pair_of turns i d (0, 0) (omega arith) in
-    rw (other, this) at differ))
-    (search rules)
+    find-first (is_from_to row.a.0 row.b.0) turns k d b (find-before turns k d b apart) (search rules)
 
 pub listed-cost : ListedTurnsCostTheirRows
 unfolding turn turn_at is_named

@@ -1,5 +1,6 @@
 -- Links and turns by their nodes.
-use Rattle.std.specs.Prelude.{ℕ, ◌&&◌, Bool, List, length, nat_eq}
+use Rattle.std.specs.Prelude.{ℕ, ◌≡◌, ◌<◌, ◌&&◌, Bool, false, List, length, nat_eq, get_or}
+use Rattle.std.specs.List.{list_any}
 use Rattle.net_core.specs.Network.{as_links, numbers_below}
 use Rattle.net_core.specs.Rows.{link_in}
 use Rattle.net_core.specs.declared.rows.LinkNo.{LinkNo}
@@ -24,3 +25,10 @@ node_of links turn = end_of links turn.a
 -- whether a listed turn is from a link to another
 abbrev pub is_from_to : ℕ → ℕ → TurnRow → Bool
 is_from_to a b turn = nat_eq turn.a.0 a && nat_eq turn.b.0 b
+
+-- for each node whether some listed turn is there
+pub record AreNamed (named : List Bool) (count : ℕ) (node : TurnRow → ℕ) (turns : List TurnRow)
+    : Type 0 where
+  pub counted : length named ≡ count
+  pub told : (n : ℕ) → n < count
+      → get_or named n false ≡ list_any (λ turn. nat_eq (node turn) n) turns

@@ -1,8 +1,10 @@
--- What a network keeps beside its rows: links and turns by node, and zones.
+-- What a network keeps beside its rows: links by node, the nodes of turns, the
+-- places of turns, and zones.
 use Rattle.std.specs.Prelude.{◌≡◌, ◌≤◌, length}
 use Rattle.net_core.specs.Grouped.{Grouped}
-use Rattle.net_core.specs.ByNode.{all_links, end_of, start_of, node_of}
+use Rattle.net_core.specs.ByNode.{AreNamed, all_links, end_of, start_of, node_of}
 use Rattle.net_core.specs.Network.{IsNet, zones}
+use Rattle.net_core.specs.Rows.{turn_pairs}
 use Rattle.net_core.specs.declared.net.Net.TheInside.{Inside}
 use Rattle.net_core.specs.declared.rows.NetRows.{NetRows}
 
@@ -16,7 +18,8 @@ pub record IsIndexed (net : Inside) : Type 0 where
   pub outs :
       Grouped net.outs (length net.nodes.items) (start_of net.links.items)
       (all_links net.links.items)
-  pub listed :
-      Grouped net.listed (length net.nodes.items) (node_of net.links.items) net.turns.items
+  pub named :
+      AreNamed net.named.items (length net.nodes.items) (node_of net.links.items) net.turns.items
+  pub pairs : net.pairs ≡ turn_pairs net.turns.items
   pub zones : net.zones ≡ zones net.nodes.items
   pub few : length net.zones ≤ length net.nodes.items

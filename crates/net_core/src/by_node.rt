@@ -1,10 +1,13 @@
 // Links and turns by their nodes.
 ghost use Rattle.std.specs.Prelude.{◌≡◌, ◌<◌, ◌≤◌, length, All, IfOk};
 ghost use Rattle.net_core.specs.Grouped.{Grouped};
-ghost use Rattle.net_core.specs.ByNode.{all_links, end_of, start_of, node_of};
-ghost use Rattle.net_core.specs.Rows.{IsBetween, IsTurning, link_in};
+ghost use Rattle.std.specs.List.{IsDistinct};
+ghost use Rattle.net_core.specs.ByNode.{AreNamed, all_links, end_of, start_of, node_of};
+ghost use Rattle.net_core.specs.Ids.{pair_eq};
+ghost use Rattle.net_core.specs.Rows.{IsBetween, IsTurning, link_in, turn_pairs};
 
 use crate::groups::Groups;
+use crate::ids::Pairs;
 use crate::rows::{LinkNo, LinkRow, MOST_LINKS, NodeRow, TurnRow};
 use std::alloc::{AllocError, Global};
 
@@ -39,23 +42,35 @@ pub(crate) fn link_lists(
     Ok(LinkLists { ins, outs })
 }
 
-/// The listed turns at each node, in the order of their table.
-pub(crate) fn listed_turns(
+/// Whether some turn is listed at each node.
+pub(crate) fn named_nodes(
     alloc: Global,
     nodes: &[NodeRow],
     links: &[LinkRow],
     turns: &[TurnRow],
-) -> Result<Groups<TurnRow>, AllocError>
+) -> Result<Vec<bool>, AllocError>
     requires between { All (IsBetween nodes.now) links.now }
     requires turning { All (IsTurning links.now) turns.now }
-    ensures { IfOk result (λ lists.
-        Grouped lists (length nodes.now) (node_of links.now) turns.now) }
+    ensures { IfOk result (λ named.
+        AreNamed named.items (length nodes.now) (node_of links.now) turns.now) }
 {
-    let mut lists = Groups::new(alloc, nodes.len())?;
+    let mut named = vec![in alloc; false; nodes.len()]?;
     for turn in turns {
-        lists.push(row(links, turn.a).to.0 as usize, *turn)?;
+        named[row(links, turn.a).to.0 as usize] = true;
     }
-    Ok(lists)
+    Ok(named)
+}
+
+/// The links from and to which the listed turns are, in the order of their table.
+pub(crate) fn pairs_of(alloc: Global, turns: &[TurnRow]) -> Result<Pairs, AllocError>
+    requires { IsDistinct pair_eq (turn_pairs turns.now) }
+    ensures { IfOk result (λ pairs. pairs ≡ turn_pairs turns.now) }
+{
+    let mut pairs = Pairs::new(alloc);
+    for turn in turns {
+        pairs.add(turn.a.0, turn.b.0)?;
+    }
+    Ok(pairs)
 }
 
 /// The row of a link.

@@ -9,9 +9,9 @@ ghost use Rattle.net_core.specs.Network.{turn as turn_between, turn_at as turn_f
 ghost use Rattle.net_core.specs.Network.{is_named as is_named_at};
 ghost use Rattle.net_core.specs.Turns.{IsAllowed};
 
-use crate::by_node::{link_lists, listed_turns, row};
+use crate::by_node::{link_lists, named_nodes, pairs_of, row};
 use crate::groups::Groups;
-use crate::ids::Ids;
+use crate::ids::{Ids, Pairs};
 use crate::rows::{LinkNo, LinkRow, NodeNo, NodeRow, Turn, TurnRow, ZoneNo};
 use crate::zones::zones_of;
 use std::alloc::{AllocError, Global};
@@ -34,7 +34,8 @@ pub struct Net {
     turns: Vec<TurnRow>,
     ins: Groups<LinkNo>,
     outs: Groups<LinkNo>,
-    listed: Groups<TurnRow>,
+    named: Vec<bool>,
+    pairs: Pairs,
     zones: Ids,
 }
 
@@ -66,7 +67,8 @@ impl Net {
             net ≡ record { nodes = nodes.items; links = links.items; turns = turns.items }) }
     {
         let lists = link_lists(alloc, &nodes, &links)?;
-        let listed = listed_turns(alloc, &nodes, &links, &turns)?;
+        let named = named_nodes(alloc, &nodes, &links, &turns)?;
+        let pairs = pairs_of(alloc, &turns)?;
         let zones = zones_of(alloc, &nodes)?;
         Ok(Net {
             nodes,
@@ -74,7 +76,8 @@ impl Net {
             turns,
             ins: lists.ins,
             outs: lists.outs,
-            listed,
+            named,
+            pairs,
             zones,
         })
     }
@@ -190,7 +193,7 @@ impl Net {
         requires { node.0 < length self.now.nodes }
         ensures { result ≡ is_named_at self.now node.0 }
     {
-        !self.listed.get(node.0 as usize).is_empty()
+        self.named[node.0 as usize]
     }
 
     // The turn between two links that meet at a node.
@@ -199,34 +202,26 @@ impl Net {
         requires within { node.0 < length self.now.nodes }
         ensures { result ≡ turn_found self.now node.0 a.0 b.0 }
     {
-        let listed = self.listed.get(node.0 as usize);
-        if listed.is_empty() {
-            Some(FREE)
+        if self.named[node.0 as usize] {
+            self.listed_turn(a, b)
         } else {
-            turn_among(listed, a, b)
+            Some(FREE)
         }
     }
-}
 
-// The first of these turns that is from a link to another.
-#[tactic(auto, using(crate::proofs::FindFacts::finding))]
-fn turn_among(listed: &[TurnRow], a: LinkNo, b: LinkNo) -> Option<Turn>
-    ensures { result ≡ as_turn (find (is_from_to a.0 b.0) listed.now) }
-{
-    for turn in listed {
-        if is_turn(turn, a, b) {
-            return Some(Turn {
-                penalty: turn.penalty,
-                rate: turn.rate,
-            });
+    // The listed turn from a link to another.
+    fn listed_turn(&self, a: LinkNo, b: LinkNo) -> Option<Turn>
+        ensures { result ≡ as_turn (find (is_from_to a.0 b.0) self.now.turns) }
+    {
+        match self.pairs.place(a.0, b.0) {
+            Some(place) => {
+                let row = self.turns[place];
+                Some(Turn {
+                    penalty: row.penalty,
+                    rate: row.rate,
+                })
+            }
+            None => None,
         }
     }
-    None
-}
-
-// Whether a turn is from a link to another.
-fn is_turn(turn: &TurnRow, a: LinkNo, b: LinkNo) -> bool
-    ensures { result ≡ is_from_to a.0 b.0 turn.now }
-{
-    turn.a == a && turn.b == b
 }

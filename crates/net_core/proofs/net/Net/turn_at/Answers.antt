@@ -1,25 +1,23 @@
-use Rattle.std.proofs.Common.{◌≡◌, ◌≢◌, ◌<◌, ap, arith, length, sym, ◌∙◌, subst}
-use Rattle.std.proofs.lemmas.Grind.{common_steps}
+use Rattle.std.proofs.Common.{◌≡◌, ◌<◌, ◌∙◌, length, sym, subst, true, false}
 use Rattle.net_core.specs.NetInside.{rows_of}
-use Rattle.net_core.specs.Network.{link_at}
+use Rattle.net_core.specs.Network.{is_named}
 use Rattle.net_core.specs.declared.rows.NetRows.{NetRows}
-use Rattle.net_core.proofs.ByNodeFacts.{turn_at-free, turn_at-listed}
+use Rattle.net_core.proofs.ByNodeFacts.{named-told, turn_at-free, turn_at-listed}
 use Rattle.net_core.proofs.net.Net.turn_at.Goals as goal
 
-pub returns-then-is_empty : goal.returns-then-is_empty
-returns-then-is_empty c =
+pub returns-then-index : goal.returns-then-index
+returns-then-index c =
     let net = rows_of c.self.inside in
-    let within : c.args.node.0 < length net.nodes = subst (λ (rows : NetRows). c.args.node.0 < length rows.nodes) (sym c.self.view_is) c.requires.within in
-    let here : (link_at net c.args.a.0).to.0 ≡ c.args.node.0 = subst (λ (rows : NetRows). (link_at rows c.args.a.0).to.0 ≡ c.args.node.0) (sym c.self.view_is) (ap (λ node. node.0) c.requires.here) in
-    let are = sym c.get-listed.ensures ∙ c.self.invariant.listed.grouped c.args.node.0 within in
-    let none : length c.get-listed.result.now ≡ 0 = grind (arith, common_steps, c.is_empty.ensures, c.if-is_empty.true) in
-    rw (← c.self.view_is) (sym (turn_at-free net c.args.node.0 c.args.a.0 c.args.b.0 c.get-listed.result.now here are none))
+    let n = c.args.node.0 in
+    let within : n < length net.nodes = subst (λ (rows : NetRows). n < length rows.nodes) (sym c.self.view_is) c.requires.within in
+    let named : is_named net n ≡ true = sym (named-told net c.self.inside.named.items n c.index.result.now within c.self.invariant.named) ∙ sym c.index.ensures ∙ c.if-index.true in
+    c.listed_turn.ensures
+    ∙ rw (← c.self.view_is) (sym (turn_at-listed net n c.args.a.0 c.args.b.0 named))
 
-pub returns-else-is_empty : goal.returns-else-is_empty
-returns-else-is_empty c =
+pub returns-else-index : goal.returns-else-index
+returns-else-index c =
     let net = rows_of c.self.inside in
-    let within : c.args.node.0 < length net.nodes = subst (λ (rows : NetRows). c.args.node.0 < length rows.nodes) (sym c.self.view_is) c.requires.within in
-    let here : (link_at net c.args.a.0).to.0 ≡ c.args.node.0 = subst (λ (rows : NetRows). (link_at rows c.args.a.0).to.0 ≡ c.args.node.0) (sym c.self.view_is) (ap (λ node. node.0) c.requires.here) in
-    let are = sym c.get-listed.ensures ∙ c.self.invariant.listed.grouped c.args.node.0 within in
-    let some : length c.get-listed.result.now ≢ 0 = grind (arith, common_steps, c.is_empty.ensures, c.if-is_empty.false) in
-    rw (← c.self.view_is) (sym (turn_at-listed net c.args.node.0 c.args.a.0 c.args.b.0 c.get-listed.result.now here are some ∙ sym c.turn_among.ensures))
+    let n = c.args.node.0 in
+    let within : n < length net.nodes = subst (λ (rows : NetRows). n < length rows.nodes) (sym c.self.view_is) c.requires.within in
+    let named : is_named net n ≡ false = sym (named-told net c.self.inside.named.items n c.index.result.now within c.self.invariant.named) ∙ sym c.index.ensures ∙ c.if-index.false in
+    rw (← c.self.view_is) (sym (turn_at-free net n c.args.a.0 c.args.b.0 named))
