@@ -1,33 +1,14 @@
--- A pass at work, and the pass of a crew when its work is done.
-use Rattle.std.specs.Prelude.{◌≡◌, ℕ, ◌+◌, Option, Some, None}
-use Rattle.dta_model.specs.declared.machine.Stage.TheVariants as stage
-use Rattle.phase_claims.specs.Passes.{FloorState, IsOf, PassState}
-use Rattle.phase_claims.specs.declared.view.View.{View}
-
--- as many passes are joined in it, and can still be split off
-pub record HasSameRights (old new : View) : Type 0 where
-  pub weight : new.weight ≡ old.weight
-  pub spare : new.spare ≡ old.spare
+-- The pass of a crew, lent in an option.
+use Rattle.std.specs.Prelude.{ℕ, Option, Some, None}
+use Rattle.phase_claims.specs.Crews.{HasEnded, IsReady}
+use Rattle.phase_claims.specs.Passes.{FloorState, PassState}
 
 -- a pass for a crew of n, of a worker for each pass that can be split off, and one more
-pub record IsReady (f : FloorState) (n : ℕ) (p : PassState) : Type 0 where
-  pub own : IsOf f p
-  pub idle : p.view.stage ≡ stage.Idle
-  pub weight : p.view.weight ≡ 1
-  pub spare : p.view.spare + 1 ≡ n
-
--- the pass of a crew of n, for which no unit is left
-pub record HasEnded (f : FloorState) (n : ℕ) (p : PassState) : Type 0 where
-  pub own : IsOf f p
-  pub ended : p.view.stage ≡ stage.Ended
-  pub weight : p.view.weight ≡ n
-  pub spare : p.view.spare ≡ 0
-
--- the same of a pass that is lent in an option
 abbrev pub IsCrewReady : FloorState → ℕ → Option PassState → Type 0
 IsCrewReady f n (Some p) = IsReady f n p
 IsCrewReady f n None = ⊥
 
+-- the pass of a crew of n, for which no unit is left
 abbrev pub HasCrewEnded : FloorState → ℕ → Option PassState → Type 0
 HasCrewEnded f n (Some p) = HasEnded f n p
 HasCrewEnded f n None = ⊥

@@ -2,7 +2,8 @@
 ghost use Rattle.std.specs.Prelude.{◌≡◌, ◌<◌, ◌≤◌, ◌+◌, ◌-◌};
 ghost use Rattle.std.specs.Thread.{IsSync};
 ghost use Rattle.desk_io.specs.State.{DeskState, state_of};
-ghost use Rattle.loader.specs.Crews.{HasCrewEnded, HasEnded, HasSameRights, IsCrewReady, IsReady};
+ghost use Rattle.loader.specs.Crews.{HasCrewEnded, IsCrewReady};
+ghost use Rattle.phase_claims.specs.Crews.{HasEnded, HasSameRights, IsReady};
 ghost use Rattle.loader.specs.Watching.{HasWatched, IsSameWatch};
 ghost use Rattle.loader.specs.declared.loading.TheConstants.{MOST_WORKERS};
 ghost use Rattle.phase_claims.specs.Passes.{IsOf, unit_at};

@@ -4,6 +4,7 @@ pub mod Running
 pub mod Laws
 pub mod Plays
 pub mod Passes
+pub mod Crews
 pub mod Floors
 pub mod Resting
 pub mod PlacesHeld

@@ -1,6 +1,7 @@
 // What a pass does in the tests.
 ghost use Rattle.phase_claims.specs.Passes.{IsOf, unit_at};
-ghost use Rattle.phase_claims.specs.Tried.{HasEnded, HasSameRights, HasWorked, IsReady};
+ghost use Rattle.phase_claims.specs.Crews.{HasEnded, HasSameRights, IsReady};
+ghost use Rattle.phase_claims.specs.Tried.{HasWorked};
 ghost use Rattle.phase_claims.specs.Views.{done_with};
 ghost use Rattle.std.specs.Prelude.{◌≡◌};
 

@@ -1,7 +1,7 @@
 // A floor with four passes, each in a thread of its own.
 ghost use Rattle.dta_model.specs.Lent.{plan_of};
 ghost use Rattle.dta_model.specs.Sound.{IsSound};
-ghost use Rattle.phase_claims.specs.Tried.{HasEnded, IsReady};
+ghost use Rattle.phase_claims.specs.Crews.{HasEnded, IsReady};
 ghost use Rattle.std.specs.Prelude.{◌≡◌, []};
 ghost use Rattle.std.specs.Thread.{IsSync};
 

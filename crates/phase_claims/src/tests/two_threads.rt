@@ -1,7 +1,8 @@
 // A floor with two passes, each in a thread of its own.
 ghost use Rattle.dta_model.specs.Lent.{plan_of};
 ghost use Rattle.dta_model.specs.Sound.{IsSound};
-ghost use Rattle.phase_claims.specs.Tried.{HasWorked, IsReady};
+ghost use Rattle.phase_claims.specs.Crews.{IsReady};
+ghost use Rattle.phase_claims.specs.Tried.{HasWorked};
 ghost use Rattle.std.specs.Prelude.{◌≡◌, []};
 ghost use Rattle.std.specs.Thread.{IsSync};
 

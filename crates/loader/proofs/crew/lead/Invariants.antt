@@ -1,6 +1,6 @@
 use Rattle.std.proofs.Common.{◌≡◌}
 use Rattle.desk_io.specs.State.{DeskState, state_of}
-use Rattle.loader.specs.Crews.{IsReady}
+use Rattle.phase_claims.specs.Crews.{IsReady}
 use Rattle.loader.specs.Watching.{HasWatched, IsSameWatch}
 use Rattle.loader.proofs.crew.lead.Given as goal
 

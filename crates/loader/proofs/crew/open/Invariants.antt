@@ -1,7 +1,7 @@
 use Rattle.std.proofs.Common.{◌≡◌}
 use Rattle.dta_model.specs.declared.machine.Stage.TheVariants as stage
 use Rattle.phase_claims.specs.Passes.{IsOf}
-use Rattle.loader.specs.Crews.{HasSameRights}
+use Rattle.phase_claims.specs.Crews.{HasSameRights}
 use Rattle.loader.proofs.crew.open.Given as goal
 
 abbrev pub invariant-loop : goal.invariant-loop

@@ -1,4 +1,4 @@
-use Rattle.loader.specs.Crews.{IsReady}
+use Rattle.phase_claims.specs.Crews.{IsReady}
 use Rattle.loader.proofs.crew.work.Given as goal
 
 abbrev pub invariant-loop : goal.invariant-loop

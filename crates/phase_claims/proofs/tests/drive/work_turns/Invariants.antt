@@ -1,4 +1,4 @@
-use Rattle.phase_claims.specs.Tried.{IsReady}
+use Rattle.phase_claims.specs.Crews.{IsReady}
 use Rattle.phase_claims.proofs.tests.drive.work_turns.Given as goal
 
 abbrev pub invariant-loop : goal.invariant-loop
