@@ -7,8 +7,8 @@
 //! the gap of the iteration with the same labels.
 //!
 //! Destinations are worked in shares side by side, at most four and at most as many as there are
-//! workers, in threads where they can be made. In a share they are worked up to four at once; the
-//! labels of four are freed before the next are made. A destination to which no selected vehicle
+//! workers, in threads where they can be made. In a share they are worked up to four at once, and
+//! the labels of four take the place of those before. A destination to which no selected vehicle
 //! goes has none.
 #![tactic(auto)]
 

@@ -2,6 +2,7 @@
 pub mod AnswerFacts
 pub mod Bridges
 pub mod Chosens
+pub mod FirstFacts
 pub mod GroupFacts
 pub mod Joined
 pub mod LabelFacts

@@ -1,6 +1,7 @@
 -- What labels are of: a network, a table of link times, and zones by their numbers; and what they
 -- tell.
-use Rattle.std.specs.Prelude.{ℕ, List, map, slice_index, Option, MatchOption}
+use Rattle.std.specs.Prelude.{◌≡◌, ◌≤◌, ℕ, List, length, map, slice_index, take, Option}
+use Rattle.std.specs.Prelude.{MatchOption}
 use Rattle.net_core.specs.declared.rows.NetRows.{NetRows}
 use Rattle.net_core.specs.declared.rows.LinkNo.{LinkNo}
 use Rattle.net_core.specs.declared.rows.ZoneNo.{ZoneNo}
@@ -24,6 +25,15 @@ pub record ToZones : Type 0 where
 -- zones as numbers
 abbrev pub zone_numbers : List ZoneNo → List ℕ
 zone_numbers zones = map (λ z. z.0) zones
+
+-- labels of so many of the first of some zones
+pub record AreOfFirst (rows : NetRows) (table : TimeTable) (zones : List ZoneNo) (group : ToZones)
+    : Type 0 where
+  pub net : group.net ≡ rows
+  pub times : group.times ≡ table
+  pub some : 1 ≤ length group.zones
+  pub few : length group.zones ≤ length zones
+  pub first : group.zones ≡ zone_numbers (take (length group.zones) zones)
 
 -- the identifier of the zone at a place of the group
 abbrev pub destination : ToZones → ℕ → ℕ

@@ -6,6 +6,7 @@ pub(crate) mod label_table;
 pub(crate) mod narrow_rows;
 pub(crate) mod no_walk;
 pub(crate) mod slot_fill;
+pub(crate) mod spare;
 pub(crate) mod table_forms;
 pub(crate) mod wide_fill;
 pub(crate) mod wide_rows;

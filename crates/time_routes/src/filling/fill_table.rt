@@ -10,6 +10,7 @@ ghost use Rattle.time_routes.specs.declared.reading.group_labels.TheConstants.{M
 
 use crate::filling::label_table::LabelTable;
 use crate::filling::narrow_rows::narrow_rows;
+use crate::filling::spare::Spare;
 use crate::filling::table_forms::{NarrowTable, WideTable};
 use crate::filling::wide_rows::wide_rows;
 use crate::states::router::Router;
@@ -17,13 +18,15 @@ use link_times::LinkTimes;
 use net_core::{Memory, ZoneNo};
 use std::alloc::Global;
 
-/// What is left to each zone of a group over a table of link times.
+/// What is left to each zone of a group over a table of link times, where it serves in the memory
+/// of labels that are read no more.
 pub(crate) fn table_of(
     alloc: Global,
     router: &Router,
     times: &LinkTimes,
     links: u32,
     zones: &[ZoneNo],
+    spare: Spare,
 ) -> Result<LabelTable, Memory>
     requires links { links ≡ length times.now.free }
     requires states { length router.now.states.items ≡ length times.now.free }
@@ -34,9 +37,10 @@ pub(crate) fn table_of(
         (zone_numbers zones.now)) }
     ensures sound { IsTimeTable times.now }
 {
+    let Spare { labels: room } = spare;
     let states = router.state_count();
     let horizon = times.horizon();
-    if let Some(labels) = narrow_rows(alloc, router, times, links, zones)? {
+    if let Some(labels) = narrow_rows(alloc, router, times, links, zones, room)? {
         return Ok(LabelTable::Narrow(NarrowTable {
             states,
             horizon,

@@ -6,7 +6,9 @@ ghost use Rattle.time_routes.specs.Filling.SlotRows.{slot_rest};
 ghost use Rattle.time_routes.specs.Filling.Narrow.{widened};
 
 use crate::filling::no_walk::{FAR, NARROW_FAR};
+use crate::filling::spare::Spare;
 use crate::filling::table_forms::{NarrowTable, WideTable};
+use std::alloc::Global;
 
 /// The steps that are left to each zone of a group, in the narrower form that serves.
 #[derive(Drop)]
@@ -85,6 +87,16 @@ fn place_at(rows: &WideTable, place: usize, state: u32, step: u64) -> u64
     )
 }
 
+// The memory of a table in 32 bits.
+fn spare_of(table: NarrowTable) -> Spare {
+    let NarrowTable {
+        states: _,
+        horizon: _,
+        labels,
+    } = table;
+    Spare { labels }
+}
+
 impl LabelTable {
     ghost use Rattle.time_routes.specs.Filling.Tables.{places, rests, states_in};
 
@@ -98,6 +110,14 @@ impl LabelTable {
         match self {
             LabelTable::Narrow(slots) => slot_at(slots, place, state, step),
             LabelTable::Wide(rows) => place_at(rows, place, state, step),
+        }
+    }
+
+    /// Its memory, where that is of 32 bits.
+    pub(crate) fn into_spare(self, alloc: Global) -> Spare {
+        match self {
+            LabelTable::Narrow(slots) => spare_of(slots),
+            LabelTable::Wide(_) => Spare::none(alloc),
         }
     }
 }

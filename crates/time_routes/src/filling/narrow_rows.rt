@@ -128,6 +128,18 @@ struct Begun {
     most: u64,
 }
 
+// So many labels: those that are there, or new ones.
+fn room_for(alloc: Global, room: Vec<u32>, count: usize) -> Result<Vec<u32>, Memory>
+    requires { All (λ x. x ≤ narrow_far) room.items }
+    ensures many { IfOk result (λ labels. length labels.items ≡ count) }
+    ensures low { IfOk result (λ labels. All (λ x. x ≤ narrow_far) labels.items) }
+{
+    if room.len() == count {
+        return Ok(room);
+    }
+    Ok(Vec::from_elem(alloc, NARROW_FAR, count)?)
+}
+
 // Rows of four slots, with the tail of each zone in the first.
 fn begun_of(
     alloc: Global,
@@ -135,11 +147,13 @@ fn begun_of(
     times: &LinkTimes,
     links: u32,
     zones: &[ZoneNo],
+    room: Vec<u32>,
 ) -> Result<Begun, Memory>
     requires links { links ≡ length times.now.free }
     requires states { length router.now.states.items ≡ length times.now.free }
     requires few_states { length router.now.zones.items ≤ MOST_LINKS }
     requires few { length zones.now ≤ MOST_GROUP }
+    requires room { All (λ x. x ≤ narrow_far) room.items }
     ensures rows { IfOk result (λ begun. length begun.labels.items
         ≡ (times.now.horizon + 1) * (length router.now.zones.items * 4)) }
     ensures low { IfOk result (λ begun. All (λ x. x ≤ narrow_far) begun.labels.items) }
@@ -149,7 +163,7 @@ fn begun_of(
 {
     let free = free_steps(alloc, times, links)?;
     let rows = times.horizon() as usize + 1;
-    let mut labels = Vec::from_elem(alloc, NARROW_FAR, rows * (router.state_count() * 4))?;
+    let mut labels = room_for(alloc, room, rows * (router.state_count() * 4))?;
     let most = put_tails(alloc, labels.as_mut_slice(), router, free.as_slice(), zones)?;
     Ok(Begun { labels, most })
 }
@@ -190,20 +204,22 @@ fn filled_over(
     Ok(labels)
 }
 
-/// What is left to each zone of a group over a table of link times, in 32 bits. None where that may
-/// take more.
+/// What is left to each zone of a group over a table of link times, in 32 bits, over labels that
+/// are read no more where they are as many. None where it may take more.
 pub(crate) fn narrow_rows(
     alloc: Global,
     router: &Router,
     times: &LinkTimes,
     links: u32,
     zones: &[ZoneNo],
+    room: Vec<u32>,
 ) -> Result<Option<Vec<u32>>, Memory>
     requires links { links ≡ length times.now.free }
     requires states { length router.now.states.items ≡ length times.now.free }
     requires few_states { length router.now.zones.items ≤ MOST_LINKS }
     requires few { length zones.now ≤ MOST_GROUP }
     requires zones { All (λ z. z.0 < NO_ZONE) zones.now }
+    requires room { All (λ x. x ≤ narrow_far) room.items }
     ensures many { IfOk result (λ told. IfSome told
         (λ labels. length labels.items ≡ (times.now.horizon + 1) *
         (length router.now.zones.items * 4))) }
@@ -216,7 +232,7 @@ pub(crate) fn narrow_rows(
     let horizon = times.horizon();
     let wait = most_wait(router);
     let longest = wait as u64 + most_time(times, links) as u64;
-    let begun = begun_of(alloc, router, times, links, zones)?;
+    let begun = begun_of(alloc, router, times, links, zones, room)?;
     if horizon as u64 + 2 * longest + begun.most >= NARROW_FAR as u64 {
         return Ok(None);
     }

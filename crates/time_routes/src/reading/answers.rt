@@ -6,9 +6,11 @@ ghost use Rattle.dta_model.specs.LinkTimes.{time_at};
 ghost use Rattle.time_routes.specs.Destinations.{asks_least, asks_walk, IsRight, LeastOf, WalkOf};
 ghost use Rattle.time_routes.specs.Reading.Answers.{AnswersMore, AreAnswers, IsAnswer};
 ghost use Rattle.time_routes.specs.Reading.Tell.{LeadsTo, LeadsToFirst, Stands, wanted_zone};
+ghost use Rattle.time_routes.specs.ToZone.{zone_numbers};
 ghost use Rattle.time_routes.specs.declared.states.zone_numbers.TheConstants.{NO_ZONE};
 
-use crate::reading::group_labels::{GroupLabels, MOST_GROUP};
+use crate::filling::spare::Spare;
+use crate::reading::group_labels::GroupLabels;
 use crate::reading::tell::Ask;
 use crate::states::by_zone::ByZone;
 use dta_model::{Route, Trip};
@@ -170,36 +172,34 @@ fn answer_vehicles(
 fn answer_group(
     alloc: Global,
     net: &Net,
-    times: &LinkTimes,
+    labels: &GroupLabels,
     trips: &[Trip],
     asks: &[Ask],
     lists: &ByZone,
     zones: &[ZoneNo],
     answers: &mut Vec<Answer>,
 ) -> Result<(), Memory>
-    requires table { length times.now.free ≡ length net.now.links }
+    requires net { labels.now.net ≡ net.now }
+    requires of { labels.now.zones ≡ zone_numbers zones.now }
     requires apart { All (λ trip. trip.origin ≢ trip.destination) trips.now }
     requires asks { length asks.now ≡ length trips.now }
     requires lists { Grouped lists.now (length (zones_of net.now.nodes))
         (wanted_zone net.now trips.now asks.now) (numbers_below (length trips.now)) }
-    requires some { 1 ≤ length zones.now }
-    requires few { length zones.now ≤ MOST_GROUP }
     requires numbers { length (zones_of net.now.nodes) ≤ NO_ZONE }
     requires zones { All (λ zone. zone.0 < length (zones_of net.now.nodes)) zones.now }
-    ensures { OnOk result (AnswersMore (time_at times.now) net.now trips.now asks.now
+    ensures { OnOk result (AnswersMore (time_at labels.now.times) net.now trips.now asks.now
         (LeadsToFirst net.now trips.now asks.now zones.now (length zones.now)) answers.old.items
         answers.new.items) }
 {
-    let labels = GroupLabels::to_zones(alloc, net, times, zones)?;
     for place in 0..zones.len() {
         let vehicles = lists.get(zones[place].0);
-        answer_vehicles(alloc, net, &labels, place, trips, asks, vehicles, answers)?;
+        answer_vehicles(alloc, net, labels, place, trips, asks, vehicles, answers)?;
     }
     Ok(())
 }
 
 /// What is answered of the vehicles that go to some zones, a group after another. The labels of a
-/// group are freed before the next are made.
+/// group take the place of those before.
 pub(crate) fn answers_to(
     alloc: Global,
     net: &Net,
@@ -220,19 +220,22 @@ pub(crate) fn answers_to(
         (LeadsToFirst net.now trips.now asks.now zones.now (length zones.now)) answers.items) }
 {
     let mut answers = Vec::new(alloc);
+    let mut spare = Spare::none(alloc);
     let mut first = 0;
     while first < zones.len() {
-        let next = zones.len().min(first + MOST_GROUP);
+        let labels = GroupLabels::to_first(alloc, net, times, &zones[first..], spare)?;
+        let next = first + labels.count();
         answer_group(
             alloc,
             net,
-            times,
+            &labels,
             trips,
             asks,
             lists,
             &zones[first..next],
             &mut answers,
         )?;
+        spare = labels.into_spare(alloc);
         first = next;
     }
     Ok(answers)

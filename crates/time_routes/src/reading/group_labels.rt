@@ -3,10 +3,12 @@ ghost use Rattle.std.specs.Prelude.{◌≡◌, ◌≢◌, ◌<◌, ◌≤◌, le
 ghost use Rattle.net_core.specs.Network.{zones as zones_of};
 ghost use Rattle.dta_model.specs.LinkTimes.{time_at};
 ghost use Rattle.time_routes.specs.Named.{zone_named};
-ghost use Rattle.time_routes.specs.ToZone.{destination, zone_numbers, TellsLeast, TellsWalk};
+ghost use Rattle.time_routes.specs.ToZone.{AreOfFirst, destination, zone_numbers, TellsLeast};
+ghost use Rattle.time_routes.specs.ToZone.{TellsWalk};
 
 use crate::filling::fill_table::table_of;
 use crate::filling::label_table::LabelTable;
+use crate::filling::spare::Spare;
 use crate::reading::least::least_label;
 use crate::reading::walk::walk_of;
 use crate::reading::zone_labels::ZoneLabels;
@@ -74,9 +76,29 @@ impl<'a> GroupLabels<'a> {
           zones = zone_numbers zones.now;
         }) }
     {
+        Self::over(alloc, net, times, zones, Spare::none(alloc))
+    }
+
+    // The same in memory of labels that are read no more, where it serves.
+    fn over(
+        alloc: Global,
+        net: &'a Net,
+        times: &'a LinkTimes,
+        zones: &[ZoneNo],
+        spare: Spare,
+    ) -> Result<Self, Memory>
+        requires few { length zones.now ≤ MOST_GROUP }
+        requires table { length times.now.free ≡ length net.now.links }
+        requires zones { All (λ z. z.0 < length (zones_of net.now.nodes)) zones.now }
+        ensures { IfOk result (λ labels. labels ≡ record {
+          net = net.now;
+          times = times.now;
+          zones = zone_numbers zones.now;
+        }) }
+    {
         let router = router_of(alloc, net)?;
         let firsts = links_by_zone(alloc, net)?;
-        let labels = table_of(alloc, &router, times, net.link_count(), zones)?;
+        let labels = table_of(alloc, &router, times, net.link_count(), zones, spare)?;
         let zones = copied(alloc, zones)?;
         Ok(GroupLabels {
             net,
@@ -86,6 +108,45 @@ impl<'a> GroupLabels<'a> {
             firsts,
             labels,
         })
+    }
+
+    /// The labels of the first of some zones, in memory of labels that are read no more where it
+    /// serves.
+    pub(crate) fn to_first(
+        alloc: Global,
+        net: &'a Net,
+        times: &'a LinkTimes,
+        zones: &[ZoneNo],
+        spare: Spare,
+    ) -> Result<Self, Memory>
+        requires some { 1 ≤ length zones.now }
+        requires table { length times.now.free ≡ length net.now.links }
+        requires zones { All (λ z. z.0 < length (zones_of net.now.nodes)) zones.now }
+        ensures { IfOk result (AreOfFirst net.now times.now zones.now) }
+    {
+        let count = zones.len().min(MOST_GROUP);
+        let labels = Self::over(alloc, net, times, &zones[..count], spare)?;
+        Ok(labels)
+    }
+
+    /// How many zones there are labels of.
+    pub(crate) fn count(&self) -> usize
+        ensures { result ≡ length self.now.zones }
+    {
+        self.zones.len()
+    }
+
+    /// The memory of labels that are read no more.
+    pub(crate) fn into_spare(self, alloc: Global) -> Spare {
+        let GroupLabels {
+            net: _,
+            times: _,
+            zones: _,
+            router: _,
+            firsts: _,
+            labels,
+        } = self;
+        labels.into_spare(alloc)
     }
 
     /// The least steps from a zone to the zone at a place of the group, started in a step. None

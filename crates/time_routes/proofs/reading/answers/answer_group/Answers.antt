@@ -14,8 +14,8 @@ answer_vehicles-requires-clause-to c =
     let place = c.loop-place.place in
     let small = c.requires.zones place (record { 0 = 0 }) c.loop-place-test.true in
     let all = vehicles_lead net c.args.trips.now c.args.asks.now c.args.lists.now c.requires.lists c.requires.numbers (get_or c.args.zones.now place (record { 0 = 0 })).0 small in
-    let same : slice_index c.in_ok-labels.labels.zones place ≡ (get_or c.args.zones.now place (record { 0 = 0 })).0 =
-    ap (λ l. slice_index l.zones place) c.in_ok-labels.ensures ∙ get_or-map (λ z. z.0) c.args.zones.now place (record { 0 = 0 }) 0 c.loop-place-test.true in
+    let same : slice_index c.args.labels.now.zones place ≡ (get_or c.args.zones.now place (record { 0 = 0 })).0 =
+    ap (λ zs. slice_index zs place) c.requires.of ∙ get_or-map (λ z. z.0) c.args.zones.now place (record { 0 = 0 }) 0 c.loop-place-test.true in
     subst (λ z. All (LeadsTo net c.args.trips.now c.args.asks.now z) c.get-vehicles.result.now) (sym same) (subst (λ l. All (LeadsTo net c.args.trips.now c.args.asks.now (get_or c.args.zones.now place (record { 0 = 0 })).0) l) c.get-vehicles.ensures all)
 
 pub loop-place-preserved : goal.loop-place-preserved
@@ -24,10 +24,8 @@ loop-place-preserved c =
     let trips = c.args.trips.now in
     let asks = c.args.asks.now in
     let place = c.loop-place.place in
-    let last : AnswersMore (time_at c.args.times.now) net trips asks (Stands c.get-vehicles.result.now) c.loop-place.answers.items c.answer_vehicles.new.answers.items =
-    subst (λ l. AnswersMore (time_at l.times) net trips asks (Stands c.get-vehicles.result.now) c.loop-place.answers.items c.answer_vehicles.new.answers.items) c.in_ok-labels.ensures c.in_ok-answer_vehicles.ensures in
-    answers_then (time_at c.args.times.now) net trips asks (LeadsToFirst net trips asks c.args.zones.now place) (Stands c.get-vehicles.result.now) _ c.args.answers.now.items c.loop-place.answers.items c.answer_vehicles.new.answers.items
-    c.loop-place.invariant last
+    answers_then (time_at c.args.labels.now.times) net trips asks (LeadsToFirst net trips asks c.args.zones.now place) (Stands c.get-vehicles.result.now) _ c.args.answers.now.items c.loop-place.answers.items c.answer_vehicles.new.answers.items
+    c.loop-place.invariant c.in_ok-answer_vehicles.ensures
     (first_more net trips asks c.args.lists.now c.requires.lists c.requires.numbers c.args.zones.now place (record { 0 = 0 }) c.get-vehicles.result.now c.requires.zones c.get-vehicles.ensures)
 
 pub returns : goal.returns
@@ -35,5 +33,5 @@ returns c =
     let net = c.args.net.now in
     let trips = c.args.trips.now in
     let asks = c.args.asks.now in
-    answers_fewer (time_at c.args.times.now) net trips asks (LeadsToFirst net trips asks c.args.zones.now c.loop-place.place) _ c.args.answers.now.items c.loop-place.answers.items
+    answers_fewer (time_at c.args.labels.now.times) net trips asks (LeadsToFirst net trips asks c.args.zones.now c.loop-place.place) _ c.args.answers.now.items c.loop-place.answers.items
     c.loop-place.invariant (λ v s. in_all net trips asks c.args.zones.now c.loop-place.place v c.loop-place-test.false s)

@@ -4,7 +4,7 @@ use Rattle.dta_model.specs.LinkTimes.{time_at}
 use Rattle.time_routes.specs.Reading.Serves.{AreAllLeft}
 use Rattle.time_routes.specs.ToZone.{zone_numbers}
 use Rattle.net_core.proofs.ZonesFacts.{length-zones-le}
-use Rattle.time_routes.proofs.reading.group_labels.GroupLabels.to_zones.Goals as goal
+use Rattle.time_routes.proofs.reading.group_labels.GroupLabels.over.Goals as goal
 
 pub table_of-requires-clause-zones : goal.table_of-requires-clause-zones
 table_of-requires-clause-zones c = λ k d h. (
