@@ -1,20 +1,22 @@
 // Worked cases: the link times of a loading, and two iterations of routes, loadings and gaps.
 ghost use Rattle.dta_model.specs.Lent.{plan_of};
 ghost use Rattle.dta_model.specs.LinkTimes.{table_of};
-ghost use Rattle.dta_model.specs.Sound.{IsSound};
+ghost use Rattle.dta_model.specs.Sound.{AreTrips, IsSound};
+ghost use Rattle.dta_model.specs.declared.loading.TheConstants.{MOST_HORIZON};
 ghost use Rattle.link_times.specs.TimeTables.{IsShort};
-ghost use Rattle.std.specs.Prelude.{◌≡◌, IfOk, length};
+ghost use Rattle.route_flows.specs.declared.flows.TheConstants.{MOST_WORKERS};
+ghost use Rattle.std.specs.Prelude.{◌≡◌, ◌≤◌, IfOk, length};
 
 use crate::{first_routes, gap_and_next_routes, is_selected, next_routes};
-use dta_model::{Loading, Route, Routes};
+use dta_model::{Loading, Queue, Route, Routes, Trip};
 use gap::{GapLine, gap};
 use link_times::LinkTimes;
-use net_core::{LinkNo, Memory};
+use net_core::{LinkNo, LinkRow, Memory, Net, NodeNo, NodeRow};
 use serial_loader::load_plain;
 use std::alloc::Global;
 use std::test::Fail;
 use std::thread::Threads;
-use worked_cases::Case;
+use worked_cases::{Case, Way, Written};
 
 // The link times of the plain loading, by buckets of 50 steps.
 fn times_of(alloc: Global, loading: &Loading) -> Result<LinkTimes, Memory>
@@ -121,6 +123,177 @@ fn length_of(route: &Option<Route>) -> usize {
     }
 }
 
+// Whether vehicles have the same routes.
+fn are_same(routes: &Routes, others: &Routes) -> bool {
+    let routes = routes.as_slice();
+    let others = others.as_slice();
+    if routes.len() != others.len() {
+        return false;
+    }
+    for v in 0..routes.len() {
+        if !is_same(&routes[v], &others[v]) {
+            return false;
+        }
+    }
+    true
+}
+
+// Whether two routes, where there are any, have the same links.
+fn is_same(route: &Option<Route>, other: &Option<Route>) -> bool {
+    match (route, other) {
+        (Some(route), Some(other)) => route.as_slice() == other.as_slice(),
+        (None, None) => true,
+        _ => false,
+    }
+}
+
+// A node of a zone, a link from a node to the next, and a trip from a zone to the one before it.
+macro_rules! node {
+    ($zone:expr) => {
+        NodeRow {
+            id: $zone,
+            zone: Some($zone),
+        }
+    };
+}
+
+macro_rules! link {
+    ($from:expr => $to:expr) => {
+        LinkRow {
+            id: $from,
+            from: NodeNo($from),
+            to: NodeNo($to),
+            free: 10,
+            storage: 125,
+            rate: 600_000_000,
+        }
+    };
+}
+
+macro_rules! trip {
+    ($number:expr, $origin:expr => $destination:expr) => {
+        Trip {
+            number: $number,
+            origin: $origin,
+            destination: $destination,
+            departure: 0,
+        }
+    };
+}
+
+// Nine zones in a ring of links that lead one way, and a vehicle from each of them to the zone
+// before it. Nine destinations are more than one group.
+#[tactic(auto, unfolding(worked_cases::specs::OnLiterals::cases_on_literals))]
+fn a_ring_of_nine_zones(alloc: Global) -> Result<Case, Memory> {
+    Case::of(
+        alloc,
+        &Written {
+            nodes: &[
+                node!(1),
+                node!(2),
+                node!(3),
+                node!(4),
+                node!(5),
+                node!(6),
+                node!(7),
+                node!(8),
+                node!(9),
+            ],
+            links: &[
+                link!(0 => 1),
+                link!(1 => 2),
+                link!(2 => 3),
+                link!(3 => 4),
+                link!(4 => 5),
+                link!(5 => 6),
+                link!(6 => 7),
+                link!(7 => 8),
+                link!(8 => 0),
+            ],
+            turns: &[],
+            queue: Queue::Point,
+            horizon: 60,
+            trips: &[
+                trip!(0, 1 => 9),
+                trip!(1, 2 => 1),
+                trip!(2, 3 => 2),
+                trip!(3, 4 => 3),
+                trip!(4, 5 => 4),
+                trip!(5, 6 => 5),
+                trip!(6, 7 => 6),
+                trip!(7, 8 => 7),
+                trip!(8, 9 => 8),
+            ],
+            ways: &[Way::None; 9],
+        },
+    )
+}
+
+// Whether the first routes of trips and the next ones are the same by one worker and by more.
+fn are_as_by_one<R: AllocGlobal + Threads + Sync>(
+    rt: &R,
+    net: &Net,
+    trips: &[Trip],
+    horizon: u32,
+    times: &LinkTimes,
+    workers: u32,
+) -> Result<bool, Memory>
+    requires table { length times.now.free ≡ length net.now.links }
+    requires trips { AreTrips trips.now }
+    requires horizon_least { 1 ≤ horizon }
+    requires horizon_most { horizon ≤ MOST_HORIZON }
+    requires least { 1 ≤ workers }
+    requires most { workers ≤ MOST_WORKERS }
+{
+    let first = first_routes(rt, net, trips, horizon, 1)?;
+    let first_by_more = first_routes(rt, net, trips, horizon, workers)?;
+    let next = next_routes(rt, net, trips, times, &first, 1, 1)?;
+    let next_by_more = next_routes(rt, net, trips, times, &first_by_more, 1, workers)?;
+    Ok(are_same(&first, &first_by_more) && are_same(&next, &next_by_more))
+}
+
+// Whether the routes of a case are the same by 1, 2, 3 and 16 workers.
+fn are_by_any_workers<R: AllocGlobal + Threads + Sync>(
+    rt: &R,
+    case: &Case,
+) -> Result<bool, Memory> {
+    let loading = case.loading();
+    let times = times_of(rt.alloc(), &loading)?;
+    let Loading {
+        net,
+        trips,
+        horizon,
+        ..
+    } = loading;
+    let by_two = are_as_by_one(rt, net, trips, horizon, &times, 2)?;
+    let by_three = are_as_by_one(rt, net, trips, horizon, &times, 3)?;
+    let by_sixteen = are_as_by_one(rt, net, trips, horizon, &times, 16)?;
+    Ok(by_two && by_three && by_sixteen)
+}
+
+// Whether each vehicle of a case first goes over so many links.
+fn go_over<R: AllocGlobal + Threads + Sync>(
+    rt: &R,
+    case: &Case,
+    links: &[usize],
+) -> Result<bool, Memory> {
+    let Loading {
+        net,
+        trips,
+        horizon,
+        ..
+    } = case.loading();
+    let first = first_routes(rt, net, trips, horizon, 4)?;
+    Ok(are_wanted(&first, links))
+}
+
+// Whether nine vehicles first go over eight links, and go the same ways by any workers.
+fn lead_round<R: AllocGlobal + Threads + Sync>(rt: &R, case: &Case) -> Result<bool, Memory> {
+    let by_any = are_by_any_workers(rt, case)?;
+    let over_eight = go_over(rt, case, &[8; 9])?;
+    Ok(by_any && over_eight)
+}
+
 fn line(route_steps: u128, least_steps: u128, gap_steps: u128, ppm: u128) -> GapLine {
     GapLine {
         route_steps,
@@ -209,4 +382,11 @@ fn who_is_selected(rt: HostRuntime) {
             assert_eq!(rt; is_selected(v as u32, k), wanted[v]);
         }
     }
+}
+
+#[test]
+fn routes_by_several_workers(rt: HostRuntime) -> Result<(), Fail> {
+    let case = a_ring_of_nine_zones(rt.alloc())?;
+    assert!(rt; lead_round(&rt, &case)?);
+    Ok(())
 }
