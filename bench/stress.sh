@@ -1,8 +1,10 @@
 #!/bin/sh
 # Runs loadings by workers again and again: `bench/stress.sh [RUNS]`. For each number of workers
 # from 1 to 16 so many runs (200 where none is said) of a ring with storage, by spatial queues, and
-# of `demo 6 --iterations 3`, first one after another and then four side by side. Each run must end
-# within a minute with the bytes of the run with --plain. Ends with 0 where all did.
+# of `demo 6 --iterations 3`, first one after another and then by four such loops side by side. Each
+# run must end within a minute with the bytes of the run with --plain. Prints the seconds that the
+# runs by each number of workers took. Ends with 0 where all held.
+set -u
 top=$(dirname "$(dirname "$(readlink -f "$0")")")
 runs=${1:-200}
 folder=$(mktemp -d)
@@ -29,43 +31,53 @@ make_net() {
     } >demand.csv
 }
 
-# Both runs with these options, in the folder of the net; prints what they write.
+# A run over the net in the current folder, and a demonstration, with these options; prints what
+# they write.
 both() {
-    timeout 60 "$program" assign --period 40 --horizon 300 --iterations 2 --queue spatial "$@" ||
-        return 1
-    cat agent.csv link_performance.csv gap.csv
-    timeout 60 "$program" demo 6 --iterations 3 "$@"
+    timeout 60 "$program" assign --period 40 --horizon 300 --iterations 2 --queue spatial "$@" &&
+        cat agent.csv link_performance.csv gap.csv &&
+        timeout 60 "$program" demo 6 --iterations 3 "$@"
 }
 
-# So many runs of both with each number of workers, in a folder of their own, all like the plain
-# one.
-repeat() {
+# So many runs of both by so many workers, in the current folder, all like the plain ones.
+runs_by() {
+    run=0
+    while [ $run -lt "$2" ]; do
+        run=$((run + 1))
+        both --workers "$1" >now || {
+            echo "run $run by $1 workers failed or didn't end within a minute"
+            return 1
+        }
+        cmp now "$folder/plain" || {
+            echo "run $run by $1 workers wrote other bytes"
+            return 1
+        }
+    done
+}
+
+# The runs by each number of workers, in a folder of their own.
+loop() {
     mkdir "$folder/$1"
     make_net "$folder/$1"
     for workers in 1 2 3 4 5 6 7 8 9 10 11 12 13 14 15 16; do
-        for run in $(seq "$2"); do
-            both --workers "$workers" >"$folder/$1.now" || {
-                echo "run $run with $workers workers failed or didn't end within a minute"
-                return 1
-            }
-            cmp "$folder/$1.now" "$folder/plain" || {
-                echo "run $run with $workers workers wrote other bytes"
-                return 1
-            }
-        done
+        begin=$(date +%s%N)
+        runs_by $workers "$2" || return 1
+        echo "  $workers workers: $((($(date +%s%N) - begin) / 1000000)) ms"
     done
 }
 
 mkdir "$folder/net"
 make_net "$folder/net"
 both --plain >"$folder/plain" || exit 1
-repeat alone "$runs" || exit 1
-echo "one program at a time: $runs runs with each of 16 numbers of workers, one set of bytes"
+echo "one loop, $runs runs with each number of workers:"
+loop alone "$runs" || exit 1
+echo "four loops side by side:"
 for side in 1 2 3 4; do
-    (repeat "side_$side" "$runs" >"$folder/said_$side" 2>&1; echo $? >"$folder/ended_$side") &
+    (loop "side_$side" "$runs" >"$folder/said_$side" 2>&1; echo $? >"$folder/ended_$side") &
 done
 wait
+cat "$folder/said_1"
 for side in 1 2 3 4; do
     [ "$(cat "$folder/ended_$side")" = 0 ] || { cat "$folder/said_$side"; exit 1; }
 done
-echo "four programs at a time: the same, four times"
+echo "one set of bytes, and none hung"

@@ -9,6 +9,7 @@ ghost use Rattle.loader.specs.declared.loading.TheConstants.{MOST_WORKERS};
 ghost use Rattle.phase_claims.specs.Passes.{IsOf, unit_at};
 
 use crate::gate::Gate;
+use crate::pauses::Pauses;
 use crate::watch::Watcher;
 use desk_io::Desk;
 use dta_model::Stage;
@@ -16,20 +17,23 @@ use monitors::Board;
 use phase_claims::{Floor, Open, Pass, Unit, UnitKind};
 use std::sync::Wait;
 use std::thread::{Threads, join_mut};
-use std::{hint, thread};
 
-// How often a worker tries again at once before it lets other threads go first.
-const SPINS: u32 = 64;
+// The microseconds of the longest sleep of a worker that holds a unit, for which others wait, and
+// of one that holds none.
+const SLEEP_WITH_UNIT: u32 = 100;
 
-// Waits a little before another try, and answers how many tries were made. After some of them
-// other threads go first, since there may be more workers than processors.
-fn pause(tries: u32) -> u32 {
-    if tries < SPINS {
-        hint::spin_loop();
-        return tries + 1;
+const SLEEP_WITHOUT: u32 = 2000;
+
+// Waits until the next unit could be opened at once. So a worker seldom holds a unit while it waits,
+// and the others can do without it.
+fn wait_for_unit<R: Wait>(rt: &R, floor: &Floor) {
+    let mut pauses = Pauses::up_to(SLEEP_WITHOUT);
+    for _ in rt.forever() {
+        if floor.can_open_next() {
+            break;
+        }
+        pauses.take(rt);
     }
-    thread::yield_now();
-    tries
 }
 
 // Opens the unit that a pass holds, as soon as all units of earlier phases are finished.
@@ -40,11 +44,11 @@ fn open<R: Wait>(rt: &R, floor: &Floor, pass: &mut Pass, number: u64)
     ensures open { pass.new.view.stage ≡ Stage.Open number }
     ensures rights { HasSameRights pass.old.view pass.new.view }
 {
-    let mut tries = 0;
+    let mut pauses = Pauses::up_to(SLEEP_WITH_UNIT);
     for _ in rt.forever() {
         match floor.open(pass) {
             Open::Yes => break,
-            Open::NotYet { finished: _ } => tries = pause(tries),
+            Open::NotYet { finished: _ } => pauses.take(rt),
         }
     }
 }
@@ -79,6 +83,7 @@ fn work<R: Wait, G: Gate>(rt: &R, floor: &Floor, gate: &G, pass: &mut Pass, work
     ensures { HasEnded floor.now 1 pass.new }
 {
     for _ in rt.forever() {
+        wait_for_unit(rt, floor);
         let Some(unit) = floor.claim(pass) else {
             break;
         };
@@ -147,6 +152,7 @@ fn lead<R: Wait, G: Gate, D: Desk>(
         → HasWatched watcher.new before (state desk.new) }
 {
     for _ in rt.forever() {
+        wait_for_unit(rt, floor);
         let Some(unit) = floor.claim(pass) else {
             break;
         };

@@ -10,6 +10,7 @@
 mod crew;
 mod gate;
 mod loading;
+mod pauses;
 mod watch;
 
 pub use gate::{CountGate, Gate, NoGate};

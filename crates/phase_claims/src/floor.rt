@@ -136,6 +136,13 @@ impl<'a> Floor<'a> {
         }
     }
 
+    /// Whether the unit of the next number could be opened at once, or there is none. It only looks,
+    /// and other passes may change that at any time, so nothing is promised.
+    pub fn can_open_next(&self) -> bool {
+        let next = self.table.shared.peek(1);
+        self.count() <= next || self.units.phase_start(next) <= self.table.shared.peek(2)
+    }
+
     /// Draws the next number. The pass holds the unit of that number then. Where there is none it
     /// has ended.
     pub fn claim(&self, pass: &mut Pass) -> Option<Unit>

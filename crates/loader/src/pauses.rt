@@ -1,0 +1,52 @@
+// How a worker waits for the others.
+use std::sync::Wait;
+use std::thread::Parker;
+use std::time::Duration;
+use std::{hint, thread};
+
+// How many pauses a worker spins, each a little longer than the one before.
+const SPINS: u32 = 64;
+
+// How many more it takes by letting other threads go first. After them it sleeps.
+const YIELDS: u32 = 100;
+
+// The microseconds of its first sleep, by which each further one is longer.
+const FIRST_SLEEP: u32 = 50;
+
+/// The pauses of a worker between two looks at what the others have done: it spins, then lets other
+/// threads go first, then sleeps. So one that waits for a moment loses no time, and one that waits
+/// for long leaves the processors to others.
+#[derive(Clone, Copy, Debug)]
+pub struct Pauses {
+    taken: u32,
+    longest: u32,
+}
+
+impl Pauses {
+    /// No pause so far, and none longer than so many microseconds.
+    pub fn up_to(longest: u32) -> Self {
+        Pauses { taken: 0, longest }
+    }
+
+    /// Takes the next pause.
+    pub fn take<R: Wait>(&mut self, rt: &R) {
+        let taken = self.taken;
+        self.taken = taken.saturating_add(1);
+        if taken < SPINS {
+            for _ in 0..taken {
+                hint::spin_loop();
+            }
+        } else if taken < SPINS + YIELDS {
+            thread::yield_now();
+        } else {
+            self.sleep(rt, taken - (SPINS + YIELDS));
+        }
+    }
+
+    // Sleeps, after so many sleeps.
+    fn sleep<R: Wait>(&self, rt: &R, slept: u32) {
+        let wanted = slept.saturating_add(1).saturating_mul(FIRST_SLEEP);
+        let microseconds = wanted.min(self.longest);
+        Parker::new().park_timeout(rt, Duration::from_micros(u64::from(microseconds)));
+    }
+}
