@@ -21,11 +21,10 @@ use crate::load::{Round, load_round};
 use desk_io::Desk;
 use dta_model::{Eight, Loaded, Routes};
 use dta_words::Settings;
-use gap::{GapLine, gap};
+use gap::{GapLine, gap_by_shares};
 use link_times::LinkTimes;
 use loader::Gate;
 use route_flows::{first_routes, gap_and_next_routes};
-use std::alloc::Global;
 use std::sync::Wait;
 use std::thread::Threads;
 
@@ -96,8 +95,8 @@ fn leave<R: AllocGlobal + Threads + Sync>(
 
 // The gap of the last iteration.
 #[tactic(auto, using(crate::proofs::IterateFacts::routings))]
-fn gap_of(
-    alloc: Global,
+fn gap_of<R: AllocGlobal + Threads + Sync>(
+    rt: &R,
     settings: &Settings,
     job: &Job,
     routes: &Routes,
@@ -112,7 +111,9 @@ fn gap_of(
         job.now.net job.now.trips routes.now) }
     ensures memory { IfErr result (λ why. why ≡ halt.Memory) }
 {
-    Ok(gap(alloc, &job.net, times, &job.trips, routes)?)
+    let trips = job.trips.as_slice();
+    let line = gap_by_shares(rt, &job.net, times, trips, routes, settings.workers)?;
+    Ok(line)
 }
 
 // Does an iteration that isn't the last: its loading, its gap, and the routes of the next.
@@ -169,7 +170,7 @@ fn finish<R: AllocGlobal + Threads + Wait + Sync, D: Desk + Send, G: Gate + Sync
         (shown gate.old) (shown gate.new) result }
 {
     let round = load_round(rt, settings, job, &routes, settings.iterations, gate, desk)?;
-    let line = gap_of(rt.alloc(), settings, job, &routes, &round.times)?;
+    let line = gap_of(rt, settings, job, &routes, &round.times)?;
     let mut lines = lines;
     lines.push(line)?;
     let Round { loaded, times, end } = round;

@@ -414,6 +414,50 @@ running 1\nwaiting 0\nroute_steps 24\nleast_steps 24\ngap_steps 0\ngap_ppm 0\n",
     },
 ];
 
+// Three vehicles round a ring, of which each fills its first link, so that none moves again.
+const A_FULL_RING: Case = Case {
+    name: "a full ring",
+    words: "assign --period 1 --horizon 20 --queue spatial",
+    node: "node_id,zone_id\n1,1\n2,2\n3,3\n",
+    link: "link_id,from_node_id,to_node_id,length,lanes,free_speed,capacity\n\
+12,1,2,5,1,60,3600\n23,2,3,5,1,60,3600\n31,3,1,5,1,60,3600\n",
+    movement: "",
+    demand: "o_zone_id,d_zone_id,volume\n1,3,1\n2,1,1\n3,2,1\n",
+    agent: "\
+agent_id,o_zone_id,d_zone_id,departure_step,arrival_step,status,link_ids,entry_steps\n\
+0,1,3,0,,running,12;23,0\n1,2,1,0,,running,23;31,0\n2,3,2,0,,running,31;12,0\n",
+    link_time: "link_id,from_step,to_step,entered,travel_steps,free_steps\n\
+12,0,20,1,20,1\n23,0,20,1,20,1\n31,0,20,1,20,1\n",
+    gap: "iteration,route_steps,least_steps,gap_steps,gap_ppm\n1,63,63,0,0\n",
+    report: "nodes 3\nlinks 3\nvehicles 3\nunrouted 0\niterations 1\narrived 0\nrunning 3\n\
+waiting 0\nroute_steps 63\nleast_steps 63\ngap_steps 0\ngap_ppm 0\n",
+    watch: "",
+};
+
+// The full ring by several numbers of workers, and by the plain loader.
+static FULL: [Case; 4] = [
+    Case {
+        name: "a full ring --workers 1",
+        words: "assign --period 1 --horizon 20 --queue spatial --workers 1",
+        ..A_FULL_RING
+    },
+    Case {
+        name: "a full ring --workers 3",
+        words: "assign --period 1 --horizon 20 --queue spatial --workers 3",
+        ..A_FULL_RING
+    },
+    Case {
+        name: "a full ring --workers 16",
+        words: "assign --period 1 --horizon 20 --queue spatial --workers 16",
+        ..A_FULL_RING
+    },
+    Case {
+        name: "a full ring --plain",
+        words: "assign --period 1 --horizon 20 --queue spatial --plain",
+        ..A_FULL_RING
+    },
+];
+
 // The words of a line.
 fn words_in(alloc: Global, line: &str) -> Result<Words, Fail> {
     let mut words = Words::new(alloc);
@@ -517,6 +561,13 @@ fn cases_of_units(rt: HostRuntime) -> Result<(), Fail> {
 #[test]
 fn cases_of_options(rt: HostRuntime) -> Result<(), Fail> {
     let failure = first_failure(&rt, &OPTIONS)?;
+    assert!(rt; failure.is_none(), "{failure:?}");
+    Ok(())
+}
+
+#[test]
+fn cases_of_a_full_ring(rt: HostRuntime) -> Result<(), Fail> {
+    let failure = first_failure(&rt, &FULL)?;
     assert!(rt; failure.is_none(), "{failure:?}");
     Ok(())
 }

@@ -1,5 +1,6 @@
 // Runs over desks in memory and over files, for what no clause says.
 mod faults;
+mod held;
 mod refusals;
 mod whole_runs;
 mod workers;

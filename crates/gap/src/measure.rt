@@ -16,7 +16,8 @@ use dta_model::{MOST_TRIPS, Route, Routes, Trip};
 use link_times::LinkTimes;
 use net_core::{Memory, Net};
 use std::alloc::Global;
-use time_routes::{Ask, tell};
+use std::thread::Threads;
+use time_routes::{Ask, tell, tell_by_shares};
 
 // Parts per million are of so many.
 const PER_MILLION: u128 = 1_000_000;
@@ -151,5 +152,28 @@ pub fn gap(
 {
     let asks = asks_of(alloc, routes.as_slice())?;
     let told = tell(alloc, net, times, trips, &asks)?;
+    Ok(gap_line(net, times, trips, routes, &told.leasts))
+}
+
+/// The same as [`gap`], by shares of the destinations side by side, at most as many as there are
+/// workers.
+pub fn gap_by_shares<R: AllocGlobal + Threads + Sync>(
+    rt: &R,
+    net: &Net,
+    times: &LinkTimes,
+    trips: &[Trip],
+    routes: &Routes,
+    workers: u32,
+) -> Result<GapLine, Memory>
+    requires table { length times.now.free ≡ length net.now.links }
+    requires short { IsShort times.now }
+    requires trips { AreTrips trips.now }
+    requires each { length routes.now ≡ length trips.now }
+    requires walks { AreWalks net.now trips.now routes.now }
+    requires workers { 1 ≤ workers }
+    ensures { IfOk result (IsGapLine (time_at times.now) net.now trips.now routes.now) }
+{
+    let asks = asks_of(rt.alloc(), routes.as_slice())?;
+    let told = tell_by_shares(rt, net, times, trips, &asks, workers)?;
     Ok(gap_line(net, times, trips, routes, &told.leasts))
 }
