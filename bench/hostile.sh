@@ -5,8 +5,8 @@
 # none is said. Where it is run by root it also tries a full disk (a small file system in memory),
 # and calls the program as another user. It takes some minutes, and 1 GB in the folder of mktemp.
 groups='folder_without_writing full_outputs full_disk broken_streams closed_streams no_files pipes
-longest_tables long_rows odd_bytes most_vehicles little_memory little_memory_for_threads no_threads
-kills'
+longest_tables long_rows odd_bytes most_vehicles little_memory little_memory_for_shares
+little_memory_for_threads no_threads kills'
 [ $# -ge 1 ] || { echo 'usage: hostile.sh PROGRAM [GROUP..]' >&2; exit 2; }
 work=$(mktemp -d)
 trap 'umount "$work/small" 2>/dev/null; rm -rf "$work"' EXIT
@@ -383,7 +383,7 @@ little_memory() {
         '7 none none none size: links 1024 steps 65537 limit 67108864' "$(outcome)"
     sixes=0
     for kilobytes in 2000000 1000000 700000 500000 200000 100000 50000 20000 10000 5000; do
-        for words in --plain '--workers 4'; do
+        for words in --plain '--workers 2'; do
             rm -f agent.csv link_performance.csv gap.csv
             # shellcheck disable=SC2086
             (ulimit -v $kilobytes && exec "$program" assign --horizon 65536 $words) \
@@ -399,6 +399,26 @@ little_memory() {
         done
     done
     check 'want of memory was met' yes "$([ $sixes -gt 0 ] && echo yes)"
+}
+
+# Vehicles to 16 zones, whose labels take four shares side by side, at the limit of links times the
+# horizon.
+little_memory_for_shares() {
+    begin 100
+    ring 1024
+    awk 'BEGIN {
+        print "node_id,zone_id" >"node.csv"
+        print "o_zone_id,d_zone_id,volume" >"demand.csv"
+        for (k = 1; k <= 1024; k++) print k "," (k % 64 == 1 ? (k + 63) / 64 : "") >"node.csv"
+        for (z = 1; z <= 16; z++) print z "," z % 16 + 1 ",10" >"demand.csv"
+    }'
+    for kilobytes in 2000000 1000000 500000; do
+        (ulimit -v $kilobytes && exec "$program" assign --horizon 65536) \
+            >"$work/report" 2>"$work/watch"
+        status=$?
+        check "16 zones, links times steps at the limit, in $kilobytes KB" '6 none none none -' \
+            "$(outcome)"
+    done
 }
 
 # A small run in ever less memory, with workers whose threads may not be had.
@@ -444,11 +464,16 @@ killed() {
 'link_performance.csv node.csv ' "$what $(ls | tr '\n' ' ')"
 }
 
+# Kills a run at moments that are spread over the time that it took with ample room, and after it.
 kills() {
+    whole=$work/long_whole
+    before=$(date +%s.%N)
     keep_whole 400000
-    for moment in 0.01 0.05 0.1 0.15 0.2 0.25 0.3 0.35 0.4 0.45 0.5 0.6 0.7 0.8 1 1.2; do
-        killed $moment
+    after=$(date +%s.%N)
+    for part in 1 4 7 9 10 11 12 13 14 15 16 17 18 20 23; do
+        killed "$(awk "BEGIN { printf \"%.3f\", ($after - $before) * $part / 17 }")"
     done
+    whole=$work/whole
 }
 
 keep_whole 3000

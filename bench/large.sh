@@ -134,16 +134,16 @@ wide_labels() {
 
 many_iterations() {
     begin '1,000 iterations of a small network'
-    grid 4 4
-    demand 1,2,60 2,3,60 3,4,60 4,1,60 1,4,60
-    compare assign --horizon 200 --period 60 --bucket 10 --iterations 1000
+    grid 5 4
+    demand 1,2,200 2,3,200 3,4,200 4,1,200 1,4,200
+    compare assign --horizon 200 --period 20 --bucket 10 --iterations 1000
 }
 
 many_links() {
     begin '400,000 links'
-    grid 317 6
-    demand 1,2,300 2,3,300 3,4,300 4,5,300 5,6,300
-    compare assign --horizon 160 --period 60
+    grid 317 2000
+    demand 1,2,300 2,3,300 3,4,300 1000,1001,300 2000,1999,300
+    compare assign --step 20 --horizon 160 --period 60
 }
 
 many_rows() {

@@ -85,12 +85,12 @@ def watch_faults(case, got, wanted):
     """What is wrong with the text of Watch."""
     if got.watch == wanted.watch:
         return []
-    if wanted.status != 0 or not wanted.watch or b"--plain" in case.words:
+    if wanted.status not in (0, 5) or not wanted.watch or b"--plain" in case.words:
         return ["standard error differs"]
     every = int(value_of(case.words, b"watch") or 0)
     if every == 0:
         return ["standard error has text without --watch"]
-    files = got.files if case.words[0] == b"assign" else {}
+    files = got.files if case.words[0] == b"assign" and wanted.status == 0 else {}
     return watch_rule.faults(got.watch, wanted.watch, every, files)
 
 
