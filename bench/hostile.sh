@@ -361,76 +361,66 @@ most_vehicles() {
         '7 none none none size: demand line 2 vehicles 2000001 limit 2000000' "$(outcome)"
 }
 
-# A ring of so many links, with a zone at the first node and one at the last, and vehicles.
+# A ring of 65,536 links, with so many zones at every 256th node, and vehicles from each zone to
+# the next one.
 ring() {
-    awk -v n="$1" 'BEGIN {
+    awk -v n=65536 -v zones="$1" 'BEGIN {
         print "node_id,zone_id" >"node.csv"
         print "link_id,from_node_id,to_node_id,length,free_speed" >"link.csv"
-        for (k = 1; k <= n; k++) {
-            print k "," (k == 1 ? 1 : k == n ? 3 : "") >"node.csv"
-            print k "," k "," k % n + 1 ",100,60" >"link.csv"
+        print "o_zone_id,d_zone_id,volume" >"demand.csv"
+        for (k = 0; k < n; k++) {
+            print k "," (k % 256 == 0 && k / 256 < zones ? k / 256 + 1 : "") >"node.csv"
+            print k "," k "," (k + 1) % n ",100,60" >"link.csv"
         }
+        for (z = 1; z < zones; z++) print z "," z + 1 ",10" >"demand.csv"
     }'
+}
+
+# in_memory KILOBYTES WORDS: a run over such a ring in so little memory, links times the horizon at
+# their limit.
+in_memory() {
+    rm -f agent.csv link_performance.csv gap.csv
+    (ulimit -v "$1" && shift && exec "$program" assign --horizon 1024 "$@") \
+        >"$work/report" 2>"$work/watch"
+    status=$?
 }
 
 # Links times the horizon at the limit, past it, and in ever less memory: status 6, with nothing
 # put, or 0.
 little_memory() {
-    begin 100
-    ring 1024
-    run assign --horizon 65537
-    check '1,024 links times 65,537 steps' \
-        '7 none none none size: links 1024 steps 65537 limit 67108864' "$(outcome)"
-    sixes=0
-    for kilobytes in 2000000 1000000 700000 500000 200000 100000 50000 20000 10000 5000; do
-        for words in --plain '--workers 2'; do
-            rm -f agent.csv link_performance.csv gap.csv
-            # shellcheck disable=SC2086
-            (ulimit -v $kilobytes && exec "$program" assign --horizon 65536 $words) \
-                >"$work/report" 2>"$work/watch"
-            status=$?
-            case "$status $(state_of agent.csv) $(head -n 1 "$work/report")" in
-                '6 none ') sixes=$((sixes + 1)); got='0 or 6' ;;
-                '0 other nodes 1024') got='0 or 6' ;;
-                *) got="$(outcome) $(head -n 3 "$work/watch")" ;;
-            esac
-            check "1,024 links times 65,536 steps in $kilobytes KB, $words ($status)" '0 or 6' \
-                "$got"
+    begin
+    ring 2
+    run assign --horizon 1025
+    check '65,536 links times 1,025 steps' \
+        '7 none none none size: links 65536 steps 1025 limit 67108864' "$(outcome)"
+    for kilobytes in 2000000 1000000 700000 200000 50000 10000 5000; do
+        for words in --plain --workers=2; do
+            in_memory $kilobytes $words
+            fits "65,536 links times 1,024 steps in $kilobytes KB, $words" "$(outcome)" \
+                '6 none none none -' '0 other other other nodes 65536'
         done
     done
-    check 'want of memory was met' yes "$([ $sixes -gt 0 ] && echo yes)"
 }
 
-# Vehicles to 16 zones, whose labels take four shares side by side, at the limit of links times the
-# horizon.
+# Vehicles to many zones, whose labels take up to four shares side by side: more than there is.
 little_memory_for_shares() {
-    begin 100
-    ring 1024
-    awk 'BEGIN {
-        print "node_id,zone_id" >"node.csv"
-        print "o_zone_id,d_zone_id,volume" >"demand.csv"
-        for (k = 1; k <= 1024; k++) print k "," (k % 64 == 1 ? (k + 63) / 64 : "") >"node.csv"
-        for (z = 1; z <= 16; z++) print z "," z % 16 + 1 ",10" >"demand.csv"
-    }'
+    begin
+    ring 40
     for kilobytes in 2000000 1000000 500000; do
-        (ulimit -v $kilobytes && exec "$program" assign --horizon 65536) \
-            >"$work/report" 2>"$work/watch"
-        status=$?
-        check "16 zones, links times steps at the limit, in $kilobytes KB" '6 none none none -' \
+        in_memory $kilobytes --workers=4
+        check "40 zones, 65,536 links times 1,024 steps in $kilobytes KB" '6 none none none -' \
             "$(outcome)"
     done
 }
 
 # A small run in ever less memory, with workers whose threads may not be had.
 little_memory_for_threads() {
-    kilobytes=4000
-    while [ $kilobytes -lt 200000 ]; do
+    for kilobytes in $(seq 4000 100 6000) 10000 50000 200000; do
         begin
         (ulimit -v $kilobytes && exec "$program" assign --workers 16) >"$work/report" 2>/dev/null
         status=$?
         fits "16 workers in $kilobytes KB" "$(outcome)" '6 none none none -' \
             '0 whole whole whole report'
-        kilobytes=$((kilobytes * 3 / 2))
     done
 }
 

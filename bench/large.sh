@@ -119,7 +119,7 @@ long_horizon() {
     begin 'a horizon of 86,400 steps'
     grid 10 8
     demand 1,2,3000 3,4,3000 5,6,3000 7,8,3000 8,1,2000
-    compare assign --horizon 86400 --period 86400 --step 1 --bucket 900 --iterations 2
+    compare assign --horizon 86400 --period 86400 --step 1 --bucket 900
 }
 
 # Times that need more than 32 bits: links of 10,000 steps, with penalties of 36,000 between them.
