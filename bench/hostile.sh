@@ -361,8 +361,8 @@ most_vehicles() {
         '7 none none none size: demand line 2 vehicles 2000001 limit 2000000' "$(outcome)"
 }
 
-# A ring of 65,536 links, with so many zones at every 256th node, and vehicles from each zone to
-# the next one.
+# A ring of 65,536 links, which is driven against the order of its nodes, with so many zones at
+# every 256th node, and vehicles from each zone to the one before it.
 ring() {
     awk -v n=65536 -v zones="$1" 'BEGIN {
         print "node_id,zone_id" >"node.csv"
@@ -370,9 +370,9 @@ ring() {
         print "o_zone_id,d_zone_id,volume" >"demand.csv"
         for (k = 0; k < n; k++) {
             print k "," (k % 256 == 0 && k / 256 < zones ? k / 256 + 1 : "") >"node.csv"
-            print k "," k "," (k + 1) % n ",100,60" >"link.csv"
+            print k "," (k + 1) % n "," k ",100,60" >"link.csv"
         }
-        for (z = 1; z < zones; z++) print z "," z + 1 ",10" >"demand.csv"
+        for (z = 1; z < zones; z++) print z + 1 "," z ",10" >"demand.csv"
     }'
 }
 

@@ -123,11 +123,19 @@ long_horizon() {
 }
 
 # Times that need more than 32 bits: links of 10,000 steps, with penalties of 36,000 between them.
+# The chain is driven against the order of its nodes.
 wide_labels() {
     begin 'a chain of 50,001 links and walks of more than 2,147,483,648 steps'
-    chain 50002 166666
-    echo node_id,ib_link_id,ob_link_id,penalty >movement.csv
-    awk 'BEGIN { for (k = 2; k <= 50001; k++) print k "," k - 1 "," k ",36000" }' >>movement.csv
+    awk -v n=50002 'BEGIN {
+        print "node_id,zone_id" >"node.csv"
+        print "link_id,from_node_id,to_node_id,length,free_speed,capacity" >"link.csv"
+        print "node_id,ib_link_id,ob_link_id,penalty" >"movement.csv"
+        for (k = 1; k <= n; k++) {
+            print k "," (k == 1 ? 2 : k == n ? 1 : "") >"node.csv"
+            if (k < n) print k "," k + 1 "," k ",166666,60,3600" >"link.csv"
+            if (k > 1 && k < n) print k "," k "," k - 1 ",36000" >"movement.csv"
+        }
+    }'
     demand 1,2,20
     compare assign --step 1 --horizon 1300 --period 60 --iterations 2
 }
