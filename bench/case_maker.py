@@ -1,0 +1,542 @@
+"""Makes a case of random_cases.py: the words of a run and the tables of its folder.
+
+Everything comes from the random numbers that a caller hands in, so that equal seeds make equal
+cases. A case is made sound first, a small network with demand and the words of a command, and then
+spelled: numbers and quotes in odd but accepted ways. Every second case or so is then spoilt, in
+its fields, columns, bytes, words or files, so that most spoilt cases are near to sound ones.
+"""
+from dataclasses import dataclass, field
+
+INPUTS = ("node.csv", "link.csv", "movement.csv", "demand.csv")
+OUTPUTS = ("agent.csv", "link_performance.csv", "gap.csv")
+
+
+@dataclass
+class Case:
+    """The words of a run (as bytes), the files of its folder, and what stands in place of some."""
+    words: list
+    files: dict
+    folders: list = field(default_factory=list)
+    links_to_themselves: list = field(default_factory=list)
+
+
+@dataclass
+class Table:
+    """The columns and the rows of a table, each row with a text for each column."""
+    columns: list
+    rows: list
+
+    def place(self, column):
+        return self.columns.index(column)
+
+
+def make_case(r):
+    """A case by these random numbers."""
+    words = make_words(r)
+    tables = make_tables(r, words)
+    for name in list(tables):
+        add_columns(r, name, tables[name])
+    spelled = r.random() < .5
+    if spelled:
+        for name in tables:
+            spell_fields(r, tables[name])
+    spoils = choose_spoils(r)
+    if "fields" in spoils:
+        spoil_fields(r, tables[r.choice(list(tables))])
+    if "columns" in spoils:
+        spoil_columns(r, tables[r.choice(list(tables))])
+    files = {name: write_table(r, tables[name], spelled) for name in tables}
+    if "bytes" in spoils:
+        name = r.choice(list(files))
+        files[name] = spoil_bytes(r, files[name])
+    if "words" in spoils:
+        words = spoil_words(r, words)
+    case = Case([word.encode("utf-8", "surrogateescape") for word in words], files)
+    if "files" in spoils:
+        spoil_files(r, case)
+    return case
+
+
+def choose_spoils(r):
+    """What is spoilt: mostly nothing or one kind."""
+    kinds = ["fields", "columns", "bytes", "words", "files"]
+    chance = r.random()
+    if chance < .55:
+        return []
+    if chance < .95:
+        return r.choices(kinds, weights=[8, 3, 4, 4, 2])
+    return r.sample(kinds, 2)
+
+
+# Words.
+
+def option_values(r):
+    """A value in its range for each option; the horizon is small, so that runs are short."""
+    horizon = r.choice([1, 5, 30, 60, 100, 150, 200, 300, r.randint(1, 400)])
+    period = r.choice([1, horizon, r.randint(1, horizon), 1 + horizon // 4, 1 + horizon // 10])
+    return {
+        "step": r.choice([1, 6, 6, 10, 30, 60, r.randint(1, 60)]),
+        "jam": r.choice([1, 125, 150, 1000, r.randint(1, 1000)]),
+        "length-unit": r.choice(["m", "m", "km", "mi"]),
+        "speed-unit": r.choice(["kmh", "mph"]),
+        "horizon": horizon,
+        "period": period,
+        "iterations": r.choice([1, 2, 3, 4, r.randint(1, 8)]),
+        "workers": r.choice([1, 2, 3, 16, 16, r.randint(1, 16)]),
+        "bucket": r.choice([1, 7, 10, 50, horizon, 86400, r.randint(1, 100)]),
+        "queue": r.choice(["point", "spatial", "spatial"]),
+        "watch": r.choice([0, 1, 1, 7, 10, 50, 86400, r.randint(1, 100)]),
+    }
+
+
+TAKEN = {
+    "freeflow": ["step", "jam", "length-unit", "speed-unit"],
+    "assign": ["step", "jam", "length-unit", "speed-unit", "horizon", "period", "iterations",
+               "workers", "bucket", "queue", "watch"],
+    "demo": ["step", "jam", "horizon", "period", "iterations", "workers", "bucket", "queue",
+             "watch"],
+}
+
+
+def make_words(r):
+    """The words of a command, all in its grammar."""
+    command = r.choices(["assign", "freeflow", "demo"], weights=[80, 12, 8])[0]
+    values = option_values(r)
+    chosen = [name for name in TAKEN[command] if r.random() < .45]
+    if command != "freeflow" and "horizon" not in chosen:
+        chosen.append("horizon")
+    if "period" in chosen and command != "freeflow":
+        values["period"] = min(values["period"], values["horizon"])
+    groups = []
+    for name in chosen:
+        value = str(values[name])
+        if value.isdigit() and r.random() < .1:
+            value = value.zfill(r.randint(1, 9))
+        groups.append([f"--{name}={value}"] if r.random() < .4 else [f"--{name}", value])
+    if command != "freeflow" and r.random() < .35:
+        groups.append(["--plain"])
+    if command == "demo":
+        groups.append([str(r.choice([2, 2, 3, 4, 5])).zfill(r.choice([1, 1, 1, 3, 9]))])
+    r.shuffle(groups)
+    return [command] + [word for group in groups for word in group]
+
+
+ODD_VALUES = ["", "0", "-1", "+1", "1.0", "1e0", " 1", "1 ", "61", "1001", "86400", "86401", "17",
+              "999999999", "1000000000", "0000000001", "000000001", "٣", "x", "km ", "KM", "m",
+              "point", "newell", "Spatial", "--plain", "-", "--", "1,0", "0x1",
+              "18446744073709551617"]
+ODD_WORDS = ["", "-", "--", "--help", "-h", "--version", "-V", "help", "--plain=", "--plain=true",
+             "--plain=1", "--hor", "--horizons", "-s", "--Step", "-step", "---step", "--step",
+             "--workers", "--start", "--wave=20", "--queue=newell", "--unknown=1", "demo",
+             "assign", "freeflow", "skim", "5", "2", "60", "61", "\udcff", "--step=\udcc3", "é",
+             "--at", "--scales=1", "--link=1", "--wörkers=1", "\t", "="]
+
+
+def spoil_words(r, words):
+    """Words of which one thing or two are odd; a few of them are in the grammar all the same."""
+    words = list(words)
+    for _ in range(r.choice([1, 1, 2])):
+        choice = r.randrange(8)
+        place = r.randrange(len(words)) if words else 0
+        if choice == 0 and words:
+            del words[place]
+        elif choice == 1:
+            words.insert(r.randint(0, len(words)), r.choice(ODD_WORDS))
+        elif choice == 2 and words:
+            words.insert(r.randint(0, len(words)), words[place])
+        elif choice == 3 and words:
+            words[place] = r.choice(ODD_WORDS + ODD_VALUES)
+        elif choice == 4 and words:
+            words[0] = r.choice(["Assign", "assig", "demo", "freeflow", "", "skim", "--assign"])
+        elif choice == 5 and words:
+            words[place] = words[place].split("=")[0] + "=" + r.choice(ODD_VALUES)
+        elif choice == 6:
+            name = r.choice(TAKEN["assign"])
+            words += [f"--{name}", r.choice(ODD_VALUES)]
+        else:
+            r.shuffle(words)
+    return words
+
+
+# Tables.
+
+@dataclass
+class Net:
+    """The identifiers of a network's nodes and zones, and its links as (identifier, from, to)."""
+    nodes: list
+    zones: list
+    links: list
+
+
+def identifiers(r, count):
+    """So many different identifiers, in one of several manners."""
+    manner = r.randrange(4)
+    if manner == 0:
+        return list(range(1, count + 1))
+    if manner == 1:
+        return r.sample(range(0, 3 * count + 3), count)
+    if manner == 2:
+        return r.sample(range(10 ** 6), count)
+    ends = [0, 1, 2 ** 31, 2 ** 32, 2 ** 63 - 1, 2 ** 63 - 2]
+    return r.sample(ends + list(range(10, 99)), count)
+
+
+def ring(r):
+    """The nodes of a ring, or of a part of one, with the pairs that are joined."""
+    size = r.choice([1, 2, 3, 3, 4, 4, 5, 6, 7, 9])
+    nodes = identifiers(r, size)
+    pairs = list(zip(nodes, nodes[1:] + nodes[:1]))
+    if r.random() < .2:
+        pairs = r.sample(pairs, r.randint(0, size))
+    if r.random() < .4:
+        pairs += [(b, a) for a, b in pairs]
+    return nodes, pairs
+
+
+def grid(r):
+    """The nodes of a grid, with pairs in both directions."""
+    width, height = r.randint(2, 4), r.randint(2, 4)
+    nodes = identifiers(r, width * height)
+    pairs = [(nodes[k], nodes[k + 1]) for k in range(len(nodes) - 1) if (k + 1) % width]
+    pairs += list(zip(nodes, nodes[width:]))
+    return nodes, pairs + [(b, a) for a, b in pairs]
+
+
+def make_net(r):
+    """A small network; mostly each of its nodes is reached from each other one."""
+    nodes, pairs = r.choice([ring, ring, grid])(r)
+    size = len(nodes)
+    for _ in range(r.choice([0, 1, 2, 3, 5, 9, 12])):
+        pairs.append((r.choice(nodes), r.choice(nodes)))
+    if pairs and r.random() < .5:
+        pairs += r.choices(pairs, k=r.randint(1, 6))
+    r.shuffle(pairs)
+    links = [(name, a, b) for name, (a, b) in zip(identifiers(r, len(pairs)), pairs)]
+    count = r.choice([1, 2, 2, 3, 4, 5])
+    if r.random() < .9:
+        count = min(count, size)
+    zones = [x for x in identifiers(r, count) if x > 0] or [1]
+    return Net(nodes, zones, links)
+
+
+def node_table(r, net):
+    rows = []
+    sure = r.random() < .9
+    for place, node in enumerate(net.nodes):
+        zone = ""
+        if sure and place < len(net.zones):
+            zone = str(net.zones[place])
+        elif r.random() < .2:
+            zone = str(r.choice(net.zones))
+        elif r.random() < .2:
+            zone = r.choice(["0", "-1", "0.0", "-1.0", "-01", "00"])
+        rows.append([str(node), zone])
+    if r.random() < .3:
+        r.shuffle(rows)
+    return Table(["node_id", "zone_id"], rows)
+
+
+def link_table(r, net, units):
+    """Links of some steps at a usual step, in the units of the words."""
+    scale = {"m": 1, "km": 1000, "mi": 1609.344}[units]
+    longest = r.choice([100, 300, 400, 1000, 2500])
+    wide = r.random() < .6
+    capacities = r.choice([["600", "900", "1800", "3600"], ["", "100", "300", "577.7", "600"],
+                           ["300", "600"], ["", "0", "50", "600", "1e6"], [""]])
+    rows = []
+    for name, a, b in net.links:
+        metres = r.choice([0, 5, 80, 100, 250.5, r.randint(0, longest), r.randint(0, longest)])
+        length = f"{metres / scale:.6f}"
+        lanes = "1" if wide else r.choice(["", "1", "1", "2", "1.5", "0.3", "0", "100"])
+        speed = r.choice(["", "60", "60", "30", "100", "45.678", "20" if wide else "1"])
+        capacity = r.choice(capacities)
+        rows.append([str(name), str(a), str(b), length, lanes, speed, capacity])
+    return Table(["link_id", "from_node_id", "to_node_id", "length", "lanes", "free_speed",
+                  "capacity"], rows)
+
+
+def movement_table(r, net):
+    """Turns at some of the nodes, each of their pairs of links or most of them."""
+    rows = []
+    share = r.choice([.5, .8, .9, 1, 1])
+    penalties = r.choice([["", "0"], ["", "0", "7", "12", "6.001", "60"], ["", "300", "36000"]])
+    for node in net.nodes:
+        if r.random() < .5:
+            continue
+        for first in net.links:
+            for second in net.links:
+                if first[2] == node == second[1] and r.random() < share:
+                    penalty = r.choice(penalties)
+                    capacity = r.choice(["", "", "", "600", "300", "3600", "0", "1000"])
+                    rows.append([str(node), str(first[0]), str(second[0]), penalty, capacity])
+    if net.links and r.random() < .03:
+        rows.append([str(r.choice(net.nodes))] + [str(r.choice(net.links)[0]) for _ in "ab"]
+                    + ["", ""])
+    if r.random() < .3:
+        r.shuffle(rows)
+    return Table(["node_id", "ib_link_id", "ob_link_id", "penalty", "capacity"], rows)
+
+
+def demand_table(r, net):
+    """Volumes of few vehicles, some between zones that the network hasn't."""
+    rows = []
+    many = r.choice([3, 12, 40, 80])
+    for _ in range(r.choice([0, 2, 3, 4, 6, 6, 10])):
+        ends = [str(zone) for zone in r.choices(net.zones, k=2)]
+        if len(net.zones) > 1 and r.random() < .8:
+            ends = [str(zone) for zone in r.sample(net.zones, 2)]
+        if r.random() < .05:
+            ends[r.randrange(2)] = r.choice(["0", "999", str(2 ** 63 - 1)])
+        volume = r.choice(["0", "1", "0.4", "0.333", "2.5", "0.001", str(r.randint(0, many)),
+                           str(r.randint(0, many)), str(r.randint(0, many)),
+                           f"{r.uniform(0, many):.4f}", f"{r.uniform(0, many):.4f}"])
+        rows.append(ends + [volume])
+    return Table(["o_zone_id", "d_zone_id", "volume"], rows)
+
+
+def make_tables(r, words):
+    """The tables of a sound case. The movement table is left out every second time."""
+    net = make_net(r)
+    text = " ".join(words)
+    units = next((u for u in ("km", "mi") if f"length-unit {u}" in text
+                  or f"length-unit={u}" in text), "m")
+    if r.random() < .05:
+        units = r.choice(["m", "km"])
+    tables = {"node.csv": node_table(r, net), "link.csv": link_table(r, net, units)}
+    if r.random() < .5:
+        tables["movement.csv"] = movement_table(r, net)
+    tables["demand.csv"] = demand_table(r, net)
+    return tables
+
+
+# Spelling.
+
+UNREAD = {"node.csv": ["x_coord", "y_coord", "name", "ctrl_type"],
+          "link.csv": ["directed", "directed", "geometry", "name", "dir_flag", "capacity_by_step"],
+          "movement.csv": ["mvmt_id", "type", "capacity_by_step", "name"],
+          "demand.csv": ["time_periods", "name", "Volume", "volume2"]}
+TEXTS = ["", "1", "true", "Mill, North", 'a "quoted" name', "two\nlines", "ümlaut", "0:600;20:0",
+         "LINESTRING (-111.9 33.4, -111.8 33.3)", " ", "\t", "\0", "\r", "😀"]
+
+
+def add_columns(r, name, table):
+    """Adds columns that are passed over, leaves optional ones out, and puts columns in any order.
+    `directed` is checked and not kept."""
+    for _ in range(r.choice([0, 0, 1, 2])):
+        column = r.choice(UNREAD[name])
+        table.columns.append(column)
+        texts = ["", "1", "true", "yes", "2", "x"] if column == "directed" else TEXTS
+        for row in table.rows:
+            row.append(r.choice(texts))
+    for column in ("zone_id", "lanes", "free_speed", "capacity", "penalty"):
+        if column in table.columns and r.random() < .08:
+            drop_column(table, table.place(column))
+    if r.random() < .3:
+        order = list(range(len(table.columns)))
+        r.shuffle(order)
+        table.columns = [table.columns[k] for k in order]
+        table.rows = [[row[k] for k in order] for row in table.rows]
+
+
+def drop_column(table, place):
+    del table.columns[place]
+    for row in table.rows:
+        del row[place]
+
+
+IDENTIFIERS = {"node_id", "zone_id", "link_id", "from_node_id", "to_node_id", "ib_link_id",
+               "ob_link_id", "o_zone_id", "d_zone_id"}
+QUANTITIES = {"length", "lanes", "free_speed", "capacity", "penalty", "volume"}
+
+
+def spell_identifier(r, text):
+    return r.choice([text + ".0", text + ".000", "0" + text, "000" + text, "00" + text + ".0"])
+
+
+def spell_quantity(r, text):
+    """Another text of the same quantity, or nearly."""
+    choice = r.randrange(9)
+    if choice == 0 and "." not in text and "e" not in text:
+        return text + r.choice([".", ".0", ".0004", ".00000", "e0", "E+0", "e-0", "e00"])
+    if choice == 1:
+        return "+" + text
+    if choice == 2 and text.startswith("0."):
+        return text[1:]
+    if choice == 3 and text.isdigit():
+        return text + "0" * 3 + "e-3"
+    if choice == 4 and text.isdigit() and text != "0":
+        return f"0.{text}e{len(text)}"
+    if choice == 5 and "e" not in text:
+        return text.zfill(r.choice([10, 63, 64]))
+    if choice == 6 and text == "0":
+        return r.choice(["-0", "-0.0", "0e999", "-0e9", "1e-999", "0.0009", ".0"])
+    return text
+
+
+def spell_fields(r, table):
+    """Spells numbers in other ways that are accepted and mean the same, with blanks round them."""
+    for place, column in enumerate(table.columns):
+        if column not in IDENTIFIERS | QUANTITIES:
+            continue
+        for row in table.rows:
+            text = row[place]
+            if not text or r.random() < .6:
+                continue
+            signed = text.startswith("-")
+            if column in IDENTIFIERS and not signed and "." not in text:
+                text = spell_identifier(r, text)
+            elif column in QUANTITIES:
+                text = spell_quantity(r, text)
+            if r.random() < .15:
+                text = r.choice([" ", "\t", "  "]) + text + r.choice(["", " ", "\t \t"])
+            row[place] = text
+    for place, column in enumerate(table.columns):
+        if r.random() < .05:
+            table.columns[place] = r.choice([" ", "\t", ""]) + column + r.choice(["", " ", "\t"])
+
+
+def write_field(r, text, spelled):
+    """A field as csv writes it; where fields are spelled, also quoted without need."""
+    if any(mark in text for mark in ',"\n\r') or (spelled and r.random() < .08):
+        return '"' + text.replace('"', '""') + '"'
+    return text
+
+
+def write_table(r, table, spelled):
+    """The bytes of a table, with line ends of one kind or of several, and blank lines."""
+    ends = ["\n"]
+    if spelled:
+        mixed = ["\n", "\r\n", "\r", "\n\n", "\r\n\r\n"]
+        ends = r.choice([["\n"], ["\n"], ["\r\n"], ["\r"], mixed])
+    lines = [table.columns] + table.rows
+    text = ""
+    for place, line in enumerate(lines):
+        fields = ",".join(write_field(r, one, spelled) for one in line)
+        last = place + 1 == len(lines)
+        text += fields + ("" if last and spelled and r.random() < .3 else r.choice(ends))
+    mark = b"\xef\xbb\xbf" * r.choice([0, 0, 0, 1]) if spelled else b""
+    return mark + text.encode("utf-8", "surrogateescape")
+
+
+# Spoiling.
+
+ODD_FIELDS = ["", " ", "x", "-", "+", ".", "-1", "-2", "-0", "-1.0", "-7", "- 1", "+1", "1.5",
+              "1e0", "1.0e3", "1e3", "1E-2", "1e", "1e+", "1e1000", "0e999", "9e999", "1e-999",
+              "-1e-999",
+              "-0.0001", "1..0", "1.0.0", "1,0", "0x10", "٣", "1_000", "inf", "NaN", "None",
+              "9223372036854775807", "9223372036854775808", "18446744073709551616", "1e9", "1e12",
+              "1000000000", "1000000000.0009", "1000000000.001", "1000000001", "100", "100.001",
+              "0.0005", "0.001", "36000", "36000.001", "0.05", "1e-3", "0" * 64, "0" * 65,
+              "0" * 62 + ".5", "0." + "0" * 60 + "1", "0." + "0" * 70, "1\0", "\0", "\udcff",
+              "1\udcc3", "false", "NO", "0", "0.0", "FALSE", "false ", "no", "00", "1;2", "0:600",
+              "0:600;", "none", "1 2", "\u00a01", "1\u2003", '"', '1"', "a\nb", "１"]
+
+
+ODD_BY_COLUMN = {
+    "directed": ["0", "0.0", "false", "no", "NO", "False", "FALSE ", "f", "00", "-0", "n", "0."],
+    "zone_id": ["-1", "-1.0", "-01", "-0", "-2", "0", "0.00", "+1", "-1e0", "- 1"],
+    "lanes": ["100", "100.0009", "100.001", "-0.0001", "1e2", "101"],
+    "free_speed": ["0.001", "0.0009", "0", "1e9", "0.05", "1e-3", "1e-4"],
+    "length": ["1e9", "1e9.0", "1000000000.0009", "1000000000.001", "-1", "1e10", "-0"],
+    "penalty": ["36000", "36000.0009", "36000.001", "36001", "-1", "1e5", "0.001"],
+    "volume": ["2000000", "2000001", "1e9", "1999999.999", "-0.0001", "1e10"],
+}
+
+
+def odd_field(r, column):
+    """An odd text for a field, often one that is odd in this very column."""
+    if column in ODD_BY_COLUMN and r.random() < .6:
+        return r.choice(ODD_BY_COLUMN[column])
+    return r.choice(ODD_FIELDS)
+
+
+def spoil_fields(r, table):
+    """Puts odd texts or those of other fields in places of fields, or copies a row."""
+    for _ in range(r.choice([1, 1, 1, 2, 5])):
+        if not table.rows:
+            return
+        row = r.choice(table.rows)
+        place = r.randrange(len(row)) if row else None
+        choice = r.randrange(12)
+        if place is None or choice == 0:
+            table.rows.insert(r.randint(0, len(table.rows)), list(row))
+        elif choice == 1:
+            row[place] = r.choice(r.choice(table.rows) or [""])
+        elif choice in (2, 3):
+            other = r.choice(table.rows)
+            row[place] = other[place] if place < len(other) else ""
+        elif choice == 4:
+            del row[place]
+        elif choice == 5:
+            row.insert(place, r.choice(ODD_FIELDS))
+        else:
+            row[place] = odd_field(r, (table.columns + [""] * len(row))[place].strip())
+
+
+def spoil_columns(r, table):
+    """Leaves a column out, names it otherwise or twice, or leaves rows out."""
+    if not table.columns:
+        return
+    place = r.randrange(len(table.columns))
+    choice = r.randrange(8)
+    if choice == 0:
+        drop_column(table, place)
+    elif choice == 1:
+        other = r.choice(["", "x", "NODE_ID", "node id", "\ufeffnode_id", "\udcff", "zone_id"])
+        table.columns[place] = other
+    elif choice == 2:
+        table.columns.insert(r.randint(0, len(table.columns)), table.columns[place])
+        for row in table.rows:
+            row.append(r.choice(["", "1", "x"]))
+    elif choice == 3:
+        table.columns.pop()
+    elif choice == 4:
+        table.rows = []
+    elif choice == 5:
+        table.columns, table.rows = [], []
+    elif choice == 6:
+        table.columns[place] = table.columns[r.randrange(len(table.columns))]
+    else:
+        table.rows += r.choices(table.rows, k=1) if table.rows else []
+
+
+ODD_BYTES = [b"", b"\0", b"\xff", b'"', b'""', b"\xef\xbb\xbf", b"\n", b"\r", b"\r\n", b",", b" ",
+             b"\xc3", b"\xe2\x82\xac", b";", b"-", b".", b"e", b"\t", b"\x1a", b"\x0b", b"\x0c"]
+
+
+def spoil_bytes(r, text):
+    """Cuts a table off, or puts, drops or changes some of its bytes."""
+    for _ in range(r.choice([1, 1, 2, 4])):
+        place = r.randint(0, len(text))
+        choice = r.randrange(8)
+        if choice == 0:
+            text = text[:place]
+        elif choice == 1:
+            text = text[:place] + text[place + r.choice([1, 1, 5]):]
+        elif choice in (2, 3):
+            text = text[:place] + r.choice(ODD_BYTES) + text[place:]
+        elif choice == 4:
+            text = text[:place] + bytes([r.randrange(256)]) + text[place + 1:]
+        elif choice == 5:
+            text = b"\xef\xbb\xbf" * r.choice([1, 2]) + text
+        elif choice == 6:
+            text = r.choice([b"", b"\n", b"\xef\xbb\xbf", b"\xef\xbb\xbf\n", b"\r\n\n", b'"',
+                             b"\xef\xbb", b"\xff\xfe1", b",", b"\0"])
+        else:
+            other = r.randint(0, len(text))
+            text = text[:place] + text[min(place, other):max(place, other)] + text[place:]
+    return text
+
+
+def spoil_files(r, case):
+    """Takes a table away, or puts a folder or a link to itself in place of one or of an output."""
+    choice = r.randrange(4)
+    name = r.choice(INPUTS if choice < 3 else OUTPUTS)
+    case.files.pop(name, None)
+    if choice == 1:
+        case.links_to_themselves.append(name)
+    elif choice in (2, 3):
+        if r.random() < .5:
+            case.folders.append(name)
+        else:
+            case.links_to_themselves.append(name)

@@ -1,0 +1,472 @@
+#!/bin/sh
+# hostile.sh PROGRAM [GROUP..]: runs a built program where files, streams, memory and the system
+# let it down. Tells of each case what is wanted and what came, then how many failed; ends with 0
+# where none did. Groups of cases are the functions that `groups` names, and all of them run where
+# none is said. Where it is run by root it also tries a full disk (a small file system in memory),
+# and calls the program as another user. It takes some minutes, and 1 GB in the folder of mktemp.
+groups='folder_without_writing full_outputs full_disk broken_streams closed_streams no_files pipes
+longest_tables long_rows odd_bytes most_vehicles little_memory little_memory_for_shares
+little_memory_for_threads no_threads kills'
+[ $# -ge 1 ] || { echo 'usage: hostile.sh PROGRAM [GROUP..]' >&2; exit 2; }
+work=$(mktemp -d)
+trap 'umount "$work/small" 2>/dev/null; rm -rf "$work"' EXIT
+trap 'exit 1' INT TERM
+chmod 755 "$work"
+cp "$1" "$work/program" && chmod 755 "$work/program" || exit 2
+shift
+program=$work/program
+whole=$work/whole
+cases=0
+failures=0
+is_root=$([ "$(id -u)" = 0 ] && echo yes)
+
+# check NAME WANTED GOT: tells of a case.
+check() {
+    cases=$((cases + 1))
+    if [ "$2" = "$3" ]; then
+        echo "ok: $1: $3"
+    else
+        failures=$((failures + 1))
+        echo "FAILED: $1: wanted $2, got $3"
+    fi
+}
+
+# Two links in a line, and so many vehicles.
+tables() {
+    printf 'node_id,zone_id\n1,1\n2,\n3,3\n' >node.csv
+    printf 'link_id,from_node_id,to_node_id,length,lanes,free_speed,capacity\n' >link.csv
+    printf '10,1,2,1000,1,60,600\n20,2,3,1000,1,60,600\n' >>link.csv
+    printf 'o_zone_id,d_zone_id,volume\n1,3,%s\n' "$1" >demand.csv
+}
+
+# A new folder with these tables, which is then the current one.
+begin() {
+    cd "$work" || exit 2
+    rm -rf "$work/case"
+    mkdir "$work/case"
+    chmod 777 "$work/case"
+    cd "$work/case" || exit 2
+    tables "${1:-3000}"
+}
+
+# Runs the program with these words. Report and Watch go to files beside the folder.
+run() {
+    "$program" "$@" >"$work/report" 2>"$work/watch"
+    status=$?
+}
+
+# What became of an output, beside the text of a run with ample room and that of an earlier run.
+state_of() {
+    if [ -L "$1" ]; then echo link
+    elif [ -d "$1" ]; then echo folder
+    elif [ ! -e "$1" ]; then echo none
+    elif [ ! -s "$1" ]; then echo empty
+    elif cmp -s "$1" "$whole/$1"; then echo whole
+    elif cmp -s "$1" "$work/earlier"; then echo earlier
+    elif cmp -s -n "$(wc -c <"$1")" "$1" "$whole/$1"; then echo part
+    else echo other; fi
+}
+
+# The states of the three files, then the first line of Report, or that it is whole or empty.
+outcome() {
+    text=$status
+    for name in agent.csv link_performance.csv gap.csv; do text="$text $(state_of $name)"; done
+    if [ ! -s "$work/report" ]; then echo "$text -"
+    elif cmp -s "$work/report" "$whole/report"; then echo "$text report"
+    else echo "$text $(head -n 1 "$work/report")"; fi
+}
+
+# Runs a command as a user who is not root.
+as_other() {
+    if [ "$is_root" ]; then
+        setpriv --reuid=65534 --regid=65534 --clear-groups "$@"
+    else
+        "$@"
+    fi
+}
+
+# What a run with ample room writes, over so many vehicles and with further words.
+keep_whole() {
+    begin "$1"
+    shift
+    run assign "$@"
+    rm -rf "$whole"
+    mkdir "$whole"
+    cp ./*.csv "$work/report" "$whole"
+    check "ample room" '0 whole whole whole report' "$(outcome)"
+}
+
+folder_without_writing() {
+    begin
+    chmod 555 .
+    as_other "$program" assign >"$work/report"; status=$?
+    check 'a folder that cannot be written, assign' '5 none none none -' "$(outcome)"
+    as_other "$program" freeflow >"$work/report"; status=$?
+    check 'a folder that cannot be written, freeflow' '5 none none none -' "$(outcome)"
+    as_other "$program" demo 2 >"$work/report"; status=$?
+    check 'a folder that cannot be written, demo' '0 none none none nodes 4' "$(outcome)"
+    as_other "$program" assign --period 0 >"$work/report"; status=$?
+    usage='usage: dta freeflow|assign|demo N [options]'
+    check 'a folder that cannot be written, refused words' "2 none none none $usage" "$(outcome)"
+    chmod 777 .
+    chmod 000 movement.csv 2>/dev/null || : >movement.csv
+    chmod 000 movement.csv demand.csv
+    as_other "$program" assign >"$work/report"; status=$?
+    check 'a table that may not be read' '4 none none none read fault in movement' "$(outcome)"
+}
+
+# Each output in turn is a device that is full, then a folder, then a link to itself.
+full_outputs() {
+    for kind in /dev/full folder itself; do
+        for name in agent.csv link_performance.csv gap.csv; do
+            begin
+            case $kind in
+                folder) mkdir "$name"; was=folder ;;
+                itself) ln -s "$name" "$name"; was=link ;;
+                *) ln -s "$kind" "$name"; was=link ;;
+            esac
+            run assign
+            case $name in
+                agent.csv) wanted="5 $was none none -" ;;
+                link_performance.csv) wanted="5 whole $was none -" ;;
+                *) wanted="5 whole whole $was -" ;;
+            esac
+            check "$name is $kind" "$wanted" "$(outcome)"
+        done
+    done
+}
+
+# Small file systems that are full at some output or none; outputs are put in their order.
+full_disk() {
+    [ "$is_root" ] || { echo 'not tried: a full disk needs root'; return; }
+    mkdir -p "$work/small"
+    for pages in 4 5 8 16 20 21 22 23 24 25 26 27 28 29 30 60; do
+        mount -t tmpfs -o "size=$((pages * 4096))" tmpfs "$work/small" || {
+            echo 'not tried: no file system can be mounted'
+            return
+        }
+        begin
+        cp ./*.csv "$work/small" && cd "$work/small" || exit 2
+        run assign
+        case $(outcome) in
+            '5 part none none -' | '5 empty none none -' | '5 none none none -') got=by-order ;;
+            '5 whole empty none -' | '5 whole none none -' | '5 whole whole empty -' | \
+                '5 whole whole none -' | '0 whole whole whole report') got=by-order ;;
+            *) got=$(outcome) ;;
+        esac
+        check "a disk of $pages pages ($(outcome))" by-order "$got"
+        cd "$work" || exit 2
+        umount "$work/small"
+    done
+}
+
+# Standard streams that are full, closed, or pipes that nobody reads. A run over closed streams may
+# end with 5 or, where the system takes what is put there, with 0, and the tables must be whole.
+broken_streams() {
+    begin
+    : >"$work/report"
+    "$program" assign >/dev/full; status=$?
+    check 'a full standard output' '5 whole whole whole -' "$(outcome)"
+    begin
+    "$program" assign --watch 10 >"$work/report" 2>/dev/full; status=$?
+    check 'a full standard error' '5 none none none -' "$(outcome)"
+    "$program" assign --period 0 >/dev/full; check 'refused words, a full output' 2 $?
+    rm -f node.csv
+    "$program" assign >/dev/full; check 'no node table, a full output' 4 $?
+    begin x
+    "$program" assign >/dev/full; check 'a refused table, a full output' 3 $?
+    begin 2000001
+    "$program" assign >/dev/full; check 'too many vehicles, a full output' 7 $?
+}
+
+# fits NAME GOT: like check, where any of the further words is wanted.
+fits() {
+    name=$1
+    got=$2
+    shift 2
+    for wanted in "$@"; do
+        if [ "$got" = "$wanted" ]; then check "$name" "$wanted" "$got"; return; fi
+    done
+    check "$name" "one of: $(printf '%s, ' "$@")" "$got"
+}
+
+closed_streams() {
+    : >"$work/report"
+    begin
+    "$program" assign >&-; status=$?
+    fits 'standard output closed' "$(outcome)" '5 whole whole whole -' '0 whole whole whole -'
+    begin
+    "$program" assign --watch 10 >"$work/report" 2>&-; status=$?
+    fits 'standard error closed' "$(outcome)" '5 none none none -' '0 whole whole whole report'
+    : >"$work/report"
+    begin
+    "$program" assign --watch 10 <&- >&- 2>&-; status=$?
+    fits 'all three closed' "$(outcome)" '5 none none none -' '0 whole whole whole -' \
+        '5 whole whole whole -'
+    begin
+    { sleep 1; "$program" assign; echo $? >"$work/status"; } | true
+    status=$(cat "$work/status")
+    check 'a pipe that nobody reads' '5 whole whole whole -' "$(outcome)"
+    begin
+    { sleep 1; "$program" assign --watch 10 2>&1 >"$work/report"; echo $? >"$work/status"; } | true
+    status=$(cat "$work/status")
+    check 'Watch to a pipe that nobody reads' '5 none none none -' "$(outcome)"
+}
+
+# What stands in place of a table.
+no_files() {
+    for name in node link movement demand; do
+        for kind in folder itself; do
+            begin
+            rm -f "$name.csv"
+            if [ $kind = folder ]; then mkdir "$name.csv"; else ln -s "$name.csv" "$name.csv"; fi
+            run assign
+            check "$name.csv is $kind" "4 none none none read fault in $name" "$(outcome)"
+        done
+        begin
+        rm -f "$name.csv"
+        run assign
+        wanted="4 none none none read fault in $name"
+        [ $name = movement ] && wanted='0 whole whole whole report'
+        check "no $name.csv" "$wanted" "$(outcome)"
+        begin
+        rm -f "$name.csv"
+        ln -s /dev/zero "$name.csv"
+        run assign
+        check "$name.csv without end" "7 none none none size: table $name limit 268435456" \
+            "$(outcome)"
+    done
+}
+
+# piped NAME TEXT WANTED: node.csv is a pipe that gives this text, in pieces of one byte.
+piped() {
+    begin
+    rm -f node.csv
+    mkfifo node.csv
+    printf "$2" >"$work/text"
+    { dd if="$work/text" of=node.csv bs=1 2>/dev/null; } &
+    writer=$!
+    run assign
+    kill $writer 2>/dev/null
+    wait $writer 2>/dev/null
+    check "$1" "$3" "$(outcome)"
+}
+
+pipes() {
+    piped 'a pipe that gives a whole table' 'node_id,zone_id\n1,1\n2,\n3,3\n' \
+        '0 whole whole whole report'
+    piped 'a pipe that ends in the header' 'node_id,zo' \
+        '3 none none none link line 2: E7 UnknownNode from_node_id'
+    piped 'a pipe that ends in a name that is wanted' 'node_i' \
+        '3 none none none node line 1: E1 MissingColumn node_id'
+    piped 'a pipe that ends in a row' 'node_id,zone_id\n1,1\n2' \
+        '3 none none none node line 3: E2 BadRecord -'
+    piped 'a pipe that gives nothing' '' '3 none none none node line 1: E1 MissingColumn node_id'
+}
+
+# longer FILE BYTES: appends line feeds until the file has so many bytes.
+longer() {
+    head -c $(($2 - $(wc -c <"$1"))) /dev/zero | tr '\0' '\n' >>"$1"
+}
+
+# Tables of the most bytes and of one more; empty lines are passed over.
+longest_tables() {
+    for name in node link movement demand; do
+        begin
+        [ $name = movement ] && printf 'node_id,ib_link_id,ob_link_id\n2,10,20\n' >movement.csv
+        longer $name.csv 268435456
+        run assign
+        check "$name.csv of 268435456 bytes" '0 whole whole whole report' "$(outcome)"
+        printf '\n' >>$name.csv
+        run assign
+        rm -f agent.csv link_performance.csv gap.csv
+        check "$name.csv of one byte more" "7 none none none size: table $name limit 268435456" \
+            "$(outcome)"
+    done
+}
+
+# Fields and rows of a length that nobody writes by hand.
+long_rows() {
+    begin
+    awk 'BEGIN {
+        for (line = 0; line < 4; line++) {
+            for (k = 1; k <= 100000; k++) printf line ? "," : "x%d,", k
+            print line == 0 ? "node_id,zone_id" : line == 2 ? "2," : line "," line
+        }
+    }' >node.csv
+    run assign
+    check 'a header of 100,002 columns' '0 whole whole whole report' "$(outcome)"
+    head -c 10000000 /dev/zero | tr '\0' 'x' >"$work/long"
+    begin
+    { echo node_id,name,zone_id; printf '1,"'; cat "$work/long"; printf '",1\n2,,\n3,,3\n'; } \
+        >node.csv
+    run assign
+    check 'a row of 10 MB' '0 whole whole whole report' "$(outcome)"
+    begin
+    { echo node_id,zone_id; tr x 0 <"$work/long"; printf '1,1\n2,\n3,3\n'; } >node.csv
+    run assign
+    check 'an identifier of 10 MB, with leading zeros' '0 whole whole whole report' "$(outcome)"
+    begin
+    { echo o_zone_id,d_zone_id,volume; printf 1,3,; tr x 0 <"$work/long"; echo 3; } >demand.csv
+    run assign
+    check 'a quantity of 10 MB' '3 none none none demand line 2: E4 NotNumber volume' "$(outcome)"
+    begin
+    { echo o_zone_id,d_zone_id,volume; tr x , <"$work/long"; echo; } >demand.csv
+    run assign
+    check 'a row of 10,000,001 fields' '3 none none none demand line 2: E2 BadRecord -' \
+        "$(outcome)"
+}
+
+# odd_node NAME TEXT WANTED: a run over a node table of this text.
+odd_node() {
+    begin
+    printf "$2" >node.csv
+    run assign
+    check "$1" "$3" "$(outcome)"
+}
+
+odd_bytes() {
+    odd_node 'a quote that never ends, in a row' 'node_id,zone_id\n1,"1\n2,\n3,3\n' \
+        '3 none none none node line 2: E4 NotNumber zone_id'
+    odd_node 'a quote that never ends, in the header' '"node_id,zone_id\n1,1\n' \
+        '3 none none none node line 1: E1 MissingColumn node_id'
+    odd_node 'a quote that never ends, passed over' \
+        'node_id,zone_id,name\n1,1,\n2,,\n3,3,"x\n4,4,\n' '0 whole whole whole report'
+    odd_node 'a NUL in an identifier' 'node_id,zone_id\n1,1\n2\0,\n3,3\n' \
+        '3 none none none node line 3: E4 NotNumber node_id'
+    odd_node 'a NUL in the name of a column' 'node_id\0,zone_id\n1,1\n2,\n3,3\n' \
+        '3 none none none node line 1: E1 MissingColumn node_id'
+    odd_node 'a NUL that is passed over' 'node_id,zone_id,name\n1,1,\0\n2,,\n3,3,\n' \
+        '0 whole whole whole report'
+    odd_node 'NULs alone' '\0\0\0\0' '3 none none none node line 1: E1 MissingColumn node_id'
+}
+
+# The most vehicles, all of them over one link, and one more.
+most_vehicles() {
+    begin 2000000
+    printf 'node_id,zone_id\n1,1\n3,3\n' >node.csv
+    printf 'link_id,from_node_id,to_node_id,length,free_speed,capacity\n1,1,3,100,60,3600\n' \
+        >link.csv
+    for words in --plain '--workers 16'; do
+        # shellcheck disable=SC2086
+        run assign $words
+        got=$(sed -n -e 3p -e 6,8p "$work/report" | tr '\n' ' ')
+        check "2,000,000 vehicles on one link, $words" \
+            '0 vehicles 2000000 arrived 7194 running 6 waiting 1992800 2000001' \
+            "$status $got$(wc -l <agent.csv)"
+    done
+    begin 2000001
+    run assign
+    check '2,000,001 vehicles' \
+        '7 none none none size: demand line 2 vehicles 2000001 limit 2000000' "$(outcome)"
+}
+
+# A ring of 65,536 links, which is driven against the order of its nodes, with so many zones at
+# every 256th node, and vehicles from each zone to the one before it.
+ring() {
+    awk -v n=65536 -v zones="$1" 'BEGIN {
+        print "node_id,zone_id" >"node.csv"
+        print "link_id,from_node_id,to_node_id,length,free_speed" >"link.csv"
+        print "o_zone_id,d_zone_id,volume" >"demand.csv"
+        for (k = 0; k < n; k++) {
+            print k "," (k % 256 == 0 && k / 256 < zones ? k / 256 + 1 : "") >"node.csv"
+            print k "," (k + 1) % n "," k ",100,60" >"link.csv"
+        }
+        for (z = 1; z < zones; z++) print z + 1 "," z ",10" >"demand.csv"
+    }'
+}
+
+# in_memory KILOBYTES WORDS: a run over such a ring in so little memory, links times the horizon at
+# their limit.
+in_memory() {
+    rm -f agent.csv link_performance.csv gap.csv
+    (ulimit -v "$1" && shift && exec "$program" assign --horizon 1024 "$@") \
+        >"$work/report" 2>"$work/watch"
+    status=$?
+}
+
+# Links times the horizon at the limit, past it, and in ever less memory: status 6, with nothing
+# put, or 0.
+little_memory() {
+    begin
+    ring 2
+    run assign --horizon 1025
+    check '65,536 links times 1,025 steps' \
+        '7 none none none size: links 65536 steps 1025 limit 67108864' "$(outcome)"
+    for kilobytes in 2000000 1000000 700000 200000 50000 10000 5000; do
+        for words in --plain --workers=2; do
+            in_memory $kilobytes $words
+            fits "65,536 links times 1,024 steps in $kilobytes KB, $words" "$(outcome)" \
+                '6 none none none -' '0 other other other nodes 65536'
+        done
+    done
+}
+
+# Vehicles to many zones, whose labels take up to four shares side by side: more than there is.
+little_memory_for_shares() {
+    begin
+    ring 40
+    for kilobytes in 2000000 1000000 500000; do
+        in_memory $kilobytes --workers=4
+        check "40 zones, 65,536 links times 1,024 steps in $kilobytes KB" '6 none none none -' \
+            "$(outcome)"
+    done
+}
+
+# A small run in ever less memory, with workers whose threads may not be had.
+little_memory_for_threads() {
+    for kilobytes in $(seq 4000 100 6000) 10000 50000 200000; do
+        begin
+        (ulimit -v $kilobytes && exec "$program" assign --workers 16) >"$work/report" 2>/dev/null
+        status=$?
+        fits "16 workers in $kilobytes KB" "$(outcome)" '6 none none none -' \
+            '0 whole whole whole report'
+    done
+}
+
+# A user who may have no further thread.
+no_threads() {
+    begin
+    as_other prlimit --nproc=1:1 "$program" assign --workers 16 >"$work/report"
+    status=$?
+    check '16 workers, no thread to be had' '0 whole whole whole report' "$(outcome)"
+}
+
+# Kills a run at some moment; what is in the folder then is from an earlier run, or a first part.
+killed() {
+    begin 400000
+    echo earlier >"$work/earlier"
+    for name in agent.csv link_performance.csv gap.csv; do cp "$work/earlier" "$name"; done
+    "$program" assign >"$work/report" 2>"$work/watch" &
+    runs=$!
+    sleep "$1"
+    kill -9 $runs 2>/dev/null
+    wait $runs 2>/dev/null
+    status=$?
+    got=$(outcome)
+    case ${got#* } in
+        'earlier earlier earlier -' | 'empty earlier earlier -' | 'part earlier earlier -' | \
+            'whole earlier earlier -' | 'whole empty earlier -' | 'whole whole earlier -' | \
+            'whole whole empty -' | 'whole whole whole -' | 'whole whole whole report') what=ok ;;
+        *) what=$got ;;
+    esac
+    check "killed after $1 s ($got)" 'ok agent.csv demand.csv gap.csv link.csv '\
+'link_performance.csv node.csv ' "$what $(ls | tr '\n' ' ')"
+}
+
+# Kills a run at moments that are spread over the time that it took with ample room, and after it.
+kills() {
+    whole=$work/long_whole
+    before=$(date +%s.%N)
+    keep_whole 400000
+    after=$(date +%s.%N)
+    for part in 1 4 7 9 10 11 12 13 14 15 16 17 18 20 23; do
+        killed "$(awk "BEGIN { printf \"%.3f\", ($after - $before) * $part / 17 }")"
+    done
+    whole=$work/whole
+}
+
+keep_whole 3000
+for group in ${*:-$groups}; do $group; done
+echo "$cases cases, $failures failed"
+[ $failures -eq 0 ]

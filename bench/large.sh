@@ -1,0 +1,232 @@
+#!/bin/sh
+# large.sh PROGRAM PEER [STAGE] [CASE..]: large input gets an answer. Runs a built program over
+# large tables, with --plain and with workers, and beside it PEER, another program of the same
+# rules, with `--stage STAGE` before its words (12 where it isn't said, nothing where it is 0). One
+# runs after another. Each must end with status 0, and all must write the same tables and the same
+# report. Prints the seconds and the peak memory of each run; ends with 0 where all is as it should
+# be. Cases are the functions that `cases` names, and all of them run where none is said.
+cases='many_vehicles long_chain long_horizon wide_labels many_iterations many_links many_rows
+many_turns crossings many_zones no_demand'
+[ $# -ge 2 ] || { echo 'usage: large.sh PROGRAM PEER [STAGE] [CASE..]' >&2; exit 2; }
+program=$(realpath "$1")
+peer=$(realpath "$2")
+shift 2
+stage=12
+case $1 in [0-9]*) stage=$1; shift ;; esac
+work=$(mktemp -d)
+trap 'rm -rf "$work"' EXIT
+trap 'exit 1' INT TERM
+runs=0
+failures=0
+
+# timed NAME COMMAND..: runs a command in the current folder; prints what it took, sets `status`.
+timed() {
+    told=$1
+    shift
+    runs=$((runs + 1))
+    /usr/bin/time -o "$work/time" -f '%e seconds, %U + %S of processors, peak %M KB' "$@" >report
+    status=$?
+    echo "  $told: status $status, $(tail -n 1 "$work/time")"
+    [ $status -eq 0 ] || fails "$told ends with $status: $(head -n 1 report)"
+}
+
+fails() {
+    failures=$((failures + 1))
+    echo "FAILED: $1"
+}
+
+# compare WORDS..: runs both programs with these words in the current folder of tables.
+compare() {
+    # shellcheck disable=SC2086
+    timed 'the other program' "$peer" $([ "$stage" = 0 ] || echo --stage "$stage") "$@" --plain
+    mkdir first
+    mv agent.csv link_performance.csv gap.csv report first
+    for way in --plain --workers=4; do
+        timed "$way" "$program" "$@" $way
+        for name in agent.csv link_performance.csv gap.csv report; do
+            cmp "$name" "first/$name" || fails "$way writes another $name"
+            rm -f "$name"
+        done
+    done
+    tr '\n' ';' <first/report
+    echo
+    cd "$work" || exit 2
+    rm -rf "$work/tables"
+}
+
+# begin TITLE: a new folder, which is then the current one.
+begin() {
+    echo "$1:"
+    rm -rf "$work/tables"
+    mkdir "$work/tables"
+    cd "$work/tables" || exit 2
+}
+
+# Nodes 1 to NODES in a line, joined by links one way: `chain NODES LENGTH`. The first node is zone
+# 1, the last one zone 2.
+chain() {
+    awk -v n="$1" -v length_="$2" 'BEGIN {
+        print "node_id,zone_id" >"node.csv"
+        print "link_id,from_node_id,to_node_id,length,free_speed,capacity" >"link.csv"
+        for (k = 1; k <= n; k++) {
+            print k "," (k == 1 ? 1 : k == n ? 2 : "") >"node.csv"
+            if (k < n) print k "," k "," k + 1 "," length_ ",60,3600" >"link.csv"
+        }
+    }'
+}
+
+# demand ROWS: a demand table of these rows, each OTHER,OTHER,VOLUME.
+demand() {
+    echo o_zone_id,d_zone_id,volume >demand.csv
+    printf '%s\n' "$@" >>demand.csv
+}
+
+# grid SIDE ZONES: a grid of nodes with links both ways; so many zones are spread over it.
+grid() {
+    awk -v n="$1" -v zones="$2" 'function add(to) {
+        print ++links "," k + 1 "," to + 1 "," 100 + 7 * k % 90 ",60,1800" >"link.csv"
+    }
+    BEGIN {
+        print "node_id,zone_id" >"node.csv"
+        print "link_id,from_node_id,to_node_id,length,free_speed,capacity" >"link.csv"
+        every = int(n * n / zones)
+        for (k = 0; k < n * n; k++) {
+            zone = k % every == 0 && k / every < zones ? k / every + 1 : ""
+            print k + 1 "," zone >"node.csv"
+            if ((k + 1) % n) add(k + 1)
+            if (k + n < n * n) add(k + n)
+            if (k % n) add(k - 1)
+            if (k >= n) add(k - n)
+        }
+    }'
+}
+
+many_vehicles() {
+    begin '1,900,000 vehicles'
+    grid 12 4
+    demand 1,2,500000 2,3,500000 3,4,500000 4,1,400000
+    compare assign --iterations 2 --queue spatial
+}
+
+long_chain() {
+    begin 'a chain of 5,000 links'
+    chain 5001 100
+    demand 1,2,2000
+    compare assign --horizon 12000 --bucket 500
+}
+
+long_horizon() {
+    begin 'a horizon of 86,400 steps'
+    grid 10 8
+    demand 1,2,3000 3,4,3000 5,6,3000 7,8,3000 8,1,2000
+    compare assign --horizon 86400 --period 86400 --step 1 --bucket 900
+}
+
+# Times that need more than 32 bits: links of 10,000 steps, with penalties of 36,000 between them.
+# The chain is driven against the order of its nodes.
+wide_labels() {
+    begin 'a chain of 50,001 links and walks of more than 2,147,483,648 steps'
+    awk -v n=50002 'BEGIN {
+        print "node_id,zone_id" >"node.csv"
+        print "link_id,from_node_id,to_node_id,length,free_speed,capacity" >"link.csv"
+        print "node_id,ib_link_id,ob_link_id,penalty" >"movement.csv"
+        for (k = 1; k <= n; k++) {
+            print k "," (k == 1 ? 2 : k == n ? 1 : "") >"node.csv"
+            if (k < n) print k "," k + 1 "," k ",166666,60,3600" >"link.csv"
+            if (k > 1 && k < n) print k "," k "," k - 1 ",36000" >"movement.csv"
+        }
+    }'
+    demand 1,2,20
+    compare assign --step 1 --horizon 1300 --period 60 --iterations 2
+}
+
+many_iterations() {
+    begin '1,000 iterations of a small network'
+    grid 5 4
+    demand 1,2,200 2,3,200 3,4,200 4,1,200 1,4,200
+    compare assign --horizon 200 --period 20 --bucket 10 --iterations 1000
+}
+
+many_links() {
+    begin '400,000 links'
+    grid 317 2000
+    demand 1,2,300 2,3,300 3,4,300 1000,1001,300 2000,1999,300
+    compare assign --step 20 --horizon 160 --period 60
+}
+
+many_rows() {
+    begin 'a demand table of 4,000,000 rows'
+    grid 12 100
+    echo o_zone_id,d_zone_id,volume >demand.csv
+    awk 'BEGIN { for (k = 0; k < 4000000; k++) print k % 100 + 1 "," k % 101 % 100 + 1 ",0.3" }' \
+        >>demand.csv
+    compare assign
+}
+
+# Each of 1,008 nodes of a ring is joined to the next by 63 links, so that it has 3,969 turns.
+many_turns() {
+    begin 'a movement table of 4,000,000 rows at 1,008 nodes'
+    awk -v n=1008 -v m=63 'BEGIN {
+        print "node_id,zone_id" >"node.csv"
+        print "link_id,from_node_id,to_node_id,length,capacity" >"link.csv"
+        print "node_id,ib_link_id,ob_link_id,penalty,capacity" >"movement.csv"
+        for (k = 0; k < n; k++) {
+            print k "," (k % 252 == 0 ? k / 252 + 1 : "") >"node.csv"
+            for (i = 0; i < m; i++)
+                print k * m + i "," k "," (k + 1) % n "," 100 + i ",600" >"link.csv"
+        }
+        for (k = 0; k < n; k++) for (i = 0; i < m; i++) for (j = 0; j < m && rows < 4000000; j++) {
+            rows++
+            a = (k + n - 1) % n * m + i
+            print k "," a "," k * m + j "," (i + j) % 9 "," (i == j ? 300 : "") >"movement.csv"
+        }
+    }'
+    demand 1,2,500 2,3,500 4,1,500
+    compare assign --horizon 400
+}
+
+# crossing LINKS: a node with so many links in and as many out, and all of its turns.
+crossing() {
+    begin "a movement table of $(($1 * $1)) rows at one node"
+    awk -v m="$1" 'BEGIN {
+        print "node_id,zone_id\n0," >"node.csv"
+        print "link_id,from_node_id,to_node_id,length,capacity" >"link.csv"
+        print "node_id,ib_link_id,ob_link_id,penalty,capacity" >"movement.csv"
+        for (k = 1; k <= m; k++) {
+            print k "," k % 40 + 1 "\n" m + k "," (k % 10 ? "" : k / 10 % 4 + 41) >"node.csv"
+            print k "," k ",0," 100 + k % 7 * 50 ",900\n" m + k ",0," m + k ",200,900" >"link.csv"
+        }
+        for (a = 1; a <= m; a++) for (b = 1; b <= m; b++)
+            print "0," a "," m + b "," (a + b) % 9 "," (a % 5 ? "" : 300) >"movement.csv"
+    }'
+    echo o_zone_id,d_zone_id,volume >demand.csv
+    awk 'BEGIN { for (k = 1; k <= 40; k++) print k "," k % 4 + 41 ",50" }' >>demand.csv
+    compare assign --horizon 100 --iterations 2
+}
+
+# Four times the rows should take about four times as long.
+crossings() {
+    crossing 1000
+    crossing 2000
+}
+
+many_zones() {
+    begin '1,000 zones'
+    grid 32 1000
+    echo o_zone_id,d_zone_id,volume >demand.csv
+    awk 'BEGIN {
+        for (o = 1; o <= 1000; o++) for (d = 1; d <= 1000; d++) if (o != d) print o "," d ",0.05"
+    }' >>demand.csv
+    compare assign --iterations 2
+}
+
+no_demand() {
+    begin 'an empty demand'
+    grid 100 100
+    echo o_zone_id,d_zone_id,volume >demand.csv
+    compare assign --iterations 3
+}
+
+for case in ${*:-$cases}; do $case; done
+echo "$runs runs, $failures failures"
+[ $failures -eq 0 ]
