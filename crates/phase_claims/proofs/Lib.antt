@@ -19,3 +19,4 @@ pub mod PlacesPosting
 pub mod Machines
 pub mod PlacesClosed
 pub mod PlacesEnd
+pub mod Grid

@@ -4,6 +4,7 @@ use crate::{Floor, Pass};
 mod drive;
 mod ends;
 mod four_threads;
+mod grid;
 mod log;
 mod one_pass;
 mod two_passes;

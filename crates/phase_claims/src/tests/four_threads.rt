@@ -7,6 +7,7 @@ ghost use Rattle.std.specs.Thread.{IsSync};
 
 use crate::tests::drive::work;
 use crate::tests::ends::{is_plain, tells};
+use crate::tests::grid::a_grid;
 use crate::tests::log::Log;
 use crate::{Floor, Pass, Receipt};
 use dta_model::{Loaded, Loading};
@@ -101,6 +102,17 @@ fn four_threads_perform_all_units(rt: HostRuntime) -> Result<(), Fail> {
     let log = Log::new(rt.alloc(), &loading, 420)?;
     let (loaded, receipt) = by_four(&rt, &loading, &log)?;
     assert!(rt; log.is_whole() && tells(&receipt, 420, 4, 3));
+    assert!(rt; is_plain(rt.alloc(), &loading, &loaded)?);
+    Ok(())
+}
+
+#[test]
+fn four_threads_load_a_grid(rt: HostRuntime) -> Result<(), Fail> {
+    let grid = a_grid(rt.alloc())?;
+    let loading = grid.loading();
+    let log = Log::new(rt.alloc(), &loading, 4380)?;
+    let (loaded, receipt) = by_four(&rt, &loading, &log)?;
+    assert!(rt; log.is_whole() && tells(&receipt, 4380, 4, 60));
     assert!(rt; is_plain(rt.alloc(), &loading, &loaded)?);
     Ok(())
 }

@@ -47,7 +47,8 @@ fn by_one_pass<'b, 'l: 'b, R: AllocGlobal + Wait>(
     Ok(closed)
 }
 
-// The same over a board of its own, with the state that a monitor is shown in the end.
+// The same over a board of its own, with the state that a monitor reads in the end, once it has
+// learned what the writer tells.
 fn by_one<R: AllocGlobal + Wait>(
     rt: &R,
     loading: &Loading,
@@ -57,7 +58,9 @@ fn by_one<R: AllocGlobal + Wait>(
 {
     let (board, writer, monitor) = Board::new(rt)?;
     let (loaded, writer, receipt) = by_one_pass(rt, loading, &board, writer, log)?;
-    let (_, _, eight) = board.settle(rt, writer, monitor);
+    let (_writer, note) = board.note(rt, writer);
+    let mut monitor = board.learn(rt, monitor, note);
+    let eight = board.read(rt, &mut monitor);
     Ok((loaded, receipt, eight))
 }
 
