@@ -432,14 +432,22 @@ no_threads() {
     check '16 workers, no thread to be had' '0 whole whole whole report' "$(outcome)"
 }
 
+# Waits for so many seconds, or until the run has begun with this output.
+pause() {
+    case $1 in
+        *.csv) while kill -0 $runs 2>/dev/null && cmp -s "$work/earlier" "$1"; do :; done ;;
+        *) sleep "$1" ;;
+    esac
+}
+
 # Kills a run at some moment; what is in the folder then is from an earlier run, or a first part.
 killed() {
     begin 400000
     echo earlier >"$work/earlier"
     for name in agent.csv link_performance.csv gap.csv; do cp "$work/earlier" "$name"; done
-    "$program" assign >"$work/report" 2>"$work/watch" &
+    "$program" assign --plain >"$work/report" 2>"$work/watch" &
     runs=$!
-    sleep "$1"
+    pause "$1"
     kill -9 $runs 2>/dev/null
     wait $runs 2>/dev/null
     status=$?
@@ -450,16 +458,18 @@ killed() {
             'whole whole empty -' | 'whole whole whole -' | 'whole whole whole report') what=ok ;;
         *) what=$got ;;
     esac
-    check "killed after $1 s ($got)" 'ok agent.csv demand.csv gap.csv link.csv '\
+    check "killed at $1 ($got)" 'ok agent.csv demand.csv gap.csv link.csv '\
 'link_performance.csv node.csv ' "$what $(ls | tr '\n' ' ')"
 }
 
-# Kills a run at moments that are spread over the time that it took with ample room, and after it.
+# Kills a run at each output, and at moments that are spread over the time that it took with ample
+# room, and after it.
 kills() {
     whole=$work/long_whole
     before=$(date +%s.%N)
-    keep_whole 400000
+    keep_whole 400000 --plain
     after=$(date +%s.%N)
+    for name in agent.csv agent.csv link_performance.csv gap.csv; do killed $name; done
     for part in 1 4 7 9 10 11 12 13 14 15 16 17 18 20 23; do
         killed "$(awk "BEGIN { printf \"%.3f\", ($after - $before) * $part / 17 }")"
     done
