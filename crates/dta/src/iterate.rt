@@ -56,41 +56,43 @@ fn begin<R: AllocGlobal + Threads + Sync>(
     Ok(routes)
 }
 
-// The gap of an iteration, and the routes of the next.
+// The gap of an iteration, and the routes of the next in place of its own.
 #[tactic(auto, using(crate::proofs::IterateFacts::routings))]
 fn leave<R: AllocGlobal + Threads + Sync>(
     rt: &R,
     settings: &Settings,
     job: &Job,
-    routes: &Routes,
+    routes: &mut Routes,
     times: &LinkTimes,
     iteration: u32,
-) -> Result<(GapLine, Routes), Halt>
+) -> Result<GapLine, Halt>
     requires settings { AreSettings settings.now }
     requires job { IsJob settings.now job.now }
-    requires routes { AreRoutesOf job.now routes.now }
-    requires times { times.now ≡ times_of settings.now job.now routes.now }
+    requires routes { AreRoutesOf job.now routes.old }
+    requires times { times.now ≡ times_of settings.now job.now routes.old }
     requires short { IsShort times.now }
     requires number { (1 ≤ iteration) × (iteration < settings.now.iterations) }
-    ensures gap { IfOk result (λ r. IsGapLine (time_at (times_of settings.now job.now routes.now))
-        job.now.net job.now.trips routes.now r.0) }
-    ensures next { IfOk result (λ r.
-        AreNextRoutes (time_at (times_of settings.now job.now routes.now))
-        job.now.net job.now.trips iteration routes.now r.1) }
-    ensures routes { IfOk result (λ r. AreRoutesOf job.now r.1) }
+    ensures gap { IfOk result (IsGapLine (time_at (times_of settings.now job.now routes.old))
+        job.now.net job.now.trips routes.old) }
+    ensures next { OnOk result (
+        AreNextRoutes (time_at (times_of settings.now job.now routes.old))
+        job.now.net job.now.trips iteration routes.old routes.new) }
+    ensures routes { OnOk result (AreRoutesOf job.now routes.new) }
     ensures memory { IfErr result (λ why. why ≡ halt.Memory) }
 {
     let trips = job.trips.as_slice();
-    let both = gap_and_next_routes(
+    let old = std::mem::replace(routes, Routes::of(Vec::new(rt.alloc())));
+    let (line, next) = gap_and_next_routes(
         rt,
         &job.net,
         trips,
         times,
-        routes,
+        old,
         iteration,
         settings.workers,
     )?;
-    Ok(both)
+    *routes = next;
+    Ok(line)
 }
 
 // The gap of the last iteration.
@@ -112,8 +114,7 @@ fn gap_of<R: AllocGlobal + Threads + Sync>(
     ensures memory { IfErr result (λ why. why ≡ halt.Memory) }
 {
     let trips = job.trips.as_slice();
-    let line = gap_by_shares(rt, &job.net, times, trips, routes, settings.workers)?;
-    Ok(line)
+    Ok(gap_by_shares(rt, &job.net, times, trips, routes, settings.workers)?)
 }
 
 // Does an iteration that isn't the last: its loading, its gap, and the routes of the next.
@@ -142,9 +143,8 @@ fn advance<R: AllocGlobal + Threads + Wait + Sync, D: Desk + Send, G: Gate + Syn
         (shown gate.old) (shown gate.new) result }
 {
     let round = load_round(rt, settings, job, routes, iteration, gate, desk)?;
-    let (line, next) = leave(rt, settings, job, routes, &round.times, iteration)?;
+    let line = leave(rt, settings, job, routes, &round.times, iteration)?;
     lines.push(line)?;
-    *routes = next;
     Ok(())
 }
 

@@ -1,5 +1,5 @@
 -- Routes of the next iteration.
-use Rattle.std.proofs.Common.{◌≡◌, ◌≢◌, ◌⊎◌, inl, inr, ℕ, zero, suc, ◌+◌, ◌<◌, ◌≤◌, Bool, true, false, cond, List, [], ◌∷◌, ◌++◌, length, refl, ap, sym, ◌∙◌, subst, arith, Option, Some, None, get_or, set}
+use Rattle.std.proofs.Common.{◌≡◌, ◌≢◌, ◌⊎◌, inl, inr, ℕ, zero, suc, ◌+◌, ◌<◌, ◌≤◌, Bool, true, false, cond, List, [], ◌∷◌, ◌++◌, length, refl, ap, sym, ◌∙◌, subst, arith, Option, Some, None, get_or, set, take, drop, take_at}
 use Rattle.std.specs.Prelude.{◌&&◌, is_some, replicate, slice_get}
 use Rattle.std.proofs.lemmas.Bool.{cases_lt}
 use Rattle.std.proofs.lemmas.List.{length-append, length-set}
@@ -14,7 +14,7 @@ use Rattle.gap.specs.Gap.{has_route, routed}
 use Rattle.gap.proofs.Sums.{told_where_routed}
 use Rattle.time_routes.specs.Destinations.{AreTold, asked_least, asked_walk, asks_least, asks_walk, LeastOf, WalkOf}
 use Rattle.time_routes.specs.declared.reading.tell.Ask.{Ask}
-use Rattle.route_flows.specs.Asked.{AreAsked, Keeps}
+use Rattle.route_flows.specs.Asked.{AreAsked, Renews}
 use Rattle.route_flows.specs.Averages.{AreChosenRoutes, AreNextRoutes, is_selected}
 
 -- ---- lists by place
@@ -79,64 +79,101 @@ pub told_routed : (at : ℕ → ℕ → ℕ) (net : NetRows) (k : ℕ) (routes :
 told_routed at net k routes trips asks told asked are =
     told_where_routed (LeastOf at net) (asks_least asks) routes trips told (λ v h. ap asked_least (asked.each v (routed_within routes v h)) ∙ h) are
 
--- ---- old routes that are kept
-pub keeps_none : (k : ℕ) (old walks : List (Option (List LinkNo))) → Keeps k old 0 walks walks
-keeps_none k old walks = record { as_many = refl; others = λ v h s. absurd (omega (arith, h)); selected = λ v s. refl }
+-- ---- routes that are renewed
+-- the routes of the first vehicles are renewed, and the walks of the others are still there
+pub record Renewing (k : ℕ) (walks : List (Option (List LinkNo))) (count : ℕ) (old new left : List (Option (List LinkNo))) : Type 0 where
+  pub renews : Renews k walks count old new
+  pub as_many : length left ≡ length walks
+  pub untouched : (v : ℕ) → count ≤ v → slice_get left v ≡ slice_get walks v
 
-pub keeps_more : (k : ℕ) (old : List (Option (List LinkNo))) (i : ℕ) (walks mid new : List (Option (List LinkNo))) → i < length old → length mid ≡ length old
-    → new ≡ cond (is_selected i k) mid (set mid i (get_or old i None)) → Keeps k old i walks mid → Keeps k old (i + 1) walks new
-keeps_more k old i walks mid new inside long is before = by (is_selected i k) refl is
+pub renewing_none : (k : ℕ) (walks old : List (Option (List LinkNo))) → Renewing k walks 0 old old walks
+renewing_none k walks old = record {
+  renews = record { as_many = refl; selected = λ v h s. absurd (omega (arith, h)); others = λ v s. refl };
+  as_many = refl;
+  untouched = λ v h. refl;
+}
+
+pub renewing_more : (k : ℕ) (walks : List (Option (List LinkNo))) (i : ℕ) (old mid left new rest : List (Option (List LinkNo))) → i < length old → length walks ≡ length old
+    → new ≡ cond (is_selected i k) (set mid i (get_or left i None)) mid → rest ≡ cond (is_selected i k) (set left i (get_or mid i None)) left
+    → Renewing k walks i old mid left → Renewing k walks (i + 1) old new rest
+renewing_more k walks i old mid left new rest inside long is leaves before = by (is_selected i k) refl is leaves
   where
     apart : (v : ℕ) (a b : Bool) → is_selected v k ≡ a → is_selected i k ≡ b → a ≢ b → i ≢ v
     apart v a b ha hb other same = other (sym ha ∙ ap (λ w. is_selected w k) (sym same) ∙ hb)
 
-    by : (b : Bool) → is_selected i k ≡ b → new ≡ cond b mid (set mid i (get_or old i None)) → Keeps k old (i + 1) walks new
-    by true s e = subst (λ l. Keeps k old (i + 1) walks l) (sym e) (record { as_many = before.as_many; others = λ v h f. before.others v (below v h (apart v false true f s (λ q. cc))) f; selected = before.selected })
+    below : (v : ℕ) → v < i + 1 → i ≢ v → v < i
+    below v h other = earlier (cases_lt v i)
       where
-        below : (v : ℕ) → v < i + 1 → i ≢ v → v < i
-        below v h other = earlier (cases_lt v i)
-          where
-            earlier : (v < i) ⊎ (i ≤ v) → v < i
-            earlier (inl b) = b
-            earlier (inr b) = absurd (other (omega (arith, h, b)))
-    by false s e = subst (λ l. Keeps k old (i + 1) walks l) (sym e) (record {
-      as_many = length-set mid i (get_or old i None) ∙ before.as_many;
-      others = λ v h f. at_place v h f (cases_lt v i);
-      selected = λ v t. set_other mid i v (get_or old i None) (apart v true false t s (λ q. cc)) ∙ before.selected v t;
-    })
+        earlier : (v < i) ⊎ (i ≤ v) → v < i
+        earlier (inl b) = b
+        earlier (inr b) = absurd (other (omega (arith, h, b)))
+
+    kept : is_selected i k ≡ false → Renewing k walks (i + 1) old mid left
+    kept s = record {
+      renews = record {
+        as_many = before.renews.as_many;
+        selected = λ v h t. before.renews.selected v (below v h (apart v true false t s (λ q. cc))) t;
+        others = before.renews.others;
+      };
+      as_many = before.as_many;
+      untouched = λ v h. before.untouched v (omega (arith, h));
+    }
+
+    taken : is_selected i k ≡ true → Renewing k walks (i + 1) old (set mid i (get_or left i None)) (set left i (get_or mid i None))
+    taken s = record {
+      renews = record {
+        as_many = length-set mid i (get_or left i None) ∙ before.renews.as_many;
+        selected = λ v h t. at_place v h t (cases_lt v i);
+        others = λ v f. set_other mid i v (get_or left i None) (apart v false true f s (λ q. cc)) ∙ before.renews.others v f;
+      };
+      as_many = length-set left i (get_or mid i None) ∙ before.as_many;
+      untouched = λ v h. set_other left i v (get_or mid i None) (λ same. absurd (omega (arith, same, h))) ∙ before.untouched v (omega (arith, h));
+    }
       where
-        at_place : (v : ℕ) → v < i + 1 → is_selected v k ≡ false → (v < i) ⊎ (i ≤ v) → slice_get (set mid i (get_or old i None)) v ≡ slice_get old v
-        at_place v h f (inl b) = set_other mid i v (get_or old i None) (λ same. absurd (omega (arith, same, b))) ∙ before.others v b f
-        at_place v h f (inr b) =
+        in_mid : i < length mid
+        in_mid = let m = before.renews.as_many in omega (arith, m, inside)
+
+        in_left : i < length left
+        in_left = let m = before.as_many in omega (arith, m, long, inside)
+
+        at_place : (v : ℕ) → v < i + 1 → is_selected v k ≡ true → (v < i) ⊎ (i ≤ v) → slice_get (set mid i (get_or left i None)) v ≡ slice_get walks v
+        at_place v h t (inl b) = set_other mid i v (get_or left i None) (λ same. absurd (omega (arith, same, b))) ∙ before.renews.selected v b t
+        at_place v h t (inr b) =
             let same : v ≡ i = omega (arith, h, b) in
-            subst (λ w. slice_get (set mid i (get_or old i None)) w ≡ slice_get old w) (sym same) (set_here mid i (get_or old i None) (omega (arith, inside, long)) ∙ sym (slice_get-get_or old i None inside))
+            subst (λ w. slice_get (set mid i (get_or left i None)) w ≡ slice_get walks w) (sym same)
+            (set_here mid i (get_or left i None) in_mid ∙ sym (slice_get-get_or left i None in_left) ∙ before.untouched i (omega arith))
+
+    by : (b : Bool) → is_selected i k ≡ b → new ≡ cond b (set mid i (get_or left i None)) mid → rest ≡ cond b (set left i (get_or mid i None)) left → Renewing k walks (i + 1) old new rest
+    by true s e f = subst (λ n. Renewing k walks (i + 1) old n rest) (sym e) (subst (λ r. Renewing k walks (i + 1) old (set mid i (get_or left i None)) r) (sym f) (taken s))
+    by false s e f = subst (λ n. Renewing k walks (i + 1) old n rest) (sym e) (subst (λ r. Renewing k walks (i + 1) old mid r) (sym f) (kept s))
 
 -- ---- the next routes
 pub next_are : (at : ℕ → ℕ → ℕ) (net : NetRows) (trips : List Trip) (least : Bool) (k : ℕ) (old walks new : List (Option (List LinkNo))) (asks : List Ask) → length old ≡ length trips
-    → AreAsked least k old (length old) asks → AreTold (WalkOf at net) (asks_walk asks) trips walks → Keeps k old (length old) walks new → AreNextRoutes at net trips k old new
-next_are at net trips least k old walks new asks long asked told keeps = record {
-  as_many = keeps.as_many ∙ told.as_many;
+    → AreAsked least k old (length old) asks → AreTold (WalkOf at net) (asks_walk asks) trips walks → Renews k walks (length old) old new → AreNextRoutes at net trips k old new
+next_are at net trips least k old walks new asks long asked told renews = record {
+  as_many = renews.as_many ∙ long;
   selected = λ v trip route s t n. (
       let inside = slice_get_within trips v trip t in
-      told.each v route (sym (keeps.selected v s) ∙ n) trip (walk_asked least k old (length old) asks v asked (omega (arith, inside, long)) s) t);
-  others = λ v f. by v f (cases_lt v (length old));
+      let there : v < length old = omega (arith, inside, long) in
+      told.each v route (sym (renews.selected v there s) ∙ n) trip (walk_asked least k old (length old) asks v asked there s) t);
+  others = renews.others;
 }
-  where
-    by : (v : ℕ) → is_selected v k ≡ false → (v < length old) ⊎ (length old ≤ v) → slice_get new v ≡ slice_get old v
-    by v f (inl b) = keeps.others v b f
-    by v f (inr b) =
-        let many = keeps.as_many in
-        let as_trips = told.as_many in
-        slice_get_past new v (omega (arith, b, many, as_trips, long)) ∙ sym (slice_get_past old v b)
 
-pub next_told : (at : ℕ → ℕ → ℕ) (net : NetRows) (trips : List Trip) (least : Bool) (k : ℕ) (routes old told walks kept new : List (Option (List LinkNo))) (asks shown : List Ask) → length routes ≡ length trips → old ≡ routes → shown ≡ asks
-    → AreAsked least k old (length old) asks → AreTold (WalkOf at net) (asks_walk shown) trips told → walks ≡ told → Keeps k old (length old) walks kept → new ≡ kept → AreNextRoutes at net trips k routes new
-next_told at net trips least k routes old told walks kept new asks shown long ro sa asked are wt keeps is =
-    subst (λ n. AreNextRoutes at net trips k routes n) (sym is)
-    (next_are at net trips least k routes walks kept asks long
+-- a list of which all places were lent has what was left there
+lent : {X : Type 0} (n : ℕ) (items base now : List X) → n ≡ length items → base ≡ items → length now ≡ length base → take n (now ++ drop (length now) items) ≡ now
+lent n items base now long is many = take_at now (drop (length now) items) n (many ∙ ap length is ∙ sym long)
+
+-- the same of lists that are equal to these, where the routes that are renewed were lent
+pub next_told : (at : ℕ → ℕ → ℕ) (net : NetRows) (trips : List Trip) (least : Bool) (k : ℕ) (routes shown_routes : List (Option (List LinkNo))) (n : ℕ) (items base told walks renewed new : List (Option (List LinkNo))) (asks shown : List Ask)
+    → length routes ≡ length trips → shown_routes ≡ routes → n ≡ length items → base ≡ items → items ≡ routes → shown ≡ asks
+    → AreAsked least k shown_routes (length shown_routes) asks → AreTold (WalkOf at net) (asks_walk shown) trips told → walks ≡ told → Renews k walks (length base) base renewed
+    → new ≡ take n (renewed ++ drop (length renewed) items) → AreNextRoutes at net trips k routes new
+next_told at net trips least k routes shown_routes n items base told walks renewed new asks shown long ro many bi ir sa asked are wt renews is =
+    subst (λ r. AreNextRoutes at net trips k routes r) (sym (is ∙ lent n items base renewed many bi renews.as_many))
+    (next_are at net trips least k routes walks renewed asks long
     (subst (λ l. AreAsked least k l (length l) asks) ro asked)
     (subst (λ w. AreTold (WalkOf at net) (asks_walk asks) trips w) (sym wt) (subst (λ a. AreTold (WalkOf at net) (asks_walk a) trips told) sa are))
-    (subst (λ l. Keeps k l (length l) walks kept) ro keeps))
+    (subst (λ l. Renews k walks (length l) l renewed) (bi ∙ ir) renews))
 
 pub next_walk : (at : ℕ → ℕ → ℕ) (net : NetRows) (trips : List Trip) (k : ℕ) (old new : List (Option (List LinkNo))) → AreWalks net trips old → AreNextRoutes at net trips k old new → AreWalks net trips new
 next_walk at net trips k old new before next v trip route t n = by (is_selected v k) refl

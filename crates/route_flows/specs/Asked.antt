@@ -1,4 +1,4 @@
--- What is asked before routes change, and how old routes are kept.
+-- What is asked before routes change, and which routes are renewed.
 use Rattle.std.specs.Prelude.{◌≡◌, ℕ, ◌<◌, ◌&&◌, Bool, true, false, List, length, Option, Some}
 use Rattle.std.specs.Prelude.{slice_get}
 use Rattle.net_core.specs.declared.rows.LinkNo.{LinkNo}
@@ -14,10 +14,9 @@ pub record AreAsked (least : Bool) (k : ℕ) (routes : List (Option (List LinkNo
   pub each : (v : ℕ) → v < count → slice_get asks v
       ≡ Some (record { least = least && has_route routes v; walk = is_selected v k })
 
--- of the first vehicles those that aren't selected have their old routes, and all others what was
--- there
-pub record Keeps (k : ℕ) (old : List (Option (List LinkNo))) (count : ℕ)
-    (walks new : List (Option (List LinkNo))) : Type 0 where
-  pub as_many : length new ≡ length walks
-  pub others : (v : ℕ) → v < count → is_selected v k ≡ false → slice_get new v ≡ slice_get old v
-  pub selected : (v : ℕ) → is_selected v k ≡ true → slice_get new v ≡ slice_get walks v
+-- of the first vehicles those that are selected have their walks, and all others their old routes
+pub record Renews (k : ℕ) (walks : List (Option (List LinkNo))) (count : ℕ)
+    (old new : List (Option (List LinkNo))) : Type 0 where
+  pub as_many : length new ≡ length old
+  pub selected : (v : ℕ) → v < count → is_selected v k ≡ true → slice_get new v ≡ slice_get walks v
+  pub others : (v : ℕ) → is_selected v k ≡ false → slice_get new v ≡ slice_get old v

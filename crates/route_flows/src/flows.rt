@@ -9,7 +9,7 @@ ghost use Rattle.gap.specs.Gap.{IsGapLine};
 ghost use Rattle.route_flows.specs.Averages.{AreChosenRoutes, AreFirstRoutes, AreNextRoutes};
 ghost use Rattle.route_flows.specs.declared.selection.TheConstants.{MOST_ITERATION};
 
-use crate::kept::keep_others;
+use crate::kept::{copies, renew_selected};
 use crate::selection::{all_walks, asks_of};
 use dta_model::{Routes, Trip};
 use gap::{GapLine, gap_line};
@@ -78,41 +78,40 @@ pub fn next_routes<R: AllocGlobal + Threads + Sync>(
         leasts: _,
         mut walks,
     } = tell_by_shares(rt, net, times, trips, &asks, workers)?;
-    keep_others(alloc, old, k, &mut walks)?;
-    Ok(Routes::of(walks))
+    let mut next = copies(alloc, old)?;
+    renew_selected(&mut walks, k, &mut next);
+    Ok(Routes::of(next))
 }
 
 /// The gap of iteration k and the routes of the next one, in one pass over the destinations: what
-/// `gap` and [`next_routes`] give.
+/// `gap` and [`next_routes`] give. Routes that are kept are moved, and none is copied.
 pub fn gap_and_next_routes<R: AllocGlobal + Threads + Sync>(
     rt: &R,
     net: &Net,
     trips: &[Trip],
     times: &LinkTimes,
-    routes: &Routes,
+    routes: Routes,
     k: u32,
     workers: u32,
 ) -> Result<(GapLine, Routes), Memory>
     requires table { length times.now.free ≡ length net.now.links }
     requires short { IsShort times.now }
     requires trips { AreTrips trips.now }
-    requires each { length routes.now ≡ length trips.now }
-    requires walks { AreWalks net.now trips.now routes.now }
+    requires each { length routes ≡ length trips.now }
+    requires walks { AreWalks net.now trips.now routes }
     requires k_least { 1 ≤ k }
     requires k_most { k ≤ MOST_ITERATION }
     requires workers_least { 1 ≤ workers }
     requires workers_most { workers ≤ MOST_WORKERS }
-    ensures gap { IfOk result (λ r. IsGapLine (time_at times.now) net.now trips.now routes.now
-        r.0) }
-    ensures next { IfOk result (λ r. AreNextRoutes (time_at times.now) net.now trips.now k
-        routes.now r.1) }
+    ensures gap { IfOk result (λ r. IsGapLine (time_at times.now) net.now trips.now routes r.0) }
+    ensures next { IfOk result (λ r. AreNextRoutes (time_at times.now) net.now trips.now k routes
+        r.1) }
     ensures walks { IfOk result (λ r. AreWalks net.now trips.now r.1) }
 {
-    let alloc = rt.alloc();
-    let old = routes.as_slice();
-    let asks = asks_of(alloc, old, true, k)?;
+    let asks = asks_of(rt.alloc(), routes.as_slice(), true, k)?;
     let Told { leasts, mut walks } = tell_by_shares(rt, net, times, trips, &asks, workers)?;
-    let line = gap_line(net, times, trips, routes, &leasts);
-    keep_others(alloc, old, k, &mut walks)?;
-    Ok((line, Routes::of(walks)))
+    let line = gap_line(net, times, trips, &routes, &leasts);
+    let mut next = routes.into_vec();
+    renew_selected(&mut walks, k, &mut next);
+    Ok((line, Routes::of(next)))
 }

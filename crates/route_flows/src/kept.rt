@@ -1,8 +1,7 @@
-// Old routes that are kept.
+// Old routes, and those that selected vehicles take instead.
 ghost use Rattle.std.specs.Prelude.{◌≡◌, ◌<◌, ◌≤◌, length, cond, get_or, slice_set, None, IfOk};
-ghost use Rattle.std.specs.Prelude.{OnOk};
 ghost use Rattle.dta_model.specs.declared.trip.TheConstants.{MOST_TRIPS};
-ghost use Rattle.route_flows.specs.Asked.{Keeps};
+ghost use Rattle.route_flows.specs.Asked.{Renews};
 ghost use Rattle.route_flows.specs.Averages.{is_selected as selected_of};
 ghost use Rattle.route_flows.specs.declared.selection.TheConstants.{MOST_ITERATION};
 
@@ -21,40 +20,42 @@ fn copied(alloc: Global, route: &Option<Route>) -> Result<Option<Route>, Memory>
     }
 }
 
-// Gives a vehicle its old route, if it isn't selected.
-fn keep(
-    alloc: Global,
-    old: &[Option<Route>],
-    vehicle: u32,
-    k: u32,
-    walks: &mut Vec<Option<Route>>,
-) -> Result<(), Memory>
-    requires k { k ≤ MOST_ITERATION }
-    requires vehicle { vehicle < length old.now }
-    requires each { length walks.old.items ≡ length old.now }
-    ensures { OnOk result (walks.new.items ≡ cond (selected_of vehicle k) walks.old.items
-        (slice_set walks.old.items vehicle (get_or old.now vehicle None))) }
+/// Copies of all routes.
+pub(crate) fn copies(alloc: Global, routes: &[Option<Route>]) -> Result<Vec<Option<Route>>, Memory>
+    ensures { IfOk result (λ copies. copies.items ≡ routes.now) }
 {
-    if !is_selected(vehicle, k) {
-        walks[vehicle as usize] = copied(alloc, &old[vehicle as usize])?;
+    let mut copies = Vec::with_capacity(alloc, routes.len())?;
+    for route in routes {
+        copies.push(copied(alloc, route)?)?;
     }
-    Ok(())
+    Ok(copies)
 }
 
-/// Gives each vehicle that isn't selected its old route.
-pub(crate) fn keep_others(
-    alloc: Global,
-    old: &[Option<Route>],
-    k: u32,
-    walks: &mut Vec<Option<Route>>,
-) -> Result<(), Memory>
+// Gives a vehicle its walk in place of its old route, which is left where the walk was, if it is
+// selected.
+fn renew(walks: &mut [Option<Route>], vehicle: u32, k: u32, routes: &mut [Option<Route>])
     requires k { k ≤ MOST_ITERATION }
-    requires few { length old.now ≤ MOST_TRIPS }
-    requires each { length walks.old.items ≡ length old.now }
-    ensures { OnOk result (Keeps k old.now (length old.now) walks.old.items walks.new.items) }
+    requires vehicle { vehicle < length routes.old }
+    requires each { length walks.old ≡ length routes.old }
+    ensures routes { routes.new ≡ cond (selected_of vehicle k)
+        (slice_set routes.old vehicle (get_or walks.old vehicle None)) routes.old }
+    ensures walks { walks.new ≡ cond (selected_of vehicle k)
+        (slice_set walks.old vehicle (get_or routes.old vehicle None)) walks.old }
 {
-    for v in 0..old.len() {
-        keep(alloc, old, v as u32, k, walks)?;
+    if is_selected(vehicle, k) {
+        std::mem::swap(&mut routes[vehicle as usize], &mut walks[vehicle as usize]);
     }
-    Ok(())
+}
+
+/// Gives each vehicle that is selected its walk in place of its old route; the others keep theirs.
+/// No route is copied.
+pub(crate) fn renew_selected(walks: &mut [Option<Route>], k: u32, routes: &mut [Option<Route>])
+    requires k { k ≤ MOST_ITERATION }
+    requires few { length routes.old ≤ MOST_TRIPS }
+    requires each { length walks.old ≡ length routes.old }
+    ensures { Renews k walks.old (length routes.old) routes.old routes.new }
+{
+    for v in 0..routes.len() {
+        renew(walks, v as u32, k, routes);
+    }
 }

@@ -83,8 +83,8 @@ fn shows<R: AllocGlobal + Threads + Sync>(
             ..loading
         },
     )?;
-    let (line, second) = gap_and_next_routes(rt, net, trips, &times, &first, 1, 4)?;
     let same = next_routes(rt, net, trips, &times, &first, 1, 1)?;
+    let (line, second) = gap_and_next_routes(rt, net, trips, &times, first, 1, 4)?;
     let again = times_of(
         alloc,
         &Loading {

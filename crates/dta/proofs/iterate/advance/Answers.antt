@@ -50,7 +50,7 @@ pub returns-clause-watches : goal.returns-clause-watches
 returns-clause-watches g c =
     let w = c.in_ok-round.ensures.watches in
     record {
-      done = λ start before. ahead c.args.settings.now c.args.job.now c.args.iteration c.args.routes.now c.in_ok-line.next c.args.lines.now.items _ c.in_ok-line.line start
+      done = λ start before. ahead c.args.settings.now c.args.job.now c.args.iteration c.args.routes.now c.leave.new.routes c.args.lines.now.items _ c.in_ok-line.line start
           (g.D.Desk.taken c.args.desk.now) (g.D.Desk.taken c.load_round.new.desk) before w.done c.in_ok-push.ensures.items c.in_ok-line.ensures.gap c.in_ok-line.ensures.next;
       halts = tt;
       failed = tt;

@@ -13,4 +13,4 @@ gap_and_next_routes-requires-clause-walks g c _ _ =
 
 pub returns-clause-routes : goal.returns-clause-routes
 returns-clause-routes g c =
-    routes-of c.args.job.now c.job.inside.net c.as_slice-trips.result.now c.in_ok-both.both.1 (rw c.as_slice-trips.ensures.value c.job.view_is) c.in_ok-both.ensures.next.as_many c.in_ok-both.ensures.walks
+    routes-of c.args.job.now c.job.inside.net c.as_slice-trips.result.now c.in_ok-line.next (rw c.as_slice-trips.ensures.value c.job.view_is) c.in_ok-line.ensures.next.as_many c.in_ok-line.ensures.walks

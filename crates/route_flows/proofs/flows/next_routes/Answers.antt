@@ -1,4 +1,4 @@
-use Rattle.std.proofs.Common.{refl, false}
+use Rattle.std.proofs.Common.{◌∙◌, false, rules}
 use Rattle.dta_model.specs.LinkTimes.{time_at}
 use Rattle.route_flows.proofs.Averaged.{next_told, next_walk}
 use Rattle.route_flows.proofs.flows.next_routes.Goals as goal
@@ -9,8 +9,9 @@ returns-clause-next g c =
     let net = c.args.net.now in
     let trips = c.args.trips.now in
     let routes = c.args.routes.now in
-    next_told at net trips false c.args.k routes c.as_slice-old.result.now c.in_ok-walks.field-0.walks.items c.in_ok-walks.field-0.walks.items c.keep_others.new.walks.items c.of.result c.in_ok-asks.asks.items c.deref.result.now c.requires.each c.as_slice-old.ensures c.deref.ensures.value
-    c.in_ok-asks.ensures c.in_ok-walks.ensures.walks refl c.in_ok-keep_others.ensures c.of.ensures
+    next_told at net trips false c.args.k routes c.as_slice-old.result.now c.in_ok-next.next.len c.in_ok-next.next.items c.deref_mut-2.result.now c.in_ok-walks.field-0.walks.items c.deref_mut.result.now c.renew_selected.new.routes c.of.result c.in_ok-asks.asks.items c.deref.result.now c.requires.each c.as_slice-old.ensures
+    (search rules) c.deref_mut-2.ensures.value (c.in_ok-next.ensures ∙ c.as_slice-old.ensures) c.deref.ensures.value
+    c.in_ok-asks.ensures c.in_ok-walks.ensures.walks c.deref_mut.ensures.value c.renew_selected.ensures c.of.ensures
 
 pub returns-clause-walks : goal.returns-clause-walks
 returns-clause-walks g c =

@@ -1,0 +1,5 @@
+use Rattle.route_flows.proofs.Averaged.{Renewing}
+use Rattle.route_flows.proofs.kept.renew_selected.Given as goal
+
+abbrev pub invariant-loop-v : goal.invariant-loop-v
+invariant-loop-v l = Renewing l.k l.fn.walks l.v l.fn.routes l.routes l.walks
