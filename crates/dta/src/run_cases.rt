@@ -458,6 +458,46 @@ static FULL: [Case; 4] = [
     },
 ];
 
+// A ring of five zones, from each of which a vehicle goes over two links. Routes are looked for to
+// four zones at once, so two workers look for them in two shares.
+const FIVE_ZONES: Case = Case {
+    name: "five zones",
+    words: "assign --period 30 --horizon 60 --iterations 2",
+    node: "node_id,zone_id\n1,1\n2,2\n3,3\n4,4\n5,5\n",
+    link: "link_id,from_node_id,to_node_id,length,lanes,free_speed,capacity\n\
+10,1,2,1000,1,60,600\n20,2,3,1000,1,60,600\n30,3,4,1000,1,60,600\n40,4,5,1000,1,60,600\n\
+50,5,1,1000,1,60,600\n",
+    movement: "",
+    demand: "o_zone_id,d_zone_id,volume\n1,3,1\n2,4,1\n3,5,1\n4,1,1\n5,2,1\n",
+    agent: "\
+agent_id,o_zone_id,d_zone_id,departure_step,arrival_step,status,link_ids,entry_steps\n\
+0,1,3,15,35,arrived,10;20,15;25\n1,2,4,15,35,arrived,20;30,15;25\n\
+2,3,5,15,35,arrived,30;40,15;25\n3,4,1,15,35,arrived,40;50,15;25\n\
+4,5,2,15,35,arrived,50;10,15;25\n",
+    link_time: "link_id,from_step,to_step,entered,travel_steps,free_steps\n\
+10,0,50,2,10,10\n10,50,60,0,10,10\n20,0,50,2,10,10\n20,50,60,0,10,10\n\
+30,0,50,2,10,10\n30,50,60,0,10,10\n40,0,50,2,10,10\n40,50,60,0,10,10\n\
+50,0,50,2,10,10\n50,50,60,0,10,10\n",
+    gap: "iteration,route_steps,least_steps,gap_steps,gap_ppm\n1,100,100,0,0\n2,100,100,0,0\n",
+    report: "nodes 5\nlinks 5\nvehicles 5\nunrouted 0\niterations 2\narrived 5\nrunning 0\n\
+waiting 0\nroute_steps 100\nleast_steps 100\ngap_steps 0\ngap_ppm 0\n",
+    watch: "",
+};
+
+// Five zones by two workers, and by one with the plain loader.
+static FIVE: [Case; 2] = [
+    Case {
+        name: "five zones --workers 2",
+        words: "assign --period 30 --horizon 60 --iterations 2 --workers 2",
+        ..FIVE_ZONES
+    },
+    Case {
+        name: "five zones --workers 1 --plain",
+        words: "assign --period 30 --horizon 60 --iterations 2 --workers 1 --plain",
+        ..FIVE_ZONES
+    },
+];
+
 // The words of a line.
 fn words_in(alloc: Global, line: &str) -> Result<Words, Fail> {
     let mut words = Words::new(alloc);
@@ -568,6 +608,13 @@ fn cases_of_options(rt: HostRuntime) -> Result<(), Fail> {
 #[test]
 fn cases_of_a_full_ring(rt: HostRuntime) -> Result<(), Fail> {
     let failure = first_failure(&rt, &FULL)?;
+    assert!(rt; failure.is_none(), "{failure:?}");
+    Ok(())
+}
+
+#[test]
+fn cases_of_five_zones(rt: HostRuntime) -> Result<(), Fail> {
+    let failure = first_failure(&rt, &FIVE)?;
     assert!(rt; failure.is_none(), "{failure:?}");
     Ok(())
 }
