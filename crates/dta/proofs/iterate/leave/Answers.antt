@@ -9,7 +9,8 @@ gap_and_next_routes-requires-clause-table g c _ _ =
 
 pub gap_and_next_routes-requires-clause-walks : goal.gap_and_next_routes-requires-clause-walks
 gap_and_next_routes-requires-clause-walks g c _ _ =
-    walks-of c.args.job.now c.job.inside.net c.as_slice-trips.result.now c.args.routes.now (rw c.as_slice-trips.ensures.value c.job.view_is) c.requires.routes
+    rw c.replace-old.ensures.value
+    (walks-of c.args.job.now c.job.inside.net c.as_slice-trips.result.now c.args.routes.now (rw c.as_slice-trips.ensures.value c.job.view_is) c.requires.routes)
 
 pub returns-clause-routes : goal.returns-clause-routes
 returns-clause-routes g c =
