@@ -1,1 +1,2 @@
 pub mod LastFacts
+pub mod PathFacts

@@ -4,14 +4,15 @@ ghost use Rattle.dta_model.specs.Riders.{moved};
 ghost use Rattle.link_queues.specs.Riders.{setting_out};
 ghost use Rattle.std.specs.List.{last_or};
 ghost use Rattle.std.specs.Prelude.{◌≡◌, ◌<◌, ◌++◌, ◌∷◌, [], ◌↔◌, length, slice_get, option_map};
-ghost use Rattle.std.specs.Prelude.{IfOk, IsNone, IsSome, None};
+ghost use Rattle.std.specs.Prelude.{◌≤◌, ◌+◌, IfOk, IsNone, IsSome, None};
+ghost use Rattle.std.specs.Vec.{vec_len, vec_capacity};
 
 use dta_model::{Journey, Route, Steps};
 use net_core::LinkNo;
 use std::alloc::{AllocError, Global};
 use std::marker::Model;
 
-/// A vehicle on its way along a route. The last entry and the next link stand beside the lists too,
+/// A vehicle on its way along a route. The last entry and the next link stand beside the list too,
 /// so that who looks at a head follows no pointer.
 #[derive(Drop)]
 pub struct Rider {
@@ -19,8 +20,10 @@ pub struct Rider {
     departure: u32,
     last: Option<u32>,
     next: Option<LinkNo>,
-    route: Route,
-    entries: Vec<u32>,
+    // The links of the route, and behind them the steps in which they were entered.
+    path: Vec<u32>,
+    // How many links the route has.
+    links: usize,
     arrival: Option<u32>,
 }
 
@@ -35,11 +38,15 @@ impl Model for Rider {
     ghost invariant = { IsSoundRider };
 }
 
-// The link at a place of a route.
-fn link_at(route: &Route, place: usize) -> Option<LinkNo>
-    ensures { result ≡ slice_get route.now place }
+// Puts the numbers of links last in a list that has room for them.
+fn put_links(path: &mut Vec<u32>, links: &[LinkNo])
+    requires { vec_len path.old + length links.now ≤ vec_capacity path.old }
+    ensures items { path.new.items ≡ path.old.items ++ link_numbers links.now }
+    ensures room { vec_capacity path.new ≡ vec_capacity path.old }
 {
-    route.as_slice().get(place).copied()
+    for place in 0..links.len() {
+        path.push_reserved(links[place].0);
+    }
 }
 
 impl Rider {
@@ -54,15 +61,16 @@ impl Rider {
         ensures { IfOk result
             (λ rider. rider ≡ setting_out number departure (link_numbers route.now)) }
     {
-        let links = Vec::from_slice(alloc, route.as_slice())?;
-        let entries = Vec::with_capacity(alloc, links.len())?;
+        let links = route.as_slice();
+        let mut path = Vec::with_capacity(alloc, 2 * links.len())?;
+        put_links(&mut path, links);
         Ok(Rider {
             number,
             departure,
             last: None,
             next: links.first().copied(),
-            route: Route::of(links),
-            entries,
+            path,
+            links: links.len(),
             arrival: None,
         })
     }
@@ -106,9 +114,31 @@ impl Rider {
         ensures entries { result.entries ≡ self.entries }
         ensures arrival { result.arrival ≡ self.arrival }
     {
+        let entered = self.entered();
+        let mut entries = self.path;
+        entries.copy_within(self.links.., 0);
+        entries.truncate(entered);
         Journey {
-            entries: Steps::of(self.entries),
+            entries: Steps::of(entries),
             arrival: self.arrival,
+        }
+    }
+
+    // How many links are entered.
+    fn entered(&self) -> usize
+        ensures { result ≡ length self.now.entries }
+    {
+        self.path.len() - self.links
+    }
+
+    // The link at a place of the route.
+    fn link_at(&self, place: usize) -> Option<LinkNo>
+        ensures { option_map (λ link. link.0) result ≡ slice_get self.now.route place }
+    {
+        if place < self.links {
+            Some(LinkNo(self.path[place]))
+        } else {
+            None
         }
     }
 
@@ -129,11 +159,8 @@ impl Rider {
         requires { length self.old.entries < length self.old.route }
         ensures { self.new ≡ record self.old { entries = self.old.entries ++ step ∷ [] } }
     {
-        match self.entries.push(step) {
-            Ok(()) => {}
-            Err(_) => unreachable!(),
-        }
+        self.next = self.link_at(self.entered() + 1);
+        self.path.push_reserved(step);
         self.last = Some(step);
-        self.next = link_at(&self.route, self.entries.len());
     }
 }
