@@ -133,12 +133,14 @@ fn crew<R: Threads + Wait + Sync, G: Gate + Sync>(
     }
 }
 
-// Worker 0 works until no unit is left, and puts watch lines meanwhile.
+// Worker 0 of so many works until no unit is left, and puts watch lines meanwhile. Where it is alone
+// it can open each unit at once, and needn't look before it claims.
 fn lead<R: Wait, G: Gate, D: Desk>(
     rt: &R,
     floor: &Floor,
     gate: &G,
     pass: &mut Pass,
+    workers: u32,
     board: &Board,
     watcher: &mut Watcher,
     desk: &mut D,
@@ -152,7 +154,9 @@ fn lead<R: Wait, G: Gate, D: Desk>(
         → HasWatched watcher.new before (state desk.new) }
 {
     for _ in rt.forever() {
-        wait_for_unit(rt, floor);
+        if 1 < workers {
+            wait_for_unit(rt, floor);
+        }
         let Some(unit) = floor.claim(pass) else {
             break;
         };
@@ -185,7 +189,7 @@ pub fn perform_all<R: Threads + Wait + Sync, G: Gate + Sync, D: Desk + Send>(
 {
     if workers == 1 {
         let mut pass = pass;
-        lead(rt, floor, gate, &mut pass, board, watcher, desk);
+        lead(rt, floor, gate, &mut pass, workers, board, watcher, desk);
         return pass;
     }
     let (rest, mut mine) = floor.split(pass);
@@ -208,7 +212,7 @@ pub fn perform_all<R: Threads + Wait + Sync, G: Gate + Sync, D: Desk + Send>(
                 × IsSameWatch watcher.entry.now watcher.exit.now
                 × ((before : DeskState) → HasWatched watcher.entry.now before (state desk.entry.now)
                 → HasWatched watcher.exit.now before (state desk.exit.now)) }
-        { lead(rt, floor, gate, &mut mine, board, watcher, desk) },
+        { lead(rt, floor, gate, &mut mine, workers, board, watcher, desk) },
     );
     match rest {
         Some(rest) => floor.join(mine, rest),
