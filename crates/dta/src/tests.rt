@@ -79,6 +79,14 @@ fn words_of(alloc: Global, given: &[&str]) -> Result<Words, Fail> {
     Ok(words)
 }
 
+// The words of an assignment over two links in a line, by so many workers.
+fn words_by(alloc: Global, workers: &str) -> Result<Words, Fail> {
+    let mut words = words_of(alloc, ASSIGN)?;
+    words.push("--workers")?;
+    words.push(workers)?;
+    Ok(words)
+}
+
 // The status of a run over a desk.
 fn run_over<R: AllocGlobal + Threads + Wait + Sync, D: Desk + Send>(
     rt: &R,

@@ -2,7 +2,7 @@
 use crate::Gate;
 use crate::run::run;
 use crate::status::Status;
-use crate::tests::{AGENTS, GAPS, LINK_TIMES, SUMMARY, two_links, words_of};
+use crate::tests::{AGENTS, GAPS, LINK_TIMES, SUMMARY, two_links, words_by};
 use desk_io::Output;
 use phase_claims::Receipt;
 use std::hint;
@@ -63,18 +63,7 @@ impl HoldsOne {
 
 #[test]
 fn a_held_worker(rt: HostRuntime) -> Result<(), Fail> {
-    let words = words_of(
-        rt.alloc(),
-        &[
-            "assign",
-            "--period",
-            "30",
-            "--horizon",
-            "60",
-            "--workers",
-            "2",
-        ],
-    )?;
+    let words = words_by(rt.alloc(), "2")?;
     let mut gate = HoldsOne {
         first: AtomicBool::new(false),
         second: AtomicBool::new(false),

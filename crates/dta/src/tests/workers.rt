@@ -1,7 +1,7 @@
 // Runs by workers: their receipts and watch lines, a grid, and that they work side by side.
 use crate::run::run;
 use crate::status::Status;
-use crate::tests::{NODES, desk_of, run_over, two_links, words_of};
+use crate::tests::{NODES, desk_of, run_over, two_links, words_by, words_of};
 use crate::{CountGate, Gate, NoGate};
 use desk_io::{MemDesk, Output};
 use grid_maker::grid;
@@ -242,18 +242,7 @@ impl TwoHold {
 
 #[test]
 fn two_hold_units(rt: HostRuntime) -> Result<(), Fail> {
-    let words = words_of(
-        rt.alloc(),
-        &[
-            "assign",
-            "--period",
-            "30",
-            "--horizon",
-            "60",
-            "--workers",
-            "2",
-        ],
-    )?;
+    let words = words_by(rt.alloc(), "2")?;
     let mut gate = TwoHold {
         been: [AtomicBool::new(false), AtomicBool::new(false)],
         in_vain: AtomicBool::new(false),
