@@ -92,7 +92,7 @@ fn work<R: Wait, G: Gate>(rt: &R, floor: &Floor, gate: &G, pass: &mut Pass, work
 }
 
 // A crew of so many workers, of which the first has this number. It takes no memory.
-fn crew<R: Threads + Wait + Sync, G: Gate + Sync>(
+pub(crate) fn crew<R: Threads + Wait + Sync, G: Gate + Sync>(
     rt: &R,
     floor: &Floor,
     gate: &G,

@@ -2,6 +2,8 @@
 ghost use Rattle.std.specs.Prelude.{◌≤◌};
 ghost use Rattle.loader.specs.declared.loading.TheConstants.{MOST_WORKERS};
 
+mod late_monitor;
+
 use crate::{CountGate, Gate, LoadFault, NoGate, Watch, load};
 use desk_io::{MemDesk, Output};
 use std::alloc::Global;
