@@ -14,7 +14,7 @@ default_is (x ∷ xs) zero d e h = refl
 default_is (x ∷ xs) (suc q) d e h = default_is xs q d e (omega (arith, h))
 
 module _ (t : Inside) (sound : IsTable t) (l step : ℕ) (link : l < length t.free.items) (early : step < t.horizon) where
-  place_there : l * t.buckets + step / t.bucket < length t.times.items
+  pub place_there : l * t.buckets + step / t.bucket < length t.times.items
   place_there =
       subst (λ n. l * t.buckets + step / t.bucket < n) (sym sound.size)
       (place_inside (length t.free.items) t.buckets l (step / t.bucket) link

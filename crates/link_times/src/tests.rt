@@ -32,7 +32,10 @@ fn a_given_table(rt: HostRuntime) -> Result<(), Fail> {
     for (link, step, steps) in reads {
         assert_eq!(rt; times.at(LinkNo(link), step), steps);
     }
-    assert_eq!(rt; times.entered(LinkNo(0), 1), 0);
+    assert_eq!(rt;
+        (times.in_bucket(LinkNo(1), 1), times.entered(LinkNo(0), 1)),
+        (40, 0)
+    );
     Ok(())
 }
 

@@ -25,13 +25,10 @@ fn most_of(times: &LinkTimes, link: u32) -> u32
     requires { link < length times.now.free }
     ensures { (e : ℕ) → time_at times.now link e ≤ result }
 {
-    let horizon = times.horizon() as u64;
-    let bucket = times.bucket_steps() as u64;
-    let mut most = times.at(LinkNo(link), horizon);
-    let mut step = 0u64;
-    while step < horizon {
-        most = most.max(times.at(LinkNo(link), step));
-        step += bucket;
+    let _some = times.bucket_steps();
+    let mut most = times.at(LinkNo(link), times.horizon() as u64);
+    for bucket in 0..times.buckets() {
+        most = most.max(times.in_bucket(LinkNo(link), bucket));
     }
     most
 }
