@@ -1,4 +1,5 @@
 -- Tables of what is left.
+pub mod FallingFacts
 pub mod FreeFlowFacts
 pub mod Joins
 pub mod LeastOver
@@ -8,4 +9,5 @@ pub mod SlotFacts
 pub mod SlotRows
 pub mod SlotTails
 pub mod TableFacts
+pub mod WaysBackFacts
 pub mod WideRowFacts

@@ -1,4 +1,5 @@
 -- What is left to zones, from each state at each step.
+pub mod Falling
 pub mod FreeFlow
 pub mod Labels
 pub mod Narrow
@@ -6,4 +7,5 @@ pub mod Rests
 pub mod SlotRows
 pub mod SlotsLeft
 pub mod Tables
+pub mod WaysBack
 pub mod WideRows

@@ -8,5 +8,6 @@ pub(crate) mod no_walk;
 pub(crate) mod slot_fill;
 pub(crate) mod spare;
 pub(crate) mod table_forms;
+pub(crate) mod ways_back;
 pub(crate) mod wide_fill;
 pub(crate) mod wide_rows;

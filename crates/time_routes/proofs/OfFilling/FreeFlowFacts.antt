@@ -1,20 +1,17 @@
 -- What is left only falls, and stays short.
-use Rattle.std.proofs.Common.{◌≡◌, ℕ, zero, suc, ◌+◌, ◌-◌, ◌*◌, ◌<◌, ◌≤◌, Bool, true, false, cond, List, [], ◌∷◌, length, drop, arith, get_or, ◌⊎◌, inl, inr, ap, sym, ◌∙◌, subst, mul-le-mul_right, Some}
-use Rattle.std.specs.Prelude.{◌≢◌, replicate, slice_set, sum, All, nat_eq, nat_lt, slice_get}
-use Rattle.std.specs.List.{slice_range}
+use Rattle.std.proofs.Common.{◌≡◌, ℕ, zero, suc, ◌+◌, ◌*◌, ◌<◌, ◌≤◌, Bool, true, false, cond, List, [], ◌∷◌, length, arith, get_or, ◌⊎◌, inl, inr, ap, mul-le-mul_right}
+use Rattle.std.specs.Prelude.{◌≢◌, replicate, slice_set, sum, All, nat_lt}
 use Rattle.std.proofs.lemmas.Grind.{common_steps, get_or-set_at}
 use Rattle.std.proofs.lemmas.Bool.{cases_lt}
 use Rattle.std.proofs.lemmas.Bool.Decides.{eqb_tells, nat_tests}
 use Rattle.std.proofs.Math.Dec.{eqb}
 use Rattle.std.proofs.lemmas.List.Sums.{sum_by-le, sum_by-set}
-use Rattle.std.proofs.lemmas.List.{get_or-replicate, length-replicate, get_or-set_other, get_or-take, get_or-drop}
+use Rattle.std.proofs.lemmas.List.{get_or-replicate, length-replicate, get_or-set_other}
 use Rattle.std.proofs.lemmas.List.Elements.{All-set}
-use Rattle.std.proofs.lemmas.Option.{get_or_from_slice_get, slice_get_cases}
 use Rattle.time_routes.specs.declared.states.onward.Onward.{Onward}
 use Rattle.time_routes.specs.Filling.Rests.{over, least_over}
-use Rattle.time_routes.proofs.OfFilling.LeastOver.{least_over_le, least_some}
+use Rattle.time_routes.proofs.OfFilling.LeastOver.{least_over_le}
 use Rattle.time_routes.specs.Filling.FreeFlow.{still, still_least, value, AreAbove, AreShort, is_known, known}
-use Rattle.time_routes.specs.States.Routers.{ways_of}
 use Rattle.time_routes.specs.Filling.Labels.{most_span, far}
 use Rattle.time_routes.specs.declared.states.router.Router.{Router}
 use Rattle.time_routes.specs.States.RouterWays.{is_own, onwards}
@@ -32,14 +29,14 @@ value_lower free r zone a b low s = both (is_own r zone s) _ _ (least_lower a b 
     both true x y h = omega arith
     both false x y h = h
 
-set_lower : (tail : List ℕ) (i v : ℕ) → v < get_or tail i 0 → (k : ℕ) → get_or (slice_set tail i v) k 0 ≤ get_or tail k 0
+pub set_lower : (tail : List ℕ) (i v : ℕ) → v < get_or tail i 0 → (k : ℕ) → get_or (slice_set tail i v) k 0 ≤ get_or tail k 0
 set_lower [] i v g k = grind arith
 set_lower (x ∷ tail) zero v g zero = omega arith
 set_lower (x ∷ tail) zero v g (suc k) = omega arith
 set_lower (x ∷ tail) (suc i) v g zero = omega arith
 set_lower (x ∷ tail) (suc i) v g (suc k) = set_lower tail i v g k
 
-pub AreAbove_set : (free : List ℕ) (r : Router) (zone : ℕ) (tail : List ℕ) (i v : ℕ) → v ≡ value free r zone tail i → i < length tail → v < get_or tail i 0 → AreAbove free r zone tail → AreAbove free r zone (slice_set tail i v)
+pub AreAbove_set : (free : List ℕ) (r : Router) (zone : ℕ) (tail : List ℕ) (i v : ℕ) → value free r zone tail i ≤ v → i < length tail → v < get_or tail i 0 → AreAbove free r zone tail → AreAbove free r zone (slice_set tail i v)
 AreAbove_set free r zone tail i v e h g above l within =
     let lower = value_lower free r zone (slice_set tail i v) tail (set_lower tail i v g) l in
     at_place (eqb_tells l i) lower
@@ -47,7 +44,7 @@ AreAbove_set free r zone tail i v e h g above l within =
     at_place : ((eqb l i ≡ true) × (l ≡ i)) ⊎ ((eqb l i ≡ false) × (l ≢ i)) → value free r zone (slice_set tail i v) l ≤ value free r zone tail l → value free r zone (slice_set tail i v) l ≤ get_or (slice_set tail i v) l 0
     at_place (inl (t, same)) lower =
         let here : get_or (slice_set tail i v) l 0 ≡ v = get_or-set_at tail i l v 0 same h in
-        let own : value free r zone tail l ≡ v = ap (λ k. value free r zone tail k) same ∙ sym e in
+        let own : value free r zone tail l ≡ value free r zone tail i = ap (λ k. value free r zone tail k) same in
         omega arith
     at_place (inr (t, other)) lower =
         let here : get_or (slice_set tail i v) l 0 ≡ get_or tail l 0 = get_or-set_other tail i l v 0 other in
@@ -81,26 +78,6 @@ AreShort_set tail i v h g low most short =
     by one grows (inl x) = let was = short i 0 h x in omega (arith, was, grows)
     by one grows (inr x) = let n = one x in omega (arith, n, most)
 
--- the least over ways on is at most a span more than what is known
-pub least_short : (free tail : List ℕ) (ws : List Onward) → All (λ w. w.to < length tail) ws → All (λ w. w.wait ≤ 36000) ws → All (λ w. w.link < length free) ws → All (λ x. x ≤ 4294967295) free → AreShort tail → still_least tail free ws < far → still_least tail free ws ≤ known tail * most_span + most_span
-unfolding over
-least_short free tail ws to wait link frees short below =
-    let some = least_some (still free) far (still tail) 0 ws below in
-    let k = some.0 in
-    let w = some.1 in
-    let t = in_all (λ w. w.to < length tail) ws k w (some.2) to in
-    let v = in_all (λ w. w.wait ≤ 36000) ws k w (some.2) wait in
-    let l = in_all (λ w. w.link < length free) ws k w (some.2) link in
-    let f = frees w.link 0 l in
-    let s = short w.to 0 t (omega (arith, some.3, below)) in
-    omega (arith, some.3, s, f, v)
-  where
-    get_within : (ws : List Onward) (k : ℕ) (w : Onward) → slice_get ws k ≡ Some w → k < length ws
-    get_within ws k w h = elim (slice_get_cases ws k).1 [ inl x ↦ x.1 | inr x ↦ absurd (let n = x.1 in cc) ]
-
-    in_all : (P : Onward → Type 0) (ws : List Onward) (k : ℕ) (w : Onward) → slice_get ws k ≡ Some w → All P ws → P w
-    in_all P ws k w h all = subst P (get_or_from_slice_get ws k w w h) (all k w (get_within ws k w h))
-
 -- where no walk is known yet
 pub start_low : (n : ℕ) → All (λ x. x ≤ far) (replicate n far)
 start_low n k d h = let e = get_or-replicate n k far d (let m = length-replicate n far in omega (arith, m, h)) in omega (arith, e)
@@ -127,7 +104,3 @@ known_few tail = let s = sum_by-le is_known 1 tail (λ k d h. one (get_or tail k
 
     one : (x : ℕ) → is_known x ≤ 1
     one x = by (nat_lt x far)
-
-pub ruleset lowering = (AreAbove_set, AreShort_set, sum_set_less)
-
-pub ruleset at_first = (start_low, start_above, start_short)

@@ -1,8 +1,7 @@
 -- What is left over ways on, read at its place.
-use Rattle.std.proofs.Common.{◌≡◌, ℕ, ◌+◌, ◌-◌, ◌*◌, ◌<◌, List, ◌∷◌, length, refl, arith, min, drop, get_or, slice_index, subst}
+use Rattle.std.proofs.Common.{◌≡◌, ℕ, ◌+◌, ◌-◌, ◌*◌, ◌<◌, List, ◌∷◌, length, refl, arith, min, drop, get_or, subst}
 use Rattle.std.proofs.lemmas.List.{drop_more}
 use Rattle.time_routes.specs.Filling.Labels.{far, rest_in}
-use Rattle.time_routes.specs.Filling.FreeFlow.{still, still_least}
 use Rattle.time_routes.specs.Filling.Rests.{span, over, least_over}
 use Rattle.time_routes.specs.declared.states.onward.Onward.{Onward}
 
@@ -22,10 +21,3 @@ least_step at rest e ws i d m a b x h hx hb was =
     let more : drop i ws ≡ get_or ws i d ∷ drop (i + 1) ws = drop_more ws i d h in
     let now : min a (min (over at far rest e (get_or ws i d)) (least_over at far rest e (drop (i + 1) ws))) ≡ m = subst (λ r. min a (least_over at far rest e r) ≡ m) more was in
     omega (arith, hx, hb, now)
-
--- the same where link times stand still
-pub still_step : (tail free : List ℕ) (ws : List Onward) (i : ℕ) (d : Onward) (m a b x : ℕ) → i < length ws
-    → x ≡ slice_index tail (get_or ws i d).to + ((get_or ws i d).wait + slice_index free (get_or ws i d).link) → b ≡ min a x
-    → min a (still_least tail free (drop i ws)) ≡ m → min b (still_least tail free (drop (i + 1) ws)) ≡ m
-unfolding over
-still_step tail free ws i d m a b x h hx hb was = least_step (still free) (still tail) 0 ws i d m a b x h hx hb was

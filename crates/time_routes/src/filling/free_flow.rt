@@ -1,133 +1,158 @@
 // Least free-flow times from each state to a zone.
-ghost use Rattle.std.specs.Prelude.{◌≡◌, ℕ, ◌+◌, ◌*◌, ◌<◌, ◌≤◌, length, slice_index};
-ghost use Rattle.std.specs.Prelude.{slice_index_or, All, sum, cond, false, true, nat_eq, slice_set};
-ghost use Rattle.std.specs.Prelude.{IfOk};
-ghost use Rattle.std.specs.List.{slice_range};
-ghost use Rattle.fixed_units.specs.declared.turn.TheConstants.{MOST_PENALTY_STEPS};
-ghost use Rattle.time_routes.specs.Filling.Labels.{most_span, far};
-ghost use Rattle.time_routes.specs.Filling.FreeFlow.{still_least, value, AreAbove, AreSettled};
-ghost use Rattle.time_routes.specs.Filling.FreeFlow.{AreShort, known};
+ghost use Rattle.std.specs.Prelude.{◌≡◌, ℕ, ◌+◌, ◌<◌, ◌≤◌, length, replicate, slice_index, All};
+ghost use Rattle.std.specs.Prelude.{[], IfOk, OnOk};
+ghost use Rattle.std.specs.BinaryHeap.{heap_items};
+ghost use Rattle.time_routes.specs.Filling.Falling.{mark_of, work, IsFalling, IsLowered};
+ghost use Rattle.time_routes.specs.Filling.FreeFlow.{AreSettled, AreShort};
+ghost use Rattle.time_routes.specs.Filling.Labels.{far};
+ghost use Rattle.time_routes.specs.Filling.WaysBack.{AreWaysBack};
 
 use crate::filling::no_walk::FAR;
-use crate::states::onward::Onward;
+use crate::filling::ways_back::{WaysBack, ways_back};
 use crate::states::router::Router;
 use link_times::LinkTimes;
 use net_core::{LinkNo, Memory};
 use std::alloc::Global;
+use std::cmp::Reverse;
+use std::collections::BinaryHeap;
 
-// The least over the ways on.
-#[tactic(auto, using(crate::proofs::OfFilling::LeastOver::least_over_le))]
-fn least_way(tail: &[u64], free: &[u32], ways: &[Onward]) -> u64
-    requires to { All (λ w. w.to < length tail.now) ways.now }
-    requires link { All (λ w. w.link < length free.now) ways.now }
-    requires low { All (λ x. x ≤ far) tail.now }
-    ensures is { result ≡ still_least tail.now free.now ways.now }
-    ensures low { result ≤ far }
-{
-    let mut least = FAR;
-    for way in ways {
-        let span = way.wait as u64 + free[way.link as usize] as u64;
-        least = least.min(tail[way.to as usize] + span);
-    }
-    least
+/// A state with what is left from it, as it waits to be looked at. The one with the least is looked
+/// at first, so that each state is mostly looked at once.
+#[derive(Clone, Copy, PartialEq, Eq, PartialOrd, Ord, Drop)]
+pub(crate) struct Reached {
+    left: u64,
+    state: usize,
 }
 
-// What ought to be left from a state.
-#[tactic(auto, using(crate::proofs::OfFilling::FreeFlowFacts::least_short))]
-fn value_of(tail: &[u64], free: &[u32], router: &Router, zone: u32, state: usize) -> u64
-    requires states { length router.now.zones.items ≡ length tail.now }
-    requires links { length router.now.states.items ≡ length free.now }
-    requires short { All (λ x. x ≤ 4294967295) free.now }
-    requires state { state < length tail.now }
-    requires low { All (λ x. x ≤ far) tail.now }
-    ensures is { result ≡ value free.now router.now zone tail.now state }
-    ensures low { result ≤ far }
-    ensures short { AreShort tail.now → result < far
-        → result ≤ known tail.now * most_span + most_span }
-{
-    if router.is_in(state, zone) {
-        0
-    } else {
-        least_way(tail, free, router.ways_on(state))
-    }
-}
-
-// Lowers what is left from a state to what it ought to be, and says whether that changed it.
-#[tactic(auto, using(crate::proofs::OfFilling::FreeFlowFacts::lowering))]
-fn relax(tail: &mut [u64], free: &[u32], router: &Router, zone: u32, state: usize) -> bool
-    requires states { length router.now.zones.items ≡ length tail.old }
-    requires links { length router.now.states.items ≡ length free.now }
-    requires short { All (λ x. x ≤ 4294967295) free.now }
-    requires state { state < length tail.old }
-    requires low { All (λ x. x ≤ far) tail.old }
-    ensures above { AreAbove free.now router.now zone tail.old
-        → AreAbove free.now router.now zone tail.new }
-    ensures short { AreShort tail.old → AreShort tail.new }
-    ensures same { result ≡ false → tail.new ≡ tail.old }
-    ensures settled { result ≡ false → slice_index_or tail.new state 0
-        ≤ value free.now router.now zone tail.new state }
-    ensures less { sum tail.new + (cond result 1 0) ≤ sum tail.old }
-    ensures low { All (λ x. x ≤ far) tail.new }
-    ensures many { length tail.new ≡ length tail.old }
-{
-    let value = value_of(tail, free, router, zone, state);
-    lower(tail, state, value)
-}
-
-// Lowers a number, and says whether that changed it.
-fn lower(tail: &mut [u64], state: usize, value: u64) -> bool
+// Lowers what is left from a state to a number, and has the state wait, if the number is less.
+fn lower(
+    tail: &mut [u64],
+    heap: &mut BinaryHeap<Reverse<Reached>>,
+    state: usize,
+    left: u64,
+) -> Result<(), Memory>
     requires { state < length tail.old }
-    ensures same { result ≡ false → (tail.new ≡ tail.old)
-        × (slice_index_or tail.old state 0 ≤ value) }
-    ensures set { result ≡ true → (tail.new ≡ slice_set tail.old state value)
-        × (value < slice_index_or tail.old state 0) }
+    ensures { OnOk result (IsLowered tail.old (heap_items heap.old) state left tail.new
+        (heap_items heap.new)) }
 {
-    if value < tail[state] {
-        tail[state] = value;
-        true
+    if left < tail[state] {
+        heap.push(Reverse(Reached { left, state }))?;
+        tail[state] = left;
+    }
+    Ok(())
+}
+
+// How many ways back hold all that lead to a state that waited, and none if less is left by now:
+// then the state waits once more.
+fn ways_to(lasts: &[usize], tail: &[u64], reached: Reached) -> usize
+    requires state { reached.state < length tail.now }
+    requires lasts { length lasts.now ≡ length tail.now }
+    ensures { result ≡ mark_of lasts.now tail.now reached }
+{
+    if reached.left == tail[reached.state] {
+        lasts[reached.state]
     } else {
-        false
+        0
     }
 }
 
-// Relaxes every state once, and says whether something fell.
-fn sweep(tail: &mut [u64], free: &[u32], router: &Router, zone: u32) -> bool
-    requires states { length router.now.zones.items ≡ length tail.old }
-    requires links { length router.now.states.items ≡ length free.now }
-    requires short { All (λ x. x ≤ 4294967295) free.now }
-    requires low { All (λ x. x ≤ far) tail.old }
-    ensures above { AreAbove free.now router.now zone tail.old
-        → AreAbove free.now router.now zone tail.new }
-    ensures short { AreShort tail.old → AreShort tail.new }
-    ensures settled { result ≡ false → (s : ℕ) → s < length tail.new
-        → slice_index_or tail.new s 0 ≤ value free.now router.now zone tail.new s }
-    ensures less { sum tail.new + (cond result 1 0) ≤ sum tail.old }
-    ensures low { All (λ x. x ≤ far) tail.new }
-    ensures many { length tail.new ≡ length tail.old }
+// Looks at a state that waited: lowers what is left where the ways to it begin.
+fn look_at(
+    tail: &mut [u64],
+    heap: &mut BinaryHeap<Reverse<Reached>>,
+    back: &WaysBack,
+    router: &Router,
+    free: &[u32],
+    zone: u32,
+    reached: Reached,
+) -> Result<(), Memory>
+    requires back { AreWaysBack router.now free.now back.now.ways.items back.now.lasts.items
+        (length router.now.zones.items) 0 }
+    requires state { reached.state < length tail.old }
+    requires falling { IsFalling router.now free.now zone back.now.ways.items (heap_items heap.old)
+        tail.old (length router.now.zones.items) reached.state
+        (mark_of back.now.lasts.items tail.old reached) }
+    ensures falling { OnOk result (IsFalling router.now free.now zone back.now.ways.items
+        (heap_items heap.new) tail.new (length router.now.zones.items) 0 0) }
+    ensures less { OnOk result
+        (work (heap_items heap.new) tail.new ≤ work (heap_items heap.old) tail.old) }
 {
-    let mut changed = false;
-    for state in 0..tail.len() {
-        if relax(tail, free, router, zone, state) {
-            changed = true;
+    let mut count = ways_to(back.lasts.as_slice(), tail, reached);
+    while count > 0 {
+        let way = back.ways[count - 1];
+        lower(tail, heap, way.from, reached.left + way.span)?;
+        count = way.before;
+    }
+    Ok(())
+}
+
+// Looks at the states that wait, the least first, until none waits.
+fn settle(
+    tail: &mut [u64],
+    heap: &mut BinaryHeap<Reverse<Reached>>,
+    back: &WaysBack,
+    router: &Router,
+    free: &[u32],
+    zone: u32,
+) -> Result<(), Memory>
+    requires back { AreWaysBack router.now free.now back.now.ways.items back.now.lasts.items
+        (length router.now.zones.items) 0 }
+    requires falling { IsFalling router.now free.now zone back.now.ways.items (heap_items heap.old)
+        tail.old (length router.now.zones.items) 0 0 }
+    ensures settled { OnOk result (AreSettled free.now router.now zone tail.new) }
+    ensures short { OnOk result (AreShort tail.new) }
+    ensures low { OnOk result (All (λ x. x ≤ far) tail.new) }
+{
+    'each: loop {
+        match heap.pop() {
+            None => return Ok(()),
+            Some(first) => look_at(tail, heap, back, router, free, zone, first.0)?,
         }
     }
-    changed
 }
 
-// Relaxes until everything is what it ought to be.
-fn settle(tail: &mut [u64], free: &[u32], router: &Router, zone: u32)
-    requires states { length router.now.zones.items ≡ length tail.old }
-    requires links { length router.now.states.items ≡ length free.now }
-    requires short { All (λ x. x ≤ 4294967295) free.now }
-    requires low { All (λ x. x ≤ far) tail.old }
-    requires above { AreAbove free.now router.now zone tail.old }
-    requires known { AreShort tail.old }
-    ensures settled { AreSettled free.now router.now zone tail.new }
-    ensures short { AreShort tail.new }
-    ensures low { All (λ x. x ≤ far) tail.new }
-    ensures many { length tail.new ≡ length tail.old }
+// Nothing is left from a state of the zone, which waits.
+fn begin_at(
+    tail: &mut [u64],
+    heap: &mut BinaryHeap<Reverse<Reached>>,
+    back: &WaysBack,
+    router: &Router,
+    free: &[u32],
+    zone: u32,
+    state: usize,
+) -> Result<(), Memory>
+    requires state { state < length tail.old }
+    requires falling { IsFalling router.now free.now zone back.now.ways.items (heap_items heap.old)
+        tail.old state 0 0 }
+    ensures { OnOk result (IsFalling router.now free.now zone back.now.ways.items
+        (heap_items heap.new) tail.new (state + 1) 0 0) }
 {
-    while sweep(tail, free, router, zone) {}
+    if router.is_in(state, zone) {
+        lower(tail, heap, state, 0)?;
+    }
+    Ok(())
+}
+
+// Nothing is left from the states of the zone, which wait.
+fn begin(
+    tail: &mut [u64],
+    heap: &mut BinaryHeap<Reverse<Reached>>,
+    back: &WaysBack,
+    router: &Router,
+    free: &[u32],
+    zone: u32,
+) -> Result<(), Memory>
+    requires back { AreWaysBack router.now free.now back.now.ways.items back.now.lasts.items
+        (length router.now.zones.items) 0 }
+    requires tail { tail.old ≡ replicate (length router.now.zones.items) far }
+    requires heap { heap_items heap.old ≡ [] }
+    ensures { OnOk result (IsFalling router.now free.now zone back.now.ways.items
+        (heap_items heap.new) tail.new (length router.now.zones.items) 0 0) }
+{
+    for state in 0..tail.len() {
+        begin_at(tail, heap, back, router, free, zone, state)?;
+    }
+    Ok(())
 }
 
 /// The free-flow steps of links, which a table has from its horizon on.
@@ -147,7 +172,6 @@ pub(crate) fn free_steps(alloc: Global, times: &LinkTimes, links: u32) -> Result
 }
 
 /// The least free-flow times from each state to a zone.
-#[tactic(auto, using(crate::proofs::OfFilling::FreeFlowFacts::at_first))]
 pub(crate) fn tail_of(
     alloc: Global,
     router: &Router,
@@ -160,7 +184,10 @@ pub(crate) fn tail_of(
     ensures short { IfOk result (λ tail. AreShort tail.items) }
     ensures low { IfOk result (λ tail. All (λ x. x ≤ far) tail.items) }
 {
+    let back = ways_back(alloc, router, free)?;
+    let mut heap = BinaryHeap::new(alloc);
     let mut tail = Vec::from_elem(alloc, FAR, router.state_count())?;
-    settle(tail.as_mut_slice(), free, router, zone);
+    begin(tail.as_mut_slice(), &mut heap, &back, router, free, zone)?;
+    settle(tail.as_mut_slice(), &mut heap, &back, router, free, zone)?;
     Ok(tail)
 }

@@ -1,11 +1,10 @@
-use Rattle.std.proofs.Common.{◌≡◌, ◌≤◌, length}
-use Rattle.std.specs.Prelude.{sum, All}
-use Rattle.time_routes.specs.Filling.Labels.{far}
-use Rattle.time_routes.specs.Filling.FreeFlow.{AreAbove, AreShort}
+use Rattle.std.proofs.Common.{length}
+use Rattle.std.specs.BinaryHeap.{heap_items}
+use Rattle.time_routes.specs.Filling.Falling.{IsFalling, work}
 use Rattle.time_routes.proofs.filling.free_flow.settle.Given as goal
 
-abbrev pub invariant-loop : goal.invariant-loop
-invariant-loop l = AreAbove l.free l.router l.zone l.tail × AreShort l.tail × All (λ x. x ≤ far) l.tail × (length l.tail ≡ length l.initial.tail)
+abbrev pub invariant-each : goal.invariant-each
+invariant-each l = IsFalling l.router l.free l.zone l.back.ways.items (heap_items l.heap) l.tail (length l.router.zones.items) 0 0
 
-abbrev pub decreases-loop : goal.decreases-loop
-decreases-loop l = sum l.tail
+abbrev pub decreases-each : goal.decreases-each
+decreases-each l = work (heap_items l.heap) l.tail
