@@ -15,7 +15,7 @@ use crate::reading::tell::Ask;
 use crate::states::by_zone::ByZone;
 use dta_model::{Route, Trip};
 use link_times::LinkTimes;
-use net_core::{Memory, Net, ZoneNo};
+use net_core::{LinkNo, Memory, Net, ZoneNo};
 use std::alloc::Global;
 
 /// What is answered of a vehicle: its least time and its chosen walk. None where there is no walk,
@@ -45,6 +45,7 @@ fn least_told(net: &Net, labels: &GroupLabels, place: usize, trip: &Trip) -> Opt
 // The chosen walk of a trip to the zone at a place of a group.
 fn walk_told(
     alloc: Global,
+    links: &mut Vec<LinkNo>,
     net: &Net,
     labels: &GroupLabels,
     place: usize,
@@ -58,7 +59,7 @@ fn walk_told(
     ensures { IfOk result (λ walk. WalkOf (time_at labels.now.times) net.now trip.now walk) }
 {
     match net.zone_number(trip.origin) {
-        Some(origin) => labels.walk(alloc, place, origin, trip.departure),
+        Some(origin) => labels.walk_in(alloc, links, place, origin, trip.departure),
         None => Ok(None),
     }
 }
@@ -91,6 +92,7 @@ fn least_answered(
 // The chosen walk of a vehicle that goes to the zone at a place of a group, if it is asked.
 fn walk_answered(
     alloc: Global,
+    links: &mut Vec<LinkNo>,
     net: &Net,
     labels: &GroupLabels,
     place: usize,
@@ -108,7 +110,7 @@ fn walk_answered(
 {
     let v = vehicle as usize;
     if asks[v].walk {
-        walk_told(alloc, net, labels, place, &trips[v])
+        walk_told(alloc, links, net, labels, place, &trips[v])
     } else {
         Ok(None)
     }
@@ -117,6 +119,7 @@ fn walk_answered(
 // What is answered of a vehicle that goes to the zone at a place of a group.
 fn answer_of(
     alloc: Global,
+    links: &mut Vec<LinkNo>,
     net: &Net,
     labels: &GroupLabels,
     place: usize,
@@ -134,7 +137,7 @@ fn answer_of(
         (IsAnswer (time_at labels.now.times) net.now trips.now asks.now) }
 {
     let least = least_answered(net, labels, place, trips, asks, vehicle);
-    let walk = walk_answered(alloc, net, labels, place, trips, asks, vehicle)?;
+    let walk = walk_answered(alloc, links, net, labels, place, trips, asks, vehicle)?;
     Ok(Answer {
         vehicle,
         least,
@@ -145,6 +148,7 @@ fn answer_of(
 // Answers of some vehicles that go to the zone at a place of a group.
 fn answer_vehicles(
     alloc: Global,
+    links: &mut Vec<LinkNo>,
     net: &Net,
     labels: &GroupLabels,
     place: usize,
@@ -163,7 +167,7 @@ fn answer_vehicles(
         (Stands vehicles.now) answers.old.items answers.new.items) }
 {
     for vehicle in vehicles {
-        answers.push(answer_of(alloc, net, labels, place, trips, asks, *vehicle)?)?;
+        answers.push(answer_of(alloc, links, net, labels, place, trips, asks, *vehicle)?)?;
     }
     Ok(())
 }
@@ -171,6 +175,7 @@ fn answer_vehicles(
 // Answers of the vehicles that go to the zones of a group.
 fn answer_group(
     alloc: Global,
+    links: &mut Vec<LinkNo>,
     net: &Net,
     labels: &GroupLabels,
     trips: &[Trip],
@@ -193,13 +198,15 @@ fn answer_group(
 {
     for place in 0..zones.len() {
         let vehicles = lists.get(zones[place].0);
-        answer_vehicles(alloc, net, labels, place, trips, asks, vehicles, answers)?;
+        answer_vehicles(
+            alloc, links, net, labels, place, trips, asks, vehicles, answers,
+        )?;
     }
     Ok(())
 }
 
 /// What is answered of the vehicles that go to some zones, a group after another. The labels of a
-/// group take the place of those before.
+/// group take the place of those before, and all walks are gathered in one list.
 pub(crate) fn answers_to(
     alloc: Global,
     net: &Net,
@@ -220,6 +227,7 @@ pub(crate) fn answers_to(
         (LeadsToFirst net.now trips.now asks.now zones.now (length zones.now)) answers.items) }
 {
     let mut answers = Vec::new(alloc);
+    let mut links = Vec::new(alloc);
     let mut spare = Spare::none(alloc);
     let mut first = 0;
     while first < zones.len() {
@@ -227,6 +235,7 @@ pub(crate) fn answers_to(
         let next = first + labels.count();
         answer_group(
             alloc,
+            &mut links,
             net,
             &labels,
             trips,

@@ -17,7 +17,7 @@ use crate::states::network_router::router_of;
 use crate::states::router::Router;
 use dta_model::Route;
 use link_times::LinkTimes;
-use net_core::{Memory, Net, ZoneNo};
+use net_core::{LinkNo, Memory, Net, ZoneNo};
 use std::alloc::Global;
 use std::marker::Model;
 
@@ -183,6 +183,25 @@ impl<'a> GroupLabels<'a> {
         ensures { IfOk result (λ route. TellsWalk (time_at self.now.times) self.now.net
             (zone_named self.now.net origin.0) (destination self.now place) step route) }
     {
+        let mut links = Vec::new(alloc);
+        self.walk_in(alloc, &mut links, place, origin, step)
+    }
+
+    /// The same, gathered in a list that serves the next walk too.
+    pub(crate) fn walk_in(
+        &self,
+        alloc: Global,
+        links: &mut Vec<LinkNo>,
+        place: usize,
+        origin: ZoneNo,
+        step: u32,
+    ) -> Result<Option<Route>, Memory>
+        requires place { place < length self.now.zones }
+        requires origin { origin.0 < length (zones_of self.now.net.nodes) }
+        requires other { origin.0 ≢ slice_index self.now.zones place }
+        ensures { IfOk result (λ route. TellsWalk (time_at self.now.times) self.now.net
+            (zone_named self.now.net origin.0) (destination self.now place) step route) }
+    {
         let firsts = self.firsts.get(origin.0);
         let labels = ZoneLabels {
             table: &self.labels,
@@ -192,6 +211,7 @@ impl<'a> GroupLabels<'a> {
         };
         walk_of(
             alloc,
+            links,
             &labels,
             self.net,
             self.zones[place].0,

@@ -1,6 +1,6 @@
 // Chosen walks by what is left.
 ghost use Rattle.std.specs.Prelude.{◌≡◌, ◌≢◌, ℕ, ◌+◌, ◌<◌, ◌≤◌, ◌^◌, List, length, All, Option};
-ghost use Rattle.std.specs.Prelude.{None, Some, IfOk, MatchOption, slice_get, true, false, Bool};
+ghost use Rattle.std.specs.Prelude.{None, Some, IfOk, OnOk, MatchOption, slice_get, true, false, Bool};
 ghost use Rattle.net_core.specs.declared.rows.NetRows.{NetRows};
 ghost use Rattle.dta_model.specs.LinkTimes.{time_at};
 ghost use Rattle.dta_model.specs.Plans.{link_numbers};
@@ -74,15 +74,15 @@ fn next_way(labels: &ZoneLabels, ways: &[Onward], step: u64, left: u64) -> Onwar
     }
 }
 
-// The links of the walk that follows the labels from a link at a step.
+// Gathers the links of the walk that follows the labels from a link at a step.
 fn follow(
-    alloc: Global,
+    links: &mut Vec<LinkNo>,
     labels: &ZoneLabels,
     net: &Net,
     zone: u32,
     first: u32,
     step: u64,
-) -> Result<Vec<LinkNo>, AllocError>
+) -> Result<(), AllocError>
     requires sound { IsTimeTable labels.now.times.now }
     requires fit { AreFit labels.now }
     requires serves { Serves net.now zone (time_at labels.now.times.now) (rest_to labels.now)
@@ -91,12 +91,12 @@ fn follow(
     requires step { step < 2 ^ 40 }
     requires near { rest_to labels.now (state_of labels.now.router.now first)
         (step + time_at labels.now.times.now first step) < far }
-    ensures { IfOk result (λ v. IsFollowed (ways_to (time_at labels.now.times.now) net.now zone)
-        (label_to labels.now) first step (link_numbers v.items)) }
+    ensures { OnOk result (IsFollowed (ways_to (time_at labels.now.times.now) net.now zone)
+        (label_to labels.now) first step (link_numbers links.new.items)) }
 {
     let router = labels.router;
-    let mut route = Vec::new(alloc);
-    route.push(LinkNo(first))?;
+    links.clear();
+    links.push(LinkNo(first))?;
     let mut link = first;
     let mut entry = step;
     while !router.is_in(router.state(link) as usize, zone) {
@@ -106,9 +106,9 @@ fn follow(
         let way = next_way(labels, router.ways_on(state as usize), start, left);
         link = way.link;
         entry = start + way.wait as u64;
-        route.push(LinkNo(link))?;
+        links.push(LinkNo(link))?;
     }
-    Ok(route)
+    Ok(())
 }
 
 // The first of some links whose label is a time.
@@ -137,9 +137,11 @@ fn has_time(label: Option<u64>, time: u64) -> bool
     }
 }
 
-/// The walk from one of some links that the labels choose, at a step.
+/// The walk from one of some links that the labels choose, at a step. Its links are gathered in a
+/// list that serves the next walk too, so that memory is asked for once, and for as many links.
 pub(crate) fn walk_of(
     alloc: Global,
+    links: &mut Vec<LinkNo>,
     labels: &ZoneLabels,
     net: &Net,
     zone: u32,
@@ -164,8 +166,8 @@ pub(crate) fn walk_of(
         None => Ok(None),
         Some(least) => match first_with(labels, firsts, step, least) {
             Some(first) => {
-                let links = follow(alloc, labels, net, zone, first, step)?;
-                Ok(Some(Route::of(links)))
+                follow(links, labels, net, zone, first, step)?;
+                Ok(Some(Route::of(Vec::from_slice(alloc, links)?)))
             }
             None => unreachable!(),
         },

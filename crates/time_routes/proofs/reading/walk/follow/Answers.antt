@@ -13,11 +13,11 @@ loop-router-init c =
     let at = time_at t in
     let first = c.args.first in
     let most = c.requires.sound.most first c.args.step c.requires.first in
-    let none : c.new-route.result.items ≡ [] = c.new-route.ensures.items in (
+    let none : c.clear.new.self.items ≡ [] = c.clear.ensures.items in (
       omega (arith, c.requires.first, c.requires.fit.links),
       c.requires.near,
       (let near = c.requires.near in let early = c.requires.step in omega (arith, near, early, most)),
-      λ others f. (others, numbers_more c.new-route.result.items c.push.new.self.items first others c.in_ok-push.ensures.items ∙ ap (λ ls. link_numbers ls ++ first ∷ others) none, f),
+      λ others f. (others, numbers_more c.clear.new.self.items c.push.new.self.items first others c.in_ok-push.ensures.items ∙ ap (λ ls. link_numbers ls ++ first ∷ others) none, f),
     )
 
 pub next_way-way-requires-clause-left : goal.next_way-way-requires-clause-left
@@ -54,7 +54,7 @@ loop-router-preserved c =
       omega (arith, st.1, i.2, c.at.ensures.time),
       λ others f.
           let was = i.3 (c.next_way-way.result.link ∷ others) (st.3 others f) in
-          (was.0, numbers_more c.loop-router.route.items c.push-in-loop-router.new.self.items c.next_way-way.result.link others c.in_ok-push-2.ensures.items ∙ was.1, was.2),
+          (was.0, numbers_more c.loop-router.links.items c.push-in-loop-router.new.self.items c.next_way-way.result.link others c.in_ok-push-2.ensures.items ∙ was.1, was.2),
     )
 
 pub returns : goal.returns
@@ -63,4 +63,4 @@ returns c =
     let i = c.loop-router.invariant in
     let own : is_own r c.args.zone (state_of r c.loop-router.link) ≡ true = own_of r c.args.zone c.loop-router.link c.state.result c.is_in.result true c.state.ensures.is c.is_in.ensures c.loop-router-test.false in
     let done = i.3 [] (ends_here c.args.net.now c.args.zone (time_at c.args.labels.now.times.now) (rests c.args.labels.now.table.now c.args.labels.now.place) r c.requires.serves c.loop-router.link c.loop-router.entry (i.0) own) in
-    (done.0, sym (append_nil (link_numbers c.loop-router.route.items)) ∙ done.1, done.2)
+    (done.0, sym (append_nil (link_numbers c.loop-router.links.items)) ∙ done.1, done.2)

@@ -14,7 +14,7 @@ invariant-loop-router l =
     (l.link < length l.labels.router.now.states.items)
     × (rests l.labels.table.now l.labels.place (state_of l.labels.router.now l.link) (l.entry + time_at l.labels.times.now l.link l.entry) < far)
     × (l.entry + time_at l.labels.times.now l.link l.entry + rests l.labels.table.now l.labels.place (state_of l.labels.router.now l.link) (l.entry + time_at l.labels.times.now l.link l.entry) < 2 ^ 63)
-    × ((others : List ℕ) → Follows (ways_to (time_at l.labels.times.now) l.net l.zone) (label_in (time_at l.labels.times.now) (rests l.labels.table.now l.labels.place) l.labels.router.now) l.link l.entry others → IsFollowed (ways_to (time_at l.labels.times.now) l.net l.zone) (label_in (time_at l.labels.times.now) (rests l.labels.table.now l.labels.place) l.labels.router.now) l.fn.first l.fn.step (link_numbers l.route.items ++ others))
+    × ((others : List ℕ) → Follows (ways_to (time_at l.labels.times.now) l.net l.zone) (label_in (time_at l.labels.times.now) (rests l.labels.table.now l.labels.place) l.labels.router.now) l.link l.entry others → IsFollowed (ways_to (time_at l.labels.times.now) l.net l.zone) (label_in (time_at l.labels.times.now) (rests l.labels.table.now l.labels.place) l.labels.router.now) l.fn.first l.fn.step (link_numbers l.links.items ++ others))
 
 abbrev pub decreases-loop-router : goal.decreases-loop-router
 decreases-loop-router l = rests l.labels.table.now l.labels.place (state_of l.labels.router.now l.link) (l.entry + time_at l.labels.times.now l.link l.entry)

@@ -1,4 +1,4 @@
-use Rattle.std.proofs.Common.{ℕ, length, subst, sym, Option, None}
+use Rattle.std.proofs.Common.{ℕ, length, subst, sym, ◌∙◌, Option, None}
 use Rattle.dta_model.specs.LinkTimes.{time_at}
 use Rattle.dta_model.specs.Plans.{link_numbers}
 use Rattle.time_routes.specs.Reading.Paths.{IsChosenPath}
@@ -36,8 +36,8 @@ returns-in-None c begins are =
     let firsts = c.args.firsts.now in
     least_of c.args.net.now c.args.zone at rest r c.requires.serves begins firsts are c.args.step None (subst (λ o. LeastSoFar (λ l. label_in at rest r l c.args.step) firsts (length firsts) o) c.in-None.is c.least_label.ensures)
 
-pub returns-in_ok-links-in-Some-first_with : goal.returns-in_ok-links-in-Some-first_with
-returns-in_ok-links-in-Some-first_with c begins are =
+pub returns-in_ok-from_slice-in-Some-first_with : goal.returns-in_ok-from_slice-in-Some-first_with
+returns-in_ok-from_slice-in-Some-first_with c begins are =
     let at = time_at c.args.labels.now.times.now in
     let rest = rests c.args.labels.now.table.now c.args.labels.now.place in
     let r = c.args.labels.now.router.now in
@@ -46,5 +46,6 @@ returns-in_ok-links-in-Some-first_with c begins are =
     let m = c.in-Some.least in
     let h = subst (λ o. LeastSoFar label firsts (length firsts) o) c.in-Some.is c.least_label.ensures in
     let f = subst (λ o. FirstWith label firsts m o) c.in-Some-first_with.is c.first_with.ensures in
-    let chosen = chosen_of c.args.net.now c.args.zone at rest r c.requires.serves begins firsts are c.args.step m c.in-Some-first_with.first (link_numbers c.in_ok-links-in-Some-first_with.links.items) c.requires.rising h f c.in_ok-links-in-Some-first_with.ensures in
-    subst (λ ls. IsChosenPath (ways_to at c.args.net.now c.args.zone) begins c.args.step (link_numbers ls)) (sym c.of.ensures) chosen
+    let chosen = chosen_of c.args.net.now c.args.zone at rest r c.requires.serves begins firsts are c.args.step m c.in-Some-first_with.first (link_numbers c.follow.new.links.items) c.requires.rising h f c.in_ok-follow-in-Some-first_with.ensures in
+    let copied = c.of.ensures ∙ c.in_ok-from_slice-in-Some-first_with.ensures.items ∙ c.deref.ensures.value in
+    subst (λ ls. IsChosenPath (ways_to at c.args.net.now c.args.zone) begins c.args.step (link_numbers ls)) (sym copied) chosen

@@ -12,7 +12,7 @@ use Rattle.time_routes.proofs.OfStates.ByZoneFacts.{are_firsts, firsts_rise, fir
 use Rattle.time_routes.proofs.OfStates.OnwardFacts.{IsRising}
 use Rattle.time_routes.proofs.OfReading.ServeFacts.{chosen_told}
 use Rattle.time_routes.proofs.OfReading.GroupFacts.{fit_at, serves_at, zone_is}
-use Rattle.time_routes.proofs.reading.group_labels.GroupLabels.walk.Goals as goal
+use Rattle.time_routes.proofs.reading.group_labels.GroupLabels.walk_in.Goals as goal
 
 pub walk_of-requires-clause-serves : goal.walk_of-requires-clause-serves
 walk_of-requires-clause-serves c =
