@@ -11,4 +11,5 @@ pub mod Links
 pub mod Tabled
 pub mod AnyOrder
 pub mod Reading
+pub mod RowFacts
 pub mod SoundTimes

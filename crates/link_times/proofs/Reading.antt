@@ -1,7 +1,6 @@
 -- Reading a table.
-use Rattle.std.specs.Prelude.{nat_lt, slice_index, cond}
-use Rattle.std.proofs.Common.{◌≡◌, ℕ, zero, suc, ◌+◌, ◌*◌, ◌/◌, ◌<◌, ◌≤◌, true, List, [], ◌∷◌, length, refl, arith, get_or, ap, sym, ◌∙◌, subst}
-use Rattle.std.proofs.lemmas.Bool.Decides.{nat_tests}
+use Rattle.std.specs.Prelude.{slice_index, cond}
+use Rattle.std.proofs.Common.{◌≡◌, ℕ, zero, suc, ◌+◌, ◌*◌, ◌/◌, ◌<◌, ◌≤◌, List, [], ◌∷◌, length, refl, arith, get_or, ap, sym, ◌∙◌, subst}
 use Rattle.net_core.proofs.Orders.{is_lt}
 use Rattle.dta_model.specs.LinkTimes.{buckets_to, place_in, time_at}
 use Rattle.link_times.specs.Tables.{IsTable, table_view}
@@ -14,7 +13,7 @@ default_is (x ∷ xs) zero d e h = refl
 default_is (x ∷ xs) (suc q) d e h = default_is xs q d e (omega (arith, h))
 
 module _ (t : Inside) (sound : IsTable t) (l step : ℕ) (link : l < length t.free.items) (early : step < t.horizon) where
-  pub place_there : l * t.buckets + step / t.bucket < length t.times.items
+  place_there : l * t.buckets + step / t.bucket < length t.times.items
   place_there =
       subst (λ n. l * t.buckets + step / t.bucket < n) (sym sound.size)
       (place_inside (length t.free.items) t.buckets l (step / t.bucket) link

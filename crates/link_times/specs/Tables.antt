@@ -1,6 +1,7 @@
 -- What a table of link times holds, and how its numbers come.
 use Rattle.std.specs.Prelude.{◌≡◌, ℕ, ◌*◌, ◌≤◌, List, length, All, replicate}
 use Rattle.dta_model.specs.LinkTimes.{TimeTable, buckets_to}
+use Rattle.link_times.specs.Rows.{times_in, AreRows}
 use Rattle.link_times.specs.declared.table.Counts.{Counts}
 use Rattle.link_times.specs.declared.table.Counts.TheVariants as counts
 use Rattle.link_times.specs.declared.table.LinkTimes.TheInside.{Inside}
@@ -28,3 +29,4 @@ pub record IsTable (t : Inside) : Type 0 where
   pub numbers : length (numbers_of t.counts (length t.times.items)) ≡ length t.times.items
   pub free : All (λ f. 1 ≤ f) t.free.items
   pub times : All (λ x. 1 ≤ x) t.times.items
+  pub rows : AreRows (length t.free.items) t.buckets t.times.items (times_in t.rows)

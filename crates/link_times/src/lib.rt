@@ -4,14 +4,16 @@
 //! Its contract is the definition of link times over the whole trace (specs/LinkTimes.antt of
 //! `dta_model`). [`LinkTimes::at`] and the other reading calls take no memory and one look-up.
 //!
-//! At rest a table has 8 bytes for each bucket of each link: a time and a number of visits (12
-//! where some number is above 32 bits). While visits are added there are 16, a sum and a number;
-//! the times then come to 4 more before the sums go.
+//! At rest the table of a loading has 12 bytes for each bucket of each link: a time, which stands
+//! link by link and bucket by bucket, and a number of visits (16 where some number is above 32
+//! bits). While visits are added there are 16, a sum and a number; the times then come to 4 more
+//! before the sums go.
 #![tactic(auto)]
 
 mod adding;
 mod laws;
 mod means;
+mod rows;
 mod table;
 mod visit;
 

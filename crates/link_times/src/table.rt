@@ -12,6 +12,7 @@ ghost use Rattle.link_times.specs.TimeTables.{IsTimeTable};
 
 use crate::adding::{Sums, sums_of};
 use crate::means::{are_narrow, free_steps, free_times, means, narrowed};
+use crate::rows::{Rows, rows_of};
 use dta_model::{Loaded, Loading, MOST_HORIZON};
 use net_core::{LinkNo, Memory, Net};
 use std::alloc::Global;
@@ -25,6 +26,7 @@ pub struct LinkTimes {
     buckets: u32,
     free: Vec<u32>,
     times: Vec<u32>,
+    rows: Rows,
     counts: Counts,
 }
 
@@ -68,6 +70,17 @@ fn place_of(links: usize, buckets: u32, link: LinkNo, bucket: u32) -> usize
     link.0 as usize * buckets as usize + bucket as usize
 }
 
+// The place of a link in the row of a bucket, where each row has so many links.
+#[tactic(auto, using(crate::proofs::Places::place_inside))]
+fn row_place(links: usize, buckets: u32, link: LinkNo, bucket: u32) -> usize
+    requires link { link.0 < links }
+    requires bucket { bucket < buckets }
+    requires few { links * buckets < 2 ^ 63 }
+    ensures { result ≡ bucket * links + link.0 }
+{
+    bucket as usize * links + link.0 as usize
+}
+
 impl LinkTimes {
     /// The free-flow table of a network: no visits, with buckets of so many steps up to a horizon.
     pub fn free(alloc: Global, net: &Net, bucket: u32, horizon: u32) -> Result<Self, Memory>
@@ -86,6 +99,7 @@ impl LinkTimes {
             buckets,
             free,
             times,
+            rows: Rows::NoRows,
             counts: Counts::NoVisits,
         })
     }
@@ -135,6 +149,7 @@ impl LinkTimes {
         }) }
     {
         let buckets = buckets_until(bucket, horizon);
+        let rows = rows_of(alloc, free.len(), buckets, &times)?;
         let counts = if are_narrow(&counts) {
             Counts::Narrow(narrowed(alloc, &counts)?)
         } else {
@@ -146,6 +161,7 @@ impl LinkTimes {
             buckets,
             free,
             times,
+            rows,
             counts,
         })
     }
@@ -172,6 +188,7 @@ impl LinkTimes {
             buckets: buckets_until(bucket, horizon),
             free,
             times,
+            rows: Rows::NoRows,
             counts: Counts::NoVisits,
         }
     }
@@ -186,10 +203,25 @@ impl LinkTimes {
     {
         if step < self.horizon as u64 {
             // In 32 bits: a division of 64 takes three times as long on many processors.
-            let bucket = step as u32 / self.bucket;
-            self.times[link.0 as usize * self.buckets as usize + bucket as usize]
+            self.beside(link, step as u32 / self.bucket)
         } else {
             self.free[link.0 as usize]
+        }
+    }
+
+    // The steps that a link takes in a bucket, read where those of other links stand beside it.
+    fn beside(&self, link: LinkNo, bucket: u32) -> u32
+        requires link { link.0 < length self.now.free }
+        requires bucket { bucket < bucket_count self.now }
+        ensures { result ≡ slice_index self.now.times
+            (place_in (bucket_count self.now) link.0 bucket) }
+    {
+        match self
+            .rows
+            .get(row_place(self.free.len(), self.buckets, link, bucket))
+        {
+            Some(time) => time,
+            None => self.in_bucket(link, bucket),
         }
     }
 

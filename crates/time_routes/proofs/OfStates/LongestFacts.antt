@@ -1,20 +1,14 @@
 -- The greatest time of a link.
-use Rattle.std.proofs.Common.{◌≡◌, ◌⊎◌, inl, inr, ℕ, ◌/◌, ◌<◌, ◌≤◌, true, get_or, refl, sym, ◌∙◌, arith}
-use Rattle.std.specs.Prelude.{nat_lt}
+use Rattle.std.proofs.Common.{◌≡◌, ◌⊎◌, inl, inr, ℕ, ◌/◌, ◌<◌, ◌≤◌, get_or, sym, ◌∙◌, arith}
 use Rattle.std.proofs.lemmas.Bool.{cases_lt}
-use Rattle.std.proofs.lemmas.Bool.Decides.{nat_tests}
 use Rattle.dta_model.specs.LinkTimes.{TimeTable, bucket_count, place_in, time_at}
 use Rattle.link_times.proofs.Places.{bucket_inside}
+use Rattle.link_times.proofs.RowFacts.{early_is}
 use Rattle.time_routes.proofs.OfFilling.Joins.{free_late}
 
 -- from the horizon on all times are the same
 pub late_same : (t : TimeTable) (l e f : ℕ) → t.horizon ≤ e → t.horizon ≤ f → time_at t l e ≡ time_at t l f
 late_same t l e f he hf = free_late t l e he ∙ sym (free_late t l f hf)
-
--- before the horizon a time is that of its bucket
-early_is : (t : TimeTable) (l e : ℕ) → e < t.horizon → time_at t l e ≡ get_or t.times (place_in (bucket_count t) l (e / t.bucket)) 0
-unfolding time_at
-early_is t l e early = let n : nat_lt e t.horizon ≡ true = grind (arith, nat_tests) in rw n refl
 
 -- what is at least the time of each bucket and that at the horizon is at least all times
 pub most_over : (t : TimeTable) (l most buckets : ℕ) → 1 ≤ t.bucket → bucket_count t ≤ buckets → time_at t l t.horizon ≤ most → ((b : ℕ) → b < buckets → get_or t.times (place_in (bucket_count t) l b) 0 ≤ most) → (e : ℕ) → time_at t l e ≤ most

@@ -1,21 +1,33 @@
-use Rattle.std.proofs.Common.{◌<◌, ◌≤◌, length, ap, sym, ◌∙◌, arith, subst}
-use Rattle.dta_model.specs.LinkTimes.{time_at}
-use Rattle.link_times.proofs.Reading.{place_there, read_is, read_least}
+use Rattle.std.proofs.Common.{◌/◌, ◌<◌, ◌≤◌, length, ap, sym, ◌∙◌, subst, slice_index}
+use Rattle.dta_model.specs.LinkTimes.{bucket_count, place_in, time_at}
+use Rattle.link_times.proofs.Places.{bucket_inside}
+use Rattle.link_times.proofs.Reading.{read_is, read_least}
+use Rattle.link_times.proofs.RowFacts.{early_is}
 use Rattle.link_times.proofs.table.LinkTimes.at.Goals as goal
 
-pub index-requires : goal.index-requires
-index-requires c =
-    let there = place_there c.self.inside c.self.invariant c.args.link.0 c.args.step (subst (λ t. c.args.link.0 < length t.free) (sym c.self.view_is) c.requires) c.if-step-self.true in
-    let long = c.self.inside.times.ok.0 in
-    omega (arith, there, long)
+pub beside-requires-clause-bucket : goal.beside-requires-clause-bucket
+beside-requires-clause-bucket c =
+    let t = c.self.inside in
+    subst (λ v. c.args.step / t.bucket < bucket_count v) c.self.view_is (bucket_inside t.bucket t.horizon c.args.step c.self.invariant.lasts c.if-step-self.true)
 
 pub returns-then-step-self-clause-time : goal.returns-then-step-self-clause-time
 returns-then-step-self-clause-time c =
-    c.index.ensures
-    ∙ read_is c.self.inside c.self.invariant c.args.link.0 c.args.step (subst (λ t. c.args.link.0 < length t.free) (sym c.self.view_is) c.requires) c.if-step-self.true c.index.result.now
-    ∙ ap (λ t. time_at t c.args.link.0 c.args.step) c.self.view_is
+    let now = c.args.self.now in
+    let l = c.args.link.0 in
+    let step = c.args.step in
+    c.beside.ensures
+    ∙ ap (λ v. slice_index now.times (place_in (bucket_count now) l (step / v.bucket))) c.self.view_is
+    ∙ sym (early_is now l step (subst (λ v. step < v.horizon) c.self.view_is c.if-step-self.true))
 
 pub returns-then-step-self-clause-least : goal.returns-then-step-self-clause-least
 returns-then-step-self-clause-least c =
-    subst (λ x. 1 ≤ x) (sym c.index.ensures)
-    (read_least c.self.inside c.self.invariant c.args.link.0 c.args.step (subst (λ t. c.args.link.0 < length t.free) (sym c.self.view_is) c.requires) c.if-step-self.true c.index.result.now)
+    let t = c.self.inside in
+    let now = c.args.self.now in
+    let l = c.args.link.0 in
+    let step = c.args.step in
+    let small = subst (λ v. l < length v.free) (sym c.self.view_is) c.requires in
+    let read = subst (λ x. 1 ≤ x) (read_is t c.self.invariant l step small c.if-step-self.true 0) (read_least t c.self.invariant l step small c.if-step-self.true 0) in
+    let is = c.beside.ensures
+    ∙ ap (λ v. slice_index now.times (place_in (bucket_count now) l (step / v.bucket))) c.self.view_is
+    ∙ sym (early_is now l step (subst (λ v. step < v.horizon) c.self.view_is c.if-step-self.true)) in
+    subst (λ x. 1 ≤ x) (sym is) (subst (λ v. 1 ≤ time_at v l step) c.self.view_is read)

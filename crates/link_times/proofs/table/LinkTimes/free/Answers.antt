@@ -1,5 +1,5 @@
 use Rattle.std.specs.Prelude.{All}
-use Rattle.std.proofs.Common.{◌*◌, ◌≤◌, length, ap, sym, ◌∙◌, subst}
+use Rattle.std.proofs.Common.{◌*◌, ◌≤◌, arith, length, ap, sym, ◌∙◌, subst}
 use Rattle.std.proofs.lemmas.List.{length-replicate}
 use Rattle.net_core.specs.declared.rows.TheConstants.{MOST_LINKS}
 use Rattle.link_times.proofs.Links.{steps_few, steps_least}
@@ -21,6 +21,7 @@ invariant_of-result c = record {
   numbers = length-replicate (length c.in_ok-times.times.items) 0;
   free = subst (λ L. All (λ f. 1 ≤ f) L) (sym c.in_ok-free.ensures.steps) (steps_least c.args.net.now c.free_steps.ensures.sound);
   times = c.in_ok-times.ensures.least;
+  rows = λ k h. absurd (omega (arith, h));
 }
 
 pub returns-clause-table : goal.returns-clause-table
