@@ -1,4 +1,5 @@
 pub mod Shorts
 pub mod Sums
+pub mod Parts
 pub mod OfLoadings
 pub mod Determined

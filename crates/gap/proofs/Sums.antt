@@ -12,7 +12,8 @@ use Rattle.dta_model.specs.Plans.{link_numbers}
 use Rattle.dta_model.specs.Walks.{IsWalk}
 use Rattle.dta_model.specs.declared.trip.Trip.{Trip}
 use Rattle.dta_model.specs.Sound.{AreWalks}
-use Rattle.gap.specs.Gap.{AreLeasts, has_route, IsLeastOf, over_vehicles, route_time, routed, steps_of}
+use Rattle.gap.specs.Gap.{AreLeasts, has_route, IsGapLine, IsLeastOf, over_vehicles, ppm_of, route_time, routed, steps_of}
+use Rattle.gap.specs.declared.line.GapLine.{GapLine}
 use Rattle.gap.specs.Told.{asks_for, least_at, least_at_place, least_in}
 use Rattle.time_routes.specs.Destinations.{AreTold, asks_least, LeastOf}
 use Rattle.net_core.proofs.Numbers.{numbers_more}
@@ -92,6 +93,19 @@ module _ (at : ℕ → ℕ → ℕ) (net : NetRows) (trips : List Trip) (routes 
           let low = least.none_less (link_numbers route) (walks v trip route there r) in
           let is = route_time-is at net trips routes v trip (Some route) there r in
           omega (arith, low, is)
+
+  -- the line of a gap, by its two sums
+  pub below : (all least : ℕ) → all ≡ over_vehicles (length trips) (route_time at net trips routes) → least ≡ over_vehicles (length trips) (least_at routes told) → least ≤ all
+  below all least a l = let low = over-le (length trips) (least_at routes told) (route_time at net trips routes) none_less in omega (arith, a, l, low)
+
+  pub line_is : (all least : ℕ) (line : GapLine) → all ≡ over_vehicles (length trips) (route_time at net trips routes) → least ≡ over_vehicles (length trips) (least_at routes told)
+      → line.route_steps ≡ all → line.least_steps ≡ least → least + line.gap_steps ≡ all → line.ppm ≡ ppm_of line.gap_steps least → IsGapLine at net trips routes line
+  line_is all least line a l by_routes by_leasts gap ppm = record {
+    by_routes = by_routes ∙ a;
+    by_leasts = (least_at routes told, are_leasts, by_leasts ∙ l);
+    above = omega (arith, by_routes, by_leasts, gap);
+    per_million = ppm ∙ ap (λ n. ppm_of line.gap_steps n) (sym by_leasts);
+  }
 
 -- ---- what is asked for
 pub asked_where_routed : (routes : List (Option (List LinkNo))) (v : ℕ) → has_route routes v ≡ true → asks_least (asks_for routes) v ≡ true

@@ -2,8 +2,8 @@
 //!
 //! [`gap`] tells the least times of all vehicles that have routes, walks their routes over the same
 //! table of link times, and sums both in 128 bits. Its contract is the gap of an iteration
-//! (specs/Gap.antt). [`gap_line`] is the same where the least times are told already, and
-//! [`gap_by_shares`] works in threads.
+//! (specs/Gap.antt). [`gap_line`] is the same where the least times are told already;
+//! [`gap_by_shares`] and [`gap_line_by_shares`] work in threads.
 //!
 //! In a thread the labels of up to four destinations are there at once; beside them it takes 40
 //! bytes for each vehicle.
@@ -12,8 +12,9 @@
 mod laws;
 mod line;
 mod measure;
+mod shares;
 mod walked;
 
 pub use laws::gap_lines_are_determined;
 pub use line::GapLine;
-pub use measure::{gap, gap_by_shares, gap_line};
+pub use measure::{gap, gap_by_shares, gap_line, gap_line_by_shares};

@@ -1,16 +1,18 @@
 // The gap of an iteration.
-ghost use Rattle.std.specs.Prelude.{◌≡◌, ◌<◌, ◌≤◌, ◌*◌, ◌^◌, ℕ, List, length, All, Some, IfOk};
+ghost use Rattle.std.specs.Prelude.{◌≡◌, ◌+◌, ◌<◌, ◌≤◌, ◌*◌, ◌^◌, ℕ, List, length, All, Some, IfOk};
 ghost use Rattle.dta_model.specs.LinkTimes.{time_at};
 ghost use Rattle.dta_model.specs.Sound.{AreTrips};
 ghost use Rattle.dta_model.specs.Sound.{AreWalks};
 ghost use Rattle.link_times.specs.TimeTables.{IsShort};
 ghost use Rattle.gap.specs.Gap.{IsGapLine, has_route, over_vehicles, ppm_of};
 ghost use Rattle.gap.specs.Gap.{route_time, steps_of};
+ghost use Rattle.gap.specs.Shares.{IsMeasure};
 ghost use Rattle.gap.specs.Told.{asks_for, least_at, least_in};
 ghost use Rattle.net_core.specs.declared.rows.LinkNo.{LinkNo as LinkOf};
 ghost use Rattle.time_routes.specs.Destinations.{AreTold, LeastOf};
 
 use crate::line::GapLine;
+use crate::shares::route_steps_by_shares;
 use crate::walked::time_of;
 use dta_model::{MOST_TRIPS, Route, Routes, Trip};
 use link_times::LinkTimes;
@@ -37,19 +39,24 @@ fn route_steps(net: &Net, times: &LinkTimes, trip: &Trip, route: &Option<Route>)
     }
 }
 
-// The steps of all routes, summed.
-fn all_route_steps(net: &Net, times: &LinkTimes, trips: &[Trip], routes: &[Option<Route>]) -> u128
-    requires table { length times.now.free ≡ length net.now.links }
-    requires short { IsShort times.now }
-    requires few { length trips.now ≤ MOST_TRIPS }
-    requires each { length routes.now ≡ length trips.now }
-    requires walks { AreWalks net.now trips.now routes.now }
-    ensures is { result ≡ over_vehicles (length trips.now)
-        (route_time (time_at times.now) net.now trips.now routes.now) }
+/// The steps of the routes of the vehicles from one up to another, summed.
+pub(crate) fn steps_between(
+    net: &Net,
+    times: &LinkTimes,
+    trips: &[Trip],
+    routes: &[Option<Route>],
+    from: usize,
+    to: usize,
+) -> u128
+    requires measure { IsMeasure net.now times.now trips.now routes.now }
+    requires from { from ≤ to }
+    requires to { to ≤ length trips.now }
+    ensures is { over_vehicles from (route_time (time_at times.now) net.now trips.now routes.now)
+        + result ≡ over_vehicles to (route_time (time_at times.now) net.now trips.now routes.now) }
     ensures low { result ≤ length trips.now * 2 ^ 82 }
 {
     let mut total: u128 = 0;
-    for v in 0..trips.len() {
+    for v in from..to {
         total += route_steps(net, times, &trips[v], &routes[v]);
     }
     total
@@ -90,6 +97,24 @@ fn ppm(gap: u128, least: u128) -> u128
     }
 }
 
+// The line of a gap, by the two sums.
+fn line_of(route_steps: u128, least_steps: u128) -> GapLine
+    requires above { least_steps ≤ route_steps }
+    requires low { route_steps < 2 ^ 108 }
+    ensures routes { result.route_steps ≡ route_steps }
+    ensures leasts { result.least_steps ≡ least_steps }
+    ensures gap { least_steps + result.gap_steps ≡ route_steps }
+    ensures per_million { result.ppm ≡ ppm_of result.gap_steps least_steps }
+{
+    let gap_steps = route_steps - least_steps;
+    GapLine {
+        route_steps,
+        least_steps,
+        gap_steps,
+        ppm: ppm(gap_steps, least_steps),
+    }
+}
+
 /// The line of the gap of routes over a table, where the least times of the vehicles that have
 /// routes are told. It takes no memory.
 pub fn gap_line(
@@ -109,15 +134,34 @@ pub fn gap_line(
     ensures { IsGapLine (time_at times.now) net.now trips.now routes.now result }
 {
     let routes = routes.as_slice();
-    let route_steps = all_route_steps(net, times, trips, routes);
-    let least_steps = all_least_steps(routes, told);
-    let gap_steps = route_steps - least_steps;
-    GapLine {
-        route_steps,
-        least_steps,
-        gap_steps,
-        ppm: ppm(gap_steps, least_steps),
-    }
+    let route_steps = steps_between(net, times, trips, routes, 0, trips.len());
+    line_of(route_steps, all_least_steps(routes, told))
+}
+
+/// The same as [`gap_line`], with the routes walked by shares of the vehicles side by side: at most
+/// four, and at most as many as there are workers.
+pub fn gap_line_by_shares<R: AllocGlobal + Threads + Sync>(
+    rt: &R,
+    net: &Net,
+    times: &LinkTimes,
+    trips: &[Trip],
+    routes: &Routes,
+    told: &[Option<u64>],
+    workers: u32,
+) -> Result<GapLine, Memory>
+    requires table { length times.now.free ≡ length net.now.links }
+    requires short { IsShort times.now }
+    requires few { length trips.now ≤ MOST_TRIPS }
+    requires each { length routes.now ≡ length trips.now }
+    requires walks { AreWalks net.now trips.now routes.now }
+    requires told { AreTold (LeastOf (time_at times.now) net.now) (has_route routes.now) trips.now
+        told.now }
+    requires workers { 1 ≤ workers }
+    ensures { IfOk result (IsGapLine (time_at times.now) net.now trips.now routes.now) }
+{
+    let routes = routes.as_slice();
+    let route_steps = route_steps_by_shares(rt, net, times, trips, routes, workers)?;
+    Ok(line_of(route_steps, all_least_steps(routes, told)))
 }
 
 // What is asked for a gap: the least times of the vehicles that have routes.
@@ -175,5 +219,6 @@ pub fn gap_by_shares<R: AllocGlobal + Threads + Sync>(
 {
     let asks = asks_of(rt.alloc(), routes.as_slice())?;
     let told = tell_by_shares(rt, net, times, trips, &asks, workers)?;
-    Ok(gap_line(net, times, trips, routes, &told.leasts))
+    let line = gap_line_by_shares(rt, net, times, trips, routes, &told.leasts, workers)?;
+    Ok(line)
 }

@@ -12,7 +12,7 @@ ghost use Rattle.route_flows.specs.declared.selection.TheConstants.{MOST_ITERATI
 use crate::kept::{copies, renew_selected};
 use crate::selection::{all_walks, asks_of};
 use dta_model::{Routes, Trip};
-use gap::{GapLine, gap_line};
+use gap::{GapLine, gap_line_by_shares};
 use link_times::LinkTimes;
 use net_core::{Memory, Net};
 use std::thread::Threads;
@@ -110,7 +110,7 @@ pub fn gap_and_next_routes<R: AllocGlobal + Threads + Sync>(
 {
     let asks = asks_of(rt.alloc(), routes.as_slice(), true, k)?;
     let Told { leasts, mut walks } = tell_by_shares(rt, net, times, trips, &asks, workers)?;
-    let line = gap_line(net, times, trips, &routes, &leasts);
+    let line = gap_line_by_shares(rt, net, times, trips, &routes, &leasts, workers)?;
     let mut next = routes.into_vec();
     renew_selected(&mut walks, k, &mut next);
     Ok((line, Routes::of(next)))
