@@ -2,12 +2,12 @@
 pub mod FallingFacts
 pub mod FreeFlowFacts
 pub mod Joins
+pub mod LaneFacts
 pub mod LeastOver
 pub mod NarrowFacts
 pub mod PlaceFacts
+pub mod RowFacts
 pub mod SlotFacts
-pub mod SlotRows
-pub mod SlotTails
 pub mod TableFacts
+pub mod TailFacts
 pub mod WaysBackFacts
-pub mod WideRowFacts

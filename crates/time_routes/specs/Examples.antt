@@ -1,5 +1,5 @@
 -- Small worked cases of walks over a table, and the numbers that stand for nothing.
-use Rattle.std.specs.Prelude.{◌≡◌, ℕ, ◌-◌, ◌^◌, List, [], ◌∷◌, Option, None, Some, true, false}
+use Rattle.std.specs.Prelude.{◌≡◌, ℕ, ◌-◌, ◌^◌, List, [], ◌∷◌, None, Some, true, false}
 use Rattle.std.specs.Prelude.{refl}
 use Rattle.std.specs.Cmp.Lexicographic.{slice_cmp}
 use Rattle.std.specs.Ordering.{is_le, nat_cmp}
@@ -13,7 +13,7 @@ use Rattle.dta_model.specs.TimedWalks.{arrival_after, walk_time}
 use Rattle.time_routes.specs.Filling.Labels.{most_span}
 use Rattle.time_routes.specs.Named.{zone_named}
 use Rattle.time_routes.specs.declared.states.zone_numbers.TheConstants.{NO_ZONE}
-use Rattle.time_routes.specs.declared.filling.no_walk.TheConstants.{FAR, NARROW_FAR}
+use Rattle.time_routes.specs.declared.filling.no_walk.TheConstants.{FAR, NARROW_FAR, SHORT_FAR}
 use Rattle.time_routes.specs.declared.reading.group_labels.TheConstants.{MOST_GROUP}
 use Rattle.time_routes.specs.declared.states.link_states.TheConstants.{NO_STATE}
 
@@ -94,10 +94,13 @@ for_no_walk = refl
 for_no_walk_in_32_bits : NARROW_FAR ≡ 2 ^ 31
 for_no_walk_in_32_bits = refl
 
+for_no_walk_in_16_bits : SHORT_FAR ≡ 2 ^ 15
+for_no_walk_in_16_bits = refl
+
 for_no_state : NO_STATE ≡ 2 ^ 32 - 1
 for_no_state = refl
 
-most_zones_at_once : MOST_GROUP ≡ 4
+most_zones_at_once : MOST_GROUP ≡ 8
 most_zones_at_once = refl
 
 for_no_zone : NO_ZONE ≡ 2 ^ 32 - 1

@@ -1,11 +1,12 @@
 -- What is left to zones, from each state at each step.
 pub mod Falling
+pub mod Firsts
 pub mod FreeFlow
 pub mod Labels
-pub mod Narrow
+pub mod Lanes
 pub mod Rests
-pub mod SlotRows
-pub mod SlotsLeft
+pub mod Rows
+pub mod Slots
 pub mod Tables
+pub mod Tails
 pub mod WaysBack
-pub mod WideRows

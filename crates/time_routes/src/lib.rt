@@ -4,13 +4,13 @@
 //! ends, over the free-flow times from the horizon on. [`Labels::least`] then tells the least time
 //! from a zone at a step, and [`Labels::walk`] the chosen walk, in the words of
 //! specs/Least.antt of `dta_model`: over all walks, also those that repeat links, and None exactly
-//! where there is none. [`GroupLabels`] does the same for up to four zones at once.
+//! where there is none. [`GroupLabels`] does the same for up to eight zones at once.
 //!
 //! What is left is kept for each walk state and step up to the horizon. A walk state, in this crate
 //! called a state, is a node where no turn is listed, or a link that ends at another. A group takes
-//! 16 bytes for each state and step, four zones side by side; where times may take more than 32
-//! bits, 8 bytes for each of its zones. `least` looks at the links out of the origin and takes no
-//! memory; `walk` looks once at the turns of each of its links.
+//! 16 bytes for each state and step: eight zones side by side in 16 bits, or four in 32 where times
+//! may take more; where that isn't enough, 8 bytes for each of its zones. `least` looks at the links
+//! out of the origin and takes no memory; `walk` looks once at the turns of each of its links.
 //!
 //! [`tell`] and [`tell_by_shares`] answer what is asked of vehicles, their least times and chosen
 //! walks, whatever their zones: the first in the calling thread, the second by up to four shares of

@@ -111,6 +111,22 @@ fn an_unrouted_zone(rt: HostRuntime) -> Result<(), Fail> {
     Ok(())
 }
 
+// Times whose sums take more than 16 bits; the second link is entered after the horizon.
+#[test]
+fn times_of_more_than_16_bits(rt: HostRuntime) -> Result<(), Fail> {
+    let alloc = rt.alloc();
+    let net = worked_cases::a_loop_that_pays(alloc)?;
+    let steps = vec![in alloc; 30_000, 30_000, 10, 10, 10, 10]?;
+    let times = given(&net, vec![in alloc; 30_000, 30_000, 10]?, steps);
+    assert!(rt; times.is_some());
+    if let Some(times) = times {
+        let (least, links) = told(alloc, &net, &times, (1, 0), 0)?;
+        assert_eq!(rt; least, Some(60_000));
+        assert_eq!(rt; links.as_slice(), [LinkNo(0), LinkNo(1)].as_slice());
+    }
+    Ok(())
+}
+
 // Times of 32 bits, whose sums take more; the second link is entered after the horizon.
 #[test]
 fn times_of_32_bits(rt: HostRuntime) -> Result<(), Fail> {

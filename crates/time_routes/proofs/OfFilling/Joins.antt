@@ -2,7 +2,7 @@
 use Rattle.std.proofs.Common.{◌≡◌, ℕ, suc, ◌+◌, ◌-◌, ◌*◌, ◌≤◌, ◌<◌, Bool, true, false, cond, List, [], ◌∷◌, length, refl, sym, ◌∙◌, subst, arith, ◌⊎◌, inl, inr, get_or, Some}
 use Rattle.std.proofs.lemmas.List.{get_or_past}
 use Rattle.std.proofs.lemmas.Option.{slice_get_within, get_or_from_slice_get}
-use Rattle.std.specs.Prelude.{nat_lt, nat_eq, slice_get, All}
+use Rattle.std.specs.Prelude.{nat_lt, slice_get, All}
 use Rattle.std.proofs.lemmas.Bool.{cases_lt}
 use Rattle.std.proofs.lemmas.Bool.Decides.{nat_tests}
 use Rattle.dta_model.specs.LinkTimes.{TimeTable, time_at}
@@ -11,11 +11,10 @@ use Rattle.fixed_units.specs.declared.turn.TheConstants.{MOST_PENALTY_STEPS}
 use Rattle.net_core.specs.declared.rows.TheConstants.{MOST_LINKS}
 use Rattle.time_routes.specs.Filling.Labels.{most_left, most_span, far, rest_in}
 use Rattle.time_routes.specs.Filling.Rests.{span, over, least_over}
-use Rattle.time_routes.specs.Filling.WideRows.{AreRows}
+use Rattle.time_routes.specs.Filling.Rows.{AreRows}
 use Rattle.time_routes.specs.Reading.Serves.{AreLeft}
 use Rattle.time_routes.specs.States.RouterWays.{is_own, onwards}
 use Rattle.time_routes.specs.Filling.FreeFlow.{still_least, known, AreSettled, AreShort}
-use Rattle.time_routes.specs.States.Routers.{ways_of}
 use Rattle.time_routes.specs.declared.states.onward.Onward.{Onward}
 use Rattle.time_routes.specs.declared.states.router.Router.{Router}
 use Rattle.time_routes.proofs.OfReading.Joined.{near}
@@ -51,7 +50,7 @@ module _ (t : TimeTable) (free old labels : List ℕ) (r : Router) (zone : ℕ) 
     (narrow : (s : ℕ) → s < length r.zones.items → get_or labels s 0 ≡ get_or tail s 0)
     (as_many : length tail ≡ length r.zones.items)
     (inside : (s : ℕ) → s < length r.zones.items → All (λ w. w.to < length r.zones.items) (onwards r s))
-    (rows : AreRows (time_at t) (length r.zones.items) t.horizon old labels r zone 0)
+    (rows : AreRows (time_at t) far (length r.zones.items) t.horizon old labels r zone 0)
     (settled : AreSettled free r zone tail) where
   pub late_rest : (s e : ℕ) → s < length r.zones.items → t.horizon ≤ e → rest_in (length r.zones.items) t.horizon labels s e ≡ get_or tail s 0
   unfolding rest_in
@@ -84,7 +83,7 @@ pub left_is : (t : TimeTable) (r : Router) (zone : ℕ) (free old new tail : Lis
     → length free ≡ length t.free → ((l : ℕ) → l < length t.free → get_or free l 0 ≡ get_or t.free l 0)
     → length tail ≡ length r.zones.items → AreSettled free r zone tail → AreShort tail
     → ((s : ℕ) → s < length tail → get_or old s 0 ≡ get_or tail s 0)
-    → AreRows (time_at t) (length r.zones.items) t.horizon old new r zone 0
+    → AreRows (time_at t) far (length r.zones.items) t.horizon old new r zone 0
     → AreLeft (time_at t) (rest_in (length r.zones.items) t.horizon new) r zone
 left_is t r zone free old new tail sound links few many same as_many settled short copied rows = record { left = left; near = near_all }
   where

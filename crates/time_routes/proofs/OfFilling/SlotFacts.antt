@@ -1,104 +1,100 @@
--- A row of what is left in four slots.
-use Rattle.std.proofs.Common.{◌≡◌, ◌⊎◌, inl, inr, ℕ, zero, suc, ◌+◌, ◌-◌, ◌*◌, ◌<◌, ◌≤◌, cond, List, [], ◌∷◌, length, refl, arith, min, drop, get_or, ap, ◌∙◌, subst, mul-le-mul_right}
-use Rattle.std.specs.Prelude.{nat_eq, All}
-use Rattle.std.proofs.lemmas.Grind.{common_steps, elements}
-use Rattle.std.proofs.lemmas.List.{get_or-set_other, drop_more}
+-- Labels side by side, each slot of them a list.
+use Rattle.std.proofs.Common.{◌≡◌, ◌⊎◌, inl, inr, ℕ, zero, suc, ◌+◌, ◌*◌, ◌^◌, ◌<◌, ◌≤◌, Bool, true, false, cond, List, [], ◌∷◌, length, arith, get_or, ap, sym, ◌∙◌, mul-le-mul_right}
+use Rattle.std.specs.Prelude.{◌≢◌, nat_eq, slice_set, All}
+use Rattle.std.proofs.Math.Dec.{eqb}
 use Rattle.std.proofs.lemmas.Bool.{cases_lt}
-use Rattle.time_routes.specs.declared.states.onward.Onward.{Onward}
-use Rattle.time_routes.specs.Filling.Rests.{span, over, least_over}
-use Rattle.time_routes.specs.declared.filling.slot_fill.Four.{Four}
-use Rattle.time_routes.specs.Filling.SlotRows.{narrow_far, slot_rest, slot_value, write_four, slot, IsSlotRowTo}
-use Rattle.time_routes.specs.States.Routers.{ways_of}
-use Rattle.time_routes.specs.declared.states.router.Router.{Router}
-use Rattle.time_routes.specs.States.RouterWays.{is_own, onwards}
+use Rattle.std.proofs.lemmas.Bool.Decides.{eqb_tells}
+use Rattle.std.proofs.lemmas.Grind.{get_or-set_at}
+use Rattle.std.proofs.lemmas.List.{get_or-map, get_or-set_other, length-map, map-set}
+use Rattle.net_core.specs.declared.rows.TheConstants.{MOST_LINKS}
+use Rattle.time_routes.specs.Filling.Labels.{in_slot}
+use Rattle.time_routes.proofs.Basics.{differs, same_true}
 
-pub IsSlotRowTo_none : (at : ℕ → ℕ → ℕ) (wide horizon : ℕ) (labels : List ℕ) (back step : ℕ) (r : Router) (wanted : Four) → All (λ x. x ≤ narrow_far) labels → IsSlotRowTo at wide horizon labels labels back step r wanted 0
-IsSlotRowTo_none at wide horizon labels back step r wanted low = record { as_many = refl; before = λ k h. refl; each = λ s j h b. absurd (omega arith); low = low }
+-- a label stands in each slot of its place
+pub in_slot_at : {S : Type 0} (slot : S → ℕ → ℕ) (labels : List S) (j p : ℕ) (x : S) → p < length labels → x ≡ get_or labels p x → get_or (in_slot slot labels j) p 0 ≡ slot x j
+in_slot_at slot labels j p x h is = get_or-map (λ y. slot y j) labels p x 0 h ∙ ap (λ y. slot y j) (sym is)
 
--- four writes from a place on
-pub four_length : (labels : List ℕ) (p : ℕ) (v : ℕ → ℕ) → length (write_four labels p v) ≡ length labels
-four_length labels p v = grind (arith, common_steps)
+pub in_slot_many : {S : Type 0} (slot : S → ℕ → ℕ) (labels : List S) (j : ℕ) → length (in_slot slot labels j) ≡ length labels
+in_slot_many slot labels j = length-map labels (λ y. slot y j)
 
-pub four_other : (labels : List ℕ) (p : ℕ) (v : ℕ → ℕ) (k : ℕ) → (k < p) ⊎ (p + 4 ≤ k) → get_or (write_four labels p v) k 0 ≡ get_or labels k 0
-four_other labels p v k (inl h) = get_or-set_other _ (p + 3) k (v 3) 0 (λ e. absurd (omega arith)) ∙ get_or-set_other _ (p + 2) k (v 2) 0 (λ e. absurd (omega arith)) ∙ get_or-set_other _ (p + 1) k (v 1) 0 (λ e. absurd (omega arith)) ∙ get_or-set_other labels p k (v 0) 0 (λ e. absurd (omega arith))
-four_other labels p v k (inr h) = get_or-set_other _ (p + 3) k (v 3) 0 (λ e. absurd (omega arith)) ∙ get_or-set_other _ (p + 2) k (v 2) 0 (λ e. absurd (omega arith)) ∙ get_or-set_other _ (p + 1) k (v 1) 0 (λ e. absurd (omega arith)) ∙ get_or-set_other labels p k (v 0) 0 (λ e. absurd (omega arith))
+pub in_slot_set : {S : Type 0} (slot : S → ℕ → ℕ) (labels : List S) (j p : ℕ) (x : S) → in_slot slot (slice_set labels p x) j ≡ slice_set (in_slot slot labels j) p (slot x j)
+in_slot_set slot labels j p x = map-set (λ y. slot y j) labels p x
 
-pub four_at : (labels : List ℕ) (p : ℕ) (v : ℕ → ℕ) (j : ℕ) → j < 4 → p + 3 < length labels → get_or (write_four labels p v) (p + j) 0 ≡ v j
-four_at labels p v zero small h = grind (arith, common_steps, elements)
-four_at labels p v (suc zero) small h = grind (arith, common_steps, elements)
-four_at labels p v (suc (suc zero)) small h = grind (arith, common_steps, elements)
-four_at labels p v (suc (suc (suc zero))) small h = grind (arith, common_steps, elements)
-four_at labels p v (suc (suc (suc (suc j)))) small h = absurd (omega arith)
+pub in_slot_low : {S : Type 0} (slot : S → ℕ → ℕ) (beyond : ℕ) → ((x : S) (j : ℕ) → slot x j ≤ beyond) → (labels : List S) (j : ℕ) → All (λ x. x ≤ beyond) (in_slot slot labels j)
+in_slot_low slot beyond low [] j k d h = absurd (omega arith)
+in_slot_low slot beyond low (x ∷ xs) j zero d h = low x j
+in_slot_low slot beyond low (x ∷ xs) j (suc k) d h = in_slot_low slot beyond low xs j k d (omega arith)
 
--- labels read only the rows before
-module _ (at : ℕ → ℕ → ℕ) (wide horizon : ℕ) (old new : List ℕ) (back e j : ℕ) (sum : back + e ≡ horizon) (some : 0 < back) (slot : j < 4) (same : (k : ℕ) → k < back * wide → get_or new k 0 ≡ get_or old k 0) where
-  pub rest_same : (s sp : ℕ) → s * 4 + 3 < wide → 0 < sp → slot_rest wide horizon new j s (e + sp) ≡ slot_rest wide horizon old j s (e + sp)
-  unfolding slot_rest
-  rest_same s sp inside goes =
-      let fewer : horizon - (e + sp) + 1 ≤ back = omega arith in
-      let rows : (horizon - (e + sp) + 1) * wide ≤ back * wide = mul-le-mul_right wide fewer in
-      same ((horizon - (e + sp)) * wide + (s * 4 + j)) (omega arith)
+-- nothing in the slots of a zone, as far as they were looked at
+pub record AreOwnTo (zone : ℕ) (zones : List ℕ) (slots : ℕ) (least own : ℕ → ℕ) (count : ℕ) : Type 0 where
+  pub done : (j : ℕ) → j < count → own j ≡ cond (nat_eq zone (get_or zones j 0)) 0 (least j)
+  pub left : (j : ℕ) → count ≤ j → j < slots → own j ≡ least j
 
-  pub least_same : (ws : List Onward) → All (λ w. w.to * 4 + 3 < wide) ws → All (λ w. (0 < span at e w) × (span at e w < narrow_far)) ws → least_over at narrow_far (slot_rest wide horizon new j) e ws ≡ least_over at narrow_far (slot_rest wide horizon old j) e ws
-  unfolding least_over over
-  least_same [] inside goes = refl
-  least_same (w ∷ ws) inside goes =
-      let here : slot_rest wide horizon new j w.to (e + span at e w) ≡ slot_rest wide horizon old j w.to (e + span at e w) = rest_same w.to (span at e w) (inside 0 w (omega arith)) ((goes 0 w (omega arith)).0) in
-      let rest = least_same ws (λ k d h. inside (suc k) d (omega arith)) (λ k d h. goes (suc k) d (omega arith)) in
-      rw (here, rest) refl
+either : (b : Bool) (x : ℕ) → cond b x x ≡ x
+either true x = omega arith
+either false x = omega arith
 
--- one more state
-pub IsSlotRowTo_more : (at : ℕ → ℕ → ℕ) (wide horizon : ℕ) (old now new : List ℕ) (back step : ℕ) (r : Router) (wanted : Four) (count : ℕ)
-    → back + step ≡ horizon → 0 < back → count * 4 + 3 < wide → back * wide + wide ≤ length old
-    → All (λ w. w.to * 4 + 3 < wide) (onwards r count) → All (λ w. (0 < span at step w) × (span at step w < narrow_far)) (onwards r count)
-    → All (λ x. x ≤ narrow_far) new
-    → new ≡ write_four now (back * wide + count * 4) (λ j. slot_value at wide horizon now j (is_own r (slot wanted j) count) (onwards r count) step)
-    → IsSlotRowTo at wide horizon old now back step r wanted count → IsSlotRowTo at wide horizon old new back step r wanted (count + 1)
-IsSlotRowTo_more at wide horizon old now new back step r wanted count sum some inside rows to goes low written row = record {
-  as_many = ap (λ xs. length xs) written ∙ four_length now (back * wide + count * 4) v ∙ row.as_many;
-  before = λ k h. ap (λ xs. get_or xs k 0) written ∙ four_other now (back * wide + count * 4) v k (inl (omega arith)) ∙ row.before k h;
-  each = λ s j h b. at_state s j h b (cases_lt s count);
-  low = low;
+-- one more slot
+pub AreOwnTo_more : (zone : ℕ) (zones : List ℕ) (slots : ℕ) (least old new : ℕ → ℕ) (count z : ℕ) → count < slots → z ≡ get_or zones count 0
+    → ((j : ℕ) → j < slots → new j ≡ cond (nat_eq zone z) (cond (nat_eq j count) 0 (old j)) (old j))
+    → AreOwnTo zone zones slots least old count → AreOwnTo zone zones slots least new (count + 1)
+AreOwnTo_more zone zones slots least old new count z small numbered now was = record {
+  done = λ j h. at_slot j h (cases_lt j count);
+  left = λ j h k. other j k (λ e. absurd (omega (arith, e, h))) ∙ was.left j (omega (arith, h)) k;
 }
   where
-    v : ℕ → ℕ
-    v j = slot_value at wide horizon now j (is_own r (slot wanted j) count) (onwards r count) step
+    other : (j : ℕ) → j < slots → j ≢ count → new j ≡ old j
+    other j k apart = now j k ∙ ap (λ b. cond (nat_eq zone z) (cond b 0 (old j)) (old j)) (differs j count apart) ∙ either (nat_eq zone z) (old j)
 
-    at_state : (s j : ℕ) → s < count + 1 → j < 4 → (s < count) ⊎ (count ≤ s) → get_or new (back * wide + (s * 4 + j)) 0 ≡ slot_value at wide horizon old j (is_own r (slot wanted j) s) (onwards r s) step
-    at_state s j h b (inl less) = ap (λ xs. get_or xs (back * wide + (s * 4 + j)) 0) written ∙ four_other now (back * wide + count * 4) v (back * wide + (s * 4 + j)) (inl (omega arith)) ∙ row.each s j less b
-    at_state s j h b (inr more) =
-        let here : s ≡ count = omega arith in
-        let place : back * wide + (s * 4 + j) ≡ back * wide + count * 4 + j = omega arith in
-        let stands : get_or new (back * wide + count * 4 + j) 0 ≡ v j = ap (λ xs. get_or xs (back * wide + count * 4 + j) 0) written ∙ four_at now (back * wide + count * 4) v j b (omega (arith, row.as_many)) in
-        let same : least_over at narrow_far (slot_rest wide horizon now j) step (onwards r count) ≡ least_over at narrow_far (slot_rest wide horizon old j) step (onwards r count) = least_same at wide horizon old now back step j sum some b row.before (onwards r count) to goes in
-        rw (place, here) (stands ∙ ap (λ x. cond (is_own r (slot wanted j) count) 0 x) same)
+    at_slot : (j : ℕ) → j < count + 1 → (j < count) ⊎ (count ≤ j) → new j ≡ cond (nat_eq zone (get_or zones j 0)) 0 (least j)
+    at_slot j h (inl less) = other j (omega (arith, less, small)) (λ e. absurd (omega (arith, e, less))) ∙ was.done j less
+    at_slot j h (inr more) =
+        let here : j ≡ count = omega (arith, h, more) in
+        let in_slots : j < slots = omega (arith, here, small) in
+        let number : z ≡ get_or zones j 0 = numbered ∙ ap (λ k. get_or zones k 0) (sym here) in
+        now j in_slots ∙ ap (λ b. cond (nat_eq zone z) (cond b 0 (old j)) (old j)) (same_true j count here)
+        ∙ ap (λ n. cond (nat_eq zone n) 0 (old j)) number ∙ ap (λ x. cond (nat_eq zone (get_or zones j 0)) 0 x) (was.left j more in_slots)
 
--- one more state, by its zone and its ways on
-pub IsSlotRowTo_next : (at : ℕ → ℕ → ℕ) (wide horizon : ℕ) (old now new : List ℕ) (back step : ℕ) (r : Router) (wanted : Four) (count zone : ℕ) (on : List Onward)
-    → zone ≡ get_or r.zones.items count 0 → on ≡ onwards r count
-    → back + step ≡ horizon → 0 < back → count * 4 + 3 < wide → back * wide + wide ≤ length old
-    → All (λ w. w.to * 4 + 3 < wide) (onwards r count) → All (λ w. (0 < span at step w) × (span at step w < narrow_far)) (onwards r count)
-    → All (λ x. x ≤ narrow_far) new
-    → new ≡ write_four now (back * wide + count * 4) (λ j. slot_value at wide horizon now j (nat_eq zone (slot wanted j)) on step)
-    → IsSlotRowTo at wide horizon old now back step r wanted count → IsSlotRowTo at wide horizon old new back step r wanted (count + 1)
-IsSlotRowTo_next at wide horizon old now new back step r wanted count zone on zoned are sum some inside rows to goes low written row =
-    let with_zone : new ≡ write_four now (back * wide + count * 4) (λ j. slot_value at wide horizon now j (is_own r (slot wanted j) count) on step) = subst (λ z. new ≡ write_four now (back * wide + count * 4) (λ j. slot_value at wide horizon now j (nat_eq z (slot wanted j)) on step)) zoned written in
-    let with_ways : new ≡ write_four now (back * wide + count * 4) (λ j. slot_value at wide horizon now j (is_own r (slot wanted j) count) (onwards r count) step) = subst (λ ws. new ≡ write_four now (back * wide + count * 4) (λ j. slot_value at wide horizon now j (is_own r (slot wanted j) count) ws step)) are with_zone in
-    IsSlotRowTo_more at wide horizon old now new back step r wanted count sum some inside rows to goes low with_ways row
+-- as many rows as a table may have fit
+pub rows_fit : (horizon states : ℕ) → horizon < 2 ^ 32 → states ≤ MOST_LINKS → (horizon + 1) * states < 2 ^ 63
+rows_fit horizon states early few =
+    let rows : (horizon + 1) * states ≤ 4294967296 * states = mul-le-mul_right states (omega arith) in
+    omega (arith, rows, few)
 
--- the time over a way on stands at its place
-pub slot_place : (at : ℕ → ℕ → ℕ) (wide horizon : ℕ) (labels : List ℕ) (j e back p sp : ℕ) (w : Onward) → back + e ≡ horizon → sp ≡ span at e w → p ≡ (back - sp) * wide + w.to * 4 + j → get_or labels p 0 + sp ≡ over at narrow_far (slot_rest wide horizon labels j) e w
-unfolding over slot_rest
-slot_place at wide horizon labels j e back p sp w sum hs hp =
-    let back_of : horizon - (e + span at e w) ≡ back - sp = omega (arith, hs) in
-    let place : p ≡ (horizon - (e + span at e w)) * wide + (w.to * 4 + j) = rw back_of (omega (arith, hp)) in
-    rw (place, hs) refl
+pub row_fits : (horizon states back : ℕ) → horizon < 2 ^ 32 → states ≤ MOST_LINKS → back ≤ horizon → back * states + states < 2 ^ 63
+row_fits horizon states back early few inside =
+    let rows : (back + 1) * states ≤ (horizon + 1) * states = mul-le-mul_right states (omega arith) in
+    omega (arith, rows, rows_fit horizon states early few)
 
--- one more way on
-pub slot_step : (at rest : ℕ → ℕ → ℕ) (e : ℕ) (ws : List Onward) (i : ℕ) (d : Onward) (m a b x : ℕ) → i < length ws → x ≡ over at narrow_far rest e (get_or ws i d) → b ≡ min a x
-    → min a (least_over at narrow_far rest e (drop i ws)) ≡ m → min b (least_over at narrow_far rest e (drop (i + 1) ws)) ≡ m
-unfolding least_over
-slot_step at rest e ws i d m a b x h hx hb was =
-    let more : drop i ws ≡ get_or ws i d ∷ drop (i + 1) ws = drop_more ws i d h in
-    let now : min a (min (over at narrow_far rest e (get_or ws i d)) (least_over at narrow_far rest e (drop (i + 1) ws))) ≡ m = subst (λ r. min a (least_over at narrow_far rest e r) ≡ m) more was in
-    omega (arith, hx, hb, now)
+-- a row lies inside a table
+pub row_inside : (horizon states back : ℕ) → back ≤ horizon → back * states + states ≤ (horizon + 1) * states
+row_inside horizon states back inside =
+    let rows : (back + 1) * states ≤ (horizon + 1) * states = mul-le-mul_right states (omega arith) in
+    omega (arith, rows)
+
+-- one more label of a slot is written, and those of the other slots stay
+module _ {S : Type 0} (slot : S → ℕ → ℕ) (slots : ℕ) (old : List S) (p place v : ℕ) (x y : S)
+    (inside : p < length old) (was : x ≡ get_or old p x)
+    (now : (j : ℕ) → j < slots → slot y j ≡ cond (nat_eq j place) v (slot x j)) where
+  at_other : (j s : ℕ) → s ≢ p → get_or (in_slot slot (slice_set old p y) j) s 0 ≡ get_or (in_slot slot old j) s 0
+  at_other j s apart = ap (λ xs. get_or xs s 0) (in_slot_set slot old j p y) ∙ get_or-set_other (in_slot slot old j) p s (slot y j) 0 apart
+
+  at_place : (j s : ℕ) → s ≡ p → get_or (in_slot slot (slice_set old p y) j) s 0 ≡ slot y j
+  at_place j s here = ap (λ xs. get_or xs s 0) (in_slot_set slot old j p y) ∙ get_or-set_at (in_slot slot old j) p s (slot y j) 0 here (let n = in_slot_many slot old j in omega (arith, inside, n))
+
+  pub other_slot : (s j : ℕ) → j < slots → j ≢ place → get_or (in_slot slot (slice_set old p y) j) s 0 ≡ get_or (in_slot slot old j) s 0
+  other_slot s j small apart = by (eqb_tells s p)
+    where
+      by : ((eqb s p ≡ true) × (s ≡ p)) ⊎ ((eqb s p ≡ false) × (s ≢ p)) → get_or (in_slot slot (slice_set old p y) j) s 0 ≡ get_or (in_slot slot old j) s 0
+      by (inl (t, here)) =
+          at_place j s here ∙ now j small ∙ ap (λ b. cond b v (slot x j)) (differs j place apart) ∙ sym (in_slot_at slot old j p x inside was) ∙ ap (λ k. get_or (in_slot slot old j) k 0) (sym here)
+      by (inr (t, other)) = at_other j s other
+
+  pub this_slot : (f : ℕ → ℕ) → place < slots → v ≡ f p → ((s : ℕ) → s < p → get_or (in_slot slot old place) s 0 ≡ f s) → (s : ℕ) → s < p + 1 → get_or (in_slot slot (slice_set old p y) place) s 0 ≡ f s
+  this_slot f small is before s h = by (cases_lt s p)
+    where
+      by : (s < p) ⊎ (p ≤ s) → get_or (in_slot slot (slice_set old p y) place) s 0 ≡ f s
+      by (inl less) = at_other place s (λ e. absurd (omega (arith, e, less))) ∙ before s less
+      by (inr more) =
+          let here : s ≡ p = omega (arith, h, more) in
+          at_place place s here ∙ now place small ∙ ap (λ b. cond b v (slot x place)) (same_true place place (omega arith)) ∙ is ∙ ap f (sym here)

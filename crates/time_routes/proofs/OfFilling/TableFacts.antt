@@ -1,32 +1,30 @@
 -- Rows of what is left, one after another.
 use Rattle.std.proofs.Common.{◌≡◌, ◌⊎◌, inl, inr, ℕ, ◌+◌, ◌-◌, ◌*◌, ◌<◌, ◌≤◌, Bool, cond, List, length, refl, arith, get_or, ap, sym, ◌∙◌, mul-le-mul_right}
-use Rattle.std.specs.Prelude.{nat_eq, All}
+use Rattle.std.specs.Prelude.{All}
 use Rattle.std.proofs.lemmas.Bool.{cases_lt}
 use Rattle.std.proofs.lemmas.List.{length-map}
 use Rattle.net_core.specs.declared.rows.NetRows.{NetRows}
 use Rattle.dta_model.specs.LinkTimes.{TimeTable, free_table}
-use Rattle.time_routes.specs.Filling.Labels.{far, rest_in, value}
+use Rattle.time_routes.specs.Filling.Labels.{rest_in, value}
 use Rattle.time_routes.specs.Filling.Rests.{span, least_over}
-use Rattle.time_routes.specs.Filling.WideRows.{IsRowTo, AreRows}
-use Rattle.time_routes.specs.States.Routers.{ways_of}
-use Rattle.time_routes.specs.declared.states.onward.Onward.{Onward}
-use Rattle.time_routes.proofs.OfFilling.WideRowFacts.{least_same}
+use Rattle.time_routes.specs.Filling.Rows.{IsRowTo, AreRows}
+use Rattle.time_routes.proofs.OfFilling.RowFacts.{least_same}
 use Rattle.time_routes.proofs.Basics.{All_range}
 use Rattle.time_routes.specs.declared.states.router.Router.{Router}
 use Rattle.time_routes.specs.States.RouterWays.{is_own, onwards}
 
-pub AreRows_none : (at : ℕ → ℕ → ℕ) (states horizon : ℕ) (labels : List ℕ) (r : Router) (zone : ℕ) (first : ℕ) → horizon ≤ first → All (λ x. x ≤ far) labels → AreRows at states horizon labels labels r zone first
-AreRows_none at states horizon labels r zone first none low = record { as_many = refl; tail = λ k h. refl; each = λ s e h l m. absurd (omega arith); low = low }
+pub AreRows_none : (at : ℕ → ℕ → ℕ) (beyond states horizon : ℕ) (labels : List ℕ) (r : Router) (zone : ℕ) (first : ℕ) → horizon ≤ first → All (λ x. x ≤ beyond) labels → AreRows at beyond states horizon labels labels r zone first
+AreRows_none at beyond states horizon labels r zone first none low = record { as_many = refl; tail = λ k h. refl; each = λ s e h l m. absurd (omega arith); low = low }
 
 -- one more row, for the step before
-pub AreRows_more : (at : ℕ → ℕ → ℕ) (states horizon : ℕ) (old now new : List ℕ) (r : Router) (zone : ℕ) (step back : ℕ)
+pub AreRows_more : (at : ℕ → ℕ → ℕ) (beyond states horizon : ℕ) (old now new : List ℕ) (r : Router) (zone : ℕ) (step back : ℕ)
     → back + step ≡ horizon → 0 < back → length r.zones.items ≡ states
     → ((s : ℕ) → s < length r.zones.items → (get_or r.starts.items s 0 ≤ get_or r.starts.items (s + 1) 0) × (get_or r.starts.items (s + 1) 0 ≤ length r.ways.items))
     → All (λ w. w.to < states) r.ways.items → ((e : ℕ) → All (λ w. 0 < span at e w) r.ways.items)
-    → AreRows at states horizon old now r zone (step + 1)
-    → IsRowTo at states horizon now new back step r zone (length r.zones.items)
-    → AreRows at states horizon old new r zone step
-AreRows_more at states horizon old now new r zone step back sum some many ordered to goes rows row = record {
+    → AreRows at beyond states horizon old now r zone (step + 1)
+    → IsRowTo at beyond states horizon now new back step r zone (length r.zones.items)
+    → AreRows at beyond states horizon old new r zone step
+AreRows_more at beyond states horizon old now new r zone step back sum some many ordered to goes rows row = record {
   as_many = row.as_many ∙ rows.as_many;
   tail = λ k h. row.before k (in_tail k h) ∙ rows.tail k h;
   each = λ s e h l m. at_step s e h l m (cases_lt step e);
@@ -42,24 +40,24 @@ AreRows_more at states horizon old now new r zone step back sum some many ordere
     going : (s e : ℕ) → s < states → All (λ w. 0 < span at e w) (onwards r s)
     going s e h = let o = ordered s (omega arith) in All_range (λ w. 0 < span at e w) r.ways.items (get_or r.starts.items s 0) (get_or r.starts.items (s + 1) 0) (o.0) (o.1) (goes e)
 
-    at_step : (s e : ℕ) → s < states → step ≤ e → e < horizon → (step < e) ⊎ (e ≤ step) → get_or new ((horizon - e) * states + s) 0 ≡ value at states horizon new (is_own r zone s) (onwards r s) e
+    at_step : (s e : ℕ) → s < states → step ≤ e → e < horizon → (step < e) ⊎ (e ≤ step) → get_or new ((horizon - e) * states + s) 0 ≡ value at beyond states horizon new (is_own r zone s) (onwards r s) e
     at_step s e h l m (inl later) =
         let fewer : horizon - e + 1 ≤ back = omega arith in
         let below : (horizon - e + 1) * states ≤ back * states = mul-le-mul_right states fewer in
         let own : Bool = is_own r zone s in
-        let same : least_over at far (rest_in states horizon new) e (onwards r s) ≡ least_over at far (rest_in states horizon now) e (onwards r s)
-        = least_same at states horizon now new (horizon - e) e (omega arith) (omega arith) (λ k q. row.before k (omega arith)) (onwards r s) (inside s h) (going s e h) in
+        let same : least_over at beyond (rest_in states horizon new) e (onwards r s) ≡ least_over at beyond (rest_in states horizon now) e (onwards r s)
+        = least_same at beyond states horizon now new (horizon - e) e (omega arith) (omega arith) (λ k q. row.before k (omega arith)) (onwards r s) (inside s h) (going s e h) in
         row.before ((horizon - e) * states + s) (omega arith) ∙ rows.each s e h (omega arith) m ∙ ap (λ x. cond own 0 x) (sym same)
     at_step s e h l m (inr here) =
         let now_step : e ≡ step = omega arith in
         let at_back : horizon - e ≡ back = omega arith in
         let own : Bool = is_own r zone s in
-        let same : least_over at far (rest_in states horizon new) step (onwards r s) ≡ least_over at far (rest_in states horizon now) step (onwards r s)
-        = least_same at states horizon now new back step sum some row.before (onwards r s) (inside s h) (going s step h) in
+        let same : least_over at beyond (rest_in states horizon new) step (onwards r s) ≡ least_over at beyond (rest_in states horizon now) step (onwards r s)
+        = least_same at beyond states horizon now new back step sum some row.before (onwards r s) (inside s h) (going s step h) in
         rw (at_back, now_step) (row.each s (omega arith) ∙ ap (λ x. cond own 0 x) (sym same))
 
-pub AreRows_self : (at : ℕ → ℕ → ℕ) (states horizon : ℕ) (old new : List ℕ) (r : Router) (zone : ℕ) (first : ℕ) → AreRows at states horizon old new r zone first → AreRows at states horizon new new r zone first
-AreRows_self at states horizon old new r zone first rows = record { as_many = refl; tail = λ k h. refl; each = rows.each; low = rows.low }
+pub AreRows_self : (at : ℕ → ℕ → ℕ) (beyond states horizon : ℕ) (old new : List ℕ) (r : Router) (zone : ℕ) (first : ℕ) → AreRows at beyond states horizon old new r zone first → AreRows at beyond states horizon new new r zone first
+AreRows_self at beyond states horizon old new r zone first rows = record { as_many = refl; tail = λ k h. refl; each = rows.each; low = rows.low }
 
 -- a place in a row stands in the table
 pub place_inside : (n wide back k : ℕ) → back ≤ n → k < wide → back * wide + k < (n + 1) * wide

@@ -1,6 +1,6 @@
 -- What is left from each state at each step, row by row: the static tail first, then each step
 -- before the row of the next.
-use Rattle.std.specs.Prelude.{ℕ, ◌+◌, ◌-◌, ◌*◌, ◌^◌, Bool, cond, List, slice_index_or}
+use Rattle.std.specs.Prelude.{ℕ, ◌+◌, ◌-◌, ◌*◌, ◌^◌, Bool, cond, List, map, slice_index_or}
 use Rattle.fixed_units.specs.declared.turn.TheConstants.{MOST_PENALTY_STEPS}
 use Rattle.time_routes.specs.Filling.Rests.{least_over}
 use Rattle.time_routes.specs.declared.filling.no_walk.TheConstants.{FAR}
@@ -22,7 +22,11 @@ most_left = 2 ^ 60
 unfoldable pub rest_in : ℕ → ℕ → List ℕ → ℕ → ℕ → ℕ
 rest_in states horizon labels s e = slice_index_or labels ((horizon - e) * states + s) 0
 
+-- the labels of one slot, where each has a number in every slot
+abbrev pub in_slot : {S : Type 0} → (S → ℕ → ℕ) → List S → ℕ → List ℕ
+in_slot slot labels j = map (λ x. slot x j) labels
+
 -- what ought to stand there: nothing at the zone, else the least over the ways on
-abbrev pub value : (ℕ → ℕ → ℕ) → ℕ → ℕ → List ℕ → Bool → List Onward → ℕ → ℕ
-value at states horizon labels own ways e =
-    cond own 0 (least_over at far (rest_in states horizon labels) e ways)
+abbrev pub value : (ℕ → ℕ → ℕ) → ℕ → ℕ → ℕ → List ℕ → Bool → List Onward → ℕ → ℕ
+value at beyond states horizon labels own ways e =
+    cond own 0 (least_over at beyond (rest_in states horizon labels) e ways)

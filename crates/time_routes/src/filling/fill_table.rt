@@ -1,56 +1,166 @@
-// Tables of what is left, in the narrower form that serves.
-ghost use Rattle.std.specs.Prelude.{◌≡◌, ◌<◌, ◌≤◌, length, All, IfOk};
+// Tables of what is left, in the narrowest form that serves.
+ghost use Rattle.std.specs.Prelude.{◌≡◌, ◌<◌, ◌≤◌, length, map, All, IfOk};
 ghost use Rattle.net_core.specs.declared.rows.TheConstants.{MOST_LINKS};
 ghost use Rattle.dta_model.specs.LinkTimes.{time_at};
 ghost use Rattle.link_times.specs.TimeTables.{IsTimeTable};
+ghost use Rattle.time_routes.specs.Filling.Firsts.{AreLeftToFirst};
+ghost use Rattle.time_routes.specs.Filling.Labels.{far};
+ghost use Rattle.time_routes.specs.Filling.Tails.{AreTails, FitsBelow};
 ghost use Rattle.time_routes.specs.Reading.Serves.{AreAllLeft};
 ghost use Rattle.time_routes.specs.ToZone.{zone_numbers};
 ghost use Rattle.time_routes.specs.declared.states.zone_numbers.TheConstants.{NO_ZONE};
+ghost use Rattle.time_routes.specs.declared.filling.no_walk.TheConstants.{SHORT_FAR, NARROW_FAR};
 ghost use Rattle.time_routes.specs.declared.reading.group_labels.TheConstants.{MOST_GROUP};
 
+use crate::filling::eight::Eight;
+use crate::filling::four::Four;
 use crate::filling::label_table::LabelTable;
-use crate::filling::narrow_rows::narrow_rows;
+use crate::filling::no_walk::{NARROW_FAR, SHORT_FAR};
+use crate::filling::slot_rows::slot_rows;
 use crate::filling::spare::Spare;
-use crate::filling::table_forms::{NarrowTable, WideTable};
+use crate::filling::table_forms::WideTable;
+use crate::filling::tails::{reach_of, tails_of};
 use crate::filling::wide_rows::wide_rows;
+use crate::reading::group_labels::MOST_GROUP;
 use crate::states::router::Router;
 use link_times::LinkTimes;
 use net_core::{Memory, ZoneNo};
 use std::alloc::Global;
 
-/// What is left to each zone of a group over a table of link times, where it serves in the memory
-/// of labels that are read no more.
+// The most zones side by side in 32 bits.
+const MOST_NARROW: usize = 4;
+
+/// What is left to the first of some zones, and to how many of them.
+#[derive(Drop)]
+pub(crate) struct Filled {
+    pub(crate) table: LabelTable,
+    pub(crate) count: usize,
+}
+
+// What is left to each of some zones, one after another in 64 bits.
+fn wide_table(
+    alloc: Global,
+    router: &Router,
+    times: &LinkTimes,
+    links: u32,
+    zones: &[ZoneNo],
+) -> Result<LabelTable, Memory>
+    requires links { links ≡ length times.now.free }
+    requires states { length router.now.states.items ≡ length times.now.free }
+    requires few_states { length router.now.zones.items ≤ MOST_LINKS }
+    ensures { IfOk result (λ table. AreAllLeft (time_at times.now) router.now table
+        (zone_numbers zones.now)) }
+{
+    let rows = wide_rows(alloc, router, times, links, zones)?;
+    Ok(LabelTable::Wide(WideTable {
+        states: router.state_count(),
+        horizon: times.horizon(),
+        zones: rows,
+    }))
+}
+
+// What is left to each of a few zones, side by side in 16 bits.
+fn short_table(
+    alloc: Global,
+    router: &Router,
+    times: &LinkTimes,
+    zones: &[ZoneNo],
+    tails: &[Vec<u64>],
+    most: u64,
+    room: Vec<Eight>,
+) -> Result<LabelTable, Memory>
+    requires states { length router.now.states.items ≡ length times.now.free }
+    requires few_states { length router.now.zones.items ≤ MOST_LINKS }
+    requires few { length zones.now ≤ MOST_GROUP }
+    requires zones { All (λ z. z.0 < NO_ZONE) zones.now }
+    requires tails { AreTails times.now.free router.now most (map (λ tail. tail.items) tails.now)
+        (zone_numbers zones.now) }
+    requires fits { FitsBelow times.now router.now most SHORT_FAR }
+    ensures { IfOk result (λ table. AreAllLeft (time_at times.now) router.now table
+        (zone_numbers zones.now)) }
+{
+    let table = slot_rows::<Eight>(alloc, router, times, zones, tails, most, room)?;
+    Ok(LabelTable::Short(table))
+}
+
+// What is left to each of a few zones, side by side in 32 bits.
+fn narrow_table(
+    alloc: Global,
+    router: &Router,
+    times: &LinkTimes,
+    zones: &[ZoneNo],
+    tails: &[Vec<u64>],
+    most: u64,
+    room: Vec<Four>,
+) -> Result<LabelTable, Memory>
+    requires states { length router.now.states.items ≡ length times.now.free }
+    requires few_states { length router.now.zones.items ≤ MOST_LINKS }
+    requires few { length zones.now ≤ MOST_NARROW }
+    requires zones { All (λ z. z.0 < NO_ZONE) zones.now }
+    requires tails { AreTails times.now.free router.now most (map (λ tail. tail.items) tails.now)
+        (zone_numbers zones.now) }
+    requires fits { FitsBelow times.now router.now most NARROW_FAR }
+    ensures { IfOk result (λ table. AreAllLeft (time_at times.now) router.now table
+        (zone_numbers zones.now)) }
+{
+    let table = slot_rows::<Four>(alloc, router, times, zones, tails, most, room)?;
+    Ok(LabelTable::Narrow(table))
+}
+
+// The most zones whose labels may stand in one table, where the horizon and the longest ways on
+// take so many steps: as many as there are slots of 16 bits where these may serve, else of 32; and
+// as many at least as are asked for.
+fn most_zones(steps: u64, least: usize) -> usize
+    requires { least ≤ MOST_GROUP }
+    ensures enough { least ≤ result }
+    ensures few { result ≤ MOST_GROUP }
+{
+    if steps < SHORT_FAR as u64 {
+        MOST_GROUP
+    } else {
+        MOST_NARROW.max(least)
+    }
+}
+
+/// What is left to the first of some zones over a table of link times, to so many of them at least,
+/// where it serves in the memory of labels that are read no more.
 pub(crate) fn table_of(
     alloc: Global,
     router: &Router,
     times: &LinkTimes,
     links: u32,
     zones: &[ZoneNo],
+    least: usize,
     spare: Spare,
-) -> Result<LabelTable, Memory>
+) -> Result<Filled, Memory>
     requires links { links ≡ length times.now.free }
     requires states { length router.now.states.items ≡ length times.now.free }
     requires few_states { length router.now.zones.items ≤ MOST_LINKS }
-    requires few { length zones.now ≤ MOST_GROUP }
     requires zones { All (λ z. z.0 < NO_ZONE) zones.now }
-    ensures left { IfOk result (λ table. AreAllLeft (time_at times.now) router.now table
-        (zone_numbers zones.now)) }
+    requires least { (least ≤ length zones.now) × (least ≤ MOST_GROUP) }
+    ensures left { IfOk result (AreLeftToFirst (time_at times.now) router.now zones.now least) }
     ensures sound { IsTimeTable times.now }
 {
-    let Spare { labels: room } = spare;
-    let states = router.state_count();
-    let horizon = times.horizon();
-    if let Some(labels) = narrow_rows(alloc, router, times, links, zones, room)? {
-        return Ok(LabelTable::Narrow(NarrowTable {
-            states,
-            horizon,
-            labels,
-        }));
+    let _sound = times.horizon();
+    let reach = reach_of(router, times, links);
+    let count = zones.len().min(most_zones(reach, least));
+    let first = &zones[..count];
+    let tails = tails_of(alloc, router, times, links, first)?;
+    let reach = reach + tails.most;
+    if reach < SHORT_FAR as u64 {
+        let rows = tails.zones.as_slice();
+        let room = spare.into_short();
+        let table = short_table(alloc, router, times, first, rows, tails.most, room)?;
+        return Ok(Filled { table, count });
     }
-    let zones = wide_rows(alloc, router, times, links, zones)?;
-    Ok(LabelTable::Wide(WideTable {
-        states,
-        horizon,
-        zones,
-    }))
+    let count = count.min(MOST_NARROW).max(least);
+    let first = &zones[..count];
+    if count <= MOST_NARROW && reach < NARROW_FAR as u64 {
+        let rows = &tails.zones[..count];
+        let room = spare.into_narrow();
+        let table = narrow_table(alloc, router, times, first, rows, tails.most, room)?;
+        return Ok(Filled { table, count });
+    }
+    let table = wide_table(alloc, router, times, links, first)?;
+    Ok(Filled { table, count })
 }

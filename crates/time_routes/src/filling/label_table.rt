@@ -1,19 +1,22 @@
 // What is left to each zone of a group.
 ghost use Rattle.std.specs.Prelude.{◌≡◌, ◌+◌, ◌-◌, ◌*◌, ◌^◌, ◌<◌, ◌≤◌, [], length, get_or, map};
 ghost use Rattle.std.specs.Prelude.{All};
-ghost use Rattle.time_routes.specs.Filling.Labels.{far, rest_in};
-ghost use Rattle.time_routes.specs.Filling.SlotRows.{slot_rest};
-ghost use Rattle.time_routes.specs.Filling.Narrow.{widened};
+ghost use Rattle.time_routes.specs.Filling.Labels.{far, in_slot, rest_in};
+ghost use Rattle.time_routes.specs.Filling.Tails.{widened};
 
-use crate::filling::no_walk::{FAR, NARROW_FAR};
+use crate::filling::eight::Eight;
+use crate::filling::four::Four;
+use crate::filling::no_walk::FAR;
+use crate::filling::slots::Slots;
 use crate::filling::spare::Spare;
-use crate::filling::table_forms::{NarrowTable, WideTable};
+use crate::filling::table_forms::{SlotTable, WideTable};
 use std::alloc::Global;
 
-/// The steps that are left to each zone of a group, in the narrower form that serves.
+/// The steps that are left to each zone of a group, in the narrowest form that serves.
 #[derive(Drop)]
 pub(crate) enum LabelTable {
-    Narrow(NarrowTable),
+    Short(SlotTable<Eight>),
+    Narrow(SlotTable<Four>),
     Wide(WideTable),
 }
 
@@ -38,23 +41,18 @@ fn place_in_row(back: usize, horizon: u32, wide: usize, number: usize) -> usize
 }
 
 // What is left in a slot.
-#[tactic(auto, unfolding(crate::specs::Filling::SlotRows::slot_rest))]
-fn slot_at(slots: &NarrowTable, slot: usize, state: u32, step: u64) -> u64
-    requires slot { slot < 4 }
+#[tactic(auto, unfolding(crate::specs::Filling::Labels::rest_in))]
+fn slot_at<S: Slots>(slots: &SlotTable<S>, slot: usize, state: u32, step: u64) -> u64
+    requires slot { slot < S.SLOTS }
     requires state { state < slots.now.states }
-    ensures is { result ≡ widened (slot_rest (slots.now.states * 4) slots.now.horizon
-        slots.now.labels.items slot state step) }
+    ensures is { result ≡ widened S.FAR (rest_in slots.now.states slots.now.horizon
+        (in_slot S.slot slots.now.labels.items slot) state step) }
     ensures low { result ≤ far }
 {
     let back = rows_back(slots.horizon, step);
-    let place = place_in_row(
-        back,
-        slots.horizon,
-        slots.states * 4,
-        state as usize * 4 + slot,
-    );
-    let left = slots.labels[place];
-    if left < NARROW_FAR { left as u64 } else { FAR }
+    let place = place_in_row(back, slots.horizon, slots.states, state as usize);
+    let left = slots.labels[place].label(slot);
+    if left < S::FAR { left as u64 } else { FAR }
 }
 
 // What is left in a row of its own.
@@ -87,14 +85,14 @@ fn place_at(rows: &WideTable, place: usize, state: u32, step: u64) -> u64
     )
 }
 
-// The memory of a table in 32 bits.
-fn spare_of(table: NarrowTable) -> Spare {
-    let NarrowTable {
+// The labels of a table of slots.
+fn labels_of<S: Slots>(table: SlotTable<S>) -> Vec<S> {
+    let SlotTable {
         states: _,
         horizon: _,
         labels,
     } = table;
-    Spare { labels }
+    labels
 }
 
 impl LabelTable {
@@ -108,15 +106,23 @@ impl LabelTable {
         ensures low { result ≤ far }
     {
         match self {
+            LabelTable::Short(slots) => slot_at(slots, place, state, step),
             LabelTable::Narrow(slots) => slot_at(slots, place, state, step),
             LabelTable::Wide(rows) => place_at(rows, place, state, step),
         }
     }
 
-    /// Its memory, where that is of 32 bits.
+    /// Its memory, where that is of slots.
     pub(crate) fn into_spare(self, alloc: Global) -> Spare {
         match self {
-            LabelTable::Narrow(slots) => spare_of(slots),
+            LabelTable::Short(slots) => Spare {
+                short: labels_of(slots),
+                narrow: Vec::new(alloc),
+            },
+            LabelTable::Narrow(slots) => Spare {
+                short: Vec::new(alloc),
+                narrow: labels_of(slots),
+            },
             LabelTable::Wide(_) => Spare::none(alloc),
         }
     }

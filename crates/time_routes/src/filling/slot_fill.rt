@@ -1,165 +1,121 @@
-// What is left to four zones side by side, step by step from the horizon down.
+// What is left to a few zones side by side, step by step from the horizon down.
 ghost use Rattle.std.specs.Prelude.{◌≡◌, ℕ, ◌+◌, ◌-◌, ◌*◌, ◌<◌, ◌≤◌, ◌^◌, length, slice_index, All};
-ghost use Rattle.std.specs.Prelude.{cond, nat_eq, false};
+ghost use Rattle.std.specs.Prelude.{cond, nat_eq, false, slice_set};
 ghost use Rattle.std.specs.List.{slice_range};
+ghost use Rattle.net_core.specs.declared.rows.TheConstants.{MOST_LINKS};
 ghost use Rattle.dta_model.specs.LinkTimes.{time_at};
-ghost use Rattle.time_routes.specs.Filling.SlotRows.{narrow_far, slot, slot_rest, slot_value};
-ghost use Rattle.time_routes.specs.Filling.SlotRows.{write_four, IsSlotRowTo, AreSlotRows};
+ghost use Rattle.time_routes.specs.Filling.Labels.{in_slot, rest_in, value};
 ghost use Rattle.time_routes.specs.Filling.Rests.{span, least_over};
-ghost use Rattle.time_routes.specs.States.Spans.{AreNarrow, AreShortAt, IsSpans};
+ghost use Rattle.time_routes.specs.Filling.Slots.{AreSlotsTo, AreSlotRows};
+ghost use Rattle.time_routes.specs.States.Spans.{AreShortAt, AreShortSpans, IsSpans};
+ghost use Rattle.time_routes.specs.ToZone.{zone_numbers};
 ghost use Rattle.time_routes.specs.declared.states.zone_numbers.TheConstants.{NO_ZONE};
 
-use crate::filling::no_walk::NARROW_FAR;
+use crate::filling::slots::Slots;
+use crate::filling::wide_fill::place_after;
 use crate::states::onward::Onward;
 use crate::states::router::Router;
 use crate::states::spans::{Span, keep};
 use crate::states::zone_numbers::NO_ZONE;
 use link_times::LinkTimes;
+use net_core::ZoneNo;
 
-/// A number for each of four slots.
-#[derive(Clone, Copy, Drop)]
-pub(crate) struct Four {
-    pub(crate) a: u32,
-    pub(crate) b: u32,
-    pub(crate) c: u32,
-    pub(crate) d: u32,
-}
-
-/// The row of a step: how many labels a row has, how many rows it stands from the horizon's, and
-/// where it begins; its step and the link times; and the zones of the slots.
+/// The row of a step: how many states it has, how many rows it stands from the horizon's, its step,
+/// the link times, and the zones of the slots.
 #[derive(Clone, Copy, Drop)]
 struct SlotRow<'a> {
-    wide: usize,
+    states: usize,
     back: usize,
-    base: usize,
     step: u32,
     times: &'a LinkTimes,
-    wanted: &'a Four,
+    zones: &'a [ZoneNo],
 }
 
-// The place of what is left after a span.
-#[tactic(auto, using(crate::proofs::OfStates::SpanFacts::place_is))]
-fn place_after(wide: usize, back: usize, base: usize, span: &Span) -> usize
-    requires span { 0 < span.now.time }
-    requires ahead { span.now.ahead ≡ span.now.time * wide }
-    requires inside { span.now.to + 3 < wide }
-    requires back { (0 < back) × (base ≡ back * wide) }
-    requires fits { back * wide < 2 ^ 63 }
-    ensures is { result ≡ (back - span.now.time) * wide + span.now.to }
-    ensures low { result + 3 < back * wide }
+// The least over the ways on, in each slot.
+fn least_slots<S: Slots>(labels: &[S], row: &SlotRow, spans: &[Span], ways: &[Onward]) -> S
+    requires spans { IsSpans (time_at row.now.times.now) row.now.step ways.now spans.now }
+    requires short { AreShortSpans S.FAR row.now.states spans.now }
+    requires rows { row.now.back * row.now.states ≤ length labels.now }
+    requires fits { row.now.back * row.now.states < 2 ^ 63 }
+    requires back { (0 < row.now.back) × (row.now.back + row.now.step ≡ row.now.times.now.horizon) }
+    ensures { (j : ℕ) → j < S.SLOTS → S.slot result j
+        ≡ least_over (time_at row.now.times.now) S.FAR (rest_in row.now.states
+        row.now.times.now.horizon (in_slot S.slot labels.now j)) row.now.step ways.now }
 {
-    base.saturating_sub(span.ahead) + span.to as usize
-}
-
-// The least over the ways on, in four slots.
-#[tactic(auto, using(crate::proofs::OfFilling::LeastOver::least_over_le))]
-fn least_four(labels: &[u32], row: &SlotRow, spans: &[Span], ways: &[Onward]) -> Four
-    requires spans { IsSpans (time_at row.now.times.now) row.now.step row.now.wide ways.now
-        spans.now }
-    requires short { AreNarrow row.now.wide spans.now }
-    requires rows { row.now.back * row.now.wide ≤ length labels.now }
-    requires back { (0 < row.now.back) × (row.now.back + row.now.step ≡ row.now.times.now.horizon)
-        × (row.now.base ≡ row.now.back * row.now.wide) }
-    requires low { All (λ x. x ≤ narrow_far) labels.now }
-    ensures a { result.a ≡ least_over (time_at row.now.times.now) narrow_far
-        (slot_rest row.now.wide row.now.times.now.horizon labels.now 0) row.now.step ways.now }
-    ensures b { result.b ≡ least_over (time_at row.now.times.now) narrow_far
-        (slot_rest row.now.wide row.now.times.now.horizon labels.now 1) row.now.step ways.now }
-    ensures c { result.c ≡ least_over (time_at row.now.times.now) narrow_far
-        (slot_rest row.now.wide row.now.times.now.horizon labels.now 2) row.now.step ways.now }
-    ensures d { result.d ≡ least_over (time_at row.now.times.now) narrow_far
-        (slot_rest row.now.wide row.now.times.now.horizon labels.now 3) row.now.step ways.now }
-    ensures low { (result.a ≤ narrow_far) × (result.b ≤ narrow_far) × (result.c ≤ narrow_far)
-        × (result.d ≤ narrow_far) }
-{
-    let mut a = NARROW_FAR;
-    let mut b = NARROW_FAR;
-    let mut c = NARROW_FAR;
-    let mut d = NARROW_FAR;
+    let mut least = S::no_walk();
     for span in spans {
-        let place = place_after(row.wide, row.back, row.base, span);
-        a = a.min(labels[place] + span.time);
-        b = b.min(labels[place + 1] + span.time);
-        c = c.min(labels[place + 2] + span.time);
-        d = d.min(labels[place + 3] + span.time);
+        let place = place_after(row.states, row.back, span.time as u64, span.to);
+        least = least.or_after(labels[place], span.time);
     }
-    Four { a, b, c, d }
+    least
 }
 
-// Nothing at the wanted zone, else the least.
-fn unless_own(zone: u32, wanted: u32, least: u32) -> u32
-    ensures is { result ≡ cond (nat_eq zone wanted) 0 least }
-    ensures low { least ≤ narrow_far → result ≤ narrow_far }
+// The same labels, but nothing in a slot where that is wanted.
+fn none_at<S: Slots>(labels: S, place: usize, wanted: bool) -> S
+    requires { place < S.SLOTS }
+    ensures { (j : ℕ) → j < S.SLOTS → S.slot result j
+        ≡ cond wanted (cond (nat_eq j place) 0 (S.slot labels j)) (S.slot labels j) }
 {
-    if zone == wanted { 0 } else { least }
+    if wanted {
+        labels.with(place, 0)
+    } else {
+        labels
+    }
 }
 
-// Writes four labels: nothing in the slots of the state's zone, else the least.
-fn put_four(labels: &mut [u32], place: usize, zone: u32, wanted: &Four, least: &Four)
-    requires place { place + 3 < length labels.old }
-    requires wanted { (wanted.now.a < NO_ZONE) × (wanted.now.b < NO_ZONE) × (wanted.now.c < NO_ZONE)
-        × (wanted.now.d < NO_ZONE) }
-    requires low { (least.now.a ≤ narrow_far) × (least.now.b ≤ narrow_far)
-        × (least.now.c ≤ narrow_far) × (least.now.d ≤ narrow_far) }
-    requires labels { All (λ x. x ≤ narrow_far) labels.old }
-    ensures low { All (λ x. x ≤ narrow_far) labels.new }
-    ensures written { labels.new ≡ write_four labels.old place
-        (λ j. cond (nat_eq zone (slot wanted.now j)) 0 (slot least.now j)) }
+// The same labels, but nothing in the slots of a zone.
+fn none_at_own<S: Slots>(least: S, zone: u32, zones: &[ZoneNo]) -> S
+    requires { length zones.now ≤ S.SLOTS }
+    ensures { (j : ℕ) → j < length zones.now → S.slot result j
+        ≡ cond (nat_eq zone (slice_index (zone_numbers zones.now) j)) 0 (S.slot least j) }
+{
+    let mut own = least;
+    for place in 0..zones.len() {
+        own = none_at(own, place, zone == zones[place].0);
+    }
+    own
+}
+
+// Nothing in the slots of a state's zone, else the least.
+fn unless_own<S: Slots>(least: S, zone: u32, zones: &[ZoneNo]) -> S
+    requires few { length zones.now ≤ S.SLOTS }
+    requires zones { All (λ z. z.0 < NO_ZONE) zones.now }
+    ensures { (j : ℕ) → j < length zones.now → S.slot result j
+        ≡ cond (nat_eq zone (slice_index (zone_numbers zones.now) j)) 0 (S.slot least j) }
 {
     if zone == NO_ZONE {
-        put_all(labels, place, least);
+        least
     } else {
-        let own = Four {
-            a: unless_own(zone, wanted.a, least.a),
-            b: unless_own(zone, wanted.b, least.b),
-            c: unless_own(zone, wanted.c, least.c),
-            d: unless_own(zone, wanted.d, least.d),
-        };
-        put_all(labels, place, &own);
+        none_at_own(least, zone, zones)
     }
 }
 
-// Writes four labels.
-fn put_all(labels: &mut [u32], place: usize, values: &Four)
-    requires place { place + 3 < length labels.old }
-    requires low { (values.now.a ≤ narrow_far) × (values.now.b ≤ narrow_far)
-        × (values.now.c ≤ narrow_far) × (values.now.d ≤ narrow_far) }
-    requires labels { All (λ x. x ≤ narrow_far) labels.old }
-    ensures low { All (λ x. x ≤ narrow_far) labels.new }
-    ensures written { labels.new ≡ write_four labels.old place (slot values.now) }
-{
-    labels[place] = values.a;
-    labels[place + 1] = values.b;
-    labels[place + 2] = values.c;
-    labels[place + 3] = values.d;
-}
-
-// Writes what is left from a state, in four slots.
-fn fill_state(
-    labels: &mut [u32],
+// Writes what is left from a state, in each slot.
+fn fill_state<S: Slots>(
+    labels: &mut [S],
     row: &SlotRow,
     spans: &[Span],
     state: usize,
     zone: u32,
     ways: &[Onward],
 )
-    requires spans { IsSpans (time_at row.now.times.now) row.now.step row.now.wide ways.now
-        spans.now }
-    requires short { AreNarrow row.now.wide spans.now }
-    requires rows { row.now.back * row.now.wide + row.now.wide ≤ length labels.old }
-    requires state { state * 4 + 3 < row.now.wide }
-    requires back { (0 < row.now.back) × (row.now.back + row.now.step ≡ row.now.times.now.horizon)
-        × (row.now.base ≡ row.now.back * row.now.wide) }
-    requires wanted { (row.now.wanted.now.a < NO_ZONE) × (row.now.wanted.now.b < NO_ZONE)
-        × (row.now.wanted.now.c < NO_ZONE) × (row.now.wanted.now.d < NO_ZONE) }
-    requires low { All (λ x. x ≤ narrow_far) labels.old }
-    ensures low { All (λ x. x ≤ narrow_far) labels.new }
-    ensures written { labels.new ≡ write_four labels.old (row.now.back * row.now.wide + state * 4)
-        (λ j. slot_value (time_at row.now.times.now) row.now.wide row.now.times.now.horizon
-        labels.old j (nat_eq zone (slot row.now.wanted.now j)) ways.now row.now.step) }
+    requires spans { IsSpans (time_at row.now.times.now) row.now.step ways.now spans.now }
+    requires short { AreShortSpans S.FAR row.now.states spans.now }
+    requires rows { row.now.back * row.now.states + row.now.states ≤ length labels.old }
+    requires fits { row.now.back * row.now.states + row.now.states < 2 ^ 63 }
+    requires state { state < row.now.states }
+    requires back { (0 < row.now.back) × (row.now.back + row.now.step ≡ row.now.times.now.horizon) }
+    requires few { length row.now.zones.now ≤ S.SLOTS }
+    requires zones { All (λ z. z.0 < NO_ZONE) row.now.zones.now }
+    ensures many { length labels.new ≡ length labels.old }
+    ensures written { (j : ℕ) → j < length row.now.zones.now → in_slot S.slot labels.new j
+        ≡ slice_set (in_slot S.slot labels.old j) (row.now.back * row.now.states + state)
+        (value (time_at row.now.times.now) S.FAR row.now.states row.now.times.now.horizon
+        (in_slot S.slot labels.old j)
+        (nat_eq zone (slice_index (zone_numbers row.now.zones.now) j)) ways.now row.now.step) }
 {
-    let least = least_four(labels, row, spans, ways);
-    put_four(labels, row.base + state * 4, zone, row.wanted, &least);
+    let least = least_slots(labels, row, spans, ways);
+    labels[row.back * row.states + state] = unless_own(least, zone, row.zones);
 }
 
 // The spans of the ways on from a state.
@@ -175,37 +131,36 @@ fn spans_on<'s>(router: &Router, spans: &'s [Span], state: usize) -> &'s [Span]
 }
 
 // Writes the row of a step.
-#[tactic(auto, using(crate::proofs::OfFilling::SlotFacts::IsSlotRowTo_none))]
-fn fill_row(
-    labels: &mut [u32],
-    wide: usize,
+fn fill_row<S: Slots>(
+    labels: &mut [S],
     back: usize,
     times: &LinkTimes,
     spans: &[Span],
     step: u32,
     router: &Router,
-    wanted: &Four,
+    zones: &[ZoneNo],
 )
-    requires short { AreShortAt (time_at times.now) step router.now.ways.items }
-    requires spans { IsSpans (time_at times.now) step wide router.now.ways.items spans.now }
-    requires rows { back * wide + wide ≤ length labels.old }
-    requires states { length router.now.zones.items * 4 ≡ wide }
+    requires short { AreShortAt (time_at times.now) S.FAR step router.now.ways.items }
+    requires spans { IsSpans (time_at times.now) step router.now.ways.items spans.now }
+    requires rows { back * length router.now.zones.items + length router.now.zones.items
+        ≤ length labels.old }
+    requires fits { back * length router.now.zones.items + length router.now.zones.items < 2 ^ 63 }
     requires back { (0 < back) × (back + step ≡ times.now.horizon) }
-    requires wanted { (wanted.now.a < NO_ZONE) × (wanted.now.b < NO_ZONE) × (wanted.now.c < NO_ZONE)
-        × (wanted.now.d < NO_ZONE) }
-    requires low { All (λ x. x ≤ narrow_far) labels.old }
-    ensures { IsSlotRowTo (time_at times.now) wide times.now.horizon labels.old labels.new back step
-        router.now wanted.now (length router.now.zones.items) }
+    requires few { length zones.now ≤ S.SLOTS }
+    requires zones { All (λ z. z.0 < NO_ZONE) zones.now }
+    ensures many { length labels.new ≡ length labels.old }
+    ensures filled { AreSlotsTo S.slot (time_at times.now) S.FAR router.now times.now.horizon
+        (zone_numbers zones.now) labels.old labels.new back step (length router.now.zones.items) }
 {
+    let states = router.state_count();
     let row = SlotRow {
-        wide,
+        states,
         back,
-        base: back * wide,
         step,
         times,
-        wanted,
+        zones,
     };
-    for state in 0..router.state_count() {
+    for state in 0..states {
         fill_state(
             labels,
             &row,
@@ -218,43 +173,40 @@ fn fill_row(
 }
 
 /// Writes the row of each step from the last before the horizon down to the first.
-#[tactic(auto, using(crate::proofs::OfFilling::SlotRows::AreSlotRows_none))]
-pub(crate) fn fill_slots(
-    labels: &mut [u32],
+pub(crate) fn fill_slots<S: Slots>(
+    labels: &mut [S],
     spans: &mut [Span],
     waits: bool,
-    wide: usize,
     times: &LinkTimes,
     router: &Router,
-    wanted: &Four,
+    zones: &[ZoneNo],
 )
     requires links { length router.now.states.items ≡ length times.now.free }
-    requires short { (e : ℕ) → AreShortAt (time_at times.now) e router.now.ways.items }
+    requires few_states { length router.now.zones.items ≤ MOST_LINKS }
+    requires short { (e : ℕ) → AreShortAt (time_at times.now) S.FAR e router.now.ways.items }
     requires spans { length spans.old ≡ length router.now.ways.items }
     requires waits { waits ≡ false → All (λ w. w.wait ≡ 0) router.now.ways.items }
-    requires rows { length labels.old ≡ (times.now.horizon + 1) * wide }
-    requires wide { wide < 2 ^ 31 }
-    requires states { length router.now.zones.items * 4 ≡ wide }
-    requires wanted { (wanted.now.a < NO_ZONE) × (wanted.now.b < NO_ZONE) × (wanted.now.c < NO_ZONE)
-        × (wanted.now.d < NO_ZONE) }
-    requires low { All (λ x. x ≤ narrow_far) labels.old }
-    ensures { AreSlotRows (time_at times.now) wide times.now.horizon labels.old labels.new
-        router.now wanted.now 0 }
+    requires rows { length labels.old
+        ≡ (times.now.horizon + 1) * length router.now.zones.items }
+    requires few { length zones.now ≤ S.SLOTS }
+    requires zones { All (λ z. z.0 < NO_ZONE) zones.now }
+    ensures many { length labels.new ≡ length labels.old }
+    ensures filled { AreSlotRows S.slot (time_at times.now) S.FAR router.now times.now.horizon
+        (zone_numbers zones.now) labels.old labels.new 0 }
 {
     let horizon = times.horizon();
     let mut step = horizon;
     while step > 0 {
         step -= 1;
-        keep(spans, waits, wide, times, step, router);
+        keep(spans, waits, times, step, router);
         fill_row(
             labels,
-            wide,
             (horizon - step) as usize,
             times,
             spans,
             step,
             router,
-            wanted,
+            zones,
         );
     }
 }

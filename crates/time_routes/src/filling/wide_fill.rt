@@ -5,7 +5,7 @@ ghost use Rattle.dta_model.specs.LinkTimes.{time_at};
 ghost use Rattle.link_times.specs.TimeTables.{IsTimeTable};
 ghost use Rattle.time_routes.specs.Filling.Labels.{far, rest_in, value};
 ghost use Rattle.time_routes.specs.Filling.Rests.{span, over, least_over};
-ghost use Rattle.time_routes.specs.Filling.WideRows.{IsRowTo, AreRows};
+ghost use Rattle.time_routes.specs.Filling.Rows.{IsRowTo, AreRows};
 
 use crate::filling::no_walk::FAR;
 use crate::states::onward::Onward;
@@ -55,8 +55,8 @@ fn least_way(
     least
 }
 
-// The place of what is left after a span.
-fn place_after(states: usize, back: usize, span: u64, to: u32) -> usize
+/// The place of what is left after a span.
+pub(crate) fn place_after(states: usize, back: usize, span: u64, to: u32) -> usize
     requires span { 0 < span }
     requires inside { to < states }
     requires back { 0 < back }
@@ -87,7 +87,7 @@ fn fill_state(
     requires low { All (λ x. x ≤ far) labels.old }
     ensures low { All (λ x. x ≤ far) labels.new }
     ensures written { labels.new ≡ slice_set labels.old (back * states + state)
-        (value (time_at times.now) states times.now.horizon labels.old own ways.now step) }
+        (value (time_at times.now) far states times.now.horizon labels.old own ways.now step) }
 {
     let least = if own {
         0
@@ -98,7 +98,7 @@ fn fill_state(
 }
 
 // Writes the row of a step.
-#[tactic(auto, using(crate::proofs::OfFilling::WideRowFacts::state_by_state))]
+#[tactic(auto, using(crate::proofs::OfFilling::RowFacts::state_by_state))]
 fn fill_row(
     labels: &mut [u64],
     back: usize,
@@ -113,7 +113,7 @@ fn fill_row(
         ≤ length labels.old }
     requires back { (0 < back) × (back + step ≡ times.now.horizon) }
     requires low { All (λ x. x ≤ far) labels.old }
-    ensures { IsRowTo (time_at times.now) (length router.now.zones.items) times.now.horizon
+    ensures { IsRowTo (time_at times.now) far (length router.now.zones.items) times.now.horizon
         labels.old labels.new back step router.now zone (length router.now.zones.items) }
 {
     let states = router.state_count();
@@ -138,7 +138,7 @@ pub(crate) fn fill(labels: &mut [u64], times: &LinkTimes, router: &Router, zone:
     requires links { length router.now.states.items ≡ length times.now.free }
     requires rows { length labels.old ≡ (times.now.horizon + 1) * length router.now.zones.items }
     requires low { All (λ x. x ≤ far) labels.old }
-    ensures { AreRows (time_at times.now) (length router.now.zones.items) times.now.horizon
+    ensures { AreRows (time_at times.now) far (length router.now.zones.items) times.now.horizon
         labels.old labels.new router.now zone 0 }
 {
     let horizon = times.horizon();

@@ -6,7 +6,7 @@ ghost use Rattle.net_core.specs.declared.rows.TheConstants.{MOST_LINKS};
 ghost use Rattle.dta_model.specs.LinkTimes.{time_at};
 ghost use Rattle.link_times.specs.TimeTables.{IsTimeTable};
 ghost use Rattle.time_routes.specs.Filling.Labels.{far, rest_in};
-ghost use Rattle.time_routes.specs.Filling.WideRows.{AreRows};
+ghost use Rattle.time_routes.specs.Filling.Rows.{AreRows};
 ghost use Rattle.time_routes.specs.Reading.Serves.{AreLeft, AreRowsLeft};
 ghost use Rattle.time_routes.specs.ToZone.{zone_numbers};
 
@@ -43,8 +43,8 @@ fn fill_over(labels: &mut [u64], tail: &[u64], times: &LinkTimes, router: &Route
     requires low { All (λ x. x ≤ far) labels.old }
     ensures tail { (s : ℕ) → s < length tail.now
         → slice_index labels.new s ≡ slice_index tail.now s }
-    ensures rows { AreRows (time_at times.now) (length router.now.zones.items) times.now.horizon
-        labels.new labels.new router.now zone 0 }
+    ensures rows { AreRows (time_at times.now) far (length router.now.zones.items)
+        times.now.horizon labels.new labels.new router.now zone 0 }
     ensures many { length labels.new ≡ length labels.old }
 {
     put_tail(labels, tail);
@@ -65,8 +65,9 @@ fn rows_over(
     requires low { All (λ x. x ≤ far) tail.now }
     ensures tail { IfOk result (λ rows. (s : ℕ) → s < length tail.now
         → slice_index rows.items s ≡ slice_index tail.now s) }
-    ensures rows { IfOk result (λ rows. AreRows (time_at times.now) (length router.now.zones.items)
-        times.now.horizon rows.items rows.items router.now zone 0) }
+    ensures rows { IfOk result (λ rows. AreRows (time_at times.now) far
+        (length router.now.zones.items) times.now.horizon rows.items rows.items router.now zone
+        0) }
     ensures many { IfOk result (λ rows. length rows.items
         ≡ (times.now.horizon + 1) * length router.now.zones.items) }
     ensures low { IfOk result (λ rows. All (λ x. x ≤ far) rows.items) }

@@ -6,7 +6,7 @@ ghost use Rattle.time_routes.specs.Named.{zone_named};
 ghost use Rattle.time_routes.specs.ToZone.{AreOfFirst, destination, zone_numbers, TellsLeast};
 ghost use Rattle.time_routes.specs.ToZone.{TellsWalk};
 
-use crate::filling::fill_table::table_of;
+use crate::filling::fill_table::{Filled, table_of};
 use crate::filling::label_table::LabelTable;
 use crate::filling::spare::Spare;
 use crate::reading::least::least_label;
@@ -22,7 +22,7 @@ use std::alloc::Global;
 use std::marker::Model;
 
 /// The most zones of a group.
-pub const MOST_GROUP: usize = 4;
+pub const MOST_GROUP: usize = 8;
 
 /// The steps that are left to each of a few zones, from every link at every step, by a table of
 /// link times.
@@ -59,7 +59,7 @@ fn copied(alloc: Global, zones: &[ZoneNo]) -> Result<Vec<ZoneNo>, Memory>
 }
 
 impl<'a> GroupLabels<'a> {
-    /// The labels of one to four zones by a table of link times.
+    /// The labels of one to eight zones by a table of link times.
     pub fn to_zones(
         alloc: Global,
         net: &'a Net,
@@ -76,30 +76,34 @@ impl<'a> GroupLabels<'a> {
           zones = zone_numbers zones.now;
         }) }
     {
-        Self::over(alloc, net, times, zones, Spare::none(alloc))
+        Self::over(alloc, net, times, zones, zones.len(), Spare::none(alloc))
     }
 
-    // The same in memory of labels that are read no more, where it serves.
+    // The labels of the first of some zones, of so many of them at least, in memory of labels that
+    // are read no more where it serves.
     fn over(
         alloc: Global,
         net: &'a Net,
         times: &'a LinkTimes,
         zones: &[ZoneNo],
+        least: usize,
         spare: Spare,
     ) -> Result<Self, Memory>
-        requires few { length zones.now ≤ MOST_GROUP }
+        requires some { 1 ≤ least }
+        requires least { (least ≤ length zones.now) × (least ≤ MOST_GROUP) }
         requires table { length times.now.free ≡ length net.now.links }
         requires zones { All (λ z. z.0 < length (zones_of net.now.nodes)) zones.now }
-        ensures { IfOk result (λ labels. labels ≡ record {
-          net = net.now;
-          times = times.now;
-          zones = zone_numbers zones.now;
-        }) }
+        ensures first { IfOk result (AreOfFirst net.now times.now zones.now) }
+        ensures enough { IfOk result (λ labels. least ≤ length labels.zones) }
     {
         let router = router_of(alloc, net)?;
         let firsts = links_by_zone(alloc, net)?;
-        let labels = table_of(alloc, &router, times, net.link_count(), zones, spare)?;
-        let zones = copied(alloc, zones)?;
+        let filled = table_of(alloc, &router, times, net.link_count(), zones, least, spare)?;
+        let zones = copied(alloc, &zones[..filled.count])?;
+        let Filled {
+            table: labels,
+            count: _,
+        } = filled;
         Ok(GroupLabels {
             net,
             times,
@@ -124,8 +128,7 @@ impl<'a> GroupLabels<'a> {
         requires zones { All (λ z. z.0 < length (zones_of net.now.nodes)) zones.now }
         ensures { IfOk result (AreOfFirst net.now times.now zones.now) }
     {
-        let count = zones.len().min(MOST_GROUP);
-        let labels = Self::over(alloc, net, times, &zones[..count], spare)?;
+        let labels = Self::over(alloc, net, times, zones, 1, spare)?;
         Ok(labels)
     }
 

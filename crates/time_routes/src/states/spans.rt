@@ -1,22 +1,20 @@
 // What ways on take in the steps of a bucket.
-ghost use Rattle.std.specs.Prelude.{◌≡◌, ◌≢◌, ℕ, ◌+◌, ◌*◌, ◌%◌, ◌<◌, ◌≤◌, ◌^◌, length, All, false};
+ghost use Rattle.std.specs.Prelude.{◌≡◌, ◌≢◌, ℕ, ◌+◌, ◌%◌, ◌<◌, ◌≤◌, ◌^◌, length, All, false};
 ghost use Rattle.fixed_units.specs.declared.turn.TheConstants.{MOST_PENALTY_STEPS};
 ghost use Rattle.dta_model.specs.LinkTimes.{time_at};
 ghost use Rattle.link_times.specs.TimeTables.{IsTimeTable};
-ghost use Rattle.time_routes.specs.Filling.SlotRows.{narrow_far};
 ghost use Rattle.time_routes.specs.Filling.Rests.{span};
 ghost use Rattle.time_routes.specs.States.Spans.{AreShortAt, IsSpans};
+ghost use Rattle.time_routes.specs.declared.filling.no_walk.TheConstants.{NARROW_FAR};
 
 use crate::states::onward::Onward;
 use crate::states::router::Router;
 use link_times::LinkTimes;
 use net_core::LinkNo;
 
-/// What a way on takes in the steps of a bucket: its time, as many labels of the table as lie
-/// between a step and that time later, and where its state begins in a row.
+/// What a way on takes in the steps of a bucket, and the state that it leads to.
 #[derive(Clone, Copy, Drop)]
 pub(crate) struct Span {
-    pub(crate) ahead: usize,
     pub(crate) time: u32,
     pub(crate) to: u32,
 }
@@ -24,7 +22,7 @@ pub(crate) struct Span {
 // The steps until the link of a way on has ended.
 fn time_over(times: &LinkTimes, step: u32, way: &Onward) -> u32
     requires link { way.now.link < length times.now.free }
-    requires short { span (time_at times.now) step way.now < narrow_far }
+    requires short { span (time_at times.now) step way.now < NARROW_FAR }
     requires wait { way.now.wait ≤ MOST_PENALTY_STEPS }
     ensures { result ≡ span (time_at times.now) step way.now }
 {
@@ -33,21 +31,17 @@ fn time_over(times: &LinkTimes, step: u32, way: &Onward) -> u32
 
 // Writes what each way on takes at a step.
 #[tactic(auto, using(crate::proofs::OfStates::SpanFacts::IsSpansTo_more))]
-fn refresh(spans: &mut [Span], wide: usize, times: &LinkTimes, step: u32, router: &Router)
-    requires wide { wide < 2 ^ 31 }
+fn refresh(spans: &mut [Span], times: &LinkTimes, step: u32, router: &Router)
     requires links { length router.now.states.items ≡ length times.now.free }
-    requires states { length router.now.zones.items * 4 ≡ wide }
-    requires short { AreShortAt (time_at times.now) step router.now.ways.items }
+    requires short { AreShortAt (time_at times.now) NARROW_FAR step router.now.ways.items }
     requires many { length spans.old ≡ length router.now.ways.items }
-    ensures { IsSpans (time_at times.now) step wide router.now.ways.items spans.new }
+    ensures { IsSpans (time_at times.now) step router.now.ways.items spans.new }
 {
     for place in 0..router.ways.len() {
         let way = router.ways[place];
-        let time = time_over(times, step, &way);
         spans[place] = Span {
-            ahead: time as usize * wide,
-            time,
-            to: way.to * 4,
+            time: time_over(times, step, &way),
+            to: way.to,
         };
     }
 }
@@ -65,26 +59,17 @@ fn is_last(times: &LinkTimes, step: u32) -> bool
 
 /// Writes what each way on takes at a step, where the next step was of another bucket or some way
 /// waits; else that of the next step stands.
-pub(crate) fn keep(
-    spans: &mut [Span],
-    waits: bool,
-    wide: usize,
-    times: &LinkTimes,
-    step: u32,
-    router: &Router,
-)
+pub(crate) fn keep(spans: &mut [Span], waits: bool, times: &LinkTimes, step: u32, router: &Router)
     requires step { step < times.now.horizon }
-    requires wide { wide < 2 ^ 31 }
     requires links { length router.now.states.items ≡ length times.now.free }
-    requires states { length router.now.zones.items * 4 ≡ wide }
-    requires short { AreShortAt (time_at times.now) step router.now.ways.items }
+    requires short { AreShortAt (time_at times.now) NARROW_FAR step router.now.ways.items }
     requires many { length spans.old ≡ length router.now.ways.items }
     requires waits { waits ≡ false → All (λ w. w.wait ≡ 0) router.now.ways.items }
     requires next { step + 1 < times.now.horizon
-        → IsSpans (time_at times.now) (step + 1) wide router.now.ways.items spans.old }
-    ensures { IsSpans (time_at times.now) step wide router.now.ways.items spans.new }
+        → IsSpans (time_at times.now) (step + 1) router.now.ways.items spans.old }
+    ensures { IsSpans (time_at times.now) step router.now.ways.items spans.new }
 {
     if waits || is_last(times, step) {
-        refresh(spans, wide, times, step, router);
+        refresh(spans, times, step, router);
     }
 }

@@ -1,6 +1,10 @@
+use Rattle.std.proofs.Common.{◌≡◌, length}
 use Rattle.dta_model.specs.LinkTimes.{time_at}
-use Rattle.time_routes.specs.Filling.SlotRows.{IsSlotRowTo}
+use Rattle.time_routes.specs.Filling.Slots.{AreSlotsTo}
+use Rattle.time_routes.specs.ToZone.{zone_numbers}
 use Rattle.time_routes.proofs.filling.slot_fill.fill_row.Given as goal
 
 abbrev pub invariant-loop-state : goal.invariant-loop-state
-invariant-loop-state l = IsSlotRowTo (time_at l.times) l.wide l.times.horizon l.initial.labels l.labels l.back l.step l.router l.wanted l.state
+invariant-loop-state g l =
+    (length l.labels ≡ length l.initial.labels)
+    × AreSlotsTo g.S.Slots.slot (time_at l.times) g.S.Slots.FAR l.router l.times.horizon (zone_numbers l.zones) l.initial.labels l.labels l.back l.step l.state

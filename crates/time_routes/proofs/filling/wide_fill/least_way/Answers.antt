@@ -16,8 +16,8 @@ loop-way-preserved c =
     let labels = c.args.labels.now in
     let p = c.place_after-place.result in
     let sp = c.span_of-span.result in (
-      least_step at (rest_in c.args.states h labels) c.args.step c.args.ways.now c.loop-way.way-index _ _ _ _ _ c.loop-way-test.true
-          (over_place at c.args.states h labels c.args.step c.args.back p sp _ (c.requires.back.1) c.span_of-span.ensures.is c.place_after-place.ensures.is)
+      least_step at far (rest_in c.args.states h labels) c.args.step c.args.ways.now c.loop-way.way-index _ _ _ _ _ c.loop-way-test.true
+          (over_place at far c.args.states h labels c.args.step c.args.back p sp _ (c.requires.back.1) c.span_of-span.ensures.is c.place_after-place.ensures.is)
           c.min-least.ensures (c.loop-way.invariant.0),
       omega (arith, c.min-least.ensures, c.loop-way.invariant.1),
     )

@@ -1,4 +1,4 @@
-use Rattle.std.proofs.Common.{◌*◌, ◌<◌, length, arith, refl, subst}
+use Rattle.std.proofs.Common.{◌<◌, length, arith, refl, subst}
 use Rattle.dta_model.specs.LinkTimes.{time_at}
 use Rattle.time_routes.specs.States.Spans.{IsSpan}
 use Rattle.time_routes.specs.declared.states.onward.Onward.{Onward}
@@ -11,7 +11,7 @@ loop-place-preserved c =
     let at = time_at c.args.times.now in
     let ways = c.args.router.now.ways.items in
     let way : Onward = c.index.result.now in
-    let s : Span = record { ahead = c.time_over-time.result * c.args.wide; time = c.time_over-time.result; to = way.to * 4 } in
+    let s : Span = record { time = c.time_over.result; to = way.to } in
     let small : c.loop-place.place < length ways = omega (arith, c.loop-place-test.true, c.len-place-end.ensures) in
-    IsSpansTo_more at c.args.step c.args.wide ways c.loop-place.spans c.loop-place.place s way small
-    (subst (λ w. IsSpan at c.args.step c.args.wide w s) c.index.ensures (c.time_over-time.ensures, refl, refl)) c.loop-place.invariant
+    IsSpansTo_more at c.args.step ways c.loop-place.spans c.loop-place.place s way small
+    (subst (λ w. IsSpan at c.args.step w s) c.index.ensures (c.time_over.ensures, refl)) c.loop-place.invariant

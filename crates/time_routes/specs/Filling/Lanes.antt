@@ -1,0 +1,11 @@
+-- The numbers of slots that are lanes of a vector.
+use Rattle.std.specs.Prelude.{ℕ, slice_index}
+use Rattle.time_routes.specs.declared.filling.eight.Eight.{Eight}
+use Rattle.time_routes.specs.declared.filling.four.Four.{Four}
+
+-- the number of a slot of eight, and of four
+abbrev pub eight_slot : Eight → ℕ → ℕ
+eight_slot x j = slice_index x.labels j
+
+abbrev pub four_slot : Four → ℕ → ℕ
+four_slot x j = slice_index x.labels j

@@ -1,0 +1,151 @@
+// What is left to each zone of a group, side by side in slots.
+ghost use Rattle.std.specs.Prelude.{◌≡◌, ◌≢◌, ℕ, ◌+◌, ◌*◌, ◌^◌, ◌<◌, ◌≤◌, length, map, min};
+ghost use Rattle.std.specs.Prelude.{slice_index, get_or, All, IfOk};
+ghost use Rattle.std.specs.Prelude.{[]};
+ghost use Rattle.net_core.specs.declared.rows.TheConstants.{MOST_LINKS};
+ghost use Rattle.dta_model.specs.LinkTimes.{time_at};
+ghost use Rattle.link_times.specs.TimeTables.{IsTimeTable};
+ghost use Rattle.time_routes.specs.Filling.Labels.{in_slot};
+ghost use Rattle.time_routes.specs.Filling.Slots.{AreSlotRows, AreSlotsLeft};
+ghost use Rattle.time_routes.specs.Filling.Tails.{AreTails, FitsBelow, IsPut};
+ghost use Rattle.time_routes.specs.States.Spans.{AreShortAt};
+ghost use Rattle.time_routes.specs.ToZone.{zone_numbers};
+ghost use Rattle.time_routes.specs.declared.states.zone_numbers.TheConstants.{NO_ZONE};
+
+use crate::filling::slot_fill::fill_slots;
+use crate::filling::slots::Slots;
+use crate::filling::table_forms::SlotTable;
+use crate::states::longest_way::most_wait;
+use crate::states::router::Router;
+use crate::states::spans::Span;
+use link_times::LinkTimes;
+use net_core::{Memory, ZoneNo};
+use std::alloc::Global;
+
+const NO_SPAN: Span = Span { time: 0, to: 0 };
+
+// Writes a tail into a slot of the first row.
+fn put_tail<S: Slots>(labels: &mut [S], tail: &[u64], slot: usize)
+    requires slot { slot < S.SLOTS }
+    requires many { length tail.now ≤ length labels.old }
+    ensures many { length labels.new ≡ length labels.old }
+    ensures put { IsPut S.FAR (in_slot S.slot labels.new slot) tail.now }
+    ensures other { (s j : ℕ) → j < S.SLOTS → j ≢ slot
+        → slice_index (in_slot S.slot labels.new j) s
+        ≡ slice_index (in_slot S.slot labels.old j) s }
+{
+    for state in 0..tail.len() {
+        let left = tail[state].min(S::FAR as u64) as u32;
+        labels[state] = labels[state].with(slot, left);
+    }
+}
+
+// Writes the tail of each zone into its slot.
+fn put_tails<S: Slots>(labels: &mut [S], tails: &[Vec<u64>])
+    requires few { length tails.now ≤ S.SLOTS }
+    requires many { All (λ tail. length tail.items ≤ length labels.old) tails.now }
+    ensures many { length labels.new ≡ length labels.old }
+    ensures put { (j : ℕ) → j < length tails.now → IsPut S.FAR (in_slot S.slot labels.new j)
+        (get_or (map (λ tail. tail.items) tails.now) j []) }
+{
+    for slot in 0..tails.len() {
+        put_tail(labels, tails[slot].as_slice(), slot);
+    }
+}
+
+// So many labels: those that are there, or new ones.
+fn room_for<S: Slots>(alloc: Global, room: Vec<S>, count: usize) -> Result<Vec<S>, Memory>
+    ensures { IfOk result (λ labels. length labels.items ≡ count) }
+{
+    if room.len() == count {
+        return Ok(room);
+    }
+    Ok(Vec::from_elem(alloc, S::no_walk(), count)?)
+}
+
+// Rows of slots, with the tail of each zone in the first.
+fn begun_of<S: Slots>(
+    alloc: Global,
+    router: &Router,
+    times: &LinkTimes,
+    tails: &[Vec<u64>],
+    room: Vec<S>,
+) -> Result<Vec<S>, Memory>
+    requires few_states { length router.now.zones.items ≤ MOST_LINKS }
+    requires few { length tails.now ≤ S.SLOTS }
+    requires states { All (λ tail. length tail.items ≡ length router.now.zones.items) tails.now }
+    ensures rows { IfOk result (λ labels. length labels.items
+        ≡ (times.now.horizon + 1) * length router.now.zones.items) }
+    ensures put { IfOk result (λ labels. (j : ℕ) → j < length tails.now
+        → IsPut S.FAR (in_slot S.slot labels.items j)
+        (get_or (map (λ tail. tail.items) tails.now) j [])) }
+{
+    let rows = times.horizon() as usize + 1;
+    let mut labels = room_for(alloc, room, rows * router.state_count())?;
+    put_tails(labels.as_mut_slice(), tails);
+    Ok(labels)
+}
+
+// Fills all rows over their first.
+fn filled_over<S: Slots>(
+    alloc: Global,
+    mut labels: Vec<S>,
+    times: &LinkTimes,
+    router: &Router,
+    zones: &[ZoneNo],
+) -> Result<Vec<S>, Memory>
+    requires links { length router.now.states.items ≡ length times.now.free }
+    requires few_states { length router.now.zones.items ≤ MOST_LINKS }
+    requires short { (e : ℕ) → AreShortAt (time_at times.now) S.FAR e router.now.ways.items }
+    requires few { length zones.now ≤ S.SLOTS }
+    requires zones { All (λ z. z.0 < NO_ZONE) zones.now }
+    requires rows { length labels.items
+        ≡ (times.now.horizon + 1) * length router.now.zones.items }
+    ensures many { IfOk result (λ filled. length filled.items ≡ length labels.items) }
+    ensures rows { IfOk result (λ filled. AreSlotRows S.slot (time_at times.now) S.FAR router.now
+        times.now.horizon (zone_numbers zones.now) labels.items filled.items 0) }
+{
+    let mut spans = Vec::from_elem(alloc, NO_SPAN, router.ways.len())?;
+    let waits = most_wait(router) > 0;
+    fill_slots(
+        labels.as_mut_slice(),
+        spans.as_mut_slice(),
+        waits,
+        times,
+        router,
+        zones,
+    );
+    Ok(labels)
+}
+
+/// What is left to each zone of a group over a table of link times, in slots over their tails, and
+/// over labels that are read no more where they are as many.
+pub(crate) fn slot_rows<S: Slots>(
+    alloc: Global,
+    router: &Router,
+    times: &LinkTimes,
+    zones: &[ZoneNo],
+    tails: &[Vec<u64>],
+    most: u64,
+    room: Vec<S>,
+) -> Result<SlotTable<S>, Memory>
+    requires states { length router.now.states.items ≡ length times.now.free }
+    requires few_states { length router.now.zones.items ≤ MOST_LINKS }
+    requires few { length zones.now ≤ S.SLOTS }
+    requires zones { All (λ z. z.0 < NO_ZONE) zones.now }
+    requires tails { AreTails times.now.free router.now most (map (λ tail. tail.items) tails.now)
+        (zone_numbers zones.now) }
+    requires fits { FitsBelow times.now router.now most S.FAR }
+    ensures states { IfOk result (λ table. table.states ≡ length router.now.zones.items) }
+    ensures left { IfOk result (λ table. AreSlotsLeft S.slot (time_at times.now) S.FAR router.now
+        table.horizon (zone_numbers zones.now) table.labels.items) }
+{
+    let horizon = times.horizon();
+    let begun = begun_of(alloc, router, times, tails, room)?;
+    let labels = filled_over(alloc, begun, times, router, zones)?;
+    Ok(SlotTable {
+        states: router.state_count(),
+        horizon,
+        labels,
+    })
+}

@@ -1,0 +1,84 @@
+// Least free-flow times to each zone of a group.
+ghost use Rattle.std.specs.Prelude.{◌≡◌, ℕ, ◌+◌, ◌^◌, ◌<◌, ◌≤◌, length, map, slice_index, IfOk};
+ghost use Rattle.time_routes.specs.Filling.Labels.{far};
+ghost use Rattle.time_routes.specs.Filling.Tails.{AreTails, FitsBelow};
+ghost use Rattle.time_routes.specs.ToZone.{zone_numbers};
+
+use crate::filling::free_flow::{free_steps, tail_of};
+use crate::filling::no_walk::FAR;
+use crate::states::longest_way::{most_time, most_wait};
+use crate::states::router::Router;
+use link_times::LinkTimes;
+use net_core::{Memory, ZoneNo};
+use std::alloc::Global;
+
+/// Least free-flow times to each of some zones, a list of states for each, and the greatest number
+/// of a walk among them.
+#[derive(Drop)]
+pub(crate) struct Tails {
+    pub(crate) zones: Vec<Vec<u64>>,
+    pub(crate) most: u64,
+}
+
+// The greater of two numbers, where the second stands for a walk.
+fn greater(most: u64, left: u64) -> u64
+    requires { most < far }
+    ensures old { most ≤ result }
+    ensures new { left < far → left ≤ result }
+    ensures low { result < far }
+{
+    if left < FAR { most.max(left) } else { most }
+}
+
+// The greatest number of a walk in a tail, and one before it.
+fn most_in(tail: &[u64], before: u64) -> u64
+    requires { before < far }
+    ensures old { before ≤ result }
+    ensures near { (s : ℕ) → s < length tail.now → slice_index tail.now s < far
+        → slice_index tail.now s ≤ result }
+    ensures low { result < far }
+{
+    let mut most = before;
+    for state in 0..tail.len() {
+        most = greater(most, tail[state]);
+    }
+    most
+}
+
+/// The tail of each zone over a table of link times.
+pub(crate) fn tails_of(
+    alloc: Global,
+    router: &Router,
+    times: &LinkTimes,
+    links: u32,
+    zones: &[ZoneNo],
+) -> Result<Tails, Memory>
+    requires links { links ≡ length times.now.free }
+    requires states { length router.now.states.items ≡ length times.now.free }
+    ensures tails { IfOk result (λ tails. AreTails times.now.free router.now tails.most
+        (map (λ tail. tail.items) tails.zones.items) (zone_numbers zones.now)) }
+    ensures low { IfOk result (λ tails. tails.most < far) }
+{
+    let free = free_steps(alloc, times, links)?;
+    let mut tails = Vec::new(alloc);
+    let mut most = 0u64;
+    for zone in zones {
+        let tail = tail_of(alloc, router, free.as_slice(), zone.0)?;
+        most = most_in(tail.as_slice(), most);
+        tails.push(tail)?;
+    }
+    Ok(Tails { zones: tails, most })
+}
+
+/// The most steps by which what is left may pass the most that a tail has, with one way on before
+/// it: those up to the horizon, and twice those of the longest way on.
+pub(crate) fn reach_of(router: &Router, times: &LinkTimes, links: u32) -> u64
+    requires links { links ≡ length times.now.free }
+    requires states { length router.now.states.items ≡ length times.now.free }
+    ensures fits { (most beyond : ℕ) → result + most < beyond
+        → FitsBelow times.now router.now most beyond }
+    ensures low { result < 2 ^ 40 }
+{
+    let longest = most_wait(router) as u64 + most_time(times, links) as u64;
+    times.horizon() as u64 + 2 * longest
+}
