@@ -1,12 +1,11 @@
-//! Fills labels of four zones on a grid of 60 nodes a side, as bench/labels.sh does in Rattle, so often as there are words, and
+//! Fills labels of eight zones on a grid of 60 nodes a side, as bench/labels.sh does in Rattle, so often as there are words, and
 //! prints how many steps the last walk takes.
-
-use std::convert::TryInto;
 
 const SIDE: u32 = 60;
 const HORIZON: usize = 1200;
 const BUCKET: usize = 50;
-const FAR: u32 = 1 << 31;
+const FAR: u16 = 1 << 15;
+const FAR_FREE: u32 = 1 << 31;
 const NO_ZONE: u32 = u32::MAX;
 
 struct Way {
@@ -15,7 +14,6 @@ struct Way {
 }
 
 struct Span {
-    ahead: usize,
     time: u32,
     to: u32,
 }
@@ -32,7 +30,18 @@ struct Grid {
 fn grid() -> Grid {
     let (mut starts, mut ways, mut free) = (vec![0], Vec::new(), Vec::new());
     let mut zones = vec![NO_ZONE; (SIDE * SIDE) as usize];
-    for (zone, node) in [0, SIDE - 1, SIDE * (SIDE - 1), SIDE * SIDE - 1].iter().enumerate() {
+    let middle = SIDE * SIDE / 2;
+    let nodes = [
+        0,
+        SIDE / 2,
+        SIDE - 1,
+        middle,
+        middle + SIDE - 1,
+        SIDE * (SIDE - 1),
+        SIDE * SIDE - SIDE / 2,
+        SIDE * SIDE - 1,
+    ];
+    for (zone, node) in nodes.iter().enumerate() {
         zones[*node as usize] = zone as u32;
     }
     for row in 0..SIDE {
@@ -57,12 +66,12 @@ fn grid() -> Grid {
 
 // Least free-flow times from each node to a zone.
 fn tail(grid: &Grid, zone: u32) -> Vec<u32> {
-    let mut tail = vec![FAR; grid.zones.len()];
+    let mut tail = vec![FAR_FREE; grid.zones.len()];
     let mut changed = true;
     while changed {
         changed = false;
         for node in 0..tail.len() {
-            let mut least = if grid.zones[node] == zone { 0 } else { FAR };
+            let mut least = if grid.zones[node] == zone { 0 } else { FAR_FREE };
             for way in &grid.ways[grid.starts[node]..grid.starts[node + 1]] {
                 least = least.min(tail[way.to as usize] + grid.free[way.link as usize]);
             }
@@ -75,14 +84,13 @@ fn tail(grid: &Grid, zone: u32) -> Vec<u32> {
     tail
 }
 
-// The steps that are left from each node at each step, four zones side by side.
-fn labels(grid: &Grid) -> Vec<u32> {
+// The steps that are left from each node at each step, eight zones side by side.
+fn labels(grid: &Grid) -> Vec<[u16; 8]> {
     let nodes = grid.zones.len();
-    let wide = nodes * 4;
-    let mut cells = vec![FAR; (HORIZON + 1) * wide];
-    for lane in 0..4 {
+    let mut cells = vec![[FAR; 8]; (HORIZON + 1) * nodes];
+    for lane in 0..8 {
         for (node, left) in tail(grid, lane as u32).iter().enumerate() {
-            cells[node * 4 + lane] = *left;
+            cells[node][lane] = (*left).min(FAR as u32) as u16;
         }
     }
     let mut spans: Vec<Span> = Vec::new();
@@ -90,26 +98,22 @@ fn labels(grid: &Grid) -> Vec<u32> {
         if step + 1 == HORIZON || (step + 1) % BUCKET == 0 {
             spans = grid.ways.iter().map(|way| {
                 let time = grid.times[way.link as usize * (HORIZON / BUCKET) + step / BUCKET];
-                Span { ahead: time as usize * wide, time, to: way.to * 4 }
+                Span { time, to: way.to }
             }).collect();
         }
-        let base = (HORIZON - step) * wide;
+        let back = HORIZON - step;
         for node in 0..nodes {
-            let mut least = [FAR; 4];
+            let mut least = [FAR; 8];
             for span in &spans[grid.starts[node]..grid.starts[node + 1]] {
-                let place = base.saturating_sub(span.ahead) + span.to as usize;
-                let left: &[u32; 4] = cells[place..place + 4].try_into().unwrap();
-                least = [
-                    least[0].min(left[0] + span.time),
-                    least[1].min(left[1] + span.time),
-                    least[2].min(left[2] + span.time),
-                    least[3].min(left[3] + span.time),
-                ];
+                let left = cells[back.saturating_sub(span.time as usize) * nodes + span.to as usize];
+                for lane in 0..8 {
+                    least[lane] = least[lane].min(left[lane] + span.time as u16);
+                }
             }
             if grid.zones[node] != NO_ZONE {
                 least[grid.zones[node] as usize] = 0;
             }
-            cells[base + node * 4..base + node * 4 + 4].copy_from_slice(&least);
+            cells[back * nodes + node] = least;
         }
     }
     cells
@@ -121,13 +125,13 @@ fn main() {
     let mut least = 0;
     for _ in 0..fills {
         let cells = labels(&grid);
-        let wide = grid.zones.len() * 4;
-        let last = grid.zones.len() - 1;
+        let nodes = grid.zones.len();
+        let last = nodes - 1;
         least = grid.ways[grid.starts[last]..grid.starts[last + 1]]
             .iter()
             .map(|way| {
                 let time = grid.free[way.link as usize];
-                time + cells[(HORIZON - time as usize) * wide + way.to as usize * 4]
+                time + cells[(HORIZON - time as usize) * nodes + way.to as usize][0] as u32
             })
             .min()
             .unwrap();

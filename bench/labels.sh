@@ -1,5 +1,5 @@
 #!/bin/sh
-# Measures the filling of labels on a grid of 60 nodes a side: 14,160 links, 1,200 steps in buckets of 50, four zones at once, ten
+# Measures the filling of labels on a grid of 60 nodes a side: 14,160 links, 1,200 steps in buckets of 50, eight zones at once, ten
 # times. Prints the seconds and the peak memory of the proved program, three times, and of a plain Rust program of the same loop,
 # bench/labels.rs, where there is a rustc to build it; the first line is the proved program's reading of the network alone.
 set -e
@@ -7,12 +7,14 @@ bench=$(dirname "$(readlink -f "$0")")
 . "$bench/begin.sh"
 begin labels
 
-# At 36 km/h a link of 60 metres takes one step of 6 seconds; links take 4 to 12 steps. The corners are zones.
+# At 36 km/h a link of 60 metres takes one step of 6 seconds; links take 4 to 12 steps. The corners are zones, and a node of
+# each side.
 awk -v n=60 'BEGIN {
     print "node_id,zone_id"
     for (k = 0; k < n * n; k++) {
         corner = (k == 0 || k == n - 1 || k == n * (n - 1) || k == n * n - 1)
-        print k + 1 "," (corner ? k + 1 : "")
+        side = (k == n / 2 || k == n * n / 2 || k == n * n / 2 + n - 1 || k == n * n - n / 2)
+        print k + 1 "," (corner || side ? k + 1 : "")
     }
 }' >node.csv
 awk -v n=60 'function add(from, to) {

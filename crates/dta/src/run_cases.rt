@@ -458,43 +458,49 @@ static FULL: [Case; 4] = [
     },
 ];
 
-// A ring of five zones, from each of which a vehicle goes over two links. Routes are looked for to
-// four zones at once, so two workers look for them in two shares.
-const FIVE_ZONES: Case = Case {
-    name: "five zones",
+// A ring of nine zones, from each of which a vehicle goes over two links. Routes are looked for to
+// eight zones at once, so two workers look for them in two shares.
+const NINE_ZONES: Case = Case {
+    name: "nine zones",
     words: "assign --period 30 --horizon 60 --iterations 2",
-    node: "node_id,zone_id\n1,1\n2,2\n3,3\n4,4\n5,5\n",
+    node: "node_id,zone_id\n1,1\n2,2\n3,3\n4,4\n5,5\n6,6\n7,7\n8,8\n9,9\n",
     link: "link_id,from_node_id,to_node_id,length,lanes,free_speed,capacity\n\
 10,1,2,1000,1,60,600\n20,2,3,1000,1,60,600\n30,3,4,1000,1,60,600\n40,4,5,1000,1,60,600\n\
-50,5,1,1000,1,60,600\n",
+50,5,6,1000,1,60,600\n60,6,7,1000,1,60,600\n70,7,8,1000,1,60,600\n80,8,9,1000,1,60,600\n\
+90,9,1,1000,1,60,600\n",
     movement: "",
-    demand: "o_zone_id,d_zone_id,volume\n1,3,1\n2,4,1\n3,5,1\n4,1,1\n5,2,1\n",
+    demand: "o_zone_id,d_zone_id,volume\n\
+1,3,1\n2,4,1\n3,5,1\n4,6,1\n5,7,1\n6,8,1\n7,9,1\n8,1,1\n9,2,1\n",
     agent: "\
 agent_id,o_zone_id,d_zone_id,departure_step,arrival_step,status,link_ids,entry_steps\n\
 0,1,3,15,35,arrived,10;20,15;25\n1,2,4,15,35,arrived,20;30,15;25\n\
-2,3,5,15,35,arrived,30;40,15;25\n3,4,1,15,35,arrived,40;50,15;25\n\
-4,5,2,15,35,arrived,50;10,15;25\n",
+2,3,5,15,35,arrived,30;40,15;25\n3,4,6,15,35,arrived,40;50,15;25\n\
+4,5,7,15,35,arrived,50;60,15;25\n5,6,8,15,35,arrived,60;70,15;25\n\
+6,7,9,15,35,arrived,70;80,15;25\n7,8,1,15,35,arrived,80;90,15;25\n\
+8,9,2,15,35,arrived,90;10,15;25\n",
     link_time: "link_id,from_step,to_step,entered,travel_steps,free_steps\n\
 10,0,50,2,10,10\n10,50,60,0,10,10\n20,0,50,2,10,10\n20,50,60,0,10,10\n\
 30,0,50,2,10,10\n30,50,60,0,10,10\n40,0,50,2,10,10\n40,50,60,0,10,10\n\
-50,0,50,2,10,10\n50,50,60,0,10,10\n",
-    gap: "iteration,route_steps,least_steps,gap_steps,gap_ppm\n1,100,100,0,0\n2,100,100,0,0\n",
-    report: "nodes 5\nlinks 5\nvehicles 5\nunrouted 0\niterations 2\narrived 5\nrunning 0\n\
-waiting 0\nroute_steps 100\nleast_steps 100\ngap_steps 0\ngap_ppm 0\n",
+50,0,50,2,10,10\n50,50,60,0,10,10\n60,0,50,2,10,10\n60,50,60,0,10,10\n\
+70,0,50,2,10,10\n70,50,60,0,10,10\n80,0,50,2,10,10\n80,50,60,0,10,10\n\
+90,0,50,2,10,10\n90,50,60,0,10,10\n",
+    gap: "iteration,route_steps,least_steps,gap_steps,gap_ppm\n1,180,180,0,0\n2,180,180,0,0\n",
+    report: "nodes 9\nlinks 9\nvehicles 9\nunrouted 0\niterations 2\narrived 9\nrunning 0\n\
+waiting 0\nroute_steps 180\nleast_steps 180\ngap_steps 0\ngap_ppm 0\n",
     watch: "",
 };
 
-// Five zones by two workers, and by one with the plain loader.
-static FIVE: [Case; 2] = [
+// Nine zones by two workers, and by one with the plain loader.
+static NINE: [Case; 2] = [
     Case {
-        name: "five zones --workers 2",
+        name: "nine zones --workers 2",
         words: "assign --period 30 --horizon 60 --iterations 2 --workers 2",
-        ..FIVE_ZONES
+        ..NINE_ZONES
     },
     Case {
-        name: "five zones --workers 1 --plain",
+        name: "nine zones --workers 1 --plain",
         words: "assign --period 30 --horizon 60 --iterations 2 --workers 1 --plain",
-        ..FIVE_ZONES
+        ..NINE_ZONES
     },
 ];
 
@@ -613,8 +619,8 @@ fn cases_of_a_full_ring(rt: HostRuntime) -> Result<(), Fail> {
 }
 
 #[test]
-fn cases_of_five_zones(rt: HostRuntime) -> Result<(), Fail> {
-    let failure = first_failure(&rt, &FIVE)?;
+fn cases_of_nine_zones(rt: HostRuntime) -> Result<(), Fail> {
+    let failure = first_failure(&rt, &NINE)?;
     assert!(rt; failure.is_none(), "{failure:?}");
     Ok(())
 }
