@@ -341,7 +341,7 @@ def add_columns(r, name, table):
 def drop_column(table, place):
     del table.columns[place]
     for row in table.rows:
-        del row[place]
+        del row[place : place + 1]
 
 
 IDENTIFIERS = {"node_id", "zone_id", "link_id", "from_node_id", "to_node_id", "ib_link_id",
