@@ -256,7 +256,7 @@ running 0\nwaiting 0\nroute_steps 14\nleast_steps 14\ngap_steps 0\ngap_ppm 0\n",
 ];
 
 // Routes by iterations, and turns.
-static ROUTES: [Case; 4] = [
+static ROUTES: [Case; 5] = [
     Case {
         name: "a narrow link and a way round",
         words: "assign --period 1 --horizon 60 --iterations 2",
@@ -323,6 +323,22 @@ agent_id,o_zone_id,d_zone_id,departure_step,arrival_step,status,link_ids,entry_s
         gap: "iteration,route_steps,least_steps,gap_steps,gap_ppm\n1,63,63,0,0\n",
         report: "nodes 3\nlinks 2\nvehicles 3\nunrouted 0\niterations 1\narrived 3\n\
 running 0\nwaiting 0\nroute_steps 63\nleast_steps 63\ngap_steps 0\ngap_ppm 0\n",
+        ..TWO_LINKS
+    },
+    // What is left takes more steps than 16 bits hold: two links of 10,000 steps each.
+    Case {
+        name: "links of ten thousand steps",
+        words: "assign --step 1 --period 15 --horizon 25",
+        link: "link_id,from_node_id,to_node_id,length,lanes,free_speed,capacity\n\
+10,1,2,10000,1,3.6,3600\n20,2,3,10000,1,3.6,3600\n",
+        agent: "\
+agent_id,o_zone_id,d_zone_id,departure_step,arrival_step,status,link_ids,entry_steps\n\
+0,1,3,2,,running,10;20,2\n1,1,3,7,,running,10;20,7\n2,1,3,12,,running,10;20,12\n",
+        link_time: "link_id,from_step,to_step,entered,travel_steps,free_steps\n\
+10,0,25,3,10000,10000\n20,0,25,0,10000,10000\n",
+        gap: "iteration,route_steps,least_steps,gap_steps,gap_ppm\n1,60000,60000,0,0\n",
+        report: "nodes 3\nlinks 2\nvehicles 3\nunrouted 0\niterations 1\narrived 0\n\
+running 3\nwaiting 0\nroute_steps 60000\nleast_steps 60000\ngap_steps 0\ngap_ppm 0\n",
         ..TWO_LINKS
     },
 ];

@@ -3,6 +3,7 @@ ghost use Rattle.std.specs.Prelude.{◌≡◌, ℕ, ◌+◌, ◌*◌, ◌<◌, �
 ghost use Rattle.dta_model.specs.LinkTimes.{time_at};
 ghost use Rattle.gap.specs.Gap.{over_vehicles, route_time};
 ghost use Rattle.gap.specs.Shares.{cut_at, IsMeasure, IsPart};
+ghost use Rattle.time_routes.specs.declared.reading.shares.TheConstants.{MOST_SHARES};
 
 use crate::measure::steps_between;
 use dta_model::{Route, Trip};
@@ -10,9 +11,7 @@ use link_times::LinkTimes;
 use net_core::{Memory, Net};
 use std::thread;
 use std::thread::Threads;
-
-// The most shares in which vehicles are worked side by side.
-const MOST_SHARES: u32 = 4;
+use time_routes::MOST_SHARES;
 
 // Where a share begins, and the one before ends.
 fn cut(size: usize, count: usize, share: usize) -> usize

@@ -1,8 +1,8 @@
 -- Equal options, tests of numbers, and parts of lists.
 pub use Rattle.std.proofs.lemmas.Option.{same_Some as some_same}
 pub use Rattle.net_core.proofs.Orders.{is_lt as is_below, lt_holds as below}
-use Rattle.std.proofs.Common.{◌≡◌, ℕ, ◌+◌, ◌-◌, ◌<◌, ◌≤◌, true, false, List, length, drop, arith, get_or, rules, sym, ◌∙◌, subst, Some, nat_eq}
-use Rattle.std.specs.Prelude.{nat_lt, All}
+use Rattle.std.proofs.Common.{◌≡◌, ℕ, ◌+◌, ◌-◌, ◌<◌, ◌≤◌, true, false, List, length, drop, arith, rules, sym, ◌∙◌, subst, nat_eq}
+use Rattle.std.specs.Prelude.{All}
 use Rattle.std.specs.List.{slice_range}
 use Rattle.std.proofs.lemmas.Bool.Decides.{nat_tests}
 use Rattle.std.proofs.lemmas.Grind.{common_steps}

@@ -1,8 +1,8 @@
 -- Tables of what is left.
+pub mod ElementFacts
 pub mod FallingFacts
 pub mod FreeFlowFacts
 pub mod Joins
-pub mod LaneFacts
 pub mod LeastOver
 pub mod NarrowFacts
 pub mod PlaceFacts

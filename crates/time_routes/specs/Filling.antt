@@ -3,9 +3,9 @@ pub mod Falling
 pub mod Firsts
 pub mod FreeFlow
 pub mod Labels
-pub mod Lanes
 pub mod Rests
 pub mod Rows
+pub mod SlotForms
 pub mod Slots
 pub mod Tables
 pub mod Tails

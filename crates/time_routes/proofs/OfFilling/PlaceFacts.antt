@@ -1,7 +1,7 @@
 -- What is left over ways on, read at its place.
 use Rattle.std.proofs.Common.{◌≡◌, ℕ, ◌+◌, ◌-◌, ◌*◌, ◌<◌, List, ◌∷◌, length, refl, arith, min, drop, get_or, subst}
 use Rattle.std.proofs.lemmas.List.{drop_more}
-use Rattle.time_routes.specs.Filling.Labels.{far, rest_in}
+use Rattle.time_routes.specs.Filling.Labels.{rest_in}
 use Rattle.time_routes.specs.Filling.Rests.{span, over, least_over}
 use Rattle.time_routes.specs.declared.states.onward.Onward.{Onward}
 

@@ -1,12 +1,9 @@
 -- Answers of vehicles, and how they are put in their places.
-use Rattle.std.proofs.Common.{◌≡◌, ◌⊎◌, inl, inr, ℕ, zero, suc, ◌+◌, ◌-◌, ◌*◌, ◌<◌, ◌≤◌, Bool, true, false, cond, List, [], ◌∷◌, ◌++◌, length, refl, ap, sym, ◌∙◌, subst, arith, Option, Some, None, set, take, drop}
-use Rattle.std.specs.Prelude.{All, replicate, slice_get}
+use Rattle.std.proofs.Common.{◌≡◌, ◌⊎◌, inl, inr, ℕ, zero, suc, ◌+◌, ◌-◌, ◌*◌, ◌≤◌, Bool, true, false, cond, List, [], ◌∷◌, ◌++◌, length, refl, sym, ◌∙◌, subst, arith, Some, set, take, drop}
+use Rattle.std.specs.Prelude.{All, slice_get}
 use Rattle.std.specs.Fork.{slice_chunk}
-use Rattle.std.specs.List.{slice_range}
 use Rattle.std.proofs.lemmas.List.{length-set}
 use Rattle.std.proofs.lemmas.List.Elements.{All-pop, All-push}
-use Rattle.net_core.specs.Grouped.{Grouped}
-use Rattle.net_core.specs.Network.{numbers_below, zones}
 use Rattle.net_core.specs.declared.rows.NetRows.{NetRows}
 use Rattle.net_core.specs.declared.rows.ZoneNo.{ZoneNo}
 use Rattle.dta_model.specs.declared.trip.Trip.{Trip}

@@ -1,9 +1,8 @@
 -- Zones by their numbers and by their identifiers.
-use Rattle.std.proofs.Common.{◌≡◌, ◌⊎◌, inl, inr, ℕ, ◌<◌, ◌≤◌, Bool, true, false, List, length, refl, ap, sym, ◌∙◌, arith, rules, Option, Some, None, get_or, nat_eq}
-use Rattle.std.specs.Prelude.{◌&&◌, nat_lt, option_and_then, slice_get}
+use Rattle.std.proofs.Common.{◌≡◌, ◌⊎◌, inl, inr, ℕ, ◌<◌, ◌≤◌, Bool, true, false, List, length, refl, ap, sym, ◌∙◌, arith, Option, Some, None, get_or, nat_eq}
+use Rattle.std.specs.Prelude.{◌&&◌, option_and_then, slice_get}
 use Rattle.std.specs.List.{IsDistinct}
 use Rattle.std.proofs.lemmas.Bool.{cases_lt}
-use Rattle.std.proofs.lemmas.Bool.Decides.{nat_tests}
 use Rattle.std.proofs.lemmas.List.Quantifiers.{position-Some}
 use Rattle.std.proofs.lemmas.List.Folds.{list_any_at}
 use Rattle.std.proofs.lemmas.Map.Keys.{apart_from_distinct}
@@ -17,7 +16,7 @@ use Rattle.dta_model.specs.Walks.{is_zone, zone_at}
 use Rattle.time_routes.specs.Named.{zone_named}
 use Rattle.time_routes.specs.States.Onwards.{zone_or_none}
 use Rattle.time_routes.specs.declared.states.zone_numbers.TheConstants.{NO_ZONE}
-use Rattle.time_routes.proofs.Basics.{differs, equal_of, is_below, same_true}
+use Rattle.time_routes.proofs.Basics.{differs, equal_of, same_true}
 
 pub and_true : (p q : Bool) → p ≡ true → q ≡ (p && q)
 and_true p q h = rw h refl

@@ -1,5 +1,5 @@
 -- Least times where link times stand still.
-use Rattle.std.specs.Prelude.{◌≡◌, ℕ, ◌+◌, ◌*◌, ◌<◌, ◌≤◌, cond, nat_lt, List, length, slice_index}
+use Rattle.std.specs.Prelude.{◌≡◌, ℕ, ◌*◌, ◌<◌, ◌≤◌, cond, nat_lt, List, length, slice_index}
 use Rattle.std.specs.Prelude.{slice_index_or, All, sum_by}
 use Rattle.time_routes.specs.declared.states.onward.Onward.{Onward}
 use Rattle.time_routes.specs.Filling.Labels.{most_span, far}

@@ -1,7 +1,7 @@
 -- What is left to each zone of a group, in 16 bits, in 32 or in 64.
 use Rattle.std.specs.Prelude.{ℕ, [], map, length, get_or}
 use Rattle.time_routes.specs.Filling.Labels.{in_slot, rest_in}
-use Rattle.time_routes.specs.Filling.Lanes.{eight_slot, four_slot}
+use Rattle.time_routes.specs.Filling.SlotForms.{eight_slot, four_slot}
 use Rattle.time_routes.specs.Filling.Tails.{widened}
 use Rattle.time_routes.specs.declared.filling.no_walk.TheConstants.{SHORT_FAR, NARROW_FAR}
 use Rattle.time_routes.specs.declared.filling.label_table.LabelTable.{LabelTable}

@@ -1,5 +1,5 @@
 -- When what is left serves walks to a zone.
-use Rattle.std.specs.Prelude.{◌≡◌, ◌≢◌, ℕ, ◌+◌, ◌<◌, ◌≤◌, Bool, cond, nat_eq, nat_lt, List, [], ◌∷◌}
+use Rattle.std.specs.Prelude.{◌≡◌, ◌≢◌, ℕ, ◌+◌, ◌<◌, ◌≤◌, cond, nat_lt, List, [], ◌∷◌}
 use Rattle.std.specs.Prelude.{length, get_or, slice_index, slice_index_or, slice_get, Option, Some}
 use Rattle.std.specs.Prelude.{None}
 use Rattle.net_core.specs.Network.{zones}

@@ -15,7 +15,7 @@ pub(crate) struct Eight {
 
 impl Slots for Eight {
     ghost use Rattle.std.proofs.Common.{lit≤};
-    ghost use Rattle.time_routes.specs.Filling.Lanes.{eight_slot};
+    ghost use Rattle.time_routes.specs.Filling.SlotForms.{eight_slot};
 
     const SLOTS: usize = 8;
 

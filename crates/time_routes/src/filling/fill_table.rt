@@ -1,15 +1,12 @@
 // Tables of what is left, in the narrowest form that serves.
-ghost use Rattle.std.specs.Prelude.{◌≡◌, ◌<◌, ◌≤◌, length, map, All, IfOk};
+ghost use Rattle.std.specs.Prelude.{◌≡◌, ◌<◌, ◌≤◌, length, All, IfOk};
 ghost use Rattle.net_core.specs.declared.rows.TheConstants.{MOST_LINKS};
 ghost use Rattle.dta_model.specs.LinkTimes.{time_at};
 ghost use Rattle.link_times.specs.TimeTables.{IsTimeTable};
 ghost use Rattle.time_routes.specs.Filling.Firsts.{AreLeftToFirst};
-ghost use Rattle.time_routes.specs.Filling.Labels.{far};
-ghost use Rattle.time_routes.specs.Filling.Tails.{AreTails, FitsBelow};
 ghost use Rattle.time_routes.specs.Reading.Serves.{AreAllLeft};
 ghost use Rattle.time_routes.specs.ToZone.{zone_numbers};
 ghost use Rattle.time_routes.specs.declared.states.zone_numbers.TheConstants.{NO_ZONE};
-ghost use Rattle.time_routes.specs.declared.filling.no_walk.TheConstants.{SHORT_FAR, NARROW_FAR};
 ghost use Rattle.time_routes.specs.declared.reading.group_labels.TheConstants.{MOST_GROUP};
 
 use crate::filling::eight::Eight;
@@ -59,54 +56,6 @@ fn wide_table(
     }))
 }
 
-// What is left to each of a few zones, side by side in 16 bits.
-fn short_table(
-    alloc: Global,
-    router: &Router,
-    times: &LinkTimes,
-    zones: &[ZoneNo],
-    tails: &[Vec<u64>],
-    most: u64,
-    room: Vec<Eight>,
-) -> Result<LabelTable, Memory>
-    requires states { length router.now.states.items ≡ length times.now.free }
-    requires few_states { length router.now.zones.items ≤ MOST_LINKS }
-    requires few { length zones.now ≤ MOST_GROUP }
-    requires zones { All (λ z. z.0 < NO_ZONE) zones.now }
-    requires tails { AreTails times.now.free router.now most (map (λ tail. tail.items) tails.now)
-        (zone_numbers zones.now) }
-    requires fits { FitsBelow times.now router.now most SHORT_FAR }
-    ensures { IfOk result (λ table. AreAllLeft (time_at times.now) router.now table
-        (zone_numbers zones.now)) }
-{
-    let table = slot_rows::<Eight>(alloc, router, times, zones, tails, most, room)?;
-    Ok(LabelTable::Short(table))
-}
-
-// What is left to each of a few zones, side by side in 32 bits.
-fn narrow_table(
-    alloc: Global,
-    router: &Router,
-    times: &LinkTimes,
-    zones: &[ZoneNo],
-    tails: &[Vec<u64>],
-    most: u64,
-    room: Vec<Four>,
-) -> Result<LabelTable, Memory>
-    requires states { length router.now.states.items ≡ length times.now.free }
-    requires few_states { length router.now.zones.items ≤ MOST_LINKS }
-    requires few { length zones.now ≤ MOST_NARROW }
-    requires zones { All (λ z. z.0 < NO_ZONE) zones.now }
-    requires tails { AreTails times.now.free router.now most (map (λ tail. tail.items) tails.now)
-        (zone_numbers zones.now) }
-    requires fits { FitsBelow times.now router.now most NARROW_FAR }
-    ensures { IfOk result (λ table. AreAllLeft (time_at times.now) router.now table
-        (zone_numbers zones.now)) }
-{
-    let table = slot_rows::<Four>(alloc, router, times, zones, tails, most, room)?;
-    Ok(LabelTable::Narrow(table))
-}
-
 // The most zones whose labels may stand in one table, where the horizon and the longest ways on
 // take so many steps: as many as there are slots of 16 bits where these may serve, else of 32; and
 // as many at least as are asked for.
@@ -150,16 +99,22 @@ pub(crate) fn table_of(
     if reach < SHORT_FAR as u64 {
         let rows = tails.zones.as_slice();
         let room = spare.into_short();
-        let table = short_table(alloc, router, times, first, rows, tails.most, room)?;
-        return Ok(Filled { table, count });
+        let table = slot_rows::<Eight>(alloc, router, times, first, rows, tails.most, room)?;
+        return Ok(Filled {
+            table: LabelTable::Short(table),
+            count,
+        });
     }
     let count = count.min(MOST_NARROW).max(least);
     let first = &zones[..count];
     if count <= MOST_NARROW && reach < NARROW_FAR as u64 {
         let rows = &tails.zones[..count];
         let room = spare.into_narrow();
-        let table = narrow_table(alloc, router, times, first, rows, tails.most, room)?;
-        return Ok(Filled { table, count });
+        let table = slot_rows::<Four>(alloc, router, times, first, rows, tails.most, room)?;
+        return Ok(Filled {
+            table: LabelTable::Narrow(table),
+            count,
+        });
     }
     let table = wide_table(alloc, router, times, links, first)?;
     Ok(Filled { table, count })

@@ -15,7 +15,7 @@ pub(crate) struct Four {
 
 impl Slots for Four {
     ghost use Rattle.std.proofs.Common.{lit≤};
-    ghost use Rattle.time_routes.specs.Filling.Lanes.{four_slot};
+    ghost use Rattle.time_routes.specs.Filling.SlotForms.{four_slot};
 
     const SLOTS: usize = 4;
 

@@ -10,8 +10,8 @@ use link_times::LinkTimes;
 use net_core::{Memory, Net};
 use std::alloc::Global;
 
-// The most shares in which zones are worked side by side.
-const MOST_SHARES: u64 = 4;
+/// The most shares in which zones, or vehicles, are worked side by side.
+pub const MOST_SHARES: u32 = 4;
 
 // The most tables of labels that are there at once, of eight bytes for each link and step.
 const MOST_TABLES: u64 = 4;
@@ -54,7 +54,7 @@ pub(crate) fn share_count(
     };
     let states = router.state_count() as u64;
     let groups = MOST_TABLES * links as u64 / tables.saturating_mul(states).max(1);
-    Ok(groups.clamp(1, MOST_SHARES.min(workers as u64)))
+    Ok(groups.clamp(1, MOST_SHARES.min(workers) as u64))
 }
 
 /// How many zones each of some shares has, in whole groups. The last share may have fewer, and

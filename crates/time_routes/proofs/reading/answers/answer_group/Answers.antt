@@ -2,7 +2,6 @@ use Rattle.std.proofs.Common.{◌≡◌, sym, ◌∙◌, subst, ap, get_or}
 use Rattle.std.specs.Prelude.{slice_index, All}
 use Rattle.std.proofs.lemmas.List.{get_or-map}
 use Rattle.dta_model.specs.LinkTimes.{time_at}
-use Rattle.time_routes.specs.Reading.Answers.{AnswersMore}
 use Rattle.time_routes.specs.Reading.Tell.{LeadsTo, LeadsToFirst, Stands}
 use Rattle.time_routes.proofs.OfReading.AnswerFacts.{answers_fewer, answers_then, in_all}
 use Rattle.time_routes.proofs.OfReading.TellFacts.{first_more, vehicles_lead}

@@ -1,4 +1,4 @@
-use Rattle.std.proofs.Common.{ℕ, ◌-◌, ◌≤◌, [], length}
+use Rattle.std.proofs.Common.{◌-◌, ◌≤◌, [], length}
 use Rattle.time_routes.specs.Reading.Answers.{AnswersMore}
 use Rattle.time_routes.specs.Reading.Tell.{LeadsToFirst}
 use Rattle.dta_model.specs.LinkTimes.{time_at}

@@ -5,7 +5,7 @@ use Rattle.std.proofs.lemmas.Iterator.Consumers.{YieldsList-end}
 use Rattle.std.proofs.lemmas.List.{map-id}
 use Rattle.time_routes.specs.Reading.Answers.{answered, IsAnswer}
 use Rattle.time_routes.specs.Reading.Tell.{Stands, Tells}
-use Rattle.time_routes.proofs.OfReading.AnswerFacts.{put_more, put_none}
+use Rattle.time_routes.proofs.OfReading.AnswerFacts.{put_more}
 use Rattle.time_routes.proofs.reading.put_answers.put_answers.Goals as goal
 
 pub loop-answer-preserved : goal.loop-answer-preserved

@@ -1,6 +1,6 @@
 use Rattle.std.proofs.Common.{arith, w16}
 use Rattle.std.proofs.lemmas.Simd.{Each1-from_get_or, Each2-splat}
-use Rattle.time_routes.proofs.OfFilling.LaneFacts.{lesser_at, lesser_low, lesser_many}
+use Rattle.time_routes.proofs.OfFilling.ElementFacts.{lesser_at, lesser_low, lesser_many}
 use Rattle.time_routes.proofs.filling.eight.EightSlots.or_after.Goals as goal
 
 pub overflow_add-later : goal.overflow_add-later

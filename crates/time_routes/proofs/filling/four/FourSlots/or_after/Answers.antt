@@ -1,6 +1,6 @@
 use Rattle.std.proofs.Common.{arith, w32}
 use Rattle.std.proofs.lemmas.Simd.{Each1-from_get_or, Each2-splat}
-use Rattle.time_routes.proofs.OfFilling.LaneFacts.{lesser_at, lesser_low, lesser_many}
+use Rattle.time_routes.proofs.OfFilling.ElementFacts.{lesser_at, lesser_low, lesser_many}
 use Rattle.time_routes.proofs.filling.four.FourSlots.or_after.Goals as goal
 
 pub overflow_add-later : goal.overflow_add-later

@@ -1,9 +1,9 @@
--- The numbers of slots that are lanes of a vector.
+-- The label of a slot in each form: an element of its vector.
 use Rattle.std.specs.Prelude.{ℕ, slice_index}
 use Rattle.time_routes.specs.declared.filling.eight.Eight.{Eight}
 use Rattle.time_routes.specs.declared.filling.four.Four.{Four}
 
--- the number of a slot of eight, and of four
+-- the label of a slot of eight, and of four
 abbrev pub eight_slot : Eight → ℕ → ℕ
 eight_slot x j = slice_index x.labels j
 
