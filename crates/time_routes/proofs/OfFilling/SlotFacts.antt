@@ -1,11 +1,11 @@
 -- Labels side by side, each slot of them a list.
-use Rattle.std.proofs.Common.{◌≡◌, ◌⊎◌, inl, inr, ℕ, zero, suc, ◌+◌, ◌*◌, ◌^◌, ◌<◌, ◌≤◌, Bool, true, false, cond, List, [], ◌∷◌, length, arith, get_or, ap, sym, ◌∙◌, mul-le-mul_right}
+use Rattle.std.proofs.Common.{◌≡◌, ◌⊎◌, inl, inr, ℕ, zero, suc, ◌+◌, ◌*◌, ◌^◌, ◌<◌, ◌≤◌, Bool, true, false, cond, List, [], ◌∷◌, ◌++◌, length, arith, get_or, ap, sym, ◌∙◌, mul-le-mul_right}
 use Rattle.std.specs.Prelude.{◌≢◌, nat_eq, slice_set, All}
 use Rattle.std.proofs.Math.Dec.{eqb}
 use Rattle.std.proofs.lemmas.Bool.{cases_lt}
 use Rattle.std.proofs.lemmas.Bool.Decides.{eqb_tells}
 use Rattle.std.proofs.lemmas.Grind.{get_or-set_at}
-use Rattle.std.proofs.lemmas.List.{get_or-map, get_or-set_other, length-map, map-set}
+use Rattle.std.proofs.lemmas.List.{get_or-map, get_or-set_other, get_or_append_left, length-map, map-append, map-set}
 use Rattle.net_core.specs.declared.rows.TheConstants.{MOST_LINKS}
 use Rattle.time_routes.specs.Filling.Labels.{in_slot}
 use Rattle.time_routes.proofs.Basics.{differs, same_true}
@@ -24,6 +24,12 @@ pub in_slot_low : {S : Type 0} (slot : S → ℕ → ℕ) (beyond : ℕ) → ((x
 in_slot_low slot beyond low [] j k d h = absurd (omega arith)
 in_slot_low slot beyond low (x ∷ xs) j zero d h = low x j
 in_slot_low slot beyond low (x ∷ xs) j (suc k) d h = in_slot_low slot beyond low xs j k d (omega arith)
+
+-- labels stay where others come behind them
+pub in_slot_grown : {S : Type 0} (slot : S → ℕ → ℕ) (labels more : List S) (j k : ℕ) → k < length labels → get_or (in_slot slot (labels ++ more) j) k 0 ≡ get_or (in_slot slot labels j) k 0
+in_slot_grown slot labels more j k h =
+    let n = in_slot_many slot labels j in
+    ap (λ xs. get_or xs k 0) (map-append (λ y. slot y j) labels more) ∙ get_or_append_left (in_slot slot labels j) (in_slot slot more j) 0 k (omega (arith, h, n))
 
 -- nothing in the slots of a zone, as far as they were looked at
 pub record AreOwnTo (zone : ℕ) (zones : List ℕ) (slots : ℕ) (least own : ℕ → ℕ) (count : ℕ) : Type 0 where

@@ -16,7 +16,6 @@ pub record IsRowTo (at : ℕ → ℕ → ℕ) (beyond states horizon : ℕ) (old
 -- from a step on to the horizon each number is what it ought to be, and the tail stands
 pub record AreRows (at : ℕ → ℕ → ℕ) (beyond states horizon : ℕ) (old new : List ℕ) (r : Router)
     (zone : ℕ) (first : ℕ) : Type 0 where
-  pub as_many : length new ≡ length old
   pub tail : (k : ℕ) → k < states → slice_index_or new k 0 ≡ slice_index_or old k 0
   pub each : (s e : ℕ) → s < states → first ≤ e → e < horizon
       → slice_index_or new ((horizon - e) * states + s) 0

@@ -8,7 +8,7 @@ ghost use Rattle.time_routes.specs.Filling.Labels.{far};
 ghost use Rattle.time_routes.specs.Filling.WaysBack.{AreWaysBack};
 
 use crate::filling::no_walk::FAR;
-use crate::filling::ways_back::{WaysBack, ways_back};
+use crate::filling::ways_back::WaysBack;
 use crate::states::router::Router;
 use link_times::LinkTimes;
 use net_core::{LinkNo, Memory};
@@ -171,23 +171,25 @@ pub(crate) fn free_steps(alloc: Global, times: &LinkTimes, links: u32) -> Result
     Ok(free)
 }
 
-/// The least free-flow times from each state to a zone.
+/// The least free-flow times from each state to a zone, found from the zone backwards.
 pub(crate) fn tail_of(
     alloc: Global,
     router: &Router,
+    back: &WaysBack,
     free: &[u32],
     zone: u32,
 ) -> Result<Vec<u64>, Memory>
-    requires { length router.now.states.items ≡ length free.now }
+    requires links { length router.now.states.items ≡ length free.now }
+    requires back { AreWaysBack router.now free.now back.now.ways.items back.now.lasts.items
+        (length router.now.zones.items) 0 }
     ensures many { IfOk result (λ tail. length tail.items ≡ length router.now.zones.items) }
     ensures settled { IfOk result (λ tail. AreSettled free.now router.now zone tail.items) }
     ensures short { IfOk result (λ tail. AreShort tail.items) }
     ensures low { IfOk result (λ tail. All (λ x. x ≤ far) tail.items) }
 {
-    let back = ways_back(alloc, router, free)?;
     let mut heap = BinaryHeap::new(alloc);
     let mut tail = Vec::from_elem(alloc, FAR, router.state_count())?;
-    begin(tail.as_mut_slice(), &mut heap, &back, router, free, zone)?;
-    settle(tail.as_mut_slice(), &mut heap, &back, router, free, zone)?;
+    begin(tail.as_mut_slice(), &mut heap, back, router, free, zone)?;
+    settle(tail.as_mut_slice(), &mut heap, back, router, free, zone)?;
     Ok(tail)
 }

@@ -1,6 +1,6 @@
 // What is left to a few zones side by side, step by step from the horizon down.
 ghost use Rattle.std.specs.Prelude.{◌≡◌, ℕ, ◌+◌, ◌-◌, ◌*◌, ◌<◌, ◌≤◌, ◌^◌, length, slice_index, All};
-ghost use Rattle.std.specs.Prelude.{cond, nat_eq, false, slice_set};
+ghost use Rattle.std.specs.Prelude.{cond, nat_eq, false, slice_set, OnOk};
 ghost use Rattle.std.specs.List.{slice_range};
 ghost use Rattle.net_core.specs.declared.rows.TheConstants.{MOST_LINKS};
 ghost use Rattle.dta_model.specs.LinkTimes.{time_at};
@@ -18,7 +18,7 @@ use crate::states::router::Router;
 use crate::states::spans::{Span, keep};
 use crate::states::zone_numbers::NO_ZONE;
 use link_times::LinkTimes;
-use net_core::ZoneNo;
+use net_core::{Memory, ZoneNo};
 
 /// The row of a step: how many states it has, how many rows it stands from the horizon's, its step,
 /// the link times, and the zones of the slots.
@@ -172,36 +172,54 @@ fn fill_row<S: Slots>(
     }
 }
 
-/// Writes the row of each step from the last before the horizon down to the first.
+/// Adds labels until there are so many; those that are there stay.
+pub(crate) fn grow<S: Slots>(labels: &mut Vec<S>, count: usize) -> Result<(), Memory>
+    ensures many { OnOk result (count ≤ length labels.new.items) }
+    ensures stay { OnOk result ((j k : ℕ) → k < length labels.old.items
+        → slice_index (in_slot S.slot labels.new.items j) k
+        ≡ slice_index (in_slot S.slot labels.old.items j) k) }
+{
+    'each: while labels.len() < count {
+        labels.push(S::no_walk())?;
+    }
+    Ok(())
+}
+
+/// Writes the row of each step from the last before the horizon down to the first, behind the
+/// horizon's. A row that isn't there yet is added as its turn comes, so that it is filled while the
+/// processor's cache still holds it.
 pub(crate) fn fill_slots<S: Slots>(
-    labels: &mut [S],
+    labels: &mut Vec<S>,
     spans: &mut [Span],
     waits: bool,
     times: &LinkTimes,
     router: &Router,
     zones: &[ZoneNo],
-)
+) -> Result<(), Memory>
     requires links { length router.now.states.items ≡ length times.now.free }
     requires few_states { length router.now.zones.items ≤ MOST_LINKS }
     requires short { (e : ℕ) → AreShortAt (time_at times.now) S.FAR e router.now.ways.items }
     requires spans { length spans.old ≡ length router.now.ways.items }
     requires waits { waits ≡ false → All (λ w. w.wait ≡ 0) router.now.ways.items }
-    requires rows { length labels.old
-        ≡ (times.now.horizon + 1) * length router.now.zones.items }
+    requires row { length router.now.zones.items ≤ length labels.old.items }
     requires few { length zones.now ≤ S.SLOTS }
     requires zones { All (λ z. z.0 < NO_ZONE) zones.now }
-    ensures many { length labels.new ≡ length labels.old }
-    ensures filled { AreSlotRows S.slot (time_at times.now) S.FAR router.now times.now.horizon
-        (zone_numbers zones.now) labels.old labels.new 0 }
+    ensures many { OnOk result ((times.now.horizon + 1) * length router.now.zones.items
+        ≤ length labels.new.items) }
+    ensures filled { OnOk result (AreSlotRows S.slot (time_at times.now) S.FAR router.now
+        times.now.horizon (zone_numbers zones.now) labels.old.items labels.new.items 0) }
 {
     let horizon = times.horizon();
+    let states = router.state_count();
     let mut step = horizon;
     while step > 0 {
         step -= 1;
+        let back = (horizon - step) as usize;
+        grow(labels, back * states + states)?;
         keep(spans, waits, times, step, router);
         fill_row(
-            labels,
-            (horizon - step) as usize,
+            labels.as_mut_slice(),
+            back,
             times,
             spans,
             step,
@@ -209,4 +227,5 @@ pub(crate) fn fill_slots<S: Slots>(
             zones,
         );
     }
+    Ok(())
 }

@@ -12,7 +12,7 @@ ghost use Rattle.time_routes.specs.States.Spans.{AreShortAt};
 ghost use Rattle.time_routes.specs.ToZone.{zone_numbers};
 ghost use Rattle.time_routes.specs.declared.states.zone_numbers.TheConstants.{NO_ZONE};
 
-use crate::filling::slot_fill::fill_slots;
+use crate::filling::slot_fill::{fill_slots, grow};
 use crate::filling::slots::Slots;
 use crate::filling::table_forms::SlotTable;
 use crate::states::longest_way::most_wait;
@@ -53,17 +53,15 @@ fn put_tails<S: Slots>(labels: &mut [S], tails: &[Vec<u64>])
     }
 }
 
-// So many labels: those that are there, or new ones.
-fn room_for<S: Slots>(alloc: Global, room: Vec<S>, count: usize) -> Result<Vec<S>, Memory>
-    ensures { IfOk result (λ labels. length labels.items ≡ count) }
-{
+// Labels that are there, where they are so many, or none yet with room for as many.
+fn room_for<S: Slots>(alloc: Global, room: Vec<S>, count: usize) -> Result<Vec<S>, Memory> {
     if room.len() == count {
         return Ok(room);
     }
-    Ok(Vec::from_elem(alloc, S::no_walk(), count)?)
+    Ok(Vec::with_capacity(alloc, count)?)
 }
 
-// Rows of slots, with the tail of each zone in the first.
+// Labels with the tail of each zone in the first row, and those of the other rows as they come.
 fn begun_of<S: Slots>(
     alloc: Global,
     router: &Router,
@@ -74,14 +72,15 @@ fn begun_of<S: Slots>(
     requires few_states { length router.now.zones.items ≤ MOST_LINKS }
     requires few { length tails.now ≤ S.SLOTS }
     requires states { All (λ tail. length tail.items ≡ length router.now.zones.items) tails.now }
-    ensures rows { IfOk result (λ labels. length labels.items
-        ≡ (times.now.horizon + 1) * length router.now.zones.items) }
+    ensures row { IfOk result (λ labels. length router.now.zones.items ≤ length labels.items) }
     ensures put { IfOk result (λ labels. (j : ℕ) → j < length tails.now
         → IsPut S.FAR (in_slot S.slot labels.items j)
         (get_or (map (λ tail. tail.items) tails.now) j [])) }
 {
     let rows = times.horizon() as usize + 1;
-    let mut labels = room_for(alloc, room, rows * router.state_count())?;
+    let states = router.state_count();
+    let mut labels = room_for(alloc, room, rows * states)?;
+    grow(&mut labels, states)?;
     put_tails(labels.as_mut_slice(), tails);
     Ok(labels)
 }
@@ -99,22 +98,22 @@ fn filled_over<S: Slots>(
     requires short { (e : ℕ) → AreShortAt (time_at times.now) S.FAR e router.now.ways.items }
     requires few { length zones.now ≤ S.SLOTS }
     requires zones { All (λ z. z.0 < NO_ZONE) zones.now }
-    requires rows { length labels.items
-        ≡ (times.now.horizon + 1) * length router.now.zones.items }
-    ensures many { IfOk result (λ filled. length filled.items ≡ length labels.items) }
+    requires row { length router.now.zones.items ≤ length labels.items }
+    ensures many { IfOk result (λ filled. (times.now.horizon + 1) * length router.now.zones.items
+        ≤ length filled.items) }
     ensures rows { IfOk result (λ filled. AreSlotRows S.slot (time_at times.now) S.FAR router.now
         times.now.horizon (zone_numbers zones.now) labels.items filled.items 0) }
 {
     let mut spans = Vec::from_elem(alloc, NO_SPAN, router.ways.len())?;
     let waits = most_wait(router) > 0;
     fill_slots(
-        labels.as_mut_slice(),
+        &mut labels,
         spans.as_mut_slice(),
         waits,
         times,
         router,
         zones,
-    );
+    )?;
     Ok(labels)
 }
 

@@ -9,7 +9,7 @@ pub(crate) struct SlotTable<S> {
     pub(crate) states: usize,
     pub(crate) horizon: u32,
     pub(crate) labels: Vec<S>,
-    ghost size: { length labels.items ≡ (horizon + 1) * states },
+    ghost size: { (horizon + 1) * states ≤ length labels.items },
     ghost fits: { (horizon + 1) * states < 2 ^ 63 },
 }
 

@@ -6,6 +6,7 @@ ghost use Rattle.time_routes.specs.ToZone.{zone_numbers};
 
 use crate::filling::free_flow::{free_steps, tail_of};
 use crate::filling::no_walk::FAR;
+use crate::filling::ways_back::ways_back;
 use crate::states::longest_way::{most_time, most_wait};
 use crate::states::router::Router;
 use link_times::LinkTimes;
@@ -60,10 +61,12 @@ pub(crate) fn tails_of(
     ensures low { IfOk result (λ tails. tails.most < far) }
 {
     let free = free_steps(alloc, times, links)?;
+    let steps = free.as_slice();
+    let back = ways_back(alloc, router, steps)?;
     let mut tails = Vec::new(alloc);
     let mut most = 0u64;
     for zone in zones {
-        let tail = tail_of(alloc, router, free.as_slice(), zone.0)?;
+        let tail = tail_of(alloc, router, &back, steps, zone.0)?;
         most = most_in(tail.as_slice(), most);
         tails.push(tail)?;
     }

@@ -138,8 +138,9 @@ pub(crate) fn fill(labels: &mut [u64], times: &LinkTimes, router: &Router, zone:
     requires links { length router.now.states.items ≡ length times.now.free }
     requires rows { length labels.old ≡ (times.now.horizon + 1) * length router.now.zones.items }
     requires low { All (λ x. x ≤ far) labels.old }
-    ensures { AreRows (time_at times.now) far (length router.now.zones.items) times.now.horizon
-        labels.old labels.new router.now zone 0 }
+    ensures many { length labels.new ≡ length labels.old }
+    ensures rows { AreRows (time_at times.now) far (length router.now.zones.items)
+        times.now.horizon labels.old labels.new router.now zone 0 }
 {
     let horizon = times.horizon();
     let mut step = horizon;

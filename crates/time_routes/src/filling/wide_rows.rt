@@ -12,6 +12,7 @@ ghost use Rattle.time_routes.specs.ToZone.{zone_numbers};
 
 use crate::filling::free_flow::{free_steps, tail_of};
 use crate::filling::no_walk::FAR;
+use crate::filling::ways_back::ways_back;
 use crate::filling::wide_fill::fill;
 use crate::states::router::Router;
 use link_times::LinkTimes;
@@ -97,7 +98,9 @@ fn row_of(
 {
     let _sound = times.horizon();
     let free = free_steps(alloc, times, links)?;
-    let tail = tail_of(alloc, router, free.as_slice(), zone)?;
+    let steps = free.as_slice();
+    let back = ways_back(alloc, router, steps)?;
+    let tail = tail_of(alloc, router, &back, steps, zone)?;
     let rows = rows_over(alloc, tail.as_slice(), times, router, zone)?;
     Ok(rows)
 }

@@ -1,23 +1,28 @@
-use Rattle.std.proofs.Common.{◌≡◌, ◌∙◌, ◌+◌, ◌-◌, ◌≤◌, arith, length, refl, subst}
+use Rattle.std.proofs.Common.{◌≡◌, ◌∙◌, ℕ, ◌+◌, ◌-◌, ◌*◌, ◌<◌, ◌≤◌, ap, arith, length, refl, subst, sym}
+use Rattle.std.proofs.lemmas.Grind.{common_steps}
 use Rattle.std.specs.Prelude.{slice_index}
 use Rattle.dta_model.specs.LinkTimes.{time_at}
 use Rattle.time_routes.specs.declared.filling.no_walk.TheConstants.{NARROW_FAR}
 use Rattle.time_routes.specs.Filling.Labels.{in_slot}
+use Rattle.time_routes.specs.Filling.Rows.{IsRowTo}
 use Rattle.time_routes.specs.Filling.Slots.{AreSlotRows}
 use Rattle.time_routes.specs.ToZone.{zone_numbers}
 use Rattle.time_routes.proofs.OfFilling.RowFacts.{short_some}
-use Rattle.time_routes.proofs.OfFilling.SlotFacts.{in_slot_low, row_fits, row_inside}
+use Rattle.time_routes.proofs.OfFilling.SlotFacts.{in_slot_low, row_fits}
 use Rattle.time_routes.proofs.OfFilling.TableFacts.{AreRows_more, AreRows_none}
+use Rattle.time_routes.proofs.OfFilling.TailFacts.{whole_lent}
 use Rattle.time_routes.proofs.OfStates.SpanFacts.{short_at_more}
 use Rattle.time_routes.proofs.filling.slot_fill.fill_slots.Goals as goal
 
 pub loop-step-init : goal.loop-step-init
 loop-step-init g c =
     let t = c.args.times.now in
-    let is = c.horizon-horizon.ensures.is in (
+    let is = c.horizon-horizon.ensures.is in
+    let states = length c.args.router.now.zones.items in
+    let none : t.horizon - c.horizon-horizon.result + 1 ≡ 1 = omega (arith, is) in (
       omega (arith, is),
-      refl,
-      λ j small. AreRows_none (time_at t) g.S.Slots.FAR (length c.args.router.now.zones.items) t.horizon (in_slot g.S.Slots.slot c.args.labels.now j) c.args.router.now (slice_index (zone_numbers c.args.zones.now) j) c.horizon-horizon.result (omega (arith, is)) (in_slot_low g.S.Slots.slot g.S.Slots.FAR g.met.S.Slots.low c.args.labels.now j),
+      subst (λ n. n * states ≤ length c.args.labels.now.items) (sym none) (let row = c.requires.row in omega (arith, row)),
+      λ j small. AreRows_none (time_at t) g.S.Slots.FAR states t.horizon (in_slot g.S.Slots.slot c.args.labels.now.items j) c.args.router.now (slice_index (zone_numbers c.args.zones.now) j) c.horizon-horizon.result (omega (arith, is)) (in_slot_low g.S.Slots.slot g.S.Slots.FAR g.met.S.Slots.low c.args.labels.now.items j),
       c.requires.spans,
       λ before. absurd (omega (arith, is, before)),
     )
@@ -28,21 +33,39 @@ loop-step-preserved g c =
     let at = time_at t in
     let h = t.horizon in
     let r = c.args.router.now in
+    let states = length r.zones.items in
     let slot = g.S.Slots.slot in
     let beyond = g.S.Slots.FAR in
     let step = c.loop-step.step in
+    let before = c.horizon-horizon.result - (step - 1) in
     let test = c.loop-step-test.true in
     let inv = c.loop-step.invariant in
     let is = c.horizon-horizon.ensures.is in
     let zones = zone_numbers c.args.zones.now in
-    let back : step ≡ step - 1 + 1 = omega (arith, test) in
-    let rows = subst (λ n. AreSlotRows slot at beyond r h zones c.args.labels.now c.loop-step.labels n) back (inv.2) in (
+    let first = c.args.labels.now.items in
+    let now = c.loop-step.labels.items in
+    let grown = c.grow.new.labels in
+    let new = c.fill_row.new.labels in
+    let next : step ≡ step - 1 + 1 = omega (arith, test) in
+    let rows = subst (λ n. AreSlotRows slot at beyond r h zones first now n) next (inv.2) in
+    let value = c.as_mut_slice.ensures.value in
+    let many : length new ≡ length grown.items = c.fill_row.ensures.many ∙ ap (λ xs. length xs) value in
+    let len : grown.len ≡ length grown.items = grind (arith, common_steps) in
+    let whole = whole_lent new grown.items grown.len many len in
+    let counted : before * c.state_count-states.result + c.state_count-states.result ≤ length grown.items = c.in_ok-grow.ensures.many in
+    let roomy : before * states + states ≤ length grown.items = subst (λ n. before * n + n ≤ length grown.items) c.state_count-states.ensures counted in
+    let back : before ≡ h - (step - 1) = omega (arith, is) in
+    let here : (h - (step - 1) + 1) * states ≤ length new = subst (λ n. (n + 1) * states ≤ length new) back (omega (arith, roomy, many)) in
+    let till : before ≡ h - step + 1 = omega (arith, is, test, inv.0) in
+    let kept : (k : ℕ) → k < before * states → k < length now = λ k q. (let q' = subst (λ n. k < n * states) till q in let l = inv.1 in omega (arith, q', l)) in (
       omega (arith, inv.0),
-      c.fill_row.ensures.many ∙ inv.1,
-      λ j small. AreRows_more at beyond (length r.zones.items) h (in_slot slot c.args.labels.now j) (in_slot slot c.loop-step.labels j) (in_slot slot c.fill_row.new.labels j) r (slice_index zones j) (step - 1) (c.horizon-horizon.result - (step - 1))
-          (omega (arith, test, inv.0, is)) (omega (arith, test, inv.0, is)) refl r.inside.order r.inside.to (λ e. short_some at beyond e r.ways.items (c.requires.short e)) (rows j small) (c.fill_row.ensures.filled j small),
+      subst (λ xs. (h - (step - 1) + 1) * states ≤ length xs) (sym whole) here,
+      λ j small. subst (λ xs. AreSlotRows slot at beyond r h zones first xs (step - 1)) (sym whole) (λ k few. AreRows_more at beyond states h (in_slot slot first k) (in_slot slot now k) (in_slot slot grown.items k) (in_slot slot new k) r (slice_index zones k) (step - 1) before
+          (omega (arith, test, inv.0, is)) (omega (arith, test, inv.0, is)) refl r.inside.order r.inside.to (λ e. short_some at beyond e r.ways.items (c.requires.short e)) (rows k few)
+          (λ p q. c.in_ok-grow.ensures.stay k p (kept p q))
+          (subst (λ xs. IsRowTo at beyond states h (in_slot slot xs k) (in_slot slot new k) before (step - 1) r (slice_index zones k) states) value (c.fill_row.ensures.filled k few))) j small,
       c.keep.ensures.as_many,
-      λ before. c.keep.ensures,
+      λ early. c.keep.ensures,
     )
 
 pub keep-requires-clause-short : goal.keep-requires-clause-short
@@ -54,10 +77,8 @@ fill_row-requires-clause-fits g c =
     let inside : c.horizon-horizon.result - (c.loop-step.step - 1) ≤ c.args.times.now.horizon = omega (arith, is) in
     row_fits c.args.times.now.horizon (length c.args.router.now.zones.items) (c.horizon-horizon.result - (c.loop-step.step - 1)) (omega (arith, is)) c.requires.few_states inside
 
-pub fill_row-requires-clause-rows : goal.fill_row-requires-clause-rows
-fill_row-requires-clause-rows g c =
-    let is = c.horizon-horizon.ensures.is in
-    let inv = c.loop-step.invariant in
-    let inside : c.horizon-horizon.result - (c.loop-step.step - 1) ≤ c.args.times.now.horizon = omega (arith, is) in
-    let row = row_inside c.args.times.now.horizon (length c.args.router.now.zones.items) (c.horizon-horizon.result - (c.loop-step.step - 1)) inside in
-    omega (arith, row, c.requires.rows, inv.1)
+pub returns-clause-filled : goal.returns-clause-filled
+returns-clause-filled g c =
+    let t = c.args.times.now in
+    let none : c.loop-step.step ≡ 0 = omega (arith, c.loop-step-test.false) in
+    subst (λ n. AreSlotRows g.S.Slots.slot (time_at t) g.S.Slots.FAR c.args.router.now t.horizon (zone_numbers c.args.zones.now) c.args.labels.now.items c.loop-step.labels.items n) none (c.loop-step.invariant.2)

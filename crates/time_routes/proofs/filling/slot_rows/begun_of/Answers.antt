@@ -8,7 +8,7 @@ use Rattle.time_routes.proofs.filling.slot_rows.begun_of.Goals as goal
 pub returns-clause-put : goal.returns-clause-put
 returns-clause-put g c =
     let labels = c.put_tails.new.labels in
-    let old = c.in_ok-labels.labels in
+    let old = c.grow.new.labels in
     let len : old.len ≡ length old.items = grind (arith, common_steps) in
     let lent : length c.as_mut_slice.result.now ≡ length old.items = ap (λ xs. length xs) c.as_mut_slice.ensures.value in
     let whole = whole_lent labels old.items old.len (c.put_tails.ensures.many ∙ lent) len in

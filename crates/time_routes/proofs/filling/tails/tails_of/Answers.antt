@@ -2,7 +2,6 @@ use Rattle.std.proofs.Common.{◌≡◌, ◌∙◌, ◌<◌, ◌≤◌, ℕ, ap,
 use Rattle.std.proofs.lemmas.Grind.{same_number_lists}
 use Rattle.std.proofs.lemmas.List.{map_push}
 use Rattle.net_core.specs.declared.rows.ZoneNo.{ZoneNo}
-use Rattle.time_routes.specs.Filling.FreeFlow.{AreSettled}
 use Rattle.time_routes.specs.Filling.Labels.{far}
 use Rattle.time_routes.specs.Filling.Tails.{AreTails}
 use Rattle.time_routes.specs.ToZone.{zone_numbers}
@@ -19,16 +18,16 @@ loop-zone-init c =
 pub loop-zone-preserved : goal.loop-zone-preserved
 loop-zone-preserved c =
     let r = c.args.router.now in
-    let free = c.in_ok-free.free.items in
+    let free = c.as_slice-steps.result.now in
     let n = c.loop-zone.zone-index in
     let zones = c.args.zones.now in
     let d : ZoneNo = record { 0 = 0 } in
     let tail = c.in_ok-tail.tail.items in
     let most = c.most_in-most.ensures in
-    let same = c.as_slice-in-loop-zone.ensures.value in
+    let same = c.as_slice.ensures.value in
     let grown = ap (λ xs. map (λ tail. tail.items) xs) c.in_ok-push.ensures.items ∙ map_push (λ tail. tail.items) c.loop-zone.tails.items c.in_ok-tail.tail in (
       AreTailsTo_more free r c.loop-zone.most c.most_in-most.result (map (λ tail. tail.items) c.loop-zone.tails.items) _ zones n tail d c.loop-zone-test.true most.old grown
-          c.in_ok-tail.ensures.many (subst (λ f. AreSettled f r (get_or zones n d).0 tail) c.as_slice.ensures.value c.in_ok-tail.ensures.settled)
+          c.in_ok-tail.ensures.many c.in_ok-tail.ensures.settled
           (subst (λ xs. (s : ℕ) → s < length xs → get_or xs s 0 < far → get_or xs s 0 ≤ c.most_in-most.result) same most.near) (c.loop-zone.invariant.0),
       most.low,
     )
@@ -38,7 +37,7 @@ returns-clause-tails c =
     let r = c.args.router.now in
     let zones = c.args.zones.now in
     let frees = c.in_ok-free.ensures in
-    let free : c.in_ok-free.free.items ≡ c.args.times.now.free = same_number_lists _ _ (frees.many ∙ c.requires.links) (λ l h. frees.each l (omega (arith, h, frees.many))) in
+    let free : c.as_slice-steps.result.now ≡ c.args.times.now.free = c.as_slice-steps.ensures.value ∙ same_number_lists _ _ (frees.many ∙ c.requires.links) (λ l h. frees.each l (omega (arith, h, frees.many))) in
     let all = c.loop-zone.invariant.0 in
     let many : length zones ≡ c.loop-zone.zone-index = omega (arith, c.loop-zone-test.false) in
     subst (λ f. AreTails f r c.loop-zone.most (map (λ tail. tail.items) c.loop-zone.tails.items) (zone_numbers zones)) free

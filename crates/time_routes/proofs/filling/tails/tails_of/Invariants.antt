@@ -6,5 +6,5 @@ use Rattle.time_routes.proofs.filling.tails.tails_of.Given as goal
 
 abbrev pub invariant-loop-zone : goal.invariant-loop-zone
 invariant-loop-zone l =
-    AreTailsTo l.free.items l.router l.most (map (λ tail. tail.items) l.tails.items) (zone_numbers l.zones) l.zone-index
+    AreTailsTo l.steps l.router l.most (map (λ tail. tail.items) l.tails.items) (zone_numbers l.zones) l.zone-index
     × (l.most < far)

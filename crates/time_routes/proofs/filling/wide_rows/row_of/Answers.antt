@@ -14,7 +14,7 @@ returns-clause-left c =
     c.horizon-sound.ensures.sound c.requires.states c.requires.few
     (c.in_ok-free.ensures.many ∙ c.requires.links) (λ l h. c.in_ok-free.ensures.each l (omega (arith, h, c.requires.links)))
     c.in_ok-tail.ensures.many
-    (subst (λ f. AreSettled f r c.args.zone tail) c.as_slice.ensures.value c.in_ok-tail.ensures.settled)
+    (subst (λ f. AreSettled f r c.args.zone tail) c.as_slice-steps.ensures.value c.in_ok-tail.ensures.settled)
     c.in_ok-tail.ensures.short
-    (subst (λ l. (s : ℕ) → s < length l → get_or rows s 0 ≡ get_or l s 0) c.as_slice-2.ensures.value c.in_ok-rows.ensures.tail)
+    (subst (λ l. (s : ℕ) → s < length l → get_or rows s 0 ≡ get_or l s 0) c.as_slice.ensures.value c.in_ok-rows.ensures.tail)
     c.in_ok-rows.ensures.rows
