@@ -1,0 +1,11 @@
+pub mod Counting
+pub mod SumFacts
+pub mod InOrder
+pub mod TurnOrder
+pub mod PairOrder
+pub mod OverVehicles
+pub mod Along
+pub mod Adding
+pub mod Passed
+pub mod AnyOrder
+pub mod OfNet
