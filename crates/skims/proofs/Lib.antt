@@ -1,0 +1,5 @@
+pub mod ZipFacts
+pub mod GrowthFacts
+pub mod ZoneFacts
+pub mod EntryFacts
+pub mod Determined

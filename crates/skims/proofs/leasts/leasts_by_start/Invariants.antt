@@ -1,0 +1,10 @@
+use Rattle.std.proofs.Common.{take}
+use Rattle.dta_model.specs.LinkTimes.{time_at}
+use Rattle.time_routes.specs.ToZone.{destination}
+use Rattle.skims.specs.Leasts.{AreTo}
+use Rattle.skims.proofs.leasts.leasts_by_start.Given as goal
+
+abbrev pub invariant-loop-start : goal.invariant-loop-start
+invariant-loop-start l =
+    AreTo (time_at l.labels.times) l.labels.net (take l.start-index l.starts)
+    (destination l.labels l.place) l.leasts.items

@@ -1,0 +1,20 @@
+use Rattle.std.proofs.Common.{◌+◌, ◌<◌, ap, sym, subst, take, ◌∙◌}
+use Rattle.net_core.specs.Network.{zones}
+use Rattle.dta_model.specs.LinkTimes.{time_at}
+use Rattle.time_routes.specs.Named.{zone_named}
+use Rattle.time_routes.specs.ToZone.{destination}
+use Rattle.skims.specs.Leasts.{AreFrom, IsFrom}
+use Rattle.skims.proofs.ZipFacts.{zip-more}
+use Rattle.skims.proofs.leasts.leasts_from_each.Goals as goal
+
+pub loop-origin-preserved : goal.loop-origin-preserved
+loop-origin-preserved c =
+    let labels = c.args.labels.now in
+    let at = time_at labels.times in
+    let net = labels.net in
+    let d = destination labels c.args.place in
+    let origin = c.loop-origin.origin in
+    subst (λ ls. AreFrom at net (take (origin + 1) (zones net.nodes)) d c.args.start ls) (sym c.in_ok-push.ensures.items)
+    (zip-more (IsFrom at net d c.args.start) (zones net.nodes) c.loop-origin.leasts.items origin 0 c.least_from.result
+    (subst (λ n. origin < n) c.requires.zones c.loop-origin-test.true) c.loop-origin.invariant
+    (λ differ. c.least_from.ensures (λ same. differ (ap (λ z. zone_named net z) (same ∙ sym c.requires.zone)))))

@@ -1,0 +1,11 @@
+use Rattle.std.proofs.Common.{take}
+use Rattle.net_core.specs.Network.{zones}
+use Rattle.dta_model.specs.LinkTimes.{time_at}
+use Rattle.time_routes.specs.ToZone.{destination}
+use Rattle.skims.specs.Leasts.{AreFrom}
+use Rattle.skims.proofs.leasts.leasts_from_each.Given as goal
+
+abbrev pub invariant-loop-origin : goal.invariant-loop-origin
+invariant-loop-origin l =
+    AreFrom (time_at l.labels.times) l.labels.net (take l.origin (zones l.labels.net.nodes))
+    (destination l.labels l.place) l.start l.leasts.items
