@@ -9,6 +9,8 @@ from dataclasses import dataclass, field
 
 INPUTS = ("node.csv", "link.csv", "movement.csv", "demand.csv")
 OUTPUTS = ("agent.csv", "link_performance.csv", "gap.csv")
+OUTPUTS_OF = {"skim": ("skim.csv",), "counts": ("counts.csv",)}
+TIMES = "times.csv"
 
 
 @dataclass
@@ -30,49 +32,74 @@ class Table:
         return self.columns.index(column)
 
 
-def make_case(r):
-    """A case by these random numbers."""
-    words = make_words(r)
-    tables = make_tables(r, words)
+def make_case(r, assign, only=None):
+    """A case by these random numbers, of the command `only` where it is said. `assign(words,
+    files)` answers the link times of an assignment with these words over these tables, as bytes, or
+    None where it is refused."""
+    command = only or r.choices(list(SHARES), weights=SHARES.values())[0]
+    groups = make_options(r, command)
+    tables = make_tables(r, flat(command, groups))
+    if command == "counts":
+        add_link(r, groups, tables["link.csv"])
+    words = flat(command, groups)
     for name in list(tables):
-        add_columns(r, name, tables[name])
+        add_columns(r, name, tables[name], command)
+    if command == "skim":
+        tables[TIMES] = times_table(r, groups, tables, assign)
+        add_columns(r, TIMES, tables[TIMES], command)
     spelled = r.random() < .5
     if spelled:
         for name in tables:
             spell_fields(r, tables[name])
-    spoils = choose_spoils(r)
+    spoils = choose_spoils(r, command)
+    if "rows" in spoils:
+        spoil_rows(r, tables[TIMES])
     if "fields" in spoils:
-        spoil_fields(r, tables[r.choice(list(tables))])
+        spoil_fields(r, tables[choose_table(r, tables)])
     if "columns" in spoils:
-        spoil_columns(r, tables[r.choice(list(tables))])
+        spoil_columns(r, tables[choose_table(r, tables)])
     files = {name: write_table(r, tables[name], spelled) for name in tables}
     if "bytes" in spoils:
-        name = r.choice(list(files))
+        name = choose_table(r, files)
         files[name] = spoil_bytes(r, files[name])
     if "words" in spoils:
-        words = spoil_words(r, words)
+        words = spoil_words(r, words, command)
     case = Case([word.encode("utf-8", "surrogateescape") for word in words], files)
     if "files" in spoils:
-        spoil_files(r, case)
+        spoil_files(r, case, command)
     return case
 
 
-def choose_spoils(r):
+def choose_spoils(r, command):
     """What is spoilt: mostly nothing or one kind."""
     kinds = ["fields", "columns", "bytes", "words", "files"]
+    weights = [8, 3, 4, 4, 2]
+    if command == "skim":
+        kinds.append("rows")
+        weights.append(6)
     chance = r.random()
     if chance < .55:
         return []
     if chance < .95:
-        return r.choices(kinds, weights=[8, 3, 4, 4, 2])
+        return r.choices(kinds, weights=weights)
     return r.sample(kinds, 2)
+
+
+def choose_table(r, tables):
+    """The name of a table; mostly that of link times, where there is one."""
+    if TIMES in tables and r.random() < .6:
+        return TIMES
+    return r.choice(list(tables))
 
 
 # Words.
 
-def option_values(r):
-    """A value in its range for each option; the horizon is small, so that runs are short."""
+def option_values(r, command):
+    """A value in its range for each option; the horizon is small, so that runs are short. In that
+    of counts vehicles mostly take some turns."""
     horizon = r.choice([1, 5, 30, 60, 100, 150, 200, 300, r.randint(1, 400)])
+    if command == "counts" and r.random() < .8:
+        horizon = r.choice([150, 200, 300, r.randint(100, 400)])
     period = r.choice([1, horizon, r.randint(1, horizon), 1 + horizon // 4, 1 + horizon // 10])
     return {
         "step": r.choice([1, 6, 6, 10, 30, 60, r.randint(1, 60)]),
@@ -86,8 +113,19 @@ def option_values(r):
         "bucket": r.choice([1, 7, 10, 50, horizon, 86400, r.randint(1, 100)]),
         "queue": r.choice(["point", "spatial", "spatial"]),
         "watch": r.choice([0, 1, 1, 7, 10, 50, 86400, r.randint(1, 100)]),
+        "at": some_starts(r, horizon),
     }
 
+
+def some_starts(r, horizon):
+    """A list of steps below the horizon, some of them more than once."""
+    count = r.choice([1, 1, 2, 2, 3, 5, 64])
+    steps = [r.choice([0, horizon - 1, r.randrange(horizon)]) for _ in range(count)]
+    return ";".join(str(step).zfill(r.choice([1, 1, 1, 4])) for step in steps)
+
+
+# Of 100 cases: how many have each command.
+SHARES = {"assign": 28, "freeflow": 4, "demo": 2, "skim": 33, "counts": 33}
 
 TAKEN = {
     "freeflow": ["step", "jam", "length-unit", "speed-unit"],
@@ -95,13 +133,20 @@ TAKEN = {
                "workers", "bucket", "queue", "watch"],
     "demo": ["step", "jam", "horizon", "period", "iterations", "workers", "bucket", "queue",
              "watch"],
+    "skim": ["step", "jam", "length-unit", "speed-unit", "horizon", "bucket", "at"],
+    "counts": ["step", "jam", "length-unit", "speed-unit", "horizon", "period", "iterations",
+               "workers", "bucket", "queue"],
 }
 
 
-def make_words(r):
-    """The words of a command, all in its grammar."""
-    command = r.choices(["assign", "freeflow", "demo"], weights=[80, 12, 8])[0]
-    values = option_values(r)
+def flat(command, groups):
+    """The words of a command with options in groups."""
+    return [command] + [word for group in groups for word in group]
+
+
+def make_options(r, command):
+    """The options of a command, all in its grammar, each as a group of words."""
+    values = option_values(r, command)
     chosen = [name for name in TAKEN[command] if r.random() < .45]
     if command != "freeflow" and "horizon" not in chosen:
         chosen.append("horizon")
@@ -113,46 +158,75 @@ def make_words(r):
         if value.isdigit() and r.random() < .1:
             value = value.zfill(r.randint(1, 9))
         groups.append([f"--{name}={value}"] if r.random() < .4 else [f"--{name}", value])
-    if command != "freeflow" and r.random() < .35:
+    if command not in ("freeflow", "skim") and r.random() < .35:
         groups.append(["--plain"])
     if command == "demo":
         groups.append([str(r.choice([2, 2, 3, 4, 5])).zfill(r.choice([1, 1, 1, 3, 9]))])
     r.shuffle(groups)
-    return [command] + [word for group in groups for word in group]
+    return groups
+
+
+ODD_LINKS = ["0", "999999", "07", "7.0", "007.000", "9223372036854775807", "9223372036854775808",
+             "7.", "7.5", "-7", "-0", "+7", "1e0", " 7", "7 ", "", "x", "1;2", "none", "\u0667"]
+
+
+def add_link(r, groups, links):
+    """Puts a `--link` among the options of two thirds of all counts: mostly one of the table."""
+    if r.random() < .33:
+        return
+    text = r.choice(ODD_LINKS)
+    if links.rows and r.random() < .8:
+        text = r.choice(links.rows)[links.place("link_id")]
+        text = r.choice([text, text, "0" + text, text + ".0", "000" + text + ".00"])
+    group = [f"--link={text}"] if r.random() < .5 else ["--link", text]
+    groups.insert(r.randint(0, len(groups)), group)
+
+
+# What PEER knows at the stage at which it has skims and counts, and PROGRAM doesn't.
+NOT_YET = ("--wave=20", "--queue=newell", "newell", "capacity_by_step")
 
 
 ODD_VALUES = ["", "0", "-1", "+1", "1.0", "1e0", " 1", "1 ", "61", "1001", "86400", "86401", "17",
               "999999999", "1000000000", "0000000001", "000000001", "٣", "x", "km ", "KM", "m",
               "point", "newell", "Spatial", "--plain", "-", "--", "1,0", "0x1",
               "18446744073709551617"]
+ODD_STARTS = ["0;", ";0", ";", "0;;1", "0; 1", "0 ;1", " 0", "0,1", "1;1;0", "0;-1", "0;x", "0:1",
+              "0;1.0", "000000000;0", "0000000000", "0;400", "0;86399", "0;86400", "0;999999999",
+              ";".join(["0"] * 64), ";".join(["0"] * 65), "0" * 9 + ";" + "0" * 10]
 ODD_WORDS = ["", "-", "--", "--help", "-h", "--version", "-V", "help", "--plain=", "--plain=true",
              "--plain=1", "--hor", "--horizons", "-s", "--Step", "-step", "---step", "--step",
              "--workers", "--start", "--wave=20", "--queue=newell", "--unknown=1", "demo",
-             "assign", "freeflow", "skim", "5", "2", "60", "61", "\udcff", "--step=\udcc3", "é",
-             "--at", "--scales=1", "--link=1", "--wörkers=1", "\t", "="]
+             "assign", "freeflow", "skims", "5", "2", "60", "61", "\udcff", "--step=\udcc3", "é",
+             "--at", "--at=0", "--scales=1", "--link=1", "--wörkers=1", "\t", "="]
+ODD_COMMANDS = ["Assign", "assig", "demo", "freeflow", "", "skims", "count", "--assign"]
 
 
-def spoil_words(r, words):
+def spoil_words(r, words, command):
     """Words of which one thing or two are odd; a few of them are in the grammar all the same."""
     words = list(words)
+    later = command in OUTPUTS_OF
+    values = ODD_VALUES + (ODD_STARTS if command == "skim" else [])
+    odd_values = [value for value in values if not later or value not in NOT_YET]
+    odd_words = [word for word in ODD_WORDS if not later or word not in NOT_YET]
+    odd_commands = ODD_COMMANDS + (["assign", "skim", "counts"] if later else [])
     for _ in range(r.choice([1, 1, 2])):
         choice = r.randrange(8)
         place = r.randrange(len(words)) if words else 0
         if choice == 0 and words:
             del words[place]
         elif choice == 1:
-            words.insert(r.randint(0, len(words)), r.choice(ODD_WORDS))
+            words.insert(r.randint(0, len(words)), r.choice(odd_words))
         elif choice == 2 and words:
             words.insert(r.randint(0, len(words)), words[place])
         elif choice == 3 and words:
-            words[place] = r.choice(ODD_WORDS + ODD_VALUES)
+            words[place] = r.choice(odd_words + odd_values)
         elif choice == 4 and words:
-            words[0] = r.choice(["Assign", "assig", "demo", "freeflow", "", "skim", "--assign"])
+            words[0] = r.choice(odd_commands)
         elif choice == 5 and words:
-            words[place] = words[place].split("=")[0] + "=" + r.choice(ODD_VALUES)
+            words[place] = words[place].split("=")[0] + "=" + r.choice(odd_values)
         elif choice == 6:
-            name = r.choice(TAKEN["assign"])
-            words += [f"--{name}", r.choice(ODD_VALUES)]
+            name = r.choice(["at"] if command == "skim" and r.random() < .6 else TAKEN["assign"])
+            words += [f"--{name}", r.choice(odd_values)]
         else:
             r.shuffle(words)
     return words
@@ -217,6 +291,19 @@ def make_net(r):
         count = min(count, size)
     zones = [x for x in identifiers(r, count) if x > 0] or [1]
     return Net(nodes, zones, links)
+
+
+def make_roomy_net(r):
+    """A small network that has mostly five nodes or more, and zones at any of them, so that there
+    are turns between them. Now and then links are missing, and some zones have no way to others."""
+    net = make_net(r)
+    while min(len(net.nodes) - 3, len(net.zones)) < 2 and r.random() < .9:
+        net = make_net(r)
+    r.shuffle(net.nodes)
+    if r.random() < .3:
+        share = r.choice([.3, .5, .7])
+        net.links = [link for link in net.links if r.random() < share]
+    return net
 
 
 def node_table(r, net):
@@ -297,6 +384,8 @@ def demand_table(r, net):
 def make_tables(r, words):
     """The tables of a sound case. The movement table is left out every second time."""
     net = make_net(r)
+    if words[0] in OUTPUTS_OF:
+        net = make_roomy_net(r)
     text = " ".join(words)
     units = next((u for u in ("km", "mi") if f"length-unit {u}" in text
                   or f"length-unit={u}" in text), "m")
@@ -306,7 +395,44 @@ def make_tables(r, words):
     if r.random() < .5:
         tables["movement.csv"] = movement_table(r, net)
     tables["demand.csv"] = demand_table(r, net)
+    if words[0] == "counts" and len(net.zones) > 1:
+        for _ in range(r.choice([0, 2, 3, 4])):
+            ends = [str(zone) for zone in r.sample(net.zones, 2)]
+            tables["demand.csv"].rows.append(ends + [str(r.randint(1, 20))])
     return tables
+
+
+TIME_COLUMNS = ["link_id", "from_step", "to_step", "entered", "travel_steps", "free_steps"]
+
+
+def times_table(r, groups, tables, assign):
+    """The link times of an assignment over these tables, which a skim with these options can mostly
+    read; travel steps are often others than came out."""
+    files = {name: write_table(r, table, False) for name, table in tables.items()}
+    text = assign(flat("assign", times_options(r, groups)), files)
+    if text is None:
+        return Table(list(TIME_COLUMNS), [])
+    lines = [line.split(",") for line in text.decode("ascii").splitlines()]
+    rows = lines[1:]
+    place = lines[0].index("travel_steps")
+    share = r.choice([0, 0, .1, .5, 1])
+    steps = r.choice([range(1, 20), range(1, 200), [1, 300], [1, 2 ** 31, 2 ** 32 - 1]])
+    for row in rows:
+        if r.random() < share:
+            row[place] = str(r.choice(steps))
+    return Table(lines[0], rows)
+
+
+def times_options(r, groups):
+    """Options of the assignment whose link times a skim with these options reads. Now and then one
+    is another, so that the table doesn't fit."""
+    kept = [group for group in groups if not group[0].startswith("--at")]
+    if r.random() < .12:
+        name = r.choice(["horizon", "horizon", "bucket", "bucket", "step"])
+        kept = [group for group in kept if not group[0].startswith("--" + name)]
+        kept.append([f"--{name}={option_values(r, 'skim')[name]}"])
+    kept.append(["--queue", r.choice(["point", "spatial"])])
+    return kept + [["--iterations", r.choice("123")], ["--plain"]]
 
 
 # Spelling.
@@ -314,16 +440,18 @@ def make_tables(r, words):
 UNREAD = {"node.csv": ["x_coord", "y_coord", "name", "ctrl_type"],
           "link.csv": ["directed", "directed", "geometry", "name", "dir_flag", "capacity_by_step"],
           "movement.csv": ["mvmt_id", "type", "capacity_by_step", "name"],
-          "demand.csv": ["time_periods", "name", "Volume", "volume2"]}
+          "demand.csv": ["time_periods", "name", "Volume", "volume2"],
+          TIMES: ["name", "Entered", "queue", "volume", "storage"]}
 TEXTS = ["", "1", "true", "Mill, North", 'a "quoted" name', "two\nlines", "ümlaut", "0:600;20:0",
          "LINESTRING (-111.9 33.4, -111.8 33.3)", " ", "\t", "\0", "\r", "😀"]
 
 
-def add_columns(r, name, table):
+def add_columns(r, name, table, command):
     """Adds columns that are passed over, leaves optional ones out, and puts columns in any order.
     `directed` is checked and not kept."""
+    later = command in OUTPUTS_OF
     for _ in range(r.choice([0, 0, 1, 2])):
-        column = r.choice(UNREAD[name])
+        column = r.choice([name for name in UNREAD[name] if not later or name not in NOT_YET])
         table.columns.append(column)
         texts = ["", "1", "true", "yes", "2", "x"] if column == "directed" else TEXTS
         for row in table.rows:
@@ -345,7 +473,8 @@ def drop_column(table, place):
 
 
 IDENTIFIERS = {"node_id", "zone_id", "link_id", "from_node_id", "to_node_id", "ib_link_id",
-               "ob_link_id", "o_zone_id", "d_zone_id"}
+               "ob_link_id", "o_zone_id", "d_zone_id", "from_step", "to_step", "entered",
+               "travel_steps", "free_steps"}
 QUANTITIES = {"length", "lanes", "free_speed", "capacity", "penalty", "volume"}
 
 
@@ -432,7 +561,14 @@ ODD_FIELDS = ["", " ", "x", "-", "+", ".", "-1", "-2", "-0", "-1.0", "-7", "- 1"
               "0:600;", "none", "1 2", "\u00a01", "1\u2003", '"', '1"', "a\nb", "１"]
 
 
+LONG = ["0", "1", "-1", "-0", "1.0", "1.5", "9223372036854775807", "9223372036854775808"]
 ODD_BY_COLUMN = {
+    "travel_steps": ["0", "0.0", "1", "4294967295", "4294967295.0", "4294967296", "-1", "-0", "1.5",
+                     "18446744073709551617"],
+    "entered": LONG,
+    "from_step": LONG,
+    "to_step": LONG,
+    "free_steps": LONG,
     "directed": ["0", "0.0", "false", "no", "NO", "False", "FALSE ", "f", "00", "-0", "n", "0."],
     "zone_id": ["-1", "-1.0", "-01", "-0", "-2", "0", "0.00", "+1", "-1e0", "- 1"],
     "lanes": ["100", "100.0009", "100.001", "-0.0001", "1e2", "101"],
@@ -471,6 +607,28 @@ def spoil_fields(r, table):
             row.insert(place, r.choice(ODD_FIELDS))
         else:
             row[place] = odd_field(r, (table.columns + [""] * len(row))[place].strip())
+
+
+def spoil_rows(r, table):
+    """Drops, doubles, swaps or adds rows of a table whose rows have an order."""
+    for _ in range(r.choice([1, 1, 2])):
+        rows = table.rows
+        place = r.randrange(len(rows)) if rows else 0
+        choice = r.randrange(7)
+        if not rows or choice == 0:
+            rows.append(["1"] * len(table.columns))
+        elif choice == 1:
+            del rows[place]
+        elif choice == 2:
+            del rows[r.choice([place, len(rows) - 1]):]
+        elif choice == 3:
+            rows.insert(r.randint(0, len(rows)), list(rows[place]))
+        elif choice == 4:
+            rows.append(list(rows[r.choice([0, -1])]))
+        elif choice == 5:
+            rows[place], rows[-1] = rows[-1], rows[place]
+        else:
+            r.shuffle(rows)
 
 
 def spoil_columns(r, table):
@@ -528,10 +686,11 @@ def spoil_bytes(r, text):
     return text
 
 
-def spoil_files(r, case):
+def spoil_files(r, case, command):
     """Takes a table away, or puts a folder or a link to itself in place of one or of an output."""
     choice = r.randrange(4)
-    name = r.choice(INPUTS if choice < 3 else OUTPUTS)
+    inputs = INPUTS + ((TIMES,) * 3 if command == "skim" else ())
+    name = r.choice(inputs if choice < 3 else OUTPUTS_OF.get(command, OUTPUTS))
     case.files.pop(name, None)
     if choice == 1:
         case.links_to_themselves.append(name)

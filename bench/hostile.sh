@@ -6,7 +6,7 @@
 # and calls the program as another user. It takes some minutes, and 1 GB in the folder of mktemp.
 groups='folder_without_writing full_outputs full_disk broken_streams closed_streams no_files pipes
 longest_tables long_rows odd_bytes most_vehicles little_memory little_memory_for_shares
-little_memory_for_threads no_threads kills'
+little_memory_for_threads no_threads times_tables skims_and_counts kills'
 [ $# -ge 1 ] || { echo 'usage: hostile.sh PROGRAM [GROUP..]' >&2; exit 2; }
 work=$(mktemp -d)
 trap 'umount "$work/small" 2>/dev/null; rm -rf "$work"' EXIT
@@ -19,6 +19,7 @@ whole=$work/whole
 cases=0
 failures=0
 is_root=$([ "$(id -u)" = 0 ] && echo yes)
+usage='usage: dta COMMAND [options]'
 
 # check NAME WANTED GOT: tells of a case.
 check() {
@@ -106,8 +107,9 @@ folder_without_writing() {
     as_other "$program" demo 2 >"$work/report"; status=$?
     check 'a folder that cannot be written, demo' '0 none none none nodes 4' "$(outcome)"
     as_other "$program" assign --period 0 >"$work/report"; status=$?
-    usage='usage: dta freeflow|assign|demo N [options]'
     check 'a folder that cannot be written, refused words' "2 none none none $usage" "$(outcome)"
+    as_other "$program" counts >"$work/report"; status=$?
+    check 'a folder that cannot be written, counts' '5 none none none -' "$(outcome)"
     chmod 777 .
     chmod 000 movement.csv 2>/dev/null || : >movement.csv
     chmod 000 movement.csv demand.csv
@@ -430,6 +432,88 @@ no_threads() {
     as_other prlimit --nproc=1:1 "$program" assign --workers 16 >"$work/report"
     status=$?
     check '16 workers, no thread to be had' '0 whole whole whole report' "$(outcome)"
+}
+
+# A folder whose times.csv is what `assign` wrote there.
+begin_skim() {
+    begin
+    cp "$whole/link_performance.csv" times.csv
+}
+
+# ends NAME WANTED OUTPUT WORDS: runs the program; its status, the lines of an output, or that it
+# isn't a file, and the first line of Report.
+ends() {
+    told=$1
+    wanted=$2
+    output=$3
+    shift 3
+    run "$@"
+    lines=none
+    [ ! -f "$output" ] || lines=$(wc -l <"$output")
+    check "$told" "$wanted" "$status $lines $(head -n 1 "$work/report")"
+}
+
+# What stands in place of a table of link times. Sound ones have 48 rows: 24 of each link.
+times_tables() {
+    begin_skim
+    ends 'a times table of assign' '0 3 nodes 3' skim.csv skim
+    rm -f times.csv skim.csv
+    ends 'no times table' '4 none read fault in times' skim.csv skim
+    mkdir times.csv
+    ends 'times.csv is a folder' '4 none read fault in times' skim.csv skim
+    rmdir times.csv
+    ln -s times.csv times.csv
+    ends 'times.csv is itself' '4 none read fault in times' skim.csv skim
+    rm -f times.csv
+    ln -s /dev/zero times.csv
+    size='size: table times limit 268435456'
+    ends 'times.csv without end' "7 none $size" skim.csv skim
+    begin_skim
+    : >times.csv
+    ends 'times.csv of zero bytes' '3 none times line 1: E1 MissingColumn link_id' skim.csv skim
+    sed 1q "$whole/link_performance.csv" >times.csv
+    ends 'a header alone' '3 none times line 2: E13 Disagrees -' skim.csv skim
+    printf '\377\376\0\1,\200\n' >times.csv
+    ends 'bytes that are no text' '3 none times line 1: E2 BadRecord -' skim.csv skim
+    sed '$d' "$whole/link_performance.csv" >times.csv
+    ends 'a row is missing' '3 none times line 49: E13 Disagrees -' skim.csv skim
+    sed '$p' "$whole/link_performance.csv" >times.csv
+    ends 'a row too many' '3 none times line 50: E13 Disagrees link_id' skim.csv skim
+    cp "$whole/agent.csv" times.csv
+    ends 'an agent table' '3 none times line 1: E1 MissingColumn link_id' skim.csv skim
+    begin_skim
+    longer times.csv 268435456
+    ends 'times.csv of 268435456 bytes' '0 3 nodes 3' skim.csv skim
+    printf '\n' >>times.csv
+    rm -f skim.csv
+    ends 'times.csv of one byte more' "7 none $size" skim.csv skim
+}
+
+skims_and_counts() {
+    begin_skim
+    mkdir skim.csv counts.csv
+    ends 'skim.csv is a folder' '5 none ' skim.csv skim
+    ends 'counts.csv is a folder' '5 none ' counts.csv counts
+    rmdir skim.csv counts.csv
+    ln -s /dev/full skim.csv
+    ends 'skim.csv is full' '5 none ' skim.csv skim
+    rm -f skim.csv
+    "$program" skim >/dev/full; check 'skim, a full standard output' '5 3' "$? $(wc -l <skim.csv)"
+    rm -f skim.csv
+    ends 'counts' '0 25 nodes 3' counts.csv counts
+    mv counts.csv "$work/without"
+    ends 'a link that is not there' '0 25 nodes 3' counts.csv counts --link 99
+    cmp -s counts.csv "$work/without"; check 'the same counts as without a link' 0 $?
+    ends 'a link in another spelling' '0 26 nodes 3' counts.csv counts --link=0020.0
+    rm -f counts.csv
+    for words in counts,--link counts,--link= counts,--link=x counts,--link=-1 counts,--watch,1 \
+        counts,--at,0 skim,--at skim,--at=0\; skim,--at,1200 skim,--plain skim,--link=10 \
+        skim,--period,10 Skim count; do
+        # shellcheck disable=SC2046
+        ends "refused words $words" "2 none $usage" skim.csv $(echo "$words" | tr , ' ')
+    done
+    awk 'BEGIN { print "node_id,zone_id"; for (k = 1; k < 4098; k++) print k "," k }' >node.csv
+    ends '4,097 zones' '7 none size: skim 16781312 limit 16777216' skim.csv skim
 }
 
 # Waits for so many seconds, or until the run has begun with this output.

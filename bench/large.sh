@@ -1,12 +1,13 @@
 #!/bin/sh
 # large.sh PROGRAM PEER [STAGE] [CASE..]: large input gets an answer. Runs a built program over
 # large tables, with --plain and with workers, and beside it PEER, another program of the same
-# rules, with `--stage STAGE` before its words (12 where it isn't said, nothing where it is 0). One
-# runs after another. Each must end with status 0, and all must write the same tables and the same
-# report. Prints the seconds and the peak memory of each run; ends with 0 where all is as it should
-# be. Cases are the functions that `cases` names, and all of them run where none is said.
+# rules, with `--stage STAGE` before its words (12 where it isn't said, nothing where it is 0; for
+# skims and counts at least 19). One runs after another. Each must end with status 0, and all must
+# write the same tables and the same report. Prints the seconds and the peak memory of each run;
+# ends with 0 where all is as it should be. Cases are the functions that `cases` names, and all of
+# them run where none is said.
 cases='many_vehicles long_chain long_horizon wide_labels many_iterations many_links many_rows
-many_turns crossings many_zones no_demand'
+many_turns crossings many_zones no_demand many_counts many_entries'
 [ $# -ge 2 ] || { echo 'usage: large.sh PROGRAM PEER [STAGE] [CASE..]' >&2; exit 2; }
 program=$(realpath "$1")
 peer=$(realpath "$2")
@@ -35,28 +36,52 @@ fails() {
     echo "FAILED: $1"
 }
 
-# compare WORDS..: runs both programs with these words in the current folder of tables.
-compare() {
+# Runs the other program with these words, and keeps what it writes in the folder `first`.
+first() {
     # shellcheck disable=SC2086
-    timed 'the other program' "$peer" $([ "$stage" = 0 ] || echo --stage "$stage") "$@" --plain
+    timed 'the other program' "$peer" $at_stage "$@"
     mkdir first
-    mv agent.csv link_performance.csv gap.csv report first
-    for way in --plain --workers=4; do
-        timed "$way" "$program" "$@" $way
-        for name in agent.csv link_performance.csv gap.csv report; do
-            cmp "$name" "first/$name" || fails "$way writes another $name"
-            rm -f "$name"
-        done
+    # shellcheck disable=SC2086
+    mv $outputs report first
+}
+
+# then_same NAME WORDS..: runs the program; what it writes is the same, and is removed.
+then_same() {
+    name=$1
+    shift
+    timed "$name" "$program" "$@"
+    for output in $outputs report; do
+        cmp "$output" "first/$output" || fails "$name writes another $output"
+        rm -f "$output"
     done
+}
+
+# Tells the report of a case, and removes its folder.
+end() {
     tr '\n' ';' <first/report
     echo
     cd "$work" || exit 2
     rm -rf "$work/tables"
 }
 
+# compare WORDS..: runs both programs with these words in the current folder of tables.
+compare() {
+    first "$@" --plain
+    for way in --plain --workers=4; do then_same $way "$@" $way; done
+    end
+}
+
+# known_from STAGE: sets how the other program is called, at this stage or a later one.
+known_from() {
+    at_stage="--stage $(($1 > stage ? $1 : stage))"
+    [ "$stage" != 0 ] || at_stage=
+}
+
 # begin TITLE: a new folder, which is then the current one.
 begin() {
     echo "$1:"
+    known_from 0
+    outputs='agent.csv link_performance.csv gap.csv'
     rm -rf "$work/tables"
     mkdir "$work/tables"
     cd "$work/tables" || exit 2
@@ -225,6 +250,30 @@ no_demand() {
     grid 100 100
     echo o_zone_id,d_zone_id,volume >demand.csv
     compare assign --iterations 3
+}
+
+many_counts() {
+    begin 'the turns of 1,900,000 vehicles, in each step'
+    known_from 19
+    outputs=counts.csv
+    grid 12 4
+    demand 1,2,500000 2,3,500000 3,4,500000 4,1,400000
+    compare counts --iterations 2 --queue spatial --bucket 1 --link 100
+}
+
+many_entries() {
+    begin '1,000 zones and 16 starts'
+    known_from 19
+    outputs=skim.csv
+    grid 32 1000
+    demand 1,1000,300 500,20,300 999,500,300
+    # shellcheck disable=SC2086
+    timed 'link times' "$peer" $at_stage assign --plain
+    mv link_performance.csv times.csv
+    set -- --at '0;75;150;225;300;375;450;525;600;675;750;825;900;975;1050;1125'
+    first skim "$@"
+    then_same skim skim "$@"
+    end
 }
 
 for case in ${*:-$cases}; do $case; done

@@ -98,6 +98,14 @@ a_way_round() {
     printf '1,3,4\n' >>demand.csv
 }
 
+# Two links in a line, and what an assignment of 60 steps tells of them.
+link_times() {
+    two_links
+    printf 'link_id,from_step,to_step,entered,travel_steps,free_steps\n' >times.csv
+    printf '10,0,50,3,10,10\n10,50,60,0,10,10\n' >>times.csv
+    printf '20,0,50,3,10,10\n20,50,60,0,10,10\n' >>times.csv
+}
+
 # run NUMBER WORDS: a run whose request of this number is refused, none where it is 0, over outputs
 # of an earlier run.
 run() {
@@ -155,7 +163,7 @@ case_of() {
     outputs=$3
     rm -rf "$work/case" "$work/whole" "$work/earlier"
     mkdir "$work/case" "$work/whole" "$work/earlier"
-    for output in agent.csv link_performance.csv gap.csv; do
+    for output in agent.csv link_performance.csv gap.csv skim.csv counts.csv; do
         echo earlier >"$work/earlier/$output"
     done
     : >"$work/earlier/report"
@@ -186,6 +194,10 @@ for loader in --plain '--workers 1' '--workers 4'; do
         assign --period 1 --horizon 60 --iterations 2 $loader
     # shellcheck disable=SC2086
     case_of "a demonstration, $loader" : report demo 2 --period 1 --horizon 1 $loader
+    # shellcheck disable=SC2086
+    case_of "counts, $loader" a_way_round 'counts.csv report' \
+        counts --period 1 --horizon 60 --link 30 $loader
 done
+case_of 'a skim' link_times 'skim.csv report' skim --horizon 60 --at '0;55'
 [ $failures -eq 0 ] && echo 'all is as it should be'
 exit "$((failures > 0))"

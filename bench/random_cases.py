@@ -1,11 +1,18 @@
 #!/usr/bin/env python3
 """random_cases.py PROGRAM PEER [--cases N] [--seed S] [--stage 12] [--jobs J] [--case K] [--all]
+                                 [--only COMMAND]
 
 Runs PROGRAM and PEER, another program of the same rules, in folders with equal tables, N times
 (1000 where N isn't said), and compares the status, standard output and standard error, and every
 file that is then there. Case K of seed S is the same wherever it is made: `--case K` runs it
-alone. PEER is called with `--stage` and its number before the words, unless the number is 0. At the
-first difference its folder is kept and named, and the status is 1; with --all each one is told.
+alone. With `--only COMMAND`, such as skim or counts, all cases have this command; otherwise a third
+each has `skim` and `counts`, and the rest the others. The link times that a skim reads are those of
+an `assign` of PEER, as they are or changed.
+
+PEER is called with `--stage` and its number before the words, unless the number is 0; for `skim`
+and `counts` the number is at least 19. A stage below 17 has an older usage line, and it is compared
+as if it were the one of now. At the first difference its folder is kept and named, and the status
+is 1; with --all each one is told.
 
 Where workers load, which watch lines come before the last one of an iteration is free within its
 rule, so those are held to the rule and to the agent table (watch_rule.py).
@@ -25,6 +32,9 @@ import case_maker  # noqa: E402
 import watch_rule  # noqa: E402
 
 LONGEST = 120  # seconds that a run may take
+FIRST_STAGE = {b"skim": 19, b"counts": 19}  # from which on PEER has the command
+USAGE = b"usage: dta COMMAND [options]\n"
+OLDER_USAGE = b"usage: dta freeflow|assign|demo N [options]\n"
 
 
 class Outcome:
@@ -69,6 +79,27 @@ def run(command, case, folder):
         return Outcome("no end", b"", b"", {})
     files = {name: entry(os.path.join(folder, name)) for name in sorted(os.listdir(folder))}
     return Outcome(ended.returncode, ended.stdout, ended.stderr, files)
+
+
+def run_peer(settings, case, folder):
+    """Runs PEER at the stage that the command of a case asks for."""
+    command = [settings.peer]
+    if settings.stage > 0:
+        first = FIRST_STAGE.get(case.words[0], 0) if case.words else 0
+        command += ["--stage", str(max(settings.stage, first))]
+    outcome = run(command, case, folder)
+    if outcome.report == OLDER_USAGE:
+        outcome.report = USAGE
+    return outcome
+
+
+def link_times(settings, folder):
+    """A function that answers the link times of an assignment of PEER, run in this folder."""
+    def assign(words, files):
+        case = case_maker.Case([word.encode("ascii") for word in words], files)
+        outcome = run_peer(settings, case, folder)
+        return outcome.files["link_performance.csv"] if outcome.status == 0 else None
+    return assign
 
 
 def value_of(words, name):
@@ -124,11 +155,11 @@ def try_case(job):
     """Runs one case; its number, the status, the command, and where it differs also how and the
     folder."""
     settings, number = job
-    case = case_maker.make_case(random.Random(f"{settings.seed}:{number}"))
     folder = tempfile.mkdtemp(prefix=f"case_{settings.seed}_{number}_", dir=settings.folder)
-    stage = [] if settings.stage == 0 else ["--stage", str(settings.stage)]
+    case = case_maker.make_case(random.Random(f"{settings.seed}:{number}"),
+                                link_times(settings, os.path.join(folder, "times")), settings.only)
     got = run([settings.program], case, os.path.join(folder, "program"))
-    wanted = run([settings.peer] + stage, case, os.path.join(folder, "peer"))
+    wanted = run_peer(settings, case, os.path.join(folder, "peer"))
     found = differences(case, got, wanted)
     if found or settings.case is not None:
         keep(folder, case, {"program": got, "peer": wanted})
@@ -149,6 +180,7 @@ def read_settings():
     reader.add_argument("--jobs", type=int, default=2)
     reader.add_argument("--case", type=int)
     reader.add_argument("--all", action="store_true")
+    reader.add_argument("--only", choices=list(case_maker.SHARES))
     return reader.parse_args()
 
 

@@ -69,6 +69,38 @@ agent_id,o_zone_id,d_zone_id,departure_step,arrival_step,status,link_ids,entry_s
 1,1,3,18,26,arrived,10;20,18;22
 2,1,3,30,,running,10;20,30;34
 TEXT
+mv link_performance.csv times.csv
+ends 'every option of skim' 0 "$program" skim --step 12 --jam 250 --length-unit km \
+    --speed-unit mph --horizon 36 --bucket 20 --at '0;35' >report 2>watch
+has 'every option of skim' report <<'TEXT'
+nodes 3
+links 2
+zones 2
+entries 4
+TEXT
+has 'every option of skim' skim.csv <<'TEXT'
+o_zone_id,d_zone_id,start_step,least_steps
+1,3,0,8
+1,3,35,8
+3,1,0,
+3,1,35,
+TEXT
+ends 'every option of counts' 0 "$program" counts --step 12 --jam 250 --length-unit km \
+    --speed-unit mph --horizon 36 --period 36 --iterations 2 --workers 3 --bucket 20 \
+    --queue spatial --link 20 --plain >report 2>>watch
+has 'every option of counts' counts.csv <<'TEXT'
+kind,first,second,from_step,to_step,vehicles
+turn,10,20,0,20,1
+turn,10,20,20,36,2
+through,1,3,0,36,3
+TEXT
+has 'no Watch' watch </dev/null
+sed -n '6,8p' report >states
+has 'every option of counts' states <<'TEXT'
+arrived 2
+running 1
+waiting 0
+TEXT
 
 # A file that takes the first part of a piece and then no more.
 tables 300

@@ -12,7 +12,7 @@ use Rattle.dta_model.specs.Trace.{Move, moves_of}
 use Rattle.dta_model.specs.declared.plan.Plan.{Plan}
 use Rattle.link_times.specs.Journeys.{HasGone}
 use Rattle.link_times.proofs.Gone.{absent}
-use Rattle.counts.specs.Gathered.{AreAdded, AreCounts, AreTurns, AreWithin, IsWithin, counts_among, is_turn, turns_along}
+use Rattle.counts.specs.Inside.Turns.{AreAdded, AreCounts, AreTurns, AreWithin, IsWithin, counts_among, is_turn, turns_along}
 use Rattle.counts.specs.Turns.{all_turns, taking, times_taken, turn_count, turn_counts, turn_counts_in}
 use Rattle.counts.specs.declared.turn_counts.TurnCount.{TurnCount}
 use Rattle.counts.specs.declared.turns.TimedTurn.{TimedTurn}

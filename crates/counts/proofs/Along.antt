@@ -9,7 +9,7 @@ use Rattle.dta_model.specs.Trace.{Arrived, Move, Onto, last_move, last_moves, le
 use Rattle.dta_model.proofs.Pushes.{last_move-own}
 use Rattle.link_times.specs.Journeys.{moves_along}
 use Rattle.link_times.proofs.Places.{bucket_inside}
-use Rattle.counts.specs.Gathered.{IsWithin, is_turn, turns_after, turns_along}
+use Rattle.counts.specs.Inside.Turns.{IsWithin, is_turn, turns_after, turns_along}
 use Rattle.counts.specs.Turns.{takes, timed, times_taken}
 use Rattle.counts.specs.declared.turns.TimedTurn.{TimedTurn}
 use Rattle.counts.proofs.OverVehicles.{taken, taken-more, taken-none}

@@ -14,22 +14,22 @@ use Rattle.dta_model.proofs.Pushes.{has_moved_is}
 use Rattle.dta_model.proofs.Totals.{sum_alike}
 use Rattle.link_times.proofs.Gone.{absent}
 use Rattle.counts.specs.Orders.{SameThroughCounts, SameTurnCounts}
-use Rattle.counts.specs.Through.{above_zones, all_pairs, goes_between, number_through, passes, through_count, through_counts, through_counts_in}
+use Rattle.counts.specs.Through.{above_zones, all_pairs, goes_between, number_through, enters, through_count, through_counts, through_counts_in}
 use Rattle.counts.specs.Turns.{all_turns, times_taken, turn_count, turn_counts, turn_counts_in}
 use Rattle.counts.specs.declared.turns.TimedTurn.{TimedTurn}
 use Rattle.counts.proofs.Counting.{counts-same}
 use Rattle.counts.proofs.OverVehicles.{over_vehicles}
 
 module _ (p : Plan) (T U : List Move) (moves : (v : ℕ) → moves_of v T ≡ moves_of v U) where
-  passes-same : (l v : ℕ) → passes l T v ≡ passes l U v
-  unfolding passes
-  passes-same l v = ap (list_any (leads_to l)) (moves v)
+  enters-same : (l v : ℕ) → enters l T v ≡ enters l U v
+  unfolding enters
+  enters-same l v = ap (list_any (leads_to l)) (moves v)
 
   through-same : (l : ℕ) → through_counts_in p l T ≡ through_counts_in p l U
   unfolding through_counts_in number_through
   through-same l =
       counts-same through_count (λ q. number_through p l T q (vehicles_of p)) (λ q. number_through p l U q (vehicles_of p))
-      (λ q. count_same (λ v. goes_between p q v && passes l T v) (λ v. goes_between p q v && passes l U v) (λ v. ap (λ b. goes_between p q v && b) (passes-same l v)) (vehicles_of p))
+      (λ q. count_same (λ v. goes_between p q v && enters l T v) (λ v. goes_between p q v && enters l U v) (λ v. ap (λ b. goes_between p q v && b) (enters-same l v)) (vehicles_of p))
       (all_pairs (above_zones p.trips))
 
   module _ (n : ℕ) (none : (v : ℕ) → n ≤ v → has_moved v U ≡ false) where

@@ -5,7 +5,8 @@ use Rattle.std.proofs.lemmas.List.{get_or_default}
 use Rattle.std.proofs.lemmas.List.Sums.{sum_by-cons, sum_by_push}
 use Rattle.std.proofs.lemmas.List.Elements.{All-cons, All-head, All-nil, All-tail}
 use Rattle.std.proofs.lemmas.Bool.{lt-ltb}
-use Rattle.counts.specs.Counting.{counts_of, with_one}
+use Rattle.counts.specs.Counting.{counts_of}
+use Rattle.counts.specs.Inside.Counting.{with_one}
 
 -- each element has a property
 abbrev pub Each : {K : Type 0} → (K → Type 0) → List K → Type 0

@@ -6,6 +6,7 @@ pub mod PairOrder
 pub mod OverVehicles
 pub mod Along
 pub mod Adding
-pub mod Passed
+pub mod Entered
 pub mod AnyOrder
 pub mod OfNet
+pub mod TextFacts

@@ -9,7 +9,7 @@ use Rattle.dta_model.specs.LinkTimes.{buckets_to}
 use Rattle.dta_model.specs.Loading.{trace_after}
 use Rattle.dta_model.specs.declared.plan.Plan.{Plan}
 use Rattle.counts.specs.Counting.{counts_of}
-use Rattle.counts.specs.Gathered.{IsWithin}
+use Rattle.counts.specs.Inside.Turns.{IsWithin}
 use Rattle.counts.specs.Turns.{IsOfNet, all_turns, timed, times_taken, turn_count, turn_counts, turn_counts_in, turns_between, turns_from}
 use Rattle.counts.proofs.Counting.{Each, counts-cons}
 use Rattle.counts.proofs.InOrder.{Each-flat_of, Each-map_of}
@@ -48,9 +48,9 @@ counts-keep {K} {C} count f P Q h (k ∷ keys) all = subst (λ L. All Q L) (sym 
     by true rest = All-cons Q (count k (f k)) (counts_of count f keys) (h k (f k) all.0) rest
     by false rest = rest
 
-pub turns_of_net : (p : Plan) (bucket : ℕ) → 1 ≤ bucket → All (IsOfNet p bucket) (turn_counts p bucket)
+pub turns_of_net : (p : Plan) (bucket : ℕ) → 1 ≤ bucket → All (IsOfNet p.net p.horizon bucket) (turn_counts p bucket)
 unfolding turn_counts turn_counts_in
 turns_of_net p bucket h =
-    counts-keep turn_count (λ t. times_taken bucket t (trace_after p p.horizon)) (IsWithin (length p.net.links) (buckets_to bucket p.horizon)) (IsOfNet p bucket)
+    counts-keep turn_count (λ t. times_taken bucket t (trace_after p p.horizon)) (IsWithin (length p.net.links) (buckets_to bucket p.horizon)) (IsOfNet p.net p.horizon bucket)
     (λ t n w. record { first = w.first; second = w.second; begins = begins bucket p.horizon t.bucket h w.early })
     (all_turns (length p.net.links) (buckets_to bucket p.horizon)) (turns_within (length p.net.links) (buckets_to bucket p.horizon))

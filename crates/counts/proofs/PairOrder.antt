@@ -9,8 +9,8 @@ use Rattle.std.proofs.lemmas.List.{take_more}
 use Rattle.std.proofs.lemmas.Cmp.{nat_cmp_total, on_total, then_total, tied_itself}
 use Rattle.net_core.specs.Network.{numbers_below}
 use Rattle.counts.specs.Counting.{counts_of}
-use Rattle.counts.specs.Passing.{IsBelow, counts_among, is_count_of, with_pair}
-use Rattle.counts.specs.Through.{all_pairs, is_pair, pair, pair_order, pairs_from, through_count}
+use Rattle.counts.specs.Inside.Pairs.{IsBelow, counts_among, is_count_of, pair_order, with_pair}
+use Rattle.counts.specs.Through.{all_pairs, is_pair, pair, pairs_from, through_count}
 use Rattle.counts.specs.declared.through.ZonePair.{ZonePair}
 use Rattle.counts.specs.declared.through_counts.ThroughCount.{ThroughCount}
 use Rattle.counts.proofs.Counting.{Among, Each, Each-weaker, IsCounting, Rising, counts-none, one_more, with_one-most}

@@ -10,8 +10,8 @@ use Rattle.std.specs.declared.cmp.Ordering.TheVariants.{Equal, Less}
 use Rattle.std.proofs.lemmas.Cmp.{nat_cmp_total, on_total, then_total, tied_itself}
 use Rattle.net_core.specs.Network.{numbers_below}
 use Rattle.counts.specs.Counting.{counts_of}
-use Rattle.counts.specs.Gathered.{IsWithin, counts_among, is_count_of, is_turn, with_turn}
-use Rattle.counts.specs.Turns.{all_turns, turns_between, turns_from, timed, turn_count, turn_order}
+use Rattle.counts.specs.Inside.Turns.{IsWithin, counts_among, is_count_of, is_turn, turn_order, with_turn}
+use Rattle.counts.specs.Turns.{all_turns, turns_between, turns_from, timed, turn_count}
 use Rattle.counts.specs.declared.turn_counts.TurnCount.{TurnCount}
 use Rattle.counts.specs.declared.turns.TimedTurn.{TimedTurn}
 use Rattle.counts.proofs.Counting.{Among, Each, Each-weaker, IsCounting, Rising, counts-none, one_more, with_one-most}

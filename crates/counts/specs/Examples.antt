@@ -1,13 +1,18 @@
--- Small worked cases of turn counts and through counts.
-use Rattle.std.specs.Prelude.{◌≡◌, ℕ, List, [], ◌∷◌, Some, refl, ⊤}
+-- Small worked cases of turn counts and through counts, and of their text.
+use Rattle.std.specs.Fmt.{digits}
+use Rattle.std.specs.Prelude.{◌≡◌, ℕ, List, [], ◌∷◌, Some, codes, refl, ⊤}
+use Rattle.net_core.specs.Rows.{link_in}
 use Rattle.net_core.specs.declared.rows.NetRows.{NetRows}
-use Rattle.dta_model.specs.Examples.{link, node, number, trip, two_links_in_a_line, two_links_merge}
+use Rattle.dta_model.specs.Examples.{in_a_line, link, node, number, trip, two_links_in_a_line}
+use Rattle.dta_model.specs.Examples.{two_links_merge}
 use Rattle.dta_model.specs.Loading.{journeys_of}
 use Rattle.dta_model.specs.OnLiterals.{loadings_on_literals}
 use Rattle.dta_model.specs.Trace.{Move, Onto}
 use Rattle.dta_model.specs.declared.plan.Plan.{Plan}
-use Rattle.counts.specs.Through.{above_zones, all_pairs, goes_between, number_through, pairs_from}
-use Rattle.counts.specs.Through.{passes, through_counts, through_counts_in}
+use Rattle.counts.specs.Text.{counts_header, counts_text, through_line, through_lines, turn_line}
+use Rattle.counts.specs.Text.{turn_lines}
+use Rattle.counts.specs.Through.{above_zones, all_pairs, enters, goes_between, number_through}
+use Rattle.counts.specs.Through.{pairs_from, through_counts, through_counts_in}
 use Rattle.counts.specs.Turns.{all_turns, turns_between, turns_from, takes, taking, times_taken}
 use Rattle.counts.specs.Turns.{turn_counts, turn_counts_in}
 use Rattle.counts.specs.declared.through_counts.ThroughCount.{ThroughCount}
@@ -19,7 +24,7 @@ unfolding turn_counts turn_counts_in all_turns turns_from turns_between times_ta
 turns_on_literals = tt
 
 unfoldable through_on_literals : ⊤
-unfolding through_counts through_counts_in number_through goes_between passes above_zones all_pairs
+unfolding through_counts through_counts_in number_through goes_between enters above_zones all_pairs
     pairs_from
 through_on_literals = tt
 
@@ -93,7 +98,7 @@ turns_round : turn_counts twice_round 60 ≡ count 0 1 0 1 ∷ count 1 1 0 1 ∷
 unfolding loadings_on_literals trip two_links_in_a_line twice_round turns_on_literals
 turns_round = refl
 
--- it passes the loop twice, and counts once
+-- it enters the loop twice, and counts once
 round_once : through_counts twice_round 1 ≡ between 1 3 1 ∷ []
 unfolding loadings_on_literals trip two_links_in_a_line twice_round through_on_literals
 round_once = refl
@@ -119,3 +124,28 @@ by_value :
     ≡ between 2 4 1 ∷ between 2 5 1 ∷ between 5 2 1 ∷ []
 unfolding loadings_on_literals two_links_in_a_line both_ways three_moves through_on_literals
 by_value = refl
+
+-- ---- the text of counts of the first case, over a network whose links have other identifiers than
+-- their places, in buckets of fifty steps up to step 60
+abbrev tens : NetRows
+tens = in_a_line (link 10 0 1 10 125 600000000) (link 20 1 2 10 125 600000000) []
+
+unfoldable text_on_literals : ⊤
+unfolding counts_text counts_header turn_lines turn_line through_lines through_line link_in digits
+text_on_literals = tt
+
+counts-out : counts_text tens (count 0 1 0 3 ∷ []) (between 1 3 3 ∷ []) 50 60
+    ≡ codes "kind,first,second,from_step,to_step,vehicles\nturn,10,20,0,50,3\nthrough,1,3,0,60,3\n"
+unfolding text_on_literals
+counts-out = refl
+
+-- the horizon cuts the second bucket short; without a link there are no through counts
+cut_short : counts_text tens (count 1 0 1 12 ∷ []) [] 50 60
+    ≡ codes "kind,first,second,from_step,to_step,vehicles\nturn,20,10,50,60,12\n"
+unfolding text_on_literals
+cut_short = refl
+
+-- nothing was counted
+no-counts : counts_text tens [] [] 50 60 ≡ codes "kind,first,second,from_step,to_step,vehicles\n"
+unfolding text_on_literals
+no-counts = refl

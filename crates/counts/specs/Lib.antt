@@ -1,7 +1,7 @@
 pub mod Counting
 pub mod Turns
 pub mod Through
-pub mod Gathered
-pub mod Passing
+pub mod Text
 pub mod Orders
+pub mod Inside
 pub mod Examples

@@ -1,9 +1,7 @@
--- Vehicles that pass a link, and how many of them go between two zones.
+-- Vehicles that enter a link, and how many of them go between two zones.
 use Rattle.std.specs.List.{flat_map, list_any}
-use Rattle.std.specs.Ordering.{nat_cmp, ordering_then}
 use Rattle.std.specs.Prelude.{ℕ, suc, max, Bool, false, ◌&&◌, nat_eq, List, [], ◌∷◌, map, count_by}
 use Rattle.std.specs.Prelude.{Option, None, Some, slice_get}
-use Rattle.std.specs.declared.cmp.Ordering.{Ordering}
 use Rattle.net_core.specs.Network.{numbers_below}
 use Rattle.dta_model.specs.Loading.{trace_after}
 use Rattle.dta_model.specs.Plans.{vehicles_of}
@@ -14,9 +12,9 @@ use Rattle.counts.specs.Counting.{counts_of}
 use Rattle.counts.specs.declared.through.ZonePair.{ZonePair}
 use Rattle.counts.specs.declared.through_counts.ThroughCount.{ThroughCount}
 
--- whether a vehicle passes link l: some move of it leads there
-unfoldable pub passes : ℕ → List Move → ℕ → Bool
-passes l T v = list_any (leads_to l) (moves_of v T)
+-- whether a vehicle enters link l: some move of it leads there
+unfoldable pub enters : ℕ → List Move → ℕ → Bool
+enters l T v = list_any (leads_to l) (moves_of v T)
 
 abbrev pub pair : ℕ → ℕ → ZonePair
 pair origin destination = record { origin = origin; destination = destination }
@@ -37,9 +35,9 @@ is_that q (Some x) = is_pair q x
 unfoldable pub goes_between : Plan → ZonePair → ℕ → Bool
 goes_between p q v = is_that q (zones_in (slice_get p.trips v))
 
--- how many of some vehicles go between these zones and pass link l
+-- how many of some vehicles go between these zones and enter link l
 unfoldable pub number_through : Plan → ℕ → List Move → ZonePair → List ℕ → ℕ
-number_through p l T q vehicles = count_by (λ v. goes_between p q v && passes l T v) vehicles
+number_through p l T q vehicles = count_by (λ v. goes_between p q v && enters l T v) vehicles
 
 -- a number above the identifiers of all zones of trips
 unfoldable pub above_zones : List Trip → ℕ
@@ -53,15 +51,11 @@ pairs_from most origin = map (pair origin) (numbers_below most)
 unfoldable pub all_pairs : ℕ → List ZonePair
 all_pairs most = flat_map (pairs_from most) (numbers_below most)
 
--- the order in which they come
-abbrev pub pair_order : ZonePair → ZonePair → Ordering
-pair_order x y = ordering_then (nat_cmp x.origin y.origin) (nat_cmp x.destination y.destination)
-
 abbrev pub through_count : ZonePair → ℕ → ThroughCount
 through_count q vehicles =
     record { origin = q.origin; destination = q.destination; vehicles = vehicles }
 
--- the through counts of link l in a trace: how many vehicles of each pair of zones pass it, in
+-- the through counts of link l in a trace: how many vehicles of each pair of zones enter it, in
 -- order, without those of 0
 unfoldable pub through_counts_in : Plan → ℕ → List Move → List ThroughCount
 through_counts_in p l T =

@@ -1,10 +1,9 @@
--- Turns that vehicles take, and how many take each in each bucket.
+-- Turns that vehicles take, and how many moves take each in each bucket.
 use Rattle.std.specs.List.{flat_map}
-use Rattle.std.specs.Ordering.{nat_cmp, ordering_then}
 use Rattle.std.specs.Prelude.{ℕ, ◌*◌, ◌/◌, ◌<◌, Bool, cond, ◌&&◌, nat_eq, List, [], ◌∷◌, ◌++◌}
 use Rattle.std.specs.Prelude.{length, map}
-use Rattle.std.specs.declared.cmp.Ordering.{Ordering}
 use Rattle.net_core.specs.Network.{numbers_below}
+use Rattle.net_core.specs.declared.rows.NetRows.{NetRows}
 use Rattle.dta_model.specs.LinkTimes.{buckets_to}
 use Rattle.dta_model.specs.Loading.{trace_after}
 use Rattle.dta_model.specs.Trace.{Move, leads_to, stands_on}
@@ -44,11 +43,6 @@ turns_from links buckets a = flat_map (turns_between buckets a) (numbers_below l
 unfoldable pub all_turns : ℕ → ℕ → List TimedTurn
 all_turns links buckets = flat_map (turns_from links buckets) (numbers_below links)
 
--- the order in which they come
-abbrev pub turn_order : TimedTurn → TimedTurn → Ordering
-turn_order x y =
-    ordering_then (nat_cmp x.a y.a) (ordering_then (nat_cmp x.b y.b) (nat_cmp x.bucket y.bucket))
-
 abbrev pub turn_count : TimedTurn → ℕ → TurnCount
 turn_count t vehicles = record {
   a = record { 0 = t.a };
@@ -68,8 +62,9 @@ turn_counts_in p bucket T =
 unfoldable pub turn_counts : Plan → ℕ → List TurnCount
 turn_counts p bucket = turn_counts_in p bucket (trace_after p p.horizon)
 
--- a count of a turn between links of the table, in a bucket that begins below the horizon
-pub record IsOfNet (p : Plan) (length_of_bucket : ℕ) (c : TurnCount) : Type 0 where
-  pub first : c.a.0 < length p.net.links
-  pub second : c.b.0 < length p.net.links
-  pub begins : c.bucket * length_of_bucket < p.horizon
+-- a count of a turn between links of the network, in a bucket of so many steps that begins below the
+-- horizon
+pub record IsOfNet (net : NetRows) (horizon bucket : ℕ) (c : TurnCount) : Type 0 where
+  pub first : c.a.0 < length net.links
+  pub second : c.b.0 < length net.links
+  pub begins : c.bucket * bucket < horizon

@@ -1,4 +1,4 @@
-// Vehicles that pass a link, gathered by their zones, put in order and counted.
+// Vehicles that enter a link, gathered by their zones, put in order and counted.
 ghost use Rattle.std.specs.Prelude.{◌≡◌, ◌+◌, ◌<◌, ◌≤◌, ◌^◌, length, All, IfOk, OnOk, Some};
 ghost use Rattle.std.specs.Prelude.{nat_eq, slice_get};
 ghost use Rattle.std.specs.List.{list_any};
@@ -6,8 +6,9 @@ ghost use Rattle.std.specs.List.Sorted.{IsSorted};
 ghost use Rattle.dta_model.specs.Lent.{plan_of};
 ghost use Rattle.dta_model.specs.Loading.{journeys_of, trace_after};
 ghost use Rattle.dta_model.specs.Sound.{IsSound};
-ghost use Rattle.counts.specs.Passing.{ArePairCounts, ArePairs, is_count_of, with_pair};
-ghost use Rattle.counts.specs.Through.{pair_order, passes, through_counts, zones_in};
+ghost use Rattle.counts.specs.Inside.Pairs.{ArePairCounts, ArePairs};
+ghost use Rattle.counts.specs.Inside.Pairs.{is_count_of, pair_order, with_pair};
+ghost use Rattle.counts.specs.Through.{enters, through_counts, zones_in};
 
 use crate::through_counts::{ThroughCount, ThroughCounts};
 use dta_model::{Loaded, Loading, Trip};
@@ -53,7 +54,7 @@ fn enters(loading: &Loading, loaded: &Loaded, link: LinkNo, vehicle: u32) -> boo
     requires sound { IsSound (plan_of loading.now) }
     requires loaded { loaded.now ≡ journeys_of (plan_of loading.now) }
     requires vehicle { vehicle < length loading.now.trips.now }
-    ensures { result ≡ passes link.0
+    ensures { result ≡ enters link.0
         (trace_after (plan_of loading.now) loading.now.horizon) vehicle }
 {
     match loading.routes.get(vehicle) {

@@ -1,9 +1,9 @@
-// How many vehicles pass a link, by the zones between which they go.
+// How many vehicles enter a link, by the zones between which they go.
 ghost use Rattle.std.specs.Prelude.{◌≡◌};
 
 use std::marker::Model;
 
-/// How many vehicles from a zone to a zone, by their identifiers, pass a link.
+/// How many vehicles from a zone to a zone, by their identifiers, enter a link. Each counts once.
 #[derive(Clone, Copy, Debug, PartialEq, Eq, Drop)]
 pub struct ThroughCount {
     pub origin: u64,

@@ -1,11 +1,11 @@
-// How many vehicles take each turn in each bucket.
+// How many moves take each turn in each bucket.
 ghost use Rattle.std.specs.Prelude.{◌≡◌};
 
 use net_core::LinkNo;
 use std::marker::Model;
 
-/// How many vehicles go from a link to another in a bucket of steps. Bucket k has the steps from k
-/// times its length on.
+/// How many moves go from a link to another in a bucket of steps. A vehicle that makes two of them
+/// counts twice in `vehicles`. Bucket k has the steps from k times its length on.
 #[derive(Clone, Copy, Debug, PartialEq, Eq, Drop)]
 pub struct TurnCount {
     pub a: LinkNo,

@@ -5,9 +5,9 @@ ghost use Rattle.dta_model.specs.Lent.{plan_of};
 ghost use Rattle.dta_model.specs.Loading.{journeys_of, trace_after};
 ghost use Rattle.dta_model.specs.Sound.{IsSound};
 ghost use Rattle.dta_model.specs.Trace.{moves_of};
-ghost use Rattle.counts.specs.Gathered.{AreAdded, AreCounts, AreTurns};
-ghost use Rattle.counts.specs.Gathered.{is_count_of, turns_along, with_turn};
-ghost use Rattle.counts.specs.Turns.{IsOfNet, turn_counts, turn_order};
+ghost use Rattle.counts.specs.Inside.Turns.{AreAdded, AreCounts, AreTurns};
+ghost use Rattle.counts.specs.Inside.Turns.{is_count_of, turn_order, turns_along, with_turn};
+ghost use Rattle.counts.specs.Turns.{IsOfNet, turn_counts};
 
 use crate::turn_counts::{TurnCount, TurnCounts};
 use dta_model::{Loaded, Loading};
@@ -22,9 +22,9 @@ pub struct TimedTurn {
     pub bucket: u32,
 }
 
-/// How many vehicles take each turn in each bucket of so many steps: moves from a link to another
-/// up to the horizon, by the step in which the vehicle enters the second. The links come in table
-/// order, and what no vehicle takes is left out.
+/// How many moves from a link to another there are in each bucket of so many steps, up to the
+/// horizon. A vehicle that takes a turn twice in a bucket counts twice there. The links come in
+/// table order, and what no move takes is left out.
 pub fn count_turns(
     alloc: Global,
     loading: &Loading,
@@ -35,7 +35,8 @@ pub fn count_turns(
     requires loaded { loaded.now ≡ journeys_of (plan_of loading.now) }
     requires bucket { 1 ≤ bucket }
     ensures counts { IfOk result (λ counts. counts ≡ turn_counts (plan_of loading.now) bucket) }
-    ensures of_net { IfOk result (λ counts. All (IsOfNet (plan_of loading.now) bucket) counts) }
+    ensures of_net { IfOk result (λ counts.
+        All (IsOfNet loading.now.net.now loading.now.horizon bucket) counts) }
 {
     let mut turns = gathered(alloc, loading, loaded, bucket)?;
     turns.sort_unstable();

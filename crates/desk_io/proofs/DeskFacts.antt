@@ -5,9 +5,9 @@ use Rattle.std.specs.Prelude.{Option, None, Some}
 use Rattle.std.specs.Io.KnownBytes.{prepend_known, append_known}
 use Rattle.desk_io.specs.Desk.{Left, Taken, before_left, grown}
 use Rattle.desk_io.specs.declared.desk.Table.{Table}
-use Rattle.desk_io.specs.declared.desk.Table.TheVariants.{Node, Link, Movement, Demand}
+use Rattle.desk_io.specs.declared.desk.Table.TheVariants.{Node, Link, Movement, Demand, Times}
 use Rattle.desk_io.specs.declared.desk.Output.{Output}
-use Rattle.desk_io.specs.declared.desk.Output.TheVariants.{Agent, LinkTime, Gap, Report, Watch}
+use Rattle.desk_io.specs.declared.desk.Output.TheVariants.{Agent, LinkTime, Gap, Report, Watch, Skim, Counts}
 
 pub append_known-append_known : (k : Option (List ℕ)) (a b : List ℕ) → append_known (append_known k a) b ≡ append_known k (a ++ b)
 append_known-append_known None a b = refl
@@ -23,6 +23,8 @@ grown-grown LinkTime a b t = ap (λ k. record t { link_time = k }) (append_known
 grown-grown Gap a b t = ap (λ k. record t { gap = k }) (append_known-append_known t.gap a b)
 grown-grown Report a b t = ap (λ k. record t { report = k }) (append_known-append_known t.report a b)
 grown-grown Watch a b t = ap (λ k. record t { watch = k }) (append_known-append_known t.watch a b)
+grown-grown Skim a b t = ap (λ k. record t { skim = k }) (append_known-append_known t.skim a b)
+grown-grown Counts a b t = ap (λ k. record t { counts = k }) (append_known-append_known t.counts a b)
 
 pub append_known-empty : (k : Option (List ℕ)) → append_known k [] ≡ k
 append_known-empty None = refl
@@ -34,6 +36,8 @@ grown-empty LinkTime t = ap (λ k. record t { link_time = k }) (append_known-emp
 grown-empty Gap t = ap (λ k. record t { gap = k }) (append_known-empty t.gap)
 grown-empty Report t = ap (λ k. record t { report = k }) (append_known-empty t.report)
 grown-empty Watch t = ap (λ k. record t { watch = k }) (append_known-empty t.watch)
+grown-empty Skim t = ap (λ k. record t { skim = k }) (append_known-empty t.skim)
+grown-empty Counts t = ap (λ k. record t { counts = k }) (append_known-empty t.counts)
 
 pub prepend_known-empty : (k : Option (List ℕ)) → prepend_known [] k ≡ k
 prepend_known-empty None = refl
@@ -44,12 +48,14 @@ before_left-before_left Node a b l = ap (λ k. record l { node = k }) (prepend_k
 before_left-before_left Link a b l = ap (λ k. record l { link = k }) (prepend_known-prepend_known l.link a b)
 before_left-before_left Movement a b l = ap (λ k. record l { movement = k }) (prepend_known-prepend_known l.movement a b)
 before_left-before_left Demand a b l = ap (λ k. record l { demand = k }) (prepend_known-prepend_known l.demand a b)
+before_left-before_left Times a b l = ap (λ k. record l { times = k }) (prepend_known-prepend_known l.times a b)
 
 pub before_left-empty : (t : Table) (l : Left) → before_left t [] l ≡ l
 before_left-empty Node l = ap (λ k. record l { node = k }) (prepend_known-empty l.node)
 before_left-empty Link l = ap (λ k. record l { link = k }) (prepend_known-empty l.link)
 before_left-empty Movement l = ap (λ k. record l { movement = k }) (prepend_known-empty l.movement)
 before_left-empty Demand l = ap (λ k. record l { demand = k }) (prepend_known-empty l.demand)
+before_left-empty Times l = ap (λ k. record l { times = k }) (prepend_known-empty l.times)
 
 -- the lemmas for a loop over a desk
 pub ruleset desk_facts = (grown-grown, grown-empty, before_left-before_left, before_left-empty)

@@ -1,11 +1,11 @@
 -- Small cases of the definitions, computed.
 use Rattle.std.specs.Prelude.{◌≡◌, refl, codes, [], ◌∷◌, Some, true, false, ◌^◌, ◌-◌}
 use Rattle.std.proofs.Math.Nat.{le_refl, lt_irrefl, le-add_right}
-use Rattle.desk_io.specs.declared.desk.Table.TheVariants.{Link}
-use Rattle.desk_io.specs.declared.desk.Output.TheVariants.{Report, Watch}
-use Rattle.desk_io.specs.Desk.{before_left, grown}
+use Rattle.desk_io.specs.declared.desk.Table.TheVariants.{Link, Times}
+use Rattle.desk_io.specs.declared.desk.Output.TheVariants.{Counts, Report, Skim, Watch}
+use Rattle.desk_io.specs.Desk.{before_left, grown, taken_of}
 use Rattle.desk_io.specs.Faults.{last_count, Rose}
-use Rattle.desk_io.specs.MemDesk.{all_left, all_taken, is_listed, number_after}
+use Rattle.desk_io.specs.MemDesk.{all_left, all_taken, is_listed, number_after, with_times}
 use Rattle.desk_io.specs.TallyDesk.{count_of, counted, no_counts}
 use Rattle.desk_io.specs.Transfers.{IsPartOut}
 
@@ -18,6 +18,15 @@ a-link-table-half-read = refl
 two-puts : grown Report (codes "\n") (grown Report (codes "nodes 3") (all_taken [] [] [] [] []))
     ≡ all_taken [] [] [] (codes "nodes 3\n") []
 two-puts = refl
+
+-- a desk whose table of link times was half read
+a-times-table-half-read : with_times (codes "link_id") (all_left [] [] [] [])
+    ≡ before_left Times (codes "link_") (with_times (codes "id") (all_left [] [] [] []))
+a-times-table-half-read = refl
+
+-- what Skim takes isn't in Counts
+skim-alone : taken_of Counts (grown Skim (codes "1") (all_taken [] [] [] [] [])) ≡ Some []
+skim-alone = refl
 
 -- the second call is listed
 the-second-call : is_listed (2 ∷ 5 ∷ []) (number_after (Some 1)) ≡ true

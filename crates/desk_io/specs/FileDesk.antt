@@ -1,13 +1,15 @@
 -- A desk over files tells no bytes.
 use Rattle.std.specs.Prelude.{ℕ, None}
 use Rattle.desk_io.specs.Desk.{Left, Taken}
+use Rattle.desk_io.specs.TallyDesk.{nothing_told}
 use Rattle.desk_io.specs.declared.file_desk.FileDesk.{FileDesk}
 
 abbrev pub untold_left : {R W : Type 0} → FileDesk R W → Left
-untold_left d = record { node = None; link = None; movement = None; demand = None }
+untold_left d =
+    record { node = None; link = None; movement = None; demand = None; times = None }
 
 abbrev pub untold_taken : {R W : Type 0} → FileDesk R W → Taken
-untold_taken d = record { agent = None; link_time = None; gap = None; report = None; watch = None }
+untold_taken d = nothing_told
 
 abbrev pub failed_reads : {R W : Type 0} → FileDesk R W → ℕ
 failed_reads d = d.read_faults

@@ -1,5 +1,5 @@
 -- A desk in memory as a clause sees it.
-use Rattle.std.specs.Prelude.{ℕ, ◌+◌, ◌^◌, ◌==◌, nat_lt, Bool, false, List, Option, None, Some}
+use Rattle.std.specs.Prelude.{ℕ, ◌+◌, ◌^◌, ◌==◌, nat_lt, Bool, false, List, [], Option, None, Some}
 use Rattle.std.specs.Prelude.{if◌then◌else◌}
 use Rattle.std.specs.List.{list_any}
 use Rattle.desk_io.specs.Desk.{Left, Taken}
@@ -31,15 +31,21 @@ abbrev pub number_after : Option ℕ → Option ℕ
 number_after None = None
 number_after (Some number) = if nat_lt (number + 1) (2 ^ 64) then Some (number + 1) else None
 
--- every text is told, and no output has taken anything
+-- every text is told; the table of link times has zero bytes
 abbrev pub all_left : List ℕ → List ℕ → List ℕ → List ℕ → Left
 all_left node link movement demand = record {
   node = Some node;
   link = Some link;
   movement = Some movement;
   demand = Some demand;
+  times = Some [];
 }
 
+-- and with these bytes as the table of link times
+abbrev pub with_times : List ℕ → Left → Left
+with_times times left = record left { times = Some times }
+
+-- every output tells what it has taken; the last two nothing
 abbrev pub all_taken : List ℕ → List ℕ → List ℕ → List ℕ → List ℕ → Taken
 all_taken agent link_time gap report watch = record {
   agent = Some agent;
@@ -47,4 +53,6 @@ all_taken agent link_time gap report watch = record {
   gap = Some gap;
   report = Some report;
   watch = Some watch;
+  skim = Some [];
+  counts = Some [];
 }

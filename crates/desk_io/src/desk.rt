@@ -3,13 +3,15 @@ ghost use Rattle.std.specs.Io.KnownBytes.{IsAtEnd};
 ghost use Rattle.desk_io.specs.Desk.{Left, Taken, left_of, before_left, grown};
 ghost use Rattle.desk_io.specs.Faults.{HasCause};
 
-/// A table that a desk hands out. The first three have the column names of GMNS.
+/// A table that a desk hands out. The first three have the column names of GMNS, and the last one
+/// is a table of link times as an assignment puts it.
 #[derive(Clone, Copy, Debug, PartialEq, Eq)]
 pub enum Table {
     Node,
     Link,
     Movement,
     Demand,
+    Times,
 }
 
 /// An output that a desk takes.
@@ -20,6 +22,8 @@ pub enum Output {
     Gap,
     Report,
     Watch,
+    Skim,
+    Counts,
 }
 
 /// A read or a put that failed. The desk's count of such failures rose in the call.

@@ -15,11 +15,12 @@ enum TableFile {
     Opened(File),
 }
 
-/// A desk over the current folder. It reads `node.csv`, `link.csv`, `movement.csv` and
-/// `demand.csv`, and puts to `agent.csv`, `link_performance.csv`, `gap.csv`, a stream for Report
-/// and one for Watch: standard output and standard error. A `movement.csv` that doesn't exist reads
-/// as zero bytes; another missing file fails. A file is made, and an older one emptied, at its
-/// first put of a piece that isn't empty. It tells nothing of contents, and counts each failure.
+/// A desk over the current folder. It reads `node.csv`, `link.csv`, `movement.csv`, `demand.csv`
+/// and `times.csv`, and puts to `agent.csv`, `link_performance.csv`, `gap.csv`, `skim.csv`,
+/// `counts.csv`, a stream for Report and one for Watch: standard output and standard error. A
+/// `movement.csv` that doesn't exist reads as zero bytes; another missing file fails. A file is
+/// made, and an older one emptied, at its first put of a piece that isn't empty. It tells nothing
+/// of contents, and counts each failure.
 #[derive(Drop)]
 pub struct FileDesk<R, W> {
     rt: HostRuntime,
@@ -27,9 +28,12 @@ pub struct FileDesk<R, W> {
     link: TableFile,
     movement: TableFile,
     demand: TableFile,
+    times: TableFile,
     agent: Option<File>,
     link_time: Option<File>,
     gap: Option<File>,
+    skim: Option<File>,
+    counts: Option<File>,
     pub(crate) report: R,
     pub(crate) watch: W,
     read_faults: u64,
@@ -57,9 +61,12 @@ impl<R, W> FileDesk<R, W> {
             link: TableFile::NotOpened,
             movement: TableFile::NotOpened,
             demand: TableFile::NotOpened,
+            times: TableFile::NotOpened,
             agent: None,
             link_time: None,
             gap: None,
+            skim: None,
+            counts: None,
             report,
             watch,
             read_faults: 0,
@@ -122,6 +129,8 @@ impl<R: Write, W: Write> FileDesk<R, W> {
             Output::Gap => made(&self.rt, &mut self.gap, "gap.csv")?.write(piece),
             Output::Report => self.report.write(piece),
             Output::Watch => self.watch.write(piece),
+            Output::Skim => made(&self.rt, &mut self.skim, "skim.csv")?.write(piece),
+            Output::Counts => made(&self.rt, &mut self.counts, "counts.csv")?.write(piece),
         }
     }
 }
@@ -143,6 +152,7 @@ impl<R: Write, W: Write> Desk for FileDesk<R, W> {
             Table::Link => read_file(&self.rt, &mut self.link, "link.csv", false, buf),
             Table::Movement => read_file(&self.rt, &mut self.movement, "movement.csv", true, buf),
             Table::Demand => read_file(&self.rt, &mut self.demand, "demand.csv", false, buf),
+            Table::Times => read_file(&self.rt, &mut self.times, "times.csv", false, buf),
         };
         match read {
             Ok(count) => Ok(count),

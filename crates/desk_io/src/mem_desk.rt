@@ -4,14 +4,14 @@ ghost use Rattle.std.specs.Prelude.{IsTrue, IsErr, is_err, IfOk, IfSome, OnOk, O
 ghost use Rattle.std.specs.Io.KnownBytes.{IsAtEnd};
 ghost use Rattle.desk_io.specs.Desk.{left_of, before_left, taken_of, grown};
 ghost use Rattle.desk_io.specs.Faults.{HasCause, last_count};
-ghost use Rattle.desk_io.specs.MemDesk.{is_listed, number_after, all_left, all_taken};
+ghost use Rattle.desk_io.specs.MemDesk.{is_listed, number_after, all_left, all_taken, with_times};
 
 use crate::source::Source;
 use crate::{Desk, Failed, Memory, Output, Table};
 use std::alloc::Global;
 use std::marker::Model;
 
-/// A desk in memory: four texts to read and five outputs that grow. It tells all, and calls can be
+/// A desk in memory: five texts to read and seven outputs that grow. It tells all, and calls can be
 /// listed to fail.
 #[derive(Drop)]
 pub struct MemDesk {
@@ -19,11 +19,14 @@ pub struct MemDesk {
     link: Source,
     movement: Source,
     demand: Source,
+    times: Source,
     agent: Vec<u8>,
     link_time: Vec<u8>,
     gap: Vec<u8>,
     report: Vec<u8>,
     watch: Vec<u8>,
+    skim: Vec<u8>,
+    counts: Vec<u8>,
     failing_reads: Vec<u64>,
     failing_puts: Vec<u64>,
     next_read: Option<u64>,
@@ -47,8 +50,8 @@ impl Model for MemDesk {
 }
 
 impl MemDesk {
-    /// A desk with these texts, of which no call is listed to fail and no call has a bound on its
-    /// bytes.
+    /// A desk with these texts and a table of link times of zero bytes, of which no call is listed
+    /// to fail and no call has a bound on its bytes.
     pub fn new(
         alloc: Global,
         node: Vec<u8>,
@@ -68,11 +71,14 @@ impl MemDesk {
             link: Source::new(link),
             movement: Source::new(movement),
             demand: Source::new(demand),
+            times: Source::new(Vec::new(alloc)),
             agent: Vec::new(alloc),
             link_time: Vec::new(alloc),
             gap: Vec::new(alloc),
             report: Vec::new(alloc),
             watch: Vec::new(alloc),
+            skim: Vec::new(alloc),
+            counts: Vec::new(alloc),
             failing_reads: Vec::new(alloc),
             failing_puts: Vec::new(alloc),
             next_read: Some(1),
@@ -82,6 +88,13 @@ impl MemDesk {
             put_faults: 0,
             starved: 0,
         }
+    }
+
+    /// Sets the table of link times, of which nothing is read yet.
+    pub fn set_times(&mut self, text: Vec<u8>)
+        ensures { self.new ≡ record self.old { left = with_times text.items self.old.left } }
+    {
+        self.times = Source::new(text);
     }
 
     /// What an output has taken.
@@ -94,6 +107,8 @@ impl MemDesk {
             Output::Gap => &self.gap,
             Output::Report => &self.report,
             Output::Watch => &self.watch,
+            Output::Skim => &self.skim,
+            Output::Counts => &self.counts,
         }
     }
 
@@ -214,6 +229,7 @@ impl Desk for MemDesk {
             Table::Link => self.link.read(buf, self.most),
             Table::Movement => self.movement.read(buf, self.most),
             Table::Demand => self.demand.read(buf, self.most),
+            Table::Times => self.times.read(buf, self.most),
         })
     }
 
@@ -256,6 +272,8 @@ impl Desk for MemDesk {
             Output::Gap => self.gap.extend_from_slice(&piece[..count]),
             Output::Report => self.report.extend_from_slice(&piece[..count]),
             Output::Watch => self.watch.extend_from_slice(&piece[..count]),
+            Output::Skim => self.skim.extend_from_slice(&piece[..count]),
+            Output::Counts => self.counts.extend_from_slice(&piece[..count]),
         };
         match grew {
             Ok(()) => Ok(count),

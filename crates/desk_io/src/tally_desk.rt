@@ -2,14 +2,14 @@
 ghost use Rattle.std.specs.Prelude.{◌≡◌, ◌<◌, ◌≤◌, length, take, min, IsOk, Ok, IfOk, IfSome};
 ghost use Rattle.std.specs.Io.KnownBytes.{IsAtEnd};
 ghost use Rattle.desk_io.specs.Desk.{left_of, before_left};
-ghost use Rattle.desk_io.specs.MemDesk.{all_left};
+ghost use Rattle.desk_io.specs.MemDesk.{all_left, with_times};
 ghost use Rattle.desk_io.specs.TallyDesk.{count_of, counted, no_counts, nothing_told};
 
 use crate::source::Source;
 use crate::{Desk, Failed, Output, Table};
 use std::marker::Model;
 
-/// A desk that reads four texts from memory, and of what it is given keeps the number of bytes
+/// A desk that reads five texts from memory, and of what it is given keeps the number of bytes
 /// alone. It never fails and takes no memory. It tells what is left, and no bytes that were put.
 #[derive(Drop)]
 pub struct TallyDesk {
@@ -17,11 +17,14 @@ pub struct TallyDesk {
     link: Source,
     movement: Source,
     demand: Source,
+    times: Option<Source>,
     agent: u64,
     link_time: u64,
     gap: u64,
     report: u64,
     watch: u64,
+    skim: u64,
+    counts: u64,
 }
 
 impl Model for TallyDesk {
@@ -35,7 +38,8 @@ impl Model for TallyDesk {
 }
 
 impl TallyDesk {
-    /// A desk with these texts, to which nothing is put yet.
+    /// A desk with these texts and a table of link times of zero bytes, to which nothing is put
+    /// yet.
     pub fn new(node: Vec<u8>, link: Vec<u8>, movement: Vec<u8>, demand: Vec<u8>) -> Self
         ensures left { result.left ≡ all_left node.items link.items movement.items demand.items }
         ensures counts { result.counts ≡ no_counts }
@@ -45,12 +49,22 @@ impl TallyDesk {
             link: Source::new(link),
             movement: Source::new(movement),
             demand: Source::new(demand),
+            times: None,
             agent: 0,
             link_time: 0,
             gap: 0,
             report: 0,
             watch: 0,
+            skim: 0,
+            counts: 0,
         }
+    }
+
+    /// Sets the table of link times, of which nothing is read yet.
+    pub fn set_times(&mut self, text: Vec<u8>)
+        ensures { self.new ≡ record self.old { left = with_times text.items self.old.left } }
+    {
+        self.times = Some(Source::new(text));
     }
 
     /// How many bytes an output has taken. The count stays at 2^64 - 1 once it is there.
@@ -63,6 +77,8 @@ impl TallyDesk {
             Output::Gap => self.gap,
             Output::Report => self.report,
             Output::Watch => self.watch,
+            Output::Skim => self.skim,
+            Output::Counts => self.counts,
         }
     }
 }
@@ -95,6 +111,10 @@ impl Desk for TallyDesk {
             Table::Link => self.link.read(buf, usize::MAX),
             Table::Movement => self.movement.read(buf, usize::MAX),
             Table::Demand => self.demand.read(buf, usize::MAX),
+            Table::Times => match &mut self.times {
+                Some(times) => times.read(buf, usize::MAX),
+                None => 0,
+            },
         })
     }
 
@@ -112,6 +132,8 @@ impl Desk for TallyDesk {
             Output::Gap => self.gap = self.gap.saturating_add(count),
             Output::Report => self.report = self.report.saturating_add(count),
             Output::Watch => self.watch = self.watch.saturating_add(count),
+            Output::Skim => self.skim = self.skim.saturating_add(count),
+            Output::Counts => self.counts = self.counts.saturating_add(count),
         }
         Ok(piece.len())
     }

@@ -69,8 +69,14 @@ fn a_tally_reads_and_counts(rt: HostRuntime) -> Result<(), Fail> {
     assert!(rt; buf.as_slice() == b"link".as_slice());
     let rest = read_table(rt.alloc(), &mut desk, Table::Link, 100)?;
     assert!(rt; rest.as_slice() == b"_id\n7".as_slice());
+    assert!(rt; desk.read(Table::Times, &mut buf) == Ok(0));
+    desk.set_times(Vec::from_slice(rt.alloc(), b"entered")?);
+    let times = read_table(rt.alloc(), &mut desk, Table::Times, 100)?;
+    assert!(rt; times.as_slice() == b"entered".as_slice());
     assert!(rt; put_all(&mut desk, Output::Report, b"nodes 3\n") == Ok(()));
     assert!(rt; put_all(&mut desk, Output::Report, b"links 4\n") == Ok(()));
+    assert!(rt; put_all(&mut desk, Output::Skim, b"1,3,0,20\n") == Ok(()));
+    assert!(rt; put_all(&mut desk, Output::Counts, b"turn\n") == Ok(()));
     assert!(rt; put_all(&mut desk, Output::Gap, b"1,0,0,0,0\n") == Ok(()));
     for (output, count) in [
         (Output::Agent, 0),
@@ -78,6 +84,8 @@ fn a_tally_reads_and_counts(rt: HostRuntime) -> Result<(), Fail> {
         (Output::Gap, 10),
         (Output::Report, 16),
         (Output::Watch, 0),
+        (Output::Skim, 9),
+        (Output::Counts, 5),
     ] {
         assert!(rt; desk.count(output) == count);
     }
@@ -96,10 +104,13 @@ fn files_of_the_folder(rt: HostRuntime) -> Result<(), Fail> {
     assert!(rt; buf.as_slice() == b"_id\n".as_slice());
     assert!(rt; desk.read(Table::Movement, &mut buf) == Ok(0));
     assert!(rt; desk.read(Table::Demand, &mut buf) == Err(Failed));
+    assert!(rt; desk.read(Table::Times, &mut buf) == Err(Failed));
     for (output, path) in [
         (Output::Agent, "agent.csv"),
         (Output::LinkTime, "link_performance.csv"),
         (Output::Gap, "gap.csv"),
+        (Output::Skim, "skim.csv"),
+        (Output::Counts, "counts.csv"),
     ] {
         assert!(rt; put_all(&mut desk, output, b"two ") == Ok(()));
         assert!(rt; put_all(&mut desk, output, b"puts") == Ok(()));

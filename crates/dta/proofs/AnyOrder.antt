@@ -1,5 +1,5 @@
 -- The nodes of a step may be taken in any order: the texts of an assignment are the same.
-use Rattle.std.proofs.Common.{◌≡◌, ◌+◌, List, [], ◌∷◌, sym, ap, subst, ◌∙◌}
+use Rattle.std.proofs.Common.{◌≡◌, ◌+◌, List, [], ◌∷◌, refl, sym, ap, subst, ◌∙◌}
 use Rattle.dta_model.specs.LinkTimes.{TimeTable, time_at}
 use Rattle.dta_model.specs.Loading.{journeys_of}
 use Rattle.dta_model.specs.State.{eight_after}
@@ -18,9 +18,18 @@ use Rattle.desk_io.specs.declared.desk.Output.TheVariants as output
 use Rattle.dta.specs.Assignment.{AreIterations, AreIterationsBy, VehicleRoutes, end_of, times_of}
 use Rattle.dta.specs.Jobs.{JobRows, plan_of}
 use Rattle.dta.specs.Laws.{TextsInAnyOrder}
-use Rattle.dta.specs.Orders.{AreNodeOrders, NodeOrders, end_by, journeys_by, summary_by}
-use Rattle.dta.specs.Orders.{texts_by, times_by}
-use Rattle.dta.specs.Outputs.{but_watch, last_texts, summary_of, text_to}
+use Rattle.dta.specs.Orders.{AreNodeOrders, NodeOrders, counts_by, end_by, journeys_by, summary_by}
+use Rattle.dta.specs.Orders.{texts_by, times_by, trace_by}
+use Rattle.dta.specs.Outputs.{asked_link, but_watch, counts_out, last_texts, summary_of, text_to}
+use Rattle.dta.specs.Outputs.{through_asked}
+use Rattle.counts.specs.Text.{counts_text}
+use Rattle.counts.specs.Through.{through_counts, through_counts_in}
+use Rattle.counts.specs.Turns.{turn_counts}
+use Rattle.counts.specs.declared.through_counts.ThroughCount.{ThroughCount}
+use Rattle.counts.specs.declared.turn_counts.TurnCount.{TurnCount}
+use Rattle.counts.proofs.AnyOrder.{same_through_counts, same_turn_counts}
+use Rattle.net_core.specs.declared.rows.LinkNo.{LinkNo}
+use Rattle.std.specs.Prelude.{Option, None, Some}
 use Rattle.dta.proofs.Determined.{but-watch-assigned, lasts-by, same-lines, same-routes}
 
 -- iterations over equal tables of link times
@@ -57,6 +66,20 @@ module _ (s : Settings) (job : JobRows) (order : NodeOrders) (all : AreNodeOrder
         waiting = e.waiting;
       }) (end-same last)
 
+  through-same : (last : VehicleRoutes) (asked : Option LinkNo)
+      → through_asked (λ l. through_counts_in (plan_of s job last) l (trace_by s job order last)) asked
+      ≡ through_asked (through_counts (plan_of s job last)) asked
+  through-same last None = refl
+  through-same last (Some l) = same_through_counts (plan_of s job last) (order last) (all last) l.0
+
+  counts-same : (last : VehicleRoutes)
+      → counts_by s job order last ≡ counts_out s job (turn_counts (plan_of s job last) s.bucket) (through_counts (plan_of s job last))
+  counts-same last =
+      ap (λ (t : List TurnCount). counts_out s job t (λ l. through_counts_in (plan_of s job last) l (trace_by s job order last)))
+      (same_turn_counts (plan_of s job last) (order last) (all last) s.bucket)
+      ∙ ap (λ (t : List ThroughCount). text_to output.Counts (counts_text job.net (turn_counts (plan_of s job last) s.bucket) t s.bucket s.horizon))
+      (through-same last (asked_link job.net s.link))
+
   texts-same : (c : Command) (last : VehicleRoutes) (lines : List GapLine) (line : GapLine)
       → texts_by c s job order last lines line ≡ but_watch (last_texts c s job last lines line)
   texts-same command.Assign last lines line =
@@ -77,6 +100,12 @@ module _ (s : Settings) (job : JobRows) (order : NodeOrders) (all : AreNodeOrder
       ap (λ x. text_to output.Report (report_text x) ∷ []) (summary-same last line)
   texts-same command.Freeflow last lines line =
       ap (λ x. text_to output.Report (report_text x) ∷ []) (summary-same last line)
+  texts-same command.Skim last lines line =
+      ap (λ x. text_to output.Report (report_text x) ∷ []) (summary-same last line)
+  texts-same command.Counts last lines line =
+      ap (λ x. x ∷ text_to output.Report (report_text (summary_by s job order last line)) ∷ []) (counts-same last)
+      ∙ ap (λ x. counts_out s job (turn_counts (plan_of s job last) s.bucket) (through_counts (plan_of s job last))
+      ∷ text_to output.Report (report_text x) ∷ []) (summary-same last line)
 
 pub texts_in_any_order : TextsInAnyOrder
 texts_in_any_order s job order all xs ys a b =

@@ -3,13 +3,13 @@ use Rattle.std.proofs.Common.{ℕ, ◌≤◌, List, [], ◌∷◌, ◌++◌, ref
 use Rattle.desk_io.specs.declared.desk.Table.{Table}
 use Rattle.desk_io.specs.Desk.{Left}
 use Rattle.desk_io.specs.Faults.{Rose}
-use Rattle.fixed_units.specs.declared.units.Units.{Units}
 use Rattle.reports.specs.declared.refusal.Refusal.TheVariants as refusal
 use Rattle.dta.specs.Outcome.{DeskState}
 use Rattle.dta.specs.Stops.{StopsAmong, StopsAt}
 use Rattle.dta.specs.Tables.{AreAccepted, ReachedAmong, IsAccepted, TableRows}
 use Rattle.dta.specs.declared.stop.Stop.{Stop}
 use Rattle.dta.specs.declared.stop.Stop.TheVariants.{Refused, Memory}
+use Rattle.dta_words.specs.declared.command.Settings.{Settings}
 
 pub rose-earlier : (before between now : ℕ) → before ≤ between → Rose between now → Rose before now
 rose-earlier before between now h r = omega (arith, h, r)
@@ -18,54 +18,55 @@ rose-earlier before between now h r = omega (arith, h, r)
 abbrev since : DeskState → DeskState → DeskState
 since earlier before = record earlier { left = before.left }
 
-stop-since : (units : Units) (t : Table) (rows : TableRows) (s : Stop) (earlier before after : DeskState) → earlier.read_faults ≤ before.read_faults
-    → StopsAt units t rows s before after → StopsAt units t rows s (since earlier before) after
-stop-since units t rows Memory earlier before after h stops = stops
-stop-since units t rows (Refused refusal.Usage) earlier before after h stops = stops
-stop-since units t rows (Refused (refusal.Table fault)) earlier before after h stops = stops
-stop-since units t rows (Refused (refusal.Read u)) earlier before after h stops =
+stop-since : (settings : Settings) (t : Table) (rows : TableRows) (s : Stop) (earlier before after : DeskState) → earlier.read_faults ≤ before.read_faults
+    → StopsAt settings t rows s before after → StopsAt settings t rows s (since earlier before) after
+stop-since settings t rows Memory earlier before after h stops = stops
+stop-since settings t rows (Refused refusal.Usage) earlier before after h stops = stops
+stop-since settings t rows (Refused (refusal.Table fault)) earlier before after h stops = stops
+stop-since settings t rows (Refused (refusal.Read u)) earlier before after h stops =
     (stops.0, stops.1, rose-earlier earlier.read_faults before.read_faults after.read_faults h stops.2)
-stop-since units t rows (Refused (refusal.LongTable u)) earlier before after h stops = stops
-stop-since units t rows (Refused (refusal.Cells links steps)) earlier before after h stops = stops
-stop-since units t rows (Refused (refusal.Vehicles line total)) earlier before after h stops = stops
+stop-since settings t rows (Refused (refusal.LongTable u)) earlier before after h stops = stops
+stop-since settings t rows (Refused (refusal.Cells links steps)) earlier before after h stops = stops
+stop-since settings t rows (Refused (refusal.Vehicles line total)) earlier before after h stops = stops
+stop-since settings t rows (Refused (refusal.SkimPairs number)) earlier before after h stops = stops
 
-module _ (units : Units) where
-  pub accepted-one : (t : Table) (rows more : TableRows) (left rest : Left) → IsAccepted units t rows more left rest → AreAccepted units (t ∷ []) rows more left rest
+module _ (settings : Settings) where
+  pub accepted-one : (t : Table) (rows more : TableRows) (left rest : Left) → IsAccepted settings t rows more left rest → AreAccepted settings (t ∷ []) rows more left rest
   accepted-one t rows more left rest a = (more, rest, a, (refl, refl))
 
   pub accepted-both : (tables others : List Table) (rows next more : TableRows) (left between rest : Left)
-      → AreAccepted units tables rows next left between → AreAccepted units others next more between rest → AreAccepted units (tables ++ others) rows more left rest
+      → AreAccepted settings tables rows next left between → AreAccepted settings others next more between rest → AreAccepted settings (tables ++ others) rows more left rest
   accepted-both [] others rows next more left between rest a b =
-      subst (λ l. AreAccepted units others rows more l rest) a.1 (subst (λ r. AreAccepted units others r more between rest) a.0 b)
+      subst (λ l. AreAccepted settings others rows more l rest) a.1 (subst (λ r. AreAccepted settings others r more between rest) a.0 b)
   accepted-both (t ∷ tables) others rows next more left between rest a b =
       (a.0, a.1, a.2, accepted-both tables others a.0 next more a.1 between rest a.3 b)
 
   module _ (t : Table) (Part : TableRows → Left → Left → Type 0) where
-    reached-first : (tables others : List Table) (rows : TableRows) (left rest : Left) → ReachedAmong units tables t Part rows left rest → ReachedAmong units (tables ++ others) t Part rows left rest
+    reached-first : (tables others : List Table) (rows : TableRows) (left rest : Left) → ReachedAmong settings tables t Part rows left rest → ReachedAmong settings (tables ++ others) t Part rows left rest
     reached-first [] others rows left rest h = absurd h
     reached-first (u ∷ tables) others rows left rest (inl h) = inl h
     reached-first (u ∷ tables) others rows left rest (inr h) = inr (h.0, h.1, h.2, reached-first tables others h.0 h.1 rest h.3)
 
-    reached-then : (tables others : List Table) (rows next : TableRows) (left between rest : Left)
-        → AreAccepted units tables rows next left between → ReachedAmong units others t Part next between rest → ReachedAmong units (tables ++ others) t Part rows left rest
+    pub reached-then : (tables others : List Table) (rows next : TableRows) (left between rest : Left)
+        → AreAccepted settings tables rows next left between → ReachedAmong settings others t Part next between rest → ReachedAmong settings (tables ++ others) t Part rows left rest
     reached-then [] others rows next left between rest a h =
-        subst (λ l. ReachedAmong units others t Part rows l rest) a.1 (subst (λ r. ReachedAmong units others t Part r between rest) a.0 h)
+        subst (λ l. ReachedAmong settings others t Part rows l rest) a.1 (subst (λ r. ReachedAmong settings others t Part r between rest) a.0 h)
     reached-then (u ∷ tables) others rows next left between rest a h =
         inr (a.0, a.1, a.2, reached-then tables others a.0 next a.1 between rest a.3 h)
 
   -- the reading stopped at the first of these tables
-  pub among-now : (t : Table) (others : List Table) (rows : TableRows) (s : Stop) (before after : DeskState) → StopsAt units t rows s before after
-      → StopsAmong units (t ∷ others) rows s before after
+  pub among-now : (t : Table) (others : List Table) (rows : TableRows) (s : Stop) (before after : DeskState) → StopsAt settings t rows s before after
+      → StopsAmong settings (t ∷ others) rows s before after
   among-now t others rows s before after h = (t, inl (refl, h))
 
   -- or at one of the first
-  pub among-first : (tables others : List Table) (rows : TableRows) (s : Stop) (before after : DeskState) → StopsAmong units tables rows s before after
-      → StopsAmong units (tables ++ others) rows s before after
+  pub among-first : (tables others : List Table) (rows : TableRows) (s : Stop) (before after : DeskState) → StopsAmong settings tables rows s before after
+      → StopsAmong settings (tables ++ others) rows s before after
   among-first tables others rows s before after h = (h.0, reached-first h.0 _ tables others rows before.left after.left h.1)
 
   -- or at the table after those that were accepted
   pub among-then : (tables others : List Table) (t : Table) (rows next : TableRows) (s : Stop) (before between after : DeskState)
-      → AreAccepted units tables rows next before.left between.left → before.read_faults ≤ between.read_faults
-      → StopsAt units t next s between after → StopsAmong units (tables ++ t ∷ others) rows s before after
+      → AreAccepted settings tables rows next before.left between.left → before.read_faults ≤ between.read_faults
+      → StopsAt settings t next s between after → StopsAmong settings (tables ++ t ∷ others) rows s before after
   among-then tables others t rows next s before between after a h stops =
-      (t, reached-then t _ tables (t ∷ others) rows next before.left between.left after.left a (inl (refl, stop-since units t next s before between after h stops)))
+      (t, reached-then t _ tables (t ∷ others) rows next before.left between.left after.left a (inl (refl, stop-since settings t next s before between after h stops)))

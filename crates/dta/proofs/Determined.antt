@@ -17,7 +17,9 @@ use Rattle.dta.specs.Assignment.{AreIterations, VehicleRoutes, times_of}
 use Rattle.dta.specs.Jobs.{JobRows}
 use Rattle.dta.specs.Laws.{AreDetermined, TextsAreDetermined}
 use Rattle.dta.specs.Outputs.{AreAssigned, AreTexts, AreToldSteps, AreWatchLines, AreWatchTexts, OutText}
-use Rattle.dta.specs.Outputs.{but_watch, is_watch, last_texts, watch_text}
+use Rattle.dta.specs.Outputs.{but_watch, is_watch, last_texts, skim_texts, watch_text}
+use Rattle.skims.specs.GivenTimes.{table_given}
+use Rattle.skims.proofs.Determined.{skims_are_determined}
 
 some-is : {A : Type 0} (x y : A) → Some x ≡ Some y → x ≡ y
 some-is x y e = cc
@@ -169,6 +171,11 @@ determined-by : (c : Command) (s : Settings) (job : JobRows) (xs ys : List OutTe
 determined-by command.Freeflow s job xs ys a b = both-free s job xs ys (a ∙ sym b)
 determined-by command.Assign s job xs ys a b = both-assigned s job xs ys a b
 determined-by (command.Demo n) s job xs ys a b = both-assigned s job xs ys a b
+determined-by command.Skim s job xs ys a b =
+    both-free s job xs ys (a.texts_are
+    ∙ ap (skim_texts job.net) (skims_are_determined (time_at (table_given job.net s.bucket s.horizon job.times)) job.net s.starts a.entries b.entries a.skim b.skim)
+    ∙ sym b.texts_are)
+determined-by command.Counts s job xs ys a b = both-assigned s job xs ys a b
 
 pub texts_are_determined : TextsAreDetermined
 texts_are_determined s job xs ys a b = determined-by s.command s job xs ys a b

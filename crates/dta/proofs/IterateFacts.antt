@@ -20,6 +20,7 @@ use Rattle.dta_model.specs.declared.loaded.Journey.{Journey}
 use Rattle.dta_model.specs.declared.loading.TheConstants.{MOST_HORIZON}
 use Rattle.dta_model.specs.declared.plan.Plan.{Plan}
 use Rattle.dta_model.specs.declared.trip.Trip.{Trip}
+use Rattle.skims.specs.declared.time_rows.TimeRow.{TimeRow}
 use Rattle.reports.specs.Texts.{AreOnNet}
 use Rattle.link_times.proofs.Links.{steps_most}
 use Rattle.dta_model.specs.Sound.{AreWalks}
@@ -31,7 +32,7 @@ use Rattle.dta_words.specs.Ranges.{AreSettings}
 use Rattle.dta_words.specs.declared.command.Settings.{Settings}
 use Rattle.dta.specs.Assignment.{AreIterations, VehicleRoutes, end_of, times_of}
 use Rattle.dta.specs.Jobs.{AreRoutesOf, IsJob, JobRows, plan_of}
-use Rattle.dta.specs.Progress.{Halts, HaltsIn, IsAssigned, IsAt, IsLastOf, IsWatched}
+use Rattle.dta.specs.Progress.{Halts, HaltsIn, HasCounts, IsAssigned, IsAt, IsLastOf, IsWatched}
 use Rattle.dta.specs.declared.iterate.Assigned.{Assigned}
 use Rattle.dta.specs.declared.halt.Halt.{Halt}
 use Rattle.dta.specs.declared.halt.Halt.TheVariants as halt
@@ -113,24 +114,24 @@ pub on-net : (job : JobRows) (routes : VehicleRoutes) → AreRoutesOf job routes
 on-net job routes are =
     walks-on-net (record { net = job.net; queue = queue.Point; delta = 1; horizon = 1; trips = job.trips; routes = routes }) are.walks are.each
 
--- a job by its network and its trips
-abbrev pub job_with : NetRows → List Trip → JobRows
-job_with net trips = record { net = net; trips = trips }
+-- a job by its network, its trips and its link times
+abbrev pub job_with : NetRows → List Trip → List TimeRow → JobRows
+job_with net trips times = record { net = net; trips = trips; times = times }
 
 -- routes that are walks are those of a job
-pub routes-of : (job : JobRows) (net : NetRows) (trips : List Trip) (routes : VehicleRoutes) → job_with net trips ≡ job
+pub routes-of : {times : List TimeRow} (job : JobRows) (net : NetRows) (trips : List Trip) (routes : VehicleRoutes) → job_with net trips times ≡ job
     → length routes ≡ length trips → AreWalks net trips routes → AreRoutesOf job routes
 routes-of job net trips routes e each walks =
     subst (λ (j : JobRows). AreRoutesOf j routes) e (record { each = each; walks = walks })
 
 -- and the other way round
-pub walks-of : (job : JobRows) (net : NetRows) (trips : List Trip) (routes : VehicleRoutes) → job_with net trips ≡ job
+pub walks-of : {times : List TimeRow} (job : JobRows) (net : NetRows) (trips : List Trip) (routes : VehicleRoutes) → job_with net trips times ≡ job
     → AreRoutesOf job routes → AreWalks net trips routes
 walks-of job net trips routes e are =
     subst (λ (j : JobRows). AreWalks j.net j.trips routes) (sym e) are.walks
 
 -- as many journeys as trips
-pub many-journeys : (s : Settings) (job : JobRows) (net : NetRows) (trips : List Trip) (routes : VehicleRoutes) (loaded : List Journey) → job_with net trips ≡ job
+pub many-journeys : {link_times : List TimeRow} (s : Settings) (job : JobRows) (net : NetRows) (trips : List Trip) (routes : VehicleRoutes) (loaded : List Journey) → job_with net trips link_times ≡ job
     → loaded ≡ journeys_of (plan_of s job routes) → length loaded ≡ length trips
 unfolding journeys_of
 many-journeys s job net trips routes loaded e is =
@@ -138,12 +139,12 @@ many-journeys s job net trips routes loaded e is =
     ∙ ap (λ (j : JobRows). length j.trips) (sym e)
 
 -- the routes of a job are over its network
-pub net-routes : (job : JobRows) (net : NetRows) (trips : List Trip) (routes : VehicleRoutes) → job_with net trips ≡ job → AreRoutesOf job routes → AreOnNet net routes
+pub net-routes : {times : List TimeRow} (job : JobRows) (net : NetRows) (trips : List Trip) (routes : VehicleRoutes) → job_with net trips times ≡ job → AreRoutesOf job routes → AreOnNet net routes
 net-routes job net trips routes e are =
     subst (λ (j : JobRows). AreOnNet j.net routes) (sym e) (on-net job routes are)
 
 -- a table of a job's loading has the free-flow steps of its links
-pub free-of : (s : Settings) (job : JobRows) (net : NetRows) (trips : List Trip) (routes : VehicleRoutes) (times : TimeTable) → job_with net trips ≡ job
+pub free-of : {link_times : List TimeRow} (s : Settings) (job : JobRows) (net : NetRows) (trips : List Trip) (routes : VehicleRoutes) (times : TimeTable) → job_with net trips link_times ≡ job
     → times ≡ times_of s job routes → times.free ≡ free_steps net
 free-of s job net trips routes times e is =
     ap (λ (x : TimeTable). x.free) is ∙ table-free (plan_of s job routes) s.bucket
@@ -343,9 +344,9 @@ module _ (s : Settings) (job : JobRows) where
       → IsWatched s job s.iterations a.routes before now
       → a.lines.items ≡ lines ++ a.line ∷ []
       → IsGapLine (time_at (times_of s job a.routes)) job.net job.trips a.routes a.line
-      → IsLastOf s job a
+      → IsLastOf s job a → HasCounts s job a.routes a.counts
       → IsAssigned s job a start now
-  assigned a lines start before now at put pushed gap last = record {
+  assigned a lines start before now at put pushed gap last counted = record {
     done = at.done;
     as_many = at.as_many;
     before = lines;
@@ -356,6 +357,7 @@ module _ (s : Settings) (job : JobRows) where
     watch_lines = watch-more s job 1 s.iterations at.done a.routes at.texts put.0 at.as_many at.watch_lines put.1;
     watched = grown-more at.texts put.0 start before now at.watched put.2;
     last = last;
+    counted = counted;
   }
 
   -- memory was wanting for the first routes

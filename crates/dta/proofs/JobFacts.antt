@@ -1,5 +1,5 @@
 -- Jobs of accepted tables, and what stops a run before its work.
-use Rattle.std.proofs.Common.{◌≡◌, ◌≢◌, ℕ, List, [], ◌∷◌, refl, sym, ap, subst, arith, inl, inr}
+use Rattle.std.proofs.Common.{◌≡◌, ◌≢◌, ℕ, List, [], ◌∷◌, refl, sym, ap, subst, arith, inl, inr, ◌⊎◌, ◌∙◌}
 use Rattle.std.specs.Prelude.{⊤, Result, Ok, Err, OnOk, IfOk, IfErr, filter, nat_eq}
 use Rattle.std.specs.List.{flat_map}
 use Rattle.std.proofs.lemmas.Result.{IfErr-weaker, IfOk-weaker}
@@ -14,7 +14,6 @@ use Rattle.net_core.specs.declared.rows.LinkRow.{LinkRow}
 use Rattle.net_core.specs.declared.rows.NodeRow.{NodeRow}
 use Rattle.dta_model.specs.Release.{in_order_of_departure, released, Released, trips_of}
 use Rattle.vehicle_release.specs.Limits.{IsWithin}
-use Rattle.fixed_units.specs.declared.units.Units.{Units}
 use Rattle.grid_maker.specs.Grid.{node_text, link_text, demand_text}
 use Rattle.reports.specs.declared.refusal.Refusal.{Refusal}
 use Rattle.reports.specs.declared.refusal.Refusal.TheVariants as refusal
@@ -22,10 +21,12 @@ use Rattle.desk_io.specs.declared.transfers.TheConstants.{MOST_TABLE_BYTES}
 use Rattle.dta_words.specs.declared.command.Command.{Command}
 use Rattle.dta_words.specs.declared.command.Command.TheVariants as command
 use Rattle.dta_words.specs.declared.command.Settings.{Settings}
-use Rattle.dta.specs.Jobs.{AreWithin, HasRoom, IsAcceptedJob, IsJobOf, JobRows, LeavesOf, Reading, job_of, read_tables, source, tables_of}
+use Rattle.dta.specs.Jobs.{AreWithin, HasRoom, IsAcceptedJob, IsJobOf, JobRows, LeavesOf, Loads, Reading, job_of, read_tables, source, tables_of}
 use Rattle.dta.specs.Outcome.{AreCounted, DeskState, IsCauseAmong, IsCauseIn, IsCutIn, ReadsFailed}
-use Rattle.dta.specs.Stops.{HasFault, Stops, StopsAmong, StopsIn, StopsJob, StopsAt}
-use Rattle.dta.specs.Tables.{AreAccepted, ReachedAmong, IsFaulty, TableRows, no_rows, road_rows}
+use Rattle.dta.specs.Stops.{HasFault, Stops, StopsAmong, StopsIn, StopsJob, StopsSkim, StopsAt}
+use Rattle.desk_io.proofs.DeskFacts.{before_left-empty}
+use Rattle.dta.proofs.ChainFacts.{reached-then}
+use Rattle.dta.specs.Tables.{AreAccepted, ReachedAmong, IsFaulty, TableRows, net_of, network_tables, no_rows, road_rows, skim_tables}
 use Rattle.dta.specs.declared.stop.Stop.{Stop}
 use Rattle.dta.specs.declared.stop.Stop.TheVariants.{Refused, Memory}
 
@@ -41,57 +42,82 @@ trips_of-none period = rw (none-in-any-step (numbers_below period)) refl
 
 -- ---- tables that were reached
 
-module _ (units : Units) where
+module _ (settings : Settings) where
   reached-map : (t : Table) (Part Other : TableRows → Left → Left → Type 0) (tables : List Table) (rows : TableRows) (left rest : Left)
-      → ((r : TableRows) (a b : Left) → Part r a b → Other r a b) → ReachedAmong units tables t Part rows left rest → ReachedAmong units tables t Other rows left rest
+      → ((r : TableRows) (a b : Left) → Part r a b → Other r a b) → ReachedAmong settings tables t Part rows left rest → ReachedAmong settings tables t Other rows left rest
   reached-map t Part Other [] rows left rest f h = absurd h
   reached-map t Part Other (u ∷ tables) rows left rest f (inl h) = inl (h.0, f rows left rest h.1)
   reached-map t Part Other (u ∷ tables) rows left rest f (inr h) = inr (h.0, h.1, h.2, reached-map t Part Other tables h.0 h.1 rest f h.3)
 
   -- what is so at that table whatever the rows are
   reached-holds : (t : Table) (Part : TableRows → Left → Left → Type 0) (P : Type 0) (tables : List Table) (rows : TableRows) (left rest : Left)
-      → ((r : TableRows) (a b : Left) → Part r a b → P) → ReachedAmong units tables t Part rows left rest → P
+      → ((r : TableRows) (a b : Left) → Part r a b → P) → ReachedAmong settings tables t Part rows left rest → P
   reached-holds t Part P [] rows left rest f h = absurd h
   reached-holds t Part P (u ∷ tables) rows left rest f (inl h) = f rows left rest h.1
   reached-holds t Part P (u ∷ tables) rows left rest f (inr h) = reached-holds t Part P tables h.0 h.1 rest f h.3
 
+-- a command that loads isn't `freeflow`, and neither is `skim`
+pub not-free : (c : Command) → Loads c → c ≢ command.Freeflow
+not-free c loads e = subst (λ (x : Command). Loads x) e loads
+
+pub loads-no-skim : (c : Command) → Loads c → c ≡ command.Skim → ⊥
+loads-no-skim c loads e = subst (λ (x : Command). Loads x) e loads
+
+skim-not-free : (c : Command) → c ≡ command.Skim → c ≢ command.Freeflow
+skim-not-free c asks e = let same : command.Skim ≡ command.Freeflow = sym asks ∙ e in absurd cc
+
 -- the table at which reading stopped, as the cause of the stop
 module _ (s : Settings) (before after : DeskState) where
   abbrev Ends : Table → Stop → TableRows → Left → Left → Type 0
-  Ends t stop rows left rest = StopsAt s.units t rows stop (record before { left = left }) (record after { left = rest })
+  Ends t stop rows left rest = StopsAt s t rows stop (record before { left = left }) (record after { left = rest })
 
-  pub among-in : (stop : Stop) → StopsAmong s.units (tables_of s.command) no_rows stop before after → StopsIn s stop before after
+  pub among-in : (stop : Stop) → StopsAmong s (tables_of s.command) no_rows stop before after → StopsIn s stop before after
   among-in Memory h = inr (inl h)
   among-in (Refused refusal.Usage) h =
-      absurd (reached-holds s.units h.0 (Ends h.0 (Refused refusal.Usage)) ⊥ (tables_of s.command) no_rows before.left after.left (λ r a b k. k) h.1)
+      absurd (reached-holds s h.0 (Ends h.0 (Refused refusal.Usage)) ⊥ (tables_of s.command) no_rows before.left after.left (λ r a b k. k) h.1)
   among-in (Refused (refusal.Table fault)) h =
-      let same : fault.table ≡ h.0 = reached-holds s.units h.0 (Ends h.0 (Refused (refusal.Table fault))) (fault.table ≡ h.0) (tables_of s.command) no_rows before.left after.left (λ r a b k. k.0) h.1 in
-      let faulty = reached-map s.units h.0 (Ends h.0 (Refused (refusal.Table fault))) (IsFaulty s.units fault h.0) (tables_of s.command) no_rows before.left after.left (λ r a b k. k.1) h.1 in
-      (subst (λ (t : Table). ReachedAmong s.units (tables_of s.command) t (IsFaulty s.units fault t) no_rows before.left after.left) (sym same) faulty, tt)
+      let same : fault.table ≡ h.0 = reached-holds s h.0 (Ends h.0 (Refused (refusal.Table fault))) (fault.table ≡ h.0) (tables_of s.command) no_rows before.left after.left (λ r a b k. k.0) h.1 in
+      let faulty = reached-map s h.0 (Ends h.0 (Refused (refusal.Table fault))) (IsFaulty s fault h.0) (tables_of s.command) no_rows before.left after.left (λ r a b k. k.1) h.1 in
+      (subst (λ (t : Table). ReachedAmong s (tables_of s.command) t (IsFaulty s fault t) no_rows before.left after.left) (sym same) faulty, tt)
   among-in (Refused (refusal.Read u)) h =
-      let same : u ≡ h.0 = reached-holds s.units h.0 (Ends h.0 (Refused (refusal.Read u))) (u ≡ h.0) (tables_of s.command) no_rows before.left after.left (λ r a b k. k.0) h.1 in
-      let failed : ReadsFailed before after = reached-holds s.units h.0 (Ends h.0 (Refused (refusal.Read u))) (ReadsFailed before after) (tables_of s.command) no_rows before.left after.left (λ r a b k. k.2) h.1 in
-      let begun = reached-map s.units h.0 (Ends h.0 (Refused (refusal.Read u))) (λ _. IsBegun h.0) (tables_of s.command) no_rows before.left after.left (λ r a b k. k.1) h.1 in
-      (subst (λ (t : Table). ReachedAmong s.units (tables_of s.command) t (λ _. IsBegun t) no_rows before.left after.left) (sym same) begun, failed)
+      let same : u ≡ h.0 = reached-holds s h.0 (Ends h.0 (Refused (refusal.Read u))) (u ≡ h.0) (tables_of s.command) no_rows before.left after.left (λ r a b k. k.0) h.1 in
+      let failed : ReadsFailed before after = reached-holds s h.0 (Ends h.0 (Refused (refusal.Read u))) (ReadsFailed before after) (tables_of s.command) no_rows before.left after.left (λ r a b k. k.2) h.1 in
+      let begun = reached-map s h.0 (Ends h.0 (Refused (refusal.Read u))) (λ _. IsBegun h.0) (tables_of s.command) no_rows before.left after.left (λ r a b k. k.1) h.1 in
+      (subst (λ (t : Table). ReachedAmong s (tables_of s.command) t (λ _. IsBegun t) no_rows before.left after.left) (sym same) begun, failed)
   among-in (Refused (refusal.LongTable u)) h =
-      let same : u ≡ h.0 = reached-holds s.units h.0 (Ends h.0 (Refused (refusal.LongTable u))) (u ≡ h.0) (tables_of s.command) no_rows before.left after.left (λ r a b k. k.0) h.1 in
-      let long = reached-map s.units h.0 (Ends h.0 (Refused (refusal.LongTable u))) (λ _. IsLong h.0 MOST_TABLE_BYTES) (tables_of s.command) no_rows before.left after.left (λ r a b k. k.1) h.1 in
-      (subst (λ (t : Table). ReachedAmong s.units (tables_of s.command) t (λ _. IsLong t MOST_TABLE_BYTES) no_rows before.left after.left) (sym same) long, tt)
+      let same : u ≡ h.0 = reached-holds s h.0 (Ends h.0 (Refused (refusal.LongTable u))) (u ≡ h.0) (tables_of s.command) no_rows before.left after.left (λ r a b k. k.0) h.1 in
+      let long = reached-map s h.0 (Ends h.0 (Refused (refusal.LongTable u))) (λ _. IsLong h.0 MOST_TABLE_BYTES) (tables_of s.command) no_rows before.left after.left (λ r a b k. k.1) h.1 in
+      (subst (λ (t : Table). ReachedAmong s (tables_of s.command) t (λ _. IsLong t MOST_TABLE_BYTES) no_rows before.left after.left) (sym same) long, tt)
   among-in (Refused (refusal.Cells links steps)) h =
-      absurd (reached-holds s.units h.0 (Ends h.0 (Refused (refusal.Cells links steps))) ⊥ (tables_of s.command) no_rows before.left after.left (λ r a b k. k) h.1)
+      absurd (reached-holds s h.0 (Ends h.0 (Refused (refusal.Cells links steps))) ⊥ (tables_of s.command) no_rows before.left after.left (λ r a b k. k) h.1)
   among-in (Refused (refusal.Vehicles line total)) h =
-      absurd (reached-holds s.units h.0 (Ends h.0 (Refused (refusal.Vehicles line total))) ⊥ (tables_of s.command) no_rows before.left after.left (λ r a b k. k) h.1)
+      absurd (reached-holds s h.0 (Ends h.0 (Refused (refusal.Vehicles line total))) ⊥ (tables_of s.command) no_rows before.left after.left (λ r a b k. k) h.1)
+  among-in (Refused (refusal.SkimPairs number)) h =
+      absurd (reached-holds s h.0 (Ends h.0 (Refused (refusal.SkimPairs number))) ⊥ (tables_of s.command) no_rows before.left after.left (λ r a b k. k) h.1)
 
   -- the sizes of accepted tables, as the cause of the stop
-  pub job-in : (rows : TableRows) (stop : Stop) → s.command ≢ command.Freeflow → AreAccepted s.units (tables_of s.command) no_rows rows before.left after.left
+  pub job-in : (rows : TableRows) (stop : Stop) → Loads s.command → AreAccepted s (tables_of s.command) no_rows rows before.left after.left
       → StopsJob s rows stop → StopsIn s stop before after
   job-in rows Memory loads read h = inr (inr (record { rows = rows; read = read; part = tt }))
   job-in rows (Refused refusal.Usage) loads read h = absurd h
   job-in rows (Refused (refusal.Table fault)) loads read h = absurd h
   job-in rows (Refused (refusal.Read u)) loads read h = absurd h
   job-in rows (Refused (refusal.LongTable u)) loads read h = absurd h
-  job-in rows (Refused (refusal.Cells links steps)) loads read h = ((loads, record { rows = rows; read = read; part = h }), tt)
+  job-in rows (Refused (refusal.Cells links steps)) loads read h = ((not-free s.command loads, record { rows = rows; read = read; part = h }), tt)
   job-in rows (Refused (refusal.Vehicles line total)) loads read h = ((loads, record { rows = rows; read = read; part = h }), tt)
+  job-in rows (Refused (refusal.SkimPairs number)) loads read h = absurd h
+
+  -- and those of a skim's tables
+  pub skim-in : (rows : TableRows) (stop : Stop) → s.command ≡ command.Skim → AreAccepted s (tables_of s.command) no_rows rows before.left after.left
+      → StopsSkim s rows stop → StopsIn s stop before after
+  skim-in rows Memory asks read h = inr (inr (record { rows = rows; read = read; part = tt }))
+  skim-in rows (Refused refusal.Usage) asks read h = absurd h
+  skim-in rows (Refused (refusal.Table fault)) asks read h = absurd h
+  skim-in rows (Refused (refusal.Read u)) asks read h = absurd h
+  skim-in rows (Refused (refusal.LongTable u)) asks read h = absurd h
+  skim-in rows (Refused (refusal.Cells links steps)) asks read h = ((skim-not-free s.command asks, record { rows = rows; read = read; part = h }), tt)
+  skim-in rows (Refused (refusal.Vehicles line total)) asks read h = absurd h
+  skim-in rows (Refused (refusal.SkimPairs number)) asks read h = ((asks, record { rows = rows; read = read; part = h }), tt)
 
 -- the same at a desk that is the source itself
 pub own-stops : (s : Settings) (stop : Stop) (before after : DeskState)
@@ -103,20 +129,27 @@ own-stops s (Refused r) before after all from leaves h =
     subst (λ (tables : List Table). IsCauseAmong tables s r before.left after.left) (sym all) h.0 in
     (record { rest = after.left; leaves = leaves; part = subst (λ l. IsCauseIn s r l after.left) (sym from) own }, h.1)
 
-module _ {T : Type 0} (s : Settings) (r : Result T Stop) (before after : DeskState) where
-  pub free-stop : s.command ≡ command.Freeflow → IfErr r (λ stop. StopsIn s stop before after) → IfErr r (λ stop. Stops s stop before after)
-  free-stop asks h = IfErr-weaker r (λ stop. StopsIn s stop before after) (λ stop. Stops s stop before after)
-      (λ stop k. own-stops s stop before after
-      (subst (λ (c : Command). read_tables c ≡ tables_of c) (sym asks) refl)
-      (ap (λ (c : Command). source c before.left) asks)
-      (subst (λ (c : Command). LeavesOf c after.left before.left after.left) (sym asks) refl) k) h
+-- a command that reads its tables of the desk
+abbrev ReadsDesk : Command → Type 0
+ReadsDesk c = (read_tables c ≡ tables_of c) × ((left : Left) → source c left ≡ left) × ((rest before : Left) → LeavesOf c rest before rest)
 
-  pub assign-stop : s.command ≡ command.Assign → IfErr r (λ stop. StopsIn s stop before after) → IfErr r (λ stop. Stops s stop before after)
-  assign-stop asks h = IfErr-weaker r (λ stop. StopsIn s stop before after) (λ stop. Stops s stop before after)
-      (λ stop k. own-stops s stop before after
-      (subst (λ (c : Command). read_tables c ≡ tables_of c) (sym asks) refl)
-      (ap (λ (c : Command). source c before.left) asks)
-      (subst (λ (c : Command). LeavesOf c after.left before.left after.left) (sym asks) refl) k) h
+at-desk : (s : Settings) (c : Command) → s.command ≡ c → ReadsDesk c → ReadsDesk s.command
+at-desk s c asks reads = subst ReadsDesk (sym asks) reads
+
+module _ {T : Type 0} (s : Settings) (r : Result T Stop) (before after : DeskState) where
+  stop-at-desk : ReadsDesk s.command → IfErr r (λ stop. StopsIn s stop before after) → IfErr r (λ stop. Stops s stop before after)
+  stop-at-desk reads h = IfErr-weaker r (λ stop. StopsIn s stop before after) (λ stop. Stops s stop before after)
+      (λ stop k. own-stops s stop before after reads.0 (reads.1 before.left) (reads.2 after.left before.left) k) h
+
+  pub free-stop : s.command ≡ command.Freeflow → IfErr r (λ stop. StopsIn s stop before after) → IfErr r (λ stop. Stops s stop before after)
+  free-stop asks h = stop-at-desk (at-desk s command.Freeflow asks (refl, λ left. refl, λ rest before. refl)) h
+
+  pub loaded-stop : (s.command ≡ command.Assign) ⊎ (s.command ≡ command.Counts) → IfErr r (λ stop. StopsIn s stop before after) → IfErr r (λ stop. Stops s stop before after)
+  loaded-stop (inl asks) h = stop-at-desk (at-desk s command.Assign asks (refl, λ left. refl, λ rest before. refl)) h
+  loaded-stop (inr asks) h = stop-at-desk (at-desk s command.Counts asks (refl, λ left. refl, λ rest before. refl)) h
+
+  pub skim-stop : s.command ≡ command.Skim → IfErr r (λ stop. StopsIn s stop before after) → IfErr r (λ stop. Stops s stop before after)
+  skim-stop asks h = stop-at-desk (at-desk s command.Skim asks (refl, λ left. refl, λ rest before. refl)) h
 
 -- the job of a desk that is the source itself
 own-job : (s : Settings) (r : Result JobRows Stop) (before after : Left) → source s.command before ≡ before
@@ -127,13 +160,18 @@ own-job s r before after from leaves h =
     (λ job k. record { rest = after; leaves = leaves; part = subst (λ l. IsJobOf s job l after) (sym from) k }) h
 
 module _ (s : Settings) (r : Result JobRows Stop) (before after : Left) where
-  pub free-own : s.command ≡ command.Freeflow → IfOk r (λ job. IsJobOf s job before after) → IfOk r (λ job. IsAcceptedJob s job before after)
-  free-own asks = own-job s r before after (ap (λ (c : Command). source c before) asks)
-      (subst (λ (c : Command). LeavesOf c after before after) (sym asks) refl)
+  own-at-desk : ReadsDesk s.command → IfOk r (λ job. IsJobOf s job before after) → IfOk r (λ job. IsAcceptedJob s job before after)
+  own-at-desk reads = own-job s r before after (reads.1 before) (reads.2 after before)
 
-  pub assign-own : s.command ≡ command.Assign → IfOk r (λ job. IsJobOf s job before after) → IfOk r (λ job. IsAcceptedJob s job before after)
-  assign-own asks = own-job s r before after (ap (λ (c : Command). source c before) asks)
-      (subst (λ (c : Command). LeavesOf c after before after) (sym asks) refl)
+  pub free-own : s.command ≡ command.Freeflow → IfOk r (λ job. IsJobOf s job before after) → IfOk r (λ job. IsAcceptedJob s job before after)
+  free-own asks = own-at-desk (at-desk s command.Freeflow asks (refl, λ left. refl, λ rest before. refl))
+
+  pub loaded-own : (s.command ≡ command.Assign) ⊎ (s.command ≡ command.Counts) → IfOk r (λ job. IsJobOf s job before after) → IfOk r (λ job. IsAcceptedJob s job before after)
+  loaded-own (inl asks) = own-at-desk (at-desk s command.Assign asks (refl, λ left. refl, λ rest before. refl))
+  loaded-own (inr asks) = own-at-desk (at-desk s command.Counts asks (refl, λ left. refl, λ rest before. refl))
+
+  pub skim-own : s.command ≡ command.Skim → IfOk r (λ job. IsJobOf s job before after) → IfOk r (λ job. IsAcceptedJob s job before after)
+  skim-own asks = own-at-desk (at-desk s command.Skim asks (refl, λ left. refl, λ rest before. refl))
 
 never-rose : Rose 0 0 → ⊥
 never-rose r = omega (arith, r)
@@ -145,6 +183,7 @@ no-fault (refusal.Read u) made later before after m l h = absurd (never-rose (su
 no-fault (refusal.LongTable u) made later before after m l h = tt
 no-fault (refusal.Cells links steps) made later before after m l h = tt
 no-fault (refusal.Vehicles line total) made later before after m l h = tt
+no-fault (refusal.SkimPairs number) made later before after m l h = tt
 
 -- where no read failed, it is no matter of which tables reads could fail
 any-tables : (s : Settings) (r : Refusal) (tables others : List Table) (before after : Left)
@@ -157,6 +196,7 @@ any-tables s (refusal.Read u) tables others before after made later m l f h =
 any-tables s (refusal.LongTable u) tables others before after made later m l f h = h
 any-tables s (refusal.Cells links steps) tables others before after made later m l f h = h
 any-tables s (refusal.Vehicles line total) tables others before after made later m l f h = h
+any-tables s (refusal.SkimPairs number) tables others before after made later m l f h = h
 
 -- and at a desk that was made for the source
 module _ (s : Settings) (n : ℕ) (asks : s.command ≡ command.Demo n) where
@@ -187,23 +227,27 @@ module _ (s : Settings) (n : ℕ) (asks : s.command ≡ command.Demo n) where
 
 -- ---- jobs
 
-pub full-tables : (c : Command) → c ≢ command.Freeflow → tables_of c ≡ table.Node ∷ table.Link ∷ table.Movement ∷ table.Demand ∷ []
-full-tables command.Freeflow loads = absurd (loads refl)
+pub full-tables : (c : Command) → Loads c → tables_of c ≡ table.Node ∷ table.Link ∷ table.Movement ∷ table.Demand ∷ []
+full-tables command.Freeflow loads = absurd loads
 full-tables command.Assign loads = refl
 full-tables (command.Demo n) loads = refl
+full-tables command.Skim loads = absurd loads
+full-tables command.Counts loads = refl
 
-within-of : (s : Settings) (rows : TableRows) (c : Command) → c ≢ command.Freeflow → HasRoom s rows × IsWithin rows.demand_cells → AreWithin c s rows
-within-of s rows command.Freeflow loads w = absurd (loads refl)
+within-of : (s : Settings) (rows : TableRows) (c : Command) → Loads c → HasRoom s rows × IsWithin rows.demand_cells → AreWithin c s rows
+within-of s rows command.Freeflow loads w = absurd loads
 within-of s rows command.Assign loads w = w
 within-of s rows (command.Demo n) loads w = w
+within-of s rows command.Skim loads w = absurd loads
+within-of s rows command.Counts loads w = w
 
 -- the job of all four tables
-pub full-job : (s : Settings) (rows : TableRows) (job : JobRows) (left rest : Left) → s.command ≢ command.Freeflow
-    → AreAccepted s.units (table.Node ∷ table.Link ∷ table.Movement ∷ table.Demand ∷ []) no_rows rows left rest
+pub full-job : (s : Settings) (rows : TableRows) (job : JobRows) (left rest : Left) → Loads s.command
+    → AreAccepted s (table.Node ∷ table.Link ∷ table.Movement ∷ table.Demand ∷ []) no_rows rows left rest
     → HasRoom s rows × IsWithin rows.demand_cells → job ≡ job_of s rows → IsJobOf s job left rest
 full-job s rows job left rest loads read within makes = record {
   rows = rows;
-  read = subst (λ (ts : List Table). AreAccepted s.units ts no_rows rows left rest) (sym (full-tables s.command loads)) read;
+  read = subst (λ (ts : List Table). AreAccepted s ts no_rows rows left rest) (sym (full-tables s.command loads)) read;
   within = within-of s rows s.command loads within;
   makes = makes;
 }
@@ -212,31 +256,31 @@ full-made : {T E : Type 0} (r : Result T E) (P Q : T → Type 0) (K : Type 0) �
 full-made (Ok x) P Q K f k p = f x k p
 full-made (Err e) P Q K f k p = tt
 
-pub full-jobs : {E : Type 0} (s : Settings) (rows : TableRows) (r : Result JobRows E) (left rest : Left) → s.command ≢ command.Freeflow
-    → AreAccepted s.units (table.Node ∷ table.Link ∷ table.Movement ∷ table.Demand ∷ []) no_rows rows left rest
+pub full-jobs : {E : Type 0} (s : Settings) (rows : TableRows) (r : Result JobRows E) (left rest : Left) → Loads s.command
+    → AreAccepted s (table.Node ∷ table.Link ∷ table.Movement ∷ table.Demand ∷ []) no_rows rows left rest
     → OnOk r (HasRoom s rows × IsWithin rows.demand_cells) → IfOk r (λ job. job ≡ job_of s rows) → IfOk r (λ job. IsJobOf s job left rest)
 full-jobs s rows r left rest loads read within makes =
     full-made r (λ job. job ≡ job_of s rows) (λ job. IsJobOf s job left rest) (HasRoom s rows × IsWithin rows.demand_cells)
     (λ job w m. full-job s rows job left rest loads read w m) within makes
 
 -- what stopped the reading of all four tables, or was over their rows
-module _ (s : Settings) (loads : s.command ≢ command.Freeflow) (before after : DeskState) where
-  pub among-full : (stop : Stop) → StopsAmong s.units (table.Node ∷ table.Link ∷ table.Movement ∷ table.Demand ∷ []) no_rows stop before after → StopsIn s stop before after
-  among-full stop h = among-in s before after stop (subst (λ (ts : List Table). StopsAmong s.units ts no_rows stop before after) (sym (full-tables s.command loads)) h)
+module _ (s : Settings) (loads : Loads s.command) (before after : DeskState) where
+  pub among-full : (stop : Stop) → StopsAmong s (table.Node ∷ table.Link ∷ table.Movement ∷ table.Demand ∷ []) no_rows stop before after → StopsIn s stop before after
+  among-full stop h = among-in s before after stop (subst (λ (ts : List Table). StopsAmong s ts no_rows stop before after) (sym (full-tables s.command loads)) h)
 
   pub sized : {T : Type 0} (rows : TableRows) (r : Result T Stop)
-      → AreAccepted s.units (table.Node ∷ table.Link ∷ table.Movement ∷ table.Demand ∷ []) no_rows rows before.left after.left
+      → AreAccepted s (table.Node ∷ table.Link ∷ table.Movement ∷ table.Demand ∷ []) no_rows rows before.left after.left
       → IfErr r (StopsJob s rows) → IfErr r (λ stop. StopsIn s stop before after)
   sized rows r read h = IfErr-weaker r (StopsJob s rows) (λ stop. StopsIn s stop before after)
-      (λ stop k. job-in s before after rows stop loads (subst (λ (ts : List Table). AreAccepted s.units ts no_rows rows before.left after.left) (sym (full-tables s.command loads)) read) k) h
+      (λ stop k. job-in s before after rows stop loads (subst (λ (ts : List Table). AreAccepted s ts no_rows rows before.left after.left) (sym (full-tables s.command loads)) read) k) h
 
 -- the tables of `freeflow`
 module _ (s : Settings) (asks : s.command ≡ command.Freeflow) (nodes : List NodeRow) (links : List LinkRow) (left rest : Left)
-    (read : AreAccepted s.units (table.Node ∷ table.Link ∷ []) no_rows (road_rows nodes links) left rest) where
-  free-read : AreAccepted s.units (tables_of s.command) no_rows (road_rows nodes links) left rest
-  free-read = subst (λ (c : Command). AreAccepted s.units (tables_of c) no_rows (road_rows nodes links) left rest) (sym asks) read
+    (read : AreAccepted s (table.Node ∷ table.Link ∷ []) no_rows (road_rows nodes links) left rest) where
+  free-read : AreAccepted s (tables_of s.command) no_rows (road_rows nodes links) left rest
+  free-read = subst (λ (c : Command). AreAccepted s (tables_of c) no_rows (road_rows nodes links) left rest) (sym asks) read
 
-  pub free-job : IsJobOf s (record { net = record { nodes = nodes; links = links; turns = [] }; trips = [] }) left rest
+  pub free-job : IsJobOf s (record { net = record { nodes = nodes; links = links; turns = [] }; trips = []; times = [] }) left rest
   free-job = record {
     rows = road_rows nodes links;
     read = free-read;
@@ -246,3 +290,33 @@ module _ (s : Settings) (asks : s.command ≡ command.Freeflow) (nodes : List No
 
   pub free-counted : AreCounted s (λ rows. ⊤) left rest
   free-counted = record { rows = road_rows nodes links; read = free-read; part = tt }
+
+-- the tables of a skim
+module _ (s : Settings) (asks : s.command ≡ command.Skim) where
+  pub skim-read : (rows : TableRows) (left rest : Left) → AreAccepted s skim_tables no_rows rows left rest → AreAccepted s (tables_of s.command) no_rows rows left rest
+  skim-read rows left rest read = subst (λ (c : Command). AreAccepted s (tables_of c) no_rows rows left rest) (sym asks) read
+
+  pub skim-job : (rows : TableRows) (left rest : Left) → AreAccepted s skim_tables no_rows rows left rest → AreWithin command.Skim s rows
+      → rows.demand_cells ≡ [] → IsJobOf s (record { net = net_of rows; trips = []; times = rows.times }) left rest
+  skim-job rows left rest read within none = record {
+    rows = rows;
+    read = skim-read rows left rest read;
+    within = subst (λ (c : Command). AreWithin c s rows) (sym asks) within;
+    makes = rw (none, trips_of-none s.period) refl;
+  }
+
+  module _ (before after : DeskState) where
+    -- memory was wanting before the link times were read
+    pub skim-starved : (rows : TableRows) → AreAccepted s network_tables no_rows rows before.left after.left → IsCutIn s before.left after.left
+    skim-starved rows read =
+        let reached = reached-then s table.Times (λ _. IsBegun table.Times) network_tables (table.Times ∷ []) no_rows rows before.left after.left after.left read
+        (inl (refl, record { bytes = []; read = sym (before_left-empty table.Times after.left) })) in
+        inr (inl (table.Times, subst (λ (c : Command). ReachedAmong s (tables_of c) table.Times (λ _. IsBegun table.Times) no_rows before.left after.left) (sym asks) reached))
+
+    pub among-skim : (stop : Stop) → StopsAmong s skim_tables no_rows stop before after → StopsIn s stop before after
+    among-skim stop h = among-in s before after stop (subst (λ (c : Command). StopsAmong s (tables_of c) no_rows stop before after) (sym asks) h)
+
+    pub skim-sized : {T : Type 0} (rows : TableRows) (r : Result T Stop) → AreAccepted s skim_tables no_rows rows before.left after.left
+        → IfErr r (StopsSkim s rows) → IfErr r (λ stop. StopsIn s stop before after)
+    skim-sized rows r read h = IfErr-weaker r (StopsSkim s rows) (λ stop. StopsIn s stop before after)
+        (λ stop k. skim-in s before after rows stop asks (skim-read rows before.left after.left read) k) h

@@ -20,9 +20,11 @@ use Rattle.dta_words.specs.declared.command.Command.{Command}
 use Rattle.dta_words.specs.declared.command.Command.TheVariants as command
 use Rattle.dta_words.specs.declared.command.Settings.{Settings}
 use Rattle.dta.specs.Assignment.{VehicleRoutes, end_of}
-use Rattle.dta.specs.Jobs.{JobRows}
+use Rattle.counts.specs.Through.{through_counts}
+use Rattle.counts.specs.Turns.{turn_counts}
+use Rattle.dta.specs.Jobs.{JobRows, plan_of}
 use Rattle.dta.specs.Outputs.{AreToldSteps, AreWatchLines, AreWatchTexts, IsCutOff, OutText, end_lines}
-use Rattle.dta.specs.Outputs.{grown_by, last_texts, summary_of, table_texts, text_to}
+use Rattle.dta.specs.Outputs.{counts_out, grown_by, last_texts, summary_of, table_texts, text_to}
 
 -- some texts went out, and then others
 pub grown-append : (xs ys : List OutText) (t : Taken) → grown_by (xs ++ ys) t ≡ grown_by ys (grown_by xs t)
@@ -182,7 +184,45 @@ module _ (s : Settings) (job : JobRows) (r : VehicleRoutes) (lines : List GapLin
       → IsCutOff (last_texts k s job r lines line) before now
   demo-cut k n before now e part = rw e (cut-one output.Report (report_text (summary_of s job r line)) before now part)
 
+  -- the counts and then the report went out
+  module _ (k : Command) (before mid now : Taken) (asks : k ≡ command.Counts) where
+    abbrev counted : List OutText
+    counted = counts_out s job (turn_counts (plan_of s job r) s.bucket) (through_counts (plan_of s job r)) ∷ []
+
+    pub counts-reported : mid ≡ grown_by counted before
+        → now ≡ grown output.Report (report_text (summary_of s job r line)) mid
+        → now ≡ grown_by (last_texts k s job r lines line) before
+    counts-reported counts report =
+        rw asks (report ∙ ap (grown output.Report (report_text (summary_of s job r line))) counts)
+
+    -- the report was cut off after the counts
+    pub counts-report-cut : mid ≡ grown_by counted before
+        → IsPartOut output.Report (report_text (summary_of s job r line)) mid now
+        → IsCutOff (last_texts k s job r lines line) before now
+    counts-report-cut counts part =
+        rw asks (cut-later counted (text_to output.Report (report_text (summary_of s job r line)) ∷ []) before now
+        (rw (← counts) (cut-one output.Report (report_text (summary_of s job r line)) mid now part)))
+
+  -- the counts were cut off
+  pub counts-cut : (k : Command) (before now : Taken) → k ≡ command.Counts
+      → IsCutOff (counts_out s job (turn_counts (plan_of s job r) s.bucket) (through_counts (plan_of s job r)) ∷ []) before now
+      → IsCutOff (last_texts k s job r lines line) before now
+  counts-cut k before now e cut =
+      rw e (cut-sooner (counts_out s job (turn_counts (plan_of s job r) s.bucket) (through_counts (plan_of s job r)) ∷ [])
+      (text_to output.Report (report_text (summary_of s job r line)) ∷ []) before now cut)
+
   -- and so of another command
+  pub skim-reported : (k : Command) (before now : Taken) → k ≡ command.Skim
+      → now ≡ grown output.Report (report_text (summary_of s job r line)) before
+      → now ≡ grown_by (last_texts k s job r lines line) before
+  skim-reported k before now e report = rw e report
+
+  pub skim-cut : (k : Command) (before now : Taken) → k ≡ command.Skim
+      → IsPartOut output.Report (report_text (summary_of s job r line)) before now
+      → IsCutOff (last_texts k s job r lines line) before now
+  skim-cut k before now e part =
+      rw e (cut-one output.Report (report_text (summary_of s job r line)) before now part)
+
   pub free-reported : (k : Command) (before now : Taken) → k ≡ command.Freeflow
       → now ≡ grown output.Report (report_text (summary_of s job r line)) before
       → now ≡ grown_by (last_texts k s job r lines line) before
@@ -200,6 +240,11 @@ pub ruleset lasts = (
   tables-cut,
   demo-reported,
   demo-cut,
+  counts-reported,
+  counts-report-cut,
+  counts-cut,
+  skim-reported,
+  skim-cut,
   free-reported,
   free-cut,
 )

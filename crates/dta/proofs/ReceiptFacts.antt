@@ -12,7 +12,7 @@ use Rattle.loader.specs.Gates.{GateState, Numbers, numbers_by, taking}
 use Rattle.reports.specs.declared.refusal.Refusal.{Refusal}
 use Rattle.reports.specs.declared.refusal.Refusal.TheVariants as refusal
 use Rattle.dta.specs.Assignment.{VehicleRoutes}
-use Rattle.dta.specs.Jobs.{IsAcceptedJob, JobRows, plan_of}
+use Rattle.dta.specs.Jobs.{IsAcceptedJob, JobRows, Loads, plan_of}
 use Rattle.dta.specs.Outcome.{Works}
 use Rattle.dta.specs.Receipts.{Gives, HasWorked, RunGives, ToldGives, TookAtMost, WorkGives, numbers_in, receipts_in, receipts_of, taking_all}
 use Rattle.dta.specs.Status.{refusal_status}
@@ -93,26 +93,41 @@ module _ (plain : Bool) (numbers : Numbers) (gate : GateState) where
 -- ---- the receipts of a run
 
 -- a command that assigns gives one for each iteration
-receipts-are : (c : Command) (s : Settings) → c ≢ command.Freeflow → receipts_of s.plain s.iterations ≡ receipts_in c s
-receipts-are command.Freeflow s loads = absurd (loads refl)
+receipts-are : (c : Command) (s : Settings) → Loads c → receipts_of s.plain s.iterations ≡ receipts_in c s
+receipts-are command.Freeflow s loads = absurd loads
 receipts-are command.Assign s loads = refl
 receipts-are (command.Demo n) s loads = refl
+receipts-are command.Skim s loads = absurd loads
+receipts-are command.Counts s loads = refl
 
 -- work that gave all receipts, at most as many, or none
 module _ (s : Settings) (job : JobRows) (gate now : GateState) where
-  pub work-all : s.command ≢ command.Freeflow → now ≡ taking_all (receipts_of s.plain s.iterations) (numbers_in s job) gate
+  pub work-all : Loads s.command → now ≡ taking_all (receipts_of s.plain s.iterations) (numbers_in s job) gate
       → now ≡ taking_all (receipts_in s.command s) (numbers_in s job) gate
   work-all loads took = took ∙ ap (λ (n : ℕ). taking_all n (numbers_in s job) gate) (receipts-are s.command s loads)
 
-  pub work-some : s.command ≢ command.Freeflow → TookAtMost (receipts_of s.plain s.iterations) (numbers_in s job) gate now
+  pub work-some : Loads s.command → TookAtMost (receipts_of s.plain s.iterations) (numbers_in s job) gate now
       → TookAtMost (receipts_in s.command s) (numbers_in s job) gate now
   work-some loads took = subst (λ (n : ℕ). TookAtMost n (numbers_in s job) gate now) (receipts-are s.command s loads) took
 
   pub free-none : s.command ≡ command.Freeflow → now ≡ gate → now ≡ taking_all (receipts_in s.command s) (numbers_in s job) gate
   free-none asks same = rw asks same
 
+  pub skim-none : s.command ≡ command.Skim → now ≡ gate → now ≡ taking_all (receipts_in s.command s) (numbers_in s job) gate
+  skim-none asks same = rw asks same
+
   pub took-none : now ≡ gate → TookAtMost (receipts_in s.command s) (numbers_in s job) gate now
   took-none same = (0, omega arith, same)
+
+-- a skim gives none, however it ends
+pub skim-gives : (s : Settings) (job : JobRows) (answer : Status) (gate : GateState) → s.command ≡ command.Skim → WorkGives s job answer gate gate
+skim-gives s job status.Done gate asks = skim-none s job gate gate asks refl
+skim-gives s job status.Usage gate asks = took-none s job gate gate refl
+skim-gives s job status.Table gate asks = took-none s job gate gate refl
+skim-gives s job status.ReadFault gate asks = took-none s job gate gate refl
+skim-gives s job status.WriteFault gate asks = took-none s job gate gate refl
+skim-gives s job status.Memory gate asks = took-none s job gate gate refl
+skim-gives s job status.Size gate asks = took-none s job gate gate refl
 
 -- the receipts of the work are those of the run
 pub work-gives : (words : List (List ℕ)) (s : Settings) (job : JobRows) (answer : Status) (left rest : Left) (before after : Taken)
@@ -138,6 +153,7 @@ refused-gives words (refusal.Read t) left rest gate = refl
 refused-gives words (refusal.LongTable t) left rest gate = refl
 refused-gives words (refusal.Cells links steps) left rest gate = refl
 refused-gives words (refusal.Vehicles line total) left rest gate = refl
+refused-gives words (refusal.SkimPairs number) left rest gate = refl
 
 -- ---- where the bytes of the tables are told
 

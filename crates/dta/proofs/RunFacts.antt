@@ -1,5 +1,5 @@
 -- What a run's answer says, from what its parts say.
-use Rattle.std.proofs.Common.{◌≡◌, ◌≢◌, ℕ, ◌+◌, ◌-◌, List, [], ◌∷◌, ◌++◌, length, refl, sym, ap, subst, arith, inl, inr, ◌∙◌, length-append}
+use Rattle.std.proofs.Common.{◌≡◌, ℕ, ◌+◌, ◌-◌, List, [], ◌∷◌, ◌++◌, length, refl, sym, ap, subst, arith, inl, inr, ◌∙◌, length-append}
 use Rattle.std.specs.Prelude.{None, Some, slice_get}
 use Rattle.desk_io.specs.declared.desk.Output.TheVariants as output
 use Rattle.desk_io.specs.Desk.{Taken}
@@ -12,9 +12,14 @@ use Rattle.dta_words.specs.Grammar.{settings_of}
 use Rattle.dta_words.specs.declared.command.Command.{Command}
 use Rattle.dta_words.specs.declared.command.Command.TheVariants as command
 use Rattle.dta_words.specs.declared.command.Settings.{Settings}
-use Rattle.dta.specs.Jobs.{IsAcceptedJob, JobRows}
+use Rattle.skims.specs.GivenTimes.{table_given}
+use Rattle.skims.specs.Skim.{IsSkim}
+use Rattle.skims.specs.Texts.{IsCutShort as IsSkimCut, IsSkimOut}
+use Rattle.skims.specs.declared.skim_entry.SkimEntry.{SkimEntry}
+use Rattle.dta_model.specs.LinkTimes.{time_at}
+use Rattle.dta.specs.Jobs.{IsAcceptedJob, JobRows, Loads}
 use Rattle.dta.specs.Outcome.{DeskState, IsCause, IsCutShort, IsRefused, Means, ReportsLine, Works}
-use Rattle.dta.specs.Outputs.{AreAssigned, AreTexts, AreTextsSoFar, AreWatched, IsCutOff, OutText, free_texts, grown_by, last_texts}
+use Rattle.dta.specs.Outputs.{AreAssigned, AreSkimmed, AreTexts, AreTextsSoFar, AreWatched, IsCutOff, OutText, free_texts, grown_by, last_texts, skim_texts}
 use Rattle.dta.specs.Progress.{Halts, IsAssigned}
 use Rattle.dta.specs.Status.{refusal_status}
 use Rattle.dta.specs.Stops.{HasFault}
@@ -31,22 +36,28 @@ get-seam (x ∷ xs) y = get-seam xs y
 
 -- ---- the work
 
-texts-are : (c : Command) (s : Settings) (job : JobRows) (texts : List OutText) → c ≢ command.Freeflow → AreAssigned s job texts → AreTexts c s job texts
-texts-are command.Freeflow s job texts loads a = absurd (loads refl)
+texts-are : (c : Command) (s : Settings) (job : JobRows) (texts : List OutText) → Loads c → AreAssigned s job texts → AreTexts c s job texts
+texts-are command.Freeflow s job texts loads a = absurd loads
 texts-are command.Assign s job texts loads a = a
 texts-are (command.Demo n) s job texts loads a = a
+texts-are command.Skim s job texts loads a = absurd loads
+texts-are command.Counts s job texts loads a = a
 
-so-far-assigned : (c : Command) (s : Settings) (job : JobRows) (texts : List OutText) → c ≢ command.Freeflow → AreAssigned s job texts → AreTextsSoFar c s job texts
-so-far-assigned command.Freeflow s job texts loads a = absurd (loads refl)
+so-far-assigned : (c : Command) (s : Settings) (job : JobRows) (texts : List OutText) → Loads c → AreAssigned s job texts → AreTextsSoFar c s job texts
+so-far-assigned command.Freeflow s job texts loads a = absurd loads
 so-far-assigned command.Assign s job texts loads a = inl a
 so-far-assigned (command.Demo n) s job texts loads a = inl a
+so-far-assigned command.Skim s job texts loads a = absurd loads
+so-far-assigned command.Counts s job texts loads a = inl a
 
-so-far-watched : (c : Command) (s : Settings) (job : JobRows) (texts : List OutText) → c ≢ command.Freeflow → AreWatched s job texts → AreTextsSoFar c s job texts
-so-far-watched command.Freeflow s job texts loads a = absurd (loads refl)
+so-far-watched : (c : Command) (s : Settings) (job : JobRows) (texts : List OutText) → Loads c → AreWatched s job texts → AreTextsSoFar c s job texts
+so-far-watched command.Freeflow s job texts loads a = absurd loads
 so-far-watched command.Assign s job texts loads a = inr a
 so-far-watched (command.Demo n) s job texts loads a = inr a
+so-far-watched command.Skim s job texts loads a = absurd loads
+so-far-watched command.Counts s job texts loads a = inr a
 
-module _ (s : Settings) (job : JobRows) (loads : s.command ≢ command.Freeflow) where
+module _ (s : Settings) (job : JobRows) (loads : Loads s.command) where
   -- all texts of an assignment whose iterations are done
   module _ (x : Assigned) (start now : Taken) (a : IsAssigned s job x start now) where
     abbrev last : List OutText
@@ -93,6 +104,36 @@ module _ (s : Settings) (job : JobRows) (asks : s.command ≡ command.Freeflow) 
   pub free-cut : IsFreeCut job.net before after → Works s job status.WriteFault before after
   free-cut (inl part) = (free_texts job.net, subst (λ (c : Command). AreTextsSoFar c s job (free_texts job.net)) (sym asks) refl, inl part)
   free-cut (inr part) = (free_texts job.net, subst (λ (c : Command). AreTextsSoFar c s job (free_texts job.net)) (sym asks) refl, inr (inl part))
+
+-- the work of `skim`
+module _ (s : Settings) (job : JobRows) (asks : s.command ≡ command.Skim) (entries : List SkimEntry)
+    (skim : IsSkim (time_at (table_given job.net s.bucket s.horizon job.times)) job.net s.starts entries) (before after : Taken) where
+  skimmed : AreSkimmed s job (skim_texts job.net entries)
+  skimmed = record { entries = entries; skim = skim; texts_are = refl }
+
+  pub skim-done : IsSkimOut job.net entries before after → Works s job status.Done before after
+  skim-done out =
+      (skim_texts job.net entries, subst (λ (c : Command). AreTexts c s job (skim_texts job.net entries)) (sym asks) skimmed, out)
+
+  pub skim-cut : IsSkimCut job.net entries before after → Works s job status.WriteFault before after
+  skim-cut (inl part) =
+      (skim_texts job.net entries, subst (λ (c : Command). AreTextsSoFar c s job (skim_texts job.net entries)) (sym asks) skimmed, inl part)
+  skim-cut (inr part) =
+      (skim_texts job.net entries, subst (λ (c : Command). AreTextsSoFar c s job (skim_texts job.net entries)) (sym asks) skimmed, inr (inl part))
+
+-- no iteration, and so no watch line
+nothing-watched : (s : Settings) (job : JobRows) → AreWatched s job []
+nothing-watched s job = record {
+  routes = [];
+  lines = [];
+  iterations = record { first = λ r e. absurd cc; next = λ i old new e f. absurd cc; gaps = λ i r line e f. absurd cc };
+  few = omega arith;
+  watch_lines = refl;
+}
+
+-- nothing was put
+pub skim-starved : (s : Settings) (job : JobRows) (taken : Taken) → Works s job status.Memory taken taken
+skim-starved s job taken = ([], nothing-watched s job, refl)
 
 -- ---- the answer
 
@@ -157,7 +198,8 @@ module _ (words : List (List ℕ)) (s : Settings) (before between after : DeskSt
       (t, refused (refusal.Read t) cause line, subst (λ n. Rose before.read_faults n) reads fault)
   refused-means (refusal.LongTable t) cause fault line = inl (t, refused (refusal.LongTable t) cause line)
   refused-means (refusal.Cells links steps) cause fault line = inr (inl (links, steps, refused (refusal.Cells links steps) cause line))
-  refused-means (refusal.Vehicles line-no total) cause fault line = inr (inr (line-no, total, refused (refusal.Vehicles line-no total) cause line))
+  refused-means (refusal.Vehicles line-no total) cause fault line = inr (inr (inl (line-no, total, refused (refusal.Vehicles line-no total) cause line)))
+  refused-means (refusal.SkimPairs number) cause fault line = inr (inr (inr (number, refused (refusal.SkimPairs number) cause line)))
 
 -- memory was wanting before the work
 pub starved-means : (words : List (List ℕ)) (s : Settings) (before after : DeskState) → settings_of words ≡ Some s

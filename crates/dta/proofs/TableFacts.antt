@@ -1,6 +1,6 @@
 -- The first fault of a table stands in that table, and reading stops there.
 use Rattle.std.proofs.Common.{◌≡◌, ℕ, ◌+◌, ◌≤◌, List, [], ◌∷◌, ◌++◌, length, refl, sym, ap, subst, true, false}
-use Rattle.std.specs.Prelude.{Option, Result, Ok, Err}
+use Rattle.std.specs.Prelude.{Option, Result, Ok, Err, nat_lt}
 use Rattle.std.proofs.Common.{Vec}
 use Rattle.std.specs.declared.alloc.Global.{Global}
 use Rattle.desk_io.specs.declared.desk.Table.{Table}
@@ -11,13 +11,14 @@ use Rattle.row_reader.specs.Records.{Record, is_text, records}
 use Rattle.row_reader.specs.Faults.{fault_of}
 use Rattle.row_reader.specs.Fields.{complain}
 use Rattle.row_reader.specs.FirstFault.{Judge, Tells, at_line, judged, rows_from, then_with, verdict}
-use Rattle.row_reader.specs.declared.faults.Code.TheVariants.{E2}
+use Rattle.row_reader.specs.declared.faults.Code.TheVariants.{E2, E13}
 use Rattle.row_reader.specs.declared.faults.Column.TheVariants.{NoColumn}
 use Rattle.row_reader.specs.declared.faults.Complaint.{Complaint}
 use Rattle.row_reader.specs.declared.faults.TableFault.{TableFault}
 use Rattle.row_reader.specs.declared.faults.TableRefusal.{TableRefusal}
 use Rattle.row_reader.specs.declared.faults.TableRefusal.TheVariants as refusal
 use Rattle.net_core.specs.declared.rows.LinkRow.{LinkRow}
+use Rattle.net_core.specs.declared.rows.NetRows.{NetRows}
 use Rattle.net_core.specs.declared.rows.NodeRow.{NodeRow}
 use Rattle.net_core.specs.declared.rows.TurnRow.{TurnRow}
 use Rattle.dta_model.specs.declared.trip.DemandCell.{DemandCell}
@@ -26,15 +27,18 @@ use Rattle.gmns_tables.specs.Links.{link_of, link_places, link_verdict}
 use Rattle.gmns_tables.specs.Movements.{movement_of, movement_places}
 use Rattle.gmns_tables.specs.Net.{listed_turns}
 use Rattle.gmns_tables.specs.Nodes.{node_of, node_places, node_verdict}
-use Rattle.fixed_units.specs.declared.units.Units.{Units}
 use Rattle.demand.specs.DemandRows.{demand_cell_of, demand_places, demand_verdict}
 use Rattle.demand.specs.declared.demand_rows.TheConstants.{MOST_DEMAND_CELLS}
 use Rattle.desk_io.specs.declared.transfers.TheConstants.{MOST_TABLE_BYTES}
 use Rattle.dta.specs.Outcome.{DeskState}
 use Rattle.dta.specs.Stops.{StopsAt, stop_of}
-use Rattle.dta.specs.Calls.{rows_in_roads, rows_with_turns, with_demand_cells}
-use Rattle.dta.specs.Tables.{IsAccepted, TableRows, no_rows, road_rows, turns_of, with_table}
+use Rattle.dta.specs.Calls.{rows_in_roads, rows_with_turns, with_demand_cells, with_time_rows}
+use Rattle.skims.specs.TimesTable.{none_missing, row_count, time_row_of, times_places, times_verdict}
+use Rattle.skims.specs.declared.times_table.TheConstants.{MOST_TIME_ROWS}
+use Rattle.skims.specs.declared.time_rows.TimeRow.{TimeRow}
+use Rattle.dta.specs.Tables.{IsAccepted, TableRows, net_of, no_rows, road_rows, turns_of, with_table}
 use Rattle.dta.specs.declared.tables.Roads.{Roads}
+use Rattle.dta_words.specs.declared.command.Settings.{Settings}
 
 -- of a line, and then of the rest
 then-table : {A B : Type 0} (t : Table) (line : ℕ) (r : Result A Complaint) (next : A → Result B TableFault) (f : TableFault)
@@ -59,101 +63,141 @@ verdict-table t limit places columns (header ∷ rest) f e =
     ] refl
 
 -- what a reader refused over a text that is these bytes
-abbrev IsToldBy : Units → Table → TableRows → List ℕ → TableRefusal → Type 0
-IsToldBy units t rows bytes (refusal.Fault f) = (with_table units rows t bytes ≡ Err f) × (f.table ≡ t)
-IsToldBy units t rows bytes refusal.Memory = Unit {0}
+abbrev IsToldBy : Settings → Table → TableRows → List ℕ → TableRefusal → Type 0
+IsToldBy settings t rows bytes (refusal.Fault f) = (with_table settings rows t bytes ≡ Err f) × (f.table ≡ t)
+IsToldBy settings t rows bytes refusal.Memory = Unit {0}
 
 -- reading stopped at a table by what its reader answered over the text that was read
-stop-at : (units : Units) (t : Table) (rows : TableRows) (bytes : List ℕ) (before after : DeskState) (why : TableRefusal)
-    → IsRead t bytes before.left after.left → length bytes ≤ MOST_TABLE_BYTES → IsToldBy units t rows bytes why
-    → StopsAt units t rows (stop_of why) before after
-stop-at units t rows bytes before after (refusal.Fault f) read short told =
+stop-at : (settings : Settings) (t : Table) (rows : TableRows) (bytes : List ℕ) (before after : DeskState) (why : TableRefusal)
+    → IsRead t bytes before.left after.left → length bytes ≤ MOST_TABLE_BYTES → IsToldBy settings t rows bytes why
+    → StopsAt settings t rows (stop_of why) before after
+stop-at settings t rows bytes before after (refusal.Fault f) read short told =
     (told.1, record { bytes = bytes; read = read; short = short; first = told.0; its_own = told.1 })
-stop-at units t rows bytes before after refusal.Memory read short told = record { bytes = bytes; read = read.read }
+stop-at settings t rows bytes before after refusal.Memory read short told = record { bytes = bytes; read = read.read }
 
-nodes-told : (units : Units) (rows : TableRows) (bytes : List ℕ) (why : TableRefusal) → Tells (node_verdict (records bytes)) (Err why)
-    → IsToldBy units table.Node rows bytes why
-nodes-told units rows bytes (refusal.Fault f) told =
+nodes-told : (settings : Settings) (rows : TableRows) (bytes : List ℕ) (why : TableRefusal) → Tells (node_verdict (records bytes)) (Err why)
+    → IsToldBy settings table.Node rows bytes why
+nodes-told settings rows bytes (refusal.Fault f) told =
     (rw (told) refl, verdict-table table.Node MOST_NODES node_places node_of (records bytes) f told)
-nodes-told units rows bytes refusal.Memory told = tt
+nodes-told settings rows bytes refusal.Memory told = tt
 
-links-told : (units : Units) (rows : TableRows) (bytes : List ℕ) (why : TableRefusal) → Tells (link_verdict rows.nodes units (records bytes)) (Err why)
-    → IsToldBy units table.Link rows bytes why
-links-told units rows bytes (refusal.Fault f) told =
-    (rw (told) refl, verdict-table table.Link MOST_LINKS link_places (link_of rows.nodes units) (records bytes) f told)
-links-told units rows bytes refusal.Memory told = tt
+links-told : (settings : Settings) (rows : TableRows) (bytes : List ℕ) (why : TableRefusal) → Tells (link_verdict rows.nodes settings.units (records bytes)) (Err why)
+    → IsToldBy settings table.Link rows bytes why
+links-told settings rows bytes (refusal.Fault f) told =
+    (rw (told) refl, verdict-table table.Link MOST_LINKS link_places (link_of rows.nodes settings.units) (records bytes) f told)
+links-told settings rows bytes refusal.Memory told = tt
 
-turns-table : (units : Units) (rows : TableRows) (bytes : List ℕ) (f : TableFault) → turns_of units rows bytes ≡ Err f → f.table ≡ table.Movement
-turns-table units rows [] f told = absurd cc
-turns-table units rows (b ∷ bytes) f told =
-    verdict-table table.Movement MOST_TURNS movement_places (movement_of rows.nodes rows.links units) (records (b ∷ bytes)) f told
+turns-table : (settings : Settings) (rows : TableRows) (bytes : List ℕ) (f : TableFault) → turns_of settings rows bytes ≡ Err f → f.table ≡ table.Movement
+turns-table settings rows [] f told = absurd cc
+turns-table settings rows (b ∷ bytes) f told =
+    verdict-table table.Movement MOST_TURNS movement_places (movement_of rows.nodes rows.links settings.units) (records (b ∷ bytes)) f told
 
-turns-told : (units : Units) (rows : TableRows) (bytes : List ℕ) (why : TableRefusal) → Tells (turns_of units rows bytes) (Err why)
-    → IsToldBy units table.Movement rows bytes why
-turns-told units rows bytes (refusal.Fault f) told = (rw (told) refl, turns-table units rows bytes f told)
-turns-told units rows bytes refusal.Memory told = tt
+turns-told : (settings : Settings) (rows : TableRows) (bytes : List ℕ) (why : TableRefusal) → Tells (turns_of settings rows bytes) (Err why)
+    → IsToldBy settings table.Movement rows bytes why
+turns-told settings rows bytes (refusal.Fault f) told = (rw (told) refl, turns-table settings rows bytes f told)
+turns-told settings rows bytes refusal.Memory told = tt
 
-demand_cells-told : (units : Units) (rows : TableRows) (bytes : List ℕ) (why : TableRefusal) → Tells (demand_verdict (records bytes)) (Err why)
-    → IsToldBy units table.Demand rows bytes why
-demand_cells-told units rows bytes (refusal.Fault f) told =
+demand_cells-told : (settings : Settings) (rows : TableRows) (bytes : List ℕ) (why : TableRefusal) → Tells (demand_verdict (records bytes)) (Err why)
+    → IsToldBy settings table.Demand rows bytes why
+demand_cells-told settings rows bytes (refusal.Fault f) told =
     (rw (told) refl, verdict-table table.Demand MOST_DEMAND_CELLS demand_places demand_cell_of (records bytes) f told)
-demand_cells-told units rows bytes refusal.Memory told = tt
+demand_cells-told settings rows bytes refusal.Memory told = tt
 
-pub nodes-stop : (units : Units) (rows : TableRows) (bytes text : List ℕ) (before after : DeskState) (why : TableRefusal) → IsRead table.Node bytes before.left after.left
-    → length bytes ≤ MOST_TABLE_BYTES → text ≡ bytes → Tells (node_verdict (records text)) (Err why) → StopsAt units table.Node rows (stop_of why) before after
-nodes-stop units rows bytes text before after why read short same told =
-    stop-at units table.Node rows bytes before after why read short (nodes-told units rows bytes why (subst (λ x. Tells (node_verdict (records x)) (Err why)) same told))
+-- the fault of missing link times, and of those that are there
+missing-table : (n : ℕ) (r : Result (List TimeRow) TableFault) (f : TableFault) → ((g : TableFault) → r ≡ Err g → g.table ≡ table.Times)
+    → then_with r (none_missing n) ≡ Err f → f.table ≡ table.Times
+missing-table n (Err g) f own e = own f e
+missing-table n (Ok rows) f own e =
+    elim (nat_lt (length rows) n) as (λ b. nat_lt (length rows) n ≡ b → f.table ≡ table.Times) [
+      | true ↦ λ b. let k = rw b at e in let s : fault_of table.Times (length rows + 2) (complain E13 NoColumn) ≡ f = cc in ap (λ (g : TableFault). g.table) (sym s)
+      | false ↦ λ b. let k = rw b at e in absurd cc
+    ] refl
 
-pub links-stop : (units : Units) (rows : TableRows) (bytes text : List ℕ) (before after : DeskState) (why : TableRefusal) → IsRead table.Link bytes before.left after.left
-    → length bytes ≤ MOST_TABLE_BYTES → text ≡ bytes → Tells (link_verdict rows.nodes units (records text)) (Err why) → StopsAt units table.Link rows (stop_of why) before after
-links-stop units rows bytes text before after why read short same told =
-    stop-at units table.Link rows bytes before after why read short (links-told units rows bytes why (subst (λ x. Tells (link_verdict rows.nodes units (records x)) (Err why)) same told))
+times-table : (net : NetRows) (bucket horizon : ℕ) (all : List Record) (f : TableFault) → times_verdict net bucket horizon all ≡ Err f → f.table ≡ table.Times
+times-table net bucket horizon all f told =
+    missing-table (row_count net bucket horizon) _ f
+    (λ g e. verdict-table table.Times MOST_TIME_ROWS times_places (time_row_of net bucket horizon) all g e) told
 
-pub turns-stop : (units : Units) (rows : TableRows) (bytes text : List ℕ) (before after : DeskState) (why : TableRefusal) → IsRead table.Movement bytes before.left after.left
-    → length bytes ≤ MOST_TABLE_BYTES → text ≡ bytes → Tells (turns_of units rows text) (Err why) → StopsAt units table.Movement rows (stop_of why) before after
-turns-stop units rows bytes text before after why read short same told =
-    stop-at units table.Movement rows bytes before after why read short (turns-told units rows bytes why (subst (λ x. Tells (turns_of units rows x) (Err why)) same told))
+times-told : (settings : Settings) (rows : TableRows) (bytes : List ℕ) (why : TableRefusal)
+    → Tells (times_verdict (net_of rows) settings.bucket settings.horizon (records bytes)) (Err why) → IsToldBy settings table.Times rows bytes why
+times-told settings rows bytes (refusal.Fault f) told =
+    (rw (told) refl, times-table (net_of rows) settings.bucket settings.horizon (records bytes) f told)
+times-told settings rows bytes refusal.Memory told = tt
 
-pub demand_cells-stop : (units : Units) (rows : TableRows) (bytes text : List ℕ) (before after : DeskState) (why : TableRefusal) → IsRead table.Demand bytes before.left after.left
-    → length bytes ≤ MOST_TABLE_BYTES → text ≡ bytes → Tells (demand_verdict (records text)) (Err why) → StopsAt units table.Demand rows (stop_of why) before after
-demand_cells-stop units rows bytes text before after why read short same told =
-    stop-at units table.Demand rows bytes before after why read short (demand_cells-told units rows bytes why (subst (λ x. Tells (demand_verdict (records x)) (Err why)) same told))
+pub nodes-stop : (settings : Settings) (rows : TableRows) (bytes text : List ℕ) (before after : DeskState) (why : TableRefusal) → IsRead table.Node bytes before.left after.left
+    → length bytes ≤ MOST_TABLE_BYTES → text ≡ bytes → Tells (node_verdict (records text)) (Err why) → StopsAt settings table.Node rows (stop_of why) before after
+nodes-stop settings rows bytes text before after why read short same told =
+    stop-at settings table.Node rows bytes before after why read short (nodes-told settings rows bytes why (subst (λ x. Tells (node_verdict (records x)) (Err why)) same told))
+
+pub links-stop : (settings : Settings) (rows : TableRows) (bytes text : List ℕ) (before after : DeskState) (why : TableRefusal) → IsRead table.Link bytes before.left after.left
+    → length bytes ≤ MOST_TABLE_BYTES → text ≡ bytes → Tells (link_verdict rows.nodes settings.units (records text)) (Err why) → StopsAt settings table.Link rows (stop_of why) before after
+links-stop settings rows bytes text before after why read short same told =
+    stop-at settings table.Link rows bytes before after why read short (links-told settings rows bytes why (subst (λ x. Tells (link_verdict rows.nodes settings.units (records x)) (Err why)) same told))
+
+pub turns-stop : (settings : Settings) (rows : TableRows) (bytes text : List ℕ) (before after : DeskState) (why : TableRefusal) → IsRead table.Movement bytes before.left after.left
+    → length bytes ≤ MOST_TABLE_BYTES → text ≡ bytes → Tells (turns_of settings rows text) (Err why) → StopsAt settings table.Movement rows (stop_of why) before after
+turns-stop settings rows bytes text before after why read short same told =
+    stop-at settings table.Movement rows bytes before after why read short (turns-told settings rows bytes why (subst (λ x. Tells (turns_of settings rows x) (Err why)) same told))
+
+pub demand_cells-stop : (settings : Settings) (rows : TableRows) (bytes text : List ℕ) (before after : DeskState) (why : TableRefusal) → IsRead table.Demand bytes before.left after.left
+    → length bytes ≤ MOST_TABLE_BYTES → text ≡ bytes → Tells (demand_verdict (records text)) (Err why) → StopsAt settings table.Demand rows (stop_of why) before after
+demand_cells-stop settings rows bytes text before after why read short same told =
+    stop-at settings table.Demand rows bytes before after why read short (demand_cells-told settings rows bytes why (subst (λ x. Tells (demand_verdict (records x)) (Err why)) same told))
+
+pub times-stop : (settings : Settings) (rows : TableRows) (net : NetRows) (bytes text : List ℕ) (before after : DeskState) (why : TableRefusal)
+    → net_of rows ≡ net → IsRead table.Times bytes before.left after.left → length bytes ≤ MOST_TABLE_BYTES → text ≡ bytes
+    → Tells (times_verdict net settings.bucket settings.horizon (records text)) (Err why) → StopsAt settings table.Times rows (stop_of why) before after
+times-stop settings rows net bytes text before after why over read short same told =
+    let on_rows : Tells (times_verdict (net_of rows) settings.bucket settings.horizon (records bytes)) (Err why) =
+    subst (λ x. Tells (times_verdict (net_of rows) settings.bucket settings.horizon (records x)) (Err why)) same
+    (subst (λ (n : NetRows). Tells (times_verdict n settings.bucket settings.horizon (records text)) (Err why)) (sym over) told) in
+    stop-at settings table.Times rows bytes before after why read short (times-told settings rows bytes why on_rows)
 
 -- ---- a table was read to its end, and its reader gave rows
 
-pub nodes-accepted : (units : Units) (bytes text : List ℕ) (nodes : List NodeRow) (before after : Left)
+pub nodes-accepted : (settings : Settings) (bytes text : List ℕ) (nodes : List NodeRow) (before after : Left)
     → IsRead table.Node bytes before after → length bytes ≤ MOST_TABLE_BYTES → text ≡ bytes
     → Tells (node_verdict (records text)) (Ok nodes)
-    → IsAccepted units table.Node no_rows (road_rows nodes []) before after
-nodes-accepted units bytes text nodes before after read short same is =
+    → IsAccepted settings table.Node no_rows (road_rows nodes []) before after
+nodes-accepted settings bytes text nodes before after read short same is =
     let k : node_verdict (records bytes) ≡ Ok nodes =
     subst (λ x. node_verdict (records x) ≡ Ok nodes) same is in
     record { bytes = bytes; read = read; short = short; accepted = rw k refl }
 
-pub links-accepted : (units : Units) (nodes : List NodeRow) (bytes text : List ℕ) (links : List LinkRow)
+pub links-accepted : (settings : Settings) (nodes : List NodeRow) (bytes text : List ℕ) (links : List LinkRow)
     (before after : Left) → IsRead table.Link bytes before after → length bytes ≤ MOST_TABLE_BYTES
-    → text ≡ bytes → Tells (link_verdict nodes units (records text)) (Ok links)
-    → IsAccepted units table.Link (road_rows nodes []) (road_rows nodes links) before after
-links-accepted units nodes bytes text links before after read short same is =
-    let k : link_verdict nodes units (records bytes) ≡ Ok links =
-    subst (λ x. link_verdict nodes units (records x) ≡ Ok links) same is in
+    → text ≡ bytes → Tells (link_verdict nodes settings.units (records text)) (Ok links)
+    → IsAccepted settings table.Link (road_rows nodes []) (road_rows nodes links) before after
+links-accepted settings nodes bytes text links before after read short same is =
+    let k : link_verdict nodes settings.units (records bytes) ≡ Ok links =
+    subst (λ x. link_verdict nodes settings.units (records x) ≡ Ok links) same is in
     record { bytes = bytes; read = read; short = short; accepted = rw k refl }
 
-pub turns-accepted : (units : Units) (roads : Roads) (bytes text : List ℕ)
+pub turns-accepted : (settings : Settings) (roads : Roads) (bytes text : List ℕ)
     (turns : Option (List TurnRow)) (before after : Left) → IsRead table.Movement bytes before after
     → length bytes ≤ MOST_TABLE_BYTES → text ≡ bytes
-    → turns_of units (rows_in_roads roads) text ≡ Ok (listed_turns turns)
-    → IsAccepted units table.Movement (rows_in_roads roads) (rows_with_turns roads turns) before after
-turns-accepted units roads bytes text turns before after read short same is =
-    let k : turns_of units (rows_in_roads roads) bytes ≡ Ok (listed_turns turns) =
-    subst (λ x. turns_of units (rows_in_roads roads) x ≡ Ok (listed_turns turns)) same is in
+    → turns_of settings (rows_in_roads roads) text ≡ Ok (listed_turns turns)
+    → IsAccepted settings table.Movement (rows_in_roads roads) (rows_with_turns roads turns) before after
+turns-accepted settings roads bytes text turns before after read short same is =
+    let k : turns_of settings (rows_in_roads roads) bytes ≡ Ok (listed_turns turns) =
+    subst (λ x. turns_of settings (rows_in_roads roads) x ≡ Ok (listed_turns turns)) same is in
     record { bytes = bytes; read = read; short = short; accepted = rw k refl }
 
-pub demand_cells-accepted : (units : Units) (rows : TableRows) (bytes text : List ℕ)
+pub demand_cells-accepted : (settings : Settings) (rows : TableRows) (bytes text : List ℕ)
     (demand_cells : Vec DemandCell Global) (before after : Left) → IsRead table.Demand bytes before after
     → length bytes ≤ MOST_TABLE_BYTES → text ≡ bytes → demand_verdict (records text) ≡ Ok demand_cells.items
-    → IsAccepted units table.Demand rows (with_demand_cells rows demand_cells) before after
-demand_cells-accepted units rows bytes text demand_cells before after read short same is =
+    → IsAccepted settings table.Demand rows (with_demand_cells rows demand_cells) before after
+demand_cells-accepted settings rows bytes text demand_cells before after read short same is =
     let k : demand_verdict (records bytes) ≡ Ok demand_cells.items =
     subst (λ x. demand_verdict (records x) ≡ Ok demand_cells.items) same is in
+    record { bytes = bytes; read = read; short = short; accepted = rw k refl }
+
+pub times-accepted : (settings : Settings) (rows : TableRows) (net : NetRows) (bytes text : List ℕ) (times : List TimeRow) (before after : Left)
+    → net_of rows ≡ net → IsRead table.Times bytes before after → length bytes ≤ MOST_TABLE_BYTES → text ≡ bytes
+    → times_verdict net settings.bucket settings.horizon (records text) ≡ Ok times
+    → IsAccepted settings table.Times rows (with_time_rows rows times) before after
+times-accepted settings rows net bytes text times before after over read short same is =
+    let k : times_verdict (net_of rows) settings.bucket settings.horizon (records bytes) ≡ Ok times =
+    subst (λ x. times_verdict (net_of rows) settings.bucket settings.horizon (records x) ≡ Ok times) same
+    (subst (λ (n : NetRows). times_verdict n settings.bucket settings.horizon (records text) ≡ Ok times) (sym over) is) in
     record { bytes = bytes; read = read; short = short; accepted = rw k refl }

@@ -5,14 +5,13 @@ use Rattle.std.specs.List.{range_with_len}
 use Rattle.std.proofs.lemmas.List.{append-nil}
 use Rattle.std.specs.Io.KnownBytes.{prepend_known, IsAtEnd}
 use Rattle.desk_io.specs.declared.desk.Table.{Table}
-use Rattle.desk_io.specs.declared.desk.Table.TheVariants.{Node, Link, Movement, Demand}
+use Rattle.desk_io.specs.declared.desk.Table.TheVariants.{Node, Link, Movement, Demand, Times}
 use Rattle.desk_io.specs.Desk.{Left, left_of, before_left}
 use Rattle.desk_io.specs.Transfers.{IsBegun, IsRead, IsLong}
 use Rattle.row_reader.specs.declared.faults.TableFault.{TableFault}
 use Rattle.dta_model.specs.Release.{vehicles_before}
 use Rattle.dta_model.specs.declared.trip.DemandCell.{DemandCell}
 use Rattle.dta_model.specs.declared.trip.TheConstants.{MOST_TRIPS}
-use Rattle.fixed_units.specs.declared.units.Units.{Units}
 use Rattle.vehicle_release.specs.Limits.{IsFirstAbove, IsWithin}
 use Rattle.reports.specs.declared.refusal.Refusal.{Refusal}
 use Rattle.reports.specs.declared.refusal.Refusal.TheVariants as refusal
@@ -24,11 +23,12 @@ use Rattle.dta_words.specs.declared.command.Command.TheVariants as command
 use Rattle.dta_words.specs.declared.command.Settings.{Settings}
 use Rattle.dta.specs.declared.status.Status.{Status}
 use Rattle.dta.specs.declared.status.Status.TheVariants as status
-use Rattle.dta.specs.Jobs.{AreWithin, HasRoom, IsAcceptedJob, JobRows, job_of, read_tables, source, tables_of}
+use Rattle.reports.specs.declared.refusal.TheConstants.{MOST_SKIM_ENTRIES}
+use Rattle.dta.specs.Jobs.{AreWithin, HasRoom, IsAcceptedJob, JobRows, Loads, job_of, read_tables, skim_entries, source, tables_of}
 use Rattle.dta.specs.Outcome.{AreCounted, Answers, DeskState, IsCause, IsHindered, IsReadBy, IsRefused, IsUnread, Means, ReadsFailed}
 use Rattle.dta.specs.Status.{refusal_status}
 use Rattle.dta.specs.Tables.{AreAccepted, AreTold, ReachedAmong, IsAccepted, IsFaulty, TableRows, no_rows, with_table}
-use Rattle.dta.specs.Verdict.{Verdict, Refused, Accepted, AreToldBy, first_above, texts_of, verdict, verdict_by, verdict_on, verdict_on_rows, verdict_on_sizes}
+use Rattle.dta.specs.Verdict.{Verdict, Refused, Accepted, AreToldBy, first_above, texts_of, verdict, verdict_by, verdict_on, verdict_on_rows, verdict_on_sizes, verdict_on_skim}
 
 -- ---- what was read is what is told
 
@@ -46,6 +46,7 @@ its-own Node bytes left = refl
 its-own Link bytes left = refl
 its-own Movement bytes left = refl
 its-own Demand bytes left = refl
+its-own Times bytes left = refl
 
 -- and what is left of another table
 another : (t u : Table) (bytes : List ℕ) (left : Left) → t ≢ u → left_of u (before_left t bytes left) ≡ left_of u left
@@ -53,6 +54,7 @@ another Node Node bytes left n = absurd (n refl)
 another Link Link bytes left n = absurd (n refl)
 another Movement Movement bytes left n = absurd (n refl)
 another Demand Demand bytes left n = absurd (n refl)
+another Times Times bytes left n = absurd (n refl)
 another t u bytes left n = refl
 
 -- the bytes that were read of a table are a first part of those that were told
@@ -86,9 +88,9 @@ others-told t [] texts bytes after o h = tt
 others-told t (u ∷ others) texts bytes after o h =
     (sym (another t u bytes after o.0) ∙ h.0, others-told t others texts bytes after o.1 h.1)
 
-still-told : (units : Units) (t : Table) (others : List Table) (texts : Table → List ℕ) (rows next : TableRows) (before after : Left)
-    → AreOthers t others → IsAccepted units t rows next before after → AreTold others before texts → AreTold others after texts
-still-told units t others texts rows next before after o h told =
+still-told : (settings : Settings) (t : Table) (others : List Table) (texts : Table → List ℕ) (rows next : TableRows) (before after : Left)
+    → AreOthers t others → IsAccepted settings t rows next before after → AreTold others before texts → AreTold others after texts
+still-told settings t others texts rows next before after o h told =
     others-told t others texts h.bytes after o (subst (λ (l : Left). AreTold others l texts) h.read.read told)
 
 -- ---- the verdict, table by table
@@ -106,57 +108,57 @@ within-is : (n limit : ℕ) → n ≤ limit → nat_lt limit n ≡ false
 within-is n limit h = search rules
 
 -- a table that was accepted
-on-accepted : (units : Units) (t : Table) (others : List Table) (texts : Table → List ℕ) (rows next : TableRows) (before after : Left) (then : TableRows → Verdict)
-    → IsAccepted units t rows next before after → left_of t before ≡ Some (texts t)
-    → verdict_on units (t ∷ others) texts rows then ≡ verdict_on units others texts next then
-on-accepted units t others texts rows next before after then h e =
+on-accepted : (settings : Settings) (t : Table) (others : List Table) (texts : Table → List ℕ) (rows next : TableRows) (before after : Left) (then : TableRows → Verdict)
+    → IsAccepted settings t rows next before after → left_of t before ≡ Some (texts t)
+    → verdict_on settings (t ∷ others) texts rows then ≡ verdict_on settings others texts next then
+on-accepted settings t others texts rows next before after then h e =
     let same : h.bytes ≡ texts t = whole-told t h.bytes (texts t) before after h.read e in
     let s : nat_le (length (texts t)) MOST_TABLE_BYTES ≡ true = short-is (length (texts t)) MOST_TABLE_BYTES (rw same at h.short) in
-    let p : with_table units rows t (texts t) ≡ Ok next = rw same at h.accepted in
+    let p : with_table settings rows t (texts t) ≡ Ok next = rw same at h.accepted in
     rw (s, p) refl
 
 -- a table with a first fault
-on-faulty : (units : Units) (fault : TableFault) (t : Table) (others : List Table) (texts : Table → List ℕ) (rows : TableRows) (before after : Left) (then : TableRows → Verdict)
-    → IsFaulty units fault t rows before after → left_of t before ≡ Some (texts t)
-    → verdict_on units (t ∷ others) texts rows then ≡ Refused (refusal.Table fault)
-on-faulty units fault t others texts rows before after then h e =
+on-faulty : (settings : Settings) (fault : TableFault) (t : Table) (others : List Table) (texts : Table → List ℕ) (rows : TableRows) (before after : Left) (then : TableRows → Verdict)
+    → IsFaulty settings fault t rows before after → left_of t before ≡ Some (texts t)
+    → verdict_on settings (t ∷ others) texts rows then ≡ Refused (refusal.Table fault)
+on-faulty settings fault t others texts rows before after then h e =
     let same : h.bytes ≡ texts t = whole-told t h.bytes (texts t) before after h.read e in
     let s : nat_le (length (texts t)) MOST_TABLE_BYTES ≡ true = short-is (length (texts t)) MOST_TABLE_BYTES (rw same at h.short) in
-    let p : with_table units rows t (texts t) ≡ Err fault = rw same at h.first in
+    let p : with_table settings rows t (texts t) ≡ Err fault = rw same at h.first in
     rw (s, p) refl
 
 -- a table that is too long
-on-long : (units : Units) (t : Table) (others : List Table) (texts : Table → List ℕ) (rows : TableRows) (before after : Left) (then : TableRows → Verdict)
+on-long : (settings : Settings) (t : Table) (others : List Table) (texts : Table → List ℕ) (rows : TableRows) (before after : Left) (then : TableRows → Verdict)
     → IsLong t MOST_TABLE_BYTES before after → left_of t before ≡ Some (texts t)
-    → verdict_on units (t ∷ others) texts rows then ≡ Refused (refusal.LongTable t)
-on-long units t others texts rows before after then h e =
+    → verdict_on settings (t ∷ others) texts rows then ≡ Refused (refusal.LongTable t)
+on-long settings t others texts rows before after then h e =
     let s : nat_le (length (texts t)) MOST_TABLE_BYTES ≡ false = long-is (length (texts t)) MOST_TABLE_BYTES (long-told t MOST_TABLE_BYTES (texts t) before after h e) in
     rw s refl
 
 -- all tables were accepted
-on-all : (units : Units) (tables : List Table) (texts : Table → List ℕ) (rows more : TableRows) (before after : Left) (then : TableRows → Verdict)
-    → AreDistinct tables → AreTold tables before texts → AreAccepted units tables rows more before after
-    → verdict_on units tables texts rows then ≡ then more
-on-all units [] texts rows more before after then d told h = ap then (sym h.0)
-on-all units (t ∷ others) texts rows more before after then d told h =
-    on-accepted units t others texts rows h.0 before h.1 then h.2 told.0
-    ∙ on-all units others texts h.0 more h.1 after then d.1 (still-told units t others texts rows h.0 before h.1 d.0 h.2 told.1) h.3
+on-all : (settings : Settings) (tables : List Table) (texts : Table → List ℕ) (rows more : TableRows) (before after : Left) (then : TableRows → Verdict)
+    → AreDistinct tables → AreTold tables before texts → AreAccepted settings tables rows more before after
+    → verdict_on settings tables texts rows then ≡ then more
+on-all settings [] texts rows more before after then d told h = ap then (sym h.0)
+on-all settings (t ∷ others) texts rows more before after then d told h =
+    on-accepted settings t others texts rows h.0 before h.1 then h.2 told.0
+    ∙ on-all settings others texts h.0 more h.1 after then d.1 (still-told settings t others texts rows h.0 before h.1 d.0 h.2 told.1) h.3
 
 -- a table was reached
-on-reached : (units : Units) (tables : List Table) (t : Table) (Part : TableRows → Left → Left → Type 0) (texts : Table → List ℕ) (rows : TableRows)
+on-reached : (settings : Settings) (tables : List Table) (t : Table) (Part : TableRows → Left → Left → Type 0) (texts : Table → List ℕ) (rows : TableRows)
     (before after : Left) (then : TableRows → Verdict) (v : Verdict)
-    → AreDistinct tables → AreTold tables before texts → ReachedAmong units tables t Part rows before after
+    → AreDistinct tables → AreTold tables before texts → ReachedAmong settings tables t Part rows before after
     → ((others : List Table) (so_far : TableRows) (left : Left) → Part so_far left after → left_of t left ≡ Some (texts t)
-    → verdict_on units (t ∷ others) texts so_far then ≡ v)
-    → verdict_on units tables texts rows then ≡ v
-on-reached units [] t Part texts rows before after then v d told h step = absurd h
-on-reached units (first ∷ others) t Part texts rows before after then v d told (inl h) step =
-    subst (λ (u : Table). left_of u before ≡ Some (texts u) → verdict_on units (u ∷ others) texts rows then ≡ v) (sym h.0)
+    → verdict_on settings (t ∷ others) texts so_far then ≡ v)
+    → verdict_on settings tables texts rows then ≡ v
+on-reached settings [] t Part texts rows before after then v d told h step = absurd h
+on-reached settings (first ∷ others) t Part texts rows before after then v d told (inl h) step =
+    subst (λ (u : Table). left_of u before ≡ Some (texts u) → verdict_on settings (u ∷ others) texts rows then ≡ v) (sym h.0)
     (λ e. step others rows before h.1 e) told.0
-on-reached units (first ∷ others) t Part texts rows before after then v d told (inr h) step =
-    on-accepted units first others texts rows h.0 before h.1 then h.2 told.0
-    ∙ on-reached units others t Part texts h.0 h.1 after then v d.1
-    (still-told units first others texts rows h.0 before h.1 d.0 h.2 told.1) h.3 step
+on-reached settings (first ∷ others) t Part texts rows before after then v d told (inr h) step =
+    on-accepted settings first others texts rows h.0 before h.1 then h.2 told.0
+    ∙ on-reached settings others t Part texts h.0 h.1 after then v d.1
+    (still-told settings first others texts rows h.0 before h.1 d.0 h.2 told.1) h.3 step
 
 -- ---- the sizes of a loading
 
@@ -199,11 +201,13 @@ row-above demand_cells line total h =
     (above-is (vehicles_before demand_cells (h.row + 1)) MOST_TRIPS many)
     (λ row below. within-is (vehicles_before demand_cells (row + 1)) MOST_TRIPS (h.first row below))
 
--- a command but `freeflow` has sizes
-has-sizes : (c : Command) (s : Settings) (rows : TableRows) → c ≢ command.Freeflow → verdict_on_rows c s rows ≡ verdict_on_sizes s rows
-has-sizes command.Freeflow s rows n = absurd (n refl)
+-- a command that loads has the sizes of a loading
+has-sizes : (c : Command) (s : Settings) (rows : TableRows) → Loads c → verdict_on_rows c s rows ≡ verdict_on_sizes s rows
+has-sizes command.Freeflow s rows n = absurd n
 has-sizes command.Assign s rows n = refl
 has-sizes (command.Demo size) s rows n = refl
+has-sizes command.Skim s rows n = absurd n
+has-sizes command.Counts s rows n = refl
 
 on-sizes : (s : Settings) (rows : TableRows) → HasRoom s rows → IsWithin rows.demand_cells → verdict_on_sizes s rows ≡ Accepted s (job_of s rows)
 on-sizes s rows room w =
@@ -215,13 +219,38 @@ on-within : (c : Command) (s : Settings) (rows : TableRows) → AreWithin c s ro
 on-within command.Freeflow s rows w = refl
 on-within command.Assign s rows w = on-sizes s rows w.0 w.1
 on-within (command.Demo size) s rows w = on-sizes s rows w.0 w.1
+on-within command.Skim s rows w =
+    let r : nat_le (length rows.links * s.horizon) MOST_LINK_STEPS ≡ true = short-is (length rows.links * s.horizon) MOST_LINK_STEPS w.0 in
+    let n : nat_le (skim_entries s rows) MOST_SKIM_ENTRIES ≡ true = short-is (skim_entries s rows) MOST_SKIM_ENTRIES w.1 in
+    rw (r, n) refl
+on-within command.Counts s rows w = on-sizes s rows w.0 w.1
 
-on-many-demand_cells : (s : Settings) (rows : TableRows) (links steps : ℕ) → links ≡ length rows.links → steps ≡ s.horizon → MOST_LINK_STEPS < links * steps
+on-many-link-steps : (s : Settings) (rows : TableRows) (links steps : ℕ) → links ≡ length rows.links → steps ≡ s.horizon → MOST_LINK_STEPS < links * steps
     → verdict_on_sizes s rows ≡ Refused (refusal.Cells links steps)
-on-many-demand_cells s rows links steps l t m =
+on-many-link-steps s rows links steps l t m =
     let n : MOST_LINK_STEPS < length rows.links * s.horizon = rw (l, t) at m in
     let r : nat_le (length rows.links * s.horizon) MOST_LINK_STEPS ≡ false = long-is (length rows.links * s.horizon) MOST_LINK_STEPS n in
     rw (l, t, r) refl
+
+on-many-cells : (c : Command) (s : Settings) (rows : TableRows) (links steps : ℕ) → c ≢ command.Freeflow
+    → links ≡ length rows.links → steps ≡ s.horizon → MOST_LINK_STEPS < links * steps
+    → verdict_on_rows c s rows ≡ Refused (refusal.Cells links steps)
+on-many-cells command.Freeflow s rows links steps n l t m = absurd (n refl)
+on-many-cells command.Assign s rows links steps n l t m = on-many-link-steps s rows links steps l t m
+on-many-cells (command.Demo size) s rows links steps n l t m = on-many-link-steps s rows links steps l t m
+on-many-cells command.Counts s rows links steps n l t m = on-many-link-steps s rows links steps l t m
+on-many-cells command.Skim s rows links steps n l t m =
+    let n : MOST_LINK_STEPS < length rows.links * s.horizon = rw (l, t) at m in
+    let r : nat_le (length rows.links * s.horizon) MOST_LINK_STEPS ≡ false = long-is (length rows.links * s.horizon) MOST_LINK_STEPS n in
+    rw (l, t, r) refl
+
+on-many-entries : (s : Settings) (rows : TableRows) (number : ℕ) → HasRoom s rows → number ≡ skim_entries s rows → MOST_SKIM_ENTRIES < number
+    → verdict_on_skim s rows ≡ Refused (refusal.SkimPairs number)
+on-many-entries s rows number room e m =
+    let r : nat_le (length rows.links * s.horizon) MOST_LINK_STEPS ≡ true = short-is (length rows.links * s.horizon) MOST_LINK_STEPS room in
+    let many : MOST_SKIM_ENTRIES < skim_entries s rows = rw e at m in
+    let n : nat_le (skim_entries s rows) MOST_SKIM_ENTRIES ≡ false = long-is (skim_entries s rows) MOST_SKIM_ENTRIES many in
+    rw (r, n, e) refl
 
 on-many-vehicles : (s : Settings) (rows : TableRows) (line total : ℕ) → HasRoom s rows → IsFirstAbove rows.demand_cells line total
     → verdict_on_sizes s rows ≡ Refused (refusal.Vehicles line total)
@@ -241,12 +270,18 @@ distinct command.Assign =
     ((λ e. absurd cc, (λ e. absurd cc, (λ e. absurd cc, tt))), ((λ e. absurd cc, (λ e. absurd cc, tt)), ((λ e. absurd cc, tt), (tt, tt))))
 distinct (command.Demo n) =
     ((λ e. absurd cc, (λ e. absurd cc, (λ e. absurd cc, tt))), ((λ e. absurd cc, (λ e. absurd cc, tt)), ((λ e. absurd cc, tt), (tt, tt))))
+distinct command.Skim =
+    ((λ e. absurd cc, (λ e. absurd cc, (λ e. absurd cc, tt))), ((λ e. absurd cc, (λ e. absurd cc, tt)), ((λ e. absurd cc, tt), (tt, tt))))
+distinct command.Counts =
+    ((λ e. absurd cc, (λ e. absurd cc, (λ e. absurd cc, tt))), ((λ e. absurd cc, (λ e. absurd cc, tt)), ((λ e. absurd cc, tt), (tt, tt))))
 
 source-told : (c : Command) (left : Left) (texts : Table → List ℕ) → AreTold (read_tables c) left texts
     → AreTold (tables_of c) (source c left) (texts_of c texts)
 source-told command.Freeflow left texts h = h
 source-told command.Assign left texts h = h
 source-told (command.Demo n) left texts h = (refl, (refl, (refl, (refl, tt))))
+source-told command.Skim left texts h = h
+source-told command.Counts left texts h = h
 
 -- the texts that these settings read are told
 abbrev pub AreAllTold : Settings → Left → (Table → List ℕ) → Type 0
@@ -255,17 +290,17 @@ AreAllTold s left texts = AreTold (tables_of s.command) (source s.command left) 
 pub verdict-job : (s : Settings) (job : JobRows) (texts : Table → List ℕ) (before after : Left) → AreAllTold s before texts
     → IsAcceptedJob s job before after → verdict_by (Some s) texts ≡ Accepted s job
 verdict-job s job texts before after told h =
-    on-all s.units (tables_of s.command) (texts_of s.command texts) no_rows h.part.rows (source s.command before) h.rest
+    on-all s (tables_of s.command) (texts_of s.command texts) no_rows h.part.rows (source s.command before) h.rest
     (verdict_on_rows s.command s) (distinct s.command) told h.part.read
     ∙ on-within s.command s h.part.rows h.part.within ∙ ap (Accepted s) (sym h.part.makes)
 
 verdict-counted : (s : Settings) (Part : TableRows → Type 0) (texts : Table → List ℕ) (before after : Left) (v : Verdict) → AreTold (tables_of s.command) before (texts_of s.command texts)
-    → s.command ≢ command.Freeflow → AreCounted s Part before after → ((rows : TableRows) → Part rows → verdict_on_sizes s rows ≡ v)
+    → AreCounted s Part before after → ((rows : TableRows) → Part rows → verdict_on_rows s.command s rows ≡ v)
     → verdict_by (Some s) texts ≡ v
-verdict-counted s Part texts before after v told n h step =
-    on-all s.units (tables_of s.command) (texts_of s.command texts) no_rows h.rows before after
+verdict-counted s Part texts before after v told h step =
+    on-all s (tables_of s.command) (texts_of s.command texts) no_rows h.rows before after
     (verdict_on_rows s.command s) (distinct s.command) told h.read
-    ∙ has-sizes s.command s h.rows n ∙ step h.rows h.part
+    ∙ step h.rows h.part
 
 -- a refusal whose cause the bytes of the tables show
 abbrev IsShown : Refusal → Type 0
@@ -275,27 +310,32 @@ IsShown (refusal.Read t) = ⊥
 IsShown (refusal.LongTable t) = ⊤
 IsShown (refusal.Cells links steps) = ⊤
 IsShown (refusal.Vehicles line total) = ⊤
+IsShown (refusal.SkimPairs number) = ⊤
 
 verdict-refused : (s : Settings) (r : Refusal) (texts : Table → List ℕ) (before after : Left) → IsShown r → AreAllTold s before texts
     → IsCause s r before after → verdict_by (Some s) texts ≡ Refused r
 verdict-refused s refusal.Usage texts before after i told h = absurd i
 verdict-refused s (refusal.Read t) texts before after i told h = absurd i
 verdict-refused s (refusal.Table fault) texts before after i told h =
-    on-reached s.units (tables_of s.command) fault.table (IsFaulty s.units fault fault.table) (texts_of s.command texts) no_rows
+    on-reached s (tables_of s.command) fault.table (IsFaulty s fault fault.table) (texts_of s.command texts) no_rows
     (source s.command before) h.rest (verdict_on_rows s.command s) (Refused (refusal.Table fault)) (distinct s.command) told h.part
-    (λ others rows left turn e. on-faulty s.units fault fault.table others (texts_of s.command texts) rows left h.rest (verdict_on_rows s.command s) turn e)
+    (λ others rows left turn e. on-faulty s fault fault.table others (texts_of s.command texts) rows left h.rest (verdict_on_rows s.command s) turn e)
 verdict-refused s (refusal.LongTable t) texts before after i told h =
-    on-reached s.units (tables_of s.command) t (λ _. IsLong t MOST_TABLE_BYTES) (texts_of s.command texts) no_rows
+    on-reached s (tables_of s.command) t (λ _. IsLong t MOST_TABLE_BYTES) (texts_of s.command texts) no_rows
     (source s.command before) h.rest (verdict_on_rows s.command s) (Refused (refusal.LongTable t)) (distinct s.command) told h.part
-    (λ others rows left turn e. on-long s.units t others (texts_of s.command texts) rows left h.rest (verdict_on_rows s.command s) turn e)
+    (λ others rows left turn e. on-long s t others (texts_of s.command texts) rows left h.rest (verdict_on_rows s.command s) turn e)
 verdict-refused s (refusal.Cells links steps) texts before after i told h =
     verdict-counted s (λ rows. (links ≡ length rows.links) × (steps ≡ s.horizon) × (MOST_LINK_STEPS < links * steps)) texts
-    (source s.command before) h.rest (Refused (refusal.Cells links steps)) told h.part.0 h.part.1
-    (λ rows p. on-many-demand_cells s rows links steps p.0 p.1 p.2)
+    (source s.command before) h.rest (Refused (refusal.Cells links steps)) told h.part.1
+    (λ rows p. on-many-cells s.command s rows links steps h.part.0 p.0 p.1 p.2)
 verdict-refused s (refusal.Vehicles line total) texts before after i told h =
     verdict-counted s (λ rows. HasRoom s rows × IsFirstAbove rows.demand_cells line total) texts
-    (source s.command before) h.rest (Refused (refusal.Vehicles line total)) told h.part.0 h.part.1
-    (λ rows p. on-many-vehicles s rows line total p.0 p.1)
+    (source s.command before) h.rest (Refused (refusal.Vehicles line total)) told h.part.1
+    (λ rows p. has-sizes s.command s rows h.part.0 ∙ on-many-vehicles s rows line total p.0 p.1)
+verdict-refused s (refusal.SkimPairs number) texts before after i told h =
+    verdict-counted s (λ rows. HasRoom s rows × (number ≡ skim_entries s rows) × (MOST_SKIM_ENTRIES < number)) texts
+    (source s.command before) h.rest (Refused (refusal.SkimPairs number)) told h.part.1
+    (λ rows p. ap (λ (c : Command). verdict_on_rows c s rows) h.part.0 ∙ on-many-entries s rows number p.0 p.1 p.2)
 
 -- ---- the answer
 
@@ -323,13 +363,13 @@ answers-by words texts o v answer before after e f h =
     (sym (ap (λ (p : Option Settings). verdict_by p texts) e ∙ f)) h
 
 -- a table that was reached is one of the list
-reached-one : (units : Units) (tables : List Table) (t : Table) (Part : TableRows → Left → Left → Type 0)
-    (rows : TableRows) (before after : Left) → ReachedAmong units tables t Part rows before after
+reached-one : (settings : Settings) (tables : List Table) (t : Table) (Part : TableRows → Left → Left → Type 0)
+    (rows : TableRows) (before after : Left) → ReachedAmong settings tables t Part rows before after
     → Contains tables t
-reached-one units [] t Part rows before after h = absurd h
-reached-one units (u ∷ tables) t Part rows before after (inl h) = (0, omega arith, h.0)
-reached-one units (u ∷ tables) t Part rows before after (inr h) =
-    let c = reached-one units tables t Part h.0 h.1 after h.3 in
+reached-one settings [] t Part rows before after h = absurd h
+reached-one settings (u ∷ tables) t Part rows before after (inl h) = (0, omega arith, h.0)
+reached-one settings (u ∷ tables) t Part rows before after (inr h) =
+    let c = reached-one settings tables t Part h.0 h.1 after h.3 in
     let within : suc c.0 < suc (length tables) = (let w = c.1 in omega (arith, w)) in
     (suc c.0, within, c.2)
 
@@ -338,7 +378,7 @@ unread : (words : List (List ℕ)) (t : Table) (before after : DeskState)
     → IsUnread (settings_of words) before after
 unread words t before after h failed =
     let s = h.settings in
-    let one : IsReadBy (Some s) t = reached-one s.units (read_tables s.command) t (λ _. IsBegun t) no_rows
+    let one : IsReadBy (Some s) t = reached-one s (read_tables s.command) t (λ _. IsBegun t) no_rows
     (source s.command before.left) h.cause.rest h.cause.part in
     (t, subst (λ (o : Option Settings). IsReadBy o t) (sym h.told) one, h.report, failed)
 
@@ -367,7 +407,8 @@ told words texts status.WriteFault before after m t =
 told words texts status.Table before after m t = answers-refused words texts (refusal.Table m.0) before after tt m.1 t
 told words texts status.Size before after (inl m) t = answers-refused words texts (refusal.LongTable m.0) before after tt m.1 t
 told words texts status.Size before after (inr (inl m)) t = answers-refused words texts (refusal.Cells m.0 m.1) before after tt m.2 t
-told words texts status.Size before after (inr (inr m)) t = answers-refused words texts (refusal.Vehicles m.0 m.1) before after tt m.2 t
+told words texts status.Size before after (inr (inr (inl m))) t = answers-refused words texts (refusal.Vehicles m.0 m.1) before after tt m.2 t
+told words texts status.Size before after (inr (inr (inr m))) t = answers-refused words texts (refusal.SkimPairs m.0) before after tt m.1 t
 told words texts status.ReadFault before after m t =
     hindered (settings_of words) (verdict words texts) status.ReadFault before after
     (inl (refl, unread words m.0 before after m.1 m.2))

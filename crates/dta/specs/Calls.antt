@@ -9,7 +9,6 @@ use Rattle.net_core.specs.declared.rows.TurnRow.{TurnRow}
 use Rattle.dta_model.specs.declared.trip.DemandCell.{DemandCell}
 use Rattle.gap.specs.declared.line.GapLine.{GapLine}
 use Rattle.gmns_tables.specs.Net.{listed_turns}
-use Rattle.fixed_units.specs.declared.units.Units.{Units}
 use Rattle.reports.specs.declared.refusal.Refusal.{Refusal}
 use Rattle.desk_io.specs.declared.transfers.TheConstants.{MOST_TABLE_BYTES}
 use Rattle.dta_words.specs.declared.command.Settings.{Settings}
@@ -28,7 +27,9 @@ use Rattle.dta.specs.declared.status.Status.{Status}
 use Rattle.dta.specs.declared.status.Status.TheVariants as status
 use Rattle.dta.specs.declared.stop.Stop.{Stop}
 use Rattle.dta.specs.declared.tables.Roads.{Roads}
+use Rattle.dta.specs.declared.tables.NetworkTables.{NetworkTables}
 use Rattle.dta.specs.declared.tables.Tables.{Tables}
+use Rattle.skims.specs.declared.time_rows.TimeRow.{TimeRow}
 
 -- ---- calls that read
 
@@ -51,17 +52,18 @@ pub record IsWhole (t : Table) (bytes : Vec ℕ Global) (before after : Left) : 
 -- a call that reads and checks a table after these rows: it gives the rows with that table's, or
 -- stopped at that table
 abbrev pub Accepts :
-    {T : Type 0} → Units → Table → TableRows → (T → TableRows) → DeskState → DeskState
+    {T : Type 0} → Settings → Table → TableRows → (T → TableRows) → DeskState → DeskState
     → Result T Stop → Type 0
-Accepts units t rows more before after result =
-    OnlyReads (λ x. IsAccepted units t rows (more x)) (StopsAt units t rows) before after result
+Accepts settings t rows more before after result =
+    OnlyReads (λ x. IsAccepted settings t rows (more x)) (StopsAt settings t rows)
+    before after result
 
 -- a call that reads and checks tables, one after the other: it gives their rows, or stopped at one
 abbrev pub AcceptsAll :
-    {T : Type 0} → Units → List Table → TableRows → (T → TableRows) → DeskState → DeskState
+    {T : Type 0} → Settings → List Table → TableRows → (T → TableRows) → DeskState → DeskState
     → Result T Stop → Type 0
-AcceptsAll units tables rows more before after result =
-    OnlyReads (λ x. AreAccepted units tables rows (more x)) (StopsAmong units tables rows)
+AcceptsAll settings tables rows more before after result =
+    OnlyReads (λ x. AreAccepted settings tables rows (more x)) (StopsAmong settings tables rows)
     before after result
 
 -- the rows of nodes and links, those with turns, rows with those of a demand table, and all rows
@@ -74,8 +76,14 @@ rows_with_turns roads turns = rows_of roads.nodes roads.links (listed_turns turn
 abbrev pub with_demand_cells : TableRows → Vec DemandCell Global → TableRows
 with_demand_cells rows demand_cells = record rows { demand_cells = demand_cells.items }
 
+abbrev pub with_time_rows : TableRows → List TimeRow → TableRows
+with_time_rows rows times = record rows { times = times }
+
+abbrev pub rows_in_network : NetworkTables → TableRows
+rows_in_network t = rows_with_turns t.roads t.turns
+
 abbrev pub rows_in_tables : Tables → TableRows
-rows_in_tables t = rows_of t.roads.nodes t.roads.links (listed_turns t.turns) t.demand_cells.items
+rows_in_tables t = with_demand_cells (rows_in_network t.network) t.demand_cells
 
 -- ---- calls that put
 

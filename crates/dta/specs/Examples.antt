@@ -20,6 +20,7 @@ tables node link movement demand table.Node = node
 tables node link movement demand table.Link = link
 tables node link movement demand table.Movement = movement
 tables node link movement demand table.Demand = demand
+tables node link movement demand table.Times = []
 
 abbrev three_nodes : List ℕ
 three_nodes = codes "node_id,zone_id\n1,1\n2,\n3,3\n"

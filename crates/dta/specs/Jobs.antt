@@ -1,10 +1,10 @@
 -- What the settings and the tables come to: the network and the trips of a run.
-use Rattle.std.specs.Prelude.{ℕ, ◌≡◌, ◌<◌, ◌≤◌, ◌*◌, ⊤, List, [], length, Option, All}
+use Rattle.std.specs.Prelude.{ℕ, ◌≡◌, ◌<◌, ◌≤◌, ◌*◌, ◌-◌, ⊤, List, [], length, Option, All}
 use Rattle.std.specs.List.Sorted.{IsNonDecreasingBy}
 use Rattle.desk_io.specs.declared.desk.Table.{Table}
 use Rattle.desk_io.specs.Desk.{Left}
 use Rattle.desk_io.specs.MemDesk.{all_left}
-use Rattle.net_core.specs.Network.{IsNet}
+use Rattle.net_core.specs.Network.{IsNet, zones}
 use Rattle.net_core.specs.declared.rows.LinkNo.{LinkNo}
 use Rattle.net_core.specs.declared.rows.NetRows.{NetRows}
 use Rattle.dta_model.specs.Release.{trips_of}
@@ -18,13 +18,27 @@ use Rattle.dta_model.specs.declared.loading.TheConstants.{MOST_LINK_STEPS}
 use Rattle.dta_words.specs.declared.command.Command.{Command}
 use Rattle.dta_words.specs.declared.command.Command.TheVariants as command
 use Rattle.dta_words.specs.declared.command.Settings.{Settings}
-use Rattle.dta.specs.Tables.{AreAccepted, TableRows, all_tables, no_rows, road_tables}
+use Rattle.skims.specs.GivenTimes.{AreRowsOf}
+use Rattle.skims.specs.declared.time_rows.TimeRow.{TimeRow}
+use Rattle.reports.specs.declared.refusal.TheConstants.{MOST_SKIM_ENTRIES}
+use Rattle.dta.specs.Tables.{AreAccepted, TableRows, all_tables, net_of, no_rows, road_tables}
+use Rattle.dta.specs.Tables.{skim_tables}
 
 -- the tables of a command, in the order in which they are read; those of a demonstration are made
 abbrev pub tables_of : Command → List Table
 tables_of command.Freeflow = road_tables
 tables_of command.Assign = all_tables
 tables_of (command.Demo n) = all_tables
+tables_of command.Skim = skim_tables
+tables_of command.Counts = all_tables
+
+-- a command loads vehicles: all but `freeflow` and `skim`
+abbrev pub Loads : Command → Type 0
+Loads command.Freeflow = ⊥
+Loads command.Assign = ⊤
+Loads (command.Demo n) = ⊤
+Loads command.Skim = ⊥
+Loads command.Counts = ⊤
 
 -- those that it reads from the desk
 abbrev pub read_tables : Command → List Table
@@ -48,30 +62,40 @@ pub record Reading (c : Command) (Part : Left → Left → Type 0) (before after
   pub leaves : LeavesOf c rest before after
   pub part : Part (source c before) rest
 
--- the network and the trips of a run; `freeflow` has no trips
+-- the network of a run, its trips and its link times; a command whose tables have no demand has no
+-- trips, and one without a table of link times has none of these
 pub record JobRows : Type 0 where
   pub net : NetRows
   pub trips : List Trip
-
-abbrev pub net_of : TableRows → NetRows
-net_of rows = record { nodes = rows.nodes; links = rows.links; turns = rows.turns }
+  pub times : List TimeRow
 
 abbrev pub job_of : Settings → TableRows → JobRows
-job_of s rows = record { net = net_of rows; trips = trips_of rows.demand_cells s.period }
+job_of s rows = record {
+  net = net_of rows;
+  trips = trips_of rows.demand_cells s.period;
+  times = rows.times;
+}
 
 -- the links of a network times the steps of a run are not too many
 abbrev pub HasRoom : Settings → TableRows → Type 0
 HasRoom s rows = length rows.links * s.horizon ≤ MOST_LINK_STEPS
 
--- rows that are within the limits of a run; `freeflow` has none but those of its tables
+-- the entries of a skim: each ordered pair of different zones, for each start
+abbrev pub skim_entries : Settings → TableRows → ℕ
+skim_entries s rows =
+    let zones = length (zones rows.nodes) in zones * (zones - 1) * length s.starts
+
+-- rows that are within the limits of a run; `freeflow` has none but those of its tables, and a skim
+-- one on its entries in place of that on vehicles
 abbrev pub AreWithin : Command → Settings → TableRows → Type 0
 AreWithin command.Freeflow s rows = ⊤
+AreWithin command.Skim s rows = HasRoom s rows × (skim_entries s rows ≤ MOST_SKIM_ENTRIES)
 AreWithin c s rows = HasRoom s rows × IsWithin rows.demand_cells
 
 -- the tables were read one after the other and accepted, are within the limits, and make this job
 pub record IsJobOf (s : Settings) (job : JobRows) (before after : Left) : Type 0 where
   pub rows : TableRows
-  pub read : AreAccepted s.units (tables_of s.command) no_rows rows before after
+  pub read : AreAccepted s (tables_of s.command) no_rows rows before after
   pub within : AreWithin s.command s rows
   pub makes : job ≡ job_of s rows
 
@@ -85,10 +109,12 @@ pub record AreTripsBelow (horizon : ℕ) (trips : List Trip) : Type 0 where
   pub rising : IsNonDecreasingBy (λ trip. trip.departure) trips
   pub early : All (λ trip. trip.departure < horizon) trips
 
--- what is true of every job: its rows make a network, and its trips depart below the horizon
+-- what is true of every job: its rows make a network, its trips depart below the horizon, and for a
+-- skim there are link times of each bucket of each link
 pub record IsJob (s : Settings) (job : JobRows) : Type 0 where
   pub net : IsNet job.net
   pub trips : AreTripsBelow s.horizon job.trips
+  pub times : s.command ≡ command.Skim → AreRowsOf job.net s.bucket s.horizon job.times
 
 -- the loading of a job over the routes of its vehicles
 abbrev pub plan_of : Settings → JobRows → List (Option (List LinkNo)) → Plan

@@ -16,7 +16,9 @@ use Rattle.dta_words.specs.declared.command.Command.TheVariants as command
 use Rattle.dta_words.specs.declared.command.Settings.{Settings}
 use Rattle.dta.specs.Assignment.{AreIterationsBy, VehicleRoutes}
 use Rattle.dta.specs.Jobs.{JobRows, plan_of}
-use Rattle.dta.specs.Outputs.{OutText, summary_of, text_to}
+use Rattle.counts.specs.Through.{through_counts_in}
+use Rattle.counts.specs.Turns.{turn_counts_in}
+use Rattle.dta.specs.Outputs.{OutText, counts_out, summary_of, text_to}
 
 -- for the loading over each routes an order of the nodes, for each of its steps
 abbrev pub NodeOrders : Type 0
@@ -49,6 +51,14 @@ summary_by s job order last line = record (summary_of s job last line) {
   waiting = (end_by s job order last).waiting;
 }
 
+-- its counts
+abbrev pub counts_by : Settings → JobRows → NodeOrders → VehicleRoutes → OutText
+counts_by s job order routes =
+    let loading = plan_of s job routes in
+    let trace = trace_by s job order routes in
+    counts_out s job (turn_counts_in loading s.bucket trace)
+    (λ link. through_counts_in loading link trace)
+
 -- the texts after the last iteration
 abbrev pub texts_by :
     Command → Settings → JobRows → NodeOrders → VehicleRoutes → List GapLine → GapLine
@@ -57,6 +67,9 @@ texts_by command.Assign s job order last lines line =
     text_to output.Agent (agent_text job.net job.trips last (journeys_by s job order last))
     ∷ text_to output.LinkTime (link_time_text job.net (times_by s job order last))
     ∷ text_to output.Gap (gap_text lines)
+    ∷ text_to output.Report (report_text (summary_by s job order last line)) ∷ []
+texts_by command.Counts s job order last lines line =
+    counts_by s job order last
     ∷ text_to output.Report (report_text (summary_by s job order last line)) ∷ []
 texts_by c s job order last lines line =
     text_to output.Report (report_text (summary_by s job order last line)) ∷ []

@@ -19,7 +19,9 @@ use Rattle.dta_words.specs.declared.command.Command.TheVariants as command
 use Rattle.dta_words.specs.declared.command.Settings.{Settings}
 use Rattle.dta.specs.declared.status.Status.{Status}
 use Rattle.dta.specs.declared.status.Status.TheVariants as status
-use Rattle.dta.specs.Jobs.{HasRoom, IsAcceptedJob, JobRows, Reading, read_tables, tables_of}
+use Rattle.reports.specs.declared.refusal.TheConstants.{MOST_SKIM_ENTRIES}
+use Rattle.dta.specs.Jobs.{HasRoom, IsAcceptedJob, JobRows, Loads, Reading, read_tables}
+use Rattle.dta.specs.Jobs.{skim_entries, tables_of}
 use Rattle.dta.specs.Outputs.{AreTexts, AreTextsSoFar, AreWatched, IsCutOff, OutText, grown_by}
 use Rattle.dta.specs.Status.{refusal_status}
 use Rattle.dta.specs.Tables.{AreAccepted, ReachedAmong, IsFaulty, TableRows, no_rows}
@@ -41,22 +43,22 @@ ReportsLine r before after =
 pub record AreCounted (s : Settings) (Part : TableRows → Type 0) (before after : Left)
     : Type 0 where
   pub rows : TableRows
-  pub read : AreAccepted s.units (tables_of s.command) no_rows rows before after
+  pub read : AreAccepted s (tables_of s.command) no_rows rows before after
   pub part : Part rows
 
 -- a table of the command was reached, and this was so of it
 abbrev pub Reached : Settings → Table → (TableRows → Left → Left → Type 0) → Left → Left → Type 0
 Reached s t Part before after =
-    ReachedAmong s.units (tables_of s.command) t Part no_rows before after
+    ReachedAmong s (tables_of s.command) t Part no_rows before after
 
 -- the cause of a refusal, as the reading of the tables until then shows it, where reads of these
 -- tables can fail; `freeflow` has no sizes
 abbrev pub IsCauseAmong : List Table → Settings → Refusal → Left → Left → Type 0
 IsCauseAmong tables s refusal.Usage before after = ⊥
 IsCauseAmong tables s (refusal.Table fault) before after =
-    Reached s fault.table (IsFaulty s.units fault fault.table) before after
+    Reached s fault.table (IsFaulty s fault fault.table) before after
 IsCauseAmong tables s (refusal.Read t) before after =
-    ReachedAmong s.units tables t (λ _. IsBegun t) no_rows before after
+    ReachedAmong s tables t (λ _. IsBegun t) no_rows before after
 IsCauseAmong tables s (refusal.LongTable t) before after =
     Reached s t (λ _. IsLong t MOST_TABLE_BYTES) before after
 IsCauseAmong tables s (refusal.Cells links steps) before after =
@@ -65,8 +67,13 @@ IsCauseAmong tables s (refusal.Cells links steps) before after =
     × (MOST_LINK_STEPS < links * steps))
     before after
 IsCauseAmong tables s (refusal.Vehicles line total) before after =
-    (s.command ≢ command.Freeflow)
+    Loads s.command
     × AreCounted s (λ rows. HasRoom s rows × IsFirstAbove rows.demand_cells line total)
+    before after
+IsCauseAmong tables s (refusal.SkimPairs number) before after =
+    (s.command ≡ command.Skim)
+    × AreCounted s (λ rows. HasRoom s rows × (number ≡ skim_entries s rows)
+    × (MOST_SKIM_ENTRIES < number))
     before after
 
 -- the same where only reads of the desk can fail: `demo` reads nothing of it
@@ -159,7 +166,8 @@ Means words status.ReadFault before after =
 Means words status.Size before after =
     ((t : Table) × IsRefused (refusal.LongTable t) words before after)
     ⊎ (((links : ℕ) × (steps : ℕ) × IsRefused (refusal.Cells links steps) words before after)
-    ⊎ ((line : ℕ) × (total : ℕ) × IsRefused (refusal.Vehicles line total) words before after))
+    ⊎ (((line : ℕ) × (total : ℕ) × IsRefused (refusal.Vehicles line total) words before after)
+    ⊎ ((number : ℕ) × IsRefused (refusal.SkimPairs number) words before after)))
 Means words status.WriteFault before after = IsUnfinished words before after
 Means words status.Memory before after = IsStarved words before after
 

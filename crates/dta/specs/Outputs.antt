@@ -1,16 +1,28 @@
 -- The texts of a run, in the order in which they go out.
 use Rattle.std.specs.Prelude.{ℕ, ◌≡◌, ◌+◌, ◌-◌, suc, zero, ◌≤◌, ◌⊎◌, Bool, true, false, not}
 use Rattle.std.specs.Prelude.{List, [], ◌∷◌, ◌++◌, length, map, filter, count_by, slice_get}
-use Rattle.std.specs.Prelude.{Some, is_none}
+use Rattle.std.specs.Prelude.{◌==◌, Option, Some, None, is_none, option_map}
+use Rattle.std.specs.List.{position}
 use Rattle.desk_io.specs.declared.desk.Output.{Output}
 use Rattle.desk_io.specs.declared.desk.Output.TheVariants as output
 use Rattle.desk_io.specs.Desk.{Taken, grown}
 use Rattle.desk_io.specs.Transfers.{IsPartOut}
+use Rattle.net_core.specs.declared.rows.LinkNo.{LinkNo}
 use Rattle.net_core.specs.declared.rows.NetRows.{NetRows}
+use Rattle.dta_model.specs.LinkTimes.{time_at}
 use Rattle.dta_model.specs.Loading.{journeys_of}
 use Rattle.dta_model.specs.State.{eight_after}
 use Rattle.dta_model.specs.declared.eight.Eight.{Eight}
 use Rattle.gap.specs.declared.line.GapLine.{GapLine}
+use Rattle.counts.specs.Text.{counts_text}
+use Rattle.counts.specs.Through.{through_counts}
+use Rattle.counts.specs.Turns.{turn_counts}
+use Rattle.counts.specs.declared.through_counts.ThroughCount.{ThroughCount}
+use Rattle.counts.specs.declared.turn_counts.TurnCount.{TurnCount}
+use Rattle.skims.specs.GivenTimes.{table_given}
+use Rattle.skims.specs.Skim.{IsSkim}
+use Rattle.skims.specs.Texts.{skim_report_text, skim_text}
+use Rattle.skims.specs.declared.skim_entry.SkimEntry.{SkimEntry}
 use Rattle.reports.specs.Texts.{agent_text, free_link_time_text, free_report_text, gap_text}
 use Rattle.reports.specs.Texts.{link_time_text, report_text, watch_line}
 use Rattle.reports.specs.Watch.{AreWatchSteps}
@@ -97,13 +109,35 @@ table_texts s job last lines =
     ∷ text_to output.LinkTime (link_time_text job.net (times_of s job last))
     ∷ text_to output.Gap (gap_text lines) ∷ []
 
--- the texts after the last iteration: `assign` has its tables and the report, and any other command
--- that comes there the report alone
+-- the link with this identifier, if one is asked for and the network has it
+abbrev pub asked_link : NetRows → Option ℕ → Option LinkNo
+asked_link net None = None
+asked_link net (Some id) =
+    option_map (λ place. record { 0 = place }) (position (λ link. link.id == id) net.links)
+
+-- the through counts of that link, where each link has these
+abbrev pub through_asked : (ℕ → List ThroughCount) → Option LinkNo → List ThroughCount
+through_asked through None = []
+through_asked through (Some link) = through link.0
+
+-- Counts: these counts of turns, and of the through counts of all links those of the link that the
+-- settings ask for
+abbrev pub counts_out : Settings → JobRows → List TurnCount → (ℕ → List ThroughCount) → OutText
+counts_out s job turns through =
+    text_to output.Counts (counts_text job.net turns
+    (through_asked through (asked_link job.net s.link)) s.bucket s.horizon)
+
+-- the texts after the last iteration: `assign` has its tables and the report, `counts` its counts
+-- and the report, and any other command that comes there the report alone
 abbrev pub last_texts :
     Command → Settings → JobRows → VehicleRoutes → List GapLine → GapLine → List OutText
 last_texts command.Assign s job last lines line =
     table_texts s job last lines
     ++ text_to output.Report (report_text (summary_of s job last line)) ∷ []
+last_texts command.Counts s job last lines line =
+    counts_out s job (turn_counts (plan_of s job last) s.bucket)
+    (through_counts (plan_of s job last))
+    ∷ text_to output.Report (report_text (summary_of s job last line)) ∷ []
 last_texts c s job last lines line =
     text_to output.Report (report_text (summary_of s job last line)) ∷ []
 
@@ -113,6 +147,19 @@ free_texts net =
     text_to output.LinkTime (free_link_time_text net.links)
     ∷ text_to output.Report (free_report_text (length net.nodes) (length net.links)) ∷ []
 
+-- Skim and Report of these entries
+abbrev pub skim_texts : NetRows → List SkimEntry → List OutText
+skim_texts net entries =
+    text_to output.Skim (skim_text entries)
+    ∷ text_to output.Report (skim_report_text net entries) ∷ []
+
+-- the texts of `skim`: the least times between all zones, by the table of link times
+pub record AreSkimmed (s : Settings) (job : JobRows) (texts : List OutText) : Type 0 where
+  pub entries : List SkimEntry
+  pub skim : IsSkim (time_at (table_given job.net s.bucket s.horizon job.times)) job.net s.starts
+      entries
+  pub texts_are : texts ≡ skim_texts job.net entries
+
 -- whether a text is for Watch
 abbrev pub is_watch : Output → Bool
 is_watch output.Watch = true
@@ -120,6 +167,8 @@ is_watch output.Agent = false
 is_watch output.LinkTime = false
 is_watch output.Gap = false
 is_watch output.Report = false
+is_watch output.Skim = false
+is_watch output.Counts = false
 
 -- the texts but those for Watch
 abbrev pub but_watch : List OutText → List OutText
@@ -152,9 +201,11 @@ pub record AreWatched (s : Settings) (job : JobRows) (texts : List OutText) : Ty
 -- the texts of a run's whole work
 abbrev pub AreTexts : Command → Settings → JobRows → List OutText → Type 0
 AreTexts command.Freeflow s job texts = texts ≡ free_texts job.net
+AreTexts command.Skim s job texts = AreSkimmed s job texts
 AreTexts c s job texts = AreAssigned s job texts
 
 -- texts of a run's work as far as it came
 abbrev pub AreTextsSoFar : Command → Settings → JobRows → List OutText → Type 0
 AreTextsSoFar command.Freeflow s job texts = texts ≡ free_texts job.net
+AreTextsSoFar command.Skim s job texts = AreSkimmed s job texts
 AreTextsSoFar c s job texts = AreAssigned s job texts ⊎ AreWatched s job texts

@@ -1,5 +1,5 @@
 -- How far an assignment came, and what went out until then.
-use Rattle.std.specs.Prelude.{ℕ, ◌≡◌, ◌+◌, ◌⊎◌, List, [], ◌∷◌, ◌++◌, length}
+use Rattle.std.specs.Prelude.{ℕ, ◌≡◌, ◌+◌, ◌⊎◌, List, [], ◌∷◌, ◌++◌, length, All}
 use Rattle.desk_io.specs.Desk.{Taken}
 use Rattle.dta_model.specs.LinkTimes.{TimeTable}
 use Rattle.dta_model.specs.Loading.{journeys_of}
@@ -8,10 +8,15 @@ use Rattle.dta_model.specs.declared.loaded.Journey.{Journey}
 use Rattle.gap.specs.declared.line.GapLine.{GapLine}
 use Rattle.loader.specs.declared.loading.LoadFault.{LoadFault}
 use Rattle.loader.specs.declared.loading.LoadFault.TheVariants as fault
+use Rattle.dta_words.specs.declared.command.Command.TheVariants as command
 use Rattle.dta_words.specs.declared.command.Settings.{Settings}
+use Rattle.counts.specs.Through.{through_counts}
+use Rattle.counts.specs.Turns.{IsOfNet, turn_counts}
 use Rattle.dta.specs.Assignment.{AreIterations, VehicleRoutes, end_of, times_of}
 use Rattle.dta.specs.Jobs.{AreRoutesOf, JobRows, plan_of}
-use Rattle.dta.specs.Outputs.{AreWatchLines, AreWatchTexts, AreWatched, IsCutOff, OutText, grown_by}
+use Rattle.dta.specs.Outputs.{AreWatchLines, AreWatchTexts, AreWatched, IsCutOff, OutText}
+use Rattle.dta.specs.Outputs.{asked_link, grown_by, through_asked}
+use Rattle.dta.specs.declared.counted.Counted.{Counted}
 use Rattle.dta.specs.declared.iterate.Assigned.{Assigned}
 use Rattle.dta.specs.declared.halt.Halt.{Halt}
 use Rattle.dta.specs.declared.halt.Halt.TheVariants as halt
@@ -66,6 +71,18 @@ pub record IsLast (s : Settings) (job : JobRows) (routes : VehicleRoutes) (loade
   pub times_are : times ≡ times_of s job routes
   pub end_is : end ≡ end_of s job routes
 
+-- the counts over the loading of an iteration over these routes
+pub record AreCountsOf (s : Settings) (job : JobRows) (routes : VehicleRoutes) (c : Counted)
+    : Type 0 where
+  pub turns : c.turns ≡ turn_counts (plan_of s job routes) s.bucket
+  pub through : c.through ≡ through_asked (through_counts (plan_of s job routes))
+      (asked_link job.net s.link)
+  pub of_net : All (IsOfNet job.net s.horizon s.bucket) c.turns
+
+-- they are there where the command asks for them
+abbrev pub HasCounts : Settings → JobRows → VehicleRoutes → Counted → Type 0
+HasCounts s job routes c = s.command ≡ command.Counts → AreCountsOf s job routes c
+
 -- the same of what an assignment gives
 abbrev pub IsLastOf : Settings → JobRows → Assigned → Type 0
 IsLastOf s job a = IsLast s job a.routes a.loaded a.times a.end
@@ -84,3 +101,4 @@ pub record IsAssigned (s : Settings) (job : JobRows) (a : Assigned) (start now :
   pub watch_lines : AreWatchTexts s job 1 (done ++ a.routes ∷ []) texts
   pub watched : now ≡ grown_by texts start
   pub last : IsLastOf s job a
+  pub counted : HasCounts s job a.routes a.counts

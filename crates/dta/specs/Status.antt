@@ -23,3 +23,4 @@ refusal_status (refusal.Read _) = ReadFault
 refusal_status (refusal.LongTable _) = Size
 refusal_status (refusal.Cells _ _) = Size
 refusal_status (refusal.Vehicles _ _) = Size
+refusal_status (refusal.SkimPairs _) = Size

@@ -4,7 +4,6 @@ use Rattle.desk_io.specs.declared.desk.Table.{Table}
 use Rattle.desk_io.specs.Transfers.{IsBegun, IsLong}
 use Rattle.row_reader.specs.declared.faults.TableRefusal.{TableRefusal}
 use Rattle.row_reader.specs.declared.faults.TableRefusal.TheVariants as table_refusal
-use Rattle.fixed_units.specs.declared.units.Units.{Units}
 use Rattle.reports.specs.declared.refusal.Refusal.{Refusal}
 use Rattle.reports.specs.declared.refusal.Refusal.TheVariants as refusal
 use Rattle.desk_io.specs.declared.transfers.TheConstants.{MOST_TABLE_BYTES}
@@ -15,7 +14,8 @@ use Rattle.dta.specs.declared.stop.Stop.TheVariants.{Refused, Memory}
 use Rattle.vehicle_release.specs.Limits.{IsFirstAbove}
 use Rattle.vehicle_release.specs.declared.fault.ReleaseFault.{ReleaseFault}
 use Rattle.vehicle_release.specs.declared.fault.ReleaseFault.TheVariants as release
-use Rattle.dta.specs.Jobs.{HasRoom, tables_of}
+use Rattle.reports.specs.declared.refusal.TheConstants.{MOST_SKIM_ENTRIES}
+use Rattle.dta.specs.Jobs.{HasRoom, skim_entries, tables_of}
 use Rattle.dta.specs.Outcome.{DeskState, ReadsFailed, IsCause, IsCauseAmong, IsCutIn, IsCutShort}
 use Rattle.dta.specs.Tables.{ReachedAmong, IsFaulty, TableRows}
 
@@ -30,26 +30,27 @@ stop_at_release (release.TooMany line total) = Refused (refusal.Vehicles line to
 stop_at_release release.Memory = Memory
 
 -- the reading stopped at a table, where these rows were accepted before
-abbrev pub StopsAt : Units → Table → TableRows → Stop → DeskState → DeskState → Type 0
-StopsAt units t rows Memory before after = IsBegun t before.left after.left
-StopsAt units t rows (Refused refusal.Usage) before after = ⊥
-StopsAt units t rows (Refused (refusal.Table fault)) before after =
-    (fault.table ≡ t) × IsFaulty units fault t rows before.left after.left
-StopsAt units t rows (Refused (refusal.Read u)) before after =
+abbrev pub StopsAt : Settings → Table → TableRows → Stop → DeskState → DeskState → Type 0
+StopsAt settings t rows Memory before after = IsBegun t before.left after.left
+StopsAt settings t rows (Refused refusal.Usage) before after = ⊥
+StopsAt settings t rows (Refused (refusal.Table fault)) before after =
+    (fault.table ≡ t) × IsFaulty settings fault t rows before.left after.left
+StopsAt settings t rows (Refused (refusal.Read u)) before after =
     (u ≡ t) × IsBegun t before.left after.left × ReadsFailed before after
-StopsAt units t rows (Refused (refusal.LongTable u)) before after =
+StopsAt settings t rows (Refused (refusal.LongTable u)) before after =
     (u ≡ t) × IsLong t MOST_TABLE_BYTES before.left after.left
-StopsAt units t rows (Refused (refusal.Cells links steps)) before after = ⊥
-StopsAt units t rows (Refused (refusal.Vehicles line total)) before after = ⊥
+StopsAt settings t rows (Refused (refusal.Cells links steps)) before after = ⊥
+StopsAt settings t rows (Refused (refusal.Vehicles line total)) before after = ⊥
+StopsAt settings t rows (Refused (refusal.SkimPairs number)) before after = ⊥
 
 -- the reading of these tables ended in this stop, at one of them
-abbrev pub StopsAmong : Units → List Table → TableRows → Stop → DeskState → DeskState → Type 0
-StopsAmong units tables rows stop before after =
-    (t : Table) × ReachedAmong units tables t (λ rows left rest.
-    StopsAt units t rows stop (record before { left = left }) (record after { left = rest }))
+abbrev pub StopsAmong : Settings → List Table → TableRows → Stop → DeskState → DeskState → Type 0
+StopsAmong settings tables rows stop before after =
+    (t : Table) × ReachedAmong settings tables t (λ rows left rest.
+    StopsAt settings t rows stop (record before { left = left }) (record after { left = rest }))
     rows before.left after.left
 
--- the rows of all tables are past a limit, or memory was wanting for their job
+-- the rows of an assignment's tables are past a limit, or memory was wanting for their job
 abbrev pub StopsJob : Settings → TableRows → Stop → Type 0
 StopsJob s rows Memory = ⊤
 StopsJob s rows (Refused (refusal.Cells links steps)) =
@@ -57,6 +58,15 @@ StopsJob s rows (Refused (refusal.Cells links steps)) =
 StopsJob s rows (Refused (refusal.Vehicles line total)) =
     HasRoom s rows × IsFirstAbove rows.demand_cells line total
 StopsJob s rows (Refused _) = ⊥
+
+-- the same of a skim's tables
+abbrev pub StopsSkim : Settings → TableRows → Stop → Type 0
+StopsSkim s rows Memory = ⊤
+StopsSkim s rows (Refused (refusal.Cells links steps)) =
+    (links ≡ length rows.links) × (steps ≡ s.horizon) × (MOST_LINK_STEPS < links * steps)
+StopsSkim s rows (Refused (refusal.SkimPairs number)) =
+    HasRoom s rows × (number ≡ skim_entries s rows) × (MOST_SKIM_ENTRIES < number)
+StopsSkim s rows (Refused _) = ⊥
 
 -- a count of failed reads rose where a table couldn't be read
 abbrev pub HasFault : Refusal → DeskState → DeskState → Type 0

@@ -8,22 +8,33 @@ use Rattle.row_reader.specs.FirstFault.{then_with}
 use Rattle.row_reader.specs.Records.{records}
 use Rattle.row_reader.specs.declared.faults.TableFault.{TableFault}
 use Rattle.net_core.specs.declared.rows.LinkRow.{LinkRow}
+use Rattle.net_core.specs.declared.rows.NetRows.{NetRows}
 use Rattle.net_core.specs.declared.rows.NodeRow.{NodeRow}
 use Rattle.net_core.specs.declared.rows.TurnRow.{TurnRow}
 use Rattle.dta_model.specs.declared.trip.DemandCell.{DemandCell}
 use Rattle.gmns_tables.specs.Nodes.{node_verdict}
 use Rattle.gmns_tables.specs.Links.{link_verdict}
 use Rattle.gmns_tables.specs.Movements.{movement_verdict}
-use Rattle.fixed_units.specs.declared.units.Units.{Units}
 use Rattle.demand.specs.DemandRows.{demand_verdict}
+use Rattle.skims.specs.TimesTable.{times_verdict}
+use Rattle.skims.specs.declared.time_rows.TimeRow.{TimeRow}
 use Rattle.desk_io.specs.declared.transfers.TheConstants.{MOST_TABLE_BYTES}
+use Rattle.dta_words.specs.declared.command.Settings.{Settings}
 
--- the tables of a network's nodes and links, and all tables, in the order in which they are read
+-- the tables of a network's nodes and links, those of a network with its turns, and those of an
+-- assignment, in the order in which they are read
 abbrev pub road_tables : List Table
 road_tables = table.Node ∷ table.Link ∷ []
 
+abbrev pub network_tables : List Table
+network_tables = table.Node ∷ table.Link ∷ table.Movement ∷ []
+
 abbrev pub all_tables : List Table
 all_tables = table.Node ∷ table.Link ∷ table.Movement ∷ table.Demand ∷ []
+
+-- the tables of a skim: those of its network, and link times
+abbrev pub skim_tables : List Table
+skim_tables = table.Node ∷ table.Link ∷ table.Movement ∷ table.Times ∷ []
 
 -- the rows of the tables that were accepted so far; those of the others are missing
 pub record TableRows : Type 0 where
@@ -31,75 +42,84 @@ pub record TableRows : Type 0 where
   pub links : List LinkRow
   pub turns : List TurnRow
   pub demand_cells : List DemandCell
+  pub times : List TimeRow
 
 abbrev pub no_rows : TableRows
-no_rows = record { nodes = []; links = []; turns = []; demand_cells = [] }
+no_rows = record { nodes = []; links = []; turns = []; demand_cells = []; times = [] }
 
 -- the rows of a node and a link table
 abbrev pub road_rows : List NodeRow → List LinkRow → TableRows
-road_rows nodes links = record { nodes = nodes; links = links; turns = []; demand_cells = [] }
+road_rows nodes links = record no_rows { nodes = nodes; links = links }
 
--- the rows of all four tables
+-- the rows of the four tables of an assignment
 abbrev pub rows_of : List NodeRow → List LinkRow → List TurnRow → List DemandCell → TableRows
 rows_of nodes links turns demand_cells = record {
   nodes = nodes;
   links = links;
   turns = turns;
   demand_cells = demand_cells;
+  times = [];
 }
 
+-- the network of these rows
+abbrev pub net_of : TableRows → NetRows
+net_of rows = record { nodes = rows.nodes; links = rows.links; turns = rows.turns }
+
 -- a movement table of zero bytes stands for none
-abbrev pub turns_of : Units → TableRows → List ℕ → Result (List TurnRow) TableFault
-turns_of units rows [] = Ok []
-turns_of units rows (byte ∷ bytes) =
-    movement_verdict rows.nodes rows.links units (records (byte ∷ bytes))
+abbrev pub turns_of : Settings → TableRows → List ℕ → Result (List TurnRow) TableFault
+turns_of settings rows [] = Ok []
+turns_of settings rows (byte ∷ bytes) =
+    movement_verdict rows.nodes rows.links settings.units (records (byte ∷ bytes))
 
 -- the rows with those of one more table, or that table's first fault
-abbrev pub with_table : Units → TableRows → Table → List ℕ → Result TableRows TableFault
-with_table units rows table.Node bytes =
+abbrev pub with_table : Settings → TableRows → Table → List ℕ → Result TableRows TableFault
+with_table settings rows table.Node bytes =
     then_with (node_verdict (records bytes)) (λ nodes. Ok (record rows { nodes = nodes }))
-with_table units rows table.Link bytes =
-    then_with (link_verdict rows.nodes units (records bytes))
+with_table settings rows table.Link bytes =
+    then_with (link_verdict rows.nodes settings.units (records bytes))
     (λ links. Ok (record rows { links = links }))
-with_table units rows table.Movement bytes =
-    then_with (turns_of units rows bytes) (λ turns. Ok (record rows { turns = turns }))
-with_table units rows table.Demand bytes =
+with_table settings rows table.Movement bytes =
+    then_with (turns_of settings rows bytes) (λ turns. Ok (record rows { turns = turns }))
+with_table settings rows table.Demand bytes =
     then_with (demand_verdict (records bytes))
     (λ demand_cells. Ok (record rows { demand_cells = demand_cells }))
+with_table settings rows table.Times bytes =
+    then_with (times_verdict (net_of rows) settings.bucket settings.horizon (records bytes))
+    (λ times. Ok (record rows { times = times }))
 
 -- a table was read to its end and accepted after these rows, which are then those
-pub record IsAccepted (units : Units) (t : Table) (rows more : TableRows) (before after : Left)
-    : Type 0 where
-  pub bytes : List ℕ
-  pub read : IsRead t bytes before after
-  pub short : length bytes ≤ MOST_TABLE_BYTES
-  pub accepted : with_table units rows t bytes ≡ Ok more
-
--- a table was read to its end and has this first fault
-pub record IsFaulty (units : Units) (fault : TableFault) (t : Table) (rows : TableRows)
+pub record IsAccepted (settings : Settings) (t : Table) (rows more : TableRows)
     (before after : Left) : Type 0 where
   pub bytes : List ℕ
   pub read : IsRead t bytes before after
   pub short : length bytes ≤ MOST_TABLE_BYTES
-  pub first : with_table units rows t bytes ≡ Err fault
+  pub accepted : with_table settings rows t bytes ≡ Ok more
+
+-- a table was read to its end and has this first fault
+pub record IsFaulty (settings : Settings) (fault : TableFault) (t : Table) (rows : TableRows)
+    (before after : Left) : Type 0 where
+  pub bytes : List ℕ
+  pub read : IsRead t bytes before after
+  pub short : length bytes ≤ MOST_TABLE_BYTES
+  pub first : with_table settings rows t bytes ≡ Err fault
   pub its_own : fault.table ≡ t
 
 -- these tables were read and accepted one after the other
-abbrev pub AreAccepted : Units → List Table → TableRows → TableRows → Left → Left → Type 0
-AreAccepted units [] rows more before after = (more ≡ rows) × (after ≡ before)
-AreAccepted units (t ∷ others) rows more before after =
-    (next : TableRows) × (between : Left) × IsAccepted units t rows next before between
-    × AreAccepted units others next more between after
+abbrev pub AreAccepted : Settings → List Table → TableRows → TableRows → Left → Left → Type 0
+AreAccepted settings [] rows more before after = (more ≡ rows) × (after ≡ before)
+AreAccepted settings (t ∷ others) rows more before after =
+    (next : TableRows) × (between : Left) × IsAccepted settings t rows next before between
+    × AreAccepted settings others next more between after
 
 -- a table was reached, since those before it were accepted, and this was so of it
 abbrev pub ReachedAmong :
-    Units → List Table → Table → (TableRows → Left → Left → Type 0) → TableRows → Left → Left
+    Settings → List Table → Table → (TableRows → Left → Left → Type 0) → TableRows → Left → Left
     → Type 0
-ReachedAmong units [] t Part rows before after = ⊥
-ReachedAmong units (first ∷ others) t Part rows before after =
+ReachedAmong settings [] t Part rows before after = ⊥
+ReachedAmong settings (first ∷ others) t Part rows before after =
     ((first ≡ t) × Part rows before after)
-    ⊎ ((next : TableRows) × (between : Left) × IsAccepted units first rows next before between
-    × ReachedAmong units others t Part next between after)
+    ⊎ ((next : TableRows) × (between : Left) × IsAccepted settings first rows next before between
+    × ReachedAmong settings others t Part next between after)
 
 -- the bytes of these tables are told
 abbrev pub AreTold : List Table → Left → (Table → List ℕ) → Type 0

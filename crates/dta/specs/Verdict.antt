@@ -10,7 +10,6 @@ use Rattle.dta_model.specs.Release.{vehicles_before}
 use Rattle.dta_model.specs.declared.trip.DemandCell.{DemandCell}
 use Rattle.dta_model.specs.declared.trip.TheConstants.{MOST_TRIPS}
 use Rattle.row_reader.specs.declared.faults.TableFault.{TableFault}
-use Rattle.fixed_units.specs.declared.units.Units.{Units}
 use Rattle.grid_maker.specs.Grid.{node_text, link_text, demand_text}
 use Rattle.reports.specs.declared.refusal.Refusal.{Refusal}
 use Rattle.reports.specs.declared.refusal.Refusal.TheVariants as refusal
@@ -20,7 +19,8 @@ use Rattle.dta_words.specs.Grammar.{settings_of}
 use Rattle.dta_words.specs.declared.command.Command.{Command}
 use Rattle.dta_words.specs.declared.command.Command.TheVariants as command
 use Rattle.dta_words.specs.declared.command.Settings.{Settings}
-use Rattle.dta.specs.Jobs.{JobRows, job_of, tables_of, read_tables}
+use Rattle.reports.specs.declared.refusal.TheConstants.{MOST_SKIM_ENTRIES}
+use Rattle.dta.specs.Jobs.{JobRows, job_of, skim_entries, tables_of, read_tables}
 use Rattle.dta.specs.Tables.{AreTold, TableRows, no_rows, with_table}
 
 -- a run is refused, or its tables are accepted and make this job
@@ -34,6 +34,7 @@ grid_texts n table.Node = node_text n
 grid_texts n table.Link = link_text n
 grid_texts n table.Movement = []
 grid_texts n table.Demand = demand_text n
+grid_texts n table.Times = []
 
 abbrev pub texts_of : Command → (Table → List ℕ) → Table → List ℕ
 texts_of (command.Demo n) texts t = grid_texts n t
@@ -47,12 +48,12 @@ after_table (Ok rows) next = next rows
 -- the tables one after the other: the first that is too long or has a fault is told, and otherwise
 -- the verdict is that on the rows of all
 abbrev pub verdict_on :
-    Units → List Table → (Table → List ℕ) → TableRows → (TableRows → Verdict) → Verdict
-verdict_on units [] texts rows next = next rows
-verdict_on units (t ∷ others) texts rows next =
+    Settings → List Table → (Table → List ℕ) → TableRows → (TableRows → Verdict) → Verdict
+verdict_on settings [] texts rows next = next rows
+verdict_on settings (t ∷ others) texts rows next =
     if nat_le (length (texts t)) MOST_TABLE_BYTES
-    then after_table (with_table units rows t (texts t))
-    (λ more. verdict_on units others texts more next)
+    then after_table (with_table settings rows t (texts t))
+    (λ more. verdict_on settings others texts more next)
     else Refused (refusal.LongTable t)
 
 -- the first row of a demand table with which the vehicles are too many
@@ -78,14 +79,23 @@ verdict_on_sizes s rows =
     then verdict_on_trips s rows (first_above rows.demand_cells)
     else Refused (refusal.Cells (length rows.links) s.horizon)
 
+-- the sizes of a skim: its links times its steps, and then its entries
+abbrev pub verdict_on_skim : Settings → TableRows → Verdict
+verdict_on_skim s rows =
+    if nat_le (length rows.links * s.horizon) MOST_LINK_STEPS
+    then (if nat_le (skim_entries s rows) MOST_SKIM_ENTRIES then Accepted s (job_of s rows)
+    else Refused (refusal.SkimPairs (skim_entries s rows)))
+    else Refused (refusal.Cells (length rows.links) s.horizon)
+
 abbrev pub verdict_on_rows : Command → Settings → TableRows → Verdict
 verdict_on_rows command.Freeflow s rows = Accepted s (job_of s rows)
+verdict_on_rows command.Skim s rows = verdict_on_skim s rows
 verdict_on_rows c s rows = verdict_on_sizes s rows
 
 abbrev pub verdict_by : Option Settings → (Table → List ℕ) → Verdict
 verdict_by None texts = Refused refusal.Usage
 verdict_by (Some s) texts =
-    verdict_on s.units (tables_of s.command) (texts_of s.command texts) no_rows
+    verdict_on s (tables_of s.command) (texts_of s.command texts) no_rows
     (verdict_on_rows s.command s)
 
 -- the first cause in the order of the work: the words; each table, too long or with a first fault,

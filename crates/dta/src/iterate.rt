@@ -15,6 +15,7 @@ ghost use Rattle.dta.specs.Progress.{Halts, IsAssigned};
 ghost use Rattle.dta.specs.Receipts.{Gives, numbers_in, receipts_of};
 ghost use Rattle.dta.specs.declared.halt.Halt.TheVariants as halt;
 
+use crate::counted::{Counted, counts_over};
 use crate::halt::Halt;
 use crate::job::Job;
 use crate::load::{Round, load_round};
@@ -28,7 +29,8 @@ use route_flows::{first_routes, gap_and_next_routes};
 use std::sync::Wait;
 use std::thread::Threads;
 
-/// What the last iteration of an assignment gives, and the gaps of all.
+/// What the last iteration of an assignment gives, the gaps of all, and the counts over the last
+/// one's loading where the command asks for them.
 #[derive(Drop)]
 pub(crate) struct Assigned {
     pub(crate) routes: Routes,
@@ -37,6 +39,7 @@ pub(crate) struct Assigned {
     pub(crate) end: Eight,
     pub(crate) lines: Vec<GapLine>,
     pub(crate) line: GapLine,
+    pub(crate) counts: Counted,
 }
 
 // The routes of the first iteration.
@@ -148,7 +151,7 @@ fn advance<R: AllocGlobal + Threads + Wait + Sync, D: Desk + Send, G: Gate + Syn
     Ok(())
 }
 
-// Does the last iteration: its loading and its gap.
+// Does the last iteration: its loading, its gap, and its counts where the command asks for them.
 fn finish<R: AllocGlobal + Threads + Wait + Sync, D: Desk + Send, G: Gate + Sync>(
     rt: &R,
     settings: &Settings,
@@ -171,6 +174,7 @@ fn finish<R: AllocGlobal + Threads + Wait + Sync, D: Desk + Send, G: Gate + Sync
 {
     let round = load_round(rt, settings, job, &routes, settings.iterations, gate, desk)?;
     let line = gap_of(rt, settings, job, &routes, &round.times)?;
+    let counts = counts_over(rt.alloc(), settings, job, &routes, &round.loaded)?;
     let mut lines = lines;
     lines.push(line)?;
     let Round { loaded, times, end } = round;
@@ -181,6 +185,7 @@ fn finish<R: AllocGlobal + Threads + Wait + Sync, D: Desk + Send, G: Gate + Sync
         end,
         lines,
         line,
+        counts,
     })
 }
 

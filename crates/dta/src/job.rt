@@ -11,31 +11,37 @@ ghost use Rattle.net_core.specs.Network.{IsNet};
 ghost use Rattle.dta_model.specs.declared.loading.TheConstants.{MOST_LINK_STEPS};
 ghost use Rattle.vehicle_release.specs.Limits.{IsWithin};
 ghost use Rattle.dta.specs.Calls.{OnlyReads, rows_in_tables};
-ghost use Rattle.dta.specs.Jobs.{AreTripsBelow, HasRoom, IsAcceptedJob, IsJob, IsJobOf};
+ghost use Rattle.dta.specs.Jobs.{AreTripsBelow, AreWithin, HasRoom, IsAcceptedJob, IsJob};
+ghost use Rattle.dta.specs.Jobs.{IsJobOf, Loads};
 ghost use Rattle.dta.specs.Jobs.{job_of as job_of_rows, plan_of};
 ghost use Rattle.dta.specs.Outcome.{DeskState, state_of};
-ghost use Rattle.dta.specs.Stops.{Stops, StopsIn, StopsJob};
-ghost use Rattle.dta.specs.Tables.{TableRows};
+ghost use Rattle.dta.specs.Stops.{Stops, StopsIn, StopsJob, StopsSkim};
+ghost use Rattle.dta.specs.Tables.{TableRows, net_of};
 
 use crate::sizes::sizes;
 use crate::stop::Stop;
-use crate::tables::{Tables, accept_all, accept_roads};
+use crate::tables::{
+    NetworkTables, Tables, accept_all, accept_network, accept_roads, accept_times,
+};
 use desk_io::{Desk, TallyDesk};
 use dta_model::{DemandCell, Loading, Routes, Trip};
 use dta_words::{Command, Settings};
 use gmns_tables::join_net;
 use grid_maker::{GridFault, grid};
 use net_core::Net;
-use reports::Refusal;
+use reports::{MOST_SKIM_ENTRIES, Refusal};
+use skims::TimeRows;
 use std::alloc::Global;
 use std::marker::Model;
 use vehicle_release::release;
 
-/// The network and the trips of a run; `freeflow` has no trips.
+/// The network of a run, its trips and its link times. A command whose tables have no demand has no
+/// trips, and one without a table of link times has none of these.
 #[derive(Drop)]
 pub(crate) struct Job {
     pub(crate) net: Net,
     pub(crate) trips: Vec<Trip>,
+    pub(crate) times: TimeRows,
 }
 
 impl Model for Job {
@@ -43,7 +49,8 @@ impl Model for Job {
 
     ghost Value = { JobRows };
 
-    ghost view = { λ job. record { net = job.net; trips = job.trips.items } };
+    ghost view = { λ job.
+        record { net = job.net; trips = job.trips.items; times = job.times } };
 }
 
 impl Job {
@@ -92,7 +99,9 @@ fn trips_within(
 // The job of accepted tables.
 fn job_of(alloc: Global, tables: Tables, settings: &Settings) -> Result<Job, Stop>
     requires settings { AreSettings settings.now }
-    requires net { IsNet (joined tables.roads.nodes tables.roads.links tables.turns) }
+    requires command { Loads settings.now.command }
+    requires net { let network = tables.network in
+        IsNet (joined network.roads.nodes network.roads.links network.turns) }
     requires demand_cells { AreDemandCells tables.demand_cells.items }
     ensures makes { IfOk result (λ job.
         job ≡ job_of_rows settings.now (rows_in_tables tables)) }
@@ -102,26 +111,27 @@ fn job_of(alloc: Global, tables: Tables, settings: &Settings) -> Result<Job, Sto
     ensures stops { IfErr result (StopsJob settings.now (rows_in_tables tables)) }
 {
     let Tables {
-        roads,
-        turns,
+        network,
         demand_cells,
     } = tables;
+    let NetworkTables { roads, turns } = network;
     let links = roads.links.as_slice().len() as u32;
     let trips = trips_within(alloc, links, &demand_cells, settings)?;
     let net = join_net(alloc, roads.nodes, roads.links, turns)?;
-    Ok(Job { net, trips })
+    let times = TimeRows::of(Vec::new(alloc));
+    Ok(Job { net, trips, times })
 }
 
 // Reads and checks all tables of an assignment, and makes its job.
 fn accept_tables<D: Desk>(alloc: Global, desk: &mut D, settings: &Settings) -> Result<Job, Stop>
     requires settings { AreSettings settings.now }
-    requires command { settings.now.command ≢ command.Freeflow }
+    requires command { Loads settings.now.command }
     ensures reads { let state = state_of D.left D.taken D.read_faults D.put_faults in
         OnlyReads (IsJobOf settings.now) (StopsIn settings.now) (state desk.old) (state desk.new)
         result }
     ensures sound { IfOk result (IsJob settings.now) }
 {
-    let tables = accept_all(alloc, desk, &settings.units)?;
+    let tables = accept_all(alloc, desk, settings)?;
     job_of(alloc, tables, settings)
 }
 
@@ -134,10 +144,57 @@ fn accept_free<D: Desk>(alloc: Global, desk: &mut D, settings: &Settings) -> Res
         result }
     ensures sound { IfOk result (IsJob settings.now) }
 {
-    let roads = accept_roads(alloc, desk, &settings.units)?;
+    let roads = accept_roads(alloc, desk, settings)?;
     let net = join_net(alloc, roads.nodes, roads.links, None)?;
     let trips = Vec::new(alloc);
-    Ok(Job { net, trips })
+    let times = TimeRows::of(Vec::new(alloc));
+    Ok(Job { net, trips, times })
+}
+
+// Checks the sizes of a skim: the links times the steps, and then the entries, one for each ordered
+// pair of different zones and each start.
+fn skim_sizes(net: &Net, settings: &Settings) -> Result<(), Stop>
+    requires settings { AreSettings settings.now }
+    ensures within { (rows : TableRows) → net_of rows ≡ net.now
+        → OnOk result (AreWithin command.Skim settings.now rows) }
+    ensures stops { (rows : TableRows) → net_of rows ≡ net.now
+        → IfErr result (StopsSkim settings.now rows) }
+{
+    let links = net.link_count();
+    let steps = settings.horizon;
+    if sizes(links, steps).is_err() {
+        return Err(Stop::Refused(Refusal::Cells { links, steps }));
+    }
+    let zones = u64::from(net.zone_count());
+    let starts = settings.starts.as_slice().len() as u64;
+    let entries = zones * zones.saturating_sub(1) * starts;
+    if entries > MOST_SKIM_ENTRIES {
+        let number = u128::from(entries);
+        return Err(Stop::Refused(Refusal::SkimPairs { number }));
+    }
+    Ok(())
+}
+
+// Reads and checks the tables of a skim, and makes its job.
+fn accept_skim<D: Desk>(alloc: Global, desk: &mut D, settings: &Settings) -> Result<Job, Stop>
+    requires settings { AreSettings settings.now }
+    requires command { settings.now.command ≡ command.Skim }
+    ensures reads { let state = state_of D.left D.taken D.read_faults D.put_faults in
+        OnlyReads (IsJobOf settings.now) (StopsIn settings.now) (state desk.old) (state desk.new)
+        result }
+    ensures sound { IfOk result (IsJob settings.now) }
+{
+    let network = accept_network(alloc, desk, settings)?;
+    let net = join_net(
+        alloc,
+        network.roads.nodes,
+        network.roads.links,
+        network.turns,
+    )?;
+    let times = accept_times(alloc, desk, settings, &net)?;
+    skim_sizes(&net, settings)?;
+    let trips = Vec::new(alloc);
+    Ok(Job { net, trips, times })
 }
 
 // Makes the tables of a demonstration, checks them as any others, and makes their job.
@@ -166,7 +223,8 @@ fn accept_grid(alloc: Global, settings: &Settings, n: u32) -> Result<Job, Stop>
 
 /// Reads and checks the tables of a command, one after the other, and makes their job. The first
 /// cause in this order stops the run: a table that can't be read, is too long or has a fault,
-/// before the next is read; the links times the steps; the number of vehicles.
+/// before the next is read; the links times the steps; the number of vehicles, or of a skim's
+/// entries.
 pub(crate) fn accept<D: Desk>(alloc: Global, desk: &mut D, settings: &Settings) -> Result<Job, Stop>
     requires settings { AreSettings settings.now }
     ensures reads { let state = state_of D.left D.taken D.read_faults D.put_faults in
@@ -176,7 +234,8 @@ pub(crate) fn accept<D: Desk>(alloc: Global, desk: &mut D, settings: &Settings) 
 {
     match settings.command {
         Command::Freeflow => accept_free(alloc, desk, settings),
-        Command::Assign => accept_tables(alloc, desk, settings),
+        Command::Skim => accept_skim(alloc, desk, settings),
+        Command::Assign | Command::Counts => accept_tables(alloc, desk, settings),
         Command::Demo(n) => accept_grid(alloc, settings, n),
     }
 }

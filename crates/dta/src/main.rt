@@ -8,6 +8,7 @@
 #![tactic(auto)]
 
 mod arguments;
+mod counted;
 mod halt;
 mod iterate;
 mod job;
@@ -18,6 +19,7 @@ mod run;
 #[cfg(test)]
 mod run_cases;
 mod sizes;
+mod skimmed;
 mod status;
 mod stop;
 mod tables;

@@ -1,17 +1,21 @@
 // The outputs of an assignment, in their order.
-ghost use Rattle.std.specs.Prelude.{◌≡◌};
+ghost use Rattle.std.specs.Prelude.{◌≡◌, [], ◌∷◌};
 ghost use Rattle.desk_io.specs.declared.desk.Output.TheVariants as output;
 ghost use Rattle.desk_io.specs.State.{state_of};
 ghost use Rattle.desk_io.specs.Transfers.{Puts};
 ghost use Rattle.dta_words.specs.Ranges.{AreSettings};
 ghost use Rattle.reports.specs.Texts.{report_text};
 ghost use Rattle.dta.specs.Calls.{PutsAll};
-ghost use Rattle.dta.specs.Jobs.{IsJob};
-ghost use Rattle.dta.specs.Outputs.{last_texts, summary_of as summary_of_routes, table_texts};
-ghost use Rattle.dta.specs.Progress.{IsLastOf};
+ghost use Rattle.counts.specs.Through.{through_counts};
+ghost use Rattle.counts.specs.Turns.{turn_counts};
+ghost use Rattle.dta.specs.Jobs.{IsJob, plan_of};
+ghost use Rattle.dta.specs.Outputs.{counts_out, last_texts, summary_of as summary_of_routes};
+ghost use Rattle.dta.specs.Outputs.{table_texts};
+ghost use Rattle.dta.specs.Progress.{AreCountsOf, HasCounts, IsLastOf};
 
 use crate::iterate::Assigned;
 use crate::job::Job;
+use counts::put_counts;
 use desk_io::{Desk, Failed};
 use dta_words::{Command, Settings};
 use reports::{Summary, put_agents, put_gaps, put_link_times, put_summary};
@@ -83,8 +87,33 @@ fn put_report<D: Desk>(
     put_summary(desk, &summary_of(settings, job, assigned))
 }
 
-/// Puts the texts after the last iteration: the tables of `assign`, and the report. It takes no
-/// memory.
+// Puts Counts.
+fn put_counted<D: Desk>(
+    desk: &mut D,
+    settings: &Settings,
+    job: &Job,
+    assigned: &Assigned,
+) -> Result<(), Failed>
+    requires settings { AreSettings settings.now }
+    requires job { IsJob settings.now job.now }
+    requires counts { AreCountsOf settings.now job.now assigned.now.routes assigned.now.counts }
+    ensures { let state = state_of D.left D.taken D.read_faults D.put_faults in
+        let loading = plan_of settings.now job.now assigned.now.routes in
+        PutsAll (counts_out settings.now job.now (turn_counts loading settings.now.bucket)
+        (through_counts loading) ∷ []) (state desk.old) (state desk.new) result }
+{
+    put_counts(
+        desk,
+        &job.net,
+        &assigned.counts.turns,
+        &assigned.counts.through,
+        settings.bucket,
+        settings.horizon,
+    )
+}
+
+/// Puts the texts after the last iteration: the tables of `assign` or the counts of `counts`, and
+/// the report. It takes no memory.
 #[tactic(auto, using(crate::proofs::OutputFacts::lasts))]
 pub(crate) fn put_assigned<D: Desk>(
     desk: &mut D,
@@ -95,6 +124,7 @@ pub(crate) fn put_assigned<D: Desk>(
     requires settings { AreSettings settings.now }
     requires job { IsJob settings.now job.now }
     requires assigned { IsLastOf settings.now job.now assigned.now }
+    requires counts { HasCounts settings.now job.now assigned.now.routes assigned.now.counts }
     ensures { let state = state_of D.left D.taken D.read_faults D.put_faults in
         PutsAll (last_texts settings.now.command settings.now job.now
         assigned.now.routes assigned.now.lines.items assigned.now.line)
@@ -105,6 +135,12 @@ pub(crate) fn put_assigned<D: Desk>(
             put_tables(desk, settings, job, assigned)?;
             put_report(desk, settings, job, assigned)
         }
-        Command::Freeflow | Command::Demo(_) => put_report(desk, settings, job, assigned),
+        Command::Counts => {
+            put_counted(desk, settings, job, assigned)?;
+            put_report(desk, settings, job, assigned)
+        }
+        Command::Freeflow | Command::Skim | Command::Demo(_) => {
+            put_report(desk, settings, job, assigned)
+        }
     }
 }

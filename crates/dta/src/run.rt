@@ -1,8 +1,7 @@
 // The public call.
 ghost use Rattle.std.specs.Prelude.{◌≡◌, ◌≢◌, ◌≤◌, ℕ, List, None, Some};
 ghost use Rattle.dta_words.specs.Ranges.{AreSettings};
-ghost use Rattle.dta_words.specs.declared.command.Command.TheVariants as command;
-ghost use Rattle.dta.specs.Jobs.{IsJob};
+ghost use Rattle.dta.specs.Jobs.{IsJob, Loads};
 ghost use Rattle.desk_io.specs.declared.desk.Table.{Table};
 ghost use Rattle.dta_model.specs.Laws.{JourneysEndInOrder, LeftInOrder, VehiclesAreConserved};
 ghost use Rattle.dta_words.specs.Grammar.{settings_of};
@@ -20,6 +19,7 @@ use crate::iterate::iterate;
 use crate::job::{Job, accept};
 use crate::laws::{texts_are_determined, texts_in_any_order};
 use crate::outputs::put_assigned;
+use crate::skimmed::put_least_times;
 use crate::status::Status;
 use crate::stop::Stop;
 use desk_io::{Desk, Failed};
@@ -38,7 +38,10 @@ fn refusal_status(refusal: Refusal) -> Status
         Refusal::Usage => Status::Usage,
         Refusal::Table(_) => Status::Table,
         Refusal::Read(_) => Status::ReadFault,
-        Refusal::LongTable(_) | Refusal::Cells { .. } | Refusal::Vehicles { .. } => Status::Size,
+        Refusal::LongTable(_)
+        | Refusal::Cells { .. }
+        | Refusal::Vehicles { .. }
+        | Refusal::SkimPairs { .. } => Status::Size,
     }
 }
 
@@ -62,7 +65,7 @@ fn assign<R: AllocGlobal + Threads + Wait + Sync, D: Desk + Send, G: Gate + Sync
 ) -> Status
     requires settings { AreSettings settings.now }
     requires job { IsJob settings.now job.now }
-    requires command { settings.now.command ≢ command.Freeflow }
+    requires command { Loads settings.now.command }
     ensures works { let state = state_of D.left D.taken D.read_faults D.put_faults in
         DoesWork settings.now job.now (state desk.old) (state desk.new) result }
     ensures receipts { let shown = gate_of G.closes G.last in
@@ -98,7 +101,10 @@ fn work<R: AllocGlobal + Threads + Wait + Sync, D: Desk + Send, G: Gate + Sync>(
             Ok(()) => Status::Done,
             Err(Failed) => Status::WriteFault,
         },
-        Command::Assign | Command::Demo(_) => assign(rt, settings, job, gate, desk),
+        Command::Skim => put_least_times(rt.alloc(), settings, job, desk),
+        Command::Assign | Command::Demo(_) | Command::Counts => {
+            assign(rt, settings, job, gate, desk)
+        }
     }
 }
 
@@ -155,12 +161,15 @@ fn answer<R: AllocGlobal + Threads + Wait + Sync, D: Desk + Send, G: Gate + Sync
 /// and storage to LinkTime and the numbers of nodes and links to Report. `assign` reads all four
 /// tables, iterates routes, loadings, link times and gaps (successive averages over a queue-based
 /// simulator, Zhou and Taylor 2014), and puts Agent, LinkTime, Gap and Report, in this order.
-/// `demo` does the same over a made grid, and puts the report alone. With a watch, each iteration
+/// `demo` does the same over a made grid, and puts the report alone. `counts` does the work of
+/// `assign` and puts the counts of turns over the last loading, and through a link, to Counts, and
+/// Report. `skim` reads a network and a table of link times, and puts the least times between all
+/// zones to Skim, and Report. With a watch, each iteration
 /// puts lines of counts to Watch, the last one once it is loaded. Loadings are by workers, who pass
 /// the gate, unless the words ask for the plain loader.
 ///
-/// A table is checked before the next is read. No memory is taken after the first byte of LinkTime
-/// in `freeflow`, or of Agent in `assign`.
+/// A table is checked before the next is read. No memory is taken after the first byte of the first
+/// output but Watch.
 #[tactic(auto, using(crate::proofs::ReceiptFacts::answers))]
 pub fn run<R: AllocGlobal + Threads + Wait + Sync, D: Desk + Send, G: Gate + Sync>(
     rt: &R,

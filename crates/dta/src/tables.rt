@@ -2,28 +2,31 @@
 ghost use Rattle.std.specs.Prelude.{◌≡◌, [], All, Ok, Err, IfOk, IfErr};
 ghost use Rattle.desk_io.specs.declared.desk.Table.TheVariants as table;
 ghost use Rattle.demand.specs.DemandRows.{AreDemandCells};
-ghost use Rattle.gmns_tables.specs.Net.{listed_turns, net_of};
-ghost use Rattle.fixed_units.specs.declared.units.Units.{Units};
-ghost use Rattle.fixed_units.specs.Units.{IsUnits};
+ghost use Rattle.gmns_tables.specs.Net.{listed_turns, net_of as joined};
+ghost use Rattle.dta_words.specs.Ranges.{AreSettings};
+ghost use Rattle.dta_words.specs.declared.command.Settings.{Settings};
 ghost use Rattle.net_core.specs.Network.{IsNet};
 ghost use Rattle.net_core.specs.Rows.{AreLinks, AreNodes, AreTurns, IsBetween, IsTurning};
 ghost use Rattle.row_reader.specs.FirstFault.{Tells};
 ghost use Rattle.dta.specs.Calls.{Accepts, AcceptsAll, IsWhole, OnlyReads};
 ghost use Rattle.dta.specs.Calls.{rows_in_roads, rows_in_tables, rows_with_turns};
-ghost use Rattle.dta.specs.Calls.{with_demand_cells};
+ghost use Rattle.dta.specs.Calls.{rows_in_network, with_demand_cells, with_time_rows};
+ghost use Rattle.skims.specs.GivenTimes.{AreRowsOf};
 ghost use Rattle.dta.specs.Outcome.{state_of};
 ghost use Rattle.dta.specs.Stops.{StopsAt};
 ghost use Rattle.dta.specs.Tables.{TableRows, all_tables, no_rows, road_rows, road_tables};
-ghost use Rattle.dta.specs.Tables.{turns_of};
+ghost use Rattle.dta.specs.Tables.{net_of, network_tables, turns_of};
 
 use crate::stop::Stop;
 use demand::read_demand;
 use desk_io::{Desk, MOST_TABLE_BYTES, ReadRefusal, Table, read_table};
 use dta_model::DemandCell;
-use fixed_units::Units;
+use dta_words::Settings;
 use gmns_tables::{LinkRows, NodeRows, TurnRows, read_links, read_movements, read_nodes};
+use net_core::Net;
 use reports::Refusal;
 use row_reader::TableRefusal;
+use skims::{TimeRows, read_times};
 use std::alloc::Global;
 
 /// The rows of a network's nodes and links.
@@ -36,8 +39,8 @@ pub(crate) struct Roads {
 // Reads the bytes of a table.
 fn bytes_of<D: Desk>(alloc: Global, desk: &mut D, table: Table) -> Result<Vec<u8>, Stop>
     ensures reads { let state = state_of D.left D.taken D.read_faults D.put_faults in
-        (units : Units) (rows : TableRows)
-        → OnlyReads (IsWhole table) (StopsAt units table rows) (state desk.old) (state desk.new)
+        (settings : Settings) (rows : TableRows)
+        → OnlyReads (IsWhole table) (StopsAt settings table rows) (state desk.old) (state desk.new)
         result }
 {
     match read_table(alloc, desk, table, MOST_TABLE_BYTES) {
@@ -51,7 +54,7 @@ fn bytes_of<D: Desk>(alloc: Global, desk: &mut D, table: Table) -> Result<Vec<u8
 // Reads and checks the node table.
 fn accept_nodes<D: Desk>(alloc: Global, desk: &mut D) -> Result<NodeRows, Stop>
     ensures reads { let state = state_of D.left D.taken D.read_faults D.put_faults in
-        (units : Units) → Accepts units table.Node no_rows (λ nodes. road_rows nodes [])
+        (settings : Settings) → Accepts settings table.Node no_rows (λ nodes. road_rows nodes [])
         (state desk.old) (state desk.new) result }
     ensures sound { IfOk result AreNodes }
 {
@@ -63,36 +66,36 @@ fn accept_nodes<D: Desk>(alloc: Global, desk: &mut D) -> Result<NodeRows, Stop>
 fn accept_links<D: Desk>(
     alloc: Global,
     desk: &mut D,
-    units: &Units,
+    settings: &Settings,
     nodes: &NodeRows,
 ) -> Result<LinkRows, Stop>
-    requires units { IsUnits units.now }
+    requires settings { AreSettings settings.now }
     ensures reads { let state = state_of D.left D.taken D.read_faults D.put_faults in
-        Accepts units.now table.Link (road_rows nodes.now []) (road_rows nodes.now)
+        Accepts settings.now table.Link (road_rows nodes.now []) (road_rows nodes.now)
         (state desk.old) (state desk.new) result }
     ensures sound { IfOk result AreLinks }
     ensures between { IfOk result (All (IsBetween nodes.now)) }
 {
     let bytes = bytes_of(alloc, desk, Table::Link)?;
-    Ok(read_links(alloc, nodes, &bytes, units)?)
+    Ok(read_links(alloc, nodes, &bytes, &settings.units)?)
 }
 
 /// Reads and checks the node table, and then the link table over its nodes.
 pub(crate) fn accept_roads<D: Desk>(
     alloc: Global,
     desk: &mut D,
-    units: &Units,
+    settings: &Settings,
 ) -> Result<Roads, Stop>
-    requires units { IsUnits units.now }
+    requires settings { AreSettings settings.now }
     ensures reads { let state = state_of D.left D.taken D.read_faults D.put_faults in
-        AcceptsAll units.now road_tables no_rows rows_in_roads (state desk.old) (state desk.new)
+        AcceptsAll settings.now road_tables no_rows rows_in_roads (state desk.old) (state desk.new)
         result }
     ensures nodes { IfOk result (λ roads. AreNodes roads.nodes) }
     ensures links { IfOk result (λ roads. AreLinks roads.links) }
     ensures between { IfOk result (λ roads. All (IsBetween roads.nodes) roads.links) }
 {
     let nodes = accept_nodes(alloc, desk)?;
-    let links = accept_links(alloc, desk, units, &nodes)?;
+    let links = accept_links(alloc, desk, settings, &nodes)?;
     Ok(Roads { nodes, links })
 }
 
@@ -101,20 +104,20 @@ fn turns_in(
     alloc: Global,
     roads: &Roads,
     bytes: &[u8],
-    units: &Units,
+    settings: &Settings,
 ) -> Result<Option<TurnRows>, TableRefusal>
-    requires units { IsUnits units.now }
+    requires settings { AreSettings settings.now }
     ensures turns { IfOk result (λ turns.
-        turns_of units.now (rows_in_roads roads.now) bytes.now ≡ Ok (listed_turns turns)) }
+        turns_of settings.now (rows_in_roads roads.now) bytes.now ≡ Ok (listed_turns turns)) }
     ensures refused { IfErr result (λ why.
-        Tells (turns_of units.now (rows_in_roads roads.now) bytes.now) (Err why)) }
+        Tells (turns_of settings.now (rows_in_roads roads.now) bytes.now) (Err why)) }
     ensures sound { IfOk result (λ turns. AreTurns (listed_turns turns)) }
     ensures turning { IfOk result (λ turns. All (IsTurning roads.now.links) (listed_turns turns)) }
 {
     if bytes.is_empty() {
         Ok(None)
     } else {
-        let turns = read_movements(alloc, &roads.nodes, &roads.links, bytes, units)?;
+        let turns = read_movements(alloc, &roads.nodes, &roads.links, bytes, &settings.units)?;
         Ok(Some(turns))
     }
 }
@@ -123,25 +126,25 @@ fn turns_in(
 fn accept_turns<D: Desk>(
     alloc: Global,
     desk: &mut D,
-    units: &Units,
+    settings: &Settings,
     roads: &Roads,
 ) -> Result<Option<TurnRows>, Stop>
-    requires units { IsUnits units.now }
+    requires settings { AreSettings settings.now }
     ensures reads { let state = state_of D.left D.taken D.read_faults D.put_faults in
-        Accepts units.now table.Movement (rows_in_roads roads.now) (rows_with_turns roads.now)
+        Accepts settings.now table.Movement (rows_in_roads roads.now) (rows_with_turns roads.now)
         (state desk.old) (state desk.new) result }
     ensures sound { IfOk result (λ turns. AreTurns (listed_turns turns)) }
     ensures turning { IfOk result (λ turns. All (IsTurning roads.now.links) (listed_turns turns)) }
 {
     let bytes = bytes_of(alloc, desk, Table::Movement)?;
-    Ok(turns_in(alloc, roads, &bytes, units)?)
+    Ok(turns_in(alloc, roads, &bytes, settings)?)
 }
 
 // Reads and checks the demand table.
 fn accept_demand_cells<D: Desk>(alloc: Global, desk: &mut D) -> Result<Vec<DemandCell>, Stop>
     ensures reads { let state = state_of D.left D.taken D.read_faults D.put_faults in
-        (units : Units) (rows : TableRows)
-        → Accepts units table.Demand rows (with_demand_cells rows) (state desk.old) (state desk.new)
+        (settings : Settings) (rows : TableRows)
+        → Accepts settings table.Demand rows (with_demand_cells rows) (state desk.old) (state desk.new)
         result }
     ensures sound { IfOk result (λ demand_cells. AreDemandCells demand_cells.items) }
 {
@@ -149,33 +152,73 @@ fn accept_demand_cells<D: Desk>(alloc: Global, desk: &mut D) -> Result<Vec<Deman
     Ok(read_demand(alloc, &bytes)?)
 }
 
-/// The rows of all four tables.
+/// Reads and checks a table of link times over an accepted network.
+pub(crate) fn accept_times<D: Desk>(
+    alloc: Global,
+    desk: &mut D,
+    settings: &Settings,
+    net: &Net,
+) -> Result<TimeRows, Stop>
+    requires settings { AreSettings settings.now }
+    ensures reads { let state = state_of D.left D.taken D.read_faults D.put_faults in
+        (rows : TableRows) → net_of rows ≡ net.now
+        → Accepts settings.now table.Times rows (with_time_rows rows)
+        (state desk.old) (state desk.new) result }
+    ensures sound { IfOk result (AreRowsOf net.now settings.now.bucket settings.now.horizon) }
+{
+    let bytes = bytes_of(alloc, desk, Table::Times)?;
+    Ok(read_times(alloc, net, &bytes, settings.bucket, settings.horizon)?)
+}
+
+/// The rows of a network's tables.
 #[derive(Drop)]
-pub(crate) struct Tables {
+pub(crate) struct NetworkTables {
     pub(crate) roads: Roads,
     pub(crate) turns: Option<TurnRows>,
+}
+
+/// Reads and checks the tables of a network, one after the other.
+pub(crate) fn accept_network<D: Desk>(
+    alloc: Global,
+    desk: &mut D,
+    settings: &Settings,
+) -> Result<NetworkTables, Stop>
+    requires settings { AreSettings settings.now }
+    ensures reads { let state = state_of D.left D.taken D.read_faults D.put_faults in
+        AcceptsAll settings.now network_tables no_rows rows_in_network
+        (state desk.old) (state desk.new) result }
+    ensures net { IfOk result (λ t. IsNet (joined t.roads.nodes t.roads.links t.turns)) }
+{
+    let roads = accept_roads(alloc, desk, settings)?;
+    let turns = accept_turns(alloc, desk, settings, &roads)?;
+    Ok(NetworkTables { roads, turns })
+}
+
+/// The rows of all tables of an assignment.
+#[derive(Drop)]
+pub(crate) struct Tables {
+    pub(crate) network: NetworkTables,
     pub(crate) demand_cells: Vec<DemandCell>,
 }
 
-/// Reads and checks all four tables, one after the other.
+/// Reads and checks all tables of an assignment, one after the other.
 pub(crate) fn accept_all<D: Desk>(
     alloc: Global,
     desk: &mut D,
-    units: &Units,
+    settings: &Settings,
 ) -> Result<Tables, Stop>
-    requires units { IsUnits units.now }
+    requires settings { AreSettings settings.now }
     ensures reads { let state = state_of D.left D.taken D.read_faults D.put_faults in
-        AcceptsAll units.now all_tables no_rows rows_in_tables (state desk.old) (state desk.new)
+        AcceptsAll settings.now all_tables no_rows rows_in_tables (state desk.old) (state desk.new)
         result }
-    ensures net { IfOk result (λ t. IsNet (net_of t.roads.nodes t.roads.links t.turns)) }
+    ensures net { IfOk result (λ t.
+        IsNet (joined t.network.roads.nodes t.network.roads.links t.network.turns)) }
     ensures demand_cells { IfOk result (λ t. AreDemandCells t.demand_cells.items) }
 {
-    let roads = accept_roads(alloc, desk, units)?;
-    let turns = accept_turns(alloc, desk, units, &roads)?;
+    let network = accept_network(alloc, desk, settings)?;
     let demand_cells = accept_demand_cells(alloc, desk)?;
     Ok(Tables {
-        roads,
-        turns,
+        network,
         demand_cells,
     })
 }

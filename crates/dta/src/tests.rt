@@ -2,6 +2,7 @@
 mod faults;
 mod held;
 mod refusals;
+mod skims_and_counts;
 mod whole_runs;
 mod workers;
 

@@ -5,7 +5,6 @@ use Rattle.std.specs.Bool.{MatchBool}
 use Rattle.std.specs.Option.{option_map_or}
 use Rattle.std.specs.List.{list_any, before_first}
 use Rattle.std.specs.Str.{bytes_eq}
-use Rattle.std.proofs.lemmas.Bool.Decides.{Decides-eqb}
 use Rattle.std.proofs.lemmas.List.{map-append}
 use Rattle.fixed_units.proofs.Splits.{and-false}
 use Rattle.fixed_units.proofs.Spellings.{is-45}

@@ -5,3 +5,4 @@ pub mod NumberFacts
 pub mod AskedFacts
 pub mod ReadFacts
 pub mod SettingsFacts
+pub mod StartFacts

@@ -1,5 +1,5 @@
 -- Words of digits, as they are parsed.
-use Rattle.std.proofs.Common.{◌≡◌, ◌∙◌, ◌≤◌, ◌<◌, ◌==◌, ◌&&◌, ◌^◌, ℕ, Bool, true, false, not, refl, sym, ap, arith, [], ◌∷◌, length, Result, Ok, true≢false, zero, suc}
+use Rattle.std.proofs.Common.{◌≡◌, ◌∙◌, ◌≤◌, ◌<◌, ◌&&◌, ◌^◌, ℕ, true, refl, ap, arith, [], ◌∷◌, length, Result, Ok}
 use Rattle.std.proofs.lemmas.Bool.{and_parts, leb-true}
 use Rattle.std.specs.List.{list_all}
 use Rattle.std.specs.Str.{all_ascii_digits}

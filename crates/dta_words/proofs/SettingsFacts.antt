@@ -1,14 +1,15 @@
 -- Settings by what the words tell.
-use Rattle.std.proofs.Common.{◌≡◌, ◌∙◌, Bool, codes, refl, sym, ap, List, [], ◌∷◌, drop, Option, Some, None}
+use Rattle.std.proofs.Common.{◌≡◌, ◌∙◌, ◌||◌, Bool, false, codes, refl, sym, ap, List, [], ◌∷◌, drop, Option, Some, None}
 use Rattle.std.specs.Prelude.{option_and_then, slice_get}
 use Rattle.clap.specs.Matches.{first_value}
 use Rattle.clap.specs.declared.parser.matches.Found.{Found}
-use Rattle.dta_words.specs.Uses.{Text, uses_of, value_in}
+use Rattle.std.specs.Str.{bytes_eq}
+use Rattle.dta_words.specs.Uses.{Text, has_name, uses_of, value_in}
 use Rattle.dta_words.specs.Options.{takes_of}
 use Rattle.dta_words.specs.Reading.{Reads}
 use Rattle.dta_words.specs.Grammar.{is_plain, settings_by, settings_from, settings_of, word_of}
 use Rattle.dta_words.specs.declared.options.CommandWord.{CommandWord}
-use Rattle.dta_words.specs.declared.options.CommandWord.TheVariants.{Freeflow, Assign, Demo}
+use Rattle.dta_words.specs.declared.options.CommandWord.TheVariants as word
 
 -- settings read no more of the values than these names
 record SameValues (v w : Text → Option Text) : Type 0 where
@@ -24,6 +25,8 @@ record SameValues (v w : Text → Option Text) : Type 0 where
   bucket : v (codes "bucket") ≡ w (codes "bucket")
   line : v (codes "queue") ≡ w (codes "queue")
   watch : v (codes "watch") ≡ w (codes "watch")
+  starts : v (codes "at") ≡ w (codes "at")
+  link : v (codes "link") ≡ w (codes "link")
 
 same_settings : (word : CommandWord) (v w : Text → Option Text) (plain : Bool) → SameValues v w
     → settings_by word v plain ≡ settings_by word w plain
@@ -40,52 +43,39 @@ same_settings word v w plain s = rw (
   s.bucket,
   s.line,
   s.watch,
+  s.starts,
+  s.link,
 ) refl
+
+-- a name is no flag's where it isn't that of the one flag
+no_flag : (word : CommandWord) (name : Text) → bytes_eq (codes "plain") name ≡ false
+    → has_name (takes_of word).flags name ≡ false
+no_flag word.Freeflow name e = refl
+no_flag word.Assign name e = ap (λ b. b || false) e
+no_flag word.Demo name e = ap (λ b. b || false) e
+no_flag word.Skim name e = refl
+no_flag word.Counts name e = ap (λ b. b || false) e
 
 values_of : (word : CommandWord) (words : List Text) (found : Found) (r : Reads (takes_of word) words found)
     → SameValues (first_value found) (value_in r.uses)
-values_of Freeflow words found r = record {
-  number = r.values _ refl;
-  step = r.values _ refl;
-  jam = r.values _ refl;
-  length_unit = r.values _ refl;
-  speed_unit = r.values _ refl;
-  horizon = r.values _ refl;
-  period = r.values _ refl;
-  iterations = r.values _ refl;
-  workers = r.values _ refl;
-  bucket = r.values _ refl;
-  line = r.values _ refl;
-  watch = r.values _ refl;
-}
-values_of Assign words found r = record {
-  number = r.values _ refl;
-  step = r.values _ refl;
-  jam = r.values _ refl;
-  length_unit = r.values _ refl;
-  speed_unit = r.values _ refl;
-  horizon = r.values _ refl;
-  period = r.values _ refl;
-  iterations = r.values _ refl;
-  workers = r.values _ refl;
-  bucket = r.values _ refl;
-  line = r.values _ refl;
-  watch = r.values _ refl;
-}
-values_of Demo words found r = record {
-  number = r.values _ refl;
-  step = r.values _ refl;
-  jam = r.values _ refl;
-  length_unit = r.values _ refl;
-  speed_unit = r.values _ refl;
-  horizon = r.values _ refl;
-  period = r.values _ refl;
-  iterations = r.values _ refl;
-  workers = r.values _ refl;
-  bucket = r.values _ refl;
-  line = r.values _ refl;
-  watch = r.values _ refl;
-}
+values_of word words found r =
+    let read : (name : Text) → bytes_eq (codes "plain") name ≡ false → first_value found name ≡ value_in r.uses name = λ name e. r.values name (no_flag word name e) in
+    record {
+      number = read _ refl;
+      step = read _ refl;
+      jam = read _ refl;
+      length_unit = read _ refl;
+      speed_unit = read _ refl;
+      horizon = read _ refl;
+      period = read _ refl;
+      iterations = read _ refl;
+      workers = read _ refl;
+      bucket = read _ refl;
+      line = read _ refl;
+      watch = read _ refl;
+      starts = read _ refl;
+      link = read _ refl;
+    }
 
 pub settings_read : (word : CommandWord) (words : List Text) (found : Found) (plain : Bool)
     (r : Reads (takes_of word) words found) → plain ≡ is_plain word r.uses

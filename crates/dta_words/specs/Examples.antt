@@ -1,10 +1,14 @@
 -- Small lists of words, computed by the grammar.
 use Rattle.std.specs.Prelude.{◌≡◌, ◌∷◌, [], ℕ, Some, None, false, true, codes, refl}
+use Rattle.std.specs.Prelude.{replicate}
+use Rattle.std.specs.List.{join_with_byte}
 use Rattle.fixed_units.specs.declared.measure.LengthUnit.TheVariants as length_unit
 use Rattle.fixed_units.specs.declared.measure.SpeedUnit.TheVariants as speed_unit
 use Rattle.dta_model.specs.declared.queue.Queue.TheVariants as queue
-use Rattle.dta_words.specs.Grammar.{settings_of}
+use Rattle.fixed_units.specs.Quantity.{number}
+use Rattle.dta_words.specs.Grammar.{link_given, settings_of}
 use Rattle.dta_words.specs.Numbers.{number_of}
+use Rattle.dta_words.specs.Starts.{pieces_of, starts_given, starts_of}
 use Rattle.dta_words.specs.declared.command.Command.{Command}
 use Rattle.dta_words.specs.declared.command.Command.TheVariants as command
 use Rattle.dta_words.specs.declared.command.Settings.{Settings}
@@ -12,7 +16,7 @@ use Rattle.dta_words.specs.declared.numbers.TheConstants.{MOST_DIGITS}
 use Rattle.dta_words.specs.declared.options.Bounds.{Bounds}
 use Rattle.dta_words.specs.declared.options.TheConstants.{BUCKET, DEFAULT_PERIOD, HORIZON}
 use Rattle.dta_words.specs.declared.options.TheConstants.{ITERATIONS, JAM, LEAST_SIDE, MOST_SIDE}
-use Rattle.dta_words.specs.declared.options.TheConstants.{STEP, WATCH, WORKERS}
+use Rattle.dta_words.specs.declared.options.TheConstants.{MOST_STARTS, STEP, WATCH, WORKERS}
 
 -- ---- the numbers of the options
 
@@ -59,6 +63,9 @@ most_side_is = refl
 most_digits_is : MOST_DIGITS ≡ 9
 most_digits_is = refl
 
+most_starts_is : MOST_STARTS ≡ 64
+most_starts_is = refl
+
 -- ---- numbers
 
 leading_zeros : number_of (codes "000000012") ≡ Some 12
@@ -72,6 +79,68 @@ no_digits = refl
 
 a_sign : number_of (codes "+6") ≡ None
 a_sign = refl
+
+-- ---- steps between semicolons
+
+pieces : pieces_of (codes "0;;55") ≡ codes "0" ∷ codes "" ∷ codes "55" ∷ []
+pieces = refl
+
+two_starts : starts_of 60 (codes "0;55") ≡ Some (0 ∷ 55 ∷ [])
+two_starts = refl
+
+-- steps stay in the order given, and may repeat
+repeated : starts_of 60 (codes "55;005;5") ≡ Some (55 ∷ 5 ∷ 5 ∷ [])
+repeated = refl
+
+last_step : starts_of 60 (codes "59") ≡ Some (59 ∷ [])
+last_step = refl
+
+at_the_horizon : starts_of 60 (codes "0;60") ≡ None
+at_the_horizon = refl
+
+nothing_at_all : starts_of 60 (codes "") ≡ None
+nothing_at_all = refl
+
+nothing_behind : starts_of 60 (codes "0;") ≡ None
+nothing_behind = refl
+
+nothing_between : starts_of 60 (codes "0;;55") ≡ None
+nothing_between = refl
+
+with_a_blank : starts_of 60 (codes "0; 55") ≡ None
+with_a_blank = refl
+
+sixty_four : starts_of 60 (join_with_byte 59 (replicate 64 (codes "5"))) ≡ Some (replicate 64 5)
+sixty_four = refl
+
+sixty_five : starts_of 60 (join_with_byte 59 (replicate 65 (codes "5"))) ≡ None
+sixty_five = refl
+
+no_starts : starts_given 60 None ≡ Some (0 ∷ [])
+no_starts = refl
+
+-- ---- a link's identifier
+
+no_link : link_given None ≡ Some None
+no_link = refl
+
+point_and_zeros : link_given (Some (codes "020.0")) ≡ Some (Some 20)
+unfolding number
+point_and_zeros = refl
+
+greatest_link : link_given (Some (codes "9223372036854775807")) ≡ Some (Some 9223372036854775807)
+unfolding number
+greatest_link = refl
+
+link_out_of_range : link_given (Some (codes "9223372036854775808")) ≡ None
+unfolding number
+link_out_of_range = refl
+
+link_below_zero : link_given (Some (codes "-20")) ≡ None
+link_below_zero = refl
+
+link_with_a_blank : link_given (Some (codes " 20")) ≡ None
+link_with_a_blank = refl
 
 -- ---- words that have settings
 
@@ -88,6 +157,8 @@ defaults what = record {
   queue = queue.Point;
   watch = 0;
   plain = false;
+  starts = 0 ∷ [];
+  link = None;
 }
 
 freeflow_alone : settings_of (codes "freeflow" ∷ []) ≡ Some (defaults command.Freeflow)
@@ -101,6 +172,26 @@ assign_alone = refl
 demo_twelve : settings_of (codes "demo" ∷ codes "012" ∷ []) ≡ Some (defaults (command.Demo 12))
 unfolding defaults
 demo_twelve = refl
+
+skim_alone : settings_of (codes "skim" ∷ []) ≡ Some (defaults command.Skim)
+unfolding defaults
+skim_alone = refl
+
+counts_alone : settings_of (codes "counts" ∷ []) ≡ Some (defaults command.Counts)
+unfolding defaults
+counts_alone = refl
+
+skim_two_starts :
+    settings_of (codes "skim" ∷ codes "--at" ∷ codes "0;55" ∷ codes "--horizon=60" ∷ [])
+    ≡ Some (record (defaults command.Skim) { horizon = 60; period = 60; starts = 0 ∷ 55 ∷ [] })
+unfolding defaults
+skim_two_starts = refl
+
+counts_of_a_link :
+    settings_of (codes "counts" ∷ codes "--link=20" ∷ codes "--plain" ∷ codes "--period=30" ∷ [])
+    ≡ Some (record (defaults command.Counts) { period = 30; plain = true; link = Some 20 })
+unfolding defaults number
+counts_of_a_link = refl
 
 -- a horizon below 600 steps is the period too
 short_horizon : settings_of (codes "assign" ∷ codes "--horizon" ∷ codes "60" ∷ [])
@@ -180,3 +271,21 @@ no_value = refl
 
 option_for_a_value : settings_of (codes "assign" ∷ codes "--step" ∷ codes "--plain" ∷ []) ≡ None
 option_for_a_value = refl
+
+start_past_the_horizon : settings_of (codes "skim" ∷ codes "--at=0;1200" ∷ []) ≡ None
+start_past_the_horizon = refl
+
+skim_with_a_flag : settings_of (codes "skim" ∷ codes "--plain" ∷ []) ≡ None
+skim_with_a_flag = refl
+
+skim_with_a_period : settings_of (codes "skim" ∷ codes "--period" ∷ codes "5" ∷ []) ≡ None
+skim_with_a_period = refl
+
+counts_with_a_watch : settings_of (codes "counts" ∷ codes "--watch" ∷ codes "5" ∷ []) ≡ None
+counts_with_a_watch = refl
+
+counts_with_starts : settings_of (codes "counts" ∷ codes "--at" ∷ codes "0" ∷ []) ≡ None
+counts_with_starts = refl
+
+assign_with_a_link : settings_of (codes "assign" ∷ codes "--link" ∷ codes "20" ∷ []) ≡ None
+assign_with_a_link = refl

@@ -1,17 +1,20 @@
 -- The grammar of the words: the settings of a list of words, if it has any.
 use Rattle.std.specs.Prelude.{ℕ, Bool, false, List, [], ◌∷◌, min, codes, Option, Some, None}
-use Rattle.std.specs.Prelude.{if◌then◌else◌, option_and_then}
+use Rattle.std.specs.Prelude.{if◌then◌else◌, option_and_then, option_map}
+use Rattle.std.specs.Result.{result_ok}
 use Rattle.std.specs.Str.{bytes_eq}
 use Rattle.fixed_units.specs.declared.measure.LengthUnit.{LengthUnit}
 use Rattle.fixed_units.specs.declared.measure.LengthUnit.TheVariants as length_unit
 use Rattle.fixed_units.specs.declared.measure.SpeedUnit.{SpeedUnit}
 use Rattle.fixed_units.specs.declared.measure.SpeedUnit.TheVariants as speed_unit
 use Rattle.fixed_units.specs.declared.units.Units.{Units}
+use Rattle.fixed_units.specs.Quantity.{whole_of}
 use Rattle.dta_model.specs.declared.queue.Queue.{Queue}
 use Rattle.dta_model.specs.declared.queue.Queue.TheVariants as queue
 use Rattle.dta_words.specs.Uses.{Text, Use, is_given, number_name, uses_of, value_in}
 use Rattle.dta_words.specs.Options.{takes_of}
 use Rattle.dta_words.specs.Numbers.{number_between, number_given}
+use Rattle.dta_words.specs.Starts.{starts_given}
 use Rattle.dta_words.specs.declared.options.Bounds.{Bounds}
 use Rattle.dta_words.specs.declared.options.CommandWord.{CommandWord}
 use Rattle.dta_words.specs.declared.options.CommandWord.TheVariants as word
@@ -30,7 +33,9 @@ o >>= f = option_and_then f o
 abbrev pub word_of : Text → Option CommandWord
 word_of text = if bytes_eq text (codes "freeflow") then Some word.Freeflow
     else (if bytes_eq text (codes "assign") then Some word.Assign
-    else (if bytes_eq text (codes "demo") then Some word.Demo else None))
+    else (if bytes_eq text (codes "demo") then Some word.Demo
+    else (if bytes_eq text (codes "skim") then Some word.Skim
+    else (if bytes_eq text (codes "counts") then Some word.Counts else None))))
 
 -- ---- values that aren't numbers
 
@@ -50,6 +55,11 @@ queue_of None = Some queue.Point
 queue_of (Some text) = if bytes_eq text (codes "point") then Some queue.Point
     else (if bytes_eq text (codes "spatial") then Some queue.Spatial else None)
 
+-- the link that the option gives by its identifier, if it is given
+abbrev pub link_given : Option Text → Option (Option ℕ)
+link_given None = Some None
+link_given (Some text) = option_map (λ link. Some link) (result_ok (whole_of text))
+
 -- ---- what the values come to
 
 -- the period ends with the horizon at the latest, also where no option says it
@@ -68,6 +78,8 @@ command_of word.Assign side = Some command.Assign
 command_of word.Demo side = do
   n ← side_of side
   Some (command.Demo n)
+command_of word.Skim side = Some command.Skim
+command_of word.Counts side = Some command.Counts
 
 abbrev pub units_by : (Text → Option Text) → Option Units
 units_by value = do
@@ -77,19 +89,20 @@ units_by value = do
   speed_unit ← speed_unit_of (value (codes "speed-unit"))
   Some (record { delta = step; jam = jam; length = length_unit; speed = speed_unit })
 
--- the settings, where `value` has the text of each option, and `plain` says whether that flag is
--- given
-abbrev pub settings_by : CommandWord → (Text → Option Text) → Bool → Option Settings
-settings_by first value plain = do
+-- the settings over a horizon with these starts, where `value` has the text of each option, and
+-- `plain` says whether that flag is given
+abbrev pub settings_over :
+    ℕ → List ℕ → CommandWord → (Text → Option Text) → Bool → Option Settings
+settings_over horizon starts first value plain = do
   what ← command_of first (value number_name)
   units ← units_by value
-  horizon ← number_given HORIZON (value (codes "horizon"))
   period ← number_given (period_within horizon) (value (codes "period"))
   iterations ← number_given ITERATIONS (value (codes "iterations"))
   workers ← number_given WORKERS (value (codes "workers"))
   bucket ← number_given BUCKET (value (codes "bucket"))
   line ← queue_of (value (codes "queue"))
   watch ← number_given WATCH (value (codes "watch"))
+  link ← link_given (value (codes "link"))
   Some (record {
     command = what;
     units = units;
@@ -101,13 +114,24 @@ settings_by first value plain = do
     queue = line;
     watch = watch;
     plain = plain;
+    starts = starts;
+    link = link;
   })
 
--- whether a command's uses have the flag; `freeflow` has none
+-- the settings; the starts are below the horizon
+abbrev pub settings_by : CommandWord → (Text → Option Text) → Bool → Option Settings
+settings_by first value plain = do
+  horizon ← number_given HORIZON (value (codes "horizon"))
+  starts ← starts_given horizon (value (codes "at"))
+  settings_over horizon starts first value plain
+
+-- whether a command's uses have the flag; `freeflow` and `skim` have none
 abbrev pub is_plain : CommandWord → List Use → Bool
 is_plain word.Freeflow uses = false
 is_plain word.Assign uses = is_given uses (codes "plain")
 is_plain word.Demo uses = is_given uses (codes "plain")
+is_plain word.Skim uses = false
+is_plain word.Counts uses = is_given uses (codes "plain")
 
 abbrev pub settings_from : CommandWord → List Use → Option Settings
 settings_from first uses = settings_by first (value_in uses) (is_plain first uses)

@@ -3,6 +3,7 @@ pub mod Uses
 pub mod Asked
 pub mod Options
 pub mod Numbers
+pub mod Starts
 pub mod Reading
 pub mod Grammar
 pub mod Ranges

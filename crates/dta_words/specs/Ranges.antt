@@ -1,5 +1,6 @@
 -- The ranges of settings.
-use Rattle.std.specs.Prelude.{ℕ, ◌≤◌, ⊤}
+use Rattle.std.specs.Prelude.{ℕ, ◌≤◌, ◌<◌, ⊤, List, length}
+use Rattle.std.specs.List.{All}
 use Rattle.dta_words.specs.declared.command.Command.{Command}
 use Rattle.dta_words.specs.declared.command.Command.TheVariants as command
 use Rattle.dta_words.specs.declared.command.Settings.{Settings}
@@ -12,6 +13,12 @@ abbrev pub IsSide : Command → Type 0
 IsSide command.Freeflow = ⊤
 IsSide command.Assign = ⊤
 IsSide (command.Demo n) = IsBetween 2 60 n
+IsSide command.Skim = ⊤
+IsSide command.Counts = ⊤
+
+-- there are 1 to 64 of the steps, and each is below the horizon
+abbrev pub AreStarts : ℕ → List ℕ → Type 0
+AreStarts horizon starts = IsBetween 1 64 (length starts) × All (λ step. step < horizon) starts
 
 -- what every settings keep, whatever the words
 pub record AreSettings (s : Settings) : Type 0 where
@@ -24,3 +31,4 @@ pub record AreSettings (s : Settings) : Type 0 where
   pub workers : IsBetween 1 16 s.workers
   pub bucket : IsBetween 1 86400 s.bucket
   pub watch : s.watch ≤ 86400
+  pub starts : AreStarts s.horizon s.starts

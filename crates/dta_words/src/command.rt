@@ -1,5 +1,5 @@
 // The settings of a run.
-use dta_model::Queue;
+use dta_model::{Queue, Steps};
 use fixed_units::Units;
 
 /// What the program is asked to do.
@@ -11,10 +11,14 @@ pub enum Command {
     Assign,
     /// Assignment over a grid with so many nodes on a side, from 2 to 60.
     Demo(u32),
+    /// Least times between all zones over a table of link times.
+    Skim,
+    /// Counts of turns, and of the vehicles through a link.
+    Counts,
 }
 
 /// The settings of a run. A field that the command has no option for holds its default.
-#[derive(Clone, Copy, Debug, PartialEq, Eq)]
+#[derive(Drop)]
 pub struct Settings {
     pub command: Command,
     pub units: Units,
@@ -33,4 +37,9 @@ pub struct Settings {
     pub watch: u32,
     /// Whether the plain loader loads.
     pub plain: bool,
+    /// The steps in which walks start, in the order given: 1 to 64, each below the horizon. Step 0
+    /// alone is the default.
+    pub starts: Steps,
+    /// The identifier of the link whose vehicles are counted, if one is given.
+    pub link: Option<u64>,
 }

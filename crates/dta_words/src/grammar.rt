@@ -29,6 +29,10 @@ fn command_word(text: &str) -> Option<CommandWord>
         Some(CommandWord::Assign)
     } else if text == "demo" {
         Some(CommandWord::Demo)
+    } else if text == "skim" {
+        Some(CommandWord::Skim)
+    } else if text == "counts" {
+        Some(CommandWord::Counts)
     } else {
         None
     }
@@ -40,8 +44,8 @@ fn is_plain(word: CommandWord, found: &ArgMatches) -> bool
         → result ≡ is_plain_of word r.uses }
 {
     match word {
-        CommandWord::Freeflow => false,
-        CommandWord::Assign | CommandWord::Demo => found.get_flag("plain"),
+        CommandWord::Freeflow | CommandWord::Skim => false,
+        CommandWord::Assign | CommandWord::Demo | CommandWord::Counts => found.get_flag("plain"),
     }
 }
 
@@ -62,7 +66,7 @@ fn settings_behind(
 {
     let found = read(alloc, word, words)?;
     let plain = is_plain(word, &found);
-    match settings_by_values(word, &found, plain) {
+    match settings_by_values(alloc, word, &found, plain)? {
         Some(settings) => Ok(settings),
         None => Err(WordsRefusal::Usage),
     }

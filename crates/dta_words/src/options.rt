@@ -11,6 +11,8 @@ pub(crate) enum CommandWord {
     Freeflow,
     Assign,
     Demo,
+    Skim,
+    Counts,
 }
 
 /// A whole number that an option takes: its least and its most, and what stands where the option
@@ -74,6 +76,9 @@ pub(crate) const WATCH: Bounds = Bounds {
     default: 0,
 };
 
+/// A list of steps has at most as many.
+pub(crate) const MOST_STARTS: usize = 64;
+
 /// The nodes on a side of the grid of `demo`, at least.
 pub(crate) const LEAST_SIDE: u32 = 2;
 
@@ -108,6 +113,30 @@ static DEMO_OPTIONS: [&str; 9] = [
     "watch",
 ];
 
+static SKIM_OPTIONS: [&str; 7] = [
+    "step",
+    "jam",
+    "length-unit",
+    "speed-unit",
+    "horizon",
+    "bucket",
+    "at",
+];
+
+static COUNTS_OPTIONS: [&str; 11] = [
+    "step",
+    "jam",
+    "length-unit",
+    "speed-unit",
+    "horizon",
+    "period",
+    "iterations",
+    "workers",
+    "bucket",
+    "queue",
+    "link",
+];
+
 static FLAGS: [&str; 1] = ["plain"];
 
 static NO_FLAGS: [&str; 0] = [];
@@ -120,6 +149,8 @@ pub(crate) fn options_of(word: CommandWord) -> &'static [&'static str]
         CommandWord::Freeflow => FREEFLOW_OPTIONS.as_slice(),
         CommandWord::Assign => ASSIGN_OPTIONS.as_slice(),
         CommandWord::Demo => DEMO_OPTIONS.as_slice(),
+        CommandWord::Skim => SKIM_OPTIONS.as_slice(),
+        CommandWord::Counts => COUNTS_OPTIONS.as_slice(),
     }
 }
 
@@ -128,8 +159,8 @@ pub(crate) fn flags_of(word: CommandWord) -> &'static [&'static str]
     ensures { texts result.now ≡ (takes_of word).flags }
 {
     match word {
-        CommandWord::Freeflow => NO_FLAGS.as_slice(),
-        CommandWord::Assign | CommandWord::Demo => FLAGS.as_slice(),
+        CommandWord::Freeflow | CommandWord::Skim => NO_FLAGS.as_slice(),
+        CommandWord::Assign | CommandWord::Demo | CommandWord::Counts => FLAGS.as_slice(),
     }
 }
 

@@ -13,8 +13,42 @@ fn words_of(alloc: Global, texts: &[&str]) -> Result<Words, Memory> {
     Ok(words)
 }
 
+// Settings as a table holds them, with their steps lent.
+#[derive(Clone, Copy)]
+struct Wanted {
+    command: Command,
+    units: Units,
+    horizon: u32,
+    period: u32,
+    iterations: u32,
+    workers: u32,
+    bucket: u32,
+    queue: Queue,
+    watch: u32,
+    plain: bool,
+    starts: &'static [u32],
+    link: Option<u64>,
+}
+
+impl Wanted {
+    fn is(&self, settings: &Settings) -> bool {
+        settings.command == self.command
+            && settings.units == self.units
+            && settings.horizon == self.horizon
+            && settings.period == self.period
+            && settings.iterations == self.iterations
+            && settings.workers == self.workers
+            && settings.bucket == self.bucket
+            && settings.queue == self.queue
+            && settings.watch == self.watch
+            && settings.plain == self.plain
+            && settings.starts.as_slice() == self.starts
+            && settings.link == self.link
+    }
+}
+
 // What `assign` alone asks for.
-const DEFAULTS: Settings = Settings {
+const DEFAULTS: Wanted = Wanted {
     command: Command::Assign,
     units: Units {
         delta: 6,
@@ -30,13 +64,15 @@ const DEFAULTS: Settings = Settings {
     queue: Queue::Point,
     watch: 0,
     plain: false,
+    starts: &[0],
+    link: None,
 };
 
-const ACCEPTED: [(&[&str], Settings); 6] = [
+const ACCEPTED: [(&[&str], Wanted); 10] = [
     (&["assign"], DEFAULTS),
     (
         &["assign", "--step=6", "--horizon", "60"],
-        Settings {
+        Wanted {
             horizon: 60,
             period: 60,
             ..DEFAULTS
@@ -44,7 +80,7 @@ const ACCEPTED: [(&[&str], Settings); 6] = [
     ),
     (
         &["assign", "--period", "30", "--horizon", "60", "--plain"],
-        Settings {
+        Wanted {
             horizon: 60,
             period: 30,
             plain: true,
@@ -53,14 +89,14 @@ const ACCEPTED: [(&[&str], Settings); 6] = [
     ),
     (
         &["demo", "012"],
-        Settings {
+        Wanted {
             command: Command::Demo(12),
             ..DEFAULTS
         },
     ),
     (
         &["demo", "--workers", "2", "7", "--queue=spatial"],
-        Settings {
+        Wanted {
             command: Command::Demo(7),
             workers: 2,
             queue: Queue::Spatial,
@@ -69,14 +105,50 @@ const ACCEPTED: [(&[&str], Settings); 6] = [
     ),
     (
         &["freeflow"],
-        Settings {
+        Wanted {
             command: Command::Freeflow,
+            ..DEFAULTS
+        },
+    ),
+    (
+        &["skim", "--bucket", "10"],
+        Wanted {
+            command: Command::Skim,
+            bucket: 10,
+            ..DEFAULTS
+        },
+    ),
+    (
+        &["skim", "--at", "0;55;055", "--horizon=60"],
+        Wanted {
+            command: Command::Skim,
+            horizon: 60,
+            period: 60,
+            starts: &[0, 55, 55],
+            ..DEFAULTS
+        },
+    ),
+    (
+        &["counts", "--plain", "--period=30", "--workers", "2"],
+        Wanted {
+            command: Command::Counts,
+            period: 30,
+            workers: 2,
+            plain: true,
+            ..DEFAULTS
+        },
+    ),
+    (
+        &["counts", "--link", "020.0"],
+        Wanted {
+            command: Command::Counts,
+            link: Some(20),
             ..DEFAULTS
         },
     ),
 ];
 
-const REFUSED: [&[&str]; 17] = [
+const REFUSED: [&[&str]; 34] = [
     &[],
     &["Assign"],
     &["assign", "--step", "61"],
@@ -94,13 +166,30 @@ const REFUSED: [&[&str]; 17] = [
     &["assign", "--watch", "0000000006"],
     &["assign", "--step", "é"],
     &["demo", "-é", "12"],
+    &["assign", "--at", "0"],
+    &["assign", "--link", "20"],
+    &["skim", "--at", ""],
+    &["skim", "--at", "0;"],
+    &["skim", "--at", ";0"],
+    &["skim", "--at", "0; 55"],
+    &["skim", "--at", "0,55"],
+    &["skim", "--at", "0000000000"],
+    &["skim", "--horizon", "60", "--at", "0;60"],
+    &["skim", "--at", "0", "--at", "0"],
+    &["skim", "--period", "30"],
+    &["skim", "--plain"],
+    &["skim", "3"],
+    &["counts", "--watch", "6"],
+    &["counts", "--at", "0"],
+    &["counts", "--link", " 20"],
+    &["counts", "--link", "9223372036854775808"],
 ];
 
 #[test]
 fn words_with_settings(rt: HostRuntime) {
     for (texts, wanted) in ACCEPTED {
         let words = words_of(rt.alloc(), texts).expect(&rt, "words");
-        assert!(rt; settings(rt.alloc(), &words) == Ok(wanted));
+        assert!(rt; settings(rt.alloc(), &words).is_ok_and(|s| wanted.is(&s)));
     }
 }
 
@@ -108,6 +197,30 @@ fn words_with_settings(rt: HostRuntime) {
 fn words_without_settings(rt: HostRuntime) {
     for texts in REFUSED {
         let words = words_of(rt.alloc(), texts).expect(&rt, "words");
-        assert!(rt; settings(rt.alloc(), &words) == Err(WordsRefusal::Usage));
+        assert!(rt; settings(rt.alloc(), &words).err() == Some(WordsRefusal::Usage));
     }
+}
+
+// `--at` with so many pieces, each of them step 5.
+fn fives(alloc: Global, count: u32) -> Result<Words, Memory> {
+    let mut text = String::from_str(alloc, "5")?;
+    for _ in 1..count {
+        text.push_str(";5")?;
+    }
+    let mut words = words_of(alloc, &["skim", "--at"])?;
+    words.push(text.as_str())?;
+    Ok(words)
+}
+
+#[test]
+fn at_most_64_steps(rt: HostRuntime) {
+    let most = fives(rt.alloc(), 64).expect(&rt, "words");
+    let wanted = Wanted {
+        command: Command::Skim,
+        starts: &[5; 64],
+        ..DEFAULTS
+    };
+    assert!(rt; settings(rt.alloc(), &most).is_ok_and(|s| wanted.is(&s)));
+    let more = fives(rt.alloc(), 65).expect(&rt, "words");
+    assert!(rt; settings(rt.alloc(), &more).err() == Some(WordsRefusal::Usage));
 }

@@ -1,10 +1,12 @@
 // The values of options, as settings.
-ghost use Rattle.std.specs.Prelude.{◌≡◌, ◌≤◌, IfSome, Some, codes};
+ghost use Rattle.std.specs.Prelude.{◌≡◌, ◌≤◌, IfOk, IfSome, Some, codes};
 ghost use Rattle.clap.specs.Matches.{first_value, found_of, one_text};
 ghost use Rattle.dta_words.specs.Numbers.{number_given};
-ghost use Rattle.dta_words.specs.Grammar.{command_of, length_unit_of, period_within, queue_of};
-ghost use Rattle.dta_words.specs.Grammar.{settings_by, side_of, speed_unit_of, units_by};
-ghost use Rattle.dta_words.specs.Ranges.{AreSettings, IsSide};
+ghost use Rattle.dta_words.specs.Grammar.{command_of, length_unit_of, link_given, period_within};
+ghost use Rattle.dta_words.specs.Grammar.{queue_of, settings_by, side_of, speed_unit_of, units_by};
+ghost use Rattle.dta_words.specs.Grammar.{settings_over as settings_over_of};
+ghost use Rattle.dta_words.specs.Ranges.{AreSettings, AreStarts, IsBetween, IsSide};
+ghost use Rattle.dta_words.specs.Starts.{starts_given};
 
 use crate::clap_command::NUMBER;
 use crate::command::{Command, Settings};
@@ -13,9 +15,12 @@ use crate::options::{
     BUCKET, Bounds, CommandWord, DEFAULT_PERIOD, HORIZON, ITERATIONS, JAM, LEAST_SIDE, MOST_SIDE,
     STEP, WATCH, WORKERS,
 };
+use crate::starts::{first_step, starts_in};
 use clap::ArgMatches;
-use dta_model::Queue;
-use fixed_units::{LengthUnit, SpeedUnit, Units};
+use desk_io::Memory;
+use dta_model::{Queue, Steps};
+use fixed_units::{LengthUnit, SpeedUnit, Units, whole};
+use std::alloc::Global;
 
 /// The number that an option gives, or what stands in its place.
 fn number(found: &ArgMatches, name: &str, bounds: Bounds) -> Option<u32>
@@ -107,6 +112,8 @@ fn command(word: CommandWord, found: &ArgMatches) -> Option<Command>
             let side = side(found)?;
             Some(Command::Demo(side))
         }
+        CommandWord::Skim => Some(Command::Skim),
+        CommandWord::Counts => Some(Command::Counts),
     }
 }
 
@@ -143,24 +150,55 @@ fn period(found: &ArgMatches, horizon: u32) -> Option<u32>
     number(found, "period", bounds)
 }
 
-/// The settings that the values come to.
-pub(crate) fn settings_by_values(
+/// The steps in which walks start.
+fn starts(alloc: Global, found: &ArgMatches, horizon: u32) -> Result<Option<Steps>, Memory>
+    requires { 1 ≤ horizon }
+    ensures value { IfOk result (λ starts.
+        starts ≡ starts_given horizon (first_value (found_of found.now) (codes "at"))) }
+    ensures within { IfOk result (λ starts. IfSome starts (AreStarts horizon)) }
+{
+    match found.get_str("at") {
+        None => Ok(Some(first_step(alloc)?)),
+        Some(text) => starts_in(alloc, text, horizon),
+    }
+}
+
+/// The identifier of a link, if one is given.
+fn link(found: &ArgMatches) -> Option<Option<u64>>
+    ensures { result ≡ link_given (first_value (found_of found.now) (codes "link")) }
+{
+    match found.get_str("link") {
+        None => Some(None),
+        Some(text) => match whole(text.as_bytes()) {
+            Ok(link) => Some(Some(link)),
+            Err(_) => None,
+        },
+    }
+}
+
+/// The settings that the values come to over a horizon with these starts.
+fn settings_over(
+    horizon: u32,
+    starts: Steps,
     word: CommandWord,
     found: &ArgMatches,
     plain: bool,
 ) -> Option<Settings>
-    ensures value { result ≡ settings_by word (first_value (found_of found.now)) plain }
+    requires horizon { IsBetween HORIZON.least HORIZON.most horizon }
+    requires starts { AreStarts horizon starts }
+    ensures value { result
+        ≡ settings_over_of horizon starts word (first_value (found_of found.now)) plain }
     ensures ranges { IfSome result AreSettings }
 {
     let command = command(word, found)?;
     let units = units(found)?;
-    let horizon = number(found, "horizon", HORIZON)?;
     let period = period(found, horizon)?;
     let iterations = number(found, "iterations", ITERATIONS)?;
     let workers = number(found, "workers", WORKERS)?;
     let bucket = number(found, "bucket", BUCKET)?;
     let queue = queue(found)?;
     let watch = number(found, "watch", WATCH)?;
+    let link = link(found)?;
     Some(Settings {
         command,
         units,
@@ -172,5 +210,28 @@ pub(crate) fn settings_by_values(
         queue,
         watch,
         plain,
+        starts,
+        link,
     })
+}
+
+/// The settings that the values come to.
+pub(crate) fn settings_by_values(
+    alloc: Global,
+    word: CommandWord,
+    found: &ArgMatches,
+    plain: bool,
+) -> Result<Option<Settings>, Memory>
+    ensures value { IfOk result (λ settings.
+        settings ≡ settings_by word (first_value (found_of found.now)) plain) }
+    ensures ranges { IfOk result (λ settings. IfSome settings AreSettings) }
+{
+    let horizon = match number(found, "horizon", HORIZON) {
+        None => return Ok(None),
+        Some(horizon) => horizon,
+    };
+    match starts(alloc, found, horizon)? {
+        None => Ok(None),
+        Some(starts) => Ok(settings_over(horizon, starts, word, found, plain)),
+    }
 }

@@ -189,7 +189,7 @@ told-twice = refl
 
 -- ---- refusals
 
-bad-words : refusal_line refusal.Usage ≡ codes "usage: dta freeflow|assign|demo N [options]\n"
+bad-words : refusal_line refusal.Usage ≡ codes "usage: dta COMMAND [options]\n"
 unfolding refusal_line
 bad-words = refl
 
@@ -223,6 +223,11 @@ many-vehicles : refusal_line (refusal.Vehicles 2 2000001)
     ≡ codes "size: demand line 2 vehicles 2000001 limit 2000000\n"
 unfolding refusal_line digits
 many-vehicles = refl
+
+large-skim : refusal_line (refusal.SkimPairs 16777217)
+    ≡ codes "size: skim 16777217 limit 16777216\n"
+unfolding refusal_line digits
+large-skim = refl
 
 -- the limits: bytes of a table, links times steps, and vehicles
 most-bytes : MOST_TABLE_BYTES ≡ 268435456

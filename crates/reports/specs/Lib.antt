@@ -1,4 +1,3 @@
-pub mod Sending
 pub mod Texts
 pub mod Watch
 pub mod Examples

@@ -19,6 +19,7 @@ use Rattle.dta_model.specs.declared.trip.TheConstants.{MOST_TRIPS}
 use Rattle.dta_model.specs.declared.trip.Trip.{Trip}
 use Rattle.gap.specs.declared.line.GapLine.{GapLine}
 use Rattle.reports.specs.declared.refusal.Refusal.{Refusal}
+use Rattle.reports.specs.declared.refusal.TheConstants.{MOST_SKIM_ENTRIES}
 use Rattle.reports.specs.declared.refusal.Refusal.TheVariants as refusal
 use Rattle.desk_io.specs.declared.transfers.TheConstants.{MOST_TABLE_BYTES}
 use Rattle.dta_model.specs.declared.loading.TheConstants.{MOST_LINK_STEPS}
@@ -231,7 +232,7 @@ watch_line iteration eight =
 -- ---- Report of a refusal
 
 unfoldable pub refusal_line : Refusal → List ℕ
-refusal_line refusal.Usage = codes "usage: dta freeflow|assign|demo N [options]\n"
+refusal_line refusal.Usage = codes "usage: dta COMMAND [options]\n"
 refusal_line (refusal.Table fault) =
     table_name fault.table ++ codes " line " ++ decimal fault.line ++ codes ": "
     ++ code_name fault.code ++ codes " " ++ column_name fault.column ++ codes "\n"
@@ -245,3 +246,6 @@ refusal_line (refusal.Cells links steps) =
 refusal_line (refusal.Vehicles line total) =
     codes "size: demand line " ++ decimal line ++ codes " vehicles " ++ decimal total
     ++ codes " limit " ++ decimal MOST_TRIPS ++ codes "\n"
+refusal_line (refusal.SkimPairs number) =
+    codes "size: skim " ++ decimal number ++ codes " limit " ++ decimal MOST_SKIM_ENTRIES
+    ++ codes "\n"

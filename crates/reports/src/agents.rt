@@ -4,17 +4,17 @@ ghost use Rattle.std.specs.Prelude.{option_copied};
 ghost use Rattle.desk_io.specs.declared.desk.Output.TheVariants as output;
 ghost use Rattle.desk_io.specs.State.{state_of};
 ghost use Rattle.desk_io.specs.Transfers.{Puts};
-ghost use Rattle.reports.specs.declared.pending.TheConstants.{DIGITS, PIECE};
-ghost use Rattle.reports.specs.Sending.{Adds};
+ghost use Rattle.pending_text.specs.declared.pending.TheConstants.{DIGITS, PIECE};
+ghost use Rattle.pending_text.specs.Sending.{Adds};
 ghost use Rattle.reports.specs.Texts.{agent_header, agent_line, agent_text, AreLinksOf, AreOnNet};
 ghost use Rattle.reports.specs.Texts.{ids_of, item, joined, number_or_nothing, trip_columns};
 ghost use Rattle.reports.specs.Texts.{way_columns};
 
-use crate::pending::Pending;
 use crate::status::{AgentStatus, status_of};
 use desk_io::{Desk, Failed, Output};
 use dta_model::{Journey, Loaded, MOST_TRIPS, Route, Routes, Trip};
 use net_core::{LinkNo, Net};
+use pending_text::Pending;
 
 /// No first six columns are longer: five numbers of at most 20 digits, a status of at most 8
 /// letters and six commas.
@@ -47,7 +47,7 @@ fn push_step(pending: &mut Pending, step: Option<u32>)
 }
 
 // Adds the first six columns of a vehicle to what is pending.
-#[tactic(auto, using(crate::proofs::Joins::text), unfolding(crate::specs::Texts::trip_columns))]
+#[tactic(auto, using(pending_text::proofs::Joins::text), unfolding(crate::specs::Texts::trip_columns))]
 fn push_trip(pending: &mut Pending, trip: &Trip, arrival: Option<u32>, status: AgentStatus)
     requires { length pending.old + COLUMNS ≤ PIECE }
     ensures { pending.new ≡ pending.old ++ trip_columns trip.now arrival status }
@@ -67,7 +67,7 @@ fn push_trip(pending: &mut Pending, trip: &Trip, arrival: Option<u32>, status: A
 }
 
 // Adds the first six columns of a vehicle.
-#[tactic(auto, using(crate::proofs::SendingFacts::pieces))]
+#[tactic(auto, using(pending_text::proofs::SendingFacts::pieces))]
 fn add_trip<D: Desk>(
     pending: &mut Pending,
     desk: &mut D,
@@ -85,7 +85,7 @@ fn add_trip<D: Desk>(
 }
 
 // Adds an item of a list to what is pending.
-#[tactic(auto, using(crate::proofs::Joins::text))]
+#[tactic(auto, using(pending_text::proofs::Joins::text))]
 fn push_item(pending: &mut Pending, place: usize, number: u64)
     requires { length pending.old + ITEM ≤ PIECE }
     ensures { pending.new ≡ pending.old ++ item place number }
@@ -97,7 +97,7 @@ fn push_item(pending: &mut Pending, place: usize, number: u64)
 }
 
 // Adds an item of a list.
-#[tactic(auto, using(crate::proofs::SendingFacts::pieces))]
+#[tactic(auto, using(pending_text::proofs::SendingFacts::pieces))]
 fn add_item<D: Desk>(
     pending: &mut Pending,
     desk: &mut D,

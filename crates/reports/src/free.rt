@@ -3,14 +3,14 @@ ghost use Rattle.std.specs.Prelude.{◌≡◌, ◌≤◌, ◌+◌, ◌++◌, len
 ghost use Rattle.desk_io.specs.declared.desk.Output.TheVariants as output;
 ghost use Rattle.desk_io.specs.State.{state_of};
 ghost use Rattle.desk_io.specs.Transfers.{OnlyPuts, Puts};
-ghost use Rattle.reports.specs.declared.pending.TheConstants.{PIECE};
-ghost use Rattle.reports.specs.Sending.{Adds};
+ghost use Rattle.pending_text.specs.declared.pending.TheConstants.{PIECE};
+ghost use Rattle.pending_text.specs.Sending.{Adds};
 ghost use Rattle.reports.specs.Texts.{free_link_line, free_link_time_header, free_link_time_text};
 ghost use Rattle.reports.specs.Texts.{free_report_text, IsFreeOut, IsCutShort};
 
-use crate::pending::Pending;
 use desk_io::{Desk, Failed, Output};
 use net_core::{LinkRow, Net};
+use pending_text::Pending;
 
 /// No line of a link is longer: three numbers of at most 20 digits, two commas and a line feed.
 const LINE: usize = 64;
@@ -26,7 +26,7 @@ fn header() -> Pending
 }
 
 // Adds the line of a link to what is pending.
-#[tactic(auto, using(crate::proofs::Joins::text), unfolding(crate::specs::Texts::free_link_line))]
+#[tactic(auto, using(pending_text::proofs::Joins::text), unfolding(crate::specs::Texts::free_link_line))]
 fn push_link(pending: &mut Pending, row: LinkRow)
     requires { length pending.old + LINE ≤ PIECE }
     ensures { pending.new ≡ pending.old ++ free_link_line row }
@@ -40,7 +40,7 @@ fn push_link(pending: &mut Pending, row: LinkRow)
 }
 
 // Adds the line of a link.
-#[tactic(auto, using(crate::proofs::SendingFacts::pieces))]
+#[tactic(auto, using(pending_text::proofs::SendingFacts::pieces))]
 fn add_link<D: Desk>(pending: &mut Pending, desk: &mut D, row: LinkRow) -> Result<(), Failed>
     ensures { let state = state_of D.left D.taken D.read_faults D.put_faults in
         Adds output.LinkTime (free_link_line row) pending.old pending.new
@@ -65,7 +65,7 @@ fn put_links<D: Desk>(desk: &mut D, links: &[LinkRow]) -> Result<(), Failed>
 }
 
 // The report's two lines.
-#[tactic(auto, using(crate::proofs::Joins::text), unfolding(crate::specs::Texts::free_report_text))]
+#[tactic(auto, using(pending_text::proofs::Joins::text), unfolding(crate::specs::Texts::free_report_text))]
 fn report(nodes: u32, links: u32) -> Pending
     ensures { result ≡ free_report_text nodes links }
 {

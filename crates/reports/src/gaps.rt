@@ -3,13 +3,13 @@ ghost use Rattle.std.specs.Prelude.{◌≡◌, ◌≤◌, ◌+◌, ◌++◌, len
 ghost use Rattle.desk_io.specs.declared.desk.Output.TheVariants as output;
 ghost use Rattle.desk_io.specs.State.{state_of};
 ghost use Rattle.desk_io.specs.Transfers.{Puts};
-ghost use Rattle.reports.specs.declared.pending.TheConstants.{PIECE};
-ghost use Rattle.reports.specs.Sending.{Adds};
+ghost use Rattle.pending_text.specs.declared.pending.TheConstants.{PIECE};
+ghost use Rattle.pending_text.specs.Sending.{Adds};
 ghost use Rattle.reports.specs.Texts.{gap_header, gap_line, gap_text};
 
-use crate::pending::Pending;
 use desk_io::{Desk, Failed, Output};
 use gap::GapLine;
+use pending_text::Pending;
 
 /// No line of an iteration is longer: a number of at most 20 digits, four of at most 40, four
 /// commas and a line feed.
@@ -26,7 +26,7 @@ fn header() -> Pending
 }
 
 // Adds the line of an iteration to what is pending.
-#[tactic(auto, using(crate::proofs::Joins::text), unfolding(crate::specs::Texts::gap_line))]
+#[tactic(auto, using(pending_text::proofs::Joins::text), unfolding(crate::specs::Texts::gap_line))]
 fn push_gap(pending: &mut Pending, iteration: u64, line: &GapLine)
     requires { length pending.old + LINE ≤ PIECE }
     ensures { pending.new ≡ pending.old ++ gap_line iteration line.now }
@@ -44,7 +44,7 @@ fn push_gap(pending: &mut Pending, iteration: u64, line: &GapLine)
 }
 
 // Adds the line of an iteration.
-#[tactic(auto, using(crate::proofs::SendingFacts::pieces))]
+#[tactic(auto, using(pending_text::proofs::SendingFacts::pieces))]
 fn add_gap<D: Desk>(
     pending: &mut Pending,
     desk: &mut D,

@@ -10,7 +10,6 @@
 mod agents;
 mod free;
 mod gaps;
-mod pending;
 mod refusal;
 mod refused;
 mod status;
@@ -21,7 +20,7 @@ mod watch;
 pub use agents::put_agents;
 pub use free::put_free;
 pub use gaps::put_gaps;
-pub use refusal::Refusal;
+pub use refusal::{MOST_SKIM_ENTRIES, Refusal};
 pub use refused::put_refusal;
 pub use summary::{Summary, put_summary};
 pub use times::put_link_times;

@@ -2,6 +2,9 @@
 use desk_io::Table;
 use row_reader::TableFault;
 
+/// The most entries of a skim.
+pub const MOST_SKIM_ENTRIES: u64 = 16_777_216;
+
 /// Why a run does none of its work.
 #[derive(Clone, Copy, Debug, PartialEq, Eq)]
 pub enum Refusal {
@@ -17,4 +20,6 @@ pub enum Refusal {
     Cells { links: u32, steps: u32 },
     /// At this line of the demand table the vehicles, so many, are above the limit.
     Vehicles { line: u64, total: u64 },
+    /// A skim of so many entries, pairs of zones times starts, is above the limit.
+    SkimPairs { number: u128 },
 }

@@ -3,50 +3,83 @@ ghost use Rattle.std.specs.Prelude.{◌≡◌, ◌≤◌, ◌+◌, ◌++◌, len
 ghost use Rattle.desk_io.specs.declared.desk.Output.TheVariants as output;
 ghost use Rattle.desk_io.specs.State.{state_of};
 ghost use Rattle.desk_io.specs.Transfers.{Puts};
-ghost use Rattle.reports.specs.declared.pending.TheConstants.{PIECE};
+ghost use Rattle.pending_text.specs.declared.pending.TheConstants.{PIECE};
 ghost use Rattle.reports.specs.declared.refusal.Refusal.TheVariants as why;
 ghost use Rattle.reports.specs.Texts.{refusal_line};
+ghost use Rattle.reports.specs.declared.refused.TheConstants.{NAME};
+ghost use Rattle.row_reader.specs.Names.{code_name as name_of_code, column_name as name_of_column};
+ghost use Rattle.row_reader.specs.Names.{table_name as name_of_table};
 
-use crate::pending::Pending;
-use crate::refusal::Refusal;
-use desk_io::{Desk, Failed, MOST_TABLE_BYTES, Output};
+use crate::refusal::{MOST_SKIM_ENTRIES, Refusal};
+use desk_io::{Desk, Failed, MOST_TABLE_BYTES, Output, Table};
 use dta_model::{MOST_LINK_STEPS, MOST_TRIPS};
-use row_reader::{TableFault, code_name, column_name, table_name};
+use pending_text::Pending;
+use row_reader::{Code, Column, TableFault, code_name, column_name, table_name};
+
+/// No name of a table, of a code or of a column is longer.
+const NAME: usize = 32;
+
+// Adds a table's name to a line.
+fn push_table(line: &mut Pending, table: Table)
+    requires { length line.old + NAME ≤ PIECE }
+    ensures name { line.new ≡ line.old ++ name_of_table table }
+    ensures few { length line.new ≤ length line.old + NAME }
+{
+    line.push(table_name(table));
+}
+
+// Adds a code and its name to a line.
+fn push_code(line: &mut Pending, code: Code)
+    requires { length line.old + NAME ≤ PIECE }
+    ensures name { line.new ≡ line.old ++ name_of_code code }
+    ensures few { length line.new ≤ length line.old + NAME }
+{
+    line.push(code_name(code));
+}
+
+// Adds a column's name to a line.
+fn push_column(line: &mut Pending, column: Column)
+    requires { length line.old + NAME ≤ PIECE }
+    ensures name { line.new ≡ line.old ++ name_of_column column }
+    ensures few { length line.new ≤ length line.old + NAME }
+{
+    line.push(column_name(column));
+}
 
 // The line of a table's first fault.
-#[tactic(auto, using(crate::proofs::Joins::text), unfolding(crate::specs::Texts::refusal_line))]
+#[tactic(auto, using(pending_text::proofs::Joins::text), unfolding(crate::specs::Texts::refusal_line))]
 fn fault_line(fault: TableFault) -> Pending
     ensures { result ≡ refusal_line (why.Table fault) }
 {
     let mut line = Pending::new();
-    line.push(table_name(fault.table));
+    push_table(&mut line, fault.table);
     line.push(" line ");
     line.push_number(fault.line);
     line.push(": ");
-    line.push(code_name(fault.code));
+    push_code(&mut line, fault.code);
     line.push(" ");
-    line.push(column_name(fault.column));
+    push_column(&mut line, fault.column);
     line.push("\n");
     line
 }
 
 // The line of a refusal.
-#[tactic(auto, using(crate::proofs::Joins::text), unfolding(crate::specs::Texts::refusal_line))]
+#[tactic(auto, using(pending_text::proofs::Joins::text), unfolding(crate::specs::Texts::refusal_line))]
 fn line(refusal: &Refusal) -> Pending
     ensures { result ≡ refusal_line refusal.now }
 {
     let mut line = Pending::new();
     match *refusal {
-        Refusal::Usage => line.push("usage: dta freeflow|assign|demo N [options]\n"),
+        Refusal::Usage => line.push("usage: dta COMMAND [options]\n"),
         Refusal::Table(fault) => return fault_line(fault),
         Refusal::Read(table) => {
             line.push("read fault in ");
-            line.push(table_name(table));
+            push_table(&mut line, table);
             line.push("\n");
         }
         Refusal::LongTable(table) => {
             line.push("size: table ");
-            line.push(table_name(table));
+            push_table(&mut line, table);
             line.push(" limit ");
             line.push_number(MOST_TABLE_BYTES);
             line.push("\n");
@@ -67,6 +100,13 @@ fn line(refusal: &Refusal) -> Pending
             line.push_number(total);
             line.push(" limit ");
             line.push_number(MOST_TRIPS as u64);
+            line.push("\n");
+        }
+        Refusal::SkimPairs { number } => {
+            line.push("size: skim ");
+            line.push_wide(number);
+            line.push(" limit ");
+            line.push_number(MOST_SKIM_ENTRIES);
             line.push("\n");
         }
     }

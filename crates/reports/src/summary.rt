@@ -3,12 +3,12 @@ ghost use Rattle.std.specs.Prelude.{◌≡◌, ◌≤◌, ◌+◌, ◌++◌, len
 ghost use Rattle.desk_io.specs.declared.desk.Output.TheVariants as output;
 ghost use Rattle.desk_io.specs.State.{state_of};
 ghost use Rattle.desk_io.specs.Transfers.{Puts};
-ghost use Rattle.reports.specs.declared.pending.TheConstants.{PIECE};
+ghost use Rattle.pending_text.specs.declared.pending.TheConstants.{PIECE};
 ghost use Rattle.reports.specs.Texts.{count_lines, last_gap_lines, report_text};
 
-use crate::pending::Pending;
 use desk_io::{Desk, Failed, Output};
 use gap::GapLine;
+use pending_text::Pending;
 
 /// No lines of a gap are longer: four names, and four numbers of at most 40 digits.
 const GAP_LINES: usize = 256;
@@ -29,7 +29,7 @@ pub struct Summary {
 }
 
 // The lines of the counts.
-#[tactic(auto, using(crate::proofs::Joins::text), unfolding(crate::specs::Texts::count_lines))]
+#[tactic(auto, using(pending_text::proofs::Joins::text), unfolding(crate::specs::Texts::count_lines))]
 fn counts(summary: &Summary) -> Pending
     ensures lines { result ≡ count_lines summary.now }
     ensures room { length result + GAP_LINES ≤ PIECE }
@@ -56,7 +56,7 @@ fn counts(summary: &Summary) -> Pending
 }
 
 // Adds the lines of a gap.
-#[tactic(auto, using(crate::proofs::Joins::text), unfolding(crate::specs::Texts::last_gap_lines))]
+#[tactic(auto, using(pending_text::proofs::Joins::text), unfolding(crate::specs::Texts::last_gap_lines))]
 fn push_last_gap(text: &mut Pending, line: &GapLine)
     requires { length text.old + GAP_LINES ≤ PIECE }
     ensures { text.new ≡ text.old ++ last_gap_lines line.now }

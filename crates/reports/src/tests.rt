@@ -51,11 +51,8 @@ const REPORT: &[u8] = b"nodes 3\nlinks 3\nvehicles 4\nunrouted 0\niterations 2\n
 running 0\nwaiting 0\nroute_steps 84\nleast_steps 84\ngap_steps 0\ngap_ppm 0\n";
 
 // Each refusal, and its line.
-const REFUSALS: [(Refusal, &[u8]); 6] = [
-    (
-        Refusal::Usage,
-        b"usage: dta freeflow|assign|demo N [options]\n",
-    ),
+const REFUSALS: [(Refusal, &[u8]); 7] = [
+    (Refusal::Usage, b"usage: dta COMMAND [options]\n"),
     (
         Refusal::Table(TableFault {
             table: Table::Link,
@@ -83,6 +80,12 @@ const REFUSALS: [(Refusal, &[u8]); 6] = [
             total: 2_000_001,
         },
         b"size: demand line 2 vehicles 2000001 limit 2000000\n",
+    ),
+    (
+        Refusal::SkimPairs {
+            number: 18_446_744_073_709_551_616,
+        },
+        b"size: skim 18446744073709551616 limit 16777216\n",
     ),
 ];
 

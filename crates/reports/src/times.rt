@@ -5,14 +5,14 @@ ghost use Rattle.desk_io.specs.State.{state_of};
 ghost use Rattle.desk_io.specs.Transfers.{Puts};
 ghost use Rattle.dta_model.specs.LinkTimes.{bucket_count, free_steps};
 ghost use Rattle.net_core.specs.Network.{link_at};
-ghost use Rattle.reports.specs.declared.pending.TheConstants.{PIECE};
-ghost use Rattle.reports.specs.Sending.{Adds};
+ghost use Rattle.pending_text.specs.declared.pending.TheConstants.{PIECE};
+ghost use Rattle.pending_text.specs.Sending.{Adds};
 ghost use Rattle.reports.specs.Texts.{bucket_line, link_lines, link_time_header, link_time_text};
 
-use crate::pending::Pending;
 use desk_io::{Desk, Failed, Output};
 use link_times::LinkTimes;
 use net_core::{LinkNo, LinkRow, Net};
+use pending_text::Pending;
 
 /// No line of a bucket is longer: six numbers of at most 20 digits, five commas and a line feed.
 const LINE: usize = 128;
@@ -52,7 +52,7 @@ fn step_after(times: &LinkTimes, bucket: u32) -> u64
 }
 
 // Adds the line of a bucket to what is pending.
-#[tactic(auto, using(crate::proofs::Joins::text), unfolding(crate::specs::Texts::bucket_line))]
+#[tactic(auto, using(pending_text::proofs::Joins::text), unfolding(crate::specs::Texts::bucket_line))]
 fn push_bucket(pending: &mut Pending, net: &Net, times: &LinkTimes, link: LinkNo, bucket: u32)
     requires room { length pending.old + LINE ≤ PIECE }
     requires free { times.now.free ≡ free_steps net.now }
@@ -77,7 +77,7 @@ fn push_bucket(pending: &mut Pending, net: &Net, times: &LinkTimes, link: LinkNo
 }
 
 // Adds the line of a bucket.
-#[tactic(auto, using(crate::proofs::SendingFacts::pieces))]
+#[tactic(auto, using(pending_text::proofs::SendingFacts::pieces))]
 fn add_bucket<D: Desk>(
     pending: &mut Pending,
     desk: &mut D,

@@ -5,12 +5,12 @@ ghost use Rattle.desk_io.specs.State.{state_of};
 ghost use Rattle.desk_io.specs.Transfers.{Puts};
 ghost use Rattle.reports.specs.Texts.{watch_line};
 
-use crate::pending::Pending;
 use desk_io::{Desk, Failed, Output};
 use dta_model::Eight;
+use pending_text::Pending;
 
 // The line of a state.
-#[tactic(auto, using(crate::proofs::Joins::text), unfolding(crate::specs::Texts::watch_line))]
+#[tactic(auto, using(pending_text::proofs::Joins::text), unfolding(crate::specs::Texts::watch_line))]
 fn line(iteration: u32, eight: &Eight) -> Pending
     ensures { result ≡ watch_line iteration eight.now }
 {

@@ -12,6 +12,7 @@ table_name table.Node = codes "node"
 table_name table.Link = codes "link"
 table_name table.Movement = codes "movement"
 table_name table.Demand = codes "demand"
+table_name table.Times = codes "times"
 
 -- a code, and after a space its name
 abbrev pub code_name : Code → List ℕ
@@ -27,6 +28,7 @@ code_name code.E9 = codes "E9 WrongTurn"
 code_name code.E10 = codes "E10 Undirected"
 code_name code.E11 = codes "E11 TooSlow"
 code_name code.E12 = codes "E12 TooMany"
+code_name code.E13 = codes "E13 Disagrees"
 
 -- a column's name in its table, or a hyphen for no column
 abbrev pub column_name : Column → List ℕ
@@ -46,4 +48,9 @@ column_name column.Penalty = codes "penalty"
 column_name column.OZoneId = codes "o_zone_id"
 column_name column.DZoneId = codes "d_zone_id"
 column_name column.Volume = codes "volume"
+column_name column.FromStep = codes "from_step"
+column_name column.ToStep = codes "to_step"
+column_name column.Entered = codes "entered"
+column_name column.TravelSteps = codes "travel_steps"
+column_name column.FreeSteps = codes "free_steps"
 column_name column.NoColumn = codes "-"

@@ -35,6 +35,8 @@ pub enum Code {
     E11,
     /// TooMany: the table has too many rows.
     E12,
+    /// Disagrees: a row isn't the one that another table asks for at its place, or is missing.
+    E13,
 }
 
 /// A column of a table, named in each table that has it. `NoColumn` stands for the whole record.
@@ -56,6 +58,11 @@ pub enum Column {
     OZoneId,
     DZoneId,
     Volume,
+    FromStep,
+    ToStep,
+    Entered,
+    TravelSteps,
+    FreeSteps,
     NoColumn,
 }
 
@@ -93,6 +100,7 @@ pub fn table_name(table: Table) -> &'static str
         Table::Link => "link",
         Table::Movement => "movement",
         Table::Demand => "demand",
+        Table::Times => "times",
     }
 }
 
@@ -113,6 +121,7 @@ pub fn code_name(code: Code) -> &'static str
         Code::E10 => "E10 Undirected",
         Code::E11 => "E11 TooSlow",
         Code::E12 => "E12 TooMany",
+        Code::E13 => "E13 Disagrees",
     }
 }
 
@@ -137,6 +146,11 @@ pub fn column_name(column: Column) -> &'static str
         Column::OZoneId => "o_zone_id",
         Column::DZoneId => "d_zone_id",
         Column::Volume => "volume",
+        Column::FromStep => "from_step",
+        Column::ToStep => "to_step",
+        Column::Entered => "entered",
+        Column::TravelSteps => "travel_steps",
+        Column::FreeSteps => "free_steps",
         Column::NoColumn => "-",
     }
 }

@@ -3,3 +3,4 @@ pub mod GrowthFacts
 pub mod ZoneFacts
 pub mod EntryFacts
 pub mod Determined
+pub mod TimesFacts

@@ -1,5 +1,8 @@
 pub mod Skim
 pub mod GivenTimes
+pub mod TimesTable
+pub mod Texts
+pub mod OnLiterals
 pub mod Growing
 pub mod Leasts
 pub mod LeastsInside

@@ -1,11 +1,24 @@
 // Small networks, through all calls.
 ghost use Rattle.std.specs.Prelude.{◌≤◌, ◌↔◌, All, IsTrue};
 
-use crate::{Skim, SkimEntry, TimeRow, TimeRows, skim, times_of};
+use crate::{Skim, SkimEntry, TimeRow, TimeRows, put_skim, read_times, skim, times_of};
+use desk_io::{Failed, MemDesk, Output, Table};
 use net_core::{LinkRow, Memory, Net, NodeNo, NodeRow};
+use row_reader::{Code, Column, TableFault, TableRefusal};
 use std::alloc::Global;
 use std::test::Fail;
 use worked_cases::network;
+
+// A times table over two links in a line: its header, and the lines of each link.
+const HEADER: &str = "link_id,from_step,to_step,entered,travel_steps,free_steps\n";
+
+const FIRST: &str = "10,0,50,3,10,10\n10,50,60,0,10,10\n";
+
+const SECOND: &str = "20,0,50,3,10,10\n20,50,60,0,10,10\n";
+
+const SKIM: &[u8] = b"o_zone_id,d_zone_id,start_step,least_steps\n1,3,0,20\n3,1,0,\n";
+
+const REPORT: &[u8] = b"nodes 3\nlinks 2\nzones 2\nentries 2\n";
 
 // Rows of these travel steps, of one vehicle each.
 fn rows_of(alloc: Global, travels: &[u32]) -> Result<Vec<TimeRow>, Memory> {
@@ -46,6 +59,16 @@ macro_rules! entry {
             destination: $destination,
             start: $start,
             least: $least,
+        }
+    };
+}
+
+// What a times table says of a bucket.
+macro_rules! row {
+    ($entered:expr, $travel:expr) => {
+        TimeRow {
+            entered: $entered,
+            travel: $travel,
         }
     };
 }
@@ -219,5 +242,138 @@ fn nine_zones(rt: HostRuntime) -> Result<(), Fail> {
         ]
         .as_slice()
     );
+    Ok(())
+}
+
+// The bytes of a times table of these lines below its header.
+fn table(alloc: Global, lines: &[&str]) -> Result<String, Memory> {
+    let mut text = String::from_str(alloc, HEADER)?;
+    for line in lines {
+        text.push_str(line)?;
+    }
+    Ok(text)
+}
+
+#[test]
+fn a_times_table(rt: HostRuntime) -> Result<(), Fail> {
+    let alloc = rt.alloc();
+    let net = worked_cases::two_links(alloc)?;
+    let text = table(alloc, &[FIRST, SECOND])?;
+    let rows = read_times(alloc, &net, text.as_bytes(), 50, 60).expect(&rt, "rows");
+    assert_eq!(rt;
+        rows.as_slice(),
+        [row!(3, 10), row!(0, 10), row!(3, 10), row!(0, 10)].as_slice()
+    );
+    let times = times_of(alloc, &net, &rows, 50, 60)?;
+    assert_eq!(rt;
+        skim(alloc, &net, &times, &[55])?.as_slice(),
+        [entry!(1 => 3, 55, Some(20)), entry!(3 => 1, 55, None)].as_slice()
+    );
+    Ok(())
+}
+
+// The first fault of times tables over two links in a line, with buckets of 50 steps.
+#[test]
+fn first_faults(rt: HostRuntime) -> Result<(), Fail> {
+    let alloc = rt.alloc();
+    let net = worked_cases::two_links(alloc)?;
+    let cases: [(u32, &[&str], u64, Code, Column); 11] = [
+        // Columns are checked from the first on.
+        (60, &["30,1,50,3,0,1\n"], 2, Code::E8, Column::LinkId),
+        (60, &["20,1,50,3,0,1\n"], 2, Code::E13, Column::LinkId),
+        (60, &["10,1,50,3,0,1\n"], 2, Code::E13, Column::FromStep),
+        (61, &[FIRST, SECOND], 3, Code::E13, Column::ToStep),
+        (60, &["10,0,50,,0,1\n"], 2, Code::E3, Column::Entered),
+        (60, &["10,0,50,3,0,1\n"], 2, Code::E5, Column::TravelSteps),
+        (60, &["10,0,50,3,10,1\n"], 2, Code::E13, Column::FreeSteps),
+        // A row too many.
+        (
+            60,
+            &[FIRST, SECOND, "20,60,60,0,10,10\n"],
+            6,
+            Code::E13,
+            Column::LinkId,
+        ),
+        (
+            60,
+            &[FIRST, SECOND, "30,60,60,0,10,10\n"],
+            6,
+            Code::E8,
+            Column::LinkId,
+        ),
+        // Rows that are missing.
+        (
+            60,
+            &[FIRST, "20,0,50,3,10,10\n"],
+            5,
+            Code::E13,
+            Column::NoColumn,
+        ),
+        (60, &[], 2, Code::E13, Column::NoColumn),
+    ];
+    for (horizon, lines, line, code, column) in cases {
+        assert!(rt; horizon >= 1);
+        let text = table(alloc, lines)?;
+        let answer = read_times(alloc, &net, text.as_bytes(), 50, horizon);
+        let fault = TableFault {
+            table: Table::Times,
+            line,
+            code,
+            column,
+        };
+        assert!(rt;
+            answer.err() == Some(TableRefusal::Fault(fault)),
+            "line {line}"
+        );
+    }
+    Ok(())
+}
+
+fn empty_desk(alloc: Global) -> MemDesk {
+    MemDesk::new(
+        alloc,
+        Vec::new(alloc),
+        Vec::new(alloc),
+        Vec::new(alloc),
+        Vec::new(alloc),
+    )
+}
+
+// The skim of two entries: there is a walk from zone 1 to zone 3, and none back.
+fn two_entries(alloc: Global) -> Result<Skim, Memory> {
+    let mut entries = Vec::new(alloc);
+    entries.push(entry!(1 => 3, 0, Some(20)))?;
+    entries.push(entry!(3 => 1, 0, None))?;
+    Ok(Skim::of(entries))
+}
+
+#[test]
+fn both_texts_of_a_skim(rt: HostRuntime) -> Result<(), Fail> {
+    let alloc = rt.alloc();
+    let net = worked_cases::two_links(alloc)?;
+    let skim = two_entries(alloc)?;
+    let mut desk = empty_desk(alloc);
+    assert!(rt; put_skim(&mut desk, &net, &skim) == Ok(()));
+    assert!(rt; desk.taken(Output::Skim) == SKIM);
+    assert!(rt; desk.taken(Output::Report) == REPORT);
+    Ok(())
+}
+
+// Puts that fail leave first parts: of Report only where Skim is whole.
+#[test]
+fn a_put_that_fails(rt: HostRuntime) -> Result<(), Fail> {
+    let alloc = rt.alloc();
+    let net = worked_cases::two_links(alloc)?;
+    let skim = two_entries(alloc)?;
+    for (call, skim_count, report_count) in [(1, 0, 0), (3, 40, 0), (4, 59, 0), (5, 59, 20)] {
+        let mut desk = empty_desk(alloc);
+        desk.set_most(20);
+        desk.fail_put(call)?;
+        assert!(rt; put_skim(&mut desk, &net, &skim) == Err(Failed));
+        assert!(rt; desk.put_faults() == 1);
+        assert!(rt; skim_count <= SKIM.len() && report_count <= REPORT.len());
+        assert!(rt; desk.taken(Output::Skim) == &SKIM[..skim_count]);
+        assert!(rt; desk.taken(Output::Report) == &REPORT[..report_count]);
+    }
     Ok(())
 }

@@ -165,10 +165,7 @@ fn refused_words(rt: HostRuntime) -> Result<(), Fail> {
         let words = words_of(rt.alloc(), given)?;
         let mut desk = two_links(rt.alloc())?;
         assert!(rt; run(&rt, &words, &mut desk, &mut NoGate) == Status::Usage);
-        assert!(rt;
-            desk.taken(Output::Report)
-                == b"usage: dta freeflow|assign|demo N [options]\n".as_slice()
-        );
+        assert!(rt; desk.taken(Output::Report) == b"usage: dta COMMAND [options]\n".as_slice());
         assert!(rt; desk.taken(Output::LinkTime).is_empty());
     }
     Ok(())

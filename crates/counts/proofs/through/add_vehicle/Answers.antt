@@ -1,7 +1,7 @@
 use Rattle.std.proofs.Common.{◌+◌, arith, sym, ◌∙◌, subst}
 use Rattle.dta_model.specs.Lent.{plan_of}
-use Rattle.counts.specs.Passing.{ArePairs}
-use Rattle.counts.proofs.Passed.{pairs_next, pairs_same}
+use Rattle.counts.specs.Inside.Pairs.{ArePairs}
+use Rattle.counts.proofs.Entered.{pairs_next, pairs_same}
 use Rattle.counts.proofs.through.add_vehicle.Goals as goal
 
 pub returns-in_ok-push : goal.returns-in_ok-push

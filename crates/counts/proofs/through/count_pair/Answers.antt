@@ -1,5 +1,5 @@
 use Rattle.std.proofs.Common.{◌≡◌, ◌+◌, ◌-◌, suc, length, arith, sym, ◌∙◌}
-use Rattle.counts.specs.Passing.{is_count_of}
+use Rattle.counts.specs.Inside.Pairs.{is_count_of}
 use Rattle.counts.specs.Through.{through_count}
 use Rattle.counts.specs.declared.through_counts.ThroughCount.{ThroughCount}
 use Rattle.counts.proofs.Counting.{with_one-first, with_one-none, with_one-read}

@@ -1,7 +1,7 @@
 use Rattle.std.specs.List.Sorted.{IsPermutation}
 use Rattle.std.proofs.Common.{subst, sym, ◌∙◌}
 use Rattle.dta_model.specs.Lent.{plan_of}
-use Rattle.counts.proofs.Passed.{pairs_counted}
+use Rattle.counts.proofs.Entered.{pairs_counted}
 use Rattle.counts.proofs.through.count_through.Goals as goal
 
 pub returns : goal.returns

@@ -1,6 +1,6 @@
 use Rattle.std.specs.Prelude.{All}
 use Rattle.std.proofs.Common.{◌≡◌, ℕ, ◌≤◌, take}
-use Rattle.counts.specs.Passing.{IsBelow, counts_among}
+use Rattle.counts.specs.Inside.Pairs.{IsBelow, counts_among}
 use Rattle.counts.proofs.through.counted.Given as goal
 
 abbrev pub invariant-loop-pair : goal.invariant-loop-pair

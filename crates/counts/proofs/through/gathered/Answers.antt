@@ -1,7 +1,7 @@
 use Rattle.std.proofs.Common.{◌≡◌, length, arith, subst, sym}
 use Rattle.dta_model.specs.Lent.{plan_of}
-use Rattle.counts.specs.Passing.{ArePairs}
-use Rattle.counts.proofs.Passed.{pairs_first}
+use Rattle.counts.specs.Inside.Pairs.{ArePairs}
+use Rattle.counts.proofs.Entered.{pairs_first}
 use Rattle.counts.proofs.through.gathered.Goals as goal
 
 pub loop-vehicle-init : goal.loop-vehicle-init

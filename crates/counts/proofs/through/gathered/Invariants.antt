@@ -1,5 +1,5 @@
 use Rattle.dta_model.specs.Lent.{plan_of}
-use Rattle.counts.specs.Passing.{ArePairs}
+use Rattle.counts.specs.Inside.Pairs.{ArePairs}
 use Rattle.counts.proofs.through.gathered.Given as goal
 
 abbrev pub invariant-loop-vehicle : goal.invariant-loop-vehicle

@@ -1,5 +1,5 @@
 use Rattle.std.proofs.Common.{◌≡◌, ◌-◌, ◌++◌, drop}
-use Rattle.counts.specs.Gathered.{turns_along}
+use Rattle.counts.specs.Inside.Turns.{turns_along}
 use Rattle.counts.proofs.turns.add_turns.Given as goal
 
 abbrev pub invariant-loop-place : goal.invariant-loop-place

@@ -1,5 +1,5 @@
 use Rattle.std.proofs.Common.{◌≡◌, ◌+◌, ◌-◌, suc, length, arith, sym, ◌∙◌}
-use Rattle.counts.specs.Gathered.{is_count_of}
+use Rattle.counts.specs.Inside.Turns.{is_count_of}
 use Rattle.counts.specs.Turns.{turn_count}
 use Rattle.counts.specs.declared.turn_counts.TurnCount.{TurnCount}
 use Rattle.counts.proofs.Counting.{with_one-first, with_one-none, with_one-read}

@@ -15,4 +15,4 @@ returns-clause-counts c =
     (subst (λ L. IsPermutation c.in_ok-turns.turns.items L) (sym c.as_slice.ensures.value) c.sort_unstable.ensures.permutation) c.in_ok-counts.ensures
 
 pub returns-clause-of_net : goal.returns-clause-of_net
-returns-clause-of_net c = subst (λ L. All (IsOfNet (plan_of c.args.loading.now) c.args.bucket) L) (sym (returns-clause-counts c)) (turns_of_net (plan_of c.args.loading.now) c.args.bucket c.requires.bucket)
+returns-clause-of_net c = subst (λ L. All (IsOfNet c.args.loading.now.net.now c.args.loading.now.horizon c.args.bucket) L) (sym (returns-clause-counts c)) (turns_of_net (plan_of c.args.loading.now) c.args.bucket c.requires.bucket)

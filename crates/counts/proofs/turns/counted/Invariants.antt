@@ -1,6 +1,6 @@
 use Rattle.std.specs.Prelude.{All}
 use Rattle.std.proofs.Common.{◌≡◌, ℕ, ◌≤◌, take}
-use Rattle.counts.specs.Gathered.{IsWithin, counts_among}
+use Rattle.counts.specs.Inside.Turns.{IsWithin, counts_among}
 use Rattle.counts.proofs.turns.counted.Given as goal
 
 abbrev pub invariant-loop-turn : goal.invariant-loop-turn

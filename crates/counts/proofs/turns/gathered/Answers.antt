@@ -1,6 +1,6 @@
 use Rattle.std.proofs.Common.{◌≡◌, ◌+◌, length, arith, subst, sym}
 use Rattle.dta_model.specs.Lent.{plan_of}
-use Rattle.counts.specs.Gathered.{AreTurns}
+use Rattle.counts.specs.Inside.Turns.{AreTurns}
 use Rattle.counts.proofs.Adding.{turns_first, turns_next}
 use Rattle.counts.proofs.turns.gathered.Goals as goal
 

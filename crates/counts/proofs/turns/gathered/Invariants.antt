@@ -1,5 +1,5 @@
 use Rattle.dta_model.specs.Lent.{plan_of}
-use Rattle.counts.specs.Gathered.{AreTurns}
+use Rattle.counts.specs.Inside.Turns.{AreTurns}
 use Rattle.counts.proofs.turns.gathered.Given as goal
 
 abbrev pub invariant-loop-vehicle : goal.invariant-loop-vehicle

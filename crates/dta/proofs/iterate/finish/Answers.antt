@@ -32,6 +32,20 @@ returns-in_err-line-clause-watches g c =
       reads = w.reads;
     })
 
+pub returns-in_err-counts-clause-watches : goal.returns-in_err-counts-clause-watches
+returns-in_err-counts-clause-watches g c =
+    let p = err_from_is_err_and c.from_residual-in_err-counts.result c.from_residual-in_err-counts.ensures.1 in
+    let w = c.in_ok-round.ensures.watches in
+    rw (p.1, p.2) (record {
+      done = tt;
+      halts = λ start before. halts-after c.args.settings.now c.args.job.now halt.Memory c.args.settings.now.iterations c.args.routes c.args.lines.items start
+          (g.D.Desk.taken c.args.desk.now) (g.D.Desk.taken c.load_round.new.desk) before (omega arith) w.done refl;
+      failed = not-watch halt.Memory _ refl;
+      later = w.later;
+      left = w.left;
+      reads = w.reads;
+    })
+
 pub returns-in_err-push-clause-watches : goal.returns-in_err-push-clause-watches
 returns-in_err-push-clause-watches g c =
     let p = err_from_is_err_and c.from_residual-in_err-push.result c.from_residual-in_err-push.ensures.1 in
@@ -51,7 +65,8 @@ returns-clause-watches g c =
     let w = c.in_ok-round.ensures.watches in
     record {
       done = λ start before. assigned c.args.settings.now c.args.job.now _ c.args.lines.items start
-          (g.D.Desk.taken c.args.desk.now) (g.D.Desk.taken c.load_round.new.desk) before w.done c.in_ok-push.ensures.items c.in_ok-line.ensures.gap c.in_ok-round.ensures.last;
+          (g.D.Desk.taken c.args.desk.now) (g.D.Desk.taken c.load_round.new.desk) before w.done c.in_ok-push.ensures.items c.in_ok-line.ensures.gap c.in_ok-round.ensures.last
+          c.in_ok-counts.ensures;
       halts = tt;
       failed = tt;
       later = w.later;

@@ -1,5 +1,5 @@
 use Rattle.std.proofs.Common.{rules}
-use Rattle.dta.proofs.JobFacts.{assign-own, assign-stop, free-own, free-stop}
+use Rattle.dta.proofs.JobFacts.{free-own, free-stop, loaded-own, loaded-stop, skim-own, skim-stop}
 use Rattle.dta.proofs.job.accept.Goals as goal
 
 pub returns-in-Freeflow-clause-reads : goal.returns-in-Freeflow-clause-reads
@@ -17,8 +17,19 @@ pub returns-in-Assign-clause-reads : goal.returns-in-Assign-clause-reads
 returns-in-Assign-clause-reads g c =
     let r = c.accept_tables.ensures.reads in
     record {
-      done = assign-own c.args.settings.now c.accept_tables.result _ _ (search rules) r.done;
-      stops = assign-stop c.args.settings.now c.accept_tables.result _ _ (search rules) r.stops;
+      done = loaded-own c.args.settings.now c.accept_tables.result _ _ c.in-Assign.is r.done;
+      stops = loaded-stop c.args.settings.now c.accept_tables.result _ _ c.in-Assign.is r.stops;
+      later = r.later;
+      taken = r.taken;
+      puts = r.puts;
+    }
+
+pub returns-in-Skim-clause-reads : goal.returns-in-Skim-clause-reads
+returns-in-Skim-clause-reads g c =
+    let r = c.accept_skim.ensures.reads in
+    record {
+      done = skim-own c.args.settings.now c.accept_skim.result _ _ (search rules) r.done;
+      stops = skim-stop c.args.settings.now c.accept_skim.result _ _ (search rules) r.stops;
       later = r.later;
       taken = r.taken;
       puts = r.puts;

@@ -31,7 +31,7 @@ pub returns-clause-reads : goal.returns-clause-reads
 returns-clause-reads g c =
     let r = c.in_ok-roads.ensures.reads in
     record {
-      done = rw (c.in_ok-net.ensures, c.new-trips.ensures.items)
+      done = rw (c.in_ok-net.ensures, c.new-trips.ensures.items, c.of-times.ensures, c.new.ensures.items)
           (free-job c.args.settings.now c.requires.command c.in_ok-roads.roads.nodes c.in_ok-roads.roads.links _ _ r.done);
       stops = tt;
       later = r.later;

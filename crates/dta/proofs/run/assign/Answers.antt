@@ -1,8 +1,7 @@
-use Rattle.std.proofs.Common.{◌≡◌, ◌≤◌, ◌∙◌, arith}
-use Rattle.loader.specs.Gates.{GateState, gate_of}
+use Rattle.std.proofs.Common.{◌≡◌, ◌∙◌, arith}
 use Rattle.dta.specs.declared.status.Status.TheVariants as status
 use Rattle.dta.proofs.ChainFacts.{rose-earlier}
-use Rattle.dta.proofs.ReceiptFacts.{work-all, work-some}
+use Rattle.dta.proofs.ReceiptFacts.{work-all}
 use Rattle.dta.proofs.RunFacts.{assigned-cut, assigned-done}
 use Rattle.dta.proofs.run.assign.Goals as goal
 

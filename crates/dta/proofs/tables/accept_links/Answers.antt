@@ -7,7 +7,7 @@ use Rattle.dta.proofs.tables.accept_links.Goals as goal
 pub returns-in_err-bytes-clause-reads : goal.returns-in_err-bytes-clause-reads
 returns-in_err-bytes-clause-reads g c =
     let p = err_from_is_err_and c.from_residual.result c.from_residual.ensures.1 in
-    let r = c.in_err-bytes.ensures.reads c.args.units.now (road_rows c.args.nodes.now []) in
+    let r = c.in_err-bytes.ensures.reads c.args.settings.now (road_rows c.args.nodes.now []) in
     rw (p.1, p.2) (record {
       done = tt;
       stops = r.stops;
@@ -19,10 +19,10 @@ returns-in_err-bytes-clause-reads g c =
 pub returns-in_err-read_links-clause-reads : goal.returns-in_err-read_links-clause-reads
 returns-in_err-read_links-clause-reads g c =
     let p = err_from_is_err_and c.from_residual-in_err-read_links.result c.from_residual-in_err-read_links.ensures.1 in
-    let r = c.in_ok-bytes.ensures.reads c.args.units.now (road_rows c.args.nodes.now []) in
+    let r = c.in_ok-bytes.ensures.reads c.args.settings.now (road_rows c.args.nodes.now []) in
     rw (p.1, p.2) (record {
       done = tt;
-      stops = links-stop c.args.units.now _ c.in_ok-bytes.bytes.items c.deref.result.now _ _ c.in_err-read_links.field-0.0
+      stops = links-stop c.args.settings.now _ c.in_ok-bytes.bytes.items c.deref.result.now _ _ c.in_err-read_links.field-0.0
           r.done.read r.done.short c.deref.ensures.value c.in_err-read_links.ensures.rows;
       later = r.later;
       taken = r.taken;
@@ -31,9 +31,9 @@ returns-in_err-read_links-clause-reads g c =
 
 pub returns-clause-reads : goal.returns-clause-reads
 returns-clause-reads g c =
-    let r = c.in_ok-bytes.ensures.reads c.args.units.now (road_rows c.args.nodes.now []) in
+    let r = c.in_ok-bytes.ensures.reads c.args.settings.now (road_rows c.args.nodes.now []) in
     record {
-      done = links-accepted c.args.units.now c.args.nodes.now c.in_ok-bytes.bytes.items c.deref.result.now c.in_ok-read_links.field-0 _ _
+      done = links-accepted c.args.settings.now c.args.nodes.now c.in_ok-bytes.bytes.items c.deref.result.now c.in_ok-read_links.field-0 _ _
           r.done.read r.done.short c.deref.ensures.value c.in_ok-read_links.ensures.rows;
       stops = tt;
       later = r.later;

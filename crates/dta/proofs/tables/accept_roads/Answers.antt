@@ -8,10 +8,10 @@ use Rattle.dta.proofs.tables.accept_roads.Goals as goal
 pub returns-in_err-nodes-clause-reads : goal.returns-in_err-nodes-clause-reads
 returns-in_err-nodes-clause-reads g c =
     let p = err_from_is_err_and c.from_residual.result c.from_residual.ensures.1 in
-    let r = c.in_err-nodes.ensures.reads c.args.units.now in
+    let r = c.in_err-nodes.ensures.reads c.args.settings.now in
     rw (p.1, p.2) (record {
       done = tt;
-      stops = among-now c.args.units.now table.Node (table.Link ∷ []) no_rows _ _ _ r.stops;
+      stops = among-now c.args.settings.now table.Node (table.Link ∷ []) no_rows _ _ _ r.stops;
       later = r.later;
       taken = r.taken;
       puts = r.puts;
@@ -20,12 +20,12 @@ returns-in_err-nodes-clause-reads g c =
 pub returns-in_err-links-clause-reads : goal.returns-in_err-links-clause-reads
 returns-in_err-links-clause-reads g c =
     let p = err_from_is_err_and c.from_residual-in_err-links.result c.from_residual-in_err-links.ensures.1 in
-    let n = c.in_ok-nodes.ensures.reads c.args.units.now in
+    let n = c.in_ok-nodes.ensures.reads c.args.settings.now in
     let l = c.in_err-links.ensures.reads in
     rw (p.1, p.2) (record {
       done = tt;
-      stops = among-then c.args.units.now (table.Node ∷ []) [] table.Link no_rows (road_rows c.in_ok-nodes.nodes []) _ _ _ _
-          (accepted-one c.args.units.now table.Node no_rows _ _ _ n.done) n.later l.stops;
+      stops = among-then c.args.settings.now (table.Node ∷ []) [] table.Link no_rows (road_rows c.in_ok-nodes.nodes []) _ _ _ _
+          (accepted-one c.args.settings.now table.Node no_rows _ _ _ n.done) n.later l.stops;
       later = (let a = n.later in let b = l.later in omega (arith, a, b));
       taken = l.taken ∙ n.taken;
       puts = l.puts ∙ n.puts;
@@ -33,12 +33,12 @@ returns-in_err-links-clause-reads g c =
 
 pub returns-clause-reads : goal.returns-clause-reads
 returns-clause-reads g c =
-    let n = c.in_ok-nodes.ensures.reads c.args.units.now in
+    let n = c.in_ok-nodes.ensures.reads c.args.settings.now in
     let l = c.in_ok-links.ensures.reads in
     record {
-      done = accepted-both c.args.units.now (table.Node ∷ []) (table.Link ∷ []) no_rows (road_rows c.in_ok-nodes.nodes []) _ _ _ _
-          (accepted-one c.args.units.now table.Node no_rows _ _ _ n.done)
-          (accepted-one c.args.units.now table.Link (road_rows c.in_ok-nodes.nodes []) _ _ _ l.done);
+      done = accepted-both c.args.settings.now (table.Node ∷ []) (table.Link ∷ []) no_rows (road_rows c.in_ok-nodes.nodes []) _ _ _ _
+          (accepted-one c.args.settings.now table.Node no_rows _ _ _ n.done)
+          (accepted-one c.args.settings.now table.Link (road_rows c.in_ok-nodes.nodes []) _ _ _ l.done);
       stops = tt;
       later = (let a = n.later in let b = l.later in omega (arith, a, b));
       taken = l.taken ∙ n.taken;

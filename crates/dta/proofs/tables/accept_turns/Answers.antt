@@ -6,7 +6,7 @@ use Rattle.dta.proofs.tables.accept_turns.Goals as goal
 pub returns-in_err-bytes-clause-reads : goal.returns-in_err-bytes-clause-reads
 returns-in_err-bytes-clause-reads g c =
     let p = err_from_is_err_and c.from_residual.result c.from_residual.ensures.1 in
-    let r = c.in_err-bytes.ensures.reads c.args.units.now (rows_in_roads c.args.roads.now) in
+    let r = c.in_err-bytes.ensures.reads c.args.settings.now (rows_in_roads c.args.roads.now) in
     rw (p.1, p.2) (record {
       done = tt;
       stops = r.stops;
@@ -18,10 +18,10 @@ returns-in_err-bytes-clause-reads g c =
 pub returns-in_err-turns_in-clause-reads : goal.returns-in_err-turns_in-clause-reads
 returns-in_err-turns_in-clause-reads g c =
     let p = err_from_is_err_and c.from_residual-in_err-turns_in.result c.from_residual-in_err-turns_in.ensures.1 in
-    let r = c.in_ok-bytes.ensures.reads c.args.units.now (rows_in_roads c.args.roads.now) in
+    let r = c.in_ok-bytes.ensures.reads c.args.settings.now (rows_in_roads c.args.roads.now) in
     rw (p.1, p.2) (record {
       done = tt;
-      stops = turns-stop c.args.units.now _ c.in_ok-bytes.bytes.items c.deref.result.now _ _ c.in_err-turns_in.field-0.0
+      stops = turns-stop c.args.settings.now _ c.in_ok-bytes.bytes.items c.deref.result.now _ _ c.in_err-turns_in.field-0.0
           r.done.read r.done.short c.deref.ensures.value c.in_err-turns_in.ensures.refused;
       later = r.later;
       taken = r.taken;
@@ -30,9 +30,9 @@ returns-in_err-turns_in-clause-reads g c =
 
 pub returns-clause-reads : goal.returns-clause-reads
 returns-clause-reads g c =
-    let r = c.in_ok-bytes.ensures.reads c.args.units.now (rows_in_roads c.args.roads.now) in
+    let r = c.in_ok-bytes.ensures.reads c.args.settings.now (rows_in_roads c.args.roads.now) in
     record {
-      done = turns-accepted c.args.units.now c.args.roads.now c.in_ok-bytes.bytes.items c.deref.result.now c.in_ok-turns_in.field-0 _ _
+      done = turns-accepted c.args.settings.now c.args.roads.now c.in_ok-bytes.bytes.items c.deref.result.now c.in_ok-turns_in.field-0 _ _
           r.done.read r.done.short c.deref.ensures.value c.in_ok-turns_in.ensures.turns;
       stops = tt;
       later = r.later;

@@ -4,7 +4,7 @@ use Rattle.std.specs.Prelude.{None, Some}
 use Rattle.std.proofs.lemmas.Result.{on_err_weaker, on_ok_weaker}
 use Rattle.desk_io.specs.declared.desk.Output.TheVariants as output
 use Rattle.desk_io.specs.Transfers.{IsPartOut}
-use Rattle.reports.specs.Sending.{IsAdded}
+use Rattle.pending_text.specs.Sending.{IsAdded}
 use Rattle.reports.specs.Texts.{agent_line, ids_of, way_columns}
 use Rattle.reports.proofs.TextsFacts.{added-agent, part-agent, added-unrouted, part-unrouted}
 use Rattle.reports.proofs.agents.add_agent.Goals as goal

@@ -1,6 +1,6 @@
 use Rattle.std.proofs.Common.{◌≡◌, ◌≤◌, take}
 use Rattle.desk_io.specs.declared.desk.Output.TheVariants as output
-use Rattle.reports.specs.Sending.{IsAdded}
+use Rattle.pending_text.specs.Sending.{IsAdded}
 use Rattle.reports.specs.Texts.{ids_of, joined}
 use Rattle.reports.proofs.agents.add_ids.Given as goal
 

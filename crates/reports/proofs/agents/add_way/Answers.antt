@@ -4,9 +4,9 @@ use Rattle.std.specs.Prelude.{codes}
 use Rattle.std.proofs.lemmas.Result.{on_err_weaker, on_ok_weaker, err_from_is_err_and}
 use Rattle.desk_io.specs.declared.desk.Output.TheVariants as output
 use Rattle.desk_io.specs.Transfers.{IsPartOut}
-use Rattle.reports.specs.Sending.{IsAdded}
+use Rattle.pending_text.specs.Sending.{IsAdded}
 use Rattle.reports.specs.Texts.{ids_of, joined, way_columns}
-use Rattle.reports.proofs.SendingFacts.{added-then, part-first, part-then}
+use Rattle.pending_text.proofs.SendingFacts.{added-then, part-first, part-then}
 use Rattle.reports.proofs.agents.add_way.Goals as goal
 
 pub returns-in_err-add : goal.returns-in_err-add

@@ -7,7 +7,8 @@ use Rattle.desk_io.specs.Transfers.{IsPartOut}
 use Rattle.std.specs.Prelude.{option_copied}
 use Rattle.std.proofs.lemmas.Option.{slice_get-get_or}
 use Rattle.reports.specs.Texts.{agent_header, agent_text, vehicle_line, vehicles}
-use Rattle.reports.proofs.TextsFacts.{added-line, part-line, lines-done, lines-part-done, length-vehicles, vehicle-there}
+use Rattle.pending_text.proofs.LineFacts.{added-line, part-line, lines-done, lines-part-done}
+use Rattle.reports.proofs.TextsFacts.{length-vehicles, vehicle-there}
 use Rattle.reports.proofs.agents.put_agents.Goals as goal
 
 pub returns-in_err-add_agent : goal.returns-in_err-add_agent

@@ -1,6 +1,6 @@
 use Rattle.std.proofs.Common.{◌≡◌, ◌≤◌, take, [], ◌++◌}
 use Rattle.desk_io.specs.declared.desk.Output.TheVariants as output
-use Rattle.reports.specs.Sending.{IsAdded}
+use Rattle.pending_text.specs.Sending.{IsAdded}
 use Rattle.std.specs.List.{flat_map}
 use Rattle.reports.specs.Texts.{agent_header, vehicle_line, vehicles}
 use Rattle.reports.proofs.agents.put_agents.Given as goal

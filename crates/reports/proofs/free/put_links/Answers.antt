@@ -5,7 +5,7 @@ use Rattle.desk_io.specs.declared.desk.Output.TheVariants as output
 use Rattle.desk_io.specs.Desk.{grown}
 use Rattle.desk_io.specs.Transfers.{IsPartOut}
 use Rattle.reports.specs.Texts.{free_link_line, free_link_time_header, free_link_time_text}
-use Rattle.reports.proofs.TextsFacts.{added-line, part-line, lines-done, lines-part-done}
+use Rattle.pending_text.proofs.LineFacts.{added-line, part-line, lines-done, lines-part-done}
 use Rattle.reports.proofs.free.put_links.Goals as goal
 
 pub returns-in_err-add_link : goal.returns-in_err-add_link

@@ -7,7 +7,8 @@ use Rattle.desk_io.specs.Transfers.{IsPartOut}
 use Rattle.std.specs.List.{enumerate_from}
 use Rattle.std.proofs.lemmas.List.FromFn.{length-enumerate_from}
 use Rattle.reports.specs.Texts.{gap_header, gap_text, numbered_line}
-use Rattle.reports.proofs.TextsFacts.{added-line, part-line, lines-done, lines-part-done, gap-there}
+use Rattle.pending_text.proofs.LineFacts.{added-line, part-line, lines-done, lines-part-done}
+use Rattle.reports.proofs.TextsFacts.{gap-there}
 use Rattle.reports.proofs.gaps.put_gaps.Goals as goal
 
 pub returns-in_err-add_gap : goal.returns-in_err-add_gap

@@ -1,6 +1,6 @@
 use Rattle.std.proofs.Common.{◌≡◌, ◌≤◌, take, [], ◌++◌}
 use Rattle.desk_io.specs.declared.desk.Output.TheVariants as output
-use Rattle.reports.specs.Sending.{IsAdded}
+use Rattle.pending_text.specs.Sending.{IsAdded}
 use Rattle.std.specs.List.{enumerate_from, flat_map}
 use Rattle.reports.specs.Texts.{gap_header, numbered_line}
 use Rattle.reports.proofs.gaps.put_gaps.Given as goal

@@ -6,7 +6,8 @@ use Rattle.std.proofs.lemmas.List.FromFn.{length-range_with_len}
 use Rattle.net_core.specs.Network.{numbers_below}
 use Rattle.dta_model.specs.LinkTimes.{bucket_count}
 use Rattle.reports.specs.Texts.{bucket_line, link_lines}
-use Rattle.reports.proofs.TextsFacts.{added-line, part-line, added-lines, number-there}
+use Rattle.pending_text.proofs.LineFacts.{added-line, part-line, added-lines}
+use Rattle.reports.proofs.TextsFacts.{number-there}
 use Rattle.reports.proofs.times.add_link.Goals as goal
 
 pub returns-in_err-add_bucket : goal.returns-in_err-add_bucket

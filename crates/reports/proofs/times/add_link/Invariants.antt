@@ -1,6 +1,6 @@
 use Rattle.std.proofs.Common.{◌≡◌, ◌≤◌, take}
 use Rattle.desk_io.specs.declared.desk.Output.TheVariants as output
-use Rattle.reports.specs.Sending.{IsAdded}
+use Rattle.pending_text.specs.Sending.{IsAdded}
 use Rattle.std.specs.List.{flat_map}
 use Rattle.net_core.specs.Network.{numbers_below}
 use Rattle.dta_model.specs.LinkTimes.{bucket_count}

@@ -7,7 +7,8 @@ use Rattle.desk_io.specs.Transfers.{IsPartOut}
 use Rattle.std.proofs.lemmas.List.FromFn.{length-range_with_len}
 use Rattle.net_core.specs.Network.{numbers_below}
 use Rattle.reports.specs.Texts.{link_lines, link_time_header, link_time_text}
-use Rattle.reports.proofs.TextsFacts.{added-line, part-line, lines-done, lines-part-done, number-there}
+use Rattle.pending_text.proofs.LineFacts.{added-line, part-line, lines-done, lines-part-done}
+use Rattle.reports.proofs.TextsFacts.{number-there}
 use Rattle.reports.proofs.times.put_link_times.Goals as goal
 
 pub returns-in_err-add_link : goal.returns-in_err-add_link

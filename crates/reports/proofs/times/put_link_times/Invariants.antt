@@ -1,6 +1,6 @@
 use Rattle.std.proofs.Common.{◌≡◌, ◌≤◌, take, [], ◌++◌, length}
 use Rattle.desk_io.specs.declared.desk.Output.TheVariants as output
-use Rattle.reports.specs.Sending.{IsAdded}
+use Rattle.pending_text.specs.Sending.{IsAdded}
 use Rattle.std.specs.List.{flat_map}
 use Rattle.net_core.specs.Network.{numbers_below}
 use Rattle.reports.specs.Texts.{link_lines, link_time_header}

@@ -1,0 +1,40 @@
+use Rattle.std.proofs.Common.{◌≡◌, ap, arith, refl, subst}
+use Rattle.net_core.specs.declared.rows.NetRows.{NetRows}
+use Rattle.skims.specs.Texts.{IsCutShort, IsSkimOut}
+use Rattle.dta.specs.Jobs.{JobRows}
+use Rattle.dta.specs.declared.status.Status.TheVariants as status
+use Rattle.dta.proofs.RunFacts.{skim-cut, skim-done, skim-starved}
+use Rattle.dta.proofs.skimmed.put_least_times.Goals as goal
+
+pub returns-in-Ok-put_skim : goal.returns-in-Ok-put_skim
+returns-in-Ok-put_skim g c =
+    let o = c.in-Ok-put_skim.ensures in
+    record {
+      work = skim-done c.args.settings.now c.args.job.now c.requires.command _ c.in-Ok.ensures (g.D.Desk.taken c.args.desk.now) (g.D.Desk.taken c.put_skim.new.desk)
+          (subst (λ (n : NetRows). IsSkimOut n c.in-Ok.skim (g.D.Desk.taken c.args.desk.now) (g.D.Desk.taken c.put_skim.new.desk)) (ap (λ (j : JobRows). j.net) c.job.view_is) o.whole);
+      failed = λ (k : status.Done ≡ status.WriteFault). absurd cc;
+      later = o.cause.later;
+      left = o.left;
+      reads = o.reads;
+    }
+
+pub returns-in-Ok : goal.returns-in-Ok
+returns-in-Ok g c =
+    let o = c.in-Err-put_skim.ensures in
+    record {
+      work = skim-cut c.args.settings.now c.args.job.now c.requires.command _ c.in-Ok.ensures (g.D.Desk.taken c.args.desk.now) (g.D.Desk.taken c.put_skim.new.desk)
+          (subst (λ (n : NetRows). IsCutShort n c.in-Ok.skim (g.D.Desk.taken c.args.desk.now) (g.D.Desk.taken c.put_skim.new.desk)) (ap (λ (j : JobRows). j.net) c.job.view_is) o.refused);
+      failed = λ _. o.cause.failed;
+      later = o.cause.later;
+      left = o.left;
+      reads = o.reads;
+    }
+
+pub returns : goal.returns
+returns g c = record {
+  work = skim-starved c.args.settings.now c.args.job.now _;
+  failed = λ (k : status.Memory ≡ status.WriteFault). absurd cc;
+  later = omega arith;
+  left = refl;
+  reads = refl;
+}
