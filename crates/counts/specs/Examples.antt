@@ -85,6 +85,8 @@ with_a_loop = record {
   links = link 0 0 1 10 125 600000000 ∷ link 1 1 1 10 125 600000000
       ∷ link 2 1 2 10 125 600000000 ∷ [];
   turns = [];
+  link_windows = [];
+  turn_windows = [];
 }
 
 unfoldable twice_round : Plan

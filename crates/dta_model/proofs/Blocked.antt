@@ -8,7 +8,11 @@ use Rattle.std.proofs.lemmas.List.Sums.{sum_by-append}
 use Rattle.std.proofs.Math.Dec.{eqb}
 use Rattle.dta_model.specs.declared.plan.Plan.{Plan}
 use Rattle.dta_model.specs.NodeMoves.{admission, admit, entered, first_move, head_move, is_first, leave_move, left, may_enter, may_move, may_turn, turn_test, turned, waits_for, where_true}
-use Rattle.dta_model.specs.Plans.{departure_of, first_link, has_pass, link_allowance, link_at, route_of, turn, vehicle_count}
+use Rattle.dta_model.specs.Plans.{departure_of, first_link, has_pass, link_allowance, link_at, route_of, turn, turn_rates, vehicle_count}
+use Rattle.dta_model.specs.Allowance.{allowance}
+use Rattle.net_core.specs.Rates.{rate_in}
+use Rattle.net_core.specs.declared.rates.Rates.{Rates}
+use Rattle.std.specs.Option.{is_none}
 use Rattle.dta_model.specs.Room.{has_room, room}
 use Rattle.dta_model.proofs.Steady.{IsSteady}
 use Rattle.dta_model.specs.Trace.{Arrived, Move, Onto, Target, has_moved, is_of, last_move, leads_to, moves_made, next_target, queue_of, target_at}
@@ -27,9 +31,12 @@ room_back : (r : Option ℕ) (a b : ℕ) → a ≤ b → has_room r b ≡ true �
 room_back None a b h e = refl
 room_back (Some k) a b h e = lt_back a b k h e
 
-pass_back : (p : Plan) (rate : Option ℕ) (t a b : ℕ) → a ≤ b → has_pass p rate t b ≡ true → has_pass p rate t a ≡ true
-pass_back p None t a b h e = refl
-pass_back p (Some rate) t a b h e = lt_back a b _ h e
+pass_back : (p : Plan) (rates : Rates) (t a b : ℕ) → a ≤ b → has_pass p rates t b ≡ true → has_pass p rates t a ≡ true
+pass_back p rates t a b h e = either_back (is_none (rate_in rates t)) (nat_lt b (allowance rates p.delta t)) (nat_lt a (allowance rates p.delta t)) (lt_back a b (allowance rates p.delta t) h) e
+  where
+    either_back : (x y z : Bool) → (y ≡ true → z ≡ true) → (x || y) ≡ true → (x || z) ≡ true
+    either_back true y z w g = refl
+    either_back false y z w g = w g
 
 module _ (p : Plan) (n t : ℕ) (T0 : List Move) (M N : List Move) where
   may_enter-back : (b : ℕ) → may_enter p n t T0 (M ++ N) b ≡ true → may_enter p n t T0 M b ≡ true
@@ -64,8 +71,8 @@ module _ (p : Plan) (n t : ℕ) (T0 : List Move) (M N : List Move) where
 
       turn_step : (o : Option Turn) → turn_test p n t T0 (M ++ N) ready l b o ≡ true → turn_test p n t T0 M ready l b o ≡ true
       turn_step None e = e
-      turn_step (Some w) e = three (nat_le (ready + w.penalty) t) (has_pass p w.rate t (turned p n t T0 (M ++ N) l b)) (may_enter p n t T0 (M ++ N) b) (has_pass p w.rate t (turned p n t T0 M l b)) (may_enter p n t T0 M b) e
-          (pass_back p w.rate t (turned p n t T0 M l b) (turned p n t T0 (M ++ N) l b) (turned-more l b)) (may_enter-back b)
+      turn_step (Some w) e = three (nat_le (ready + w.penalty) t) (has_pass p (turn_rates p l b) t (turned p n t T0 (M ++ N) l b)) (may_enter p n t T0 (M ++ N) b) (has_pass p (turn_rates p l b) t (turned p n t T0 M l b)) (may_enter p n t T0 M b) e
+          (pass_back p (turn_rates p l b) t (turned p n t T0 M l b) (turned p n t T0 (M ++ N) l b) (turned-more l b)) (may_enter-back b)
 
   may_move-back : (l ready : ℕ) (x : Target) → may_move p n t T0 (M ++ N) l ready x ≡ true → may_move p n t T0 M l ready x ≡ true
   unfolding may_move

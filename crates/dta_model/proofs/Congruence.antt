@@ -2,12 +2,14 @@
 use Rattle.net_core.specs.Network.{numbers_below}
 use Rattle.std.specs.List.{list_any}
 use Rattle.std.specs.Prelude.{find, count_by, slice_get, nat_lt, nat_le}
-use Rattle.std.proofs.Common.{◌≡◌, ℕ, zero, suc, ◌+◌, Bool, true, cond, ◌&&◌, not, List, [], ◌∷◌, ◌++◌, length, refl, ap, sym, ◌∙◌, Option, Some, None}
+use Rattle.std.proofs.Common.{◌≡◌, ℕ, zero, suc, ◌+◌, ◌-◌, Bool, true, cond, ◌&&◌, not, List, [], ◌∷◌, ◌++◌, length, refl, ap, sym, ◌∙◌, Option, Some, None}
 use Rattle.std.proofs.lemmas.List.Sums.{sum_by-cons}
 use Rattle.dta_model.specs.declared.plan.Plan.{Plan}
 use Rattle.dta_model.specs.NodeMoves.{admission, admit, entered, first_move, first_of, grow, grown, head_move, in_order, is_first, leave_move, left, may_enter, may_move, may_turn, next_move, node_moves, turn_test, turned, waits_for, where_true}
 use Rattle.dta_model.specs.Plans.{departure_of, first_link, link_allowance, link_at, outs, route_of, turn, vehicle_count}
-use Rattle.dta_model.specs.Room.{has_room, room, room_by}
+use Rattle.dta_model.specs.Room.{entered_by, has_room, left_below, room, room_by, wave_of}
+use Rattle.dta_model.specs.declared.queue.Queue.{Queue}
+use Rattle.dta_model.specs.declared.queue.Queue.TheVariants as queue
 use Rattle.dta_model.specs.Trace.{Arrived, Move, Onto, Target, has_moved, last_move, leads_there, leads_to, next_target, queue_of, stands_on, target_at}
 use Rattle.net_core.specs.declared.rows.Turn.{Turn}
 use Rattle.dta_model.proofs.Pushes.{moves_made_is, has_moved_is}
@@ -34,7 +36,14 @@ next_target-same p T U s v = ap (λ k. target_at (slice_get (route_of p v) k)) (
 
 pub room-same : (p : Plan) (l t : ℕ) (T U : List Move) → Same T U → room p l t T ≡ room p l t U
 unfolding room
-room-same p l t T U s = ap (λ Q. room_by p.queue (link_at p l).storage (length Q)) (s.queues l)
+room-same p l t T U s = by_queue p.queue
+  where
+    by_queue : (q : Queue) → room_by p q l t T ≡ room_by p q l t U
+    by_queue queue.Point = refl
+    by_queue queue.Spatial = ap (λ Q. Some ((link_at p l).storage - length Q)) (s.queues l)
+    by_queue (queue.Newell wave) =
+        ap (λ k. Some ((link_at p l).storage + k - entered_by T l)) (s.left (λ m. nat_lt m.step (suc t - wave_of p l)) l)
+        ∙ ap (λ k. Some ((link_at p l).storage + left_below (suc t - wave_of p l) U l - k)) (s.entered l)
 
 module _ (p : Plan) (n t : ℕ) (T U : List Move) (s : Same T U) where
   stands_on-same : (l v : ℕ) → stands_on l T v ≡ stands_on l U v

@@ -1,29 +1,26 @@
 -- Links are left in the order of entry.
-use Rattle.std.specs.List.{range_with_len}
-use Rattle.std.specs.List.{list_any, flat_map}
-use Rattle.std.specs.Prelude.{slice_get, All, ◌≢◌, ⊤}
-use Rattle.std.proofs.Common.{◌≡◌, ℕ, zero, suc, ◌+◌, ◌<◌, Bool, true, false, cond, ◌||◌, not, List, [], ◌∷◌, ◌++◌, length, refl, ap, sym, ◌∙◌, subst, arith, Some, ◌⊎◌, inl, inr, append_assoc, append-nil, Option, None}
+use Rattle.std.specs.List.{list_any}
+use Rattle.std.specs.Prelude.{slice_get, ◌≢◌}
+use Rattle.std.proofs.Common.{◌≡◌, ℕ, Bool, true, false, cond, ◌||◌, not, List, [], ◌∷◌, ◌++◌, length, refl, ap, sym, ◌∙◌, subst, Some, ◌⊎◌, inl, inr, append_assoc, append-nil, Option, None}
 use Rattle.std.proofs.lemmas.Bool.{eqb-false, eq-eqb, ne_eqb, eqb-true, and_parts, cases_Bool, not-true}
-use Rattle.std.proofs.lemmas.List.Elements.{All-head, All-tail, All-push, All-nil, All-append, All-weaker, filter-append}
+use Rattle.std.proofs.lemmas.List.Elements.{filter-append}
 use Rattle.std.proofs.Math.Dec.{eqb}
 use Rattle.dta_model.proofs.Blocked.{next_target-other}
 use Rattle.dta_model.proofs.NoMoves.{no-moves}
 pub use Rattle.dta_model.proofs.Following.{Follows}
-use Rattle.dta_model.proofs.Following.{Follows-append, Follows-at, whole-follows}
+use Rattle.dta_model.proofs.Following.{Follows-at, whole-follows}
 use Rattle.dta_model.specs.declared.plan.Plan.{Plan}
 use Rattle.dta_model.specs.Laws.{HeadsMove, LeftInOrder, MovesInOrder}
-use Rattle.dta_model.specs.Loading.{after_step, step_moves, trace_after}
-use Rattle.dta_model.specs.NodeMoves.{is_first, next_move, node_moves, waits_for}
-use Rattle.dta_model.specs.Plans.{all_nodes, first_link, route_of}
+use Rattle.dta_model.specs.Loading.{trace_after}
+use Rattle.dta_model.specs.NodeMoves.{is_first, waits_for}
+use Rattle.dta_model.specs.Plans.{first_link, route_of}
 use Rattle.dta_model.specs.Trace.{Move, Onto, has_moved, is_of, last_move, leads_to, moves_made, next_target, queue_of, target_at}
 use Rattle.dta_model.proofs.Queues.{absent, without, queue-push}
 use Rattle.dta_model.proofs.Pushes.{last_move-still, last_move-own, has_moved-append, moves_made_is}
 use Rattle.dta_model.proofs.Standing.{in-queue}
-use Rattle.dta_model.proofs.NextMoves.{Kind, head, waiting, next_cases, moves-keep}
-use Rattle.dta_model.proofs.Same.{Same, Same-blocks, Apart}
-use Rattle.dta_model.proofs.Places.{AtNode, at-node, kind_at}
+use Rattle.dta_model.proofs.NextMoves.{Kind, head, waiting}
+use Rattle.dta_model.proofs.Same.{Same}
 use Rattle.dta_model.proofs.Congruence.{has_moved-same, next_target-same}
-use Rattle.dta_model.proofs.AnyOrder.{apart_of}
 use Rattle.dta_model.proofs.Fuel.{has_moved-if, absent_without}
 use Rattle.dta_model.proofs.Conserved.{one_link}
 use Rattle.std.proofs.lemmas.Option.{same_Some}

@@ -118,6 +118,9 @@ below_at : (t : ℕ) (A B : List Move) (a : Move) → All (λ m. m.step < t) (A 
 below_at t [] B a h = All-head (λ m. m.step < t) a B h
 below_at t (x ∷ A) B a h = below_at t A B a (All-tail (λ m. m.step < t) x (A ++ a ∷ B) h)
 
+pub steps_below : (p : Plan) (t : ℕ) → All (λ m. m.step < t) (trace_after p t)
+steps_below p t = (trace_timed p t).below
+
 pub steps_rise : StepsRise
 steps_rise p t A B a e =
     let timed = trace_timed p t in

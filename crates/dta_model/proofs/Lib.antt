@@ -1,6 +1,7 @@
 pub mod Steady
 pub mod Queues
 pub mod Pushes
+pub mod Leavings
 pub mod Same
 pub mod Standing
 pub mod NextMoves
@@ -24,3 +25,5 @@ pub mod Releases
 pub mod SoundCase
 pub mod Arrivals
 pub mod NoMoves
+pub mod Flat
+pub mod Left

@@ -18,7 +18,7 @@ no-moves v (m ∷ M) h = no_step (eqb m.vehicle v) h (no-moves v M)
     no_step true e ih = cc
     no_step false e ih = ih e
 
-filter_nothing : (p : Move → Bool) (L : List Move) → All (λ m. p m ≡ false) L → filter p L ≡ []
+pub filter_nothing : (p : Move → Bool) (L : List Move) → All (λ m. p m ≡ false) L → filter p L ≡ []
 filter_nothing p [] all = refl
 filter_nothing p (m ∷ L) all = rw (All-head (λ x. p x ≡ false) m L all) (filter_nothing p L (All-tail (λ x. p x ≡ false) m L all))
 

@@ -1,11 +1,14 @@
--- Traces that tell the same: the moves of each vehicle and the queue of each link.
-use Rattle.std.specs.Prelude.{filter, ◌≢◌, All}
-use Rattle.std.proofs.Common.{◌≡◌, ℕ, Bool, true, false, cond, not, List, [], ◌∷◌, ◌++◌, refl, ap, sym, ◌∙◌, subst, append_assoc, append-nil, ◌⊎◌, inl, inr}
+-- Traces that tell the same: the moves of each vehicle, the queue of each link, and how many entered
+-- and left it.
+use Rattle.std.specs.Prelude.{filter, ◌≢◌, All, count_by}
+use Rattle.std.proofs.Common.{◌≡◌, ℕ, ◌+◌, Bool, true, false, cond, not, List, [], ◌∷◌, ◌++◌, refl, ap, sym, ◌∙◌, subst, append_assoc, append-nil, ◌⊎◌, inl, inr}
 use Rattle.std.proofs.lemmas.Bool.{ne_eqb}
 use Rattle.std.proofs.lemmas.Bool.Decides.{eqb_tells}
 use Rattle.std.proofs.lemmas.List.Elements.{filter-append, All-head, All-tail}
 use Rattle.std.proofs.Math.Dec.{eqb}
-use Rattle.dta_model.specs.Trace.{Move, last_move, leads_to, moves_of, queue_of}
+use Rattle.dta_model.specs.Room.{entered_by, leavings}
+use Rattle.dta_model.specs.Trace.{Move, last_move, leads_there, leads_to, moves_of, queue_of, stands_on}
+use Rattle.dta_model.proofs.Leavings.{entered-push, entered-swap, passing-push, passing-swap}
 use Rattle.dta_model.proofs.Queues.{without, queue-push}
 use Rattle.dta_model.proofs.Pushes.{last_move-own, last_move-other, moves_of-append}
 
@@ -13,15 +16,17 @@ pub record Same (T U : List Move) : Type 0 where
   pub moves : (v : ℕ) → moves_of v T ≡ moves_of v U
   pub last : (v : ℕ) → last_move v T ≡ last_move v U
   pub queues : (l : ℕ) → queue_of l T ≡ queue_of l U
+  pub entered : (l : ℕ) → entered_by T l ≡ entered_by U l
+  pub left : (q : Move → Bool) (l : ℕ) → count_by q (leavings l [] T) ≡ count_by q (leavings l [] U)
 
 pub Same-refl : (T : List Move) → Same T T
-Same-refl T = record { moves = λ v. refl; last = λ v. refl; queues = λ l. refl }
+Same-refl T = record { moves = λ v. refl; last = λ v. refl; queues = λ l. refl; entered = λ l. refl; left = λ q l. refl }
 
 pub Same-back : {T U : List Move} → Same T U → Same U T
-Same-back a = record { moves = λ v. sym (a.moves v); last = λ v. sym (a.last v); queues = λ l. sym (a.queues l) }
+Same-back a = record { moves = λ v. sym (a.moves v); last = λ v. sym (a.last v); queues = λ l. sym (a.queues l); entered = λ l. sym (a.entered l); left = λ q l. sym (a.left q l) }
 
 pub Same-trans : (T U W : List Move) → Same T U → Same U W → Same T W
-Same-trans T U W a b = record { moves = λ v. a.moves v ∙ b.moves v; last = λ v. a.last v ∙ b.last v; queues = λ l. a.queues l ∙ b.queues l }
+Same-trans T U W a b = record { moves = λ v. a.moves v ∙ b.moves v; last = λ v. a.last v ∙ b.last v; queues = λ l. a.queues l ∙ b.queues l; entered = λ l. a.entered l ∙ b.entered l; left = λ q l. a.left q l ∙ b.left q l }
 
 pub Same-of : (T U T' U' : List Move) → T ≡ T' → U ≡ U' → Same T' U' → Same T U
 Same-of T U T' U' a b s = rw (a, b) s
@@ -30,12 +35,18 @@ last-push : (T U : List Move) (m : Move) (v : ℕ) → last_move v T ≡ last_mo
 last-push T U m v e (inl (test, same)) = subst (λ w. last_move w (T ++ m ∷ []) ≡ last_move w (U ++ m ∷ [])) same (last_move-own T m ∙ sym (last_move-own U m))
 last-push T U m v e (inr (test, other)) = last_move-other T m v other ∙ e ∙ sym (last_move-other U m v other)
 
+stands-alike : (l v : ℕ) (T U : List Move) → last_move v T ≡ last_move v U → stands_on l T v ≡ stands_on l U v
+unfolding stands_on
+stands-alike l v T U e = ap (λ o. leads_there l o) e
+
 -- one more move on both
 pub Same-push : (T U : List Move) (m : Move) → Same T U → Same (T ++ m ∷ []) (U ++ m ∷ [])
 Same-push T U m s = record {
   moves = λ v. moves_of-append v T (m ∷ []) ∙ ap (λ L. L ++ moves_of v (m ∷ [])) (s.moves v) ∙ sym (moves_of-append v U (m ∷ []));
   last = λ v. last-push T U m v (s.last v) (eqb_tells m.vehicle v);
   queues = λ l. queue-push l T m ∙ ap (λ Q. without m.vehicle Q ++ cond (leads_to l m) (m.vehicle ∷ []) []) (s.queues l) ∙ sym (queue-push l U m);
+  entered = λ l. entered-push l T m ∙ ap (λ n. n + count_by (leads_to l) (m ∷ [])) (s.entered l) ∙ sym (entered-push l U m);
+  left = λ q l. passing-push q l T m ∙ ap (λ n. n + count_by q (cond (stands_on l T m.vehicle) (m ∷ []) [])) (s.left q l) ∙ ap (λ c. count_by q (leavings l [] U) + count_by q (cond c (m ∷ []) [])) (stands-alike l m.vehicle T U (s.last m.vehicle)) ∙ sym (passing-push q l U m);
 }
 
 -- the same moves on both
@@ -103,6 +114,8 @@ Same-swap T a b apart = record {
   queues = λ l.
       two_pushed l T a b apart.others ∙ ap (λ Q. (Q ++ cond (leads_to l a) (a.vehicle ∷ []) []) ++ cond (leads_to l b) (b.vehicle ∷ []) []) (filter_comm _ _ (queue_of l T))
       ∙ ends_swap _ (a.vehicle ∷ []) (b.vehicle ∷ []) (leads_to l a) (leads_to l b) (apart.ways l) ∙ sym (two_pushed l T b a (λ e. apart.others (sym e)));
+  entered = λ l. entered-swap l T a b;
+  left = λ q l. passing-swap q l T a b apart.others;
 }
 
 -- a move passes a list of moves

@@ -6,6 +6,7 @@ use Rattle.std.specs.Prelude.{All, IsSome, nat_eq, slice_get}
 use Rattle.std.proofs.lemmas.List.Elements.{All-cons, All-nil}
 use Rattle.std.proofs.lemmas.Option.{none-some, same_Some}
 use Rattle.net_core.specs.Network.{IsNet, is_named, turn, turn_at}
+use Rattle.net_core.specs.Rates.{AreLinkWindows, AreWindows}
 use Rattle.net_core.specs.Rows.{IsBetween, IsLinkInRange, IsTurning, IsTurnInRange, link_in}
 use Rattle.net_core.specs.declared.rows.LinkNo.{LinkNo}
 use Rattle.net_core.specs.declared.rows.LinkRow.{LinkRow}
@@ -41,6 +42,10 @@ is_net = record {
   between = All-cons (IsBetween line.nodes) first (second ∷ []) (record { from = omega arith; to = omega arith }) (All-cons (IsBetween line.nodes) second [] (record { from = omega arith; to = omega arith }) (All-nil (IsBetween line.nodes)));
   turns = record { distinct = tt; few = omega arith; range = All-nil IsTurnInRange };
   turning = All-nil (IsTurning line.links);
+  link_windows = All-nil AreLinkWindows;
+  turn_windows = All-nil AreWindows;
+  of_links = omega arith;
+  of_turns = omega arith;
 }
 
 -- the walk over both links
@@ -130,6 +135,7 @@ two_links_are_sound = record {
   delta_most = omega arith;
   horizon_least = omega arith;
   horizon_most = omega arith;
+  queue = tt;
   trips = are_trips;
   rising = rise;
   early = early;

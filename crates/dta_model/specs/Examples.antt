@@ -1,18 +1,24 @@
 -- Small worked cases of the definitions. Steps are of six seconds; a rate of 600,000,000 is one
 -- vehicle in such a step.
-use Rattle.std.specs.Prelude.{◌≡◌, ℕ, List, [], ◌∷◌, ◌++◌, Option, Some, None, map, refl}
+use Rattle.std.specs.Prelude.{◌≡◌, ℕ, true, false, List, [], ◌∷◌, ◌++◌, Option, Some, None, map}
+use Rattle.std.specs.Prelude.{refl}
 use Rattle.std.specs.List.{flat_map, repeat}
 use Rattle.net_core.specs.Network.{numbers_below}
+use Rattle.net_core.specs.declared.rates.Rates.{Rates}
+use Rattle.net_core.specs.declared.rates.Window.{Window}
 use Rattle.net_core.specs.declared.rows.LinkNo.{LinkNo}
 use Rattle.net_core.specs.declared.rows.LinkRow.{LinkRow}
 use Rattle.net_core.specs.declared.rows.NetRows.{NetRows}
 use Rattle.net_core.specs.declared.rows.NodeRow.{NodeRow}
 use Rattle.net_core.specs.declared.rows.TurnRow.{TurnRow}
+use Rattle.dta_model.specs.Allowance.{allowance}
 use Rattle.dta_model.specs.Loading.{trace_after, entries_of, arrival_of}
 use Rattle.dta_model.specs.Machine.{all_idle, finished, outcomes_of, run_machine}
 use Rattle.dta_model.specs.OnLiterals.{claims_on_literals, loadings_on_literals}
-use Rattle.dta_model.specs.OnLiterals.{releases_on_literals}
+use Rattle.dta_model.specs.OnLiterals.{releases_on_literals, traces_on_literals}
+use Rattle.dta_model.specs.Plans.{has_pass}
 use Rattle.dta_model.specs.Release.{trips_of}
+use Rattle.dta_model.specs.Room.{room, wave_of}
 use Rattle.dta_model.specs.State.{eight_after}
 use Rattle.dta_model.specs.Trace.{Move}
 use Rattle.dta_model.specs.Units.{phase_end, phase_start, places}
@@ -61,6 +67,7 @@ link id from to free storage rate =
       id = id;
       from = record { 0 = from };
       to = record { 0 = to };
+      micrometres = 1000000000;
       free = free;
       storage = storage;
       rate = rate;
@@ -72,6 +79,8 @@ in_a_line a b turns = record {
   nodes = node 1 ∷ node 2 ∷ node 3 ∷ [];
   links = a ∷ b ∷ [];
   turns = turns;
+  link_windows = [];
+  turn_windows = [];
 }
 
 abbrev pub both : List (Option (List LinkNo))
@@ -101,6 +110,27 @@ a_row_within_a_zone :
 unfolding releases_on_literals trip
 a_row_within_a_zone = refl
 
+-- ---- allowances
+-- a window from a step on
+abbrev pub window : ℕ → Option ℕ → Window
+window from rate = record { from = from; rate = rate }
+
+-- half a vehicle and a third in each of two steps, then a vehicle and a half in each: parts that
+-- aren't full when the rate changes stay
+abbrev rising : Rates
+rising = record {
+  usual = Some 0;
+  windows = window 0 (Some 500000000) ∷ window 2 (Some 900000000) ∷ [];
+}
+
+rates_that_change : map (allowance rising 6) (numbers_below 4) ≡ 0 ∷ 1 ∷ 2 ∷ 1 ∷ []
+unfolding traces_on_literals
+rates_that_change = refl
+
+-- one vehicle in a step, and no limit from step 2 on
+abbrev opened : Rates
+opened = record { usual = Some 600000000; windows = window 2 None ∷ [] }
+
 -- ---- two links of ten steps, and one vehicle in a step
 unfoldable pub two_links_in_a_line : Plan
 two_links_in_a_line = record {
@@ -128,6 +158,58 @@ two_links_in_a_line-state :
     ≡ record { steps = 20; waiting = 0; running = 2; arrived = 0; first = 1 ∷ 1 ∷ 0 ∷ 0 ∷ [] }
 unfolding loadings_on_literals trip two_links_in_a_line
 two_links_in_a_line-state = refl
+
+-- a turn without a limit in the step may be taken however often it was
+no_limit_in_a_window :
+    (used : ℕ) → map (λ t. has_pass two_links_in_a_line opened t used) (2 ∷ 9 ∷ [])
+    ≡ true ∷ true ∷ []
+unfolding loadings_on_literals
+no_limit_in_a_window used = refl
+
+a_limit_before_the_window :
+    map (has_pass two_links_in_a_line opened 1) (0 ∷ 1 ∷ []) ≡ true ∷ false ∷ []
+unfolding loadings_on_literals two_links_in_a_line
+a_limit_before_the_window = refl
+
+-- ---- the second link lets nobody in from step 20 to step 39
+unfoldable pub windows_turn_red : Plan
+windows_turn_red = record two_links_in_a_line {
+  net = record (in_a_line (link 0 0 1 10 125 600000000) (link 1 1 2 10 125 600000000) []) {
+    link_windows = [] ∷ (window 0 (Some 600000000) ∷ window 20 (Some 0)
+        ∷ window 40 (Some 600000000) ∷ []) ∷ [];
+  };
+}
+
+windows_turn_red-entries :
+    journeys 3 (trace_after windows_turn_red 52)
+    ≡ (5 ∷ 15 ∷ []) ∷ (15 ∷ 40 ∷ []) ∷ (25 ∷ 41 ∷ []) ∷ []
+unfolding loadings_on_literals trip two_links_in_a_line windows_turn_red
+windows_turn_red-entries = refl
+
+windows_turn_red-arrivals :
+    arrivals 3 (trace_after windows_turn_red 52) ≡ Some 40 ∷ Some 50 ∷ Some 51 ∷ []
+unfolding loadings_on_literals trip two_links_in_a_line windows_turn_red
+windows_turn_red-arrivals = refl
+
+-- ---- the turn between the links is closed until step 30, and then has no limit
+unfoldable pub windows_turn_green : Plan
+windows_turn_green = record two_links_in_a_line {
+  net = record (in_a_line (link 0 0 1 10 125 600000000) (link 1 1 2 10 125 600000000)
+      (record { a = number 0; b = number 1; penalty = 0; rate = None } ∷ [])) {
+        turn_windows = (window 0 (Some 0) ∷ window 30 None ∷ []) ∷ [];
+      };
+}
+
+windows_turn_green-entries :
+    journeys 3 (trace_after windows_turn_green 46)
+    ≡ (5 ∷ 30 ∷ []) ∷ (15 ∷ 31 ∷ []) ∷ (25 ∷ 35 ∷ []) ∷ []
+unfolding loadings_on_literals trip two_links_in_a_line windows_turn_green
+windows_turn_green-entries = refl
+
+windows_turn_green-arrivals :
+    arrivals 3 (trace_after windows_turn_green 46) ≡ Some 40 ∷ Some 41 ∷ Some 45 ∷ []
+unfolding loadings_on_literals trip two_links_in_a_line windows_turn_green
+windows_turn_green-arrivals = refl
 
 -- ---- the second link has no capacity
 unfoldable pub a_link_without_capacity : Plan
@@ -188,6 +270,50 @@ room_at_the_start_of_the_step-arrivals :
 unfolding loadings_on_literals trip room_at_the_start_of_the_step
 room_at_the_start_of_the_step-arrivals = refl
 
+-- ---- the same with a backward wave, which takes three steps over the second link: the six that
+-- left it in step 11 make room in step 14
+unfoldable pub a_wave_frees_room : ℕ → Plan
+a_wave_frees_room wave = record room_at_the_start_of_the_step {
+  net = in_a_line (link 0 0 1 10 125 3600000000)
+      (record (link 1 1 2 1 10 3600000000) { micrometres = 80000000 }) [];
+  queue = queue.Newell wave;
+}
+
+steps_of_the_wave : map (wave_of (a_wave_frees_room 20)) (0 ∷ 1 ∷ []) ≡ 30 ∷ 3 ∷ []
+unfolding loadings_on_literals room_at_the_start_of_the_step a_wave_frees_room
+steps_of_the_wave = refl
+
+a_wave_frees_room-rooms :
+    map (λ t. room (a_wave_frees_room 20) 1 t (trace_after (a_wave_frees_room 20) t))
+    (12 ∷ 13 ∷ 14 ∷ [])
+    ≡ Some 0 ∷ Some 0 ∷ Some 6 ∷ []
+unfolding loadings_on_literals trip room_at_the_start_of_the_step a_wave_frees_room
+a_wave_frees_room-rooms = refl
+
+a_wave_frees_room-entries :
+    journeys 12 (trace_after (a_wave_frees_room 20) 16)
+    ≡ repeat 6 ((0 ∷ 10 ∷ []) ∷ []) ++ repeat 4 ((1 ∷ 11 ∷ []) ∷ [])
+    ++ repeat 2 ((1 ∷ 14 ∷ []) ∷ [])
+unfolding loadings_on_literals trip room_at_the_start_of_the_step a_wave_frees_room
+a_wave_frees_room-entries = refl
+
+a_wave_frees_room-arrivals :
+    arrivals 12 (trace_after (a_wave_frees_room 20) 16)
+    ≡ repeat 6 (Some 11 ∷ []) ++ repeat 4 (Some 12 ∷ []) ++ repeat 2 (Some 15 ∷ [])
+unfolding loadings_on_literals trip room_at_the_start_of_the_step a_wave_frees_room
+a_wave_frees_room-arrivals = refl
+
+-- a wave of three times the speed takes one step, and the rooms are those of the spatial queue
+a_fast_wave : wave_of (a_wave_frees_room 60) 1 ≡ 1
+unfolding loadings_on_literals room_at_the_start_of_the_step a_wave_frees_room
+a_fast_wave = refl
+
+a_fast_wave-entries :
+    journeys 12 (trace_after (a_wave_frees_room 60) 14)
+    ≡ journeys 12 (trace_after room_at_the_start_of_the_step 14)
+unfolding loadings_on_literals trip room_at_the_start_of_the_step a_wave_frees_room
+a_fast_wave-entries = refl
+
 -- ---- the second link stores one vehicle
 unfoldable pub storage_of_one : Plan
 storage_of_one = record room_at_the_start_of_the_step {
@@ -214,6 +340,8 @@ two_links_merge = record {
     links = link 0 0 2 1 12 3600000000 ∷ link 1 1 2 1 12 3600000000
         ∷ link 2 2 3 1 12 600000000 ∷ [];
     turns = [];
+    link_windows = [];
+    turn_windows = [];
   };
   queue = queue.Point;
   delta = 6;
@@ -260,6 +388,8 @@ two_nodes = record two_links_in_a_line {
     nodes = node 1 ∷ node 3 ∷ [];
     links = link 0 0 1 10 125 600000000 ∷ [];
     turns = [];
+    link_windows = [];
+    turn_windows = [];
   };
   horizon = 1;
 }

@@ -12,6 +12,7 @@ pub mod Loading
 pub mod State
 pub mod Riders
 pub mod Laws
+pub mod Leavings
 pub mod Orders
 pub mod LinkTimes
 pub mod TimedWalks

@@ -3,8 +3,8 @@ use Rattle.std.specs.Prelude.{ℕ, zero, suc, ◌+◌, ◌%◌, Bool, false, con
 use Rattle.std.specs.Prelude.{nat_le, List, [], ◌∷◌, ◌++◌, length, Option, None, Some, slice_get}
 use Rattle.std.specs.Prelude.{find, count_by, take, drop}
 use Rattle.net_core.specs.declared.rows.Turn.{Turn}
-use Rattle.dta_model.specs.Plans.{link_at, ins, outs, turn, link_allowance, has_pass, vehicle_count}
-use Rattle.dta_model.specs.Plans.{vehicles_of, departure_of, first_link}
+use Rattle.dta_model.specs.Plans.{link_at, ins, outs, turn, turn_rates, link_allowance, has_pass}
+use Rattle.dta_model.specs.Plans.{vehicle_count, vehicles_of, departure_of, first_link}
 use Rattle.dta_model.specs.Room.{room, has_room}
 use Rattle.dta_model.specs.Trace.{Move, Target, Onto, Arrived, leads_to, has_moved, last_move}
 use Rattle.dta_model.specs.Trace.{queue_of, stands_on, next_target}
@@ -58,7 +58,9 @@ module _ (p : Plan) (n t : ℕ) (T0 : List Move) where
   abbrev pub turn_test : List Move → ℕ → ℕ → ℕ → Option Turn → Bool
   turn_test M ready l b None = false
   turn_test M ready l b (Some way) =
-      nat_le (ready + way.penalty) t && has_pass p way.rate t (turned M l b) && may_enter M b
+      nat_le (ready + way.penalty) t
+      && has_pass p (turn_rates p l b) t (turned M l b)
+      && may_enter M b
 
   -- whether a vehicle that is `ready` for the end of link l may go to link b: there is a turn, its
   -- penalty is served, it may be taken once more, and link b lets one in

@@ -1,9 +1,12 @@
 -- What a plan says of its links, turns and vehicles. Nodes, links and vehicles are positions from
 -- 0.
-use Rattle.std.specs.Prelude.{ℕ, Bool, true, nat_lt, List, [], length, Option, None, Some}
+use Rattle.std.specs.Prelude.{ℕ, Bool, ◌||◌, nat_lt, List, [], length, Option, None, Some}
 use Rattle.std.specs.Prelude.{slice_get, map}
+use Rattle.std.specs.Option.{is_none}
 use Rattle.net_core.specs.Network as network
+use Rattle.net_core.specs.Rates.{rate_in}
 use Rattle.net_core.specs.Rows.{link_in}
+use Rattle.net_core.specs.declared.rates.Rates.{Rates}
 use Rattle.net_core.specs.declared.rows.LinkNo.{LinkNo}
 use Rattle.net_core.specs.declared.rows.LinkRow.{LinkRow}
 use Rattle.net_core.specs.declared.rows.Turn.{Turn}
@@ -26,15 +29,21 @@ outs p n = network.outs p.net n
 abbrev pub turn : Plan → ℕ → ℕ → Option Turn
 turn p a b = network.turn p.net a b
 
+-- the rates that a link has in the steps, and those that a turn has
+abbrev pub link_rates : Plan → ℕ → Rates
+link_rates p l = network.link_rates p.net l
+
+abbrev pub turn_rates : Plan → ℕ → ℕ → Rates
+turn_rates p a b = network.turn_rates p.net a b
+
 -- how many vehicles may enter a link in a step, and as many may leave it
 unfoldable pub link_allowance : Plan → ℕ → ℕ → ℕ
-link_allowance p l t = allowance (link_at p l).rate p.delta t
+link_allowance p l t = allowance (link_rates p l) p.delta t
 
--- whether a turn that was taken so often in a step may be taken once more; one without a limit
--- always may
-abbrev pub has_pass : Plan → Option ℕ → ℕ → ℕ → Bool
-has_pass p None t used = true
-has_pass p (Some rate) t used = nat_lt used (allowance rate p.delta t)
+-- whether a turn that was taken so often in a step may be taken once more; where it has no limit in
+-- that step it always may
+abbrev pub has_pass : Plan → Rates → ℕ → ℕ → Bool
+has_pass p rates t used = is_none (rate_in rates t) || nat_lt used (allowance rates p.delta t)
 
 -- how many vehicles there are, and all of them in order
 abbrev pub vehicle_count : Plan → ℕ

@@ -1,5 +1,5 @@
 -- When a loading is sound.
-use Rattle.std.specs.Prelude.{◌≡◌, ◌≢◌, ℕ, ◌<◌, ◌≤◌, List, length, map, All, Option, Some}
+use Rattle.std.specs.Prelude.{◌≡◌, ◌≢◌, ℕ, ◌<◌, ◌≤◌, ⊤, List, length, map, All, Option, Some}
 use Rattle.std.specs.Prelude.{slice_get}
 use Rattle.std.specs.List.Sorted.{IsNonDecreasingBy}
 use Rattle.fixed_units.specs.declared.link.TheConstants.{MOST_STEP}
@@ -10,6 +10,9 @@ use Rattle.dta_model.specs.Plans.{link_numbers}
 use Rattle.dta_model.specs.Walks.{IsWalk}
 use Rattle.dta_model.specs.declared.loading.TheConstants.{MOST_HORIZON}
 use Rattle.dta_model.specs.declared.plan.Plan.{Plan}
+use Rattle.dta_model.specs.declared.queue.Queue.{Queue}
+use Rattle.dta_model.specs.declared.queue.Queue.TheVariants as queue
+use Rattle.dta_model.specs.declared.queue.TheConstants.{MOST_WAVE}
 use Rattle.dta_model.specs.declared.trip.TheConstants.{MOST_TRIPS}
 use Rattle.dta_model.specs.declared.trip.Trip.{Trip}
 
@@ -26,6 +29,12 @@ AreWalks net trips routes =
     → slice_get routes v ≡ Some (Some route)
     → IsWalk net trip.origin trip.destination (link_numbers route)
 
+-- a queue whose backward wave, if it has one, is in range
+abbrev pub IsQueue : Queue → Type 0
+IsQueue queue.Point = ⊤
+IsQueue queue.Spatial = ⊤
+IsQueue (queue.Newell wave) = (1 ≤ wave) × (wave ≤ MOST_WAVE)
+
 -- a plan of a sound loading
 pub record IsSound (p : Plan) : Type 0 where
   pub net : IsNet p.net
@@ -34,6 +43,7 @@ pub record IsSound (p : Plan) : Type 0 where
   pub delta_most : p.delta ≤ MOST_STEP
   pub horizon_least : 1 ≤ p.horizon
   pub horizon_most : p.horizon ≤ MOST_HORIZON
+  pub queue : IsQueue p.queue
   pub trips : AreTrips p.trips
   -- departures don't fall, and are below the horizon
   pub rising : IsNonDecreasingBy (λ trip. trip.departure) p.trips

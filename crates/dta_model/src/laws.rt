@@ -4,6 +4,8 @@ ghost use Rattle.dta_model.specs.Laws.{ArrivalIsLast, HeadsMove, JourneysEndInOr
 ghost use Rattle.dta_model.specs.Laws.{NoMoveIsLeft, NoneOutside, NothingAtTheStart, QueuesAddUp};
 ghost use Rattle.dta_model.specs.Laws.{RoutesAreFollowed, StepsRise, VehiclesAreConserved};
 ghost use Rattle.dta_model.specs.Laws.{VisitsEndInOrder};
+ghost use Rattle.dta_model.specs.Leavings.{EntriesAddUp, LinksAreLeftAtTheirEnds};
+ghost use Rattle.dta_model.specs.Leavings.{OneStepIsSpatial, StepsAreBelow};
 ghost use Rattle.dta_model.specs.Orders.{AnyOrder, SameJourneys};
 ghost use Rattle.dta_model.specs.Released.{TripsAreReleased};
 ghost use Rattle.dta_model.specs.Sound.{IsSound};
@@ -84,6 +86,27 @@ pub fn trips_are_released()
 /// No vehicle is on a link that isn't in the table.
 pub fn none_outside()
     ensures { NoneOutside }
+{}
+
+/// Each move of the first steps is in one of them.
+pub fn steps_are_below()
+    ensures { StepsAreBelow }
+{}
+
+/// Who entered a link is on it or has left it.
+pub fn entries_add_up()
+    ensures { EntriesAddUp }
+{}
+
+/// Where a backward wave takes one step over a link, its room is that of the spatial queue.
+pub fn one_step_is_spatial()
+    ensures { OneStepIsSpatial }
+{}
+
+/// A link is left in a step by the moves that the node at its end makes with vehicles that were on
+/// it at the start of the step.
+pub fn links_are_left_at_their_ends()
+    ensures { LinksAreLeftAtTheirEnds }
 {}
 
 /// A loading can be sound: that of two links in a line is.

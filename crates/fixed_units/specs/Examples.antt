@@ -10,7 +10,7 @@ use Rattle.fixed_units.specs.declared.link.TheConstants.{MOST_LANES, MOST_JAM, M
 use Rattle.fixed_units.specs.declared.turn.TheConstants.{MOST_PENALTY, MOST_PENALTY_STEPS}
 use Rattle.fixed_units.specs.Quantity.{number, whole_of, milli_of}
 use Rattle.fixed_units.specs.Spelling.{text_of, plus, minus, power}
-use Rattle.fixed_units.specs.Units.{length_of, speed_of, free_steps_of, storage_of}
+use Rattle.fixed_units.specs.Units.{length_of, speed_of, free_steps_of, storage_of, wave_steps_of}
 use Rattle.fixed_units.specs.Units.{penalty_steps_of, link_rate_of, turn_rate_of}
 
 -- ---- quantities
@@ -196,6 +196,19 @@ eighty_metres = refl
 -- 5 m hold 0.625 vehicles, and still one
 at_least_one : storage_of (length_of 5000 Metre) 1000 125 ≡ 1
 at_least_one = refl
+
+-- a wave of 20 km/h takes 14.4 seconds over 80 metres, and three minutes over a kilometre
+waves_of_twenty :
+    (wave_steps_of (length_of 80000 Metre) 20 6 60 ≡ 3)
+    × (wave_steps_of (length_of 1000000 Metre) 20 6 60 ≡ 30)
+    × (wave_steps_of (length_of 1000000 Metre) 20 6 29 ≡ 29)
+waves_of_twenty = (refl, refl, refl)
+
+-- a fast wave, and one over nothing, take a step
+one_step_at_least :
+    (wave_steps_of (length_of 80000 Metre) 60 6 60 ≡ 1)
+    × (wave_steps_of (length_of 0 Metre) 20 6 60 ≡ 1)
+one_step_at_least = (refl, refl)
 
 -- 7 s are two steps of 6 s, rounded up
 two_steps : penalty_steps_of 7000 6 ≡ 2

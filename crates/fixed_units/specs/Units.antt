@@ -69,3 +69,9 @@ link_rate_of capacity lanes = capacity * lanes
 -- a turn's rate in millionths of a vehicle per hour, from its capacity in thousandths
 abbrev pub turn_rate_of : ℕ → ℕ
 turn_rate_of capacity = capacity * 1000
+
+-- the steps of so many seconds that a backward wave of so many kilometres per hour takes over a
+-- length, rounded up: at least one, and not more than the horizon has
+abbrev pub wave_steps_of : Length → ℕ → ℕ → ℕ → ℕ
+wave_steps_of length wave delta horizon =
+    max 1 (min horizon (div_ceil (3600 * length.micrometres) (wave * 10 ^ 9 * delta)))

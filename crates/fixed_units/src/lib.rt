@@ -27,7 +27,7 @@ pub use fault::NumberFault;
 pub use identifier::{GREATEST_IDENTIFIER, whole};
 pub use link::{
     MOST_FREE_STEPS, MOST_JAM, MOST_LANES, MOST_RATE, MOST_STEP, MOST_STORAGE, TooSlow, ff_steps,
-    link_rate, storage,
+    link_rate, storage, wave_steps,
 };
 pub use measure::{Length, LengthUnit, Speed, SpeedUnit};
 pub use quantity::{MOST_BYTES, MOST_THOUSANDTHS, milli, quantities_are_spellings};

@@ -1,6 +1,6 @@
 // What a link's length, speed, lanes and capacity give it.
 ghost use Rattle.std.specs.Prelude.{◌≡◌, ◌≤◌, IfOk};
-ghost use Rattle.fixed_units.specs.Units.{free_steps_of, storage_of, link_rate_of};
+ghost use Rattle.fixed_units.specs.Units.{free_steps_of, storage_of, link_rate_of, wave_steps_of};
 
 use crate::measure::{Length, Speed};
 use crate::quantity::MOST_THOUSANDTHS;
@@ -75,6 +75,21 @@ pub fn link_rate(capacity: u64, lanes: u32) -> u64
     capacity * u64::from(lanes)
 }
 
+/// The steps of `delta` seconds that a backward wave of so many kilometres per hour takes over a
+/// link, rounded up: at least one, and not more than the horizon has.
+pub fn wave_steps(length: Length, wave: u32, delta: u32, horizon: u32) -> u32
+    requires moves { 1 ≤ wave }
+    requires step { 1 ≤ delta }
+    requires horizon { 1 ≤ horizon }
+    ensures value { result ≡ wave_steps_of length wave delta horizon }
+    ensures least { 1 ≤ result }
+    ensures most { result ≤ horizon }
+{
+    let advance = u128::from(wave) * 1_000_000_000 * u128::from(delta);
+    let steps = (3600 * u128::from(length.micrometres)).div_ceil(advance);
+    steps.min(u128::from(horizon)).max(1) as u32
+}
+
 #[cfg(test)]
 mod tests {
     use super::*;
@@ -116,5 +131,23 @@ mod tests {
         assert_eq!(rt; link_rate(600_000, 1000), 600_000_000);
         assert_eq!(rt; turn_rate(600_000), 600_000_000);
         assert_eq!(rt; penalty_steps(7000, 6), 2);
+        let short = length(80_000, LengthUnit::Metre);
+        let waves = [
+            (length(0, LengthUnit::Metre), 20, 6, 60, 1),
+            (short, 20, 6, 60, 3),
+            (short, 60, 6, 60, 1),
+            (kilometre, 20, 6, 60, 30),
+            (kilometre, 20, 6, 29, 29),
+            (
+                length(1_000_000_000_000, LengthUnit::Mile),
+                1,
+                1,
+                86_400,
+                86_400,
+            ),
+        ];
+        for (length, wave, delta, horizon, steps) in waves {
+            assert_eq!(rt; wave_steps(length, wave, delta, horizon), steps);
+        }
     }
 }

@@ -57,6 +57,8 @@ narrow_net = record {
   links = link 20 0 1 10 125 3600000000 ∷ link 30 1 2 10 125 600000000
       ∷ link 40 0 2 21 262 3600000000 ∷ [];
   turns = [];
+  link_windows = [];
+  turn_windows = [];
 }
 
 unfoldable over_the_narrow_link : Plan

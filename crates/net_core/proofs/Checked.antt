@@ -1,6 +1,6 @@
 -- A network's condition as a test that computes, for networks that are written out.
-use Rattle.std.proofs.Common.{◌≡◌, ◌≤◌, ℕ, List, [], ◌∷◌, length, ap, rules, refl, Bool, true, false, nat_eq, nat_lt, not}
-use Rattle.std.specs.Prelude.{◌&&◌, All, None, Option, Some, IfSome, nat_le}
+use Rattle.std.proofs.Common.{◌≡◌, ◌≤◌, ℕ, List, [], ◌∷◌, length, ap, rules, refl, Bool, true, false, nat_eq, nat_lt, not, ◌<◌, zero, suc, subst, arith}
+use Rattle.std.specs.Prelude.{◌&&◌, All, None, Option, Some, IfSome, IsSome, is_some, nat_le, slice_get}
 use Rattle.std.specs.List.{AllByRecursion, IsDistinct, list_all, list_any}
 use Rattle.std.proofs.lemmas.List.Elements.{All-cons, All-nil}
 use Rattle.std.proofs.lemmas.Bool.{and_parts}
@@ -15,6 +15,10 @@ use Rattle.net_core.specs.declared.rows.NodeNo.{NodeNo}
 use Rattle.net_core.specs.declared.rows.NodeRow.{NodeRow}
 use Rattle.fixed_units.specs.declared.turn.TheConstants.{MOST_PENALTY_STEPS}
 use Rattle.fixed_units.specs.declared.link.TheConstants.{MOST_RATE}
+use Rattle.net_core.specs.Rates.{AreLinkWindows, AreRates, AreWindows}
+use Rattle.net_core.specs.declared.rates.Rates.{Rates}
+use Rattle.net_core.specs.declared.rates.TheConstants.{MOST_WINDOWS, MOST_WINDOW_STEP}
+use Rattle.net_core.specs.declared.rates.Window.{Window}
 use Rattle.net_core.specs.declared.rows.TheConstants.{MOST_NODES, MOST_LINKS, MOST_TURNS}
 use Rattle.net_core.specs.declared.rows.TurnRow.{TurnRow}
 
@@ -55,12 +59,38 @@ are_turns turns =
     differ pair_eq (turn_pairs turns)
     && (nat_le (length turns) MOST_TURNS && list_all has_turn_range turns)
 
+-- whether windows begin after a step, each after the one before
+abbrev rise : ℕ → List Window → Bool
+rise step [] = true
+rise step (w ∷ ws) = nat_lt step w.from && rise w.from ws
+
+abbrev rise_from_0 : List Window → Bool
+rise_from_0 [] = true
+rise_from_0 (w ∷ ws) = nat_eq w.from 0 && rise w.from ws
+
+abbrev has_window_range : Window → Bool
+has_window_range w = nat_le w.from MOST_WINDOW_STEP && is_rate w.rate
+
+abbrev are_windows : List Window → Bool
+are_windows ws =
+    nat_le (length ws) MOST_WINDOWS && (rise_from_0 ws && list_all has_window_range ws)
+
+abbrev are_link_windows : List Window → Bool
+are_link_windows ws = are_windows ws && list_all (λ w. is_some w.rate) ws
+
+abbrev are_windows_of : NetRows → Bool
+are_windows_of net =
+    list_all are_link_windows net.link_windows && (list_all are_windows net.turn_windows
+    && (nat_le (length net.link_windows) (length net.links)
+    && nat_le (length net.turn_windows) (length net.turns)))
+
 -- whether rows make a network
 abbrev pub is_net : NetRows → Bool
 is_net net =
     are_nodes net.nodes && (are_links net.links
     && (list_all (is_between (length net.nodes)) net.links
-    && (are_turns net.turns && list_all (is_turning net.links) net.turns)))
+    && (are_turns net.turns && (list_all (is_turning net.links) net.turns
+    && are_windows_of net))))
 
 none-equal : {K : Type 0} (eq : K → K → Bool) (k : K) (ks : List K)
     → not (list_any (eq k) ks) ≡ true → AllByRecursion (λ y. eq k y ≡ false) ks
@@ -166,6 +196,103 @@ turning-checked links turn e =
       meets = same-node (link_in links turn.a.0).to (link_in links turn.b.0).from more.1;
     }
 
+some-same : (v w : Window) → Some v ≡ Some w → v ≡ w
+some-same v w e = cc
+
+-- windows after a step begin later, wherever they stand
+rise-after : (step : ℕ) (ws : List Window) (j : ℕ) (w : Window) → rise step ws ≡ true
+    → slice_get ws j ≡ Some w → step < w.from
+rise-after step [] j w e g = absurd cc
+rise-after step (v ∷ ws) zero w e g =
+    let parts = and_parts (nat_lt step v.from) (rise v.from ws) e in
+    let same = some-same v w g in
+    subst (λ (x : Window). step < x.from) same (lt_holds step v.from parts.0)
+rise-after step (v ∷ ws) (suc j) w e g =
+    let parts = and_parts (nat_lt step v.from) (rise v.from ws) e in
+    let later = rise-after v.from ws j w parts.1 g in
+    let now = lt_holds step v.from parts.0 in
+    omega (arith, later, now)
+
+rise-rising : (step : ℕ) (ws : List Window) (i j : ℕ) (v w : Window) → rise step ws ≡ true → i < j
+    → slice_get ws i ≡ Some v → slice_get ws j ≡ Some w → v.from < w.from
+rise-rising step [] i j v w e b f g = absurd cc
+rise-rising step (x ∷ ws) i zero v w e b f g = absurd (omega arith)
+rise-rising step (x ∷ ws) zero (suc j) v w e b f g =
+    let parts = and_parts (nat_lt step x.from) (rise x.from ws) e in
+    let same : x ≡ v = some-same x v f in
+    subst (λ (y : Window). y.from < w.from) same (rise-after x.from ws j w parts.1 g)
+rise-rising step (x ∷ ws) (suc i) (suc j) v w e b f g =
+    let parts = and_parts (nat_lt step x.from) (rise x.from ws) e in
+    rise-rising x.from ws i j v w parts.1 (omega arith) f g
+
+rise_from_0-first : (ws : List Window) → rise_from_0 ws ≡ true
+    → IfSome (slice_get ws 0) (λ w. w.from ≡ 0)
+rise_from_0-first [] e = tt
+rise_from_0-first (w ∷ ws) e =
+    let parts = and_parts (nat_eq w.from 0) (rise w.from ws) e in
+    let first : w.from ≡ 0 = search (rules, parts.0) in
+    first
+
+rise_from_0-rising : (ws : List Window) → rise_from_0 ws ≡ true
+    → (i j : ℕ) (v w : Window) → i < j → slice_get ws i ≡ Some v → slice_get ws j ≡ Some w
+    → v.from < w.from
+rise_from_0-rising [] e i j v w b f g = absurd cc
+rise_from_0-rising (x ∷ ws) e i zero v w b f g = absurd (omega arith)
+rise_from_0-rising (x ∷ ws) e zero (suc j) v w b f g =
+    let parts = and_parts (nat_eq x.from 0) (rise x.from ws) e in
+    let same : x ≡ v = some-same x v f in
+    subst (λ (y : Window). y.from < w.from) same (rise-after x.from ws j w parts.1 g)
+rise_from_0-rising (x ∷ ws) e (suc i) (suc j) v w b f g =
+    let parts = and_parts (nat_eq x.from 0) (rise x.from ws) e in
+    rise-rising x.from ws i j v w parts.1 (omega arith) f g
+
+windows-checked : (ws : List Window) → are_windows ws ≡ true → AreWindows ws
+windows-checked ws e =
+    let few = and_parts (nat_le (length ws) MOST_WINDOWS) _ e in
+    let rising = and_parts (rise_from_0 ws) _ few.1 in
+    let IsEarly : Window → Type 0 = λ w. w.from ≤ MOST_WINDOW_STEP in
+    let IsInRange : Window → Type 0 = λ w. IfSome w.rate (λ rate. rate ≤ MOST_RATE) in
+    record {
+      few = le_holds (length ws) MOST_WINDOWS few.0;
+      first = rise_from_0-first ws rising.0;
+      rising = rise_from_0-rising ws rising.0;
+      early = all-checked IsEarly has_window_range
+          (λ w h. le_holds w.from MOST_WINDOW_STEP (and_parts (nat_le w.from MOST_WINDOW_STEP) _ h).0)
+          ws rising.1;
+      range = all-checked IsInRange has_window_range
+          (λ w h. rate-checked w.rate (and_parts (nat_le w.from MOST_WINDOW_STEP) _ h).1)
+          ws rising.1;
+    }
+
+-- whether rates are in range
+abbrev pub are_rates : Rates → Bool
+are_rates rates = is_rate rates.usual && are_windows rates.windows
+
+-- rates that pass the test are
+pub rates-checked : (rates : Rates) → are_rates rates ≡ true → AreRates rates
+rates-checked rates e =
+    let parts = and_parts (is_rate rates.usual) _ e in
+    record {
+      usual = rate-checked rates.usual parts.0;
+      windows = windows-checked rates.windows parts.1;
+    }
+
+some-given : (rate : Option ℕ) → is_some rate ≡ true → IsSome rate
+some-given None e = absurd cc
+some-given (Some r) e = refl
+
+rate-some : (w : Window) → is_some w.rate ≡ true → IsSome w.rate
+rate-some w e = some-given w.rate e
+
+link_windows-checked : (ws : List Window) → are_link_windows ws ≡ true → AreLinkWindows ws
+link_windows-checked ws e =
+    let parts = and_parts (are_windows ws) _ e in
+    let IsGiven : Window → Type 0 = λ w. IsSome w.rate in
+    record {
+      windows = windows-checked ws parts.0;
+      given = all-checked IsGiven (λ w. is_some w.rate) rate-some ws parts.1;
+    }
+
 -- rows that pass the test make a network
 pub net-checked : (net : NetRows) → is_net net ≡ true → IsNet net
 net-checked net e =
@@ -173,6 +300,10 @@ net-checked net e =
     let links = and_parts (are_links net.links) _ nodes.1 in
     let between = and_parts (list_all (is_between (length net.nodes)) net.links) _ links.1 in
     let turns = and_parts (are_turns net.turns) _ between.1 in
+    let turning = and_parts (list_all (is_turning net.links) net.turns) _ turns.1 in
+    let of_links = and_parts (list_all are_link_windows net.link_windows) _ turning.1 in
+    let of_turns = and_parts (list_all are_windows net.turn_windows) _ of_links.1 in
+    let few = and_parts (nat_le (length net.link_windows) (length net.links)) _ of_turns.1 in
     record {
       nodes = nodes-checked net.nodes nodes.0;
       links = links-checked net.links links.0;
@@ -182,5 +313,11 @@ net-checked net e =
       turns = turns-checked net.turns turns.0;
       turning =
           all-checked (IsTurning net.links) (is_turning net.links) (turning-checked net.links)
-          net.turns turns.1;
+          net.turns turning.0;
+      link_windows =
+          all-checked AreLinkWindows are_link_windows link_windows-checked net.link_windows of_links.0;
+      turn_windows =
+          all-checked AreWindows are_windows windows-checked net.turn_windows of_turns.0;
+      of_links = le_holds (length net.link_windows) (length net.links) few.0;
+      of_turns = le_holds (length net.turn_windows) (length net.turns) few.1;
     }

@@ -7,6 +7,8 @@ pub mod IdsFacts
 pub mod Numbers
 pub mod Orders
 pub mod PairsFacts
+pub mod RatesFacts
+pub mod RatesSound
 pub mod RowsFacts
 pub mod TurnsFacts
 pub mod ZonesFacts

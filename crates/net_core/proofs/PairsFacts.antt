@@ -1,7 +1,7 @@
 -- Listed turns by the places of their pairs of links.
-use Rattle.std.proofs.Common.{◌≡◌, ℕ, ◌<◌, ◌∙◌, List, [], ◌∷◌, length, refl, sym, arith, rules, take, get_or, true, false, nat_eq}
+use Rattle.std.proofs.Common.{◌≡◌, ℕ, ◌<◌, ◌∙◌, List, [], ◌∷◌, length, refl, sym, arith, rules, take, get_or, true, false, nat_eq, position}
 use Rattle.std.specs.Prelude.{None, Some, find}
-use Rattle.std.specs.List.{IsDistinct, list_any}
+use Rattle.std.specs.List.{IsDistinct, list_any, position_or_len}
 use Rattle.std.proofs.lemmas.List.{get_or-map, length-map}
 use Rattle.std.proofs.lemmas.List.Quantifiers.{position-Some}
 use Rattle.net_core.specs.ByNode.{is_from_to}
@@ -72,3 +72,15 @@ pair-new turns k d b apart =
     (is_some-position (pair_eq (row.a.0, row.b.0)) (turn_pairs (take k turns))
     ∙ any-pairs row.a.0 row.b.0 (take k turns)
     ∙ sym (rw none at found))
+
+position_or_len-pairs : (a b : ℕ) (turns : List TurnRow)
+    → position_or_len (pair_eq (a, b)) (turn_pairs turns) ≡ position_or_len (is_from_to a b) turns
+position_or_len-pairs a b [] = refl
+position_or_len-pairs a b (turn ∷ turns) =
+    rw (of-pair a b turn, position_or_len-pairs a b turns) refl
+
+-- the place of a pair is that of the first turn of the pair
+pub place_of_pair-turn : (a b : ℕ) (turns : List TurnRow)
+    → place_of_pair (turn_pairs turns) a b ≡ position (is_from_to a b) turns
+place_of_pair-turn a b turns =
+    rw (position_or_len-pairs a b turns, length-map turns pair_of) refl

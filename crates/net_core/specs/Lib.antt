@@ -1,5 +1,6 @@
 pub mod Ids
 pub mod Rows
+pub mod Rates
 pub mod Network
 pub mod Grouped
 pub mod ByNode

@@ -9,7 +9,13 @@ use Rattle.net_core.specs.declared.net.Net.TheInside.{Inside}
 use Rattle.net_core.specs.declared.rows.NetRows.{NetRows}
 
 abbrev pub rows_of : Inside → NetRows
-rows_of net = record { nodes = net.nodes.items; links = net.links.items; turns = net.turns.items }
+rows_of net = record {
+  nodes = net.nodes.items;
+  links = net.links.items;
+  turns = net.turns.items;
+  link_windows = net.link_windows.items;
+  turn_windows = net.turn_windows.items;
+}
 
 pub record IsIndexed (net : Inside) : Type 0 where
   pub rows : IsNet (rows_of net)

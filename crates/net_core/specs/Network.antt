@@ -1,10 +1,13 @@
 -- A network as lists in table order. Nodes, links and zones are positions from 0.
 use Rattle.std.specs.Prelude.{ℕ, ◌&&◌, Bool, nat_eq, cond, if◌then◌else◌, List, [], ◌∷◌, ◌++◌}
 use Rattle.std.specs.Prelude.{length, Option, None, Some, is_some, slice_get, option_and_then}
-use Rattle.std.specs.Prelude.{option_map, find, filter, fold, map, All}
+use Rattle.std.specs.Prelude.{option_map, find, filter, fold, map, All, ◌≤◌, get_or, position}
 use Rattle.std.specs.List.{list_any, range_with_len}
 use Rattle.net_core.specs.Ids.{place_of}
 use Rattle.net_core.specs.Rows.{AreNodes, AreLinks, AreTurns, IsBetween, IsTurning, link_in}
+use Rattle.net_core.specs.Rates.{AreLinkWindows, AreWindows}
+use Rattle.net_core.specs.declared.rates.Rates.{Rates}
+use Rattle.net_core.specs.declared.rates.Window.{Window}
 use Rattle.net_core.specs.declared.rows.LinkNo.{LinkNo}
 use Rattle.net_core.specs.declared.rows.LinkRow.{LinkRow}
 use Rattle.net_core.specs.declared.rows.NetRows.{NetRows}
@@ -20,6 +23,11 @@ pub record IsNet (net : NetRows) : Type 0 where
   pub between : All (IsBetween net.nodes) net.links
   pub turns : AreTurns net.turns
   pub turning : All (IsTurning net.links) net.turns
+  -- windows are of links and of listed turns that are there
+  pub link_windows : All AreLinkWindows net.link_windows
+  pub turn_windows : All AreWindows net.turn_windows
+  pub of_links : length net.link_windows ≤ length net.links
+  pub of_turns : length net.turn_windows ≤ length net.turns
 
 -- the numbers below a bound
 abbrev pub numbers_below : ℕ → List ℕ
@@ -92,3 +100,29 @@ turn net a b =
     cond (nat_eq (link_at net b).from.0 (link_at net a).to.0)
     (turn_at net (link_at net a).to.0 a b)
     None
+
+-- the windows of a link, and the rates that it has in the steps
+abbrev pub link_windows : NetRows → ℕ → List Window
+link_windows net l = get_or net.link_windows l []
+
+abbrev pub link_rates : NetRows → ℕ → Rates
+link_rates net l = record { usual = Some (link_at net l).rate; windows = link_windows net l }
+
+-- the windows of the listed turn at a place, if there is one
+abbrev pub windows_at : NetRows → Option ℕ → List Window
+windows_at net None = []
+windows_at net (Some place) = get_or net.turn_windows place []
+
+-- the windows of the turn from a link to another: those of its row, and none where it isn't listed
+unfoldable pub turn_windows : NetRows → ℕ → ℕ → List Window
+turn_windows net a b =
+    windows_at net (position (λ turn. nat_eq turn.a.0 a && nat_eq turn.b.0 b) net.turns)
+
+-- the limit of a turn by its capacity
+abbrev pub limit_of : Option Turn → Option ℕ
+limit_of None = None
+limit_of (Some way) = way.rate
+
+-- the rates that a turn has in the steps. No rate is no limit
+abbrev pub turn_rates : NetRows → ℕ → ℕ → Rates
+turn_rates net a b = record { usual = limit_of (turn net a b); windows = turn_windows net a b }

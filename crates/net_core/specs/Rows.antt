@@ -60,6 +60,7 @@ no_link = record {
   id = 0;
   from = record { 0 = 0 };
   to = record { 0 = 0 };
+  micrometres = 0;
   free = 1;
   storage = 1;
   rate = 0;

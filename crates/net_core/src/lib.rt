@@ -12,12 +12,14 @@ mod groups;
 mod ids;
 mod laws;
 mod net;
+mod rates;
 mod rows;
 mod zones;
 
 pub use ids::{Ids, Pairs};
 pub use laws::{turns_cost_their_rows, zones_differ};
 pub use net::{Memory, Net};
+pub use rates::{MOST_WINDOW_STEP, MOST_WINDOWS, Rates, Window, Windows, rate_at};
 pub use rows::{
     LinkNo, LinkRow, MOST_LINKS, MOST_NODES, MOST_TURNS, NetRows, NodeNo, NodeRow, Turn, TurnRow,
     ZoneNo,

@@ -1,17 +1,23 @@
 // A road network over the rows of its tables.
 ghost use Rattle.std.specs.Prelude.{◌≡◌, ◌<◌, ◌≤◌, ◌≢◌, ◌↔◌, length, slice_get, None, Some, All};
-ghost use Rattle.std.specs.Prelude.{IfOk, IfSome, find};
+ghost use Rattle.std.specs.Prelude.{IfOk, IfSome, IsSome, find, get_or, []};
 ghost use Rattle.net_core.specs.ByNode.{is_from_to};
 ghost use Rattle.net_core.specs.Network.{IsNet, as_links, as_zone, as_turn, link_at, zone_id};
 ghost use Rattle.net_core.specs.Network.{zones, ins as ins_at, outs as outs_at};
 ghost use Rattle.net_core.specs.Network.{zone_number as zone_numbered, zone_of as zone_at};
 ghost use Rattle.net_core.specs.Network.{turn as turn_between, turn_at as turn_found};
 ghost use Rattle.net_core.specs.Network.{is_named as is_named_at};
+ghost use Rattle.net_core.specs.Network.{link_windows as windows_of_link};
+ghost use Rattle.net_core.specs.Network.{turn_windows as windows_of_turn};
+ghost use Rattle.net_core.specs.Network.{link_rates as rates_of_link, turn_rates as rates_of_turn};
+ghost use Rattle.net_core.specs.Network.{limit_of};
+ghost use Rattle.net_core.specs.Rates.{AreRates, rate_in};
 ghost use Rattle.net_core.specs.Turns.{IsAllowed};
 
 use crate::by_node::{link_lists, named_nodes, pairs_of, row};
 use crate::groups::Groups;
 use crate::ids::{Ids, Pairs};
+use crate::rates::{Rates, Window, Windows, rate_at};
 use crate::rows::{LinkNo, LinkRow, NodeNo, NodeRow, Turn, TurnRow, ZoneNo};
 use crate::zones::zones_of;
 use std::alloc::{AllocError, Global};
@@ -34,6 +40,8 @@ pub struct Net {
     turns: Vec<TurnRow>,
     ins: Groups<LinkNo>,
     outs: Groups<LinkNo>,
+    link_windows: Vec<Windows>,
+    turn_windows: Vec<Windows>,
     named: Vec<bool>,
     pairs: Pairs,
     zones: Ids,
@@ -51,7 +59,8 @@ impl Model for Net {
 }
 
 impl Net {
-    /// The network with these rows. Zones are numbered in the order of their first appearance.
+    /// The network with these rows, each link and each listed turn with the same rate in all steps.
+    /// Zones are numbered in the order of their first appearance.
     pub fn of(
         alloc: Global,
         nodes: Vec<NodeRow>,
@@ -62,9 +71,46 @@ impl Net {
           nodes = nodes.items;
           links = links.items;
           turns = turns.items;
+          link_windows = [];
+          turn_windows = [];
         }) }
         ensures { IfOk result (λ net.
-            net ≡ record { nodes = nodes.items; links = links.items; turns = turns.items }) }
+            net ≡ record {
+              nodes = nodes.items;
+              links = links.items;
+              turns = turns.items;
+              link_windows = [];
+              turn_windows = [];
+            }) }
+    {
+        Net::with_windows(alloc, nodes, links, turns, Vec::new(alloc), Vec::new(alloc))
+    }
+
+    /// The network with these rows, and with the windows of each link and of each listed turn, in
+    /// the order of the rows. A row without an entry has no windows.
+    pub fn with_windows(
+        alloc: Global,
+        nodes: Vec<NodeRow>,
+        links: Vec<LinkRow>,
+        turns: Vec<TurnRow>,
+        link_windows: Vec<Windows>,
+        turn_windows: Vec<Windows>,
+    ) -> Result<Self, Memory>
+        requires { IsNet (record {
+          nodes = nodes.items;
+          links = links.items;
+          turns = turns.items;
+          link_windows = link_windows.items;
+          turn_windows = turn_windows.items;
+        }) }
+        ensures { IfOk result (λ net.
+            net ≡ record {
+              nodes = nodes.items;
+              links = links.items;
+              turns = turns.items;
+              link_windows = link_windows.items;
+              turn_windows = turn_windows.items;
+            }) }
     {
         let lists = link_lists(alloc, &nodes, &links)?;
         let named = named_nodes(alloc, &nodes, &links, &turns)?;
@@ -76,6 +122,8 @@ impl Net {
             turns,
             ins: lists.ins,
             outs: lists.outs,
+            link_windows,
+            turn_windows,
             named,
             pairs,
             zones,
@@ -223,5 +271,94 @@ impl Net {
             }
             None => None,
         }
+    }
+
+    /// The windows of a link.
+    pub fn link_windows(&self, link: LinkNo) -> &[Window]
+        ensures windows { result.now ≡ windows_of_link self.now link.0 }
+    {
+        windows_in(&self.link_windows, link.0 as usize)
+    }
+
+    /// The windows of the turn from a link to another; none where it isn't listed.
+    #[tactic(auto, unfolding(crate::specs::Network::turn_windows))]
+    pub fn turn_windows(&self, a: LinkNo, b: LinkNo) -> &[Window]
+        ensures windows { result.now ≡ windows_of_turn self.now a.0 b.0 }
+        ensures sound { AreRates (rates_of_turn self.now a.0 b.0) }
+    {
+        match self.pairs.place(a.0, b.0) {
+            Some(place) => windows_in(&self.turn_windows, place),
+            None => &[],
+        }
+    }
+
+    /// The rates of a link, copied.
+    pub fn link_rates(&self, alloc: Global, link: LinkNo) -> Result<Rates, Memory>
+        requires { link.0 < length self.now.links }
+        ensures rates { IfOk result (λ rates. rates ≡ rates_of_link self.now link.0) }
+        ensures sound { AreRates (rates_of_link self.now link.0) }
+    {
+        Ok(Rates {
+            usual: Some(row(&self.links, link).rate),
+            windows: Windows::copy_of(alloc, self.link_windows(link))?,
+        })
+    }
+
+    /// The rates of a turn, copied. No rate is no limit.
+    pub fn turn_rates(&self, alloc: Global, a: LinkNo, b: LinkNo) -> Result<Rates, Memory>
+        requires from { a.0 < length self.now.links }
+        requires to { b.0 < length self.now.links }
+        ensures rates { IfOk result (λ rates. rates ≡ rates_of_turn self.now a.0 b.0) }
+        ensures sound { AreRates (rates_of_turn self.now a.0 b.0) }
+    {
+        Ok(Rates {
+            usual: self.usual_rate(a, b),
+            windows: Windows::copy_of(alloc, self.turn_windows(a, b))?,
+        })
+    }
+
+    /// The rate of a link in a step, in millionths of a vehicle per hour.
+    pub fn link_rate_at(&self, link: LinkNo, step: u32) -> u64
+        requires { link.0 < length self.now.links }
+        ensures { rate_in (rates_of_link self.now link.0) step ≡ Some result }
+    {
+        let usual = self.links[link.0 as usize].rate;
+        match rate_at(Some(usual), self.link_windows(link), step) {
+            Some(rate) => rate,
+            None => unreachable!(),
+        }
+    }
+
+    /// The limit of an allowed turn in a step, in millionths of a vehicle per hour; None where it
+    /// has no limit in that step.
+    pub fn turn_rate_at(&self, a: LinkNo, b: LinkNo, step: u32) -> Option<u64>
+        requires from { a.0 < length self.now.links }
+        requires to { b.0 < length self.now.links }
+        requires allowed { IsSome (turn_between self.now a.0 b.0) }
+        ensures { result ≡ rate_in (rates_of_turn self.now a.0 b.0) step }
+    {
+        rate_at(self.usual_rate(a, b), self.turn_windows(a, b), step)
+    }
+
+    // The limit of a turn outside its windows.
+    fn usual_rate(&self, a: LinkNo, b: LinkNo) -> Option<u64>
+        requires from { a.0 < length self.now.links }
+        requires to { b.0 < length self.now.links }
+        ensures { result ≡ limit_of (turn_between self.now a.0 b.0) }
+    {
+        match self.turn(a, b) {
+            Some(turn) => turn.rate,
+            None => None,
+        }
+    }
+}
+
+// The windows at a place, and none where there is no entry.
+fn windows_in(windows: &[Windows], place: usize) -> &[Window]
+    ensures { result.now ≡ get_or windows.now place [] }
+{
+    match windows.get(place) {
+        Some(windows) => windows.as_slice(),
+        None => &[],
     }
 }

@@ -1,4 +1,5 @@
 // Rows of a network's tables, and positions in them.
+use crate::rates::Window;
 use std::collections::LinkedList;
 
 /// The most nodes of a network.
@@ -29,13 +30,14 @@ pub struct NodeRow {
     pub zone: Option<u64>,
 }
 
-/// A link between two nodes: free-flow steps, storage in vehicles, and rate in millionths of a
-/// vehicle per hour.
+/// A link between two nodes: length in micrometres, free-flow steps, storage in vehicles, and rate
+/// in millionths of a vehicle per hour.
 #[derive(Clone, Copy, Debug, PartialEq, Eq, Drop)]
 pub struct LinkRow {
     pub id: u64,
     pub from: NodeNo,
     pub to: NodeNo,
+    pub micrometres: u64,
     pub free: u32,
     pub storage: u32,
     pub rate: u64,
@@ -59,9 +61,13 @@ pub struct Turn {
     pub rate: Option<u64>,
 }
 
-/// A network as clauses see it: its rows, in the order of their tables. No value of it is made.
+/// A network as clauses see it: its rows, in the order of their tables, and the windows of links and
+/// of listed turns in the same order. A row that has no entry there has no windows. No value of it
+/// is made.
 pub struct NetRows {
     pub nodes: LinkedList<NodeRow>,
     pub links: LinkedList<LinkRow>,
     pub turns: LinkedList<TurnRow>,
+    pub link_windows: LinkedList<LinkedList<Window>>,
+    pub turn_windows: LinkedList<LinkedList<Window>>,
 }

@@ -1,7 +1,10 @@
 // Small networks, through all calls.
-ghost use Rattle.std.specs.Prelude.{◌≡◌, IfOk, length};
+ghost use Rattle.std.specs.Prelude.{◌≡◌, IfOk, IsSome, length};
+ghost use Rattle.net_core.specs.Network.{turn};
 
-use crate::{Ids, LinkNo, LinkRow, Net, NodeNo, NodeRow, Pairs, Turn, TurnRow, ZoneNo};
+use crate::{
+    Ids, LinkNo, LinkRow, Net, NodeNo, NodeRow, Pairs, Turn, TurnRow, Window, Windows, ZoneNo,
+};
 use std::alloc::{AllocError, Global};
 use std::test::Fail;
 
@@ -24,6 +27,7 @@ fn link(id: u64, from: u32, to: u32) -> LinkRow
       id = id;
       from = record { 0 = from };
       to = record { 0 = to };
+      micrometres = 1000000000;
       free = 10;
       storage = 125;
       rate = 600000000;
@@ -33,6 +37,7 @@ fn link(id: u64, from: u32, to: u32) -> LinkRow
         id,
         from: NodeNo(from),
         to: NodeNo(to),
+        micrometres: 1_000_000_000,
         free: 10,
         storage: 125,
         rate: 600_000_000,
@@ -126,6 +131,62 @@ fn no_listed_turns(rt: HostRuntime) -> Result<(), Fail> {
     for (a, b, turn) in turns {
         assert_eq!(rt; net.turn(LinkNo(a), LinkNo(b)), turn);
     }
+    Ok(())
+}
+
+fn window(from: u32, rate: Option<u64>) -> Window
+    ensures { result ≡ record { from = from; rate = rate } }
+{
+    Window { from, rate }
+}
+
+// A link that shuts for a while, and a turn that loses its limit; the link after has no windows.
+fn a_link_that_shuts(alloc: Global) -> Result<Net, AllocError>
+    ensures links { IfOk result (λ net. length net.links ≡ 2) }
+    ensures turn { IfOk result (λ net. IsSome (turn net 0 1)) }
+{
+    let nodes = vec![in alloc; node(1, Some(1)), node(2, None), node(3, Some(3))]?;
+    let links = vec![in alloc; link(10, 0, 1), link(20, 1, 2)]?;
+    let turns = vec![in alloc;
+        TurnRow {
+            a: LinkNo(0),
+            b: LinkNo(1),
+            penalty: 2,
+            rate: Some(300),
+        },
+    ]?;
+    let of_link = vec![in alloc;
+        window(0, Some(600)),
+        window(20, Some(0)),
+        window(40, Some(600)),
+    ]?;
+    let of_turn = vec![in alloc; window(0, Some(500)), window(30, None)]?;
+    let link_windows = vec![in alloc; Windows::of(of_link)]?;
+    let turn_windows = vec![in alloc; Windows::of(of_turn)]?;
+    Net::with_windows(alloc, nodes, links, turns, link_windows, turn_windows)
+}
+
+#[test]
+fn rates_in_windows(rt: HostRuntime) -> Result<(), Fail> {
+    let net = a_link_that_shuts(rt.alloc())?;
+    for (step, rate) in [(0, 600), (19, 600), (20, 0), (39, 0), (40, 600)] {
+        assert_eq!(rt; net.link_rate_at(LinkNo(0), step), rate);
+        assert_eq!(rt; net.link_rate_at(LinkNo(1), step), 600_000_000);
+    }
+    for (step, rate) in [(0, Some(500)), (29, Some(500)), (30, None)] {
+        assert_eq!(rt; net.turn_rate_at(LinkNo(0), LinkNo(1), step), rate);
+    }
+    let rates = net.link_rates(rt.alloc(), LinkNo(0))?;
+    assert_eq!(rt; rates.usual, Some(600_000_000));
+    assert_eq!(rt; rates.windows.as_slice(), net.link_windows(LinkNo(0)));
+    let rates = net.turn_rates(rt.alloc(), LinkNo(0), LinkNo(1))?;
+    assert_eq!(rt; rates.usual, Some(300));
+    assert_eq!(rt;
+        rates.windows.as_slice(),
+        net.turn_windows(LinkNo(0), LinkNo(1))
+    );
+    assert_eq!(rt; net.link_windows(LinkNo(1)), [].as_slice());
+    assert_eq!(rt; net.turn_windows(LinkNo(1), LinkNo(0)), [].as_slice());
     Ok(())
 }
 

@@ -57,6 +57,8 @@ in_a_line = record {
   nodes = node 1 (Some 1) ∷ node 2 None ∷ node 3 (Some 3) ∷ [];
   links = link 10 0 1 ∷ link 20 1 2 ∷ [];
   turns = [];
+  link_windows = [];
+  turn_windows = [];
 }
 
 abbrev row : ℕ → ℕ → TimeRow

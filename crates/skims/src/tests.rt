@@ -89,6 +89,7 @@ macro_rules! link {
             id: $from,
             from: NodeNo($from),
             to: NodeNo($to),
+            micrometres: 1_000_000_000,
             free: 10,
             storage: 125,
             rate: 600_000_000,

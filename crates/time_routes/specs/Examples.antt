@@ -24,6 +24,8 @@ loop turns = record {
   nodes = node 1 (Some 1) ∷ node 2 None ∷ node 3 (Some 3) ∷ [];
   links = link 10 0 1 ∷ link 20 1 2 ∷ link 30 1 1 ∷ [];
   turns = turns;
+  link_windows = [];
+  turn_windows = [];
 }
 
 abbrev pub slow_at_first : TimeTable
@@ -41,6 +43,8 @@ parallel turns = record {
   nodes = node 1 (Some 1) ∷ node 2 None ∷ node 3 (Some 3) ∷ [];
   links = link 10 0 1 ∷ link 21 1 2 ∷ link 20 1 2 ∷ [];
   turns = turns;
+  link_windows = [];
+  turn_windows = [];
 }
 
 abbrev pub one_turn : List TurnRow

@@ -14,14 +14,17 @@ use Rattle.net_core.specs.Network.{turn}
 use Rattle.net_core.specs.declared.rows.LinkNo.{LinkNo}
 use Rattle.net_core.specs.declared.rows.NetRows.{NetRows}
 use Rattle.dta_model.specs.Plans.{link_numbers}
-use Rattle.dta_model.specs.Sound.{IsSound}
+use Rattle.dta_model.specs.Sound.{IsQueue, IsSound}
 use Rattle.dta_model.specs.Walks.{IsWalk, begins_in, ends_in}
 use Rattle.dta_model.specs.declared.loading.TheConstants.{MOST_HORIZON}
 use Rattle.dta_model.specs.declared.plan.Plan.{Plan}
+use Rattle.dta_model.specs.declared.queue.Queue.{Queue}
+use Rattle.dta_model.specs.declared.queue.Queue.TheVariants as queue
+use Rattle.dta_model.specs.declared.queue.TheConstants.{MOST_WAVE}
 use Rattle.dta_model.specs.declared.trip.Trip.{Trip}
 use Rattle.dta_model.specs.declared.trip.TheConstants.{MOST_TRIPS}
 use Rattle.dta_model.proofs.Rising.{rising-cons}
-use Rattle.worked_cases.specs.Checked.{apart, are_numbered, are_walks, begins_there, ends_once, is_sound, is_walk, rises, turns_on}
+use Rattle.worked_cases.specs.Checked.{apart, are_numbered, are_walks, begins_there, ends_once, is_queue, is_sound, is_walk, rises, turns_on}
 
 turns-checked : (net : NetRows) (walk : List ℕ) → turns_on net walk ≡ true → (i a b : ℕ) → slice_get walk i ≡ Some a → slice_get walk (suc i) ≡ Some b → IsSome (turn net a b)
 turns-checked net [] h i a b e f = cc
@@ -124,6 +127,13 @@ numbered-checked first (x ∷ trips) h =
     same-number : (a b : ℕ) → nat_eq a b ≡ true → a ≡ b
     same-number a b e = grind (arith, nat_tests)
 
+queue-checked : (q : Queue) → is_queue q ≡ true → IsQueue q
+queue-checked queue.Point h = tt
+queue-checked queue.Spatial h = tt
+queue-checked (queue.Newell wave) h =
+    let parts = and_parts (nat_le 1 wave) (nat_le wave MOST_WAVE) h in
+    (le_holds 1 wave parts.0, le_holds wave MOST_WAVE parts.1)
+
 -- a plan that passes the test is sound
 pub sound-checked : (p : Plan) → is_sound p ≡ true → IsSound p
 sound-checked p h =
@@ -132,9 +142,10 @@ sound-checked p h =
     let delta = and_parts (nat_le 1 p.delta) _ a.0 in
     let b = and_parts (nat_le 1 p.horizon && nat_le p.horizon MOST_HORIZON) _ a.1 in
     let horizon = and_parts (nat_le 1 p.horizon) _ b.0 in
+    let q = and_parts (is_queue p.queue) _ b.1 in
     let c = and_parts
     (nat_le (length p.trips) MOST_TRIPS && (are_numbered 0 p.trips && list_all apart p.trips))
-    _ b.1 in
+    _ q.1 in
     let trips = and_parts (nat_le (length p.trips) MOST_TRIPS) _ c.0 in
     let each = and_parts (are_numbered 0 p.trips) _ trips.1 in
     let d = and_parts
@@ -146,6 +157,7 @@ sound-checked p h =
       delta_most = le_holds p.delta MOST_STEP delta.1;
       horizon_least = le_holds 1 p.horizon horizon.0;
       horizon_most = le_holds p.horizon MOST_HORIZON horizon.1;
+      queue = queue-checked p.queue q.0;
       trips = record {
         few = le_holds (length p.trips) MOST_TRIPS trips.0;
         numbered = numbered-checked 0 p.trips each.0;

@@ -11,6 +11,9 @@ use Rattle.dta_model.specs.Plans.{link_numbers}
 use Rattle.dta_model.specs.Walks.{begins_in, ends_in}
 use Rattle.dta_model.specs.declared.loading.TheConstants.{MOST_HORIZON}
 use Rattle.dta_model.specs.declared.plan.Plan.{Plan}
+use Rattle.dta_model.specs.declared.queue.Queue.{Queue}
+use Rattle.dta_model.specs.declared.queue.Queue.TheVariants as queue
+use Rattle.dta_model.specs.declared.queue.TheConstants.{MOST_WAVE}
 use Rattle.dta_model.specs.declared.trip.Trip.{Trip}
 use Rattle.dta_model.specs.declared.trip.TheConstants.{MOST_TRIPS}
 
@@ -62,12 +65,19 @@ are_walks net (trip ∷ trips) (None ∷ routes) = are_walks net trips routes
 are_walks net (trip ∷ trips) (Some route ∷ routes) =
     is_walk net trip.origin trip.destination (link_numbers route) && are_walks net trips routes
 
+-- whether a queue's backward wave, if it has one, is in range
+abbrev pub is_queue : Queue → Bool
+is_queue queue.Point = true
+is_queue queue.Spatial = true
+is_queue (queue.Newell wave) = nat_le 1 wave && nat_le wave MOST_WAVE
+
 -- whether the plan of a loading is sound
 abbrev pub is_sound : Plan → Bool
 is_sound p =
     is_net p.net
     && ((nat_le 1 p.delta && nat_le p.delta MOST_STEP)
     && ((nat_le 1 p.horizon && nat_le p.horizon MOST_HORIZON)
+    && (is_queue p.queue
     && ((nat_le (length p.trips) MOST_TRIPS && (are_numbered 0 p.trips && list_all apart p.trips))
     && ((rises p.trips && list_all (λ trip. nat_lt trip.departure p.horizon) p.trips)
-    && are_walks p.net p.trips p.routes))))
+    && are_walks p.net p.trips p.routes)))))

@@ -11,7 +11,13 @@ by_a_node = node 1 (Some 1) ∷ node 2 None ∷ node 3 (Some 3) ∷ []
 
 -- a link after another
 abbrev pub two_links : NetRows
-two_links = record { nodes = by_a_node; links = link 10 0 1 ∷ link 20 1 2 ∷ []; turns = [] }
+two_links = record {
+  nodes = by_a_node;
+  links = link 10 0 1 ∷ link 20 1 2 ∷ [];
+  turns = [];
+  link_windows = [];
+  turn_windows = [];
+}
 
 -- and a loop at the node between them
 abbrev pub a_loop_that_pays : NetRows
@@ -19,6 +25,8 @@ a_loop_that_pays = record {
   nodes = by_a_node;
   links = link 10 0 1 ∷ link 20 1 2 ∷ link 30 1 1 ∷ [];
   turns = [];
+  link_windows = [];
+  turn_windows = [];
 }
 
 -- a further link over the second half, listed before the other
@@ -27,6 +35,8 @@ a_second_way = record {
   nodes = by_a_node;
   links = link 10 0 1 ∷ link 21 1 2 ∷ link 20 1 2 ∷ [];
   turns = [];
+  link_windows = [];
+  turn_windows = [];
 }
 
 -- the turn onto the link that is listed last is the only one

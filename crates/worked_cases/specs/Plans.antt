@@ -20,6 +20,8 @@ a_full_ring = record {
     links = link 0 0 1 1 1 3600000000 ∷ link 1 1 2 1 1 3600000000
         ∷ link 2 2 0 1 1 3600000000 ∷ [];
     turns = [];
+    link_windows = [];
+    turn_windows = [];
   };
   queue = queue.Spatial;
   delta = 6;
@@ -41,6 +43,8 @@ a_narrow_link = record {
     links = link 20 0 1 10 125 3600000000 ∷ link 30 1 2 10 125 600000000
         ∷ link 40 0 2 21 125 3600000000 ∷ [];
     turns = [];
+    link_windows = [];
+    turn_windows = [];
   };
   queue = queue.Point;
   delta = 6;
@@ -69,7 +73,13 @@ an_unknown_zone = record two_links_in_a_line {
 -- two nodes without links, for one step
 abbrev pub two_nodes : Plan
 two_nodes = record {
-  net = record { nodes = node 1 ∷ node 2 ∷ []; links = []; turns = [] };
+  net = record {
+    nodes = node 1 ∷ node 2 ∷ [];
+    links = [];
+    turns = [];
+    link_windows = [];
+    turn_windows = [];
+  };
   queue = queue.Point;
   delta = 6;
   horizon = 1;
@@ -79,7 +89,7 @@ two_nodes = record {
 
 -- no node
 abbrev pub no_nodes : Plan
-no_nodes = record two_nodes { net = record { nodes = []; links = []; turns = [] } }
+no_nodes = record two_nodes { net = record two_nodes.net { nodes = [] } }
 
 -- four vehicles over two links in a line, of which the last, in the other direction, has no route
 abbrev pub four_vehicles : Plan

@@ -6,10 +6,10 @@ ghost use Rattle.std.specs.Prelude.{◌≡◌, IfOk};
 ghost use Rattle.worked_cases.specs.Plans as plan;
 
 use crate::case::Case;
-use crate::rows::{link, node, trip, turn};
-use crate::written::{Way, Written};
+use crate::rows::{link, node, trip, turn, window};
+use crate::written::{RowWindows, Way, Written};
 use dta_model::{Queue, Trip};
-use net_core::{LinkNo, LinkRow, Memory, NodeNo, NodeRow, TurnRow};
+use net_core::{LinkNo, LinkRow, Memory, NodeNo, NodeRow, TurnRow, Window};
 use std::alloc::Global;
 
 /// Two links of ten steps one after another, which take a vehicle in a step, and three vehicles ten
@@ -67,6 +67,52 @@ pub fn a_turn_penalty(alloc: Global) -> Result<Case, Memory>
     )
 }
 
+/// Two links in a line, of which the second lets nobody in from step 20 to step 39.
+pub fn windows_turn_red(alloc: Global) -> Result<Case, Memory>
+    ensures { IfOk result (λ case. case ≡ model.windows_turn_red) }
+{
+    let red = [
+        window!(0, Some(600_000_000)),
+        window!(20, Some(0)),
+        window!(40, Some(600_000_000)),
+    ];
+    Case::with_windows(
+        alloc,
+        &Written {
+            nodes: &[node!(1), node!(2), node!(3)],
+            links: &[link!(0, 0 => 1), link!(1, 1 => 2)],
+            turns: &[],
+            queue: Queue::Point,
+            horizon: 60,
+            trips: &[trip!(0, 5), trip!(1, 15), trip!(2, 25)],
+            ways: &[Way::OverTwo(0, 1), Way::OverTwo(0, 1), Way::OverTwo(0, 1)],
+        },
+        &[RowWindows { windows: &[] }, RowWindows { windows: &red }],
+        &[],
+    )
+}
+
+/// Two links in a line, where the turn between them is closed until step 30, and then has no limit.
+pub fn windows_turn_green(alloc: Global) -> Result<Case, Memory>
+    ensures { IfOk result (λ case. case ≡ model.windows_turn_green) }
+{
+    let green = [window!(0, Some(0)), window!(30, None)];
+    Case::with_windows(
+        alloc,
+        &Written {
+            nodes: &[node!(1), node!(2), node!(3)],
+            links: &[link!(0, 0 => 1), link!(1, 1 => 2)],
+            turns: &[turn!(0 => 1, 0)],
+            queue: Queue::Point,
+            horizon: 60,
+            trips: &[trip!(0, 5), trip!(1, 15), trip!(2, 25)],
+            ways: &[Way::OverTwo(0, 1), Way::OverTwo(0, 1), Way::OverTwo(0, 1)],
+        },
+        &[],
+        &[RowWindows { windows: &green }],
+    )
+}
+
 /// Twelve vehicles go onto a short link that stores ten.
 pub fn room_at_the_start_of_the_step(alloc: Global) -> Result<Case, Memory>
     ensures { IfOk result (λ case. case ≡ model.room_at_the_start_of_the_step) }
@@ -81,6 +127,40 @@ pub fn room_at_the_start_of_the_step(alloc: Global) -> Result<Case, Memory>
             ],
             turns: &[],
             queue: Queue::Spatial,
+            horizon: 60,
+            trips: &[
+                trip!(0, 0),
+                trip!(1, 0),
+                trip!(2, 0),
+                trip!(3, 0),
+                trip!(4, 0),
+                trip!(5, 0),
+                trip!(6, 0),
+                trip!(7, 0),
+                trip!(8, 0),
+                trip!(9, 0),
+                trip!(10, 0),
+                trip!(11, 0),
+            ],
+            ways: &[Way::OverTwo(0, 1); 12],
+        },
+    )
+}
+
+/// The same, where a backward wave takes three steps over the short link.
+pub fn a_wave_frees_room(alloc: Global) -> Result<Case, Memory>
+    ensures { IfOk result (λ case. case ≡ model.a_wave_frees_room 20) }
+{
+    Case::of(
+        alloc,
+        &Written {
+            nodes: &[node!(1), node!(2), node!(3)],
+            links: &[
+                link!(0, 0 => 1, 10, 125, 3_600_000_000),
+                link!(1, 1 => 2, 1, 10, 3_600_000_000, 80_000_000),
+            ],
+            turns: &[],
+            queue: Queue::Newell { wave: 20 },
             horizon: 60,
             trips: &[
                 trip!(0, 0),

@@ -11,18 +11,32 @@ macro_rules! node {
     };
 }
 
-// Identifier, the nodes at both ends, free-flow steps, storage, and rate.
+// Identifier, the nodes at both ends, free-flow steps, storage, rate, and length in micrometres.
 macro_rules! link {
     ($id:expr, $from:expr => $to:expr) => {
         link!($id, $from => $to, 10, 125, 600_000_000)
     };
     ($id:expr, $from:expr => $to:expr, $free:expr, $storage:expr, $rate:expr) => {
+        link!($id, $from => $to, $free, $storage, $rate, 1_000_000_000)
+    };
+    ($id:expr, $from:expr => $to:expr, $free:expr, $storage:expr, $rate:expr, $length:expr) => {
         LinkRow {
             id: $id,
             from: NodeNo($from),
             to: NodeNo($to),
+            micrometres: $length,
             free: $free,
             storage: $storage,
+            rate: $rate,
+        }
+    };
+}
+
+// A rate from a step on.
+macro_rules! window {
+    ($from:expr, $rate:expr) => {
+        Window {
+            from: $from,
             rate: $rate,
         }
     };
@@ -59,3 +73,4 @@ pub(crate) use link;
 pub(crate) use node;
 pub(crate) use trip;
 pub(crate) use turn;
+pub(crate) use window;

@@ -1,5 +1,5 @@
 use Rattle.net_core.proofs.ZonesFacts.{length-zones-le}
-use Rattle.net_core.proofs.net.Net.of.Goals as goal
+use Rattle.net_core.proofs.net.Net.with_windows.Goals as goal
 
 pub invariant_of-result : goal.invariant_of-result
 invariant_of-result c = record {

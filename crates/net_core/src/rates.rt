@@ -1,0 +1,87 @@
+// Rates that change with the steps.
+ghost use Rattle.std.specs.Prelude.{◌≡◌, IfOk};
+ghost use Rattle.net_core.specs.Rates.{rate_in};
+
+use std::alloc::{AllocError, Global};
+use std::marker::Model;
+
+/// The most windows of a link or a turn.
+pub const MOST_WINDOWS: usize = 64;
+
+/// The last step at which a window may begin.
+pub const MOST_WINDOW_STEP: u32 = 86_400;
+
+/// A rate in millionths of a vehicle per hour, which holds from a step on until the next window
+/// begins. None is no limit.
+#[derive(Clone, Copy, Debug, PartialEq, Eq, Drop)]
+pub struct Window {
+    pub from: u32,
+    pub rate: Option<u64>,
+}
+
+/// The windows of a link or a turn, in the order of their steps.
+#[derive(Drop)]
+pub struct Windows {
+    items: Vec<Window>,
+}
+
+impl Model for Windows {
+    ghost use Rattle.net_core.specs.declared.rates.Window.{Window};
+    ghost use Rattle.std.specs.Prelude.{List};
+
+    ghost Value = { List Window };
+
+    ghost view = { λ w. w.items.items };
+}
+
+impl Windows {
+    /// These windows.
+    pub fn of(items: Vec<Window>) -> Self
+        ensures { result ≡ items.items }
+    {
+        Windows { items }
+    }
+
+    /// A copy of windows.
+    pub fn copy_of(alloc: Global, windows: &[Window]) -> Result<Self, AllocError>
+        ensures { IfOk result (λ copy. copy ≡ windows.now) }
+    {
+        Ok(Windows::of(Vec::from_slice(alloc, windows)?))
+    }
+
+    /// The windows, lent.
+    pub fn as_slice(&self) -> &[Window]
+        ensures { result.now ≡ self.now }
+    {
+        self.items.as_slice()
+    }
+
+    /// The windows, given away.
+    pub fn into_vec(self) -> Vec<Window>
+        ensures { result.items ≡ self }
+    {
+        self.items
+    }
+}
+
+/// What a link or a turn lets through in each step, in millionths of a vehicle per hour: the usual
+/// rate, and the windows that hold in its place from their steps on. No rate is no limit.
+#[derive(Drop)]
+pub struct Rates {
+    pub usual: Option<u64>,
+    pub windows: Windows,
+}
+
+/// The rate in a step: that of the last window that has begun, and the usual one before the first.
+pub fn rate_at(usual: Option<u64>, windows: &[Window], step: u32) -> Option<u64>
+    ensures { result ≡ rate_in (record { usual = usual; windows = windows.now }) step }
+{
+    let mut rate = usual;
+    for window in windows {
+        if window.from > step {
+            return rate;
+        }
+        rate = window.rate;
+    }
+    rate
+}
