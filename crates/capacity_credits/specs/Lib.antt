@@ -1,3 +1,5 @@
 pub mod Grants
 pub mod Meter
+pub mod Ranges
+pub mod Course
 pub mod Examples

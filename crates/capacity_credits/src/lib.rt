@@ -2,12 +2,15 @@
 //!
 //! A rate gives a link or a turn its vehicles in parts. [`Credit::grant`] answers the whole
 //! vehicles of a step and carries the parts that are left over to the next one. Its promise is the
-//! closed form of the allowance: grant k + 1 with one rate is what the rate allows in step k.
-//! Whole vehicles that a step doesn't use aren't kept for later ones. [`Credit::skip`] lets many
-//! such steps go by at once. A [`Meter`] is a rate with its credit, and what is left of the step's
-//! allowance. No call takes memory.
+//! closed form of the allowance: grant k + 1, asked with the rate of step k, is what the rates
+//! allow in step k. Whole vehicles that a step doesn't use aren't kept for later ones.
+//! [`Credit::skip`] lets many such steps go by at once. A [`Meter`] is the rates of the steps to
+//! come with their credit, and what is left of the step's allowance. [`Meter::new`] alone takes
+//! memory, where rates change in windows.
 #![tactic(auto)]
 
+mod ahead;
+mod course;
 mod credit;
 mod meter;
 

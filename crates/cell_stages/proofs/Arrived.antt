@@ -21,7 +21,8 @@ use Rattle.dta_model.proofs.Places.{node_by, node_first, node_of, node_to}
 use Rattle.dta_model.proofs.Pushes.{moves_of-append}
 use Rattle.dta_model.proofs.Queues.{absent, distinct, vehicles}
 use Rattle.dta_model.proofs.Riders.{last_move_is, last_push}
-use Rattle.cell_stages.proofs.Spread.{filter-flat, flat_nothing, flat_one, flat_same, only_later}
+use Rattle.dta_model.proofs.Flat.{filter-flat, flat_one}
+use Rattle.cell_stages.proofs.Spread.{flat_nothing, flat_same, only_later}
 use Rattle.dta_model.proofs.Standing.{no-last}
 use Rattle.dta_model.proofs.Steady.{IsSteady}
 use Rattle.dta_model.proofs.Totals.{InTable, place_in, trace-in}

@@ -171,7 +171,7 @@ pub rider-like : (p : Plan) (T U : List Move) (v : ℕ) → moves_of v T ≡ mov
 unfolding rider_at entries_of arrival_of
 rider-like p T U v e = ap (λ L. record { number = v; departure = departure_of p v; route = route_of p v; entries = map (λ m. m.step) (filter is_entry L); arrival = step_in (find (λ m. not (is_entry m)) L) }) e
 
-alone : (p : Plan) → IsSteady p → (t : ℕ) (T : List Move) (n l : ℕ) → queue_of l (node_moves p n t T) ≡ brought l (node_moves p n t T)
+pub alone : (p : Plan) → IsSteady p → (t : ℕ) (T : List Move) (n l : ℕ) → queue_of l (node_moves p n t T) ≡ brought l (node_moves p n t T)
 unfolding queue_of brought
 alone p sound t T n l = ap (λ L. vehicles (filter (leads_to l) L)) (lasts-distinct (node_moves p n t T) (one-step p sound n t T).each)
 

@@ -20,7 +20,8 @@ use Rattle.dta_model.specs.State.{is_due, is_routed, some_route, leads_out}
 use Rattle.dta_model.specs.Trace.{Arrived, Move, Onto, Target, has_moved, last_move}
 use Rattle.cell_stages.proofs.Arrived.{arrived_of, arrived_total}
 use Rattle.dta_model.proofs.Fuel.{last_in, trace-lawful}
-use Rattle.cell_stages.proofs.Spread.{filter-flat, flat-filter, flat_one, flat_same, only_first, only_second, only_third, spread}
+use Rattle.dta_model.proofs.Flat.{filter-flat, flat_one}
+use Rattle.cell_stages.proofs.Spread.{flat-filter, flat_same, only_first, only_second, only_third, spread}
 use Rattle.dta_model.proofs.Standing.{no-last}
 use Rattle.dta_model.proofs.Steady.{some_trip, steady_of}
 use Rattle.cell_stages.proofs.Whereabouts.{line_one, link_by, link_of, waiting_one, waits_at}

@@ -7,6 +7,7 @@ pub mod ByNumber
 pub mod HandOver
 pub mod OnePass
 pub mod Lines
+pub mod LeftLately
 pub mod NextLines
 pub mod Passing
 pub mod LeadsOn

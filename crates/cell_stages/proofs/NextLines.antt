@@ -11,11 +11,13 @@ use Rattle.dta_model.specs.declared.plan.Plan.{Plan}
 use Rattle.dta_model.specs.Loading.{after_step, step_moves, trace_after}
 use Rattle.dta_model.specs.NodeMoves.{is_first, node_moves}
 use Rattle.dta_model.specs.Plans.{all_nodes, first_link, ins, link_at, outs, vehicles_of}
-use Rattle.dta_model.specs.Riders.{RiderState, rider_at, riders}
+use Rattle.dta_model.specs.Riders.{rider_at, riders}
 use Rattle.cell_stages.specs.Stages.{batch_mail, line_after, line_before, staying, waiting_after, waiting_before, waiting_for}
 use Rattle.dta_model.specs.Trace.{Move, has_moved, moves_of}
 use Rattle.dta_model.specs.Sound.{IsSound}
+use Rattle.cell_stages.specs.Contents.{left_after, left_before}
 use Rattle.cell_stages.specs.Transfers.{WaitingLinesStay}
+use Rattle.cell_stages.proofs.LeftLately.{leavings_stay}
 use Rattle.dta_model.proofs.Pushes.{has_moved-append, has_moved_is, moves_of-append}
 use Rattle.dta_model.proofs.Standing.{no-last}
 use Rattle.dta_model.proofs.Steady.{steady_of}
@@ -24,7 +26,7 @@ use Rattle.dta_model.proofs.Places.{node_of, first_at}
 use Rattle.cell_stages.proofs.Gathering.{own-at, rider-like, lines_gather, map_like, kept_at}
 use Rattle.dta_model.proofs.NoMoves.{no-moves}
 
-map_all : (P : ℕ → Type 0) (f g : ℕ → List RiderState) (xs : List ℕ) → All P xs → ((x : ℕ) → P x → f x ≡ g x) → map f xs ≡ map g xs
+map_all : {X : Type 0} (P : ℕ → Type 0) (f g : ℕ → X) (xs : List ℕ) → All P xs → ((x : ℕ) → P x → f x ≡ g x) → map f xs ≡ map g xs
 map_all P f g [] all h = refl
 map_all P f g (x ∷ xs) all h = rw (h x (All-head P x xs all), map_all P f g xs (All-tail P x xs all) h) refl
 
@@ -99,7 +101,8 @@ waiting-line p t n b there out = waiting-gathered p t n b (trace_after p t) ther
 pub waiting_lines_stay : WaitingLinesStay
 waiting_lines_stay p sound t b there = waiting-line p t (link_at p b).from.0 b ((steady_of p sound).ends b there).0 refl
 
--- the lines of a node's in-links and out-links in the next step
+-- what a node's in-links know of those who left them, and the lines of its in-links and out-links in
+-- the next step
 module _ (p : Plan) (sound : IsSound p) (t n : ℕ) (there : n < length p.net.nodes) where
   pub next-lines : map (line_before p (suc t)) (ins p n) ≡ map (λ l. line_after p n t l ++ batch_mail p l t) (ins p n)
   next-lines =
@@ -109,3 +112,8 @@ module _ (p : Plan) (sound : IsSound p) (t n : ℕ) (there : n < length p.net.no
   pub next-waiting : map (waiting_before p (suc t)) (outs p n) ≡ map (waiting_after p n t) (outs p n)
   next-waiting =
       map_all (λ b. (link_at p b).from.0 ≡ n) (waiting_before p (suc t)) (waiting_after p n t) (outs p n) (out_links p n) (λ b h. waiting-line p t n b there h)
+
+  pub next-left : map (left_before p (suc t)) (ins p n) ≡ map (left_after p n t) (ins p n)
+  next-left =
+      map_all (λ l. (l < length p.net.links) × ((link_at p l).to.0 ≡ n)) (left_before p (suc t)) (left_after p n t) (ins p n) (in_links p n)
+      (λ l h. subst (λ k. left_before p (suc t) l ≡ left_after p k t l) h.1 (leavings_stay p sound t l h.0))

@@ -1,13 +1,12 @@
 -- Lists spread over the links and nodes of a network.
-use Rattle.std.specs.List.{flat_map, range_with_len}
+use Rattle.std.specs.List.{flat_map}
 use Rattle.std.specs.Prelude.{filter, is_some, nat_eq}
-use Rattle.std.proofs.Common.{◌≡◌, ◌≢◌, ℕ, zero, suc, ◌+◌, ◌<◌, ◌≤◌, Bool, true, false, cond, List, [], ◌∷◌, ◌++◌, refl, ap, sym, ◌∙◌, arith, append-nil, Option, Some, None, ◌⊎◌, inl, inr}
+use Rattle.std.proofs.Common.{◌≡◌, ℕ, ◌<◌, Bool, true, false, cond, List, [], ◌∷◌, ◌++◌, refl, ap, sym, ◌∙◌, arith, append-nil, Option, Some, None}
 use Rattle.std.proofs.lemmas.Bool.{eq-eqb, ne_eqb}
-use Rattle.std.proofs.lemmas.Bool.Decides.{eqb_tells}
-use Rattle.std.proofs.lemmas.List.Elements.{filter-append}
 use Rattle.std.proofs.Math.Dec.{eqb}
 use Rattle.net_core.specs.Network.{numbers_below}
 use Rattle.dta_model.specs.NodeMoves.{is_first}
+use Rattle.dta_model.proofs.Flat.{flat_one}
 
 pub flat_nothing : {A X : Type 0} (g : A → List X) (xs : List A) → ((x : A) → g x ≡ []) → flat_map g xs ≡ []
 flat_nothing g [] h = refl
@@ -17,10 +16,6 @@ pub flat_same : {A X : Type 0} (g h : A → List X) (xs : List A) → ((x : A) �
 flat_same g h [] e = refl
 flat_same g h (x ∷ xs) e = rw (e x, flat_same g h xs e) refl
 
-pub filter-flat : {A X : Type 0} (f : X → Bool) (g : A → List X) (xs : List A) → filter f (flat_map g xs) ≡ flat_map (λ x. filter f (g x)) xs
-filter-flat f g [] = refl
-filter-flat f g (x ∷ xs) = filter-append f (g x) (flat_map g xs) ∙ ap (λ L. filter f (g x) ++ L) (filter-flat f g xs)
-
 pub flat-filter : {X : Type 0} (test : ℕ → Bool) (g : ℕ → List X) (xs : List ℕ) → flat_map g (filter test xs) ≡ flat_map (λ x. cond (test x) (g x) []) xs
 flat-filter test g [] = refl
 flat-filter {X} test g (x ∷ xs) = test_step (test x) (flat-filter test g xs)
@@ -28,25 +23,6 @@ flat-filter {X} test g (x ∷ xs) = test_step (test x) (flat-filter test g xs)
     test_step : (b : Bool) → flat_map g (filter test xs) ≡ flat_map (λ y. cond (test y) (g y) []) xs → flat_map g (cond b (x ∷ filter test xs) (filter test xs)) ≡ cond b (g x) [] ++ flat_map (λ y. cond (test y) (g y) []) xs
     test_step true ih = ap (λ L. g x ++ L) ih
     test_step false ih = ih
-
-apart_from : (a n : ℕ) → a < n → n ≢ a
-apart_from a n l e = absurd (omega (arith, l, e))
-
-flat_past : {X : Type 0} (g : ℕ → List X) (k from n : ℕ) → n < from → ((x : ℕ) → x ≢ n → g x ≡ []) → flat_map g (range_with_len from k) ≡ []
-flat_past g zero from n l h = refl
-flat_past g (suc k) from n l h = rw (h from (apart_from n from l)) (flat_past g k (from + 1) n (omega (arith, l)) h)
-
--- where all but one of the lists are empty
-pub flat_one : {X : Type 0} (g : ℕ → List X) (k from n : ℕ) → from ≤ n → n < from + k → ((x : ℕ) → x ≢ n → g x ≡ []) → flat_map g (range_with_len from k) ≡ g n
-flat_one g zero from n low high h = absurd (omega (arith, low, high))
-flat_one {X} g (suc k) from n low high h = one_step (eqb_tells from n) (flat_past g k (from + 1) n) (flat_one g k (from + 1) n)
-  where
-    one_step : ((eqb from n ≡ true) × (from ≡ n)) ⊎ ((eqb from n ≡ false) × (from ≢ n))
-        → (n < from + 1 → ((x : ℕ) → x ≢ n → g x ≡ []) → flat_map g (range_with_len (from + 1) k) ≡ [])
-        → (from + 1 ≤ n → n < from + 1 + k → ((x : ℕ) → x ≢ n → g x ≡ []) → flat_map g (range_with_len (from + 1) k) ≡ g n)
-        → g from ++ flat_map g (range_with_len (from + 1) k) ≡ g n
-    one_step (inl (s, same)) past ih = rw (past (omega (arith, same)) h) (append-nil (g from) ∙ ap g same)
-    one_step (inr (s, other)) past ih = rw (h from other) (ih (omega (arith, low, other)) (omega (arith, high)) h)
 
 -- where two of three families of lists are empty
 front_empty : {X : Type 0} (xs ys : List X) → xs ++ ys ≡ [] → (xs ≡ []) × (ys ≡ [])

@@ -1,9 +1,15 @@
 -- What the cell of a node and the mail of its links hold at each stage of a loading.
 use Rattle.std.specs.Prelude.{ℕ, suc, ◌<◌, ◌/◌, ◌%◌, Bool, false, ◌&&◌, not, cond, nat_eq, nat_lt}
-use Rattle.std.specs.Prelude.{nat_le, List, [], length, map, filter, Option, None, Some, option_map}
+use Rattle.std.specs.Prelude.{nat_le, ◌+◌, ◌++◌, ◌-◌, ◌||◌, List, [], length, map, filter, Option}
+use Rattle.std.specs.Prelude.{None, Some, count_by}
+use Rattle.std.specs.List.{range_with_len}
 use Rattle.std.specs.Option.{is_none}
 use Rattle.dta_model.specs.Allowance.{carried}
-use Rattle.dta_model.specs.Plans.{link_at, ins, outs, turn}
+use Rattle.dta_model.specs.Loading.{trace_after}
+use Rattle.dta_model.specs.NodeMoves.{node_moves}
+use Rattle.dta_model.specs.Plans.{link_at, ins, link_rates, outs, turn, turn_rates}
+use Rattle.dta_model.specs.Room.{leavings, wave_of}
+use Rattle.dta_model.specs.Trace.{Move}
 use Rattle.dta_model.specs.Riders.{RiderState}
 use Rattle.dta_model.specs.Sound.{IsSound}
 use Rattle.cell_stages.specs.Stages.{line_before, line_after, waiting_before, waiting_after}
@@ -11,9 +17,10 @@ use Rattle.cell_stages.specs.Stages.{arrived_before, room_mail, batch_mail}
 use Rattle.dta_model.specs.declared.plan.Plan.{Plan}
 use Rattle.dta_model.specs.declared.queue.Queue.{Queue}
 use Rattle.dta_model.specs.declared.queue.Queue.TheVariants as queue
+use Rattle.net_core.specs.declared.rates.Rates.{Rates}
 use Rattle.net_core.specs.declared.rows.Turn.{Turn}
 use Rattle.cell_stages.specs.CellState.{CellState}
-use Rattle.capacity_credits.specs.Meter.{MeterState}
+use Rattle.capacity_credits.specs.Meter.{MeterState, later}
 use Rattle.cell_stages.specs.declared.in_link.InLink.{InLink}
 use Rattle.cell_stages.specs.declared.mail.Mail.{Mail}
 use Rattle.cell_stages.specs.declared.mail.Mail.TheVariants.{Away, Room, Batch}
@@ -22,35 +29,51 @@ use Rattle.cell_stages.specs.declared.out_link.Waiting.{Waiting}
 use Rattle.cell_stages.specs.declared.exit.Exit.{Exit}
 use Rattle.cell_stages.specs.declared.turn.LimitedTurn.{LimitedTurn}
 
--- a rate between two steps, after so many grants: it carries what its credit does, and no vehicle
+-- rates between two steps, after so many grants: they carry what their credit does, and no vehicle
 -- is left over
-abbrev pub meter_after : Plan → ℕ → ℕ → MeterState
-meter_after p grants rate = record { rate = rate; carried = carried rate p.delta grants; left = 0 }
+abbrev pub meter_after : Plan → ℕ → Rates → MeterState
+meter_after p grants rates = record {
+  rates = later grants rates;
+  carried = carried rates p.delta grants;
+  left = 0;
+  unlimited = false;
+}
+
+-- whether rates limit a turn in some step: there is a usual rate, or there are windows
+abbrev pub is_limited : Rates → Bool
+is_limited rates = not (is_none rates.usual && nat_eq (length rates.windows) 0)
 
 -- a cell keeps the turns that have a penalty or a limit
-abbrev pub is_kept : Option Turn → Bool
-is_kept None = false
-is_kept (Some way) = not (nat_eq way.penalty 0 && is_none way.rate)
+abbrev pub is_kept : Rates → Option Turn → Bool
+is_kept rates None = false
+is_kept rates (Some way) = not (nat_eq way.penalty 0) || is_limited rates
 
 -- the out-links to which an in-link has such a turn
 abbrev pub kept_turns : Plan → ℕ → ℕ → List ℕ
-kept_turns p n l = filter (λ b. is_kept (turn p l b)) (outs p n)
+kept_turns p n l = filter (λ b. is_kept (turn_rates p l b) (turn p l b)) (outs p n)
 
--- the turn to link b, of which the table tells so much; a limit stands as the meter says
-abbrev pub turn_by : (ℕ → MeterState) → ℕ → Option Turn → LimitedTurn
-turn_by meter b None = record { to = record { 0 = b }; penalty = 0; limit = None }
-turn_by meter b (Some way) =
-    record { to = record { 0 = b }; penalty = way.penalty; limit = option_map meter way.rate }
+-- a limit by rates, which stands as the meter says; none where they limit no step
+abbrev pub limit_by : (Rates → MeterState) → Rates → Option MeterState
+limit_by meter rates = cond (is_limited rates) (Some (meter rates)) None
+
+abbrev pub penalty_of : Option Turn → ℕ
+penalty_of None = 0
+penalty_of (Some way) = way.penalty
+
+-- the turn to link b with these rates, of which the table tells so much
+abbrev pub turn_by : (Rates → MeterState) → ℕ → Rates → Option Turn → LimitedTurn
+turn_by meter b rates way =
+    record { to = record { 0 = b }; penalty = penalty_of way; limit = limit_by meter rates }
 
 -- the turn from an in-link to an out-link, after so many grants
 abbrev pub turn_after : Plan → ℕ → ℕ → ℕ → LimitedTurn
-turn_after p grants l b = turn_by (meter_after p grants) b (turn p l b)
+turn_after p grants l b = turn_by (meter_after p grants) b (turn_rates p l b) (turn p l b)
 
 -- how vehicles leave an in-link, after so many grants
 abbrev pub exit_after : Plan → ℕ → ℕ → ℕ → Exit
 exit_after p n grants l = record {
   free = (link_at p l).free;
-  outflow = meter_after p grants (link_at p l).rate;
+  outflow = meter_after p grants (link_rates p l);
   turns = map (turn_after p grants l) (kept_turns p n l);
 }
 
@@ -58,11 +81,23 @@ exit_after p n grants l = record {
 abbrev pub storage_by : Queue → ℕ → Option ℕ
 storage_by queue.Point storage = None
 storage_by queue.Spatial storage = Some storage
+storage_by (queue.Newell wave) storage = Some storage
+
+-- how many of the vehicles that left link l did so in a step so many before step t
+abbrev pub left_ago : List Move → ℕ → ℕ → ℕ → ℕ
+left_ago T l t ago = count_by (λ m. nat_eq (m.step + ago) t) (leavings l [] T)
+
+-- how many left link l in each of the steps before step t whose spaces the backward wave hasn't
+-- freed in step t yet: those of the last steps, the latest first. T is the trace up to step t
+abbrev pub left_lately : Plan → ℕ → List Move → ℕ → List ℕ
+left_lately p t T l = map (left_ago T l t) (range_with_len 1 (wave_of p l - 1))
 
 -- an in-link with its line and its mail
-abbrev pub in_link : Plan → ℕ → ℕ → (ℕ → List RiderState) → (ℕ → Mail) → ℕ → InLink
-in_link p n grants line mail l = record {
+abbrev pub in_link :
+    Plan → ℕ → ℕ → (ℕ → List RiderState) → (ℕ → List ℕ) → (ℕ → Mail) → ℕ → InLink
+in_link p n grants line left mail l = record {
   line = line l;
+  left = left l;
   exit = exit_after p n grants l;
   storage = storage_by p.queue (link_at p l).storage;
   mail = mail l;
@@ -79,7 +114,7 @@ waiting_parts steps riders = record {
 abbrev pub out_link : Plan → ℕ → (ℕ → List RiderState) → (ℕ → Mail) → ℕ → OutLink
 out_link p grants waiting mail b = record {
   link = record { 0 = b };
-  inflow = meter_after p grants (link_at p b).rate;
+  inflow = meter_after p grants (link_rates p b);
   waiting = waiting_parts grants (waiting b);
   batch = [];
   mail = mail b;
@@ -96,11 +131,19 @@ room_of p t l = Room t (room_mail p l t)
 abbrev pub batch_of : Plan → ℕ → ℕ → Mail
 batch_of p t l = Batch t (batch_mail p l t)
 
+-- what an in-link knows of those who left it before the transfer of step t, and after it
+abbrev pub left_before : Plan → ℕ → ℕ → List ℕ
+left_before p t l = left_lately p t (trace_after p t) l
+
+abbrev pub left_after : Plan → ℕ → ℕ → ℕ → List ℕ
+left_after p n t l =
+    left_lately p (suc t) (trace_after p t ++ node_moves p n t (trace_after p t)) l
+
 -- the cell of node n before the transfer of step t, with such mail in the places of its in-links
 -- and out-links
 unfoldable pub cell_before : Plan → ℕ → ℕ → (ℕ → Mail) → (ℕ → Mail) → CellState
 cell_before p n t in_mail out_mail = record {
-  ins = map (in_link p n t (line_before p t) in_mail) (ins p n);
+  ins = map (in_link p n t (line_before p t) (left_before p t) in_mail) (ins p n);
   outs = map (out_link p t (waiting_before p t) out_mail) (outs p n);
   arrived = arrived_before p n t;
   delta = p.delta;
@@ -109,7 +152,7 @@ cell_before p n t in_mail out_mail = record {
 -- the cell of node n after the transfer of step t
 unfoldable pub cell_after : Plan → ℕ → ℕ → (ℕ → Mail) → (ℕ → Mail) → CellState
 cell_after p n t in_mail out_mail = record {
-  ins = map (in_link p n (suc t) (line_after p n t) in_mail) (ins p n);
+  ins = map (in_link p n (suc t) (line_after p n t) (left_after p n t) in_mail) (ins p n);
   outs = map (out_link p (suc t) (waiting_after p n t) out_mail) (outs p n);
   arrived = arrived_before p n (suc t);
   delta = p.delta;

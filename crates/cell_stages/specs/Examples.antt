@@ -1,11 +1,14 @@
 -- Small worked cases of the definitions.
-use Rattle.std.specs.Prelude.{◌≡◌, ℕ, List, ◌∷◌, [], None, refl}
-use Rattle.dta_model.specs.Examples.{trip, two_links_in_a_line}
+use Rattle.capacity_credits.specs.Meter.{MeterState}
+use Rattle.net_core.specs.Rates.{steady}
+use Rattle.std.specs.Prelude.{◌≡◌, ℕ, List, ◌∷◌, [], None, Some, false, map, refl}
+use Rattle.dta_model.specs.Examples.{a_wave_frees_room, room_at_the_start_of_the_step, trip}
+use Rattle.dta_model.specs.Examples.{two_links_in_a_line}
 use Rattle.dta_model.specs.Riders.{RiderState}
 use Rattle.dta_model.specs.declared.plan.Plan.{Plan}
 use Rattle.cell_stages.specs.CellState.{CellState}
 use Rattle.cell_stages.specs.Contents.{away, batch_of, cell_after, cell_at, cell_before, mail_at}
-use Rattle.cell_stages.specs.Contents.{room_of, waiting_parts}
+use Rattle.cell_stages.specs.Contents.{left_after, left_before, room_of, waiting_parts}
 use Rattle.cell_stages.specs.OnLiterals.{stages_on_literals}
 use Rattle.cell_stages.specs.Stages.{line_before, line_after, room_mail, batch_mail}
 use Rattle.cell_stages.specs.declared.mail.Mail.TheVariants.{Away}
@@ -63,15 +66,25 @@ batch_of_step_two : (p : Plan) (l : ℕ) → mail_at p l 5 ≡ batch_of p 2 l
 unfolding mail_at
 batch_of_step_two p l = refl
 
+-- 600 vehicles an hour in steps of six seconds are one a step
+abbrev middle_meter : MeterState
+middle_meter = record {
+  rates = steady (Some 600000000);
+  carried = 0;
+  left = 0;
+  unlimited = false;
+}
+
 -- the middle node of two links in a line in step 15, when the first vehicle goes from one link to
 -- the other
 abbrev middle_cell : List RiderState → CellState
 middle_cell line = record {
   ins = record {
     line = line;
+    left = [];
     exit = record {
       free = 10;
-      outflow = record { rate = 600000000; carried = 0; left = 0 };
+      outflow = middle_meter;
       turns = [];
     };
     storage = None;
@@ -79,7 +92,7 @@ middle_cell line = record {
   } ∷ [];
   outs = record {
     link = record { 0 = 1 };
-    inflow = record { rate = 600000000; carried = 0; left = 0 };
+    inflow = middle_meter;
     waiting = record { later = []; due = [] };
     batch = [];
     mail = Away;
@@ -96,3 +109,17 @@ before_the_transfer = refl
 after_the_transfer : cell_after two_links_in_a_line 1 15 away away ≡ middle_cell []
 unfolding cell_after stages_on_literals trip two_links_in_a_line
 after_the_transfer = refl
+
+-- the second link of two in a line, over which a backward wave takes three steps, where six
+-- vehicles leave it in step 11 and four in step 12: how many left in the two steps before
+left_lately_before_a_step :
+    map (λ t. left_before (a_wave_frees_room 20) t 1) (11 ∷ 12 ∷ 13 ∷ 14 ∷ [])
+    ≡ (0 ∷ 0 ∷ []) ∷ (6 ∷ 0 ∷ []) ∷ (4 ∷ 6 ∷ []) ∷ (0 ∷ 4 ∷ []) ∷ []
+unfolding stages_on_literals trip room_at_the_start_of_the_step a_wave_frees_room
+left_lately_before_a_step = refl
+
+left_lately_after_a_transfer :
+    map (λ t. left_after (a_wave_frees_room 20) 2 t 1) (11 ∷ 12 ∷ [])
+    ≡ (6 ∷ 0 ∷ []) ∷ (4 ∷ 6 ∷ []) ∷ []
+unfolding stages_on_literals trip room_at_the_start_of_the_step a_wave_frees_room
+left_lately_after_a_transfer = refl

@@ -1,5 +1,6 @@
 // Laws of what cells hold. Each is the contract of a function that does nothing.
 ghost use Rattle.cell_stages.specs.HandOver.{NodesHoldAll};
+ghost use Rattle.cell_stages.specs.Laws.{LeavingsPass, LeavingsStay, RoomsAddUp};
 ghost use Rattle.cell_stages.specs.Laws.{StepsHaveTwoStages};
 ghost use Rattle.cell_stages.specs.OnePass.{OnePassIsEnough};
 ghost use Rattle.cell_stages.specs.Transfers.{FirstWaits, HeadsOfLines, LinesGather, MovesCount};
@@ -64,4 +65,20 @@ pub fn routes_lead_on()
 /// Stage 2 t of a cell or a mail is before the transfers of step t, and stage 2 t + 1 after them.
 pub fn steps_have_two_stages()
     ensures { StepsHaveTwoStages }
+{}
+
+/// What an in-link knows of those who left it stays from a transfer to the next step.
+pub fn leavings_stay()
+    ensures { LeavingsStay }
+{}
+
+/// A transfer puts the number that it took from the line first, and the oldest number is dropped.
+pub fn leavings_pass()
+    ensures { LeavingsPass }
+{}
+
+/// A room is what is left of the storage beside the riders on the link and the spaces of those who
+/// left it lately.
+pub fn rooms_add_up()
+    ensures { RoomsAddUp }
 {}

@@ -1,2 +1,3 @@
 pub mod LastFacts
 pub mod PathFacts
+pub mod RingFacts

@@ -1,4 +1,6 @@
 pub mod Riders
 pub mod Lines
+pub mod Leavings
 pub mod RidersInside
+pub mod LeavingsInside
 pub mod Examples

@@ -1,19 +1,20 @@
 ghost use Rattle.link_queues.specs.Riders.{setting_out};
 ghost use Rattle.std.specs.Prelude.{◌≡◌, ◌<◌, ◌++◌, ◌∷◌, [], length, OnOk};
 
-use crate::{Line, Rider};
+use crate::{Leavings, Line, Rider};
 use dta_model::Route;
 use net_core::LinkNo;
 use std::alloc::{AllocError, Global};
 use std::test::Fail;
 
-// A rider and a line can be given to another thread.
+// Riders, lines and leavings can be given to another thread.
 fn goes_to_threads<T: Send>() {}
 
 #[test]
-fn riders_go_to_threads() {
+fn all_go_to_threads() {
     goes_to_threads::<Rider>();
     goes_to_threads::<Line>();
+    goes_to_threads::<Leavings>();
 }
 
 // Puts a rider over links 0 and 1 last, who departs at step 2.
@@ -52,5 +53,37 @@ fn a_rider_goes_to_the_end(rt: HostRuntime) -> Result<(), Fail> {
         None => assert!(rt; false),
     }
     assert!(rt; line.pop().is_none());
+    Ok(())
+}
+
+#[test]
+fn the_oldest_of_three_steps_is_dropped(rt: HostRuntime) -> Result<(), Fail> {
+    let mut leavings = Leavings::new(rt.alloc(), 3)?;
+    assert!(rt; leavings.total() == 0);
+    let left = [1, 2, 4, 8, 16, 32, 64, 128];
+    let totals = [1, 3, 7, 14, 28, 56, 112, 224];
+    for step in 0..left.len() {
+        leavings.push(left[step]);
+        assert!(rt; leavings.total() == totals[step]);
+    }
+    Ok(())
+}
+
+#[test]
+fn a_total_exceeds_32_bits(rt: HostRuntime) -> Result<(), Fail> {
+    let mut leavings = Leavings::new(rt.alloc(), 2)?;
+    leavings.push(u32::MAX);
+    leavings.push(u32::MAX);
+    assert!(rt; leavings.total() == 8_589_934_590);
+    leavings.push(0);
+    assert!(rt; leavings.total() == 4_294_967_295);
+    Ok(())
+}
+
+#[test]
+fn without_steps_nothing_is_kept(rt: HostRuntime) -> Result<(), Fail> {
+    let mut leavings = Leavings::new(rt.alloc(), 0)?;
+    leavings.push(7);
+    assert!(rt; leavings.total() == 0);
     Ok(())
 }

@@ -5,7 +5,9 @@ pub mod Passes
 pub mod Crossings
 pub mod Steps
 pub mod ByKey
+pub mod Later
 pub mod Mid
+pub mod Left
 pub mod HeadActions
 pub mod Meters
 pub mod OneMove

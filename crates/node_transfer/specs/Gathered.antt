@@ -1,5 +1,6 @@
 -- A cell after the gather of a step.
 use Rattle.std.specs.Prelude.{ℕ, ◌+◌, ◌-◌, List, [], ◌++◌, length, map, Option, option_map}
+use Rattle.std.specs.List.{sum}
 use Rattle.dta_model.specs.Riders.{RiderState}
 use Rattle.cell_stages.specs.CellState.{CellState}
 use Rattle.cell_stages.specs.declared.mail.Mail.{Mail}
@@ -12,14 +13,15 @@ mail_line Away = []
 mail_line (Room s room) = []
 mail_line (Batch s line) = line
 
--- the room that a storage leaves beside a line; there is no bound without a storage
-abbrev pub room_after : Option ℕ → List RiderState → Option ℕ
-room_after storage line = option_map (λ s. s - length line) storage
+-- the room that a storage leaves beside a line and those who left lately; there is no bound without
+-- a storage
+abbrev pub room_after : Option ℕ → List RiderState → List ℕ → Option ℕ
+room_after storage line left = option_map (λ s. s - (length line + sum left)) storage
 
 -- an in-link with this line, and the room that it leaves told for the next step
 abbrev pub with_batch : ℕ → InLink → List RiderState → InLink
 with_batch step link line =
-    record link { line = line; mail = Room (step + 1) (room_after link.storage line) }
+    record link { line = line; mail = Room (step + 1) (room_after link.storage line link.left) }
 
 -- those that came stand last, and the room for the next step is told
 abbrev pub gathered_link : ℕ → InLink → InLink

@@ -8,13 +8,16 @@ use Rattle.capacity_credits.specs.Meter.{closed, granted}
 use Rattle.node_transfer.specs.Exits.{closed_exit, opened_exit}
 use Rattle.cell_stages.specs.declared.in_link.InLink.{InLink}
 use Rattle.cell_stages.specs.declared.out_link.OutLink.{OutLink}
-use Rattle.std.specs.List.{last_or}
+use Rattle.link_queues.specs.Leavings.{pushed}
+use Rattle.std.specs.List.{last_or, sum}
 use Rattle.std.specs.Prelude.{◌≡◌, ℕ, zero, suc, ◌+◌, ◌<◌, [], All, IfSome, None, length, map}
 use Rattle.std.specs.Prelude.{slice_get}
 
--- a link whose allowances of one step of delta seconds were granted, and are lost
+-- a link whose allowances of one step of delta seconds were granted, and are lost, and which nobody
+-- left
 abbrev pub rested_in : ℕ → InLink → InLink
-rested_in delta link = record link { exit = closed_exit (opened_exit delta link.exit) }
+rested_in delta link =
+    record link { left = pushed 0 link.left; exit = closed_exit (opened_exit delta link.exit) }
 
 abbrev pub rested_out : ℕ → OutLink → OutLink
 rested_out delta o = record o { inflow = closed (granted delta o.inflow) }
@@ -34,14 +37,19 @@ HeadIsLater step link =
     IfSome (slice_get link.line 0)
     (λ r. IfSome (last_or None r.entries) (λ entry. step < entry + link.exit.free))
 
+-- it is, and nobody left the link in the last steps
+pub record IsQuietLink (step : ℕ) (link : InLink) : Type 0 where
+  pub head : HeadIsLater step link
+  pub left : sum link.left ≡ 0
+
 -- nobody who waits for an out-link departs by a step
 pub record WaitLater (step : ℕ) (o : OutLink) : Type 0 where
   pub due : o.waiting.due ≡ []
   pub later : IfSome (slice_get o.waiting.later 0) (λ r. step < r.departure)
 
--- nobody of a cell is ready in a step
+-- nobody of a cell is ready in a step, and nobody left its in-links in the last steps
 pub record IsQuiet (step : ℕ) (s : CellState) : Type 0 where
-  pub heads : All (HeadIsLater step) s.ins
+  pub links : All (IsQuietLink step) s.ins
   pub waits : All (WaitLater step) s.outs
 
 -- nobody comes to a node in a step

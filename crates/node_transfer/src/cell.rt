@@ -125,7 +125,8 @@ impl NodeCell {
         gather_links(&mut self.parts.ins, step);
     }
 
-    /// Lets so many steps go by in which nobody moves: their allowances are granted, and lost.
+    /// Lets so many steps go by in which nobody moves: their allowances are granted, and lost, and
+    /// those who left before are forgotten step by step.
     pub fn rest(&mut self, steps: u32)
         ensures { self.new ≡ rested steps self.old }
     {
@@ -134,8 +135,9 @@ impl NodeCell {
     }
 
     /// The first step in which somebody of the cell is ready, unless somebody comes: the head of an
-    /// in-link has been on it for long enough, or one who waits is due. It is [`NO_STEP`] where
-    /// nobody ever is.
+    /// in-link has been on it for long enough, or one who waits is due. It is 0 where somebody left
+    /// an in-link in the last steps, so that its room may grow, and [`NO_STEP`] where nobody ever
+    /// is ready.
     pub fn next_step(&self) -> u32
         ensures quiet { (step : ℕ) → step < result → IsQuiet step self.now }
         ensures least { result < NO_STEP → IsQuiet result self.now → ⊥ }

@@ -1,14 +1,15 @@
 // Links at which nobody moves.
 ghost use Rattle.dta_model.specs.Riders.{RiderState};
-ghost use Rattle.node_transfer.specs.Rest.{HeadIsLater, WaitLater, rested};
+ghost use Rattle.node_transfer.specs.Rest.{IsQuietLink, WaitLater, rested};
 ghost use Rattle.node_transfer.specs.declared.rest.TheConstants.{NO_STEP};
-ghost use Rattle.node_transfer.specs.Inside.Skip.{skipped_exit, skipped_in, skipped_out};
+ghost use Rattle.node_transfer.specs.Inside.Skip.{idled, skipped_exit, skipped_in, skipped_out};
 ghost use Rattle.node_transfer.specs.Inside.Skip.{skipped_turn};
 ghost use Rattle.std.specs.Prelude.{◌≡◌, ℕ, ◌<◌, ◌≤◌, All, List, map};
 
 use crate::step::turn::rest_all;
 use cell_stages::{Exit, InLink, LimitedTurn, OutLink};
 use fixed_units::MOST_STEP;
+use link_queues::Leavings;
 
 /// The answer where nobody is ready in any step.
 pub const NO_STEP: u32 = 4_294_967_295;
@@ -43,13 +44,35 @@ fn rest_exit(exit: &mut Exit, delta: u32, steps: u32)
     rest_all(&mut exit.turns, delta, steps);
 }
 
+// Lets so many steps go by in which nobody leaves the link, for those who left it in the last
+// steps. It ends once they are forgotten.
+fn rest_left(left: &mut Leavings, steps: u32)
+    ensures { left.new ≡ idled steps left.old }
+{
+    for _ in 0..steps {
+        if left.total() == 0 {
+            return;
+        }
+        left.push(0);
+    }
+}
+
+// Lets so many steps go by in which nobody leaves an in-link.
+fn rest_in(link: &mut InLink, delta: u32, steps: u32)
+    requires { delta ≤ MOST_STEP }
+    ensures { link.new ≡ skipped_in delta steps link.old }
+{
+    rest_left(&mut link.left, steps);
+    rest_exit(&mut link.exit, delta, steps);
+}
+
 // Lets so many steps go by in which nobody leaves the in-links.
 fn rest_ins(ins: &mut [InLink], delta: u32, steps: u32)
     requires { delta ≤ MOST_STEP }
     ensures { ins.new ≡ map (skipped_in delta steps) ins.old }
 {
     for i in 0..ins.len() {
-        rest_exit(&mut ins[i].exit, delta, steps);
+        rest_in(&mut ins[i], delta, steps);
     }
 }
 
@@ -63,8 +86,8 @@ fn rest_outs(outs: &mut [OutLink], delta: u32, steps: u32)
     }
 }
 
-/// Lets so many steps go by in which nobody moves. It looks at each limit once, however many steps
-/// there are.
+/// Lets so many steps go by in which nobody moves. It looks at each limit once, and at each link
+/// until those who left it are forgotten, however many steps there are.
 pub fn rest_links(ins: &mut [InLink], outs: &mut [OutLink], delta: u32, steps: u32)
     requires { delta ≤ MOST_STEP }
     ensures { (arrived : List RiderState)
@@ -77,11 +100,15 @@ pub fn rest_links(ins: &mut [InLink], outs: &mut [OutLink], delta: u32, steps: u
     }
 }
 
-// The first step in which the head of an in-link is ready.
+// The first step in which the head of an in-link is ready, or its room may grow since somebody left
+// it in the last steps.
 fn ready_step(link: &InLink) -> u32
-    ensures before { (step : ℕ) → step < result → HeadIsLater step link.now }
-    ensures least { result < NO_STEP → HeadIsLater result link.now → ⊥ }
+    ensures before { (step : ℕ) → step < result → IsQuietLink step link.now }
+    ensures least { result < NO_STEP → IsQuietLink result link.now → ⊥ }
 {
+    if link.left.total() > 0 {
+        return 0;
+    }
     match link.line.front() {
         None => NO_STEP,
         Some(rider) => match rider.last_entry() {
@@ -105,10 +132,10 @@ fn due_step(out: &OutLink) -> u32
     }
 }
 
-// The first step in which a head of the in-links is ready.
+// The first step in which a head of the in-links is ready, or a room of theirs may grow.
 fn first_ready(ins: &[InLink]) -> u32
-    ensures before { (step : ℕ) → step < result → All (HeadIsLater step) ins.now }
-    ensures least { result < NO_STEP → All (HeadIsLater result) ins.now → ⊥ }
+    ensures before { (step : ℕ) → step < result → All (IsQuietLink step) ins.now }
+    ensures least { result < NO_STEP → All (IsQuietLink result) ins.now → ⊥ }
 {
     let mut first = NO_STEP;
     for link in ins {
@@ -129,12 +156,12 @@ fn first_due(outs: &[OutLink]) -> u32
     first
 }
 
-/// The first step in which a head of the in-links is ready, or one who waits for the out-links is
-/// due. It looks at each link once.
+/// The first step in which a head of the in-links is ready, or a room of theirs may grow, or one
+/// who waits for the out-links is due. It looks at each link once.
 pub fn first_step(ins: &[InLink], outs: &[OutLink]) -> u32
-    ensures heads { (step : ℕ) → step < result → All (HeadIsLater step) ins.now }
+    ensures links { (step : ℕ) → step < result → All (IsQuietLink step) ins.now }
     ensures waits { (step : ℕ) → step < result → All (WaitLater step) outs.now }
-    ensures least { result < NO_STEP → All (HeadIsLater result) ins.now
+    ensures least { result < NO_STEP → All (IsQuietLink result) ins.now
         → All (WaitLater result) outs.now → ⊥ }
 {
     first_ready(ins).min(first_due(outs))

@@ -1,8 +1,9 @@
 -- A cell that rests keeps its lines, and so its counts.
 use Rattle.std.specs.List.{sum_by}
-use Rattle.std.specs.Prelude.{IfSome, map, nat_lt, slice_get}
-use Rattle.std.proofs.Common.{◌≡◌, ℕ, zero, suc, ◌<◌, Bool, true, List, [], ◌∷◌, length, refl, ap, sym, ◌∙◌, subst, arith, Option}
+use Rattle.std.specs.Prelude.{All, IfSome, map, nat_lt, slice_get}
+use Rattle.std.proofs.Common.{◌≡◌, ℕ, zero, suc, ◌<◌, Bool, true, false, List, [], ◌∷◌, length, refl, ap, sym, ◌∙◌, subst, arith, Option}
 use Rattle.std.proofs.lemmas.Bool.Decides.{nat_tests}
+use Rattle.std.proofs.lemmas.List.Elements.{All-head, All-tail}
 use Rattle.std.proofs.lemmas.List.Sums.{sum_by-cons}
 use Rattle.dta_model.specs.Sound.{IsSound}
 use Rattle.dta_model.specs.declared.plan.Plan.{Plan}
@@ -12,10 +13,11 @@ use Rattle.cell_stages.specs.declared.in_link.InLink.{InLink}
 use Rattle.cell_stages.specs.declared.out_link.OutLink.{OutLink}
 use Rattle.node_transfer.specs.Inside.Lengths.{line_length, waiting_length}
 use Rattle.node_transfer.specs.Counts.{counts_at}
-use Rattle.node_transfer.specs.Rest.{IsQuiet, rested, rested_in, rested_once, rested_out}
+use Rattle.node_transfer.specs.Gathered.{room_after}
+use Rattle.node_transfer.specs.Rest.{IsQuiet, IsQuietLink, rested, rested_in, rested_once, rested_out}
 use Rattle.node_transfer.specs.declared.cell.CellCounts.{CellCounts}
 use Rattle.node_transfer.proofs.OfRest.Quiet.{quiet-rested, rested-suc}
-use Rattle.node_transfer.proofs.OfRest.Rested.{rested_none}
+use Rattle.node_transfer.proofs.OfRest.Rested.{nobody-pushed, rested_none}
 use Rattle.node_transfer.proofs.OfStep.Totals.{counts-stage}
 use Rattle.phase_claims.specs.Resting.{IsResting, IsSomeCell, counts_of, room_on, rooms_of}
 
@@ -67,14 +69,22 @@ unfolding rested
 ins-count-rested zero s = refl
 ins-count-rested (suc steps) s = ins-count-once (rested steps s).delta (rested steps s).ins ∙ ins-count-rested steps s
 
-rooms-once : (delta : ℕ) (xs : List InLink) → map room_on (map (rested_in delta) xs) ≡ map room_on xs
-rooms-once delta [] = refl
-rooms-once delta (x ∷ xs) = ap (λ rooms. room_on x ∷ rooms) (rooms-once delta xs)
+-- where nobody left in the last steps the rooms stay
+rooms-once : (step delta : ℕ) (xs : List InLink) → All (IsQuietLink step) xs → map room_on (map (rested_in delta) xs) ≡ map room_on xs
+rooms-once step delta [] quiet = refl
+rooms-once step delta (x ∷ xs) quiet =
+    ap (λ left. room_after x.storage x.line left ∷ map room_on (map (rested_in delta) xs)) (nobody-pushed x.left (All-head (IsQuietLink step) x xs quiet).left)
+    ∙ ap (λ rooms. room_on x ∷ rooms) (rooms-once step delta xs (All-tail (IsQuietLink step) x xs quiet))
 
-pub rooms-rested : (steps : ℕ) (s : CellState) → rooms_of (rested steps s) ≡ rooms_of s
+rooms-rested : (step steps : ℕ) (s : CellState) → IsQuiet step s → rooms_of (rested steps s) ≡ rooms_of s
 unfolding rested
-rooms-rested zero s = refl
-rooms-rested (suc steps) s = rooms-once (rested steps s).delta (rested steps s).ins ∙ rooms-rested steps s
+rooms-rested step zero s quiet = refl
+rooms-rested step (suc steps) s quiet = rooms-once step (rested steps s).delta (rested steps s).ins (quiet-rested step steps s quiet).links ∙ rooms-rested step steps s quiet
+
+-- no step went by before the rooms may change
+pub rooms_stay : (missed wake : ℕ) (s : CellState) → (wake ≡ 0 → missed ≡ 0) → ((step : ℕ) → step < wake → IsQuiet step s) → rooms_of (rested missed s) ≡ rooms_of s
+rooms_stay missed zero s ready sleeps = ap (λ c. rooms_of c) (rested_none missed s (ready refl))
+rooms_stay missed (suc wake) s ready sleeps = rooms-rested 0 missed s (sleeps 0 (omega arith))
 
 -- a step in which nobody is ready yet
 lt-of : (a b : ℕ) → nat_lt a b ≡ true → a < b
@@ -86,14 +96,15 @@ quiet_now step missed wake cell s e sleeps low = subst (λ (x : CellState). IsQu
 pub once : (s : CellState) → rested 1 s ≡ rested_once s
 once s = rested-suc 0 s ∙ ap (λ x. rested_once x) (rested_none 0 s refl)
 
--- a cell that is brought up to date by one more step
+-- a cell that is brought up to date by one more step, of which nothing else is known
 pub rests_on : (cell new : CellState) (missed wake : ℕ) (known : Bool) (noted : CellCounts) (left : List (Option ℕ)) → new ≡ rested 1 (rested missed cell) → IsResting cell missed wake known noted left
-    → IsResting new 0 wake known noted left
+    → IsResting new 0 wake false noted left
 rests_on cell new missed wake known noted left e r = record {
   sleeps = λ t low. subst (λ (x : CellState). IsQuiet t x) (sym e) (quiet-rested t 1 (rested missed cell) (quiet-rested t missed cell (r.sleeps t low)));
   awake = λ k. refl;
-  counts = λ k. r.counts k ∙ sym (ap (λ x. counts_of x) e ∙ counts-rested 1 (rested missed cell) ∙ counts-rested missed cell);
-  rooms = λ k. r.rooms k ∙ sym (ap (λ x. rooms_of x) e ∙ rooms-rested 1 (rested missed cell) ∙ rooms-rested missed cell);
+  ready = λ k. refl;
+  counts = λ k. cc;
+  rooms = λ k. cc;
 }
 
 -- a cell that was looked up
@@ -103,6 +114,7 @@ pub is_looked_up : (cell : CellState) (steps wake : ℕ) (known : Bool) (noted :
 is_looked_up cell steps wake known noted left some counts quiet rooms = record {
   sleeps = quiet;
   awake = λ k. refl;
+  ready = λ k. refl;
   counts = λ k.
       let p = some.0 in
       let n = some.1 in

@@ -8,7 +8,7 @@ use Rattle.std.proofs.lemmas.List.{length-map}
 use Rattle.std.proofs.lemmas.Option.{same_Some, slice_get-get_or, slice_get_within}
 use Rattle.dta_model.specs.Plans.{ins, link_at}
 use Rattle.dta_model.specs.declared.plan.Plan.{Plan}
-use Rattle.cell_stages.specs.Contents.{IsStep, away, batch_of, cell_after, cell_before, in_link, room_of}
+use Rattle.cell_stages.specs.Contents.{IsStep, away, batch_of, cell_after, cell_before, in_link, left_before, room_of}
 use Rattle.cell_stages.specs.Stages.{batch_mail, line_before, room_mail}
 use Rattle.cell_stages.specs.declared.mail.Mail.{Mail}
 use Rattle.cell_stages.specs.declared.mail.Mail.TheVariants.{Room}
@@ -18,7 +18,7 @@ use Rattle.node_transfer.proofs.OfMail.ListPlaces.{among-place}
 use Rattle.node_transfer.proofs.OfMail.Parts.{ins-member}
 use Rattle.node_transfer.proofs.OfMail.Sets.{count-set, same-elements, set-here, set-other}
 use Rattle.node_transfer.proofs.OfRest.Idle.{quiet_nodes_stay_idle}
-use Rattle.node_transfer.proofs.OfStep.Gather.{room-same}
+use Rattle.node_transfer.proofs.OfStep.Left.{room-same}
 use Rattle.phase_claims.specs.Resting.{room_on, rooms_of, told_room}
 
 got_map : {X Y : Type 0} (f : X → Y) (xs : List X) (j : ℕ) (b : X) → slice_get xs j ≡ Some b → slice_get (map f xs) j ≡ Some (f b)
@@ -71,9 +71,9 @@ all_noted f links j xs over noted count = same-elements xs (map f links) (count 
 abbrev pub rooms_at : Plan → ℕ → ℕ → List (Option ℕ)
 rooms_at p n t = map (λ l. room_mail p l t) (ins p n)
 
-rooms_are : (p : Plan) (n t : ℕ) (ls : List ℕ) → map room_on (map (in_link p n t (line_before p t) away) ls) ≡ map (λ l. room_mail p l t) ls
+rooms_are : (p : Plan) (n t : ℕ) (ls : List ℕ) → map room_on (map (in_link p n t (line_before p t) (left_before p t) away) ls) ≡ map (λ l. room_mail p l t) ls
 rooms_are p n t [] = refl
-rooms_are p n t (l ∷ ls) = ap (λ r. r ∷ map room_on (map (in_link p n t (line_before p t) away) ls)) (room-same p t l) ∙ ap (λ rs. room_mail p l t ∷ rs) (rooms_are p n t ls)
+rooms_are p n t (l ∷ ls) = ap (λ r. r ∷ map room_on (map (in_link p n t (line_before p t) (left_before p t) away) ls)) (room-same p t l) ∙ ap (λ rs. room_mail p l t ∷ rs) (rooms_are p n t ls)
 
 pub rooms_before : (p : Plan) (n t : ℕ) → rooms_of (cell_before p n t away away) ≡ rooms_at p n t
 unfolding cell_before

@@ -17,7 +17,7 @@ three_nodes = record { id = 1; zone = None } ∷ record { id = 2; zone = None }
 abbrev pub four_passes : Scope
 four_passes = record {
   plan = record no_scope.plan {
-    net = record { nodes = three_nodes; links = []; turns = [] };
+    net = record no_scope.plan.net { nodes = three_nodes };
     horizon = 60;
   };
   board = no_table;

@@ -25,6 +25,7 @@ link_row id from to = record {
   id = id;
   from = record { 0 = from };
   to = record { 0 = to };
+  micrometres = 5000000;
   free = 1;
   storage = 2;
   rate = 3600000000;
@@ -94,7 +95,13 @@ grid_of net trips routes = record {
 
 -- six rows of six nodes, and sixty vehicles
 abbrev pub grid_rows : NetRows
-grid_rows = record { nodes = first_nodes 36; links = first_links 30; turns = [] }
+grid_rows = record {
+  nodes = first_nodes 36;
+  links = first_links 30;
+  turns = [];
+  link_windows = [];
+  turn_windows = [];
+}
 
 abbrev pub six_by_six : Plan
 six_by_six = grid_of grid_rows (first_trips 60) (first_ways 60)

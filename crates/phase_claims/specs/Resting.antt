@@ -24,7 +24,7 @@ counts_of s = counted s.ins s.outs s.arrived
 
 -- the room that an in-link leaves, and the rooms of all in-links of a cell
 abbrev pub room_on : InLink → Option ℕ
-room_on link = room_after link.storage link.line
+room_on link = room_after link.storage link.line link.left
 
 abbrev pub rooms_of : CellState → List (Option ℕ)
 rooms_of s = map room_on s.ins
@@ -36,10 +36,12 @@ told_room (Room s room) = room
 told_room (Batch s line) = None
 
 -- what is kept with a cell: so many steps went by since it was brought up to date, below a step
--- nobody of it is ready, and its counts and the rooms of its in-links, where they are known
+-- nobody of it is ready, and its counts and the rooms of its in-links, where they are known. No
+-- step went by where somebody may be ready, or may have left an in-link in the last steps
 pub record IsResting (s : CellState) (missed wake : ℕ) (known : Bool) (noted : CellCounts)
     (left : List (Option ℕ)) : Type 0 where
   pub sleeps : (step : ℕ) → step < wake → IsQuiet step s
   pub awake : known ≡ false → missed ≡ 0
+  pub ready : wake ≡ 0 → missed ≡ 0
   pub counts : known ≡ true → noted ≡ counts_of s
   pub rooms : known ≡ true → left ≡ rooms_of s

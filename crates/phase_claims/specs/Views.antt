@@ -37,7 +37,8 @@ no_table = record {
 abbrev pub no_scope : Scope
 no_scope = record {
   plan = record {
-    net = record { nodes = []; links = []; turns = [] };
+    net =
+        record { nodes = []; links = []; turns = []; link_windows = []; turn_windows = [] };
     queue = queue.Point;
     delta = 0;
     horizon = 0;

@@ -116,16 +116,18 @@ impl RestingCell {
         }
     }
 
-    /// Lets a step go by in which nobody moves.
+    /// Lets a step go by in which nobody moves. It is only counted where the counts and the rooms
+    /// are known and stay as they are.
     pub(crate) fn rest(&mut self)
         ensures { self.new ≡ rested_once self.old }
     {
-        if self.known && self.missed < u32::MAX {
+        if self.known && self.wake > 0 && self.missed < u32::MAX {
             self.missed += 1;
         } else {
             self.cell.rest(self.missed);
             self.cell.rest(1);
             self.missed = 0;
+            self.known = false;
         }
     }
 

@@ -65,6 +65,51 @@ fn room_at_the_start_of_the_step(rt: HostRuntime) -> Result<(), Fail> {
 }
 
 #[test]
+fn a_wave_frees_room(rt: HostRuntime) -> Result<(), Fail> {
+    let case = worked_cases::a_wave_frees_room(rt.alloc())?;
+    let wanted = [
+        Seen(&[0, 10], Some(11)),
+        Seen(&[0, 10], Some(11)),
+        Seen(&[0, 10], Some(11)),
+        Seen(&[0, 10], Some(11)),
+        Seen(&[0, 10], Some(11)),
+        Seen(&[0, 10], Some(11)),
+        Seen(&[1, 11], Some(12)),
+        Seen(&[1, 11], Some(12)),
+        Seen(&[1, 11], Some(12)),
+        Seen(&[1, 11], Some(12)),
+        Seen(&[1, 14], Some(15)),
+        Seen(&[1, 14], Some(15)),
+    ];
+    assert!(rt; shows(rt.alloc(), &case, &wanted)?);
+    Ok(())
+}
+
+#[test]
+fn windows_turn_red(rt: HostRuntime) -> Result<(), Fail> {
+    let case = worked_cases::windows_turn_red(rt.alloc())?;
+    let wanted = [
+        Seen(&[5, 15], Some(40)),
+        Seen(&[15, 40], Some(50)),
+        Seen(&[25, 41], Some(51)),
+    ];
+    assert!(rt; shows(rt.alloc(), &case, &wanted)?);
+    Ok(())
+}
+
+#[test]
+fn windows_turn_green(rt: HostRuntime) -> Result<(), Fail> {
+    let case = worked_cases::windows_turn_green(rt.alloc())?;
+    let wanted = [
+        Seen(&[5, 30], Some(40)),
+        Seen(&[15, 31], Some(41)),
+        Seen(&[25, 35], Some(45)),
+    ];
+    assert!(rt; shows(rt.alloc(), &case, &wanted)?);
+    Ok(())
+}
+
+#[test]
 fn storage_of_one(rt: HostRuntime) -> Result<(), Fail> {
     let case = worked_cases::storage_of_one(rt.alloc())?;
     let wanted = [Seen(&[0, 10], Some(11)), Seen(&[0, 12], Some(13))];

@@ -23,7 +23,7 @@ use Rattle.cell_stages.proofs.ByNumber.{all_numbered, numbered}
 use Rattle.dta_model.proofs.Conserved.{mover_due}
 use Rattle.dta_model.proofs.Fuel.{trace-lawful}
 use Rattle.cell_stages.proofs.HandOver.{one_number, passing_one, routed_has, running_one, unrouted}
-use Rattle.cell_stages.proofs.Spread.{filter-flat}
+use Rattle.dta_model.proofs.Flat.{filter-flat}
 use Rattle.dta_model.proofs.Standing.{no-last}
 use Rattle.dta_model.proofs.Steady.{steady_of}
 use Rattle.dta_model.proofs.Totals.{one_below, sum_alike, sum_both, sum_zero}

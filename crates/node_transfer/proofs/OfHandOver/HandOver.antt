@@ -28,7 +28,7 @@ use Rattle.dta_model.proofs.NoMoves.{no-moves}
 use Rattle.cell_stages.proofs.HandOver.{nodes_hold_all}
 use Rattle.dta_model.proofs.Places.{of_mover}
 use Rattle.node_transfer.proofs.OfStep.ByKey.{both_true}
-use Rattle.cell_stages.specs.Contents.{away, cell_before, in_link, out_link, waiting_parts}
+use Rattle.cell_stages.specs.Contents.{away, cell_before, in_link, left_before, out_link, waiting_parts}
 use Rattle.node_transfer.specs.Hand.{Within, handed, journey_by, line_of, riders_in, waiting_of}
 use Rattle.node_transfer.specs.Start.{no_journey, no_journeys}
 use Rattle.cell_stages.specs.declared.mail.Mail.{Mail}
@@ -70,7 +70,7 @@ module _ (p : Plan) (sound : IsSound p) (t : ℕ) where
       map_append f [] ys = refl
       map_append f (x ∷ xs) ys = ap (λ zs. f x ∷ zs) (map_append f xs ys)
 
-  lines-in : (n : ℕ) (mail : ℕ → Mail) (ls : List ℕ) → flat_map line_of (map (in_link p n t (line_before p t) mail) ls) ≡ flat_map (line_before p t) ls
+  lines-in : (n : ℕ) (mail : ℕ → Mail) (ls : List ℕ) → flat_map line_of (map (in_link p n t (line_before p t) (left_before p t) mail) ls) ≡ flat_map (line_before p t) ls
   lines-in n mail [] = refl
   lines-in n mail (l ∷ ls) = ap (λ xs. line_before p t l ++ xs) (lines-in n mail ls)
 

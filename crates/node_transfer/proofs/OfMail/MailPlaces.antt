@@ -10,7 +10,7 @@ use Rattle.dta_model.specs.declared.plan.Plan.{Plan}
 use Rattle.dta_model.proofs.Queues.{absent, distinct}
 use Rattle.node_transfer.proofs.OfStep.ByKey.{both_true}
 use Rattle.node_transfer.specs.Places.{changed_at, in_mail_put, out_mail_put}
-use Rattle.cell_stages.specs.Contents.{cell_after, cell_before, in_link, out_link}
+use Rattle.cell_stages.specs.Contents.{cell_after, cell_before, in_link, left_after, left_before, out_link}
 use Rattle.node_transfer.specs.Laws.{MailGoesByLinks, MailIsPut, put_mail}
 use Rattle.cell_stages.specs.declared.in_link.InLink.{InLink}
 use Rattle.cell_stages.specs.declared.mail.Mail.{Mail}
@@ -62,8 +62,8 @@ same_all make f f' (x ∷ xs) a =
     ap (λ m. make m x ∷ map (λ x. make (f x) x) xs) (All-head (λ x. f x ≡ f' x) x xs a)
     ∙ ap (λ ys. make (f' x) x ∷ ys) (same_all make f f' xs (All-tail (λ x. f x ≡ f' x) x xs a))
 
-abbrev in_made : Plan → ℕ → ℕ → (ℕ → List RiderState) → Mail → ℕ → InLink
-in_made p n grants line mail l = in_link p n grants line (λ x. mail) l
+abbrev in_made : Plan → ℕ → ℕ → (ℕ → List RiderState) → (ℕ → List ℕ) → Mail → ℕ → InLink
+in_made p n grants line left mail l = in_link p n grants line left (λ x. mail) l
 
 abbrev out_made : Plan → ℕ → (ℕ → List RiderState) → Mail → ℕ → OutLink
 out_made p grants waiting mail b = out_link p grants waiting (λ x. mail) b
@@ -74,10 +74,10 @@ module _ (p : Plan) (n t : ℕ) where
   of-links = record {
     out_before = λ i b mail f g e. ap (λ os. record (cell_before p n t f g) { outs = os }) (put_place (out_made p t (waiting_before p t)) (out_mail_put mail) mail g b (λ x l. refl) (outs p n) i (outs-distinct p n) e);
     out_after = λ i b mail f g e. ap (λ os. record (cell_after p n t f g) { outs = os }) (put_place (out_made p (suc t) (waiting_after p n t)) (out_mail_put mail) mail g b (λ x l. refl) (outs p n) i (outs-distinct p n) e);
-    in_before = λ i l mail f g e. ap (λ is. record (cell_before p n t f g) { ins = is }) (put_place (in_made p n t (line_before p t)) (in_mail_put mail) mail f l (λ x k. refl) (ins p n) i (ins-distinct p n) e);
-    in_after = λ i l mail f g e. ap (λ is. record (cell_after p n t f g) { ins = is }) (put_place (in_made p n (suc t) (line_after p n t)) (in_mail_put mail) mail f l (λ x k. refl) (ins p n) i (ins-distinct p n) e);
-    same_before = λ f f' g g' a b. ap (λ is. record (cell_before p n t f g) { ins = is }) (same_all (in_made p n t (line_before p t)) f f' (ins p n) a) ∙ ap (λ os. record (cell_before p n t f' g) { outs = os }) (same_all (out_made p t (waiting_before p t)) g g' (outs p n) b);
-    same_after = λ f f' g g' a b. ap (λ is. record (cell_after p n t f g) { ins = is }) (same_all (in_made p n (suc t) (line_after p n t)) f f' (ins p n) a) ∙ ap (λ os. record (cell_after p n t f' g) { outs = os }) (same_all (out_made p (suc t) (waiting_after p n t)) g g' (outs p n) b);
+    in_before = λ i l mail f g e. ap (λ is. record (cell_before p n t f g) { ins = is }) (put_place (in_made p n t (line_before p t) (left_before p t)) (in_mail_put mail) mail f l (λ x k. refl) (ins p n) i (ins-distinct p n) e);
+    in_after = λ i l mail f g e. ap (λ is. record (cell_after p n t f g) { ins = is }) (put_place (in_made p n (suc t) (line_after p n t) (left_after p n t)) (in_mail_put mail) mail f l (λ x k. refl) (ins p n) i (ins-distinct p n) e);
+    same_before = λ f f' g g' a b. ap (λ is. record (cell_before p n t f g) { ins = is }) (same_all (in_made p n t (line_before p t) (left_before p t)) f f' (ins p n) a) ∙ ap (λ os. record (cell_before p n t f' g) { outs = os }) (same_all (out_made p t (waiting_before p t)) g g' (outs p n) b);
+    same_after = λ f f' g g' a b. ap (λ is. record (cell_after p n t f g) { ins = is }) (same_all (in_made p n (suc t) (line_after p n t) (left_after p n t)) f f' (ins p n) a) ∙ ap (λ os. record (cell_after p n t f' g) { outs = os }) (same_all (out_made p (suc t) (waiting_after p n t)) g g' (outs p n) b);
   }
 
 pub mail_goes_by_links : MailGoesByLinks

@@ -11,7 +11,7 @@ use Rattle.dta_model.specs.declared.plan.Plan.{Plan}
 use Rattle.dta_model.proofs.Queues.{distinct}
 use Rattle.cell_stages.specs.CellState.{CellState}
 use Rattle.node_transfer.specs.Places.{in_mail, in_mail_put, in_mailed, mail_of_in, mail_of_out, out_mail, out_mail_put, out_mailed, with_in_mail, with_out_mail}
-use Rattle.cell_stages.specs.Contents.{cell_after, cell_before, in_link, out_link}
+use Rattle.cell_stages.specs.Contents.{cell_after, cell_before, in_link, left_after, left_before, out_link}
 use Rattle.node_transfer.specs.Exchange.{is_among}
 use Rattle.cell_stages.specs.declared.mail.Mail.{Mail}
 use Rattle.node_transfer.proofs.OfStep.ByKey.{set-at}
@@ -82,13 +82,13 @@ module _ (p : Plan) (n : ℕ) where
       (λ x ne. ap (λ y. record (out_link p t line mail x) { mail = y }) (sym (other x ne)))
       (ap (λ y. record (out_link p t line mail b) { mail = y }) (sym here))
 
-  ins-put : (t : ℕ) (line : ℕ → List RiderState) (mail mail' : ℕ → Mail) (j b : ℕ) (m : Mail) → slice_get (ins p n) j ≡ Some b → ((x : ℕ) → x ≢ b → mail x ≡ mail' x) → m ≡ mail' b
-      → in_mailed j m (map (in_link p n t line mail) (ins p n)) ≡ map (in_link p n t line mail') (ins p n)
-  ins-put t line mail mail' j b m e other here =
-      ap (λ k. in_mailed k m (map (in_link p n t line mail) (ins p n))) (sym (place-is (ins p n) j b ins-once e))
-      ∙ set-at (in_link p n t line mail) (in_link p n t line mail') (in_mail_put m) b (ins p n) ins-once
-      (λ x ne. ap (λ y. record (in_link p n t line mail x) { mail = y }) (sym (other x ne)))
-      (ap (λ y. record (in_link p n t line mail b) { mail = y }) (sym here))
+  ins-put : (t : ℕ) (line : ℕ → List RiderState) (left : ℕ → List ℕ) (mail mail' : ℕ → Mail) (j b : ℕ) (m : Mail) → slice_get (ins p n) j ≡ Some b → ((x : ℕ) → x ≢ b → mail x ≡ mail' x) → m ≡ mail' b
+      → in_mailed j m (map (in_link p n t line left mail) (ins p n)) ≡ map (in_link p n t line left mail') (ins p n)
+  ins-put t line left mail mail' j b m e other here =
+      ap (λ k. in_mailed k m (map (in_link p n t line left mail) (ins p n))) (sym (place-is (ins p n) j b ins-once e))
+      ∙ set-at (in_link p n t line left mail) (in_link p n t line left mail') (in_mail_put m) b (ins p n) ins-once
+      (λ x ne. ap (λ y. record (in_link p n t line left mail x) { mail = y }) (sym (other x ne)))
+      (ap (λ y. record (in_link p n t line left mail b) { mail = y }) (sym here))
 
   -- the four cells and their places
   pub outs-before : (t : ℕ) (ms : ℕ → Mail) → IsMadeOf p n (λ l. (link_at p l).from.0) (outs p n) (cell_before p n t ms) with_out_mail out_mail
@@ -122,9 +122,9 @@ module _ (p : Plan) (n : ℕ) where
     member = ins-member;
     inside = ins-inside;
     among = ins-among;
-    puts = λ mail mail' j b m e other here. ap (λ is. record (cell_before p n t mail ms) { ins = is }) (ins-put t (line_before p t) mail mail' j b m e other here);
-    tells = λ mail j b e. ap (λ o. option_map mail_of_in o) (got-map (in_link p n t (line_before p t) mail) (ins p n) j b e);
-    same = λ mail mail' h. ap (λ is. record (cell_before p n t mail ms) { ins = is }) (ins-same (in_link p n t (line_before p t) mail) (in_link p n t (line_before p t) mail') (λ x below at. ap (λ y. record (in_link p n t (line_before p t) mail x) { mail = y }) (h x below at)));
+    puts = λ mail mail' j b m e other here. ap (λ is. record (cell_before p n t mail ms) { ins = is }) (ins-put t (line_before p t) (left_before p t) mail mail' j b m e other here);
+    tells = λ mail j b e. ap (λ o. option_map mail_of_in o) (got-map (in_link p n t (line_before p t) (left_before p t) mail) (ins p n) j b e);
+    same = λ mail mail' h. ap (λ is. record (cell_before p n t mail ms) { ins = is }) (ins-same (in_link p n t (line_before p t) (left_before p t) mail) (in_link p n t (line_before p t) (left_before p t) mail') (λ x below at. ap (λ y. record (in_link p n t (line_before p t) (left_before p t) mail x) { mail = y }) (h x below at)));
   }
 
   pub ins-after : (t : ℕ) (ms : ℕ → Mail) → IsMadeOf p n (λ l. (link_at p l).to.0) (ins p n) (λ mail. cell_after p n t mail ms) with_in_mail in_mail
@@ -134,9 +134,9 @@ module _ (p : Plan) (n : ℕ) where
     member = ins-member;
     inside = ins-inside;
     among = ins-among;
-    puts = λ mail mail' j b m e other here. ap (λ is. record (cell_after p n t mail ms) { ins = is }) (ins-put (suc t) (line_after p n t) mail mail' j b m e other here);
-    tells = λ mail j b e. ap (λ o. option_map mail_of_in o) (got-map (in_link p n (suc t) (line_after p n t) mail) (ins p n) j b e);
-    same = λ mail mail' h. ap (λ is. record (cell_after p n t mail ms) { ins = is }) (ins-same (in_link p n (suc t) (line_after p n t) mail) (in_link p n (suc t) (line_after p n t) mail') (λ x below at. ap (λ y. record (in_link p n (suc t) (line_after p n t) mail x) { mail = y }) (h x below at)));
+    puts = λ mail mail' j b m e other here. ap (λ is. record (cell_after p n t mail ms) { ins = is }) (ins-put (suc t) (line_after p n t) (left_after p n t) mail mail' j b m e other here);
+    tells = λ mail j b e. ap (λ o. option_map mail_of_in o) (got-map (in_link p n (suc t) (line_after p n t) (left_after p n t) mail) (ins p n) j b e);
+    same = λ mail mail' h. ap (λ is. record (cell_after p n t mail ms) { ins = is }) (ins-same (in_link p n (suc t) (line_after p n t) (left_after p n t) mail) (in_link p n (suc t) (line_after p n t) (left_after p n t) mail') (λ x below at. ap (λ y. record (in_link p n (suc t) (line_after p n t) (left_after p n t) mail x) { mail = y }) (h x below at)));
   }
 
   -- how many places there are
@@ -150,8 +150,8 @@ module _ (p : Plan) (n : ℕ) where
 
   pub ins-count-before : (t : ℕ) (mail ms : ℕ → Mail) → length (cell_before p n t mail ms).ins ≡ length (ins p n)
   unfolding cell_before
-  ins-count-before t mail ms = length-map (ins p n) (in_link p n t (line_before p t) mail)
+  ins-count-before t mail ms = length-map (ins p n) (in_link p n t (line_before p t) (left_before p t) mail)
 
   pub ins-count-after : (t : ℕ) (mail ms : ℕ → Mail) → length (cell_after p n t mail ms).ins ≡ length (ins p n)
   unfolding cell_after
-  ins-count-after t mail ms = length-map (ins p n) (in_link p n (suc t) (line_after p n t) mail)
+  ins-count-after t mail ms = length-map (ins p n) (in_link p n (suc t) (line_after p n t) (left_after p n t) mail)

@@ -1,7 +1,7 @@
 -- Nodes at which nobody moves in a step.
 use Rattle.net_core.specs.Network as network
 use Rattle.std.specs.List.{range_with_len}
-use Rattle.std.specs.Prelude.{All, filter, nat_eq, ◌≢◌}
+use Rattle.std.specs.Prelude.{All, filter, nat_eq, sum, ◌≢◌}
 use Rattle.std.proofs.Common.{◌≡◌, ℕ, zero, suc, ◌+◌, ◌<◌, ◌≤◌, Bool, true, false, cond, List, [], ◌∷◌, ◌++◌, length, map, refl, ap, sym, ◌∙◌, subst, arith, append-nil, ◌⊎◌, inl, inr}
 use Rattle.std.proofs.Math.Dec.{eqb}
 use Rattle.std.proofs.lemmas.Bool.{eq-eqb, eqb-true}
@@ -13,16 +13,19 @@ use Rattle.dta_model.specs.declared.plan.Plan.{Plan}
 use Rattle.cell_stages.specs.CellState.{CellState}
 use Rattle.node_transfer.specs.Gathered.{mail_line, room_after}
 use Rattle.node_transfer.specs.Places.{out_mail_put}
-use Rattle.cell_stages.specs.Contents.{IsStep, away, batch_of, cell_after, cell_before, in_link, out_link, room_of, storage_by}
-use Rattle.node_transfer.specs.Rest.{IsIdle, IsQuiet, NobodyComes, QuietNodesStayIdle, StaysIdle, WaitLater, rested_in, rested_once, rested_out}
+use Rattle.cell_stages.specs.Contents.{IsStep, away, batch_of, cell_after, cell_before, in_link, left_after, left_before, out_link, room_of, storage_by}
+use Rattle.node_transfer.specs.Rest.{IsIdle, IsQuiet, IsQuietLink, NobodyComes, QuietNodesStayIdle, StaysIdle, WaitLater, rested_in, rested_once, rested_out}
 use Rattle.cell_stages.specs.declared.in_link.InLink.{InLink}
 use Rattle.cell_stages.specs.declared.mail.Mail.{Mail}
 use Rattle.cell_stages.specs.declared.mail.Mail.TheVariants.{Away}
 use Rattle.cell_stages.specs.declared.out_link.OutLink.{OutLink}
 use Rattle.cell_stages.proofs.NextLines.{next-lines, next-waiting}
-use Rattle.node_transfer.proofs.OfStep.Gather.{map_each, room-same}
+use Rattle.link_queues.specs.Leavings.{pushed}
+use Rattle.node_transfer.proofs.OfRest.Rested.{nobody-pushed}
+use Rattle.node_transfer.proofs.OfStep.Gather.{map_each}
+use Rattle.node_transfer.proofs.OfStep.Left.{left-next, lefts-stay, room-same}
 use Rattle.node_transfer.proofs.OfRest.Quiet.{rested_with, transferred-rests}
-use Rattle.node_transfer.proofs.OfStep.Transfer.{transfer-stage}
+use Rattle.node_transfer.proofs.OfStep.Transfer.{in_links, ins-there, transfer-stage}
 
 -- what holds of those in a range that pass a test
 module _ (P : ℕ → Type 0) (q : ℕ → Bool) where
@@ -76,10 +79,10 @@ module _ (p : Plan) (n : ℕ) (P : ℕ → Type 0) where
 module _ (p : Plan) (n t : ℕ) (step : IsStep p n t) where
   -- the links of the cell before the transfer and after it
   abbrev in_before : ℕ → InLink
-  in_before = in_link p n t (line_before p t) away
+  in_before = in_link p n t (line_before p t) (left_before p t) away
 
   abbrev in_after : ℕ → InLink
-  in_after = in_link p n (suc t) (line_after p n t) away
+  in_after = in_link p n (suc t) (line_after p n t) (left_after p n t) away
 
   abbrev out_before : (ℕ → Mail) → ℕ → OutLink
   out_before mail = out_link p t (waiting_before p t) mail
@@ -99,7 +102,7 @@ module _ (p : Plan) (n t : ℕ) (step : IsStep p n t) where
 
   quiet-mailed : IsQuiet t (cell_before p n t away away) → IsQuiet t (cell_before p n t away (room_of p t))
   unfolding cell_before
-  quiet-mailed q = record { heads = q.heads; waits = waits-mailed (room_of p t) (outs p n) q.waits }
+  quiet-mailed q = record { links = q.links; waits = waits-mailed (room_of p t) (outs p n) q.waits }
 
   no-batches : (bs : List ℕ) → All (λ o. o.batch ≡ []) (map (out_before (room_of p t)) bs)
   no-batches [] = All-nil (λ o. o.batch ≡ [])
@@ -168,6 +171,24 @@ module _ (p : Plan) (n t : ℕ) (step : IsStep p n t) where
       let rest : InsStay ls = cc in
       All-cons (λ l. line_after p n t l ≡ line_before p t l) l ls (ap (λ x. x.line) here) (lines-stay ls rest)
 
+  -- what the links know of those who left them loses the oldest
+  lefts-stay-on : (ls : List ℕ) → InsStay ls → All (λ l. left_after p n t l ≡ pushed 0 (left_before p t l)) ls
+  lefts-stay-on [] h = All-nil (λ l. left_after p n t l ≡ pushed 0 (left_before p t l))
+  lefts-stay-on (l ∷ ls) h =
+      let here : in_after l ≡ rested_in p.delta (in_before l) = cc in
+      let rest : InsStay ls = cc in
+      All-cons (λ l. left_after p n t l ≡ pushed 0 (left_before p t l)) l ls (ap (λ x. x.left) here) (lefts-stay-on ls rest)
+
+  nobody-left : (ls : List ℕ) → All (IsQuietLink t) (map in_before ls) → All (λ l. sum (left_before p t l) ≡ 0) ls
+  nobody-left [] q = All-nil (λ l. sum (left_before p t l) ≡ 0)
+  nobody-left (l ∷ ls) q =
+      All-cons (λ l. sum (left_before p t l) ≡ 0) l ls (All-head (IsQuietLink t) (in_before l) (map in_before ls) q).left
+      (nobody-left ls (All-tail (IsQuietLink t) (in_before l) (map in_before ls) q))
+
+  quiet-lefts : IsQuiet t (cell_before p n t away away) → All (λ l. sum (left_before p t l) ≡ 0) (ins p n)
+  unfolding cell_before
+  quiet-lefts q = nobody-left (ins p n) q.links
+
   -- where nobody comes, the lines are those after the transfer
   nobody : NobodyComes p n t → All (λ l. batch_mail p l t ≡ []) (ins p n)
   nobody none = all-ins p n (λ l. batch_mail p l t ≡ []) none
@@ -195,27 +216,34 @@ module _ (p : Plan) (n t : ℕ) (step : IsStep p n t) where
   unfolding cell_before cell_after
   gather-keeps none =
       ap (λ is. record (cell_before p n (suc t) away away) { ins = is })
-      (map_each (line_before p (suc t)) (line_after p n t) (λ l line. in_link p n (suc t) (λ c. line) away l) (ins p n) (lines-same none))
+      (map_each (line_before p (suc t)) (line_after p n t) (λ l line. in_link p n (suc t) (λ c. line) (left_before p (suc t)) away l) (ins p n) (lines-same none)
+      ∙ sym (lefts-stay (λ l left. in_link p n (suc t) (line_after p n t) (λ c. left) away l) p step.sound n t (ins p n) (ins-there p n) (in_links p n)))
       ∙ ap (λ os. record (cell_after p n t away away) { outs = os })
       (map_each (waiting_before p (suc t)) (waiting_after p n t) (λ b line. out_link p (suc t) (λ c. line) away b) (outs p n) (next-waiting p step.sound t n step.node))
 
   -- and the links keep their rooms
-  rooms-stay : InsStay (ins p n) → NobodyComes p n t → (l : ℕ) → l < length p.net.links → (link_at p l).to.0 ≡ n
+  rooms-stay : IsQuiet t (cell_before p n t away away) → InsStay (ins p n) → NobodyComes p n t → (l : ℕ) → l < length p.net.links → (link_at p l).to.0 ≡ n
       → room_mail p l (suc t) ≡ room_mail p l t
-  rooms-stay e none l below to =
+  rooms-stay q e none l below to =
       let came = in-at p n (λ l. line_before p (suc t) l ≡ line_after p n t l) l below to (each-same (ins p n) (lines-same none)) in
       let stay = in-at p n (λ l. line_after p n t l ≡ line_before p t l) l below to (lines-stay (ins p n) e) in
-      sym (room-same p (suc t) l) ∙ ap (room_after (storage_by p.queue (link_at p l).storage)) (came ∙ stay) ∙ room-same p t l
+      let pushed_is = in-at p n (λ l. left_after p n t l ≡ pushed 0 (left_before p t l)) l below to (lefts-stay-on (ins p n) e) in
+      let nobody_is = in-at p n (λ l. sum (left_before p t l) ≡ 0) l below to (quiet-lefts q) in
+      sym (room-same p (suc t) l)
+      ∙ ap (λ line. room_after (storage_by p.queue (link_at p l).storage) line (left_before p (suc t) l)) (came ∙ stay)
+      ∙ ap (λ left. room_after (storage_by p.queue (link_at p l).storage) (line_before p t l) left)
+      (left-next p step.sound n t l below to ∙ pushed_is ∙ nobody-pushed (left_before p t l) nobody_is)
+      ∙ room-same p t l
 
-  idle : cell_after p n t away (batch_of p t) ≡ stayed (cell_before p n t away (room_of p t)) → IsIdle p n t
-  idle e = record {
+  idle : IsQuiet t (cell_before p n t away away) → cell_after p n t away (batch_of p t) ≡ stayed (cell_before p n t away (room_of p t)) → IsIdle p n t
+  idle q e = record {
     after = idle-after e;
     batches = λ b below from. out-at p n (λ b. batch_mail p b t ≡ []) b below from (batches-none (outs p n) (outs-stay e));
-    rooms = rooms-stay (ins-stay e);
+    rooms = rooms-stay q (ins-stay e);
   }
 
   stays-idle : StaysIdle p n t
-  stays-idle = record { quiet = λ q. idle (whole-stays q); gather = gather-keeps }
+  stays-idle = record { quiet = λ q. idle q (whole-stays q); gather = gather-keeps }
 
 pub quiet_nodes_stay_idle : QuietNodesStayIdle
 quiet_nodes_stay_idle p n t step = stays-idle p n t step

@@ -1,7 +1,7 @@
 -- Cells in which nobody is ready in a step.
 use Rattle.std.specs.List.{last_or}
-use Rattle.std.specs.Prelude.{All, IfSome, map, nat_lt, slice_get}
-use Rattle.std.proofs.Common.{◌≡◌, ℕ, zero, suc, ◌+◌, ◌<◌, Bool, true, false, cond, List, [], ◌∷◌, length, take, drop, refl, ap, sym, ◌∙◌, arith, Option, None, Some}
+use Rattle.std.specs.Prelude.{All, IfSome, map, nat_lt, slice_get, sum}
+use Rattle.std.proofs.Common.{◌≡◌, ℕ, zero, suc, ◌+◌, ◌-◌, ◌<◌, Bool, true, false, cond, List, [], ◌∷◌, length, take, drop, refl, ap, sym, ◌∙◌, arith, Option, None, Some}
 use Rattle.std.proofs.lemmas.List.{map-append, take-append-drop}
 use Rattle.std.proofs.lemmas.List.Elements.{All-drop, All-head, All-map, All-tail, All-take, All-weaker}
 use Rattle.dta_model.specs.Riders.{RiderState}
@@ -12,7 +12,7 @@ use Rattle.capacity_credits.specs.Meter.{MeterState, closed, granted}
 use Rattle.node_transfer.specs.Inside.Outs.{capped_by, closed_out, closed_with, opened_out, released}
 use Rattle.node_transfer.specs.Inside.Pass.{by_target, passed, penalty_of, place_of, turn_links, head_action, head_action_by}
 use Rattle.node_transfer.specs.Exits.{opened_exit}
-use Rattle.node_transfer.specs.Rest.{HeadIsLater, IsQuiet, WaitLater, rested, rested_in, rested_once, rested_out}
+use Rattle.node_transfer.specs.Rest.{IsQuiet, IsQuietLink, WaitLater, rested, rested_in, rested_once, rested_out}
 use Rattle.cell_stages.specs.declared.in_link.InLink.{InLink}
 use Rattle.cell_stages.specs.declared.mail.Mail.{Mail}
 use Rattle.cell_stages.specs.declared.mail.Mail.TheVariants.{Away, Batch, Room}
@@ -20,6 +20,8 @@ use Rattle.cell_stages.specs.declared.out_link.OutLink.{OutLink}
 use Rattle.cell_stages.specs.declared.exit.Exit.{Exit}
 use Rattle.node_transfer.specs.declared.step.pass.HeadAction.TheVariants.{Stays}
 use Rattle.cell_stages.specs.declared.turn.LimitedTurn.{LimitedTurn}
+use Rattle.link_queues.specs.Leavings.{pushed}
+use Rattle.node_transfer.proofs.OfRest.Rested.{nobody-pushed}
 use Rattle.node_transfer.proofs.OfStep.Outs.{admitted-none, not_le}
 
 -- a head that isn't ready stays
@@ -51,25 +53,30 @@ unfolding passed
 passed-stays step [] exit outs arrived h = refl
 passed-stays step (r ∷ line) exit outs arrived h = rw (head_action-stays step exit outs r h, passed) refl
 
-link-stays : (delta step : ℕ) (link : InLink) (outs : List OutLink) (arrived : List RiderState) → HeadIsLater step link
-    → passed_link delta step link outs arrived ≡ record { link = rested_in delta link; outs = outs; arrived = arrived }
-link-stays delta step link outs arrived h = ap (link_after link) (passed-stays step link.line (opened_exit delta link.exit) outs arrived h)
+none_less : (k : ℕ) → k - k ≡ 0
+none_less k = omega arith
 
-links-stay : (delta step : ℕ) (xs : List InLink) (outs : List OutLink) (arrived : List RiderState) → All (HeadIsLater step) xs
+link-stays : (delta step : ℕ) (link : InLink) (outs : List OutLink) (arrived : List RiderState) → IsQuietLink step link
+    → passed_link delta step link outs arrived ≡ record { link = rested_in delta link; outs = outs; arrived = arrived }
+link-stays delta step link outs arrived h =
+    ap (link_after link) (passed-stays step link.line (opened_exit delta link.exit) outs arrived h.head)
+    ∙ ap (λ k. record { link = record (rested_in delta link) { left = pushed k link.left }; outs = outs; arrived = arrived }) (none_less (length link.line))
+
+links-stay : (delta step : ℕ) (xs : List InLink) (outs : List OutLink) (arrived : List RiderState) → All (IsQuietLink step) xs
     → passed_links delta step xs outs arrived ≡ record { ins = map (rested_in delta) xs; outs = outs; arrived = arrived }
 unfolding passed_links
 links-stay delta step [] outs arrived a = refl
 links-stay delta step (x ∷ xs) outs arrived a =
     ap (λ w. put_first w.link (passed_links delta step xs w.outs w.arrived))
-    (link-stays delta step x outs arrived (All-head (HeadIsLater step) x xs a))
-    ∙ ap (put_first (rested_in delta x)) (links-stay delta step xs outs arrived (All-tail (HeadIsLater step) x xs a))
+    (link-stays delta step x outs arrived (All-head (IsQuietLink step) x xs a))
+    ∙ ap (put_first (rested_in delta x)) (links-stay delta step xs outs arrived (All-tail (IsQuietLink step) x xs a))
 
-rotated-stays : (delta step k : ℕ) (xs : List InLink) (outs : List OutLink) (arrived : List RiderState) → All (HeadIsLater step) xs
+rotated-stays : (delta step k : ℕ) (xs : List InLink) (outs : List OutLink) (arrived : List RiderState) → All (IsQuietLink step) xs
     → passed_rotated delta step k xs outs arrived ≡ record { ins = map (rested_in delta) xs; outs = outs; arrived = arrived }
 rotated-stays delta step k xs outs arrived a =
-    ap (passed_front delta step (take k xs)) (links-stay delta step (drop k xs) outs arrived (All-drop (HeadIsLater step) k xs a))
+    ap (passed_front delta step (take k xs)) (links-stay delta step (drop k xs) outs arrived (All-drop (IsQuietLink step) k xs a))
     ∙ ap (joined_behind (record { ins = map (rested_in delta) (drop k xs); outs = outs; arrived = arrived }))
-    (links-stay delta step (take k xs) outs arrived (All-take (HeadIsLater step) k xs a))
+    (links-stay delta step (take k xs) outs arrived (All-take (IsQuietLink step) k xs a))
     ∙ ap (λ is. record { ins = is; outs = outs; arrived = arrived })
     (sym (map-append (rested_in delta) (take k xs) (drop k xs)) ∙ ap (map (rested_in delta)) (take-append-drop k xs))
 
@@ -114,12 +121,15 @@ outs-rest delta step (o ∷ os) w none =
 pub transferred-rests : (step : ℕ) (s : CellState) → IsQuiet step s → All (λ o. o.batch ≡ []) s.outs
     → transferred step s ≡ record s { ins = map (rested_in s.delta) s.ins; outs = map (rested_with s.delta step) s.outs }
 transferred-rests step s q none =
-    ap (finished step s) (rotated-stays s.delta step (start_at step s.ins) s.ins (map (opened_out s.delta step) s.outs) s.arrived q.heads)
+    ap (finished step s) (rotated-stays s.delta step (start_at step s.ins) s.ins (map (opened_out s.delta step) s.outs) s.arrived q.links)
     ∙ ap (λ os. record s { ins = map (rested_in s.delta) s.ins; outs = os }) (outs-rest s.delta step s.outs q.waits none)
 
 -- a cell that rests stays quiet
-heads-rested : (delta step : ℕ) (xs : List InLink) → All (HeadIsLater step) xs → All (HeadIsLater step) (map (rested_in delta) xs)
-heads-rested delta step xs a = All-map (HeadIsLater step) (rested_in delta) xs a
+links-rested : (delta step : ℕ) (xs : List InLink) → All (IsQuietLink step) xs → All (IsQuietLink step) (map (rested_in delta) xs)
+links-rested delta step xs a =
+    All-map (IsQuietLink step) (rested_in delta) xs
+    (All-weaker (IsQuietLink step) (λ link. IsQuietLink step (rested_in delta link))
+    (λ link h. record { head = h.head; left = ap (λ ks. sum ks) (nobody-pushed link.left h.left) ∙ h.left }) xs a)
 
 waits-rested : (delta step : ℕ) (os : List OutLink) → All (WaitLater step) os → All (WaitLater step) (map (rested_out delta) os)
 waits-rested delta step os a =
@@ -127,7 +137,7 @@ waits-rested delta step os a =
     (All-weaker (WaitLater step) (λ o. WaitLater step (rested_out delta o)) (λ o h. record { due = h.due; later = h.later }) os a)
 
 quiet-once : (step : ℕ) (s : CellState) → IsQuiet step s → IsQuiet step (rested_once s)
-quiet-once step s q = record { heads = heads-rested s.delta step s.ins q.heads; waits = waits-rested s.delta step s.outs q.waits }
+quiet-once step s q = record { links = links-rested s.delta step s.ins q.links; waits = waits-rested s.delta step s.outs q.waits }
 
 pub quiet-rested : (step steps : ℕ) (s : CellState) → IsQuiet step s → IsQuiet step (rested steps s)
 unfolding rested

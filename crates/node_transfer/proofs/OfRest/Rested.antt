@@ -1,27 +1,92 @@
 -- Steps that go by at once are steps that go by one after another.
-use Rattle.std.specs.Prelude.{◌≡◌, ℕ, zero, suc, ◌+◌, ◌*◌, ◌<◌, ◌%◌, List, [], ◌∷◌, map, option_map, Option, None, Some}
-use Rattle.std.proofs.Common.{refl, ap, ◌∙◌, arith}
+use Rattle.std.specs.Prelude.{◌≡◌, ℕ, zero, suc, ◌+◌, ◌-◌, ◌*◌, ◌<◌, ◌≤◌, ◌%◌, false, length, sum, take, List, [], ◌∷◌, map, option_map, Option, None, Some}
+use Rattle.std.proofs.Common.{refl, ap, sym, ◌∙◌, arith, add-one}
+use Rattle.std.proofs.lemmas.List.Sums.{sum_by-cons}
+use Rattle.dta_model.specs.Allowance.{credited, parts}
+use Rattle.link_queues.specs.Leavings.{pushed}
+use Rattle.net_core.specs.Rates.{rate_in}
+use Rattle.net_core.specs.declared.rates.Rates.{Rates}
+use Rattle.node_transfer.proofs.OfStep.Later.{later-next, later-now}
+use Rattle.node_transfer.proofs.OfStep.Meters.{next_part}
 use Rattle.cell_stages.specs.CellState.{CellState}
-use Rattle.capacity_credits.specs.Meter.{MeterState, closed, granted, skipped}
+use Rattle.capacity_credits.specs.Meter.{MeterState, closed, granted, later, skipped}
 use Rattle.node_transfer.specs.Exits.{closed_turn, opened_turn}
 use Rattle.node_transfer.specs.Rest.{rested, rested_in, rested_once, rested_out}
-use Rattle.node_transfer.specs.Inside.Skip.{skipped_in, skipped_out, skipped_turn}
+use Rattle.node_transfer.specs.Inside.Skip.{idled, skipped_in, skipped_out, skipped_turn}
 use Rattle.cell_stages.specs.declared.in_link.InLink.{InLink}
 use Rattle.cell_stages.specs.declared.out_link.OutLink.{OutLink}
 use Rattle.cell_stages.specs.declared.turn.LimitedTurn.{LimitedTurn}
 
-more_carried : (carried k part : ℕ) → ((carried + k * part) % 3600000000 + part) % 3600000000 ≡ (carried + suc k * part) % 3600000000
-more_carried carried k part = omega arith
+more_carried : (carried before part : ℕ)
+    → ((carried + before) % 3600000000 + part) % 3600000000 ≡ (carried + (before + part)) % 3600000000
+more_carried carried before part = omega arith
 
-one_carried : (carried part : ℕ) → (carried + part) % 3600000000 ≡ (carried + 1 * part) % 3600000000
-one_carried carried part = omega arith
+-- what rates give in one step
+first_part : (rates : Rates) (delta : ℕ) → parts rates delta 1 ≡ credited (rate_in rates 0) * delta
+unfolding parts
+first_part rates delta = plus_none (credited (rate_in rates 0) * delta)
+  where
+    plus_none : (x : ℕ) → 0 + x ≡ x
+    plus_none x = omega arith
+
+-- one more step in which nobody leaves
+pub idled-suc : (k : ℕ) (xs : List ℕ) → idled (suc k) xs ≡ pushed 0 (idled k xs)
+unfolding idled
+idled-suc k xs = refl
+
+pub idled_none : (xs : List ℕ) → idled 0 xs ≡ xs
+unfolding idled
+idled_none xs = refl
+
+idled-one : (xs : List ℕ) → pushed 0 xs ≡ idled 1 xs
+idled-one xs = ap (pushed 0) (sym (idled_none xs)) ∙ sym (idled-suc 0 xs)
+
+-- where nobody left in the last steps, one more such step changes nothing
+pub nobody-pushed : (xs : List ℕ) → sum xs ≡ 0 → pushed 0 xs ≡ xs
+nobody-pushed [] h = refl
+nobody-pushed (x ∷ xs) h =
+    let here : x ≡ 0 = omega (arith, sum_by-cons (λ y. y) x xs, h) in
+    let rest : sum xs ≡ 0 = omega (arith, sum_by-cons (λ y. y) x xs, h) in
+    ap (λ y. 0 ∷ take (length xs) (y ∷ xs)) here ∙ ap (λ ys. 0 ∷ ys) (nobody-pushed xs rest) ∙ ap (λ y. y ∷ xs) (sym here)
+
+pub nobody-idled : (k : ℕ) (xs : List ℕ) → sum xs ≡ 0 → idled k xs ≡ xs
+nobody-idled zero xs h = idled_none xs
+nobody-idled (suc k) xs h = idled-suc k xs ∙ ap (pushed 0) (nobody-idled k xs h) ∙ nobody-pushed xs h
+
+idled-more : (i k : ℕ) (xs : List ℕ) → idled (k + i) xs ≡ idled k (idled i xs)
+idled-more i zero xs = ap (λ j. idled j xs) (zero_plus i) ∙ sym (idled_none (idled i xs))
+  where
+    zero_plus : (i : ℕ) → 0 + i ≡ i
+    zero_plus i = omega arith
+idled-more i (suc k) xs =
+    ap (λ j. idled j xs) (suc_first k i) ∙ idled-suc (k + i) xs ∙ ap (pushed 0) (idled-more i k xs) ∙ sym (idled-suc k (idled i xs))
+  where
+    suc_first : (k i : ℕ) → suc k + i ≡ suc (k + i)
+    suc_first k i = omega arith
+
+-- once nobody left in the last steps, the steps that follow change nothing
+pub idled_on : (steps i : ℕ) (xs : List ℕ) → i ≤ steps → sum (idled i xs) ≡ 0 → idled i xs ≡ idled steps xs
+idled_on steps i xs h none =
+    let e : steps - i + i ≡ steps = omega (arith, h) in
+    sym (ap (λ k. idled k xs) (sym e) ∙ idled-more i (steps - i) xs ∙ nobody-idled (steps - i) (idled i xs) none)
+
+pub idled_next : (i : ℕ) (xs : List ℕ) → pushed 0 (idled i xs) ≡ idled (i + 1) xs
+idled_next i xs = sym (ap (λ k. idled k xs) (add-one i) ∙ idled-suc i xs)
 
 module _ (delta : ℕ) where
   meter-first : (m : MeterState) → closed (granted delta m) ≡ skipped delta 1 m
-  meter-first m = ap (λ k. record { rate = m.rate; carried = k; left = 0 }) (one_carried m.carried (m.rate * delta))
+  meter-first m =
+      ap (λ x. record { rates = later 1 m.rates; carried = (m.carried + x) % 3600000000; left = 0; unlimited = false })
+      (sym (first_part m.rates delta))
 
   meter-next : (k : ℕ) (m : MeterState) → closed (granted delta (skipped delta k m)) ≡ skipped delta (suc k) m
-  meter-next k m = ap (λ c. record { rate = m.rate; carried = c; left = 0 }) (more_carried m.carried k (m.rate * delta))
+  meter-next k m =
+      ap (λ r. record { rates = r; carried = ((m.carried + parts m.rates delta k) % 3600000000 + credited (rate_in (later k m.rates) 0) * delta) % 3600000000; left = 0; unlimited = false })
+      (later-next k m.rates)
+      ∙ ap (λ c. record { rates = later (suc k) m.rates; carried = c; left = 0; unlimited = false })
+      (ap (λ o. ((m.carried + parts m.rates delta k) % 3600000000 + credited o * delta) % 3600000000) (later-now k m.rates)
+      ∙ more_carried m.carried (parts m.rates delta k) (credited (rate_in m.rates k) * delta)
+      ∙ ap (λ x. (m.carried + x) % 3600000000) (sym (next_part m.rates delta k)))
 
   limit-first : (o : Option MeterState) → option_map closed (option_map (granted delta) o) ≡ option_map (skipped delta 1) o
   limit-first None = refl
@@ -49,15 +114,17 @@ module _ (delta : ℕ) where
   in-first : (link : InLink) → rested_in delta link ≡ skipped_in delta 1 link
   in-first link =
       let g = link.exit in
-      ap (λ m. record link { exit = record g { outflow = m; turns = map closed_turn (map (opened_turn delta) g.turns) } }) (meter-first g.outflow)
-      ∙ ap (λ ts. record link { exit = record g { outflow = skipped delta 1 g.outflow; turns = ts } }) (turns-first g.turns)
+      ap (λ m. record link { left = pushed 0 link.left; exit = record g { outflow = m; turns = map closed_turn (map (opened_turn delta) g.turns) } }) (meter-first g.outflow)
+      ∙ ap (λ ts. record link { left = pushed 0 link.left; exit = record g { outflow = skipped delta 1 g.outflow; turns = ts } }) (turns-first g.turns)
+      ∙ ap (λ x. record (skipped_in delta 1 link) { left = x }) (idled-one link.left)
 
   in-next : (k : ℕ) (link : InLink) → rested_in delta (skipped_in delta k link) ≡ skipped_in delta (suc k) link
   in-next k link =
       let g = link.exit in
       let turns = map closed_turn (map (opened_turn delta) (map (skipped_turn delta k) g.turns)) in
-      ap (λ m. record link { exit = record g { outflow = m; turns = turns } }) (meter-next k g.outflow)
-      ∙ ap (λ ts. record link { exit = record g { outflow = skipped delta (suc k) g.outflow; turns = ts } }) (turns-next k g.turns)
+      ap (λ m. record link { left = pushed 0 (idled k link.left); exit = record g { outflow = m; turns = turns } }) (meter-next k g.outflow)
+      ∙ ap (λ ts. record link { left = pushed 0 (idled k link.left); exit = record g { outflow = skipped delta (suc k) g.outflow; turns = ts } }) (turns-next k g.turns)
+      ∙ ap (λ x. record (skipped_in delta (suc k) link) { left = x }) (sym (idled-suc k link.left))
 
   ins-first : (ls : List InLink) → map (rested_in delta) ls ≡ map (skipped_in delta 1) ls
   ins-first [] = refl

@@ -2,10 +2,10 @@
 use Rattle.net_core.specs.Network as network
 use Rattle.net_core.specs.Network.{numbers_below}
 use Rattle.net_core.specs.declared.rows.LinkNo.{LinkNo}
-use Rattle.net_core.specs.declared.rows.Turn.{Turn}
+use Rattle.net_core.specs.declared.rates.Rates.{Rates}
 use Rattle.std.specs.List.{range_with_len}
-use Rattle.std.specs.Prelude.{filter, slice_get, slice_index_or, nat_eq, nat_le, nat_lt, All, option_map, ◌≢◌}
-use Rattle.std.proofs.Common.{◌≡◌, ℕ, zero, suc, ◌+◌, ◌*◌, ◌%◌, ◌<◌, ◌≤◌, Bool, true, false, cond, ◌&&◌, List, [], ◌∷◌, ◌++◌, length, map, refl, ap, sym, ◌∙◌, subst, arith, append-nil, Option, Some, None, get_or, add-one}
+use Rattle.std.specs.Prelude.{filter, slice_get, slice_index_or, nat_eq, nat_le, nat_lt, All, ◌≢◌}
+use Rattle.std.proofs.Common.{◌≡◌, ℕ, zero, suc, ◌+◌, ◌-◌, ◌<◌, ◌≤◌, Bool, true, false, cond, ◌&&◌, List, [], ◌∷◌, ◌++◌, length, map, refl, ap, sym, ◌∙◌, subst, arith, append-nil, Option, Some, None, get_or, add-one}
 use Rattle.std.proofs.lemmas.Bool.{eqb-true, eq-eqb, ne_eqb}
 use Rattle.std.proofs.lemmas.Bool.Decides.{nat_tests}
 use Rattle.std.proofs.lemmas.List.{length-map, map-append}
@@ -17,7 +17,9 @@ use Rattle.std.proofs.Math.Dec.{eqb}
 use Rattle.net_core.proofs.Numbers.{numbers_more}
 use Rattle.dta_model.specs.Loading.{trace_after, entries_of, arrival_of}
 use Rattle.dta_model.specs.NodeMoves.{is_first}
-use Rattle.dta_model.specs.Plans.{departure_of, first_link, ins, link_at, link_numbers, outs, route_in, route_of, turn, vehicle_count, vehicles_of}
+use Rattle.dta_model.specs.Plans.{departure_of, first_link, ins, link_at, link_numbers, link_rates, outs, route_in, route_of, turn, turn_rates, vehicle_count, vehicles_of}
+use Rattle.dta_model.specs.Allowance.{parts}
+use Rattle.dta_model.specs.Room.{wave_of}
 use Rattle.dta_model.specs.Riders.{RiderState, rider_at, riders}
 use Rattle.dta_model.specs.Sound.{IsSound}
 use Rattle.cell_stages.specs.Stages.{arrived_before, line_before, waiting_before, waiting_for}
@@ -30,7 +32,8 @@ use Rattle.node_transfer.proofs.OfStep.ByKey.{both_true}
 use Rattle.link_queues.specs.Riders.{setting_out}
 use Rattle.link_queues.specs.declared.line.TheConstants.{MOST_RIDERS}
 use Rattle.node_transfer.specs.Places.{changed_at, set_some}
-use Rattle.cell_stages.specs.Contents.{away, cell_before, in_link, kept_turns, meter_after, out_link, turn_after, turn_by, waiting_parts}
+use Rattle.cell_stages.specs.Contents.{away, cell_before, in_link, is_limited, kept_turns, left_before, meter_after, out_link, penalty_of, turn_after, waiting_parts}
+use Rattle.link_queues.specs.Leavings.{no_leavings}
 use Rattle.capacity_credits.specs.Meter.{unused}
 use Rattle.node_transfer.specs.Inside.Pass.{place_of}
 use Rattle.node_transfer.specs.Start.{cells_at_start}
@@ -39,6 +42,7 @@ use Rattle.node_transfer.specs.Inside.StartLines.{line_below, lines_at_start, li
 use Rattle.node_transfer.proofs.OfStep.ByKey.{set-at}
 use Rattle.node_transfer.proofs.OfStep.InPass.{absent_all}
 use Rattle.node_transfer.proofs.OfStep.LinkPass.{outs-distinct}
+use Rattle.node_transfer.proofs.OfStart.Starts.{left-start, line-start}
 use Rattle.node_transfer.proofs.OfStep.Movers.{distinct_range, filter_like}
 
 some_trip : Trip
@@ -145,36 +149,31 @@ module _ (p : Plan) where
 
 -- the cells of step 0
 module _ (p : Plan) where
-  nothing-carried : (x : ℕ) → 0 ≡ (0 * x) % 3600000000
-  nothing-carried x = omega arith
-
-  meter-start : (rate : ℕ) → unused rate ≡ meter_after p 0 rate
-  meter-start rate = ap (λ k. record { rate = rate; carried = k; left = 0 }) (nothing-carried (rate * p.delta))
+  meter-start : (rates : Rates) → unused rates ≡ meter_after p 0 rates
+  unfolding parts
+  meter-start rates = refl
 
   turn-start : (l b : ℕ) → turn_at_start p l b ≡ turn_after p 0 l b
-  turn-start l b = by_turn (turn p l b)
+  turn-start l b = ap (λ y. record { to = record { 0 = b }; penalty = penalty_of (turn p l b); limit = y }) (by_limit (turn_rates p l b) (is_limited (turn_rates p l b)))
     where
-      by_rate : (r : Option ℕ) → option_map unused r ≡ option_map (meter_after p 0) r
-      by_rate None = refl
-      by_rate (Some rate) = ap (λ m. Some m) (meter-start rate)
-
-      by_turn : (o : Option Turn) → turn_by unused b o ≡ turn_by (meter_after p 0) b o
-      by_turn None = refl
-      by_turn (Some way) = ap (λ y. record { to = record { 0 = b }; penalty = way.penalty; limit = y }) (by_rate way.rate)
+      by_limit : (rates : Rates) (c : Bool) → cond c (Some (unused rates)) None ≡ cond c (Some (meter_after p 0 rates)) None
+      by_limit rates true = ap (λ m. Some m) (meter-start rates)
+      by_limit rates false = refl
 
   turns-start : (l : ℕ) (bs : List ℕ) → map (turn_at_start p l) bs ≡ map (turn_after p 0 l) bs
   turns-start l [] = refl
   turns-start l (b ∷ bs) = ap (λ y. y ∷ map (turn_at_start p l) bs) (turn-start l b) ∙ ap (λ ys. turn_after p 0 l b ∷ ys) (turns-start l bs)
 
-  in-start : (n l : ℕ) → start_in p (outs p n) l ≡ in_link p n 0 (line_before p 0) away l
-  unfolding line_before trace_after queue_of last_moves
+  in-start : (n l : ℕ) → start_in p (outs p n) l ≡ in_link p n 0 (line_before p 0) (left_before p 0) away l
   in-start n l =
-      ap (λ m. record (start_in p (outs p n) l) { exit = record { free = (link_at p l).free; outflow = m; turns = turns_at_start p l (outs p n) } }) (meter-start (link_at p l).rate)
-      ∙ ap (λ ts. record (in_link p n 0 (line_before p 0) away l) { exit = record { free = (link_at p l).free; outflow = meter_after p 0 (link_at p l).rate; turns = ts } }) (turns-start l (kept_turns p n l))
+      ap (λ m. record (start_in p (outs p n) l) { exit = record { free = (link_at p l).free; outflow = m; turns = turns_at_start p l (outs p n) } }) (meter-start (link_rates p l))
+      ∙ ap (λ ts. record (start_in p (outs p n) l) { exit = record { free = (link_at p l).free; outflow = meter_after p 0 (link_rates p l); turns = ts } }) (turns-start l (kept_turns p n l))
+      ∙ ap (λ xs. record (in_link p n 0 (line_before p 0) (left_before p 0) away l) { line = xs; left = no_leavings (wave_of p l - 1) }) (line-start p l)
+      ∙ ap (λ ks. record (in_link p n 0 (line_before p 0) (left_before p 0) away l) { left = ks }) (left-start p l)
 
-  ins-start : (n : ℕ) (ls : List ℕ) → map (start_in p (outs p n)) ls ≡ map (in_link p n 0 (line_before p 0) away) ls
+  ins-start : (n : ℕ) (ls : List ℕ) → map (start_in p (outs p n)) ls ≡ map (in_link p n 0 (line_before p 0) (left_before p 0) away) ls
   ins-start n [] = refl
-  ins-start n (l ∷ ls) = ap (λ y. y ∷ map (start_in p (outs p n)) ls) (in-start n l) ∙ ap (λ ys. in_link p n 0 (line_before p 0) away l ∷ ys) (ins-start n ls)
+  ins-start n (l ∷ ls) = ap (λ y. y ∷ map (start_in p (outs p n)) ls) (in-start n l) ∙ ap (λ ys. in_link p n 0 (line_before p 0) (left_before p 0) away l ∷ ys) (ins-start n ls)
 
   all-later : (rs : List RiderState) → waiting_parts 0 rs ≡ record { later = rs; due = [] }
   all-later [] = refl
@@ -186,8 +185,8 @@ module _ (p : Plan) where
   out-start : (lines : List (List RiderState)) (b : ℕ) → slice_index_or lines b [] ≡ waiting_before p 0 b → start_out p lines b ≡ out_link p 0 (waiting_before p 0) away b
   out-start lines b e =
       ap (λ w. record (start_out p lines b) { waiting = record { later = w; due = [] } }) e
-      ∙ ap (λ w. record { link = record { 0 = b }; inflow = unused (link_at p b).rate; waiting = w; batch = []; mail = away b }) (sym (all-later (waiting_before p 0 b)))
-      ∙ ap (λ m. record (out_link p 0 (waiting_before p 0) away b) { inflow = m }) (meter-start (link_at p b).rate)
+      ∙ ap (λ w. record { link = record { 0 = b }; inflow = unused (link_rates p b); waiting = w; batch = []; mail = away b }) (sym (all-later (waiting_before p 0 b)))
+      ∙ ap (λ m. record (out_link p 0 (waiting_before p 0) away b) { inflow = m }) (meter-start (link_rates p b))
 
   -- a line that is taken leaves the others
   other-kept : (b c : ℕ) (lines : List (List RiderState)) → b ≢ c → slice_index_or (emptied b lines) c [] ≡ slice_index_or lines c []
@@ -250,7 +249,7 @@ module _ (p : Plan) where
   unfolding cell_before arrived_before
   cell-start n lines filled =
       ap (λ is. record { ins = is; outs = taken_outs p lines (outs p n); arrived = []; delta = p.delta }) (ins-start n (ins p n))
-      ∙ ap (λ os. record { ins = map (in_link p n 0 (line_before p 0) away) (ins p n); outs = os; arrived = []; delta = p.delta })
+      ∙ ap (λ os. record { ins = map (in_link p n 0 (line_before p 0) (left_before p 0) away) (ins p n); outs = os; arrived = []; delta = p.delta })
       (outs-start (outs p n) (outs-distinct p n) lines (all_map (λ b. (b < length p.net.links) × ((link_at p b).from.0 ≡ n)) (λ b. slice_index_or lines b [] ≡ waiting_before p 0 b) (λ b h. filled b h.0 (let e = h.1 in omega (arith, e))) (outs p n) (outs-of n)))
 
   filled-left : (n : ℕ) (lines : List (List RiderState)) → Filled n lines → Filled (n + 1) (lines_left lines (outs p n))

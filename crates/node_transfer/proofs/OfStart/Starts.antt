@@ -4,7 +4,7 @@ use Rattle.net_core.specs.Network.{numbers_below}
 use Rattle.net_core.specs.Rows.{link_in, or_no_link}
 use Rattle.net_core.specs.declared.rows.LinkNo.{LinkNo}
 use Rattle.net_core.specs.declared.rows.LinkRow.{LinkRow}
-use Rattle.std.specs.List.{range_with_len}
+use Rattle.std.specs.List.{list_any, position_or_len, range_with_len}
 use Rattle.std.specs.Prelude.{filter, slice_get, slice_set, nat_eq, All}
 use Rattle.std.proofs.Common.{◌≡◌, ℕ, zero, suc, ◌+◌, ◌-◌, ◌<◌, ◌≤◌, Bool, true, false, cond, List, [], ◌∷◌, ◌++◌, length, map, refl, ap, sym, ◌∙◌, subst, arith, append_assoc, append-nil, Option, Some, None, get_or, take, drop, add-one}
 use Rattle.std.proofs.lemmas.List.{map_more}
@@ -13,27 +13,31 @@ use Rattle.dta_model.specs.Plans.{link_at, link_numbers}
 use Rattle.dta_model.specs.Riders.{RiderState}
 use Rattle.dta_model.specs.declared.plan.Plan.{Plan}
 use Rattle.node_transfer.specs.Places.{set_some}
-use Rattle.cell_stages.specs.Contents.{storage_by}
-use Rattle.net_core.specs.Rows.{IsBetween, IsLinkInRange, IsTurnInRange}
-use Rattle.fixed_units.specs.declared.link.TheConstants.{MOST_RATE}
-use Rattle.net_core.specs.declared.rows.Turn.{Turn}
+use Rattle.cell_stages.specs.Contents.{left_ago, left_before, storage_by}
+use Rattle.link_queues.specs.Leavings.{no_leavings}
+use Rattle.net_core.specs.declared.rates.Window.{Window}
+use Rattle.node_transfer.specs.Gathered.{room_after}
+use Rattle.node_transfer.proofs.OfStep.Left.{room-same}
+use Rattle.std.proofs.lemmas.Bool.{eq-eqb, eqb-true}
+use Rattle.std.proofs.lemmas.Bool.Decides.{nat_tests}
+use Rattle.std.proofs.lemmas.List.Sums.{sum_by-cons}
+use Rattle.net_core.specs.Rows.{IsBetween}
 use Rattle.net_core.specs.declared.rows.TurnRow.{TurnRow}
-use Rattle.dta_model.specs.Plans.{ins, outs, turn}
+use Rattle.dta_model.specs.Plans.{ins, outs, turn, turn_rates}
 use Rattle.dta_model.specs.Loading.{trace_after}
-use Rattle.dta_model.specs.Room.{room, room_by}
-use Rattle.cell_stages.specs.Stages.{room_mail}
+use Rattle.dta_model.specs.Room.{leavings, wave_of}
+use Rattle.cell_stages.specs.Stages.{line_before, room_mail}
 use Rattle.dta_model.specs.Trace.{queue_of, last_moves}
-use Rattle.dta_model.specs.declared.queue.Queue.{Queue}
-use Rattle.dta_model.specs.declared.queue.Queue.TheVariants as queue
 use Rattle.cell_stages.specs.CellState.{CellState}
 use Rattle.dta_model.specs.Sound.{IsSound}
 use Rattle.dta_model.proofs.Steady.{all_at}
-use Rattle.std.specs.Prelude.{IfSome, find, ◌&&◌}
+use Rattle.std.specs.Prelude.{nat_lt, position, sum, ◌&&◌, ◌||◌}
 use Rattle.std.proofs.Common.{rules}
 use Rattle.std.proofs.lemmas.List.{map-append}
 use Rattle.std.proofs.lemmas.List.Elements.{filter-append, All-head, All-tail, All-nil, All-cons, All-weaker, All-filter}
 use Rattle.cell_stages.specs.Contents.{is_kept, room_of}
-use Rattle.node_transfer.specs.Inside.StartCells.{turn_at_start, turns_at_start}
+use Rattle.node_transfer.specs.Inside.StartCells.{kept_at_start, turn_at_start, turns_at_start}
+use Rattle.cell_stages.specs.declared.turn.LimitedTurn.{LimitedTurn}
 use Rattle.node_transfer.specs.Inside.StartCells.{emptied, lines_left, start_out, taken_cell, taken_cells, taken_outs}
 use Rattle.cell_stages.specs.declared.mail.Mail.{Mail}
 use Rattle.cell_stages.specs.declared.mail.Mail.TheVariants.{Room}
@@ -58,53 +62,47 @@ links_more f ls i d h = links_map (take (i + 1) ls) ∙ map_more (λ l. f l.0) l
     links_map [] = refl
     links_map (l ∷ ls) = ap (λ xs. f l.0 ∷ xs) (links_map ls)
 
-found_all : (q : TurnRow → Bool) (rows : List TurnRow) (row : TurnRow) → All IsTurnInRange rows → find q rows ≡ Some row → IsTurnInRange row
-found_all q [] row a e = cc
-found_all q (x ∷ rows) row a e = by_test (q x) e (found_all q rows row (All-tail IsTurnInRange x rows a))
+-- a turn between links of a node that no row names isn't listed
+neither : (a b : Bool) → (a || b) ≡ false → (a ≡ false) × (b ≡ false)
+neither true b h = cc
+neither false b h = (refl, h)
+
+first_and : (a b : Bool) → (a && b) ≡ true → a ≡ true
+first_and true b h = refl
+first_and false b h = cc
+
+unplaced : (here q : TurnRow → Bool) → ((x : TurnRow) → q x ≡ true → here x ≡ true) → (xs : List TurnRow) → list_any here xs ≡ false → position_or_len q xs ≡ length xs
+unplaced here q f [] h = refl
+unplaced here q f (x ∷ xs) h = by_test (q x) refl (unplaced here q f xs (neither (here x) (list_any here xs) h).1)
   where
-    by_test : (c : Bool) → cond c (Some x) (find q rows) ≡ Some row → (find q rows ≡ Some row → IsTurnInRange row) → IsTurnInRange row
-    by_test true e ih = subst IsTurnInRange (some_row x row e) (All-head IsTurnInRange x rows a)
-      where
-        some_row : (x y : TurnRow) → Some x ≡ Some y → x ≡ y
-        some_row x y e = cc
-    by_test false e ih = ih e
+    one_plus : (n : ℕ) → 1 + n ≡ suc n
+    one_plus n = omega arith
 
--- rates and limits of a sound loading
-pub rate_fits : (p : Plan) (l : ℕ) (row : LinkRow) → IsSound p → slice_get p.net.links l ≡ Some row → row.rate ≤ MOST_RATE
-rate_fits p l row sound h = (all_at IsLinkInRange p.net.links l row sound.net.links.range h).rate
+    by_test : (c : Bool) → q x ≡ c → position_or_len q xs ≡ length xs → position_or_len q (x ∷ xs) ≡ length (x ∷ xs)
+    by_test true e ih = let t = f x e in let g = (neither (here x) (list_any here xs) h).0 in let same : true ≡ false = sym t ∙ g in cc
+    by_test false e ih = rw (e, ih) (one_plus (length xs))
 
-pub limit_fits : (p : Plan) (a b : ℕ) (way : Turn) → IsSound p → turn p a b ≡ Some way → IfSome way.rate (λ r. r ≤ MOST_RATE)
+no-windows-unnamed : (p : Plan) (a b : ℕ) → network.is_named p.net (link_at p a).to.0 ≡ false → network.turn_windows p.net a b ≡ []
+unfolding network.turn_windows network.is_named
+no-windows-unnamed p a b e =
+    let q : TurnRow → Bool = λ turn. nat_eq turn.a.0 a && nat_eq turn.b.0 b in
+    let none : position_or_len q p.net.turns ≡ length p.net.turns =
+    unplaced (λ turn. nat_eq (link_at p turn.a.0).to.0 (link_at p a).to.0) q
+    (λ x h. let same = eqb-true x.a.0 a (first_and (nat_eq x.a.0 a) (nat_eq x.b.0 b) h) in eq-eqb (link_at p x.a.0).to.0 (link_at p a).to.0 (ap (λ k. (link_at p k).to.0) same))
+    p.net.turns e in
+    ap (λ k. network.windows_at p.net (cond (nat_lt k (length p.net.turns)) (Some k) None)) none
+    ∙ ap (λ c. network.windows_at p.net (cond c (Some (length p.net.turns)) None)) (never (length p.net.turns))
+  where
+    never : (n : ℕ) → nat_lt n n ≡ false
+    never n = grind (arith, nat_tests)
+
+kept_free : (p : Plan) (a b : ℕ) → network.is_named p.net (link_at p a).to.0 ≡ false → is_kept (turn_rates p a b) (turn p a b) ≡ false
 unfolding network.turn network.turn_at
-limit_fits p a b way sound h = by_meeting (nat_eq (link_at p b).from.0 (link_at p a).to.0) h
+kept_free p a b e = rw e (by_meeting (nat_eq (link_at p b).from.0 (link_at p a).to.0) (network.turn_windows p.net a b) (no-windows-unnamed p a b e))
   where
-    of_row : (o : Option TurnRow) → ((row : TurnRow) → o ≡ Some row → IsTurnInRange row) → network.as_turn o ≡ Some way → IfSome way.rate (λ r. r ≤ MOST_RATE)
-    of_row None f e = cc
-    of_row (Some row) f e = subst (λ r. IfSome r (λ r. r ≤ MOST_RATE)) (same row e) (f row refl).rate
-      where
-        same : (row : TurnRow) → Some (record { penalty = row.penalty; rate = row.rate }) ≡ Some way → row.rate ≡ way.rate
-        same row e = let q : record { penalty = row.penalty; rate = row.rate } ≡ way = some_way (record { penalty = row.penalty; rate = row.rate }) way e in ap (λ w. w.rate) q
-          where
-            some_way : (x y : Turn) → Some x ≡ Some y → x ≡ y
-            some_way x y e = cc
-
-    by_name : (c : Bool) → cond c (network.as_turn (find (λ turn. nat_eq turn.a.0 a && nat_eq turn.b.0 b) p.net.turns)) (Some network.free_turn) ≡ Some way → IfSome way.rate (λ r. r ≤ MOST_RATE)
-    by_name true e = of_row (find (λ turn. nat_eq turn.a.0 a && nat_eq turn.b.0 b) p.net.turns) (λ row q. found_all (λ turn. nat_eq turn.a.0 a && nat_eq turn.b.0 b) p.net.turns row sound.net.turns.range q) e
-    by_name false e = let q : network.free_turn ≡ way = free_way network.free_turn way e in subst (λ w. IfSome w.rate (λ r. r ≤ MOST_RATE)) q (search rules)
-      where
-        free_way : (x y : Turn) → Some x ≡ Some y → x ≡ y
-        free_way x y e = cc
-
-    by_meeting : (c : Bool) → cond c (cond (network.is_named p.net (link_at p a).to.0) (network.as_turn (find (λ turn. nat_eq turn.a.0 a && nat_eq turn.b.0 b) p.net.turns)) (Some network.free_turn)) None ≡ Some way → IfSome way.rate (λ r. r ≤ MOST_RATE)
-    by_meeting true e = by_name (network.is_named p.net (link_at p a).to.0) e
-    by_meeting false e = cc
-
-kept_free : (p : Plan) (a b : ℕ) → network.is_named p.net (link_at p a).to.0 ≡ false → is_kept (turn p a b) ≡ false
-unfolding network.turn network.turn_at
-kept_free p a b e = rw e (by_meeting (nat_eq (link_at p b).from.0 (link_at p a).to.0))
-  where
-    by_meeting : (c : Bool) → is_kept (cond c (Some network.free_turn) None) ≡ false
-    by_meeting true = refl
-    by_meeting false = refl
+    by_meeting : (c : Bool) (ws : List Window) → ws ≡ [] → is_kept (record { usual = network.limit_of (cond c (Some network.free_turn) None); windows = ws }) (cond c (Some network.free_turn) None) ≡ false
+    by_meeting true ws h = rw h refl
+    by_meeting false ws h = refl
 
 -- a link of a sound loading ends at a node of the table
 pub ends_there : (p : Plan) (l : ℕ) (row : LinkRow) → IsSound p → slice_get p.net.links l ≡ Some row → row.to.0 < length p.net.nodes
@@ -114,25 +112,44 @@ ends_there p l row sound h = (all_at (IsBetween p.net.nodes) p.net.links l row s
 pub free_turns : (p : Plan) (l : ℕ) (row : LinkRow) (bs : List ℕ) → slice_get p.net.links l ≡ Some row → network.is_named p.net row.to.0 ≡ false → turns_at_start p l bs ≡ []
 free_turns p l row bs h e = ap (λ ys. map (turn_at_start p l) ys) (none_kept bs)
   where
-    none_is : (b : ℕ) → is_kept (turn p l b) ≡ false
+    none_is : (b : ℕ) → is_kept (turn_rates p l b) (turn p l b) ≡ false
     none_is b = kept_free p l b (subst (λ r. network.is_named p.net r.to.0 ≡ false) (sym (got_link p.net.links l row h)) e)
 
-    none_kept : (bs : List ℕ) → filter (λ b. is_kept (turn p l b)) bs ≡ []
+    none_kept : (bs : List ℕ) → filter (λ b. is_kept (turn_rates p l b) (turn p l b)) bs ≡ []
     none_kept [] = refl
     none_kept (b ∷ bs) = rw (none_is b) (none_kept bs)
 
 -- one more turn, where it is one that a cell keeps
 pub turns_more : (p : Plan) (l : ℕ) (bs : List LinkNo) (i : ℕ) (d : LinkNo) → i < length bs
-    → turns_at_start p l (link_numbers (take (i + 1) bs)) ≡ turns_at_start p l (link_numbers (take i bs)) ++ cond (is_kept (turn p l (get_or bs i d).0)) (turn_at_start p l (get_or bs i d).0 ∷ []) []
+    → turns_at_start p l (link_numbers (take (i + 1) bs)) ≡ turns_at_start p l (link_numbers (take i bs)) ++ cond (is_kept (turn_rates p l (get_or bs i d).0) (turn p l (get_or bs i d).0)) (turn_at_start p l (get_or bs i d).0 ∷ []) []
 turns_more p l bs i d h =
     ap (λ xs. turns_at_start p l xs) (map_more (λ x. x.0) bs i d h)
-    ∙ ap (λ xs. map (turn_at_start p l) xs) (filter-append (λ b. is_kept (turn p l b)) (link_numbers (take i bs)) ((get_or bs i d).0 ∷ []))
-    ∙ map-append (turn_at_start p l) (filter (λ b. is_kept (turn p l b)) (link_numbers (take i bs))) (cond (is_kept (turn p l (get_or bs i d).0)) ((get_or bs i d).0 ∷ []) [])
-    ∙ ap (λ xs. turns_at_start p l (link_numbers (take i bs)) ++ xs) (one_turn (is_kept (turn p l (get_or bs i d).0)))
+    ∙ ap (λ xs. map (turn_at_start p l) xs) (filter-append (λ b. is_kept (turn_rates p l b) (turn p l b)) (link_numbers (take i bs)) ((get_or bs i d).0 ∷ []))
+    ∙ map-append (turn_at_start p l) (filter (λ b. is_kept (turn_rates p l b) (turn p l b)) (link_numbers (take i bs))) (cond (is_kept (turn_rates p l (get_or bs i d).0) (turn p l (get_or bs i d).0)) ((get_or bs i d).0 ∷ []) [])
+    ∙ ap (λ xs. turns_at_start p l (link_numbers (take i bs)) ++ xs) (one_turn (is_kept (turn_rates p l (get_or bs i d).0) (turn p l (get_or bs i d).0)))
   where
     one_turn : (c : Bool) → map (turn_at_start p l) (cond c ((get_or bs i d).0 ∷ []) []) ≡ cond c (turn_at_start p l (get_or bs i d).0 ∷ []) []
     one_turn true = refl
     one_turn false = refl
+
+-- by what is found for the next link
+pub turn_found : (p : Plan) (l : ℕ) (bs : List LinkNo) (i : ℕ) (d : LinkNo) (found : LimitedTurn) → i < length bs → Some found ≡ kept_at_start p l (get_or bs i d).0
+    → turns_at_start p l (link_numbers (take i bs)) ++ found ∷ [] ≡ turns_at_start p l (link_numbers (take (i + 1) bs))
+turn_found p l bs i d found h e = by_kept (is_kept (turn_rates p l (get_or bs i d).0) (turn p l (get_or bs i d).0)) e ∙ sym (turns_more p l bs i d h)
+  where
+    by_kept : (c : Bool) → Some found ≡ cond c (Some (turn_at_start p l (get_or bs i d).0)) None
+        → turns_at_start p l (link_numbers (take i bs)) ++ found ∷ [] ≡ turns_at_start p l (link_numbers (take i bs)) ++ cond c (turn_at_start p l (get_or bs i d).0 ∷ []) []
+    by_kept true e = let same : found ≡ turn_at_start p l (get_or bs i d).0 = cc in ap (λ x. turns_at_start p l (link_numbers (take i bs)) ++ x ∷ []) same
+    by_kept false e = cc
+
+pub no_turn_found : (p : Plan) (l : ℕ) (bs : List LinkNo) (i : ℕ) (d : LinkNo) → i < length bs → None ≡ kept_at_start p l (get_or bs i d).0
+    → turns_at_start p l (link_numbers (take i bs)) ≡ turns_at_start p l (link_numbers (take (i + 1) bs))
+no_turn_found p l bs i d h e = by_kept (is_kept (turn_rates p l (get_or bs i d).0) (turn p l (get_or bs i d).0)) e ∙ sym (turns_more p l bs i d h)
+  where
+    by_kept : (c : Bool) → None ≡ cond c (Some (turn_at_start p l (get_or bs i d).0)) None
+        → turns_at_start p l (link_numbers (take i bs)) ≡ turns_at_start p l (link_numbers (take i bs)) ++ cond c (turn_at_start p l (get_or bs i d).0 ∷ []) []
+    by_kept true e = cc
+    by_kept false e = sym (append-nil (turns_at_start p l (link_numbers (take i bs))))
 
 -- the first of the links that are left
 drop_suc : (bs : List LinkNo) (i : ℕ) (d : LinkNo) → i < length bs → drop i (link_numbers bs) ≡ (get_or bs i d).0 ∷ drop (suc i) (link_numbers bs)
@@ -226,22 +243,46 @@ cells_end p lines done n N h = ap (λ k. done ++ taken_cells p lines (range_with
     none_left : (n N : ℕ) → N ≤ n → N - n ≡ 0
     none_left n N h = omega (arith, h)
 
--- the rooms of empty links
-pub rooms_start : (p : Plan) (xs : List ℕ) → map (start_room p) xs ≡ map (room_of p 0) xs
-unfolding room_mail room trace_after queue_of last_moves
-rooms_start p [] = refl
-rooms_start p (l ∷ xs) = ap (λ o. Room 0 o ∷ map (start_room p) xs) (by_queue p.queue) ∙ ap (λ ys. room_of p 0 l ∷ ys) (rooms_start p xs)
+-- nobody is on a link, or has left it
+zeros : (k a : ℕ) → sum (map (λ i. 0) (range_with_len a k)) ≡ 0
+zeros zero a = refl
+zeros (suc k) a = let h = sum_by-cons (λ x. x) 0 (map (λ i. 0) (range_with_len (a + 1) k)) in omega (arith, h, zeros k (a + 1))
+
+none_left : (k a b : ℕ) (f : ℕ → ℕ) → ((i : ℕ) → f i ≡ 0) → map (λ i. 0) (range_with_len a k) ≡ map f (range_with_len b k)
+none_left zero a b f h = refl
+none_left (suc k) a b f h = ap (λ x. x ∷ map (λ i. 0) (range_with_len (a + 1) k)) (sym (h b)) ∙ ap (λ xs. f b ∷ xs) (none_left k (a + 1) (b + 1) f h)
+
+nobody_left : (p : Plan) (l i : ℕ) → left_ago (trace_after p 0) l 0 i ≡ 0
+unfolding leavings trace_after
+nobody_left p l i = refl
+
+pub left-start : (p : Plan) (l : ℕ) → no_leavings (wave_of p l - 1) ≡ left_before p 0 l
+left-start p l = none_left (wave_of p l - 1) 0 1 (left_ago (trace_after p 0) l 0) (nobody_left p l)
+
+pub line-start : (p : Plan) (l : ℕ) → [] ≡ line_before p 0 l
+unfolding line_before trace_after queue_of last_moves
+line-start p l = refl
+
+-- so all of the storage is free
+all-free : (p : Plan) (l : ℕ) → storage_by p.queue (link_at p l).storage ≡ room_mail p l 0
+all-free p l =
+    by_storage (storage_by p.queue (link_at p l).storage)
+    ∙ ap (λ k. room_after (storage_by p.queue (link_at p l).storage) [] k) (left-start p l)
+    ∙ ap (λ line. room_after (storage_by p.queue (link_at p l).storage) line (left_before p 0 l)) (line-start p l)
+    ∙ room-same p 0 l
   where
-    by_queue : (q : Queue) → storage_by q (link_at p l).storage ≡ room_by q (link_at p l).storage 0
-    by_queue queue.Point = refl
-    by_queue queue.Spatial = ap (λ k. Some k) (all_free (link_at p l).storage)
-      where
-        all_free : (s : ℕ) → s ≡ s - 0
-        all_free s = omega arith
+    all_of : (s e : ℕ) → e ≡ 0 → s ≡ s - (0 + e)
+    all_of s e h = omega (arith, h)
+
+    by_storage : (o : Option ℕ) → o ≡ room_after o [] (no_leavings (wave_of p l - 1))
+    by_storage None = refl
+    by_storage (Some s) = ap (λ k. Some k) (all_of s (sum (no_leavings (wave_of p l - 1))) (zeros (wave_of p l - 1) 0))
+
+pub rooms_start : (p : Plan) (xs : List ℕ) → map (start_room p) xs ≡ map (room_of p 0) xs
+rooms_start p [] = refl
+rooms_start p (l ∷ xs) = ap (λ o. Room 0 o ∷ map (start_room p) xs) (all-free p l) ∙ ap (λ ys. room_of p 0 l ∷ ys) (rooms_start p xs)
 
 pub ruleset start_steps = (numbers_more, got_link, links_more)
 
--- what the turns, and the meter, of a link at the start ask for
+-- what the turns of a link at the start ask for
 pub ruleset turn_steps = (numbers_more, got_link, links_more, ends_there)
-
-pub ruleset meter_steps = (rate_fits, got_link)

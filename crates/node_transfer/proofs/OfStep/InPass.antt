@@ -22,14 +22,14 @@ use Rattle.dta_model.proofs.Places.{of_mover}
 use Rattle.dta_model.proofs.Queues.{absent, distinct, queue-distinct, leads_once}
 use Rattle.dta_model.proofs.Standing.{in-queue}
 use Rattle.node_transfer.specs.Inside.Cells.{passed_link, passed_links, passed_front, passed_rotated, link_after, put_first, joined_behind}
-use Rattle.cell_stages.specs.Contents.{in_link, exit_after, away}
+use Rattle.cell_stages.specs.Contents.{in_link, exit_after, left_before, away}
 use Rattle.node_transfer.specs.Exits.{opened_exit}
 use Rattle.cell_stages.specs.declared.in_link.InLink.{InLink}
 use Rattle.node_transfer.proofs.OfStep.ByKey.{head_parts}
 use Rattle.node_transfer.proofs.OfStep.Facts.{on-link}
 use Rattle.node_transfer.proofs.OfStep.LinkPass.{drains, pass_of, work_of, pass_same}
 use Rattle.node_transfer.proofs.OfStep.Meters.{exit-opens, exit-closes}
-use Rattle.node_transfer.proofs.OfStep.Mid.{T, line_mid, exit_mid, out_mid, arrived_mid, in_done}
+use Rattle.node_transfer.proofs.OfStep.Mid.{T, line_mid, left_mid, exit_mid, out_mid, arrived_mid, in_done}
 use Rattle.node_transfer.proofs.OfStep.Movers.{distinct_filter, staying-same, clash}
 
 pub staying-none : (Q : List ℕ) → staying [] Q ≡ Q
@@ -90,10 +90,10 @@ module _ (p : Plan) (sound : IsSound p) (n t : ℕ) where
 
   -- an in-link whose turn has passed stays as it is
   pub done-stays : (l : ℕ) → (link_at p l).to.0 ≡ n → (M R : List Move) → Untouched p n t R l → in_done p n t (M ++ R) l ≡ in_done p n t M l
-  done-stays l to M R none = ap (λ S. record (in_done p n t M l) { line = riders p (T p n t) S }) (staying-same M R (queue_of l (T p n t)) (untouched-still l to R none))
+  done-stays l to M R none = ap (λ S. record (in_done p n t M l) { line = riders p (T p n t) S; left = left_mid p n t (riders p (T p n t) S) l }) (staying-same M R (queue_of l (T p n t)) (untouched-still l to R none))
 
   abbrev pub in_before : ℕ → InLink
-  in_before l = in_link p n t (line_before p t) away l
+  in_before l = in_link p n t (line_before p t) (left_before p t) away l
 
   line-before : (l : ℕ) → (link_at p l).to.0 ≡ n → (M : List Move) → Untouched p n t M l → line_before p t l ≡ line_mid p n t M l
   unfolding line_before
@@ -112,7 +112,7 @@ module _ (p : Plan) (sound : IsSound p) (n t : ℕ) where
   link-passes l to M M' none r =
       ap (λ w. link_after (in_before l) w)
       (pass_same t (line_before p t l) (line_mid p n t M l) (opened_exit p.delta (exit_after p n t l)) (exit_mid p n t M l) (map (out_mid p n t M) (outs p n)) (map (out_mid p n t M) (outs p n)) (arrived_mid p n t M) (arrived_mid p n t M) (line-before l to M none) (exit-opens p n t M l (none-left l M none)) refl refl ∙ r)
-      ∙ ap (λ g. record { link = record (in_before l) { line = line_mid p n t M' l; exit = g }; outs = map (out_mid p n t M') (outs p n); arrived = arrived_mid p n t M' }) (exit-closes p n t M' l)
+      ∙ ap (λ g. record { link = record (in_before l) { line = line_mid p n t M' l; left = left_mid p n t (line_mid p n t M' l) l; exit = g }; outs = map (out_mid p n t M') (outs p n); arrived = arrived_mid p n t M' }) (exit-closes p n t M' l)
 
   -- several in-links
   pub record InsPass (M : List Move) (ls : List ℕ) (M' : List Move) : Type 0 where

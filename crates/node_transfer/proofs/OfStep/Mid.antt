@@ -1,16 +1,20 @@
 -- A node's cell in the middle of its transfer, by the moves that it has made so far in the step.
-use Rattle.std.specs.Prelude.{ℕ, suc, ◌-◌, min, nat_le, List, [], ◌++◌, map, filter, Option, None, Some}
+use Rattle.std.specs.Prelude.{ℕ, suc, ◌-◌, length, min, nat_le, List, [], ◌++◌, map, filter, Option, None, Some}
 use Rattle.dta_model.specs.Allowance.{carried, allowance}
 use Rattle.dta_model.specs.Loading.{trace_after}
 use Rattle.dta_model.specs.NodeMoves.{left, entered, turned}
-use Rattle.dta_model.specs.Plans.{link_at, link_allowance, turn, departure_of}
+use Rattle.dta_model.specs.Plans.{link_at, link_allowance, link_rates, turn, turn_rates, departure_of}
 use Rattle.dta_model.specs.Riders.{RiderState, riders}
 use Rattle.dta_model.specs.Room.{room}
-use Rattle.cell_stages.specs.Stages.{staying, waiting_for, arrived_before, arrive_by, batch_by}
+use Rattle.std.specs.Option.{is_none}
+use Rattle.net_core.specs.Rates.{rate_in}
+use Rattle.net_core.specs.declared.rates.Rates.{Rates}
+use Rattle.link_queues.specs.Leavings.{pushed}
+use Rattle.cell_stages.specs.Stages.{line_before, staying, waiting_for, arrived_before, arrive_by, batch_by}
 use Rattle.dta_model.specs.Trace.{Move, queue_of}
 use Rattle.dta_model.specs.declared.plan.Plan.{Plan}
-use Rattle.cell_stages.specs.Contents.{kept_turns, turn_by, storage_by, exit_after, meter_after}
-use Rattle.capacity_credits.specs.Meter.{MeterState}
+use Rattle.cell_stages.specs.Contents.{kept_turns, turn_by, storage_by, exit_after, left_before, meter_after}
+use Rattle.capacity_credits.specs.Meter.{MeterState, later}
 use Rattle.cell_stages.specs.declared.in_link.InLink.{InLink}
 use Rattle.cell_stages.specs.declared.mail.Mail.TheVariants.{Away, Batch}
 use Rattle.cell_stages.specs.declared.out_link.OutLink.{OutLink}
@@ -18,9 +22,12 @@ use Rattle.cell_stages.specs.declared.out_link.Waiting.{Waiting}
 use Rattle.cell_stages.specs.declared.exit.Exit.{Exit}
 use Rattle.cell_stages.specs.declared.turn.LimitedTurn.{LimitedTurn}
 
--- a rate in step t, of whose allowance some are used
-abbrev pub meter_mid : Plan → ℕ → ℕ → ℕ → MeterState
-meter_mid p t rate used = record { rate = rate; carried = carried rate p.delta (suc t); left = allowance rate p.delta t - used }
+-- rates in step t, of which so many vehicles are left, and of whose allowance some are used
+abbrev pub meter_with : Plan → ℕ → Rates → ℕ → MeterState
+meter_with p t rates left = record { rates = later (suc t) rates; carried = carried rates p.delta (suc t); left = left; unlimited = is_none (rate_in (later t rates) 0) }
+
+abbrev pub meter_mid : Plan → ℕ → Rates → ℕ → MeterState
+meter_mid p t rates used = meter_with p t rates (allowance rates p.delta t - used)
 
 abbrev pub capped_room : Option ℕ → ℕ → ℕ
 capped_room None a = a
@@ -35,12 +42,12 @@ module _ (p : Plan) (n t : ℕ) where
   line_mid M l = riders p T (staying M (queue_of l T))
 
   abbrev pub turn_mid : List Move → ℕ → ℕ → LimitedTurn
-  turn_mid M l b = turn_by (λ rate. meter_mid p t rate (turned p n t T M l b)) b (turn p l b)
+  turn_mid M l b = turn_by (λ rates. meter_mid p t rates (turned p n t T M l b)) b (turn_rates p l b) (turn p l b)
 
   abbrev pub exit_mid : List Move → ℕ → Exit
   exit_mid M l = record {
     free = (link_at p l).free;
-    outflow = meter_mid p t (link_at p l).rate (left p n t T M l);
+    outflow = meter_mid p t (link_rates p l) (left p n t T M l);
     turns = map (turn_mid M l) (kept_turns p n l);
   }
 
@@ -61,7 +68,7 @@ module _ (p : Plan) (n t : ℕ) where
   abbrev pub out_mid : List Move → ℕ → OutLink
   out_mid M b = record {
     link = record { 0 = b };
-    inflow = record { rate = (link_at p b).rate; carried = carried (link_at p b).rate p.delta (suc t); left = takes b - entered p n t T M b };
+    inflow = meter_with p t (link_rates p b) (takes b - entered p n t T M b);
     waiting = waiting_mid M b;
     batch = batch_by p b T M;
     mail = Away;
@@ -70,10 +77,15 @@ module _ (p : Plan) (n t : ℕ) where
   abbrev pub arrived_mid : List Move → List RiderState
   arrived_mid M = arrived_before p n t ++ arrive_by p T M
 
+  -- how many left an in-link in the last steps, once it has had its turn
+  abbrev pub left_mid : List RiderState → ℕ → List ℕ
+  left_mid line l = pushed (length (line_before p t l) - length line) (left_before p t l)
+
   -- an in-link that has had its turn, and an out-link that has
   abbrev pub in_done : List Move → ℕ → InLink
   in_done M l = record {
     line = line_mid M l;
+    left = left_mid (line_mid M l) l;
     exit = exit_after p n (suc t) l;
     storage = storage_by p.queue (link_at p l).storage;
     mail = Away;
@@ -82,7 +94,7 @@ module _ (p : Plan) (n t : ℕ) where
   abbrev pub out_done : List Move → ℕ → OutLink
   out_done M b = record {
     link = record { 0 = b };
-    inflow = meter_after p (suc t) (link_at p b).rate;
+    inflow = meter_after p (suc t) (link_rates p b);
     waiting = waiting_mid M b;
     batch = [];
     mail = Batch t (batch_by p b T M);

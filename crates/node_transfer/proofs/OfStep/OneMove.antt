@@ -1,25 +1,24 @@
 -- What one more move changes of the exits, turns and out-links of a cell.
 use Rattle.std.specs.Prelude.{option_map}
-use Rattle.std.proofs.Common.{◌≡◌, ℕ, ◌+◌, ◌-◌, true, false, cond, ◌&&◌, List, [], ◌∷◌, ◌++◌, map, refl, ap, sym, ◌∙◌, arith, append-nil, Option, Some, None}
+use Rattle.std.proofs.Common.{◌≡◌, ℕ, ◌+◌, ◌-◌, Bool, true, false, cond, ◌&&◌, List, [], ◌∷◌, ◌++◌, map, refl, ap, sym, ◌∙◌, arith, append-nil, Option, Some, None}
 use Rattle.std.proofs.lemmas.Bool.{eq-eqb, ne_eqb}
 use Rattle.std.proofs.lemmas.List.Sums.{sum_by-append}
 use Rattle.dta_model.specs.Allowance.{allowance}
 use Rattle.dta_model.specs.NodeMoves.{left, entered, turned}
-use Rattle.dta_model.specs.Plans.{link_at, turn, outs}
+use Rattle.dta_model.specs.Plans.{link_rates, turn, turn_rates, outs}
 use Rattle.dta_model.specs.Riders.{RiderState, rider_at, moved}
 use Rattle.cell_stages.specs.Stages.{batch_by}
 use Rattle.dta_model.specs.Trace.{Move, Onto, Arrived, leads_to, stands_on}
 use Rattle.dta_model.specs.declared.plan.Plan.{Plan}
 use Rattle.dta_model.proofs.Queues.{distinct}
-use Rattle.net_core.specs.declared.rows.Turn.{Turn}
 use Rattle.node_transfer.specs.Places.{set_some}
-use Rattle.cell_stages.specs.Contents.{kept_turns, turn_by}
+use Rattle.cell_stages.specs.Contents.{is_limited, kept_turns, penalty_of}
 use Rattle.capacity_credits.specs.Meter.{passed_one}
 use Rattle.node_transfer.specs.Inside.Pass.{place_of, entered_at, entered_in, entered_out, used_at, used_in, used_turn, after_arrival, after_entry}
 use Rattle.cell_stages.specs.declared.out_link.OutLink.{OutLink}
 use Rattle.cell_stages.specs.declared.turn.LimitedTurn.{LimitedTurn}
 use Rattle.node_transfer.proofs.OfStep.ByKey.{set-at}
-use Rattle.node_transfer.proofs.OfStep.Mid.{T, meter_mid, turn_mid, exit_mid, takes, waiting_mid, out_mid}
+use Rattle.node_transfer.proofs.OfStep.Mid.{T, meter_mid, meter_with, turn_mid, exit_mid, takes, waiting_mid, out_mid}
 
 pub map-cong : {X Y : Type 0} (f f' : X → Y) → ((x : X) → f' x ≡ f x) → (xs : List X) → map f' xs ≡ map f xs
 map-cong f f' e [] = refl
@@ -84,17 +83,12 @@ module _ (p : Plan) (n t : ℕ) (M : List Move) (m : Move) where
     turn-same b e = let c : turned p n t (T p n t) (M ++ m ∷ []) l b ≡ turned p n t (T p n t) M l b = turned-push l b ∙ rw e (omega arith) in rw c refl
 
     turn-one : (b : ℕ) → leads_to b m ≡ true → stands_on l (T p n t) m.vehicle ≡ true → turn_mid p n t (M ++ m ∷ []) l b ≡ used_turn (turn_mid p n t M l b)
-    turn-one b e s = by_turn (turn p l b) (turned-push l b ∙ rw (e, s) refl)
+    turn-one b e s = ap (λ y. record { to = record { 0 = b }; penalty = penalty_of (turn p l b); limit = y }) (by_limit (is_limited (turn_rates p l b)) (turned-push l b ∙ rw (e, s) refl))
       where
-        by_rate : (r : Option ℕ) → turned p n t (T p n t) (M ++ m ∷ []) l b ≡ turned p n t (T p n t) M l b + 1
-            → option_map (λ rate. meter_mid p t rate (turned p n t (T p n t) (M ++ m ∷ []) l b)) r ≡ option_map passed_one (option_map (λ rate. meter_mid p t rate (turned p n t (T p n t) M l b)) r)
-        by_rate None c = refl
-        by_rate (Some rate) c = ap (λ k. Some (record { rate = rate; carried = (meter_mid p t rate 0).carried; left = k })) (take_one (allowance rate p.delta t) _ _ c)
-
-        by_turn : (o : Option Turn) → turned p n t (T p n t) (M ++ m ∷ []) l b ≡ turned p n t (T p n t) M l b + 1
-            → turn_by (λ rate. meter_mid p t rate (turned p n t (T p n t) (M ++ m ∷ []) l b)) b o ≡ used_turn (turn_by (λ rate. meter_mid p t rate (turned p n t (T p n t) M l b)) b o)
-        by_turn None c = refl
-        by_turn (Some way) c = ap (λ y. record { to = record { 0 = b }; penalty = way.penalty; limit = y }) (by_rate way.rate c)
+        by_limit : (c : Bool) → turned p n t (T p n t) (M ++ m ∷ []) l b ≡ turned p n t (T p n t) M l b + 1
+            → cond c (Some (meter_mid p t (turn_rates p l b) (turned p n t (T p n t) (M ++ m ∷ []) l b))) None ≡ option_map passed_one (cond c (Some (meter_mid p t (turn_rates p l b) (turned p n t (T p n t) M l b))) None)
+        by_limit false c = refl
+        by_limit true c = ap (λ k. Some (meter_with p t (turn_rates p l b) k)) (take_one (allowance (turn_rates p l b) p.delta t) _ _ c)
 
     module _ (stood : stands_on l (T p n t) m.vehicle ≡ true) where
       left-one : left p n t (T p n t) (M ++ m ∷ []) l ≡ left p n t (T p n t) M l + 1
@@ -102,14 +96,14 @@ module _ (p : Plan) (n t : ℕ) (M : List Move) (m : Move) where
 
       pub exit-arrival : m.target ≡ Arrived → after_arrival (exit_mid p n t M l) ≡ exit_mid p n t (M ++ m ∷ []) l
       exit-arrival e =
-          let c : allowance (link_at p l).rate p.delta t - left p n t (T p n t) (M ++ m ∷ []) l ≡ allowance (link_at p l).rate p.delta t - left p n t (T p n t) M l - 1 = take_one _ _ _ left-one in
+          let c : allowance (link_rates p l) p.delta t - left p n t (T p n t) (M ++ m ∷ []) l ≡ allowance (link_rates p l) p.delta t - left p n t (T p n t) M l - 1 = take_one _ _ _ left-one in
           let ts : map (turn_mid p n t (M ++ m ∷ []) l) (kept_turns p n l) ≡ map (turn_mid p n t M l) (kept_turns p n l) = map-cong (turn_mid p n t M l) (turn_mid p n t (M ++ m ∷ []) l) (λ x. turn-same x (rw e refl)) (kept_turns p n l) in
           rw (c, ts) refl
 
       pub exit-entry : (b : ℕ) → distinct (kept_turns p n l) ≡ true → m.target ≡ Onto b
           → after_entry (place_of b (kept_turns p n l)) (exit_mid p n t M l) ≡ exit_mid p n t (M ++ m ∷ []) l
       exit-entry b d e =
-          let c : allowance (link_at p l).rate p.delta t - left p n t (T p n t) (M ++ m ∷ []) l ≡ allowance (link_at p l).rate p.delta t - left p n t (T p n t) M l - 1 = take_one _ _ _ left-one in
+          let c : allowance (link_rates p l) p.delta t - left p n t (T p n t) (M ++ m ∷ []) l ≡ allowance (link_rates p l) p.delta t - left p n t (T p n t) M l - 1 = take_one _ _ _ left-one in
           let ts : used_at (place_of b (kept_turns p n l)) (map (turn_mid p n t M l) (kept_turns p n l)) ≡ map (turn_mid p n t (M ++ m ∷ []) l) (kept_turns p n l) =
           used_changed _ _ (map (turn_mid p n t M l) (kept_turns p n l))
           ∙ set-at (turn_mid p n t M l) (turn_mid p n t (M ++ m ∷ []) l) used_turn b (kept_turns p n l) d

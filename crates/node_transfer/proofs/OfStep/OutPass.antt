@@ -8,11 +8,10 @@ use Rattle.std.proofs.lemmas.Bool.Decides.{nat_tests}
 use Rattle.std.proofs.lemmas.List.Elements.{All-head, All-tail}
 use Rattle.std.proofs.Math.Dec.{eqb}
 use Rattle.dta_model.proofs.Totals.{first_place}
-use Rattle.dta_model.specs.Allowance.{carried}
 use Rattle.dta_model.specs.Loading.{is_entry}
 use Rattle.dta_model.specs.NodeMoves.{grow, admission, admit, may_enter, where_true, is_first, entered}
 use Rattle.cell_stages.specs.OnePass.{drained, pass_links}
-use Rattle.dta_model.specs.Plans.{departure_of, first_link, link_at, route_of, vehicle_count, vehicles_of}
+use Rattle.dta_model.specs.Plans.{departure_of, first_link, link_rates, route_of, vehicle_count, vehicles_of}
 use Rattle.dta_model.specs.Riders.{rider_at, riders, moved}
 use Rattle.dta_model.specs.Sound.{IsSound}
 use Rattle.cell_stages.specs.Stages.{arrived_before, arrive_by, batch_by, staying, waiting_for}
@@ -32,7 +31,7 @@ use Rattle.cell_stages.specs.declared.out_link.OutLink.{OutLink}
 use Rattle.node_transfer.proofs.OfStep.ByKey.{head_parts}
 use Rattle.node_transfer.proofs.OfStep.InPass.{absent_all, all_from}
 use Rattle.node_transfer.proofs.OfStep.LinkPass.{first_map, map_drop, not_true}
-use Rattle.node_transfer.proofs.OfStep.Mid.{T, takes, due_now, due_later, waiting_mid, out_mid, arrived_mid, in_done, out_done}
+use Rattle.node_transfer.proofs.OfStep.Mid.{T, left_mid, meter_with, takes, due_now, due_later, waiting_mid, out_mid, arrived_mid, in_done, out_done}
 use Rattle.node_transfer.proofs.OfStep.Movers.{distinct_filter, staying-same, unmoved_one, waits-unmoved, waiting-distinct, clash, batch-push, arrive-push, admission-is, due-leaves, later-stay}
 use Rattle.node_transfer.proofs.OfStep.OneMove.{entered-push, take_one}
 use Rattle.node_transfer.proofs.OfStep.Outs.{admitted-none, admitted-stop, admitted-go}
@@ -54,7 +53,7 @@ none_there (x ∷ xs) h = cc
 
 module _ (p : Plan) (sound : IsSound p) (n t : ℕ) where
   abbrev pub inflow_mid : List Move → ℕ → MeterState
-  inflow_mid M b = record { rate = (link_at p b).rate; carried = carried (link_at p b).rate p.delta (suc t); left = takes p n t b - entered p n t (T p n t) M b }
+  inflow_mid M b = meter_with p t (link_rates p b) (takes p n t b - entered p n t (T p n t) M b)
 
   abbrev pub admit_of : List Move → ℕ → Admitted
   admit_of M b = admitted t (riders p (T p n t) (due_now p n t M b)) (batch_by p b (T p n t) M) (inflow_mid M b)
@@ -103,7 +102,7 @@ module _ (p : Plan) (sound : IsSound p) (n t : ℕ) where
 
     leaves : Leaves M (M ++ m0 ∷ []) b
     leaves = record {
-      ins = λ l. ap (λ S. record (in_done p n t M l) { line = riders p (T p n t) S }) (staying-same M (m0 ∷ []) (queue_of l (T p n t)) (λ i u e. let x = in-queue l (T p n t) i u e in unmoved_one m0 u (λ s. clash (has_moved v (T p n t)) (subst (λ w. has_moved w (T p n t) ≡ true) s (has_moved-if u (T p n t) (x.0) (x.1))) still.1)));
+      ins = λ l. ap (λ S. record (in_done p n t M l) { line = riders p (T p n t) S; left = left_mid p n t (riders p (T p n t) S) l }) (staying-same M (m0 ∷ []) (queue_of l (T p n t)) (λ i u e. let x = in-queue l (T p n t) i u e in unmoved_one m0 u (λ s. clash (has_moved v (T p n t)) (subst (λ w. has_moved w (T p n t) ≡ true) s (has_moved-if u (T p n t) (x.0) (x.1))) still.1)));
       arrived = ap (λ A. arrived_before p n t ++ A) (arrive-push p n t M m0 among.0 only goes refl ∙ append-nil (arrive_by p (T p n t) M));
       later = later-stay p n t M m0 b first;
       others = λ c other. same c other;

@@ -2,14 +2,15 @@
 use Rattle.net_core.specs.Network as network
 use Rattle.net_core.specs.Network.{numbers_below}
 use Rattle.std.specs.Prelude.{nat_eq, All, cond}
-use Rattle.std.proofs.Common.{◌≡◌, ℕ, zero, suc, ◌%◌, true, false, List, [], ◌∷◌, length, map, refl, ap, sym, ◌∙◌, subst, arith, append-nil}
+use Rattle.std.proofs.Common.{◌≡◌, ℕ, zero, suc, ◌+◌, ◌<◌, ◌%◌, true, false, List, [], ◌∷◌, length, map, refl, ap, sym, ◌∙◌, subst, arith, append-nil}
 use Rattle.std.proofs.lemmas.Bool.{eqb-true, ne_eqb}
 use Rattle.std.proofs.lemmas.List.{length-map}
-use Rattle.std.proofs.lemmas.List.Elements.{All-weaker, filter_passes}
+use Rattle.std.proofs.lemmas.List.Elements.{All-filter, All-head, All-tail, All-weaker, filter_passes}
 pub use Rattle.cell_stages.proofs.NextLines.{out_links}
+use Rattle.cell_stages.proofs.NextLines.{below_all}
 use Rattle.dta_model.specs.NodeMoves.{node_moves, in_order, rotated, head_move, admission}
 use Rattle.cell_stages.specs.OnePass.{one_pass, pass_links}
-use Rattle.dta_model.specs.Plans.{ins, link_at, outs, vehicle_count}
+use Rattle.dta_model.specs.Plans.{ins, link_at, link_rates, outs, vehicle_count}
 use Rattle.dta_model.specs.Sound.{IsSound}
 use Rattle.cell_stages.specs.Stages.{arrived_before, arriving, batch_by, batch_mail, brought, line_after, line_before, staying, waiting_after, waiting_before, waiting_for}
 use Rattle.dta_model.specs.Trace.{Move}
@@ -17,7 +18,7 @@ use Rattle.dta_model.specs.declared.plan.Plan.{Plan}
 use Rattle.cell_stages.proofs.OnePass.{one_pass_is_enough}
 use Rattle.cell_stages.specs.CellState.{CellState}
 use Rattle.node_transfer.specs.Inside.Cells.{transferred, finished, passed_rotated, start_at}
-use Rattle.cell_stages.specs.Contents.{away, batch_of, room_of, cell_after, cell_before, in_link, out_link, meter_after}
+use Rattle.cell_stages.specs.Contents.{away, batch_of, room_of, cell_after, cell_before, in_link, left_after, left_before, out_link, meter_after}
 use Rattle.capacity_credits.specs.Meter.{granted}
 use Rattle.node_transfer.specs.Inside.Outs.{opened_out, capped_by}
 use Rattle.cell_stages.specs.declared.mail.Mail.TheVariants.{Away, Batch}
@@ -25,7 +26,8 @@ use Rattle.node_transfer.proofs.OfStep.Due.{waiting-opens, parts-after}
 use Rattle.node_transfer.proofs.OfStep.InPass.{RotatedPass, rotated-pass, passes, map_all}
 use Rattle.node_transfer.proofs.OfStep.LinkPass.{outs-distinct}
 use Rattle.node_transfer.proofs.OfStep.Meters.{inflow-opens}
-use Rattle.node_transfer.proofs.OfStep.Mid.{T, in_done, out_done, out_mid, arrived_mid, waiting_mid}
+use Rattle.node_transfer.proofs.OfStep.Mid.{T, left_mid, in_done, out_done, out_mid, arrived_mid, waiting_mid}
+use Rattle.node_transfer.proofs.OfStep.Left.{left-pushes}
 use Rattle.node_transfer.proofs.OfStep.Movers.{distinct_filter, distinct_range}
 use Rattle.node_transfer.proofs.OfStep.OutPass.{outs-pass}
 use Rattle.dta_model.proofs.Queues.{distinct}
@@ -35,6 +37,13 @@ unfolding network.ins
 in_links p n =
     All-weaker (λ l. nat_eq (link_at p l).to.0 n ≡ true) (λ l. (link_at p l).to.0 ≡ n) (λ l h. eqb-true (link_at p l).to.0 n h)
     (ins p n) (filter_passes (λ l. nat_eq (link_at p l).to.0 n) (numbers_below (length p.net.links)))
+
+-- they are in the table
+pub ins-there : (p : Plan) (n : ℕ) → All (λ l. l < length p.net.links) (ins p n)
+unfolding network.ins
+ins-there p n =
+    All-filter (λ l. nat_eq (link_at p l).to.0 n) (λ l. l < length p.net.links) (numbers_below (length p.net.links))
+    (All-weaker (λ l. l < 0 + length p.net.links) (λ l. l < length p.net.links) (λ l h. omega (arith, h)) (numbers_below (length p.net.links)) (below_all (length p.net.links) 0))
 
 pub ins-distinct : (p : Plan) (n : ℕ) → distinct (ins p n) ≡ true
 unfolding network.ins
@@ -62,7 +71,7 @@ module _ (p : Plan) (sound : IsSound p) (n t : ℕ) where
   out-opens b =
       ap (λ w. record {
         link = record { 0 = b };
-        inflow = capped_by (room_of p t b) (granted p.delta (meter_after p t (link_at p b).rate));
+        inflow = capped_by (room_of p t b) (granted p.delta (meter_after p t (link_rates p b)));
         waiting = w;
         batch = [];
         mail = Away;
@@ -75,9 +84,12 @@ module _ (p : Plan) (sound : IsSound p) (n t : ℕ) where
   outs-open (b ∷ bs) = rw (out-opens b, outs-open bs) refl
 
   -- the end of the step
-  in-ends : (l : ℕ) → in_done p n t (node_moves p n t (T p n t)) l ≡ in_link p n (suc t) (line_after p n t) away l
+  line-ends : (l : ℕ) → in_done p n t (node_moves p n t (T p n t)) l ≡ record (in_link p n (suc t) (line_after p n t) (left_after p n t) away l) { left = left_mid p n t (line_after p n t l) l }
   unfolding line_after
-  in-ends l = refl
+  line-ends l = refl
+
+  in-ends : (l : ℕ) → (link_at p l).to.0 ≡ n → in_done p n t (node_moves p n t (T p n t)) l ≡ in_link p n (suc t) (line_after p n t) (left_after p n t) away l
+  in-ends l to = line-ends l ∙ ap (λ x. record (in_link p n (suc t) (line_after p n t) (left_after p n t) away l) { left = x }) (sym (left-pushes p sound n t l to))
 
   out-ends : (b : ℕ) → (link_at p b).from.0 ≡ n → out_done p n t (node_moves p n t (T p n t)) b ≡ out_link p (suc t) (waiting_after p n t) (batch_of p t) b
   unfolding waiting_after batch_mail
@@ -89,9 +101,9 @@ module _ (p : Plan) (sound : IsSound p) (n t : ℕ) where
   unfolding arrived_before
   arrived-ends = refl
 
-  start-is : rotated (start_at t (map (in_link p n t (line_before p t) away) (ins p n))) (ins p n) ≡ in_order p n t (T p n t)
+  start-is : rotated (start_at t (map (in_link p n t (line_before p t) (left_before p t) away) (ins p n))) (ins p n) ≡ in_order p n t (T p n t)
   unfolding in_order
-  start-is = ap (λ k. rotated (cond (nat_eq k 0) 0 (t % k)) (ins p n)) (length-map (ins p n) (in_link p n t (line_before p t) away)) ∙ rotated_start t (ins p n)
+  start-is = ap (λ k. rotated (cond (nat_eq k 0) 0 (t % k)) (ins p n)) (length-map (ins p n) (in_link p n t (line_before p t) (left_before p t) away)) ∙ rotated_start t (ins p n)
 
   abbrev after_ins : List Move
   after_ins = pass_links (vehicle_count p) (λ l N. head_move p n t (T p n t) N l) (in_order p n t (T p n t)) []
@@ -114,11 +126,11 @@ module _ (p : Plan) (sound : IsSound p) (n t : ℕ) where
       ∙ ap (λ A. finished t s (passed_rotated p.delta t k s.ins (map (out_mid p n t []) (outs p n)) A)) nobody_arrived
       ∙ ap (λ w. finished t s w) R.result
       ∙ ap (λ os. record { ins = map (in_done p n t after_ins) (ins p n); outs = os; arrived = arrived_mid p n t after_ins; delta = p.delta }) (O.result ∙ ap (λ M. map (out_done p n t M) (outs p n)) whole ∙ map_all p sound n t (λ b. (link_at p b).from.0 ≡ n) (out_done p n t (node_moves p n t (T p n t))) (out_link p (suc t) (waiting_after p n t) (batch_of p t)) (outs p n) (out_links p n) (λ b h. out-ends b h))
-      ∙ ap (λ is. record { ins = is; outs = map (out_link p (suc t) (waiting_after p n t) (batch_of p t)) (outs p n); arrived = arrived_mid p n t after_ins; delta = p.delta }) (ins_same (ins p n) O.ins)
-      ∙ ap (λ A. record { ins = map (in_link p n (suc t) (line_after p n t) away) (ins p n); outs = map (out_link p (suc t) (waiting_after p n t) (batch_of p t)) (outs p n); arrived = A; delta = p.delta }) (sym O.arrived ∙ ap (λ M. arrived_mid p n t M) whole ∙ arrived-ends)
+      ∙ ap (λ is. record { ins = is; outs = map (out_link p (suc t) (waiting_after p n t) (batch_of p t)) (outs p n); arrived = arrived_mid p n t after_ins; delta = p.delta }) (ins_same (ins p n) (in_links p n) O.ins)
+      ∙ ap (λ A. record { ins = map (in_link p n (suc t) (line_after p n t) (left_after p n t) away) (ins p n); outs = map (out_link p (suc t) (waiting_after p n t) (batch_of p t)) (outs p n); arrived = A; delta = p.delta }) (sym O.arrived ∙ ap (λ M. arrived_mid p n t M) whole ∙ arrived-ends)
     where
-      ins_same : (ls : List ℕ) → ((l : ℕ) → in_done p n t after_outs l ≡ in_done p n t after_ins l) → map (in_done p n t after_ins) ls ≡ map (in_link p n (suc t) (line_after p n t) away) ls
-      ins_same [] h = refl
-      ins_same (l ∷ ls) h =
-          ap (λ x. x ∷ map (in_done p n t after_ins) ls) (sym (h l) ∙ ap (λ M. in_done p n t M l) whole ∙ in-ends l)
-          ∙ ap (λ xs. in_link p n (suc t) (line_after p n t) away l ∷ xs) (ins_same ls h)
+      ins_same : (ls : List ℕ) → All (λ l. (link_at p l).to.0 ≡ n) ls → ((l : ℕ) → in_done p n t after_outs l ≡ in_done p n t after_ins l) → map (in_done p n t after_ins) ls ≡ map (in_link p n (suc t) (line_after p n t) (left_after p n t) away) ls
+      ins_same [] to h = refl
+      ins_same (l ∷ ls) to h =
+          ap (λ x. x ∷ map (in_done p n t after_ins) ls) (sym (h l) ∙ ap (λ M. in_done p n t M l) whole ∙ in-ends l (All-head (λ k. (link_at p k).to.0 ≡ n) l ls to))
+          ∙ ap (λ xs. in_link p n (suc t) (line_after p n t) (left_after p n t) away l ∷ xs) (ins_same ls (All-tail (λ k. (link_at p k).to.0 ≡ n) l ls to) h)

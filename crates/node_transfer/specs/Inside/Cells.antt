@@ -1,7 +1,8 @@
 -- A node's cell in a transfer and in a gather, on lists.
+use Rattle.link_queues.specs.Leavings.{pushed}
 use Rattle.link_queues.specs.declared.line.TheConstants.{MOST_RIDERS}
-use Rattle.std.specs.Prelude.{◌≡◌, ℕ, ◌+◌, ◌≤◌, ◌%◌, cond, List, [], ◌∷◌, ◌++◌, length, map, nat_eq}
-use Rattle.std.specs.Prelude.{None, All, drop, take}
+use Rattle.std.specs.Prelude.{◌≡◌, ℕ, ◌+◌, ◌-◌, ◌≤◌, ◌%◌, cond, List, [], ◌∷◌, ◌++◌, length, map}
+use Rattle.std.specs.Prelude.{nat_eq, None, All, drop, take}
 use Rattle.std.specs.List.{sum_by}
 use Rattle.dta_model.specs.Riders.{RiderState}
 use Rattle.cell_stages.specs.CellState.{CellState}
@@ -21,10 +22,15 @@ pub record LinkWork : Type 0 where
   pub outs : List OutLink
   pub arrived : List RiderState
 
--- an in-link once its heads have moved: its line and its exit as they then are
+-- an in-link once its heads have moved: its line and its exit as they then are, and how many left
+-- it
 abbrev pub link_after : InLink → Work → LinkWork
 link_after link w = record {
-  link = record link { line = w.line; exit = closed_exit w.exit };
+  link = record link {
+    line = w.line;
+    left = pushed (length link.line - length w.line) link.left;
+    exit = closed_exit w.exit;
+  };
   outs = w.outs;
   arrived = w.arrived;
 }

@@ -1,7 +1,7 @@
 -- One pass over one in-link, on lists.
 use Rattle.link_queues.specs.declared.line.TheConstants.{MOST_RIDERS}
-use Rattle.std.specs.Prelude.{◌≡◌, ℕ, ◌+◌, ◌<◌, ◌≤◌, Bool, true, false, cond, ◌&&◌, nat_lt, nat_le}
-use Rattle.std.specs.Prelude.{nat_eq, List, [], ◌∷◌, ◌++◌, length, map, Option, None, Some}
+use Rattle.std.specs.Prelude.{◌≡◌, ℕ, ◌+◌, ◌<◌, ◌≤◌, Bool, true, false, cond, ◌&&◌, ◌||◌, nat_lt}
+use Rattle.std.specs.Prelude.{nat_le, nat_eq, List, [], ◌∷◌, ◌++◌, length, map, Option, None, Some}
 use Rattle.std.specs.Prelude.{option_map, IfSome, All, slice_get, slice_set}
 use Rattle.std.specs.List.{sum_by, last_or}
 use Rattle.dta_model.specs.Riders.{RiderState, moved}
@@ -32,10 +32,10 @@ waitings outs = map (λ o. o.waiting) outs
 abbrev pub used_turn : LimitedTurn → LimitedTurn
 used_turn t = record t { limit = option_map passed_one t.limit }
 
--- whether a limit allows one more
+-- whether a limit allows one more: it always does in a step without one
 abbrev pub limit_open : Option MeterState → Bool
 limit_open None = true
-limit_open (Some m) = nat_lt 0 m.left
+limit_open (Some m) = m.unlimited || nat_lt 0 m.left
 
 -- a turn that isn't listed has no penalty and no limit
 abbrev pub penalty_of : Option LimitedTurn → ℕ

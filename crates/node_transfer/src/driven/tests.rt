@@ -35,3 +35,22 @@ fn two_links_merge(rt: HostRuntime) -> Result<(), Fail> {
     assert!(rt; shows(rt.alloc(), &case, &wanted)?);
     Ok(())
 }
+
+#[test]
+fn windows_turn_red_and_green(rt: HostRuntime) -> Result<(), Fail> {
+    let red = worked_cases::windows_turn_red(rt.alloc())?;
+    let wanted = [
+        Seen(&[5, 15], Some(40)),
+        Seen(&[15, 40], Some(50)),
+        Seen(&[25, 41], Some(51)),
+    ];
+    assert!(rt; shows(rt.alloc(), &red, &wanted)?);
+    let green = worked_cases::windows_turn_green(rt.alloc())?;
+    let wanted = [
+        Seen(&[5, 30], Some(40)),
+        Seen(&[15, 31], Some(41)),
+        Seen(&[25, 35], Some(45)),
+    ];
+    assert!(rt; shows(rt.alloc(), &green, &wanted)?);
+    Ok(())
+}

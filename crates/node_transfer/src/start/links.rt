@@ -1,20 +1,22 @@
 // The links of a cell at the start of a loading.
-ghost use Rattle.cell_stages.specs.Contents.{storage_by};
+ghost use Rattle.cell_stages.specs.Contents.{limit_by, storage_by};
 ghost use Rattle.dta_model.specs.Lent.{plan_of};
-ghost use Rattle.dta_model.specs.Plans.{link_at, link_numbers};
+ghost use Rattle.dta_model.specs.Plans.{link_numbers, link_rates};
+ghost use Rattle.dta_model.specs.Room.{wave_of as wave_at};
 ghost use Rattle.dta_model.specs.Sound.{IsSound};
 ghost use Rattle.capacity_credits.specs.Meter.{unused};
 ghost use Rattle.node_transfer.specs.Inside.StartCells.{kept_at_start, lines_left, start_in};
 ghost use Rattle.node_transfer.specs.Inside.StartCells.{taken_outs, turns_at_start};
-ghost use Rattle.std.specs.Prelude.{◌≡◌, ◌<◌, ◌≤◌, All, IfOk, IfSome, OnOk, length, map};
-ghost use Rattle.std.specs.Prelude.{option_map};
+ghost use Rattle.net_core.specs.Rates.{AreRates};
+ghost use Rattle.std.specs.Prelude.{◌≡◌, ◌<◌, ◌≤◌, All, IfOk, OnOk, length, map};
+ghost use Rattle.std.specs.Prelude.{◌||◌, None, Some, cond, is_some, nat_eq, not};
 
 use capacity_credits::Meter;
 use cell_stages::{Exit, InLink, LimitedTurn, LimitedTurns, Mail, OutLink, Waiting};
 use dta_model::{Loading, Queue};
-use fixed_units::MOST_RATE;
-use link_queues::Line;
-use net_core::{LinkNo, Memory};
+use fixed_units::{Length, wave_steps};
+use link_queues::{Leavings, Line};
+use net_core::{LinkNo, Memory, Rates};
 use std::alloc::Global;
 
 /// Out-links before the first step. Their waiting lines are moved into them.
@@ -36,9 +38,10 @@ pub fn start_outs(
 {
     let mut out_links = Vec::new(alloc);
     for i in 0..outs.len() {
+        let inflow = start_meter(alloc, loading, outs[i])?;
         let out = OutLink {
             link: outs[i],
-            inflow: start_meter(loading, outs[i]),
+            inflow,
             waiting: Waiting {
                 later: lines[outs[i].0 as usize].take_all(),
                 due: Line::new(alloc),
@@ -89,10 +92,12 @@ fn start_in_link(
         (λ in_link. in_link ≡ start_in (plan_of loading.now) (link_numbers outs.now) link.0) }
 {
     let row = loading.net.link(link);
-    let outflow = start_meter(loading, link);
+    let outflow = start_meter(alloc, loading, link)?;
     let turns = start_turns(alloc, loading, link, outs)?;
+    let left = Leavings::new(alloc, wave_of(loading, link) - 1)?;
     Ok(InLink {
         line: Line::new(alloc),
+        left,
         exit: Exit {
             free: row.free,
             outflow,
@@ -124,50 +129,83 @@ fn start_turns(
         return Ok(LimitedTurns { list });
     }
     for i in 0..outs.len() {
-        if let Some(turn) = start_turn(loading, link, outs[i]) {
-            list.push(turn)?;
+        match start_turn(alloc, loading, link, outs[i])? {
+            None => {}
+            Some(turn) => list.push(turn)?,
         }
     }
     Ok(LimitedTurns { list })
 }
 
-// The rate of a link, of which nothing is granted yet.
-#[tactic(auto, using(crate::proofs::OfStart::Starts::meter_steps))]
-fn start_meter(loading: &Loading, link: LinkNo) -> Meter
-    requires sound { IsSound (plan_of loading.now) }
-    requires link { link.0 < length loading.now.net.now.links }
-    ensures { result ≡ unused (link_at (plan_of loading.now) link.0).rate }
+// The rates of a link, of which nothing is granted yet.
+fn start_meter(alloc: Global, loading: &Loading, link: LinkNo) -> Result<Meter, Memory>
+    requires { link.0 < length loading.now.net.now.links }
+    ensures { IfOk result (λ meter. meter ≡ unused (link_rates (plan_of loading.now) link.0)) }
 {
-    Meter::new(loading.net.link(link).rate)
+    let rates = loading.net.link_rates(alloc, link)?;
+    let meter = Meter::new(alloc, rates)?;
+    Ok(meter)
 }
 
 // The turn from a link to another, where it has a penalty or a limit.
-#[tactic(auto, using(crate::proofs::OfStart::Starts::limit_fits))]
-fn start_turn(loading: &Loading, a: LinkNo, b: LinkNo) -> Option<LimitedTurn>
-    requires sound { IsSound (plan_of loading.now) }
+fn start_turn(
+    alloc: Global,
+    loading: &Loading,
+    a: LinkNo,
+    b: LinkNo,
+) -> Result<Option<LimitedTurn>, Memory>
     requires from { a.0 < length loading.now.net.now.links }
     requires to { b.0 < length loading.now.net.now.links }
-    ensures { result ≡ kept_at_start (plan_of loading.now) a.0 b.0 }
+    ensures { IfOk result (λ turn. turn ≡ kept_at_start (plan_of loading.now) a.0 b.0) }
 {
-    let turn = loading.net.turn(a, b)?;
-    if turn.penalty == 0 && turn.rate.is_none() {
-        return None;
+    match loading.net.turn(a, b) {
+        None => Ok(None),
+        Some(turn) => {
+            let rates = loading.net.turn_rates(alloc, a, b)?;
+            let limit = limit_of(alloc, rates)?;
+            Ok(kept_turn(b, turn.penalty, limit))
+        }
     }
-    Some(LimitedTurn {
-        to: b,
-        penalty: turn.penalty,
-        limit: limit_of(turn.rate),
-    })
 }
 
-// A limit of which nothing is granted yet.
-fn limit_of(rate: Option<u64>) -> Option<Meter>
-    requires { IfSome rate (λ r. r ≤ MOST_RATE) }
-    ensures { result ≡ option_map unused rate }
+// A turn, where it has a penalty or a limit.
+fn kept_turn(to: LinkNo, penalty: u32, limit: Option<Meter>) -> Option<LimitedTurn>
+    ensures { result ≡ cond (not (nat_eq penalty 0) || is_some limit)
+        (Some (record { to = to; penalty = penalty; limit = limit })) None }
 {
-    match rate {
-        None => None,
-        Some(rate) => Some(Meter::new(rate)),
+    if penalty == 0 && limit.is_none() {
+        return None;
+    }
+    Some(LimitedTurn { to, penalty, limit })
+}
+
+// A limit of which nothing is granted yet; none where the rates limit no step.
+fn limit_of(alloc: Global, rates: Rates) -> Result<Option<Meter>, Memory>
+    requires { AreRates rates }
+    ensures { IfOk result (λ limit. limit ≡ limit_by unused rates) }
+{
+    if rates.usual.is_none() && rates.windows.as_slice().is_empty() {
+        return Ok(None);
+    }
+    let meter = Meter::new(alloc, rates)?;
+    Ok(Some(meter))
+}
+
+// The steps that a backward wave takes over a link.
+#[tactic(auto, using(crate::proofs::OfStart::Starts::start_steps))]
+fn wave_of(loading: &Loading, link: LinkNo) -> u32
+    requires sound { IsSound (plan_of loading.now) }
+    requires link { link.0 < length loading.now.net.now.links }
+    ensures steps { result ≡ wave_at (plan_of loading.now) link.0 }
+    ensures least { 1 ≤ result }
+{
+    let micrometres = loading.net.link(link).micrometres;
+    match loading.queue {
+        Queue::Point => 1,
+        Queue::Spatial => 1,
+        Queue::Newell { wave } => {
+            wave_steps(Length { micrometres }, wave, loading.delta, loading.horizon)
+        }
     }
 }
 
@@ -178,5 +216,6 @@ pub fn storage_of(queue: Queue, storage: u32) -> Option<u32>
     match queue {
         Queue::Point => None,
         Queue::Spatial => Some(storage),
+        Queue::Newell { .. } => Some(storage),
     }
 }

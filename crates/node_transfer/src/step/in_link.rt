@@ -10,9 +10,9 @@ use crate::step::pass::{close_exit, open_exit, pass};
 use cell_stages::{InLink, Mail, OutLink};
 use dta_model::MOST_HORIZON;
 use fixed_units::MOST_STEP;
-use link_queues::{Line, MOST_RIDERS};
+use link_queues::{Leavings, Line, MOST_RIDERS};
 
-/// Moves the heads of an in-link that may move in the step.
+/// Moves the heads of an in-link that may move in the step, and notes how many left it.
 pub fn pass_link(link: &mut InLink, outs: &mut [OutLink], arrived: &mut Line, delta: u32, step: u32)
     requires delta { delta ≤ MOST_STEP }
     requires can { CanPass link.old.line outs.old arrived.old }
@@ -24,9 +24,11 @@ pub fn pass_link(link: &mut InLink, outs: &mut [OutLink], arrived: &mut Line, de
     ensures done { passed_link delta step link.old outs.old arrived.old
         ≡ record { link = link.new; outs = outs.new; arrived = arrived.new } }
 {
+    let count = link.line.len();
     open_exit(&mut link.exit, delta);
     pass(&mut link.line, &mut link.exit, outs, arrived, step);
     close_exit(&mut link.exit);
+    link.left.push(count.saturating_sub(link.line.len()));
 }
 
 /// Moves the heads of all in-links, in order.
@@ -86,20 +88,24 @@ pub fn gather_link(link: &mut InLink, step: u32)
     if let Mail::Batch { line, .. } = &mut link.mail {
         link.line.append(line);
     }
-    let room = room_left(&link.line, link.storage);
+    let room = room_left(&link.line, &link.left, link.storage);
     link.mail = Mail::Room {
         step: step + 1,
         room,
     };
 }
 
-/// The room that a storage leaves; none is told where there is no bound.
-pub fn room_left(line: &Line, storage: Option<u32>) -> Option<u32>
-    ensures { result ≡ room_after storage line.now }
+/// The room that a storage leaves beside those on the link and those who left it lately; none is
+/// told where there is no bound.
+pub fn room_left(line: &Line, left: &Leavings, storage: Option<u32>) -> Option<u32>
+    ensures { result ≡ room_after storage line.now left.now }
 {
     match storage {
         None => None,
-        Some(storage) => Some(storage.saturating_sub(line.len())),
+        Some(storage) => {
+            let taken = left.total().saturating_add(line.len() as u64);
+            Some((storage as u64).saturating_sub(taken) as u32)
+        }
     }
 }
 

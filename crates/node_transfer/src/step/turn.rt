@@ -1,8 +1,8 @@
 // Turns of an in-link.
 ghost use Rattle.std.specs.Prelude.{◌≡◌, ◌+◌, ◌-◌, ◌<◌, ◌≤◌, map, slice_get, option_copied, Option};
-ghost use Rattle.std.specs.Prelude.{Some, None, IfSome, true};
+ghost use Rattle.std.specs.Prelude.{Some, None};
 ghost use Rattle.node_transfer.specs.Inside.Pass.{place_of, turn_links, used_turn, limit_open};
-ghost use Rattle.node_transfer.specs.Inside.Pass.{used_at, turn_open};
+ghost use Rattle.node_transfer.specs.Inside.Pass.{used_at};
 ghost use Rattle.node_transfer.specs.Exits.{opened_turn, closed_turn};
 ghost use Rattle.node_transfer.specs.Inside.Skip.{skipped_turn};
 
@@ -34,7 +34,6 @@ pub fn close_turn(turn: &mut LimitedTurn)
 
 /// One vehicle turns.
 pub fn use_turn(turn: &mut LimitedTurn)
-    requires { IfSome turn.old.limit (λ m. 0 < m.left) }
     ensures { turn.new ≡ used_turn turn.old }
 {
     match &mut turn.limit {
@@ -43,13 +42,13 @@ pub fn use_turn(turn: &mut LimitedTurn)
     }
 }
 
-/// Whether a turn has a pass left.
+/// Whether a turn has a pass left. In a step without a limit it always has.
 pub fn has_pass(turn: &LimitedTurn) -> bool
     ensures { result ≡ limit_open turn.now.limit }
 {
     match &turn.limit {
         None => true,
-        Some(meter) => meter.left() > 0,
+        Some(meter) => meter.is_unlimited() || meter.left() > 0,
     }
 }
 
@@ -85,7 +84,6 @@ pub fn turn_to(turns: &[LimitedTurn], link: LinkNo) -> usize
 
 /// Uses the turn at a place, if one is there.
 pub fn use_turn_at(turns: &mut [LimitedTurn], place: usize)
-    requires { turn_open (slice_get turns.old place) ≡ true }
     ensures { turns.new ≡ used_at place turns.old }
 {
     if place < turns.len() {
@@ -118,7 +116,6 @@ pub fn close_all(turns: &mut LimitedTurns)
 
 /// One vehicle takes the turn at a place, if one is there.
 pub fn use_one(turns: &mut LimitedTurns, place: usize)
-    requires { turn_open (slice_get turns.old place) ≡ true }
     ensures { turns.new ≡ used_at place turns.old }
 {
     use_turn_at(&mut turns.list, place);

@@ -115,6 +115,7 @@ fn link(id: u32, from: u32, to: u32) -> LinkRow
         id: u64::from(id),
         from: NodeNo(from),
         to: NodeNo(to),
+        micrometres: 5_000_000,
         free: 1,
         storage: 2,
         rate: 3_600_000_000,

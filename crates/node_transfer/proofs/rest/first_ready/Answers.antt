@@ -1,7 +1,7 @@
 use Rattle.std.proofs.Common.{arith, subst, sym}
 use Rattle.std.proofs.lemmas.List.{take_all}
 use Rattle.std.specs.Prelude.{All}
-use Rattle.node_transfer.specs.Rest.{HeadIsLater}
+use Rattle.node_transfer.specs.Rest.{IsQuietLink}
 use Rattle.node_transfer.specs.declared.rest.TheConstants.{NO_STEP}
 use Rattle.node_transfer.proofs.OfRest.Ready.{all_take, all_taken, least_next}
 use Rattle.node_transfer.proofs.rest.first_ready.Goals as goal
@@ -12,17 +12,17 @@ loop-link-preserved c =
     let next = c.ready_step.ensures in
     let before = c.loop-link.invariant in
     let least = c.min-first.ensures in (
-      (λ step h. all_take (HeadIsLater step) c.args.ins.now c.loop-link.link-index c.link-item.result c.loop-link-test.true
-          (before.0 step (omega (arith, h, least))) (subst (HeadIsLater step) here (next.before step (omega (arith, h, least))))),
-      least_next HeadIsLater c.args.ins.now c.loop-link.link-index c.link-item.result c.loop-link.first c.ready_step.result
+      (λ step h. all_take (IsQuietLink step) c.args.ins.now c.loop-link.link-index c.link-item.result c.loop-link-test.true
+          (before.0 step (omega (arith, h, least))) (subst (IsQuietLink step) here (next.before step (omega (arith, h, least))))),
+      least_next IsQuietLink c.args.ins.now c.loop-link.link-index c.link-item.result c.loop-link.first c.ready_step.result
           c.min-first.result NO_STEP c.loop-link-test.true here least before.1 next.least,
     )
 
 pub returns-clause-before : goal.returns-clause-before
 returns-clause-before c step h =
-    all_taken (HeadIsLater step) c.args.ins.now c.loop-link.link-index c.loop-link-test.false (c.loop-link.invariant.0 step h)
+    all_taken (IsQuietLink step) c.args.ins.now c.loop-link.link-index c.loop-link-test.false (c.loop-link.invariant.0 step h)
 
 pub returns-clause-least : goal.returns-clause-least
 returns-clause-least c h a =
     c.loop-link.invariant.1 h
-    (subst (λ xs. All (HeadIsLater c.loop-link.first) xs) (sym (take_all c.loop-link.link-index c.args.ins.now c.loop-link-test.false)) a)
+    (subst (λ xs. All (IsQuietLink c.loop-link.first) xs) (sym (take_all c.loop-link.link-index c.args.ins.now c.loop-link-test.false)) a)

@@ -8,7 +8,7 @@ returns-clause-carried c =
     ∙ ap (λ k. (k + c.args.steps * (c.args.rate * c.args.delta)) % 3600000000) c.self.view_is
 
 pub returns-clause-stands : goal.returns-clause-stands
-returns-clause-stands c grants e =
+returns-clause-stands c rates grants r e =
     skip_parts c.self.inside.carried (c.args.rate * c.args.delta) c.args.steps
     ∙ ap (λ k. (k + c.args.steps * (c.args.rate * c.args.delta)) % 3600000000) (c.self.view_is ∙ e)
-    ∙ skip_after grants (c.args.rate * c.args.delta) c.args.steps
+    ∙ skip_after rates c.args.delta grants c.args.rate c.args.steps r

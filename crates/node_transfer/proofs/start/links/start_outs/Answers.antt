@@ -12,7 +12,7 @@ loop-i-preserved c =
     let same = c.loop-i.auto.lines in
     let all = c.requires.lines in
     let within : link.0 < length c.loop-i.lines = omega (arith, known, same, all) in (
-      rw (c.in_ok-push.ensures.items, c.start_meter.ensures, c.take_all.ensures.all, default_same c.loop-i.lines link.0 c.index-lines-outs.result [] within, c.new.ensures, c.new-in-loop-i.ensures, c.take_all.ensures.emptied) (sym (outs_next p c.loop-i.lines c.loop-i.out_links.items c.args.outs.now c.loop-i.i (record { 0 = 0 }) here within) ∙ c.loop-i.invariant.0),
+      rw (c.in_ok-push.ensures.items, c.in_ok-inflow.ensures, c.take_all.ensures.all, default_same c.loop-i.lines link.0 c.index-lines-outs.result [] within, c.new.ensures, c.new-in-loop-i.ensures, c.take_all.ensures.emptied) (sym (outs_next p c.loop-i.lines c.loop-i.out_links.items c.args.outs.now c.loop-i.i (record { 0 = 0 }) here within) ∙ c.loop-i.invariant.0),
       rw c.take_all.ensures.emptied (sym (left_next c.loop-i.lines c.args.outs.now c.loop-i.i (record { 0 = 0 }) here within) ∙ c.loop-i.invariant.1),
       search rules,
     )

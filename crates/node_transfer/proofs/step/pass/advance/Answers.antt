@@ -4,16 +4,10 @@ use Rattle.node_transfer.proofs.OfStep.Passes.{CanPass-arrives, CanPass-enters, 
 use Rattle.node_transfer.proofs.step.pass.advance.Goals as goal
 
 pub enter_at-requires-clause-open : goal.enter_at-requires-clause-open
-enter_at-requires-clause-open c = (c.in-Enters.ensures.enters c.in-Enters.place c.in-Enters.turn refl).1
+enter_at-requires-clause-open c = c.in-Enters.ensures.enters c.in-Enters.place c.in-Enters.turn refl
 
 pub enter_at-requires-clause-fits : goal.enter_at-requires-clause-fits
 enter_at-requires-clause-fits c = batch_fits c.args.line.now c.args.outs.now c.args.arrived.now c.in-Some.rider.now c.in-Enters.place (slice_get c.args.outs.now c.in-Enters.place) refl (sym c.in-Some.ensures.first) c.requires.fits
-
-pub count_entry-requires-clause-left : goal.count_entry-requires-clause-left
-count_entry-requires-clause-left c = (c.in-Enters.ensures.enters c.in-Enters.place c.in-Enters.turn refl).0
-
-pub count_entry-requires-clause-open : goal.count_entry-requires-clause-open
-count_entry-requires-clause-open c = (c.in-Enters.ensures.enters c.in-Enters.place c.in-Enters.turn refl).2
 
 pub returns-in-Arrives-clause-kept : goal.returns-in-Arrives-clause-kept
 returns-in-Arrives-clause-kept c =
