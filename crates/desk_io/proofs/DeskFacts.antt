@@ -5,7 +5,7 @@ use Rattle.std.specs.Prelude.{Option, None, Some}
 use Rattle.std.specs.Io.KnownBytes.{prepend_known, append_known}
 use Rattle.desk_io.specs.Desk.{Left, Taken, before_left, grown}
 use Rattle.desk_io.specs.declared.desk.Table.{Table}
-use Rattle.desk_io.specs.declared.desk.Table.TheVariants.{Node, Link, Movement, Demand, Times}
+use Rattle.desk_io.specs.declared.desk.Table.TheVariants.{Node, Link, Movement, Demand, Start, Times}
 use Rattle.desk_io.specs.declared.desk.Output.{Output}
 use Rattle.desk_io.specs.declared.desk.Output.TheVariants.{Agent, LinkTime, Gap, Report, Watch, Skim, Counts}
 
@@ -48,6 +48,7 @@ before_left-before_left Node a b l = ap (λ k. record l { node = k }) (prepend_k
 before_left-before_left Link a b l = ap (λ k. record l { link = k }) (prepend_known-prepend_known l.link a b)
 before_left-before_left Movement a b l = ap (λ k. record l { movement = k }) (prepend_known-prepend_known l.movement a b)
 before_left-before_left Demand a b l = ap (λ k. record l { demand = k }) (prepend_known-prepend_known l.demand a b)
+before_left-before_left Start a b l = ap (λ k. record l { start = k }) (prepend_known-prepend_known l.start a b)
 before_left-before_left Times a b l = ap (λ k. record l { times = k }) (prepend_known-prepend_known l.times a b)
 
 pub before_left-empty : (t : Table) (l : Left) → before_left t [] l ≡ l
@@ -55,6 +56,7 @@ before_left-empty Node l = ap (λ k. record l { node = k }) (prepend_known-empty
 before_left-empty Link l = ap (λ k. record l { link = k }) (prepend_known-empty l.link)
 before_left-empty Movement l = ap (λ k. record l { movement = k }) (prepend_known-empty l.movement)
 before_left-empty Demand l = ap (λ k. record l { demand = k }) (prepend_known-empty l.demand)
+before_left-empty Start l = ap (λ k. record l { start = k }) (prepend_known-empty l.start)
 before_left-empty Times l = ap (λ k. record l { times = k }) (prepend_known-empty l.times)
 
 -- the lemmas for a loop over a desk

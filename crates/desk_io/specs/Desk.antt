@@ -3,7 +3,8 @@
 use Rattle.std.specs.Prelude.{ℕ, List, Option}
 use Rattle.std.specs.Io.KnownBytes.{prepend_known, append_known}
 use Rattle.desk_io.specs.declared.desk.Table.{Table}
-use Rattle.desk_io.specs.declared.desk.Table.TheVariants.{Node, Link, Movement, Demand, Times}
+use Rattle.desk_io.specs.declared.desk.Table.TheVariants.{Node, Link, Movement, Demand}
+use Rattle.desk_io.specs.declared.desk.Table.TheVariants.{Start, Times}
 use Rattle.desk_io.specs.declared.desk.Output.{Output}
 use Rattle.desk_io.specs.declared.desk.Output.TheVariants.{Agent, LinkTime, Gap, Report, Watch}
 use Rattle.desk_io.specs.declared.desk.Output.TheVariants.{Skim, Counts}
@@ -14,6 +15,7 @@ pub record Left : Type 0 where
   pub link : Option (List ℕ)
   pub movement : Option (List ℕ)
   pub demand : Option (List ℕ)
+  pub start : Option (List ℕ)
   pub times : Option (List ℕ)
 
 -- the bytes that each output has taken
@@ -32,6 +34,7 @@ left_of Node l = l.node
 left_of Link l = l.link
 left_of Movement l = l.movement
 left_of Demand l = l.demand
+left_of Start l = l.start
 left_of Times l = l.times
 
 -- these bytes of one table, and then what is left: all other tables are the same
@@ -40,6 +43,7 @@ before_left Node bs l = record l { node = prepend_known bs l.node }
 before_left Link bs l = record l { link = prepend_known bs l.link }
 before_left Movement bs l = record l { movement = prepend_known bs l.movement }
 before_left Demand bs l = record l { demand = prepend_known bs l.demand }
+before_left Start bs l = record l { start = prepend_known bs l.start }
 before_left Times bs l = record l { times = prepend_known bs l.times }
 
 -- what one output has taken

@@ -1,11 +1,12 @@
 -- Small cases of the definitions, computed.
 use Rattle.std.specs.Prelude.{◌≡◌, refl, codes, [], ◌∷◌, Some, true, false, ◌^◌, ◌-◌}
 use Rattle.std.proofs.Math.Nat.{le_refl, lt_irrefl, le-add_right}
-use Rattle.desk_io.specs.declared.desk.Table.TheVariants.{Link, Times}
+use Rattle.desk_io.specs.declared.desk.Table.TheVariants.{Link, Start, Times}
 use Rattle.desk_io.specs.declared.desk.Output.TheVariants.{Counts, Report, Skim, Watch}
 use Rattle.desk_io.specs.Desk.{before_left, grown, taken_of}
 use Rattle.desk_io.specs.Faults.{last_count, Rose}
-use Rattle.desk_io.specs.MemDesk.{all_left, all_taken, is_listed, number_after, with_times}
+use Rattle.desk_io.specs.MemDesk.{all_left, all_taken, is_listed, number_after}
+use Rattle.desk_io.specs.MemDesk.{with_start, with_times}
 use Rattle.desk_io.specs.TallyDesk.{count_of, counted, no_counts}
 use Rattle.desk_io.specs.Transfers.{IsPartOut}
 
@@ -23,6 +24,13 @@ two-puts = refl
 a-times-table-half-read : with_times (codes "link_id") (all_left [] [] [] [])
     ≡ before_left Times (codes "link_") (with_times (codes "id") (all_left [] [] [] []))
 a-times-table-half-read = refl
+
+-- a desk whose table of a start was half read, beside a table of link times
+a-start-table-half-read :
+    with_start (codes "agent_id") (with_times (codes "link_id") (all_left [] [] [] []))
+    ≡ before_left Start (codes "agent")
+    (with_times (codes "link_id") (with_start (codes "_id") (all_left [] [] [] [])))
+a-start-table-half-read = refl
 
 -- what Skim takes isn't in Counts
 skim-alone : taken_of Counts (grown Skim (codes "1") (all_taken [] [] [] [] [])) ≡ Some []

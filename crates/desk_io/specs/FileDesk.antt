@@ -5,8 +5,14 @@ use Rattle.desk_io.specs.TallyDesk.{nothing_told}
 use Rattle.desk_io.specs.declared.file_desk.FileDesk.{FileDesk}
 
 abbrev pub untold_left : {R W : Type 0} → FileDesk R W → Left
-untold_left d =
-    record { node = None; link = None; movement = None; demand = None; times = None }
+untold_left d = record {
+  node = None;
+  link = None;
+  movement = None;
+  demand = None;
+  start = None;
+  times = None;
+}
 
 abbrev pub untold_taken : {R W : Type 0} → FileDesk R W → Taken
 untold_taken d = nothing_told

@@ -31,15 +31,20 @@ abbrev pub number_after : Option ℕ → Option ℕ
 number_after None = None
 number_after (Some number) = if nat_lt (number + 1) (2 ^ 64) then Some (number + 1) else None
 
--- every text is told; the table of link times has zero bytes
+-- every text is told; the tables of a start and of link times have zero bytes
 abbrev pub all_left : List ℕ → List ℕ → List ℕ → List ℕ → Left
 all_left node link movement demand = record {
   node = Some node;
   link = Some link;
   movement = Some movement;
   demand = Some demand;
+  start = Some [];
   times = Some [];
 }
+
+-- and with these bytes as the table of a start
+abbrev pub with_start : List ℕ → Left → Left
+with_start start left = record left { start = Some start }
 
 -- and with these bytes as the table of link times
 abbrev pub with_times : List ℕ → Left → Left

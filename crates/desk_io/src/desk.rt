@@ -3,14 +3,15 @@ ghost use Rattle.std.specs.Io.KnownBytes.{IsAtEnd};
 ghost use Rattle.desk_io.specs.Desk.{Left, Taken, left_of, before_left, grown};
 ghost use Rattle.desk_io.specs.Faults.{HasCause};
 
-/// A table that a desk hands out. The first three have the column names of GMNS, and the last one
-/// is a table of link times as an assignment puts it.
+/// A table that a desk hands out. The first three have the column names of GMNS. A start is a table
+/// of agents, and the last one a table of link times, both as an assignment puts them.
 #[derive(Clone, Copy, Debug, PartialEq, Eq)]
 pub enum Table {
     Node,
     Link,
     Movement,
     Demand,
+    Start,
     Times,
 }
 

@@ -15,12 +15,12 @@ enum TableFile {
     Opened(File),
 }
 
-/// A desk over the current folder. It reads `node.csv`, `link.csv`, `movement.csv`, `demand.csv`
-/// and `times.csv`, and puts to `agent.csv`, `link_performance.csv`, `gap.csv`, `skim.csv`,
-/// `counts.csv`, a stream for Report and one for Watch: standard output and standard error. A
-/// `movement.csv` that doesn't exist reads as zero bytes; another missing file fails. A file is
-/// made, and an older one emptied, at its first put of a piece that isn't empty. It tells nothing
-/// of contents, and counts each failure.
+/// A desk over the current folder. It reads `node.csv`, `link.csv`, `movement.csv`, `demand.csv`,
+/// `start.csv` and `times.csv`, and puts to `agent.csv`, `link_performance.csv`, `gap.csv`,
+/// `skim.csv`, `counts.csv`, a stream for Report and one for Watch: standard output and standard
+/// error. A `movement.csv` that doesn't exist reads as zero bytes; another missing file fails. A
+/// file is made, and an older one emptied, at its first put of a piece that isn't empty. It tells
+/// nothing of contents, and counts each failure.
 #[derive(Drop)]
 pub struct FileDesk<R, W> {
     rt: HostRuntime,
@@ -28,6 +28,7 @@ pub struct FileDesk<R, W> {
     link: TableFile,
     movement: TableFile,
     demand: TableFile,
+    start: TableFile,
     times: TableFile,
     agent: Option<File>,
     link_time: Option<File>,
@@ -61,6 +62,7 @@ impl<R, W> FileDesk<R, W> {
             link: TableFile::NotOpened,
             movement: TableFile::NotOpened,
             demand: TableFile::NotOpened,
+            start: TableFile::NotOpened,
             times: TableFile::NotOpened,
             agent: None,
             link_time: None,
@@ -152,6 +154,7 @@ impl<R: Write, W: Write> Desk for FileDesk<R, W> {
             Table::Link => read_file(&self.rt, &mut self.link, "link.csv", false, buf),
             Table::Movement => read_file(&self.rt, &mut self.movement, "movement.csv", true, buf),
             Table::Demand => read_file(&self.rt, &mut self.demand, "demand.csv", false, buf),
+            Table::Start => read_file(&self.rt, &mut self.start, "start.csv", false, buf),
             Table::Times => read_file(&self.rt, &mut self.times, "times.csv", false, buf),
         };
         match read {

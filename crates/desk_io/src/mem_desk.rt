@@ -4,14 +4,15 @@ ghost use Rattle.std.specs.Prelude.{IsTrue, IsErr, is_err, IfOk, IfSome, OnOk, O
 ghost use Rattle.std.specs.Io.KnownBytes.{IsAtEnd};
 ghost use Rattle.desk_io.specs.Desk.{left_of, before_left, taken_of, grown};
 ghost use Rattle.desk_io.specs.Faults.{HasCause, last_count};
-ghost use Rattle.desk_io.specs.MemDesk.{is_listed, number_after, all_left, all_taken, with_times};
+ghost use Rattle.desk_io.specs.MemDesk.{is_listed, number_after, all_left, all_taken};
+ghost use Rattle.desk_io.specs.MemDesk.{with_start, with_times};
 
 use crate::source::Source;
 use crate::{Desk, Failed, Memory, Output, Table};
 use std::alloc::Global;
 use std::marker::Model;
 
-/// A desk in memory: five texts to read and seven outputs that grow. It tells all, and calls can be
+/// A desk in memory: six texts to read and seven outputs that grow. It tells all, and calls can be
 /// listed to fail.
 #[derive(Drop)]
 pub struct MemDesk {
@@ -19,6 +20,7 @@ pub struct MemDesk {
     link: Source,
     movement: Source,
     demand: Source,
+    start: Source,
     times: Source,
     agent: Vec<u8>,
     link_time: Vec<u8>,
@@ -50,8 +52,8 @@ impl Model for MemDesk {
 }
 
 impl MemDesk {
-    /// A desk with these texts and a table of link times of zero bytes, of which no call is listed
-    /// to fail and no call has a bound on its bytes.
+    /// A desk with these texts and tables of a start and of link times of zero bytes, of which no
+    /// call is listed to fail and no call has a bound on its bytes.
     pub fn new(
         alloc: Global,
         node: Vec<u8>,
@@ -71,6 +73,7 @@ impl MemDesk {
             link: Source::new(link),
             movement: Source::new(movement),
             demand: Source::new(demand),
+            start: Source::new(Vec::new(alloc)),
             times: Source::new(Vec::new(alloc)),
             agent: Vec::new(alloc),
             link_time: Vec::new(alloc),
@@ -88,6 +91,13 @@ impl MemDesk {
             put_faults: 0,
             starved: 0,
         }
+    }
+
+    /// Sets the table of a start, of which nothing is read yet.
+    pub fn set_start(&mut self, text: Vec<u8>)
+        ensures { self.new ≡ record self.old { left = with_start text.items self.old.left } }
+    {
+        self.start = Source::new(text);
     }
 
     /// Sets the table of link times, of which nothing is read yet.
@@ -229,6 +239,7 @@ impl Desk for MemDesk {
             Table::Link => self.link.read(buf, self.most),
             Table::Movement => self.movement.read(buf, self.most),
             Table::Demand => self.demand.read(buf, self.most),
+            Table::Start => self.start.read(buf, self.most),
             Table::Times => self.times.read(buf, self.most),
         })
     }

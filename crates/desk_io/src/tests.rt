@@ -69,10 +69,14 @@ fn a_tally_reads_and_counts(rt: HostRuntime) -> Result<(), Fail> {
     assert!(rt; buf.as_slice() == b"link".as_slice());
     let rest = read_table(rt.alloc(), &mut desk, Table::Link, 100)?;
     assert!(rt; rest.as_slice() == b"_id\n7".as_slice());
+    assert!(rt; desk.read(Table::Start, &mut buf) == Ok(0));
+    desk.set_start(Vec::from_slice(rt.alloc(), b"agent_id")?);
     assert!(rt; desk.read(Table::Times, &mut buf) == Ok(0));
     desk.set_times(Vec::from_slice(rt.alloc(), b"entered")?);
     let times = read_table(rt.alloc(), &mut desk, Table::Times, 100)?;
     assert!(rt; times.as_slice() == b"entered".as_slice());
+    let start = read_table(rt.alloc(), &mut desk, Table::Start, 100)?;
+    assert!(rt; start.as_slice() == b"agent_id".as_slice());
     assert!(rt; put_all(&mut desk, Output::Report, b"nodes 3\n") == Ok(()));
     assert!(rt; put_all(&mut desk, Output::Report, b"links 4\n") == Ok(()));
     assert!(rt; put_all(&mut desk, Output::Skim, b"1,3,0,20\n") == Ok(()));
@@ -104,6 +108,11 @@ fn files_of_the_folder(rt: HostRuntime) -> Result<(), Fail> {
     assert!(rt; buf.as_slice() == b"_id\n".as_slice());
     assert!(rt; desk.read(Table::Movement, &mut buf) == Ok(0));
     assert!(rt; desk.read(Table::Demand, &mut buf) == Err(Failed));
+    assert!(rt; desk.read(Table::Start, &mut buf) == Err(Failed));
+    fs::write(&rt, "start.csv", b"agent_id\n0")?;
+    let begun = desk.read(Table::Start, &mut buf);
+    fs::remove_file(&rt, "start.csv")?;
+    assert!(rt; begun == Ok(4));
     assert!(rt; desk.read(Table::Times, &mut buf) == Err(Failed));
     for (output, path) in [
         (Output::Agent, "agent.csv"),

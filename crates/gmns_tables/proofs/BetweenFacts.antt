@@ -14,8 +14,10 @@ use Rattle.net_core.specs.Rows.{IsBetween, link_ids, node_ids, node_named}
 use Rattle.net_core.specs.declared.rows.LinkRow.{LinkRow}
 use Rattle.net_core.specs.declared.rows.NodeNo.{NodeNo}
 use Rattle.net_core.specs.declared.rows.NodeRow.{NodeRow}
-use Rattle.gmns_tables.specs.Links.{capacity_of, free_speed_of, is_undirected, lanes_of, link_of, steps_told}
+use Rattle.gmns_tables.specs.Links.{capacity_of, free_speed_of, is_undirected, lanes_of, link_of, steps_told, link_row_of, link_windows_of}
 use Rattle.gmns_tables.specs.Names.{known_node}
+use Rattle.gmns_tables.specs.RowsWithWindows.{rows_of}
+use Rattle.gmns_tables.specs.declared.with_windows.WithWindows.{WithWindows}
 use Rattle.gmns_tables.specs.declared.link_table.LinkPlaces.{LinkPlaces}
 use Rattle.fixed_units.specs.declared.units.Units.{Units}
 use Rattle.gmns_tables.proofs.ChainFacts.{found-below, if_ok, passes}
@@ -28,10 +30,10 @@ known_node-below nodes what text = passes (λ (node : NodeNo). node.0 < length n
     (found-below (λ (n : NodeNo). n.0) (λ place. record { 0 = place }) (λ place. refl) (node_ids nodes) id code.E7 what (node_named nodes id) refl))
 
 -- each link that a record gives lies between nodes that are there
-pub link_of-between : (nodes : List NodeRow) (units : Units) (places : LinkPlaces) (before : List LinkRow) (r : Record)
-    → IfOk (link_of nodes units places before r) (IsBetween nodes)
-unfolding link_of
-link_of-between nodes units places before r =
+link_row_of-between : (nodes : List NodeRow) (units : Units) (places : LinkPlaces) (before : List LinkRow) (r : Record)
+    → IfOk (link_row_of nodes units places before r) (IsBetween nodes)
+unfolding link_row_of
+link_row_of-between nodes units places before r =
     passes (IsBetween nodes) (identifier column.LinkId (field_in r (Some places.id))) _ (λ id _.
     passes (IsBetween nodes) (unless (is_some (place_of (link_ids before) id)) code.E6 column.LinkId) _ (λ _ _.
     passes (IsBetween nodes) (known_node nodes column.FromNodeId (field_in r (Some places.from))) _ (λ from from-is.
@@ -46,3 +48,11 @@ link_of-between nodes units places before r =
       from = if_ok (λ (node : NodeNo). node.0 < length nodes) from-is (known_node-below nodes column.FromNodeId (field_in r (Some places.from)));
       to = if_ok (λ (node : NodeNo). node.0 < length nodes) to-is (known_node-below nodes column.ToNodeId (field_in r (Some places.to)));
     }))))))))))
+
+pub link_of-between : (nodes : List NodeRow) (units : Units) (places : LinkPlaces) (before : List (WithWindows LinkRow)) (r : Record)
+    → IfOk (link_of nodes units places before r) (λ link. IsBetween nodes link.row)
+unfolding link_of
+link_of-between nodes units places before r =
+    passes (λ (link : WithWindows LinkRow). IsBetween nodes link.row) (link_row_of nodes units places (rows_of before) r) _ (λ row row-is.
+    passes (λ (link : WithWindows LinkRow). IsBetween nodes link.row) (link_windows_of places r) _ (λ windows _.
+    if_ok (IsBetween nodes) row-is (link_row_of-between nodes units places (rows_of before) r)))

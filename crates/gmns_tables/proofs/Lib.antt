@@ -1,3 +1,5 @@
+pub mod WindowsFacts
+pub mod StepsFacts
 pub mod ChainFacts
 pub mod TableFacts
 pub mod BetweenFacts

@@ -16,7 +16,11 @@ use Rattle.net_core.specs.declared.rows.NodeNo.{NodeNo}
 use Rattle.net_core.specs.declared.rows.NodeRow.{NodeRow}
 use Rattle.net_core.specs.declared.rows.TurnRow.{TurnRow}
 use Rattle.gmns_tables.specs.Names.{known_link, known_node}
-use Rattle.gmns_tables.specs.Movements.{begins_at, ends_at, penalty_of, movement_of}
+use Rattle.gmns_tables.specs.Movements.{begins_at, ends_at, penalty_of, movement_of, turn_row_of}
+use Rattle.gmns_tables.specs.RowsWithWindows.{rows_of}
+use Rattle.gmns_tables.specs.Windows.{windows_by_step}
+use Rattle.gmns_tables.specs.declared.windows.WindowsOf.TheVariants.{Turn}
+use Rattle.gmns_tables.specs.declared.with_windows.WithWindows.{WithWindows}
 use Rattle.gmns_tables.specs.declared.movement_table.MovementPlaces.{MovementPlaces}
 use Rattle.fixed_units.specs.declared.units.Units.{Units}
 use Rattle.gmns_tables.proofs.ChainFacts.{found-below, if_ok, passes, unless-ok}
@@ -37,10 +41,10 @@ same_node a b node f g =
     ap (λ n. let no : NodeNo = record { 0 = n } in no) k
 
 -- each turn that a record gives leads from a link to another that begins where the first ends
-pub movement_of-turning : (nodes : List NodeRow) (links : List LinkRow) (units : Units) (places : MovementPlaces) (before : List TurnRow) (r : Record)
-    → IfOk (movement_of nodes links units places before r) (IsTurning links)
-unfolding movement_of
-movement_of-turning nodes links units places before r =
+turn_row_of-turning : (nodes : List NodeRow) (links : List LinkRow) (units : Units) (places : MovementPlaces) (before : List TurnRow) (r : Record)
+    → IfOk (turn_row_of nodes links units places before r) (IsTurning links)
+unfolding turn_row_of
+turn_row_of-turning nodes links units places before r =
     passes (IsTurning links) (known_node nodes column.NodeId (field_in r (Some places.node))) _ (λ node _.
     passes (IsTurning links) (known_link links column.IbLinkId (field_in r (Some places.from))) _ (λ a a-is.
     passes (IsTurning links) (unless (not (ends_at links a node)) code.E9 column.IbLinkId) _ (λ _ ends.
@@ -56,3 +60,11 @@ movement_of-turning nodes links units places before r =
           (unless-ok (not (ends_at links a node)) code.E9 column.IbLinkId ends)
           (unless-ok (not (begins_at links b node)) code.E9 column.ObLinkId begins);
     }))))))))
+
+pub movement_of-turning : (nodes : List NodeRow) (links : List LinkRow) (units : Units) (places : MovementPlaces) (before : List (WithWindows TurnRow)) (r : Record)
+    → IfOk (movement_of nodes links units places before r) (λ turn. IsTurning links turn.row)
+unfolding movement_of
+movement_of-turning nodes links units places before r =
+    passes (λ (turn : WithWindows TurnRow). IsTurning links turn.row) (turn_row_of nodes links units places (rows_of before) r) _ (λ row row-is.
+    passes (λ (turn : WithWindows TurnRow). IsTurning links turn.row) (windows_by_step Turn (field_in r places.by_step)) _ (λ windows _.
+    if_ok (IsTurning links) row-is (turn_row_of-turning nodes links units places (rows_of before) r)))

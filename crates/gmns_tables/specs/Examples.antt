@@ -1,6 +1,7 @@
 -- Small tables, computed from their bytes.
 use Rattle.std.specs.Prelude.{ℕ, ◌≡◌, ◌++◌, List, [], ◌∷◌, Option, None, Some, Result, Ok, Err, ⊤}
-use Rattle.std.specs.Prelude.{codes, refl}
+use Rattle.std.specs.Prelude.{codes, map, refl}
+use Rattle.std.specs.List.{range_with_len}
 use Rattle.fixed_units.specs.declared.measure.LengthUnit.TheVariants.{Metre}
 use Rattle.fixed_units.specs.declared.measure.SpeedUnit.TheVariants.{Kmh, Mph}
 use Rattle.desk_io.specs.declared.desk.Table.{Table}
@@ -11,7 +12,10 @@ use Rattle.row_reader.specs.declared.faults.Code.TheVariants.{E1, E3, E4, E5, E6
 use Rattle.row_reader.specs.declared.faults.Code.TheVariants.{E11}
 use Rattle.row_reader.specs.declared.faults.Column.{Column}
 use Rattle.row_reader.specs.declared.faults.Column.TheVariants as column
+use Rattle.row_reader.specs.declared.faults.Complaint.{Complaint}
 use Rattle.row_reader.specs.declared.faults.TableFault.{TableFault}
+use Rattle.row_reader.specs.Fields.{complain}
+use Rattle.net_core.specs.declared.rates.Window.{Window}
 use Rattle.net_core.specs.declared.rows.LinkRow.{LinkRow}
 use Rattle.net_core.specs.declared.rows.NodeRow.{NodeRow}
 use Rattle.net_core.specs.declared.rows.TurnRow.{TurnRow}
@@ -20,6 +24,9 @@ use Rattle.gmns_tables.specs.Movements.{movement_verdict}
 use Rattle.gmns_tables.specs.Net.{net_verdict}
 use Rattle.gmns_tables.specs.Nodes.{node_verdict}
 use Rattle.gmns_tables.specs.OnLiterals.{networks_on_literals}
+use Rattle.gmns_tables.specs.Windows.{windows_by_step}
+use Rattle.gmns_tables.specs.declared.windows.WindowsOf.TheVariants.{Link, Turn}
+use Rattle.gmns_tables.specs.declared.with_windows.WithWindows.{WithWindows}
 use Rattle.gmns_tables.specs.declared.link_table.TheConstants as link_number
 use Rattle.gmns_tables.specs.declared.movement_table.TheConstants as turn_number
 use Rattle.fixed_units.specs.declared.units.Units.{Units}
@@ -32,12 +39,13 @@ metric = record { delta = 6; jam = 125; length = Metre; speed = Kmh }
 node : ℕ → Option ℕ → NodeRow
 node id zone = record { id = id; zone = zone }
 
-link : ℕ → ℕ → ℕ → ℕ → ℕ → ℕ → LinkRow
-link id from to free storage rate =
+link : ℕ → ℕ → ℕ → ℕ → ℕ → ℕ → ℕ → LinkRow
+link id from to micrometres free storage rate =
     record {
       id = id;
       from = record { 0 = from };
       to = record { 0 = to };
+      micrometres = micrometres;
       free = free;
       storage = storage;
       rate = rate;
@@ -46,6 +54,14 @@ link id from to free storage rate =
 turn : ℕ → ℕ → ℕ → Option ℕ → TurnRow
 turn a b penalty rate =
     record { a = record { 0 = a }; b = record { 0 = b }; penalty = penalty; rate = rate }
+
+-- a kilometre in micrometres
+kilometre : ℕ
+kilometre = 1000000000
+
+-- a row whose rate is the same in all steps
+steadily : {R : Type 0} → R → WithWindows R
+steadily row = record { row = row; windows = [] }
 
 -- two links in a row: their tables and their rows
 node_text : List ℕ
@@ -60,38 +76,72 @@ nodes : List NodeRow
 nodes = node 1 (Some 1) ∷ node 2 None ∷ node 3 (Some 3) ∷ []
 
 links : List LinkRow
-links = link 10 0 1 10 125 600000000 ∷ link 20 1 2 10 125 600000000 ∷ []
+links =
+    link 10 0 1 kilometre 10 125 600000000 ∷ link 20 1 2 kilometre 10 125 600000000 ∷ []
 
 -- what a table of some bytes gives
 nodes_of : List ℕ → Result (List NodeRow) TableFault
 nodes_of text = node_verdict (records text)
 
-links_of : List ℕ → Result (List LinkRow) TableFault
+links_of : List ℕ → Result (List (WithWindows LinkRow)) TableFault
 links_of text = link_verdict nodes metric (records text)
 
-turns_of : List ℕ → Result (List TurnRow) TableFault
+turns_of : List ℕ → Result (List (WithWindows TurnRow)) TableFault
 turns_of text = movement_verdict nodes links metric (records text)
+
+-- the windows of a text, for a link of one lane, for one of two lanes, and for a turn
+one_lane : List ℕ → Result (List Window) Complaint
+one_lane text = windows_by_step (Link 1000) text
+
+two_lanes : List ℕ → Result (List Window) Complaint
+two_lanes text = windows_by_step (Link 2000) text
+
+a_turn : List ℕ → Result (List Window) Complaint
+a_turn text = windows_by_step Turn text
+
+window : ℕ → Option ℕ → Window
+window from rate = record { from = from; rate = rate }
+
+-- why a text has no windows
+not_the_form : Result (List Window) Complaint
+not_the_form = Err (complain E4 column.CapacityByStep)
+
+out_of_range : Result (List Window) Complaint
+out_of_range = Err (complain E5 column.CapacityByStep)
 
 -- a fault at a line
 fault : {A : Type 0} → Table → ℕ → Code → Column → Result A TableFault
 fault what line why place = Err (record { table = what; line = line; code = why; column = place })
 
 unfoldable the_examples : ⊤
-unfolding networks_on_literals metric node link turn node_text link_text nodes links nodes_of
-    links_of turns_of fault
+unfolding networks_on_literals metric node link turn kilometre steadily node_text link_text nodes
+    links nodes_of links_of turns_of one_lane two_lanes a_turn window not_the_form out_of_range
+    fault
 the_examples = tt
 
 -- ---- networks
 
 two_links : net_verdict metric (records node_text) (records link_text) None
-    ≡ Ok (record { nodes = nodes; links = links; turns = [] })
+    ≡ Ok (record {
+      nodes = nodes;
+      links = links;
+      turns = [];
+      link_windows = [] ∷ [] ∷ [];
+      turn_windows = [];
+    })
 unfolding the_examples
 two_links = refl
 
 -- the one turn with a penalty of seven seconds, which are two steps
 a_penalty : net_verdict metric (records node_text) (records link_text)
     (Some (records (codes "node_id,ib_link_id,ob_link_id,penalty\n2,10,20,7\n")))
-    ≡ Ok (record { nodes = nodes; links = links; turns = turn 0 1 2 None ∷ [] })
+    ≡ Ok (record {
+      nodes = nodes;
+      links = links;
+      turns = turn 0 1 2 None ∷ [];
+      link_windows = [] ∷ [] ∷ [];
+      turn_windows = [] ∷ [];
+    })
 unfolding the_examples
 a_penalty = refl
 
@@ -124,13 +174,14 @@ lenient_links : link_verdict (node 0 (Some 1) ∷ node 1 None ∷ node 2 (Some 3
     ++ codes "capacity,geometry\n"
     ++ codes "\"Mill, North\",0,0,1,1,1000.49,,60,,\"LINESTRING (-111.93 33.42, -111.92 33.42)\"\n"
     ++ codes "Mill,1,1,2.0,1,1.0e3,1.0,60.0,600,\"LINESTRING (-111.92 33.42, -111.91 33.42)\"\n"))
-    ≡ Ok (link 0 0 1 11 125 1800000000 ∷ link 1 1 2 10 125 600000000 ∷ [])
+    ≡ Ok (steadily (link 0 0 1 1000490000 11 125 1800000000)
+    ∷ steadily (link 1 1 2 kilometre 10 125 600000000) ∷ [])
 unfolding the_examples
 lenient_links = refl
 
 -- the required columns alone, in another order, of a link from a node to itself
 by_default : links_of (codes "to_node_id,length,from_node_id,link_id\n1,1000,1,30\n")
-    ≡ Ok (link 30 0 0 12 125 1800000000 ∷ [])
+    ≡ Ok (steadily (link 30 0 0 kilometre 12 125 1800000000) ∷ [])
 unfolding the_examples
 by_default = refl
 
@@ -138,7 +189,8 @@ by_default = refl
 by_default_in_miles : link_verdict nodes (record metric { speed = Mph })
     (records (codes "link_id,from_node_id,to_node_id,length,free_speed\n"
     ++ codes "30,1,2,1000,\n31,1,2,1000,50\n"))
-    ≡ Ok (link 30 0 1 12 125 1800000000 ∷ link 31 0 1 8 125 1800000000 ∷ [])
+    ≡ Ok (steadily (link 30 0 1 kilometre 12 125 1800000000)
+    ∷ steadily (link 31 0 1 kilometre 8 125 1800000000) ∷ [])
 unfolding the_examples
 by_default_in_miles = refl
 
@@ -203,7 +255,7 @@ both_ways = refl
 
 -- at 50 km/h a step is 83.333 m, and 10,000 of them are the most
 longest : links_of (codes "link_id,from_node_id,to_node_id,length,lanes\n10,1,2,833333.333,0\n")
-    ≡ Ok (link 10 0 1 10000 1 0 ∷ [])
+    ≡ Ok (steadily (link 10 0 1 833333333000 10000 1 0) ∷ [])
 unfolding the_examples
 longest = refl
 
@@ -238,7 +290,7 @@ same_turn = refl
 -- ten hours are the longest penalty
 longest_penalty :
     turns_of (codes "node_id,ib_link_id,ob_link_id,penalty,capacity\n2,10,20,36000,600\n")
-    ≡ Ok (turn 0 1 6000 (Some 600000000) ∷ [])
+    ≡ Ok (steadily (turn 0 1 6000 (Some 600000000)) ∷ [])
 unfolding the_examples
 longest_penalty = refl
 
@@ -246,6 +298,134 @@ too_long_penalty : turns_of (codes "node_id,ib_link_id,ob_link_id,penalty\n2,10,
     ≡ fault table.Movement 2 E5 column.Penalty
 unfolding the_examples
 too_long_penalty = refl
+
+-- ---- capacities in time windows
+
+-- a signal that is red from step 20 on and green again from step 40 on
+signal : one_lane (codes "0:600;20:0;40:600")
+    ≡ Ok (window 0 (Some 600000000) ∷ window 20 (Some 0) ∷ window 40 (Some 600000000) ∷ [])
+unfolding the_examples
+signal = refl
+
+-- a link's capacities are by lane
+signal_on_two_lanes : two_lanes (codes "0:600;20:0")
+    ≡ Ok (window 0 (Some 1200000000) ∷ window 20 (Some 0) ∷ [])
+unfolding the_examples
+signal_on_two_lanes = refl
+
+-- a turn that opens at step 30, with no limit from there on
+opens : a_turn (codes "0:0;30:none") ≡ Ok (window 0 (Some 0) ∷ window 30 None ∷ [])
+unfolding the_examples
+opens = refl
+
+-- an empty field has no windows
+same_in_all_steps : one_lane [] ≡ Ok []
+unfolding the_examples
+same_in_all_steps = refl
+
+-- a link has a limit in all steps, and no limit has one spelling
+none_for_a_link : one_lane (codes "0:none") ≡ not_the_form
+unfolding the_examples
+none_for_a_link = refl
+
+none_in_capitals : a_turn (codes "0:None") ≡ not_the_form
+unfolding the_examples
+none_in_capitals = refl
+
+-- a part that isn't there, or stands between blanks, isn't of the form
+last_semicolon : one_lane (codes "0:600;") ≡ not_the_form
+unfolding the_examples
+last_semicolon = refl
+
+blank_in_a_part : one_lane (codes "0:600; 20:0") ≡ not_the_form
+unfolding the_examples
+blank_in_a_part = refl
+
+-- the form of all parts is checked before their numbers
+form_first : one_lane (codes "0:1e13;x") ≡ not_the_form
+unfolding the_examples
+form_first = refl
+
+-- the windows begin with step 0, and each after the one before
+late_start : one_lane (codes "10:600") ≡ out_of_range
+unfolding the_examples
+late_start = refl
+
+two_at_a_step : one_lane (codes "0:600;0:500") ≡ out_of_range
+unfolding the_examples
+two_at_a_step = refl
+
+-- a step is digits, perhaps with zeros before them, and may be as large as 86,400
+zeros_before : one_lane (codes "00:600") ≡ Ok (window 0 (Some 600000000) ∷ [])
+unfolding the_examples
+zeros_before = refl
+
+last_step : one_lane (codes "0:0;86400:1")
+    ≡ Ok (window 0 (Some 0) ∷ window 86400 (Some 1000000) ∷ [])
+unfolding the_examples
+last_step = refl
+
+late_step : one_lane (codes "0:0;86401:1") ≡ out_of_range
+unfolding the_examples
+late_step = refl
+
+long_step : one_lane (codes "0:0;99999999999999999999:1") ≡ out_of_range
+unfolding the_examples
+long_step = refl
+
+-- a capacity below 0 is of the form
+below_0 : one_lane (codes "0:-1") ≡ out_of_range
+unfolding the_examples
+below_0 = refl
+
+-- sixty-four parts are the most
+sixty_four_parts : List ℕ
+sixty_four_parts =
+    codes "0:1;1:1;2:1;3:1;4:1;5:1;6:1;7:1;8:1;9:1;10:1;11:1;12:1;13:1;14:1;15:1;16:1;17:1;18:1;"
+    ++ codes "19:1;20:1;21:1;22:1;23:1;24:1;25:1;26:1;27:1;28:1;29:1;30:1;31:1;32:1;33:1;34:1;"
+    ++ codes "35:1;36:1;37:1;38:1;39:1;40:1;41:1;42:1;43:1;44:1;45:1;46:1;47:1;48:1;49:1;50:1;"
+    ++ codes "51:1;52:1;53:1;54:1;55:1;56:1;57:1;58:1;59:1;60:1;61:1;62:1;63:1"
+
+sixty_four : a_turn sixty_four_parts
+    ≡ Ok (map (λ step. window step (Some 1000000)) (range_with_len 0 64))
+unfolding the_examples sixty_four_parts
+sixty_four = refl
+
+sixty_five : a_turn (sixty_four_parts ++ codes ";64:1") ≡ out_of_range
+unfolding the_examples sixty_four_parts
+sixty_five = refl
+
+-- the column is the last one that is checked, and the capacity beside it is checked too
+windows_of_a_link : links_of (codes "link_id,from_node_id,to_node_id,length,lanes,"
+    ++ codes "capacity_by_step\n"
+    ++ codes "30,1,2,1000,2,0:600;20:0\n")
+    ≡ Ok (record {
+      row = link 30 0 1 kilometre 12 250 3600000000;
+      windows = window 0 (Some 1200000000) ∷ window 20 (Some 0) ∷ [];
+    } ∷ [])
+unfolding the_examples
+windows_of_a_link = refl
+
+late_start_of_a_link : links_of (codes "link_id,from_node_id,to_node_id,length,capacity_by_step\n"
+    ++ codes "10,1,2,1000,\n20,2,3,1000,10:600\n")
+    ≡ fault table.Link 3 E5 column.CapacityByStep
+unfolding the_examples
+late_start_of_a_link = refl
+
+capacity_first : turns_of (codes "node_id,ib_link_id,ob_link_id,capacity_by_step,capacity\n"
+    ++ codes "2,10,20,x,y\n")
+    ≡ fault table.Movement 2 E4 column.Capacity
+unfolding the_examples
+capacity_first = refl
+
+opens_at_30 : turns_of (codes "node_id,ib_link_id,ob_link_id,capacity_by_step\n"
+    ++ codes "2,10,20,0:0;30:none\n")
+    ≡ Ok (record {
+      row = turn 0 1 0 None;
+      windows = window 0 (Some 0) ∷ window 30 None ∷ [];
+    } ∷ [])
+unfolding the_examples
+opens_at_30 = refl
 
 -- ---- the numbers of the formats, in thousandths
 

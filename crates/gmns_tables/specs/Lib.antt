@@ -1,4 +1,7 @@
 pub mod Names
+pub mod Tells
+pub mod RowsWithWindows
+pub mod Windows
 pub mod Nodes
 pub mod Links
 pub mod Movements

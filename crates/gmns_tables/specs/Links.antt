@@ -21,10 +21,15 @@ use Rattle.row_reader.specs.declared.faults.Complaint.{Complaint}
 use Rattle.row_reader.specs.declared.faults.TableFault.{TableFault}
 use Rattle.net_core.specs.Ids.{place_of}
 use Rattle.net_core.specs.Rows.{link_ids}
+use Rattle.net_core.specs.declared.rates.Window.{Window}
 use Rattle.net_core.specs.declared.rows.LinkRow.{LinkRow}
 use Rattle.net_core.specs.declared.rows.NodeRow.{NodeRow}
 use Rattle.net_core.specs.declared.rows.TheConstants.{MOST_LINKS}
 use Rattle.gmns_tables.specs.Names.{known_node}
+use Rattle.gmns_tables.specs.RowsWithWindows.{rows_of}
+use Rattle.gmns_tables.specs.Windows.{windows_by_step}
+use Rattle.gmns_tables.specs.declared.windows.WindowsOf.TheVariants.{Link}
+use Rattle.gmns_tables.specs.declared.with_windows.WithWindows.{WithWindows}
 use Rattle.gmns_tables.specs.declared.link_table.LinkPlaces.{LinkPlaces}
 use Rattle.gmns_tables.specs.declared.link_table.TheConstants.{DEFAULT_LANES, DEFAULT_SPEED}
 use Rattle.gmns_tables.specs.declared.link_table.TheConstants.{LEAST_SPEED, DEFAULT_CAPACITY}
@@ -46,6 +51,7 @@ link_places header =
       lanes = optional_column header column.Lanes;
       free_speed = optional_column header column.FreeSpeed;
       capacity = optional_column header column.Capacity;
+      by_step = optional_column header column.CapacityByStep;
     })))))
 
 -- a text that says that a link goes both ways, in small or capital letters
@@ -80,10 +86,11 @@ steps_told (Err _) = Err (complain code.E11 column.FreeSpeed)
 abbrev pub capacity_of : List ℕ → Result ℕ Complaint
 capacity_of text = quantity_or DEFAULT_CAPACITY column.Capacity text
 
--- the link of a record after the links before it, or the first check that fails
-unfoldable pub link_of : List NodeRow → Units → LinkPlaces → List LinkRow → Record
+-- the link of a record after the links before it, without its windows, or the first check that
+-- fails
+unfoldable pub link_row_of : List NodeRow → Units → LinkPlaces → List LinkRow → Record
     → Result LinkRow Complaint
-link_of nodes units places before r =
+link_row_of nodes units places before r =
     then_with (identifier column.LinkId (field_in r (Some places.id))) (λ id.
     then_with (unless (is_some (place_of (link_ids before) id)) code.E6 column.LinkId) (λ _.
     then_with (known_node nodes column.FromNodeId (field_in r (Some places.from))) (λ from.
@@ -99,13 +106,29 @@ link_of nodes units places before r =
       id = id;
       from = from;
       to = to;
+      micrometres = (length_of length units.length).micrometres;
       free = free;
       storage = storage_of (length_of length units.length) lanes units.jam;
       rate = link_rate_of capacity lanes;
     })))))))))))
 
+-- the windows of a record's link, whose rates are by its lanes
+unfoldable pub link_windows_of : LinkPlaces → Record → Result (List Window) Complaint
+link_windows_of places r =
+    then_with (lanes_of (field_in r places.lanes)) (λ lanes.
+    windows_by_step (Link lanes) (field_in r places.by_step))
+
+-- the link of a record after the links before it, and its windows, or the first check that fails
+unfoldable pub link_of :
+    List NodeRow → Units → LinkPlaces → List (WithWindows LinkRow) → Record
+    → Result (WithWindows LinkRow) Complaint
+link_of nodes units places before r =
+    then_with (link_row_of nodes units places (rows_of before) r) (λ row.
+    then_with (link_windows_of places r) (λ windows.
+    Ok (record { row = row; windows = windows })))
+
 -- a link table's rows over these nodes, or its first fault
 abbrev pub link_verdict : List NodeRow → Units → List Record
-    → Result (List LinkRow) TableFault
+    → Result (List (WithWindows LinkRow)) TableFault
 link_verdict nodes units records =
     verdict table.Link MOST_LINKS link_places (link_of nodes units) records

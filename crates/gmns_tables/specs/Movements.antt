@@ -21,6 +21,10 @@ use Rattle.net_core.specs.declared.rows.NodeRow.{NodeRow}
 use Rattle.net_core.specs.declared.rows.TheConstants.{MOST_TURNS}
 use Rattle.net_core.specs.declared.rows.TurnRow.{TurnRow}
 use Rattle.gmns_tables.specs.Names.{known_link, known_node}
+use Rattle.gmns_tables.specs.RowsWithWindows.{rows_of}
+use Rattle.gmns_tables.specs.Windows.{windows_by_step}
+use Rattle.gmns_tables.specs.declared.windows.WindowsOf.TheVariants.{Turn}
+use Rattle.gmns_tables.specs.declared.with_windows.WithWindows.{WithWindows}
 use Rattle.gmns_tables.specs.declared.movement_table.TheConstants.{DEFAULT_PENALTY}
 use Rattle.gmns_tables.specs.declared.movement_table.MovementPlaces.{MovementPlaces}
 use Rattle.fixed_units.specs.declared.units.Units.{Units}
@@ -37,6 +41,7 @@ movement_places header =
       to = to;
       penalty = optional_column header column.Penalty;
       capacity = optional_column header column.Capacity;
+      by_step = optional_column header column.CapacityByStep;
     }))))
 
 -- whether a link ends, or begins, at a node
@@ -52,11 +57,12 @@ penalty_of text =
     then_with (quantity_or DEFAULT_PENALTY column.Penalty text)
     (within column.Penalty 0 MOST_PENALTY)
 
--- the turn of a record after the turns before it, or the first check that fails
-unfoldable pub movement_of :
+-- the turn of a record after the turns before it, without its windows, or the first check that
+-- fails
+unfoldable pub turn_row_of :
     List NodeRow → List LinkRow → Units → MovementPlaces → List TurnRow → Record
     → Result TurnRow Complaint
-movement_of nodes links units places before r =
+turn_row_of nodes links units places before r =
     then_with (known_node nodes column.NodeId (field_in r (Some places.node))) (λ node.
     then_with (known_link links column.IbLinkId (field_in r (Some places.from))) (λ a.
     then_with (unless (not (ends_at links a node)) code.E9 column.IbLinkId) (λ _.
@@ -73,8 +79,17 @@ movement_of nodes links units places before r =
       rate = option_map turn_rate_of capacity;
     })))))))))
 
+-- the turn of a record after the turns before it, and its windows, or the first check that fails
+unfoldable pub movement_of :
+    List NodeRow → List LinkRow → Units → MovementPlaces → List (WithWindows TurnRow) → Record
+    → Result (WithWindows TurnRow) Complaint
+movement_of nodes links units places before r =
+    then_with (turn_row_of nodes links units places (rows_of before) r) (λ row.
+    then_with (windows_by_step Turn (field_in r places.by_step)) (λ windows.
+    Ok (record { row = row; windows = windows })))
+
 -- a movement table's rows over these nodes and links, or its first fault
 abbrev pub movement_verdict : List NodeRow → List LinkRow → Units → List Record
-    → Result (List TurnRow) TableFault
+    → Result (List (WithWindows TurnRow)) TableFault
 movement_verdict nodes links units records =
     verdict table.Movement MOST_TURNS movement_places (movement_of nodes links units) records

@@ -4,7 +4,8 @@
 //! This crate carries the promise that a table is accepted or refused with its first fault: a
 //! reader answers exactly the rows that its table's records give, or the least line at which a
 //! check fails with the first check that fails there. The checks of a line stand in specs/Nodes,
-//! specs/Links and specs/Movements, a line a column.
+//! specs/Links and specs/Movements, a line a column, and those of capacities in time windows in
+//! specs/Windows.
 #![tactic(auto)]
 
 mod link_table;
@@ -15,6 +16,8 @@ mod network;
 mod node_table;
 mod nodes;
 mod turns;
+mod windows;
+mod with_windows;
 
 pub use fixed_units::Units;
 pub use link_table::read_links;
@@ -24,6 +27,7 @@ pub use network::{join_net, read_net};
 pub use node_table::read_nodes;
 pub use nodes::NodeRows;
 pub use turns::TurnRows;
+pub use with_windows::WithWindows;
 
 #[cfg(test)]
 mod tests;

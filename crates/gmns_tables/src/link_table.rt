@@ -7,22 +7,28 @@ ghost use Rattle.fixed_units.specs.declared.quantity.TheConstants.{MOST_THOUSAND
 ghost use Rattle.row_reader.specs.FirstFault.{Tells};
 ghost use Rattle.row_reader.specs.Records.{records};
 ghost use Rattle.net_core.specs.Ids.{place_of};
-ghost use Rattle.net_core.specs.Rows.{AreLinks, IsBetween, IsLinkInRange, link_ids};
+ghost use Rattle.net_core.specs.Rates.{AreLinkWindows};
+ghost use Rattle.net_core.specs.Rows.{IsBetween, IsLinkInRange, link_ids};
 ghost use Rattle.net_core.specs.declared.rows.TheConstants.{MOST_LINKS};
 ghost use Rattle.gmns_tables.specs.Links.{capacity_of, free_speed_of};
 ghost use Rattle.gmns_tables.specs.Links.{is_undirected as is_undirected_of, lanes_of, link_of};
-ghost use Rattle.gmns_tables.specs.Links.{link_places, link_verdict, steps_told};
+ghost use Rattle.gmns_tables.specs.Links.{link_places, link_row_of, link_verdict};
+ghost use Rattle.gmns_tables.specs.Links.{link_windows_of, steps_told};
+ghost use Rattle.gmns_tables.specs.RowsWithWindows.{AreLinkRows, rows_of};
+ghost use Rattle.gmns_tables.specs.Tells.{TellsRow};
 ghost use Rattle.fixed_units.specs.Units.{IsUnits};
 
 use crate::links::LinkRows;
 use crate::names::known_node;
 use crate::nodes::NodeRows;
+use crate::windows::{WindowsOf, read_windows};
+use crate::with_windows::WithWindows;
 use desk_io::Table;
 use fixed_units::{
     Length, MOST_LANES, MOST_THOUSANDTHS, Speed, SpeedUnit, Units, ff_steps, length, link_rate,
     speed, storage,
 };
-use net_core::{LinkRow, MOST_LINKS};
+use net_core::{LinkRow, MOST_LINKS, Windows};
 use row_reader::{
     Accepted, Code, Column, Complaint, Row, RowRefusal, Rows, TableRefusal, complain, identifier,
     optional_column, optional_quantity, quantity, quantity_or, read_rows, required_column, unless,
@@ -53,6 +59,7 @@ struct LinkPlaces {
     lanes: Option<usize>,
     free_speed: Option<usize>,
     capacity: Option<usize>,
+    by_step: Option<usize>,
 }
 
 impl LinkPlaces {
@@ -73,6 +80,7 @@ impl LinkPlaces {
             lanes: optional_column(rows, Column::Lanes),
             free_speed: optional_column(rows, Column::FreeSpeed),
             capacity: optional_column(rows, Column::Capacity),
+            by_step: optional_column(rows, Column::CapacityByStep),
         })
     }
 }
@@ -80,6 +88,7 @@ impl LinkPlaces {
 // A link table that is being read.
 #[derive(Drop)]
 struct LinkTable<'a> {
+    alloc: Global,
     nodes: &'a NodeRows,
     units: Units,
     rows: LinkRows,
@@ -87,13 +96,33 @@ struct LinkTable<'a> {
 }
 
 impl LinkTable<'_> {
-    // The link of a record, or the first check that fails.
+    // The link of a record and its windows, the first check that fails, or want of memory.
     #[tactic(auto, unfolding(crate::specs::Links::link_of))]
+    fn link(&self, places: LinkPlaces, row: &Row) -> Result<WithWindows<LinkRow>, RowRefusal>
+        ensures link { TellsRow (link_of self.now.nodes.now self.now.units places
+            self.now.rows row.now.fields) result }
+        ensures range { IfOk result (λ link. IsLinkInRange link.row) }
+        ensures windows { IfOk result (λ link. AreLinkWindows link.windows) }
+        ensures new { IfOk result (λ link.
+            place_of (link_ids (rows_of self.now.rows)) link.row.id ≡ None) }
+    {
+        match self.row(places, row) {
+            Ok(link) => match windows(self.alloc, places, row) {
+                Ok(windows) => Ok(WithWindows { row: link, windows }),
+                Err(refusal) => Err(refusal),
+            },
+            Err(complaint) => Err(RowRefusal::Complaint(complaint)),
+        }
+    }
+
+    // The link of a record, without its windows, or the first check that fails.
+    #[tactic(auto, unfolding(crate::specs::Links::link_row_of))]
     fn row(&self, places: LinkPlaces, row: &Row) -> Result<LinkRow, Complaint>
-        ensures row { result ≡ link_of self.now.nodes.now self.now.units places
-            self.now.rows row.now.fields }
+        ensures row { result ≡ link_row_of self.now.nodes.now self.now.units places
+            (rows_of self.now.rows) row.now.fields }
         ensures range { IfOk result IsLinkInRange }
-        ensures new { IfOk result (λ link. place_of (link_ids self.now.rows) link.id ≡ None) }
+        ensures new { IfOk result (λ link.
+            place_of (link_ids (rows_of self.now.rows)) link.id ≡ None) }
     {
         let units = &self.units;
         let id = identifier(Column::LinkId, row.field_in(Some(places.id)))?;
@@ -116,6 +145,7 @@ impl LinkTable<'_> {
             id,
             from,
             to,
+            micrometres: size.micrometres,
             free,
             storage: storage(size, lanes, units.jam),
             rate: link_rate(capacity, lanes),
@@ -123,10 +153,22 @@ impl LinkTable<'_> {
     }
 }
 
+// The windows of a record's link, whose rates are by its lanes.
+#[tactic(auto, unfolding(crate::specs::Links::link_windows_of))]
+fn windows(alloc: Global, places: LinkPlaces, row: &Row) -> Result<Windows, RowRefusal>
+    ensures windows { TellsRow (link_windows_of places row.now.fields) result }
+    ensures sound { IfOk result AreLinkWindows }
+{
+    match lanes(row.field_in(places.lanes)) {
+        Ok(lanes) => read_windows(alloc, WindowsOf::Link(lanes), row.field_in(places.by_step)),
+        Err(complaint) => Err(RowRefusal::Complaint(complaint)),
+    }
+}
+
 impl Accepted for LinkTable<'_> {
     type Places = LinkPlaces;
 
-    type Item = LinkRow;
+    type Item = WithWindows<LinkRow>;
 
     ghost limit = { MOST_LINKS };
 
@@ -147,21 +189,22 @@ impl Accepted for LinkTable<'_> {
     }
 
     fn accept(&mut self, places: LinkPlaces, row: &Row) -> Result<(), RowRefusal> {
-        match self.row(places, row) {
+        match self.link(places, row) {
             Ok(link) => match self.rows.push(link) {
                 Ok(()) => Ok(()),
                 Err(_) => Err(RowRefusal::Memory),
             },
-            Err(complaint) => Err(RowRefusal::Complaint(complaint)),
+            Err(refusal) => Err(refusal),
         }
     }
 }
 
 /// Reads a link table of GMNS over its nodes: the columns `link_id`, `from_node_id`, `to_node_id`
-/// and `length`, and the optional columns `directed`, `lanes`, `free_speed` and `capacity`. Lengths
-/// and speeds are in the units of the run, capacities in vehicles per hour and lane. Where a field
-/// is empty there is one lane, a speed of 50 kilometres per hour in either unit of speed, and a
-/// capacity of 1800. The refusal is the table's first fault, or want of memory.
+/// and `length`, and the optional columns `directed`, `lanes`, `free_speed`, `capacity` and
+/// `capacity_by_step`. Lengths and speeds are in the units of the run, capacities in vehicles per
+/// hour and lane. Where a field is empty there is one lane, a speed of 50 kilometres per hour in
+/// either unit of speed, a capacity of 1800, and the same capacity in all steps. The refusal is the
+/// table's first fault, or want of memory.
 pub fn read_links(
     alloc: Global,
     nodes: &NodeRows,
@@ -170,10 +213,11 @@ pub fn read_links(
 ) -> Result<LinkRows, TableRefusal>
     requires { IsUnits units.now }
     ensures rows { Tells (link_verdict nodes.now units.now (records text.now)) result }
-    ensures sound { IfOk result AreLinks }
-    ensures between { IfOk result (All (IsBetween nodes.now)) }
+    ensures sound { IfOk result AreLinkRows }
+    ensures between { IfOk result (λ links. All (IsBetween nodes.now) (rows_of links)) }
 {
     let table = LinkTable {
+        alloc,
         nodes,
         units: *units,
         rows: LinkRows::new(alloc),

@@ -6,18 +6,23 @@ ghost use Rattle.fixed_units.specs.declared.turn.TheConstants.{MOST_PENALTY};
 ghost use Rattle.row_reader.specs.FirstFault.{Tells};
 ghost use Rattle.row_reader.specs.Records.{records};
 ghost use Rattle.net_core.specs.Ids.{place_of_pair};
-ghost use Rattle.net_core.specs.Rows.{AreTurns, IsTurnInRange, IsTurning, turn_pairs};
+ghost use Rattle.net_core.specs.Rates.{AreWindows};
+ghost use Rattle.net_core.specs.Rows.{IsTurnInRange, IsTurning, turn_pairs};
 ghost use Rattle.fixed_units.specs.declared.link.TheConstants.{MOST_RATE};
 ghost use Rattle.net_core.specs.declared.rows.TheConstants.{MOST_TURNS};
 ghost use Rattle.gmns_tables.specs.Movements.{begins_at as begins_at_of, ends_at as ends_at_of};
 ghost use Rattle.gmns_tables.specs.Movements.{movement_of, movement_places, movement_verdict};
-ghost use Rattle.gmns_tables.specs.Movements.{penalty_of};
+ghost use Rattle.gmns_tables.specs.Movements.{penalty_of, turn_row_of};
+ghost use Rattle.gmns_tables.specs.RowsWithWindows.{AreTurnRows, rows_of};
+ghost use Rattle.gmns_tables.specs.Tells.{TellsRow};
 ghost use Rattle.fixed_units.specs.Units.{IsUnits};
 
 use crate::links::LinkRows;
 use crate::names::{known_link, known_node};
 use crate::nodes::NodeRows;
 use crate::turns::TurnRows;
+use crate::windows::{WindowsOf, read_windows};
+use crate::with_windows::WithWindows;
 use desk_io::Table;
 use fixed_units::{MOST_PENALTY, Units, penalty_steps, turn_rate};
 use net_core::{LinkNo, MOST_TURNS, NodeNo, TurnRow};
@@ -38,6 +43,7 @@ struct MovementPlaces {
     to: usize,
     penalty: Option<usize>,
     capacity: Option<usize>,
+    by_step: Option<usize>,
 }
 
 impl MovementPlaces {
@@ -54,6 +60,7 @@ impl MovementPlaces {
             to,
             penalty: optional_column(rows, Column::Penalty),
             capacity: optional_column(rows, Column::Capacity),
+            by_step: optional_column(rows, Column::CapacityByStep),
         })
     }
 }
@@ -61,6 +68,7 @@ impl MovementPlaces {
 // A movement table that is being read.
 #[derive(Drop)]
 struct MovementTable<'a> {
+    alloc: Global,
     nodes: &'a NodeRows,
     links: &'a LinkRows,
     units: Units,
@@ -69,14 +77,35 @@ struct MovementTable<'a> {
 }
 
 impl MovementTable<'_> {
-    // The turn of a record, or the first check that fails.
+    // The turn of a record and its windows, the first check that fails, or want of memory.
     #[tactic(auto, unfolding(crate::specs::Movements::movement_of))]
+    fn turn(&self, places: MovementPlaces, row: &Row) -> Result<WithWindows<TurnRow>, RowRefusal>
+        ensures turn { TellsRow (movement_of self.now.nodes.now (rows_of self.now.links.now)
+            self.now.units places self.now.rows row.now.fields) result }
+        ensures range { IfOk result (λ turn. IsTurnInRange turn.row) }
+        ensures windows { IfOk result (λ turn. AreWindows turn.windows) }
+        ensures new { IfOk result (λ turn.
+            place_of_pair (turn_pairs (rows_of self.now.rows)) turn.row.a.0 turn.row.b.0 ≡ None) }
+    {
+        match self.row(places, row) {
+            Ok(turn) => {
+                match read_windows(self.alloc, WindowsOf::Turn, row.field_in(places.by_step)) {
+                    Ok(windows) => Ok(WithWindows { row: turn, windows }),
+                    Err(refusal) => Err(refusal),
+                }
+            }
+            Err(complaint) => Err(RowRefusal::Complaint(complaint)),
+        }
+    }
+
+    // The turn of a record, without its windows, or the first check that fails.
+    #[tactic(auto, unfolding(crate::specs::Movements::turn_row_of))]
     fn row(&self, places: MovementPlaces, row: &Row) -> Result<TurnRow, Complaint>
-        ensures row { result ≡ movement_of self.now.nodes.now self.now.links.now self.now.units
-            places self.now.rows row.now.fields }
+        ensures row { result ≡ turn_row_of self.now.nodes.now (rows_of self.now.links.now)
+            self.now.units places (rows_of self.now.rows) row.now.fields }
         ensures range { IfOk result IsTurnInRange }
         ensures new { IfOk result (λ turn.
-            place_of_pair (turn_pairs self.now.rows) turn.a.0 turn.b.0 ≡ None) }
+            place_of_pair (turn_pairs (rows_of self.now.rows)) turn.a.0 turn.b.0 ≡ None) }
     {
         let links = self.links;
         let node = known_node(self.nodes, Column::NodeId, row.field_in(Some(places.node)))?;
@@ -99,7 +128,7 @@ impl MovementTable<'_> {
 impl Accepted for MovementTable<'_> {
     type Places = MovementPlaces;
 
-    type Item = TurnRow;
+    type Item = WithWindows<TurnRow>;
 
     ghost limit = { MOST_TURNS };
 
@@ -107,7 +136,7 @@ impl Accepted for MovementTable<'_> {
 
     ghost rows = { λ t. t.rows };
 
-    ghost judge = { λ t. movement_of t.nodes.now t.links.now t.units };
+    ghost judge = { λ t. movement_of t.nodes.now (rows_of t.links.now) t.units };
 
     fn find_columns(table: &Rows<'_>) -> Result<MovementPlaces, Complaint>
         ensures { result ≡ movement_places table.now.header }
@@ -120,20 +149,21 @@ impl Accepted for MovementTable<'_> {
     }
 
     fn accept(&mut self, places: MovementPlaces, row: &Row) -> Result<(), RowRefusal> {
-        match self.row(places, row) {
+        match self.turn(places, row) {
             Ok(turn) => match self.rows.push(turn) {
                 Ok(()) => Ok(()),
                 Err(_) => Err(RowRefusal::Memory),
             },
-            Err(complaint) => Err(RowRefusal::Complaint(complaint)),
+            Err(refusal) => Err(refusal),
         }
     }
 }
 
 /// Reads a movement table of GMNS over its nodes and links: the columns `node_id`, `ib_link_id` and
-/// `ob_link_id`, and the optional columns `penalty`, in seconds, and `capacity`, in vehicles per
-/// hour. Where a field is empty there is no penalty, and no limit. The refusal is the table's first
-/// fault, or want of memory. A text of zero bytes stands for no table, and isn't read.
+/// `ob_link_id`, and the optional columns `penalty`, in seconds, and `capacity` and
+/// `capacity_by_step`, in vehicles per hour. Where a field is empty there is no penalty, no limit,
+/// and the same limit in all steps. The refusal is the table's first fault, or want of memory. A
+/// text of zero bytes stands for no table, and isn't read.
 pub fn read_movements(
     alloc: Global,
     nodes: &NodeRows,
@@ -143,12 +173,13 @@ pub fn read_movements(
 ) -> Result<TurnRows, TableRefusal>
     requires units { IsUnits units.now }
     requires there { 1 ≤ length text.now }
-    ensures rows { Tells (movement_verdict nodes.now links.now units.now
+    ensures rows { Tells (movement_verdict nodes.now (rows_of links.now) units.now
         (records text.now)) result }
-    ensures sound { IfOk result AreTurns }
-    ensures turning { IfOk result (All (IsTurning links.now)) }
+    ensures sound { IfOk result AreTurnRows }
+    ensures turning { IfOk result (λ turns. All (IsTurning (rows_of links.now)) (rows_of turns)) }
 {
     let table = MovementTable {
+        alloc,
         nodes,
         links,
         units: *units,
@@ -167,8 +198,8 @@ pub fn read_movements(
 // Whether a link ends at a node.
 #[tactic(auto, unfolding(net_core::specs::Rows::link_in))]
 fn ends_at(links: &LinkRows, link: LinkNo, node: NodeNo) -> bool
-    requires { link.0 < length links.now }
-    ensures { result ≡ ends_at_of links.now link node }
+    requires { link.0 < length (rows_of links.now) }
+    ensures { result ≡ ends_at_of (rows_of links.now) link node }
 {
     links.as_slice()[link.0 as usize].to.0 == node.0
 }
@@ -176,8 +207,8 @@ fn ends_at(links: &LinkRows, link: LinkNo, node: NodeNo) -> bool
 // Whether a link begins at a node.
 #[tactic(auto, unfolding(net_core::specs::Rows::link_in))]
 fn begins_at(links: &LinkRows, link: LinkNo, node: NodeNo) -> bool
-    requires { link.0 < length links.now }
-    ensures { result ≡ begins_at_of links.now link node }
+    requires { link.0 < length (rows_of links.now) }
+    ensures { result ≡ begins_at_of (rows_of links.now) link node }
 {
     links.as_slice()[link.0 as usize].from.0 == node.0
 }

@@ -1,6 +1,7 @@
 // Fields that name a node or a link.
 ghost use Rattle.std.specs.Prelude.{◌≡◌, ◌<◌, length, IfOk};
 ghost use Rattle.gmns_tables.specs.Names.{known_link as known_link_of, known_node as known_node_of};
+ghost use Rattle.gmns_tables.specs.RowsWithWindows.{rows_of};
 
 use crate::links::LinkRows;
 use crate::nodes::NodeRows;
@@ -23,8 +24,8 @@ pub(crate) fn known_node(nodes: &NodeRows, column: Column, text: &[u8]) -> Resul
 // The link that a required field names.
 #[tactic(auto, unfolding(crate::specs::Names::known_link))]
 pub(crate) fn known_link(links: &LinkRows, column: Column, text: &[u8]) -> Result<LinkNo, Complaint>
-    ensures link { result ≡ known_link_of links.now column text.now }
-    ensures within { IfOk result (λ link. link.0 < length links.now) }
+    ensures link { result ≡ known_link_of (rows_of links.now) column text.now }
+    ensures within { IfOk result (λ link. link.0 < length (rows_of links.now)) }
 {
     let id = identifier(column, text)?;
     match links.place(id) {

@@ -4,9 +4,10 @@ ghost use Rattle.std.specs.Prelude.{IfSome};
 ghost use Rattle.row_reader.specs.FirstFault.{Tells};
 ghost use Rattle.row_reader.specs.Records.{records};
 ghost use Rattle.net_core.specs.Network.{IsNet};
-ghost use Rattle.net_core.specs.Rows.{AreTurns, IsTurning};
+ghost use Rattle.net_core.specs.Rows.{IsTurning};
 ghost use Rattle.gmns_tables.specs.Net.{TellsNet, listed_turns, listed_verdict, net_of};
 ghost use Rattle.gmns_tables.specs.Net.{net_verdict};
+ghost use Rattle.gmns_tables.specs.RowsWithWindows.{AreTurnRows, rows_of, windows_of};
 ghost use Rattle.fixed_units.specs.Units.{IsUnits};
 
 use crate::link_table::read_links;
@@ -15,13 +16,14 @@ use crate::movement_table::read_movements;
 use crate::node_table::read_nodes;
 use crate::nodes::NodeRows;
 use crate::turns::TurnRows;
+use crate::with_windows::RowParts;
 use fixed_units::Units;
-use net_core::{Memory, Net};
+use net_core::{Memory, Net, TurnRow};
 use row_reader::TableRefusal;
 use std::alloc::Global;
 
-/// The network of tables that were read from one another. Without turns each link may be followed
-/// by every link that begins where it ends.
+/// The network of tables that were read from one another, with the windows of its links and turns.
+/// Without turns each link may be followed by every link that begins where it ends.
 pub fn join_net(
     alloc: Global,
     nodes: NodeRows,
@@ -31,11 +33,30 @@ pub fn join_net(
     requires { IsNet (net_of nodes links turns) }
     ensures { IfOk result (λ net. net ≡ net_of nodes links turns) }
 {
-    let turns = match turns {
-        Some(turns) => turns.into_vec(),
-        None => Vec::new(alloc),
-    };
-    Net::of(alloc, nodes.into_vec(), links.into_vec(), turns)
+    let links = links.into_parts();
+    let turns = parts_of(alloc, turns);
+    Net::with_windows(
+        alloc,
+        nodes.into_vec(),
+        links.rows,
+        turns.rows,
+        links.windows,
+        turns.windows,
+    )
+}
+
+// The turns of a movement table that may be missing, and the windows of each.
+fn parts_of(alloc: Global, turns: Option<TurnRows>) -> RowParts<TurnRow>
+    ensures rows { result.rows.items ≡ rows_of (listed_turns turns) }
+    ensures windows { result.windows.items ≡ windows_of (listed_turns turns) }
+{
+    match turns {
+        Some(turns) => turns.into_parts(),
+        None => RowParts {
+            rows: Vec::new(alloc),
+            windows: Vec::new(alloc),
+        },
+    }
 }
 
 /// Reads the network of a node, a link and a movement table, in this order. The refusal is the
@@ -72,14 +93,15 @@ fn read_listed(
 ) -> Result<Option<TurnRows>, TableRefusal>
     requires units { IsUnits units.now }
     requires there { IfSome movement (λ text. 1 ≤ length text.now) }
-    ensures rows { let told = listed_verdict nodes.now links.now units.now
+    ensures rows { let told = listed_verdict nodes.now (rows_of links.now) units.now
         (option_map (λ text. records text.now) movement.entry) in
         IfOk result (λ turns. told ≡ Ok (listed_turns turns)) }
-    ensures refused { let told = listed_verdict nodes.now links.now units.now
+    ensures refused { let told = listed_verdict nodes.now (rows_of links.now) units.now
         (option_map (λ text. records text.now) movement.entry) in
         IfErr result (λ refusal. Tells told (Err refusal)) }
-    ensures sound { IfOk result (λ turns. AreTurns (listed_turns turns)) }
-    ensures turning { IfOk result (λ turns. All (IsTurning links.now) (listed_turns turns)) }
+    ensures sound { IfOk result (λ turns. AreTurnRows (listed_turns turns)) }
+    ensures turning { IfOk result (λ turns.
+        All (IsTurning (rows_of links.now)) (rows_of (listed_turns turns))) }
 {
     match movement {
         Some(text) => match read_movements(alloc, nodes, links, text, units) {

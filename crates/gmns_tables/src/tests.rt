@@ -73,12 +73,55 @@ fn two_links_in_a_row(rt: HostRuntime) -> Result<(), Fail> {
         id: 20,
         from: NodeNo(1),
         to: NodeNo(2),
+        micrometres: 1_000_000_000,
         free: 10,
         storage: 125,
         rate: 600_000_000,
     };
     assert!(rt; net.link_count() == 2);
     assert_eq!(rt; net.link(LinkNo(1)), link);
+    Ok(())
+}
+
+// A signal on the second link, which is red from step 20 on, and a turn that opens at step 30. The
+// same turn on a way round has no windows.
+#[test]
+fn windows_turn_red(rt: HostRuntime) -> Result<(), Fail> {
+    let alloc = rt.alloc();
+    let link = "link_id,from_node_id,to_node_id,length,lanes,capacity,capacity_by_step\n\
+        10,1,2,1000,1,600,\n20,2,3,1000,2,600,0:600;20:0;40:500\n30,2,3,1000,1,600,\n";
+    let movement = "node_id,ib_link_id,ob_link_id,capacity,capacity_by_step\n\
+        2,10,20,900,0:0;30:none\n2,10,30,900,\n";
+    let nodes = read_nodes(alloc, NODES.as_bytes()).expect(&rt, "nodes");
+    let links = read_links(alloc, &nodes, link.as_bytes(), &UNITS).expect(&rt, "links");
+    let text = movement.as_bytes();
+    assert!(rt; !text.is_empty());
+    let turns = read_movements(alloc, &nodes, &links, text, &UNITS).expect(&rt, "turns");
+    let net = join_net(alloc, nodes, links, Some(turns)).expect(&rt, "a network");
+    for (link, step, rate) in [
+        (0, 20, 600_000_000),
+        (1, 0, 1_200_000_000),
+        (1, 19, 1_200_000_000),
+        (1, 20, 0),
+        (1, 39, 0),
+        (1, 40, 1_000_000_000),
+        (1, 86_400, 1_000_000_000),
+    ] {
+        assert!(rt; link < net.link_count());
+        assert_eq!(rt; net.link_rate_at(LinkNo(link), step), rate);
+    }
+    for (to, step, rate) in [
+        (1, 0, Some(0)),
+        (1, 29, Some(0)),
+        (1, 30, None),
+        (2, 29, Some(900_000_000)),
+    ] {
+        assert!(rt; 0 < net.link_count());
+        assert!(rt; to < net.link_count());
+        let turn = net.turn(LinkNo(0), LinkNo(to));
+        assert!(rt; turn.is_some());
+        assert_eq!(rt; net.turn_rate_at(LinkNo(0), LinkNo(to), step), rate);
+    }
     Ok(())
 }
 
@@ -142,7 +185,13 @@ fn first_faults_of_nodes_and_links(rt: HostRuntime) {
     let no_number = fault(Table::Node, 2, Code::E4, Column::NodeId);
     let no_link = fault(Table::Link, 1, Code::E1, Column::LinkId);
     let no_start = fault(Table::Link, 1, Code::E1, Column::FromNodeId);
+    let late = "link_id,from_node_id,to_node_id,length,capacity_by_step\n10,1,2,9,10:600\n";
+    let late_window = fault(Table::Link, 2, Code::E5, Column::CapacityByStep);
+    let cut = "link_id,from_node_id,to_node_id,length,capacity_by_step\n10,1,2,9,0:1e13;\n";
+    let no_part = fault(Table::Link, 2, Code::E4, Column::CapacityByStep);
     for (node, link, movement, fault) in [
+        (NODES, late, "", late_window),
+        (NODES, cut, "", no_part),
         ("", LINKS, "", no_node),
         ("node_id\n\u{feff}\n", "", "", no_number),
         (NODES, "", wrong, no_link),

@@ -11,7 +11,7 @@ use crate::fields::complain;
 use crate::opening::{header_refusal, open_table};
 use crate::rows::{Row, RowFault, Rows};
 use desk_io::Table;
-use std::alloc::Global;
+use std::alloc::{AllocError, AllocFailed, Global};
 
 /// Why a record gives no row.
 #[derive(Clone, Copy, Debug, PartialEq, Eq)]
@@ -20,6 +20,30 @@ pub enum RowRefusal {
     Complaint(Complaint),
     /// Memory is wanting.
     Memory,
+}
+
+impl From<Complaint> for RowRefusal {
+    ghost from_gives = { λ complaint e. e ≡ refusal.Complaint complaint };
+
+    fn from(complaint: Complaint) -> Self {
+        RowRefusal::Complaint(complaint)
+    }
+}
+
+impl From<AllocError> for RowRefusal {
+    ghost from_gives = { λ _ e. e ≡ refusal.Memory };
+
+    fn from(_: AllocError) -> Self {
+        RowRefusal::Memory
+    }
+}
+
+impl<T: Drop> From<AllocFailed<T>> for RowRefusal {
+    ghost from_gives = { λ _ e. e ≡ refusal.Memory };
+
+    fn from(_: AllocFailed<T>) -> Self {
+        RowRefusal::Memory
+    }
 }
 
 /// The rows of a table that were accepted so far.

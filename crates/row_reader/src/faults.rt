@@ -63,6 +63,9 @@ pub enum Column {
     Entered,
     TravelSteps,
     FreeSteps,
+    CapacityByStep,
+    AgentId,
+    LinkIds,
     NoColumn,
 }
 
@@ -100,6 +103,7 @@ pub fn table_name(table: Table) -> &'static str
         Table::Link => "link",
         Table::Movement => "movement",
         Table::Demand => "demand",
+        Table::Start => "start",
         Table::Times => "times",
     }
 }
@@ -151,6 +155,9 @@ pub fn column_name(column: Column) -> &'static str
         Column::Entered => "entered",
         Column::TravelSteps => "travel_steps",
         Column::FreeSteps => "free_steps",
+        Column::CapacityByStep => "capacity_by_step",
+        Column::AgentId => "agent_id",
+        Column::LinkIds => "link_ids",
         Column::NoColumn => "-",
     }
 }
