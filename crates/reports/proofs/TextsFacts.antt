@@ -1,11 +1,12 @@
 -- Texts of lines, and lists joined by `;`, one after another.
 use Rattle.std.proofs.Common.{◌≡◌, ℕ, zero, suc, ◌+◌, ◌<◌, ◌≤◌, List, [], ◌∷◌, ◌++◌, length, take, drop, get_or, map, refl, sym, ap, ◌∙◌, subst, arith, append_assoc}
-use Rattle.std.specs.List.{enumerate_from, flat_map, join_with_byte}
+use Rattle.std.specs.List.{enumerate_from, flat_map, join_with_byte, zip}
 use Rattle.std.specs.Prelude.{decimal}
 use Rattle.std.proofs.lemmas.List.{take_more, append-nil, take-append-drop, take_all, map-append, get_or-map, length-map}
-use Rattle.std.proofs.lemmas.Grind.{flat_map-append}
+use Rattle.std.proofs.lemmas.List.Folds.{flat_map-map}
+use Rattle.std.proofs.lemmas.Slice.Zip.{firsts-zip, get_or-zip}
 use Rattle.desk_io.specs.declared.desk.Output.{Output}
-use Rattle.desk_io.specs.Desk.{Taken, grown}
+use Rattle.desk_io.specs.Desk.{Taken}
 use Rattle.desk_io.specs.Transfers.{IsPartOut}
 use Rattle.pending_text.specs.Sending.{IsAdded}
 use Rattle.std.specs.Prelude.{Option, None, Some, IfSome, slice_get}
@@ -25,8 +26,8 @@ use Rattle.dta_model.specs.declared.plan.Plan.{Plan}
 use Rattle.dta_model.specs.declared.loaded.Journey.{Journey}
 use Rattle.dta_model.specs.declared.trip.Trip.{Trip}
 use Rattle.gap.specs.declared.line.GapLine.{GapLine}
-use Rattle.reports.specs.Texts.{AreLinksOf, AreOnNet, Vehicle, agent_line, gap_line, ids_of, item, joined, numbered_line, routed_status, semicolon, trip_columns, vehicles, way_columns}
-use Rattle.pending_text.proofs.SendingFacts.{added-then, added-done, part-first, part-then, part-done}
+use Rattle.reports.specs.Texts.{AreLinksOf, AreOnNet, Vehicle, agent_columns, agent_header, agent_header_by, agent_header_from, agent_line, agent_text, agent_text_by, agent_text_from, gap_line, ids_of, item, iteration_told, joined, numbered_line, routed_status, semicolon, trip_columns, vehicle_line, vehicle_line_from, vehicles, way_columns}
+use Rattle.pending_text.proofs.SendingFacts.{added-then, part-first, part-then}
 
 -- ---- lists joined by `;`
 
@@ -84,6 +85,10 @@ pub added-items : (o : Output) (ns : List ℕ) (i : ℕ) (p0 p : List ℕ) (t0 t
 added-items o ns i p0 p t0 t1 k a = rw (take_all i ns k) at a
 
 -- ---- what stands at a place
+
+-- as many pairs as first parts
+length-pairs : {A B : Type 0} (xs : List A) (ys : List B) → length ys ≡ length xs → length (zip xs ys) ≡ length xs
+length-pairs {A} {B} xs ys e = sym (length-map (zip xs ys) (λ (p : A × B). p.0)) ∙ ap length (firsts-zip xs ys e)
 
 -- the row that a place has is the link there
 pub link-there : (net : NetRows) (l : ℕ) (row : LinkRow) → slice_get net.links l ≡ Some row → link_at net l ≡ row
@@ -154,26 +159,26 @@ vehicle-there (t ∷ trips) (r ∷ routes) (j ∷ journeys) zero trip route jour
     rw (x, y, z) refl
 vehicle-there (t ∷ trips) (r ∷ routes) (j ∷ journeys) (suc i) trip route journey d a b c = vehicle-there trips routes journeys i trip route journey d a b c
 
--- ---- the line of a vehicle
+-- ---- the columns of a vehicle
 
 -- one that has a route, piece by piece
-pub added-agent : (net : NetRows) (trip : Trip) (route links : List LinkNo) (journey : Journey) (named : AgentStatus) (entries p q r : List ℕ) (t0 t1 t2 : Taken)
+pub added-columns : (net : NetRows) (trip : Trip) (route links : List LinkNo) (journey : Journey) (named : AgentStatus) (entries p q r : List ℕ) (t0 t1 t2 : Taken)
     → named ≡ routed_status journey → links ≡ route → entries ≡ journey.entries
     → IsAdded Agent (trip_columns trip journey.arrival named) p q t0 t1 → IsAdded Agent (way_columns (ids_of net links) entries) q r t1 t2
-    → IsAdded Agent (agent_line net trip (Some route) journey) p r t0 t2
-unfolding agent_line
-added-agent net trip route links journey named entries p q r t0 t1 t2 e f g a b =
+    → IsAdded Agent (agent_columns net trip (Some route) journey) p r t0 t2
+unfolding agent_columns
+added-columns net trip route links journey named entries p q r t0 t1 t2 e f g a b =
     added-then Agent _ _ p q r t0 t1 t2
     (subst (λ s. IsAdded Agent (trip_columns trip journey.arrival s) p q t0 t1) e a)
     (subst (λ s. IsAdded Agent (way_columns (ids_of net route) s) q r t1 t2) g
     (subst (λ l. IsAdded Agent (way_columns (ids_of net l) entries) q r t1 t2) f b))
 
-pub part-agent : (net : NetRows) (trip : Trip) (route links : List LinkNo) (journey : Journey) (named : AgentStatus) (entries p q : List ℕ) (t0 t1 t2 : Taken)
+pub part-columns : (net : NetRows) (trip : Trip) (route links : List LinkNo) (journey : Journey) (named : AgentStatus) (entries p q : List ℕ) (t0 t1 t2 : Taken)
     → named ≡ routed_status journey → links ≡ route → entries ≡ journey.entries
     → IsAdded Agent (trip_columns trip journey.arrival named) p q t0 t1 → IsPartOut Agent (q ++ way_columns (ids_of net links) entries) t1 t2
-    → IsPartOut Agent (p ++ agent_line net trip (Some route) journey) t0 t2
-unfolding agent_line
-part-agent net trip route links journey named entries p q t0 t1 t2 e f g a b =
+    → IsPartOut Agent (p ++ agent_columns net trip (Some route) journey) t0 t2
+unfolding agent_columns
+part-columns net trip route links journey named entries p q t0 t1 t2 e f g a b =
     part-then Agent _ _ p q t0 t1 t2
     (subst (λ s. IsAdded Agent (trip_columns trip journey.arrival s) p q t0 t1) e a)
     (subst (λ s. IsPartOut Agent (q ++ way_columns (ids_of net route) s) t1 t2) g
@@ -182,15 +187,79 @@ part-agent net trip route links journey named entries p q t0 t1 t2 e f g a b =
 -- one that has none
 pub added-unrouted : (net : NetRows) (trip : Trip) (journey : Journey) (p q r : List ℕ) (t0 t1 t2 : Taken)
     → IsAdded Agent (trip_columns trip None Unrouted) p q t0 t1 → IsAdded Agent (way_columns [] []) q r t1 t2
-    → IsAdded Agent (agent_line net trip None journey) p r t0 t2
-unfolding agent_line
+    → IsAdded Agent (agent_columns net trip None journey) p r t0 t2
+unfolding agent_columns
 added-unrouted net trip journey p q r t0 t1 t2 a b = added-then Agent _ _ p q r t0 t1 t2 a b
 
 pub part-unrouted : (net : NetRows) (trip : Trip) (journey : Journey) (p q : List ℕ) (t0 t1 t2 : Taken)
     → IsAdded Agent (trip_columns trip None Unrouted) p q t0 t1 → IsPartOut Agent (q ++ way_columns [] []) t1 t2
-    → IsPartOut Agent (p ++ agent_line net trip None journey) t0 t2
-unfolding agent_line
+    → IsPartOut Agent (p ++ agent_columns net trip None journey) t0 t2
+unfolding agent_columns
 part-unrouted net trip journey p q t0 t1 t2 a b = part-then Agent _ _ p q t0 t1 t2 a b
+
+-- ---- the lines of vehicles
+
+-- the lines of these vehicles, with iterations where they are given
+pub lines_of : NetRows → List Vehicle → Option (List ℕ) → List (List ℕ)
+lines_of net vs None = map (vehicle_line net) vs
+lines_of net vs (Some since) = map (vehicle_line_from net) (zip vs since)
+
+-- the lines of the vehicles of these trips, routes and journeys
+pub agent_lines : NetRows → List Trip → List (Option (List LinkNo)) → List Journey → Option (List ℕ) → List (List ℕ)
+agent_lines net trips routes journeys since = lines_of net (vehicles trips routes journeys) since
+
+-- a line is its own text
+abbrev pub itself : List ℕ → List ℕ
+itself line = line
+
+-- Agent has its header and these lines
+pub text-of-lines : (net : NetRows) (trips : List Trip) (routes : List (Option (List LinkNo))) (journeys : List Journey) (since : Option (List ℕ))
+    → agent_header_by since ++ flat_map itself (agent_lines net trips routes journeys since) ≡ agent_text_by net trips routes journeys since
+unfolding agent_lines lines_of agent_text_by agent_text agent_text_from
+text-of-lines net trips routes journeys None = ap (λ (x : List ℕ). agent_header ++ x) (flat_map-map itself (vehicle_line net) (vehicles trips routes journeys))
+text-of-lines net trips routes journeys (Some since) =
+    ap (λ (x : List ℕ). agent_header_from ++ x) (flat_map-map itself (vehicle_line_from net) (zip (vehicles trips routes journeys) since))
+
+-- as many lines as vehicles
+length-lines_of : (net : NetRows) (vs : List Vehicle) (since : Option (List ℕ)) (n : ℕ) → length vs ≡ n → IfSome since (λ numbers. length numbers ≡ n)
+    → length (lines_of net vs since) ≡ n
+unfolding lines_of
+length-lines_of net vs None n a b = length-map vs (vehicle_line net) ∙ a
+length-lines_of net vs (Some since) n a b =
+    length-map (zip vs since) (vehicle_line_from net) ∙ length-pairs vs since (b ∙ sym a) ∙ a
+
+pub length-lines : (net : NetRows) (trips : List Trip) (routes : List (Option (List LinkNo))) (journeys : List Journey) (since : Option (List ℕ))
+    → length routes ≡ length trips → length journeys ≡ length trips → IfSome since (λ numbers. length numbers ≡ length trips)
+    → length (agent_lines net trips routes journeys since) ≡ length trips
+unfolding agent_lines
+length-lines net trips routes journeys since a b e = length-lines_of net (vehicles trips routes journeys) since (length trips) (length-vehicles trips routes journeys a b) e
+
+-- the line of a vehicle at its place
+line_at : (net : NetRows) (vs : List Vehicle) (since : Option (List ℕ)) (i : ℕ) (v : Vehicle) (n : ℕ) → i < n → length vs ≡ n
+    → IfSome since (λ numbers. length numbers ≡ n) → v ≡ get_or vs i v
+    → agent_line net v.trip v.route v.journey (iteration_told since i) ≡ get_or (lines_of net vs since) i []
+unfolding lines_of
+line_at net vs None i v n k a b e = ap (vehicle_line net) e ∙ sym (get_or-map (vehicle_line net) vs i v [] (omega arith))
+line_at net vs (Some since) i v n k a b e =
+    let told : slice_get since i ≡ Some (get_or since i 0) = slice_get-get_or since i 0 (omega arith) in
+    let pair : get_or (zip vs since) i (v, 0) ≡ (get_or vs i v, get_or since i 0) = get_or-zip vs since i (v, 0) (omega arith) (omega arith) in
+    let many : i < length (zip vs since) = rw (length-pairs vs since (b ∙ sym a)) (omega arith) in
+    ap (λ (o : Option ℕ). agent_line net v.trip v.route v.journey o) told
+    ∙ ap (λ (w : Vehicle). vehicle_line_from net (w, get_or since i 0)) e
+    ∙ ap (vehicle_line_from net) (sym pair)
+    ∙ sym (get_or-map (vehicle_line_from net) (zip vs since) i (v, 0) [] many)
+
+pub line-there : (net : NetRows) (trips : List Trip) (routes : List (Option (List LinkNo))) (journeys : List Journey) (since : Option (List ℕ)) (i : ℕ)
+    (trip : Trip) (route : Option (List LinkNo)) (journey : Journey) (iteration : Option ℕ)
+    → length routes ≡ length trips → length journeys ≡ length trips → IfSome since (λ numbers. length numbers ≡ length trips) → i < length trips
+    → slice_get trips i ≡ Some trip → slice_get routes i ≡ Some route → slice_get journeys i ≡ Some journey → iteration ≡ iteration_told since i
+    → agent_line net trip route journey iteration ≡ get_or (agent_lines net trips routes journeys since) i []
+unfolding agent_lines
+line-there net trips routes journeys since i trip route journey iteration a b e k x y z w =
+    let v : Vehicle = record { trip = trip; route = route; journey = journey } in
+    ap (λ (o : Option ℕ). agent_line net trip route journey o) w
+    ∙ line_at net (vehicles trips routes journeys) since i v (length trips) k (length-vehicles trips routes journeys a b) e
+    (vehicle-there trips routes journeys i trip route journey v x y z)
 
 -- the row of a link
 pub ruleset rows = (link-there)

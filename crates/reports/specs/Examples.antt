@@ -1,6 +1,7 @@
--- Worked cases of the definitions, computed: vehicles of all four statuses, a table of link times
+-- Worked cases of the definitions, computed: vehicles of all four statuses, without and with the
+-- iterations of their routes, a table of link times
 -- cut short by its horizon, gaps, the report, a watch line and the refusals.
-use Rattle.std.specs.Prelude.{◌≡◌, refl, codes, map, true, false, [], ◌∷◌, ◌++◌, List, Option}
+use Rattle.std.specs.Prelude.{◌≡◌, refl, codes, map, false, [], ◌∷◌, ◌++◌, List, Option}
 use Rattle.std.specs.Prelude.{None, Some}
 use Rattle.std.specs.Fmt.{digits}
 use Rattle.desk_io.specs.declared.desk.Table.TheVariants as table
@@ -21,7 +22,8 @@ use Rattle.reports.specs.declared.refusal.Refusal.TheVariants as refusal
 use Rattle.desk_io.specs.declared.transfers.TheConstants.{MOST_TABLE_BYTES}
 use Rattle.dta_model.specs.declared.loading.TheConstants.{MOST_LINK_STEPS}
 use Rattle.reports.specs.declared.summary.Summary.{Summary}
-use Rattle.reports.specs.Texts.{agent_header, agent_line, agent_text, bucket_line, count_lines}
+use Rattle.reports.specs.Texts.{agent_columns, agent_header, agent_header_from, agent_line}
+use Rattle.reports.specs.Texts.{agent_text, agent_text_from, bucket_line, count_lines}
 use Rattle.reports.specs.Texts.{free_link_line, free_link_time_header, free_link_time_text}
 use Rattle.reports.specs.Texts.{free_report_text, gap_header, gap_line, gap_text, last_gap_lines}
 use Rattle.reports.specs.Texts.{link_lines, link_time_header, link_time_text, refusal_line}
@@ -36,6 +38,7 @@ two_links =
       id = 10;
       from = record { 0 = 0 };
       to = record { 0 = 1 };
+      micrometres = 1000000000;
       free = 10;
       storage = 125;
       rate = 600000000;
@@ -44,6 +47,7 @@ two_links =
       id = 20;
       from = record { 0 = 1 };
       to = record { 0 = 2 };
+      micrometres = 1000000000;
       free = 10;
       storage = 125;
       rate = 600000000;
@@ -56,7 +60,7 @@ three_nodes =
     ∷ record { id = 3; zone = Some 3 } ∷ []
 
 abbrev pub the_network : NetRows
-the_network = record { nodes = three_nodes; links = two_links; turns = [] }
+the_network = record { nodes = three_nodes; links = two_links; turns = []; link_windows = []; turn_windows = [] }
 
 free-link-times : free_link_time_text two_links
     ≡ codes "link_id,free_steps,storage\n10,10,125\n20,10,125\n"
@@ -99,8 +103,20 @@ four-vehicles : agent_text the_network four_trips four_routes four_journeys
     ≡ codes "agent_id,o_zone_id,d_zone_id,departure_step,arrival_step,status,link_ids,"
     ++ codes "entry_steps\n0,1,3,0,20,arrived,10;20,0;10\n1,1,3,6,,running,10;20,6\n"
     ++ codes "2,1,3,13,,waiting,10;20,\n3,3,1,19,,unrouted,,\n"
-unfolding agent_text agent_header vehicles agent_line trip_columns way_columns link_in digits
+unfolding agent_text agent_header vehicles agent_line agent_columns trip_columns way_columns link_in
+    digits
 four-vehicles = refl
+
+-- the first has the route of a start table, and the others those of iterations. That of the fourth,
+-- which has no route, isn't told
+four-iterations : agent_text_from the_network four_trips four_routes four_journeys
+    (0 ∷ 2 ∷ 1 ∷ 7 ∷ [])
+    ≡ codes "agent_id,o_zone_id,d_zone_id,departure_step,arrival_step,status,link_ids,"
+    ++ codes "entry_steps,route_iteration\n0,1,3,0,20,arrived,10;20,0;10,0\n"
+    ++ codes "1,1,3,6,,running,10;20,6,2\n2,1,3,13,,waiting,10;20,,1\n3,3,1,19,,unrouted,,,\n"
+unfolding agent_text_from agent_header_from vehicles agent_line agent_columns trip_columns
+    way_columns link_in digits
+four-iterations = refl
 
 -- ---- link times
 

@@ -2,8 +2,8 @@
 -- and each line ends with a line feed.
 use Rattle.std.specs.Prelude.{ℕ, zero, suc, ◌≡◌, ◌+◌, ◌*◌, ◌<◌, ◌⊎◌, if◌then◌else◌, min, nat_lt}
 use Rattle.std.specs.Prelude.{is_some, List, [], ◌∷◌, ◌++◌, length, map, All, IfSome, Option, None}
-use Rattle.std.specs.Prelude.{Some, slice_index, codes, decimal}
-use Rattle.std.specs.List.{enumerate_from, flat_map, join_with_byte}
+use Rattle.std.specs.Prelude.{Some, slice_get, slice_index, codes, decimal}
+use Rattle.std.specs.List.{enumerate_from, flat_map, join_with_byte, zip}
 use Rattle.desk_io.specs.declared.desk.Output.TheVariants as output
 use Rattle.desk_io.specs.Desk.{Taken, grown}
 use Rattle.desk_io.specs.Transfers.{IsPartOut}
@@ -126,30 +126,78 @@ trip_columns trip arrival status =
     ++ decimal trip.destination ++ codes "," ++ decimal trip.departure ++ codes ","
     ++ number_or_nothing arrival ++ codes "," ++ status_name status ++ codes ","
 
--- and the last two: the links of its route, and the steps in which it entered them
+-- and the two after them: the links of its route, and the steps in which it entered them
 unfoldable pub way_columns : List ℕ → List ℕ → List ℕ
-way_columns ids entries = joined ids ++ codes "," ++ joined entries ++ codes "\n"
+way_columns ids entries = joined ids ++ codes "," ++ joined entries
 
--- the line of a vehicle. One without a route has no arrival, no links and no entries
-unfoldable pub agent_line : NetRows → Trip → Option (List LinkNo) → Journey → List ℕ
-agent_line net trip None journey = trip_columns trip None status.Unrouted ++ way_columns [] []
-agent_line net trip (Some route) journey =
+-- the columns of a vehicle. One without a route has no arrival, no links and no entries
+unfoldable pub agent_columns : NetRows → Trip → Option (List LinkNo) → Journey → List ℕ
+agent_columns net trip None journey = trip_columns trip None status.Unrouted ++ way_columns [] []
+agent_columns net trip (Some route) journey =
     trip_columns trip journey.arrival (routed_status journey)
     ++ way_columns (ids_of net route) journey.entries
 
+-- what ends the line of a vehicle. Where iterations are told, one more column comes first: that of
+-- its route, and nothing for a vehicle without a route
+abbrev pub line_end : Option (List LinkNo) → Option ℕ → List ℕ
+line_end route None = codes "\n"
+line_end None (Some iteration) = codes ",\n"
+line_end (Some route) (Some iteration) = codes "," ++ decimal iteration ++ codes "\n"
+
+-- the line of a vehicle, with an iteration if one is told
+unfoldable pub agent_line :
+    NetRows → Trip → Option (List LinkNo) → Journey → Option ℕ → List ℕ
+agent_line net trip route journey iteration =
+    agent_columns net trip route journey ++ line_end route iteration
+
 -- the line of a vehicle with its trip, route and journey
 abbrev pub vehicle_line : NetRows → Vehicle → List ℕ
-vehicle_line net v = agent_line net v.trip v.route v.journey
+vehicle_line net v = agent_line net v.trip v.route v.journey None
+
+-- and of one with the iteration of its route
+abbrev pub vehicle_line_from : NetRows → Vehicle × ℕ → List ℕ
+vehicle_line_from net told =
+    agent_line net told.0.trip told.0.route told.0.journey (Some told.1)
 
 unfoldable pub agent_header : List ℕ
 agent_header =
     codes "agent_id,o_zone_id,d_zone_id,departure_step,arrival_step,status,link_ids,entry_steps\n"
+
+-- the header with the column of iterations
+unfoldable pub agent_header_from : List ℕ
+agent_header_from =
+    codes "agent_id,o_zone_id,d_zone_id,departure_step,arrival_step,status,link_ids,entry_steps"
+    ++ codes ",route_iteration\n"
 
 -- Agent: its header, and a line for each vehicle in order
 unfoldable pub agent_text :
     NetRows → List Trip → List (Option (List LinkNo)) → List Journey → List ℕ
 agent_text net trips routes journeys =
     agent_header ++ flat_map (vehicle_line net) (vehicles trips routes journeys)
+
+-- Agent with the iteration of each vehicle's route
+unfoldable pub agent_text_from :
+    NetRows → List Trip → List (Option (List LinkNo)) → List Journey → List ℕ → List ℕ
+agent_text_from net trips routes journeys since =
+    agent_header_from
+    ++ flat_map (vehicle_line_from net) (zip (vehicles trips routes journeys) since)
+
+-- Agent with iterations where they are given
+unfoldable pub agent_text_by :
+    NetRows → List Trip → List (Option (List LinkNo)) → List Journey → Option (List ℕ) → List ℕ
+agent_text_by net trips routes journeys None = agent_text net trips routes journeys
+agent_text_by net trips routes journeys (Some since) =
+    agent_text_from net trips routes journeys since
+
+-- the header of either
+abbrev pub agent_header_by : Option (List ℕ) → List ℕ
+agent_header_by None = agent_header
+agent_header_by (Some since) = agent_header_from
+
+-- the iteration that is told for a vehicle, where they are given
+abbrev pub iteration_told : Option (List ℕ) → ℕ → Option ℕ
+iteration_told None v = None
+iteration_told (Some since) v = slice_get since v
 
 -- ---- LinkTime of `assign`
 

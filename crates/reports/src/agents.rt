@@ -6,13 +6,14 @@ ghost use Rattle.desk_io.specs.State.{state_of};
 ghost use Rattle.desk_io.specs.Transfers.{Puts};
 ghost use Rattle.pending_text.specs.declared.pending.TheConstants.{DIGITS, PIECE};
 ghost use Rattle.pending_text.specs.Sending.{Adds};
-ghost use Rattle.reports.specs.Texts.{agent_header, agent_line, agent_text, AreLinksOf, AreOnNet};
-ghost use Rattle.reports.specs.Texts.{ids_of, item, joined, number_or_nothing, trip_columns};
-ghost use Rattle.reports.specs.Texts.{way_columns};
+ghost use Rattle.reports.specs.Texts.{agent_columns, agent_header_by, agent_line, agent_text};
+ghost use Rattle.reports.specs.Texts.{agent_text_by, agent_text_from, AreLinksOf, AreOnNet};
+ghost use Rattle.reports.specs.Texts.{ids_of, item, iteration_told, joined, line_end};
+ghost use Rattle.reports.specs.Texts.{number_or_nothing, trip_columns, way_columns};
 
 use crate::status::{AgentStatus, status_of};
 use desk_io::{Desk, Failed, Output};
-use dta_model::{Journey, Loaded, MOST_TRIPS, Route, Routes, Trip};
+use dta_model::{Journey, Loaded, MOST_TRIPS, Route, Routes, Steps, Trip};
 use net_core::{LinkNo, Net};
 use pending_text::Pending;
 
@@ -23,15 +24,22 @@ const COLUMNS: usize = 128;
 /// No item of a list is longer: a semicolon and a number.
 const ITEM: usize = 24;
 
-// The header of Agent.
-#[tactic(auto, unfolding(crate::specs::Texts::agent_header))]
-fn header() -> Pending
-    ensures { result ≡ agent_header }
+/// No end of a line is longer: a comma, a number and a line feed.
+const END: usize = 24;
+
+// The header of Agent, with the column of iterations where they are told.
+#[tactic(auto, unfolding(crate::specs::Texts::agent_header, crate::specs::Texts::agent_header_from))]
+fn header(since: Option<&Steps>) -> Pending
+    ensures { result ≡ agent_header_by (option_copied since.entry) }
 {
     let mut pending = Pending::new();
     pending.push(
-        "agent_id,o_zone_id,d_zone_id,departure_step,arrival_step,status,link_ids,entry_steps\n",
+        "agent_id,o_zone_id,d_zone_id,departure_step,arrival_step,status,link_ids,entry_steps",
     );
+    match since {
+        None => pending.push("\n"),
+        Some(_) => pending.push(",route_iteration\n"),
+    }
     pending
 }
 
@@ -144,7 +152,7 @@ fn add_steps<D: Desk>(pending: &mut Pending, desk: &mut D, steps: &[u32]) -> Res
     Ok(())
 }
 
-// Adds the last two columns of a vehicle.
+// Adds the two columns of a vehicle's route and entries.
 #[tactic(auto, unfolding(crate::specs::Texts::way_columns))]
 fn add_way<D: Desk>(
     pending: &mut Pending,
@@ -160,13 +168,12 @@ fn add_way<D: Desk>(
 {
     add_ids(pending, desk, net, route)?;
     pending.add(desk, Output::Agent, ",")?;
-    add_steps(pending, desk, steps)?;
-    pending.add(desk, Output::Agent, "\n")
+    add_steps(pending, desk, steps)
 }
 
-// Adds the line of a vehicle.
-#[tactic(auto, unfolding(crate::specs::Texts::agent_line))]
-fn add_agent<D: Desk>(
+// Adds the columns of a vehicle.
+#[tactic(auto, unfolding(crate::specs::Texts::agent_columns))]
+fn add_columns<D: Desk>(
     pending: &mut Pending,
     desk: &mut D,
     net: &Net,
@@ -176,7 +183,7 @@ fn add_agent<D: Desk>(
 ) -> Result<(), Failed>
     requires { IfSome (option_copied route) (AreLinksOf net.now) }
     ensures { let state = state_of D.left D.taken D.read_faults D.put_faults in
-        Adds output.Agent (agent_line net.now trip.now (option_copied route.entry) journey.now)
+        Adds output.Agent (agent_columns net.now trip.now (option_copied route.entry) journey.now)
         pending.old pending.new (state desk.old) (state desk.new) result }
 {
     match route {
@@ -197,9 +204,103 @@ fn add_agent<D: Desk>(
     }
 }
 
+// Ends the line of a vehicle in what is pending.
+#[tactic(auto, using(pending_text::proofs::Joins::text))]
+fn push_end(pending: &mut Pending, route: Option<&Route>, iteration: Option<u32>)
+    requires { length pending.old + END ≤ PIECE }
+    ensures { pending.new ≡ pending.old ++ line_end (option_copied route.entry) iteration }
+{
+    if let Some(number) = iteration {
+        pending.push(",");
+        if route.is_some() {
+            pending.push_number(u64::from(number));
+        }
+    }
+    pending.push("\n");
+}
+
+// Adds the end of the line of a vehicle.
+#[tactic(auto, using(pending_text::proofs::SendingFacts::pieces))]
+fn add_end<D: Desk>(
+    pending: &mut Pending,
+    desk: &mut D,
+    route: Option<&Route>,
+    iteration: Option<u32>,
+) -> Result<(), Failed>
+    ensures { let state = state_of D.left D.taken D.read_faults D.put_faults in
+        Adds output.Agent (line_end (option_copied route.entry) iteration) pending.old pending.new
+        (state desk.old) (state desk.new) result }
+{
+    pending.make_room(desk, Output::Agent, END)?;
+    push_end(pending, route, iteration);
+    Ok(())
+}
+
+// Adds the line of a vehicle.
+#[tactic(auto, unfolding(crate::specs::Texts::agent_line))]
+fn add_agent<D: Desk>(
+    pending: &mut Pending,
+    desk: &mut D,
+    net: &Net,
+    trip: &Trip,
+    route: Option<&Route>,
+    journey: &Journey,
+    iteration: Option<u32>,
+) -> Result<(), Failed>
+    requires { IfSome (option_copied route) (AreLinksOf net.now) }
+    ensures { let state = state_of D.left D.taken D.read_faults D.put_faults in
+        Adds output.Agent
+        (agent_line net.now trip.now (option_copied route.entry) journey.now iteration)
+        pending.old pending.new (state desk.old) (state desk.new) result }
+{
+    add_columns(pending, desk, net, trip, route, journey)?;
+    add_end(pending, desk, route, iteration)
+}
+
+// The iteration of a vehicle's route, where iterations are told.
+fn iteration_of(since: Option<&Steps>, v: u32) -> Option<u32>
+    ensures { result ≡ iteration_told (option_copied since.entry) v }
+{
+    match since {
+        None => None,
+        Some(steps) => steps.as_slice().get(v as usize).copied(),
+    }
+}
+
+// Puts Agent, with the iterations of the routes where they are given.
+fn put_lines<D: Desk>(
+    desk: &mut D,
+    net: &Net,
+    trips: &[Trip],
+    routes: &Routes,
+    loaded: &Loaded,
+    since: Option<&Steps>,
+) -> Result<(), Failed>
+    requires few { length trips.now ≤ MOST_TRIPS }
+    requires routes { length routes.now ≡ length trips.now }
+    requires journeys { length loaded.now ≡ length trips.now }
+    requires on_net { AreOnNet net.now routes.now }
+    requires numbers { IfSome (option_copied since) (λ told. length told ≡ length trips.now) }
+    ensures { let state = state_of D.left D.taken D.read_faults D.put_faults in
+        Puts output.Agent
+        (agent_text_by net.now trips.now routes.now loaded.now (option_copied since.entry))
+        (state desk.old) (state desk.new) result }
+{
+    let mut pending = header(since);
+    'each: for v in 0..trips.len() as u32 {
+        let trip = &trips[v as usize];
+        let route = routes.get(v);
+        let journey = loaded.get(v);
+        let iteration = iteration_of(since, v);
+        add_agent(&mut pending, desk, net, trip, route, journey, iteration)?;
+    }
+    pending.put_out(desk, Output::Agent)
+}
+
 /// Puts Agent: a line for each vehicle, by its trip, its route if it has one, and its journey.
 /// Zones and links stand by their identifiers. On Failed a first part of it went out. It takes no
 /// memory.
+#[tactic(auto, unfolding(crate::specs::Texts::agent_text_by))]
 pub fn put_agents<D: Desk>(
     desk: &mut D,
     net: &Net,
@@ -215,10 +316,29 @@ pub fn put_agents<D: Desk>(
         Puts output.Agent (agent_text net.now trips.now routes.now loaded.now)
         (state desk.old) (state desk.new) result }
 {
-    let mut pending = header();
-    'each: for v in 0..trips.len() as u32 {
-        let trip = &trips[v as usize];
-        add_agent(&mut pending, desk, net, trip, routes.get(v), loaded.get(v))?;
-    }
-    pending.put_out(desk, Output::Agent)
+    put_lines(desk, net, trips, routes, loaded, None)
+}
+
+/// Puts Agent with one more column, the iteration of each vehicle's route: a number for each
+/// vehicle, which is left out where the vehicle has no route. On Failed a first part of it went
+/// out. It takes no memory.
+#[tactic(auto, unfolding(crate::specs::Texts::agent_text_by))]
+pub fn put_agents_from<D: Desk>(
+    desk: &mut D,
+    net: &Net,
+    trips: &[Trip],
+    routes: &Routes,
+    loaded: &Loaded,
+    since: &Steps,
+) -> Result<(), Failed>
+    requires few { length trips.now ≤ MOST_TRIPS }
+    requires routes { length routes.now ≡ length trips.now }
+    requires journeys { length loaded.now ≡ length trips.now }
+    requires on_net { AreOnNet net.now routes.now }
+    requires numbers { length since.now ≡ length trips.now }
+    ensures { let state = state_of D.left D.taken D.read_faults D.put_faults in
+        Puts output.Agent (agent_text_from net.now trips.now routes.now loaded.now since.now)
+        (state desk.old) (state desk.new) result }
+{
+    put_lines(desk, net, trips, routes, loaded, Some(since))
 }

@@ -17,7 +17,7 @@ mod summary;
 mod times;
 mod watch;
 
-pub use agents::put_agents;
+pub use agents::{put_agents, put_agents_from};
 pub use free::put_free;
 pub use gaps::put_gaps;
 pub use refusal::{MOST_SKIM_ENTRIES, Refusal};

@@ -1,10 +1,10 @@
 // Worked cases of each text, and puts that fail.
 use crate::{
-    Refusal, Summary, put_agents, put_free, put_gaps, put_link_times, put_refusal, put_summary,
-    put_watch,
+    Refusal, Summary, put_agents, put_agents_from, put_free, put_gaps, put_link_times, put_refusal,
+    put_summary, put_watch,
 };
 use desk_io::{Failed, MemDesk, Output, Table};
-use dta_model::{Eight, Loading};
+use dta_model::{Eight, Loading, Steps};
 use gap::GapLine;
 use link_times::LinkTimes;
 use net_core::Memory;
@@ -20,6 +20,15 @@ const AGENTS: &[u8] =
 1,1,3,6,,running,10;20,6\n\
 2,1,3,13,,waiting,10;20,\n\
 3,3,1,19,,unrouted,,\n";
+
+// The same, the first with the route of a start table and the others with those of iterations.
+const AGENTS_FROM: &[u8] =
+    b"agent_id,o_zone_id,d_zone_id,departure_step,arrival_step,status,link_ids,entry_steps,\
+route_iteration\n\
+0,1,3,0,20,arrived,10;20,0;10,0\n\
+1,1,3,6,,running,10;20,6,2\n\
+2,1,3,13,,waiting,10;20,,1\n\
+3,3,1,19,,unrouted,,,\n";
 
 const FREE_LINK_TIMES: &[u8] = b"link_id,free_steps,storage\n10,10,125\n20,10,125\n";
 
@@ -101,8 +110,12 @@ fn empty_desk(alloc: Global) -> MemDesk {
 }
 
 // Puts four vehicles to a desk: one that has arrived, one on its first link, and two that have
-// entered nothing, of which the last has no route.
-fn put_four(alloc: Global, desk: &mut MemDesk) -> Result<Result<(), Failed>, Memory> {
+// entered nothing, of which the last has no route. Where their iterations are told, they are these.
+fn put_four(
+    alloc: Global,
+    desk: &mut MemDesk,
+    iterations: Option<[u32; 4]>,
+) -> Result<Result<(), Failed>, Memory> {
     let case = four_vehicles(alloc)?;
     let Loading {
         net,
@@ -117,7 +130,13 @@ fn put_four(alloc: Global, desk: &mut MemDesk) -> Result<Result<(), Failed>, Mem
         Seen(&[], None),
     ];
     let loaded = journeys(alloc, &seen)?;
-    Ok(put_agents(desk, net, trips, routes, &loaded))
+    match iterations {
+        None => Ok(put_agents(desk, net, trips, routes, &loaded)),
+        Some(numbers) => {
+            let since = Steps::of(Vec::from_slice(alloc, &numbers)?);
+            Ok(put_agents_from(desk, net, trips, routes, &loaded, &since))
+        }
+    }
 }
 
 #[test]
@@ -125,9 +144,24 @@ fn vehicles_of_all_statuses(rt: HostRuntime) -> Result<(), Fail> {
     for most in [1, 7, usize::MAX] {
         let mut desk = empty_desk(rt.alloc());
         desk.set_most(most);
-        let put = put_four(rt.alloc(), &mut desk)?;
+        let put = put_four(rt.alloc(), &mut desk, None)?;
         assert!(rt; put == Ok(()));
         assert!(rt; desk.taken(Output::Agent) == AGENTS, "{most} bytes a put");
+    }
+    Ok(())
+}
+
+#[test]
+fn iterations_of_their_routes(rt: HostRuntime) -> Result<(), Fail> {
+    for most in [1, 7, usize::MAX] {
+        let mut desk = empty_desk(rt.alloc());
+        desk.set_most(most);
+        let put = put_four(rt.alloc(), &mut desk, Some([0, 2, 1, 7]))?;
+        assert!(rt; put == Ok(()));
+        assert!(rt;
+            desk.taken(Output::Agent) == AGENTS_FROM,
+            "{most} bytes a put"
+        );
     }
     Ok(())
 }
@@ -138,7 +172,7 @@ fn a_put_that_fails_leaves_a_first_part(rt: HostRuntime) -> Result<(), Fail> {
         let mut desk = empty_desk(rt.alloc());
         desk.set_most(7);
         desk.fail_put(call)?;
-        let put = put_four(rt.alloc(), &mut desk)?;
+        let put = put_four(rt.alloc(), &mut desk, None)?;
         assert!(rt; put == Err(Failed));
         assert!(rt; desk.put_faults() == 1);
         assert!(rt; count <= AGENTS.len());

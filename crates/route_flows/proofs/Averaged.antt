@@ -160,7 +160,7 @@ next_are at net trips least k old walks new asks long asked told renews = record
 }
 
 -- a list of which all places were lent has what was left there
-lent : {X : Type 0} (n : ℕ) (items base now : List X) → n ≡ length items → base ≡ items → length now ≡ length base → take n (now ++ drop (length now) items) ≡ now
+pub lent : {X : Type 0} (n : ℕ) (items base now : List X) → n ≡ length items → base ≡ items → length now ≡ length base → take n (now ++ drop (length now) items) ≡ now
 lent n items base now long is many = take_at now (drop (length now) items) n (many ∙ ap length is ∙ sym long)
 
 -- the same of lists that are equal to these, where the routes that are renewed were lent

@@ -49,14 +49,14 @@ chosen_once at net o d start a b x y =
     let same : walk_time at net start (link_numbers b) ≡ walk_time at net start (link_numbers a) = omega (arith, ab, ba) in
     same_numbers a b (lists_turned (link_numbers a) (link_numbers b) (x.first (link_numbers b) y.walks same) (y.first (link_numbers a) x.walks (sym same)))
 
-walk_once : (at : ℕ → ℕ → ℕ) (net : NetRows) (trip : Trip) (a b : Option (List LinkNo)) → WalkOf at net trip a → WalkOf at net trip b → a ≡ b
+pub walk_once : (at : ℕ → ℕ → ℕ) (net : NetRows) (trip : Trip) (a b : Option (List LinkNo)) → WalkOf at net trip a → WalkOf at net trip b → a ≡ b
 walk_once at net trip None None x y = refl
 walk_once at net trip None (Some b) x y = absurd (x (link_numbers b) y.walks)
 walk_once at net trip (Some a) None x y = absurd (y (link_numbers a) x.walks)
 walk_once at net trip (Some a) (Some b) x y = ap Some (chosen_once at net trip.origin trip.destination trip.departure a b x y)
 
 -- ---- lists by place
-same_lists : {X : Type 0} (xs ys : List X) → length xs ≡ length ys → ((v : ℕ) (x y : X) → slice_get xs v ≡ Some x → slice_get ys v ≡ Some y → x ≡ y) → xs ≡ ys
+pub same_lists : {X : Type 0} (xs ys : List X) → length xs ≡ length ys → ((v : ℕ) (x y : X) → slice_get xs v ≡ Some x → slice_get ys v ≡ Some y → x ≡ y) → xs ≡ ys
 same_lists [] [] long each = refl
 same_lists [] (y ∷ ys) long each = absurd (omega (arith, long))
 same_lists (x ∷ xs) [] long each = absurd (omega (arith, long))
@@ -65,13 +65,13 @@ same_lists (x ∷ xs) (y ∷ ys) long each =
     let rest : xs ≡ ys = same_lists xs ys (omega (arith, long)) (λ v a b e f. each (suc v) a b e f) in
     cc
 
-in_list : {X : Type 0} (xs : List X) (v : ℕ) (x : X) → slice_get xs v ≡ Some x → v < length xs
+pub in_list : {X : Type 0} (xs : List X) (v : ℕ) (x : X) → slice_get xs v ≡ Some x → v < length xs
 in_list [] v x h = cc
 in_list (y ∷ xs) zero x h = omega arith
 in_list (y ∷ xs) (suc v) x h = let i = in_list xs v x h in omega (arith, i)
 
 module _ (trips : List Trip) where
-  trip_at : (v : ℕ) → v < length trips → (trip : Trip) × (slice_get trips v ≡ Some trip)
+  pub trip_at : (v : ℕ) → v < length trips → (trip : Trip) × (slice_get trips v ≡ Some trip)
   trip_at v h = (get_or trips v (record { number = 0; origin = 0; destination = 0; departure = 0 }), slice_get-get_or trips v (record { number = 0; origin = 0; destination = 0; departure = 0 }) h)
 
 pub chosen_are_determined : ChosenAreDetermined

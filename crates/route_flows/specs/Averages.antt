@@ -1,11 +1,13 @@
 -- Routes by successive averages.
-use Rattle.std.specs.Prelude.{◌≡◌, ℕ, ◌+◌, ◌*◌, ◌/◌, ◌%◌, nat_eq, Bool, true, false, List, length}
-use Rattle.std.specs.Prelude.{Option, Some, slice_get, slice_index}
+use Rattle.std.specs.Prelude.{◌≡◌, ◌⊎◌, ℕ, ◌+◌, ◌*◌, ◌/◌, ◌%◌, ◌<◌, ◌≤◌, nat_eq, Bool, true, false}
+use Rattle.std.specs.Prelude.{List, length, Option, Some, slice_get, slice_index}
 use Rattle.net_core.specs.declared.rows.LinkNo.{LinkNo}
 use Rattle.net_core.specs.declared.rows.NetRows.{NetRows}
 use Rattle.dta_model.specs.LinkTimes.{free_steps}
 use Rattle.dta_model.specs.declared.trip.Trip.{Trip}
 use Rattle.time_routes.specs.Destinations.{WalkOf}
+use Rattle.route_flows.specs.Starts.{HasNoStart, IsStarted}
+use Rattle.route_flows.specs.declared.start_rows.StartRow.{StartRow}
 
 -- whether a vehicle takes a new route after iteration k: it is one in k + 1 of all vehicles, and
 -- each iteration begins to count at another one
@@ -27,6 +29,25 @@ pub record AreChosenRoutes (at : ℕ → ℕ → ℕ) (net : NetRows) (trips : L
 abbrev pub AreFirstRoutes : NetRows → List Trip → List (Option (List LinkNo)) → Type 0
 AreFirstRoutes net trips routes = AreChosenRoutes (free_time net) net trips routes
 
+-- the first route of a vehicle: the walk of a row of a start table that fits it, or its chosen walk
+-- where no row does
+abbrev pub StartsOn : (ℕ → ℕ → ℕ) → NetRows → List StartRow → Trip → Option (List LinkNo) → Type 0
+StartsOn at net start trip route =
+    ((walk : List LinkNo) × (route ≡ Some walk) × IsStarted net start trip walk)
+    ⊎ (HasNoStart net start trip × WalkOf at net trip route)
+
+-- each vehicle has its first route; without a row all have their chosen walks
+pub record AreStartedBy (at : ℕ → ℕ → ℕ) (net : NetRows) (start : List StartRow)
+    (trips : List Trip) (routes : List (Option (List LinkNo))) : Type 0 where
+  pub as_many : length routes ≡ length trips
+  pub each : (v : ℕ) (trip : Trip) (route : Option (List LinkNo)) → slice_get trips v ≡ Some trip
+      → slice_get routes v ≡ Some route → StartsOn at net start trip route
+
+-- the routes of the first iteration from a start table
+abbrev pub AreStartedRoutes : NetRows → List StartRow → List Trip → List (Option (List LinkNo))
+    → Type 0
+AreStartedRoutes net start trips routes = AreStartedBy (free_time net) net start trips routes
+
 -- the routes of the iteration after k: the vehicles that are selected have their chosen walks by
 -- the link times of iteration k, and the others keep what they had
 pub record AreNextRoutes (at : ℕ → ℕ → ℕ) (net : NetRows) (trips : List Trip) (k : ℕ)
@@ -35,3 +56,34 @@ pub record AreNextRoutes (at : ℕ → ℕ → ℕ) (net : NetRows) (trips : Lis
   pub selected : (v : ℕ) (trip : Trip) (route : Option (List LinkNo)) → is_selected v k ≡ true
       → slice_get trips v ≡ Some trip → slice_get new v ≡ Some route → WalkOf at net trip route
   pub others : (v : ℕ) → is_selected v k ≡ false → slice_get new v ≡ slice_get old v
+
+-- the iteration after k is the last one, of so many, for which a vehicle takes its chosen walk anew
+pub record IsLastRenewal (v iterations k : ℕ) : Type 0 where
+  pub least : 1 ≤ k
+  pub most : k < iterations
+  pub selected : is_selected v k ≡ true
+  pub last : (later : ℕ) → k < later → later < iterations → is_selected v later ≡ false
+
+-- a vehicle keeps its first route in all of so many iterations
+abbrev pub KeepsFirst : ℕ → ℕ → Type 0
+KeepsFirst v iterations = (k : ℕ) → 1 ≤ k → k < iterations → is_selected v k ≡ false
+
+-- the number of a first route: 0 where a row of a start table has it, and otherwise 1
+abbrev pub IsFirstNumber : NetRows → List StartRow → Trip → ℕ → Type 0
+IsFirstNumber net start trip n =
+    ((n ≡ 0) × ((walk : List LinkNo) × IsStarted net start trip walk))
+    ⊎ ((n ≡ 1) × HasNoStart net start trip)
+
+-- the iteration in which a vehicle last took the route that it has after so many, also where it is
+-- the route that it had
+abbrev pub IsSince : NetRows → List StartRow → ℕ → ℕ → Trip → ℕ → Type 0
+IsSince net start iterations v trip n =
+    ((k : ℕ) × (n ≡ k + 1) × IsLastRenewal v iterations k)
+    ⊎ (KeepsFirst v iterations × IsFirstNumber net start trip n)
+
+-- that iteration for each vehicle
+pub record AreSince (net : NetRows) (start : List StartRow) (trips : List Trip) (iterations : ℕ)
+    (numbers : List ℕ) : Type 0 where
+  pub as_many : length numbers ≡ length trips
+  pub each : (v : ℕ) (trip : Trip) (n : ℕ) → slice_get trips v ≡ Some trip
+      → slice_get numbers v ≡ Some n → IsSince net start iterations v trip n

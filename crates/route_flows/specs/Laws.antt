@@ -1,9 +1,12 @@
 -- What is true of the routes of every iteration.
-use Rattle.std.specs.Prelude.{◌≡◌, ℕ, List, Option}
+use Rattle.std.specs.Prelude.{◌≡◌, ◌↔◌, ℕ, List, [], Option}
 use Rattle.net_core.specs.declared.rows.LinkNo.{LinkNo}
 use Rattle.net_core.specs.declared.rows.NetRows.{NetRows}
 use Rattle.dta_model.specs.declared.trip.Trip.{Trip}
-use Rattle.route_flows.specs.Averages.{AreChosenRoutes, AreNextRoutes}
+use Rattle.route_flows.specs.Averages.{AreChosenRoutes, AreFirstRoutes, AreNextRoutes, AreSince}
+use Rattle.route_flows.specs.Averages.{AreStartedBy, AreStartedRoutes}
+use Rattle.route_flows.specs.Starts.{AreStartRows}
+use Rattle.route_flows.specs.declared.start_rows.StartRow.{StartRow}
 
 -- trips and a table have one list of chosen walks
 abbrev pub ChosenAreDetermined : Type 0
@@ -17,3 +20,22 @@ NextAreDetermined =
     (at : ℕ → ℕ → ℕ) (net : NetRows) (trips : List Trip) (k : ℕ)
     (old a b : List (Option (List LinkNo)))
     → AreNextRoutes at net trips k old a → AreNextRoutes at net trips k old b → a ≡ b
+
+-- trips, a table and a start table have one list of first routes
+abbrev pub StartedAreDetermined : Type 0
+StartedAreDetermined =
+    (at : ℕ → ℕ → ℕ) (net : NetRows) (start : List StartRow) (trips : List Trip)
+    (a b : List (Option (List LinkNo))) → AreStartRows start
+    → AreStartedBy at net start trips a → AreStartedBy at net start trips b → a ≡ b
+
+-- without a row they are the first routes
+abbrev pub NoRowStartsNobody : Type 0
+NoRowStartsNobody =
+    (net : NetRows) (trips : List Trip) (routes : List (Option (List LinkNo)))
+    → AreStartedRoutes net [] trips routes ↔ AreFirstRoutes net trips routes
+
+-- and vehicles have one list of the iterations since which they have their routes
+abbrev pub SinceAreDetermined : Type 0
+SinceAreDetermined =
+    (net : NetRows) (start : List StartRow) (trips : List Trip) (iterations : ℕ) (a b : List ℕ)
+    → AreSince net start trips iterations a → AreSince net start trips iterations b → a ≡ b

@@ -1,3 +1,6 @@
+pub mod Starts
+pub mod StartTable
+pub mod Starting
 pub mod Averages
 pub mod Asked
 pub mod Laws

@@ -1,5 +1,5 @@
 // The routes of the iterations.
-ghost use Rattle.std.specs.Prelude.{◌≡◌, ◌≤◌, ℕ, length, IfOk};
+ghost use Rattle.std.specs.Prelude.{◌≡◌, ◌≤◌, ℕ, length, [], IfOk};
 ghost use Rattle.dta_model.specs.LinkTimes.{free_table, time_at};
 ghost use Rattle.dta_model.specs.Sound.{AreTrips};
 ghost use Rattle.dta_model.specs.declared.loading.TheConstants.{MOST_HORIZON};
@@ -7,10 +7,13 @@ ghost use Rattle.dta_model.specs.Sound.{AreWalks};
 ghost use Rattle.link_times.specs.TimeTables.{IsShort};
 ghost use Rattle.gap.specs.Gap.{IsGapLine};
 ghost use Rattle.route_flows.specs.Averages.{AreChosenRoutes, AreFirstRoutes, AreNextRoutes};
+ghost use Rattle.route_flows.specs.Averages.{AreStartedBy, AreStartedRoutes};
 ghost use Rattle.route_flows.specs.declared.selection.TheConstants.{MOST_ITERATION};
 
-use crate::kept::{copies, renew_selected};
-use crate::selection::{all_walks, asks_of};
+use crate::kept::{copies, fill_in, renew_selected};
+use crate::selection::{all_walks, asks_of, rest_of};
+use crate::start_rows::StartRows;
+use crate::starts::start_walks;
 use dta_model::{Routes, Trip};
 use gap::{GapLine, gap_line_by_shares};
 use link_times::LinkTimes;
@@ -40,6 +43,7 @@ pub fn first_routes<R: AllocGlobal + Threads + Sync>(
         → IfOk result (AreChosenRoutes (time_at (free_table net.now bucket horizon)) net.now
         trips.now) }
     ensures walks { IfOk result (AreWalks net.now trips.now) }
+    ensures unstarted { IfOk result (AreStartedRoutes net.now [] trips.now) }
 {
     let alloc = rt.alloc();
     // Free-flow steps stand still, so that a table of one step serves.
@@ -47,6 +51,41 @@ pub fn first_routes<R: AllocGlobal + Threads + Sync>(
     let asks = all_walks(alloc, trips.len())?;
     let told = tell_by_shares(rt, net, &times, trips, &asks, workers)?;
     Ok(Routes::of(told.walks))
+}
+
+/// The routes of the first iteration from a start table: a vehicle that a row fits has that row's
+/// walk, and any other its chosen walk by free-flow steps, from its departure. They are those of
+/// the free-flow table of any bucket length up to the horizon. A destination has no labels if rows
+/// fit all vehicles that go there.
+pub fn started_routes<R: AllocGlobal + Threads + Sync>(
+    rt: &R,
+    net: &Net,
+    trips: &[Trip],
+    horizon: u32,
+    workers: u32,
+    start: &StartRows,
+) -> Result<Routes, Memory>
+    requires trips { AreTrips trips.now }
+    requires horizon_least { 1 ≤ horizon }
+    requires horizon_most { horizon ≤ MOST_HORIZON }
+    requires workers_least { 1 ≤ workers }
+    requires workers_most { workers ≤ MOST_WORKERS }
+    ensures started { IfOk result (AreStartedRoutes net.now start.now trips.now) }
+    ensures table { (bucket : ℕ) → 1 ≤ bucket
+        → IfOk result (AreStartedBy (time_at (free_table net.now bucket horizon)) net.now start.now
+        trips.now) }
+    ensures walks { IfOk result (AreWalks net.now trips.now) }
+{
+    let alloc = rt.alloc();
+    let mut routes = start_walks(alloc, net, trips, start)?;
+    let times = LinkTimes::free(alloc, net, 1, 1)?;
+    let asks = rest_of(alloc, &routes)?;
+    let Told {
+        leasts: _,
+        mut walks,
+    } = tell_by_shares(rt, net, &times, trips, &asks, workers)?;
+    fill_in(&mut walks, &mut routes);
+    Ok(Routes::of(routes))
 }
 
 /// The routes of the iteration after k, from those of iteration k and its link times: the vehicles

@@ -1,7 +1,9 @@
 // Old routes, and those that selected vehicles take instead.
 ghost use Rattle.std.specs.Prelude.{◌≡◌, ◌<◌, ◌≤◌, length, cond, get_or, slice_set, None, IfOk};
+ghost use Rattle.std.specs.Prelude.{is_none};
 ghost use Rattle.dta_model.specs.declared.trip.TheConstants.{MOST_TRIPS};
 ghost use Rattle.route_flows.specs.Asked.{Renews};
+ghost use Rattle.route_flows.specs.Starting.{FillsIn};
 ghost use Rattle.route_flows.specs.Averages.{is_selected as selected_of};
 ghost use Rattle.route_flows.specs.declared.selection.TheConstants.{MOST_ITERATION};
 
@@ -57,5 +59,29 @@ pub(crate) fn renew_selected(walks: &mut [Option<Route>], k: u32, routes: &mut [
 {
     for v in 0..routes.len() {
         renew(walks, v as u32, k, routes);
+    }
+}
+
+// Gives a vehicle its other walk, if it has none.
+fn fill(others: &mut [Option<Route>], vehicle: usize, walks: &mut [Option<Route>])
+    requires vehicle { vehicle < length walks.old }
+    requires each { length others.old ≡ length walks.old }
+    ensures walks { walks.new ≡ cond (is_none (get_or walks.old vehicle None))
+        (slice_set walks.old vehicle (get_or others.old vehicle None)) walks.old }
+    ensures others { others.new ≡ cond (is_none (get_or walks.old vehicle None))
+        (slice_set others.old vehicle None) others.old }
+{
+    if walks[vehicle].is_none() {
+        std::mem::swap(&mut walks[vehicle], &mut others[vehicle]);
+    }
+}
+
+/// Gives each vehicle without a walk its other one. No route is copied.
+pub(crate) fn fill_in(others: &mut [Option<Route>], walks: &mut [Option<Route>])
+    requires { length others.old ≡ length walks.old }
+    ensures { FillsIn others.old walks.old walks.new }
+{
+    for v in 0..walks.len() {
+        fill(others, v, walks);
     }
 }

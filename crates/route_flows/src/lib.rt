@@ -6,6 +6,11 @@
 //! averages (specs/Averages.antt), for every number of workers. [`gap_and_next_routes`] measures
 //! the gap of the iteration with the same labels.
 //!
+//! [`read_start`] reads a start table, an earlier table of agents, and answers exactly its rows or
+//! exactly its first fault. From it [`started_routes`] gives a vehicle that a row fits the row's
+//! walk and any other its chosen one, and [`route_iterations`] tells for each vehicle in which
+//! iteration it last took its route.
+//!
 //! Destinations are worked in shares side by side, at most four and at most as many as there are
 //! workers, in threads where they can be made. In a share they are worked up to four at once, and
 //! the labels of four take the place of those before. A destination to which no selected vehicle
@@ -17,11 +22,18 @@ mod kept;
 mod laws;
 mod routeless;
 mod selection;
+mod since;
+mod start_rows;
+mod start_table;
+mod starts;
 
-pub use flows::{MOST_WORKERS, first_routes, gap_and_next_routes, next_routes};
-pub use laws::routes_are_determined;
+pub use flows::{MOST_WORKERS, first_routes, gap_and_next_routes, next_routes, started_routes};
+pub use laws::{iterations_are_determined, no_row_starts_nobody, routes_are_determined};
 pub use routeless::unrouted;
 pub use selection::{MOST_ITERATION, is_selected};
+pub use since::route_iterations;
+pub use start_rows::{Ids, MOST_START_ROWS, StartRow, StartRows};
+pub use start_table::read_start;
 
 #[cfg(test)]
 mod tests;

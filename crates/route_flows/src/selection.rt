@@ -2,6 +2,7 @@
 ghost use Rattle.std.specs.Prelude.{◌≡◌, ◌≤◌, ◌&&◌, is_some, length, IfOk, replicate, true, false};
 ghost use Rattle.dta_model.specs.declared.trip.TheConstants.{MOST_TRIPS};
 ghost use Rattle.route_flows.specs.Asked.{AreAsked};
+ghost use Rattle.route_flows.specs.Starting.{asks_for_rest};
 ghost use Rattle.route_flows.specs.Averages.{is_selected as selected_of};
 
 use dta_model::Route;
@@ -46,6 +47,20 @@ pub(crate) fn asks_of(
         asks.push(Ask {
             least: is_measured(least, &routes[v]),
             walk: is_selected(v as u32, k),
+        })?;
+    }
+    Ok(asks)
+}
+
+/// The walks of the vehicles that have none.
+pub(crate) fn rest_of(alloc: Global, walks: &[Option<Route>]) -> Result<Vec<Ask>, Memory>
+    ensures { IfOk result (λ asks. asks.items ≡ asks_for_rest walks.now) }
+{
+    let mut asks = Vec::with_capacity(alloc, walks.len())?;
+    for walk in walks {
+        asks.push(Ask {
+            least: false,
+            walk: walk.is_none(),
         })?;
     }
     Ok(asks)

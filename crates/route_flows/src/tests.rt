@@ -7,11 +7,15 @@ ghost use Rattle.link_times.specs.TimeTables.{IsShort};
 ghost use Rattle.route_flows.specs.declared.flows.TheConstants.{MOST_WORKERS};
 ghost use Rattle.std.specs.Prelude.{◌≡◌, ◌≤◌, IfOk, length};
 
-use crate::{first_routes, gap_and_next_routes, is_selected, next_routes};
+use crate::{
+    first_routes, gap_and_next_routes, is_selected, next_routes, read_start, route_iterations,
+    started_routes,
+};
 use dta_model::{Loading, Queue, Route, Routes, Trip};
 use gap::{GapLine, gap};
 use link_times::LinkTimes;
 use net_core::{LinkNo, LinkRow, Memory, Net, NodeNo, NodeRow};
+use row_reader::{Code, Column, TableRefusal};
 use serial_loader::load_plain;
 use std::alloc::Global;
 use std::test::Fail;
@@ -163,6 +167,7 @@ macro_rules! link {
             id: $from,
             from: NodeNo($from),
             to: NodeNo($to),
+            micrometres: 1_000_000_000,
             free: 10,
             storage: 125,
             rate: 600_000_000,
@@ -303,6 +308,117 @@ fn line(route_steps: u128, least_steps: u128, gap_steps: u128, ppm: u128) -> Gap
     }
 }
 
+// What a start table gives: the links of each vehicle's first route, 0 where there is none, and the
+// iterations in which vehicles took their routes, after one and after two.
+#[derive(Drop)]
+struct Started<'a> {
+    lengths: &'a [usize],
+    after_one: &'a [u32],
+    after_two: &'a [u32],
+}
+
+// Whether a start table gives the vehicles of a case these routes.
+fn starts<R: AllocGlobal + Threads + Sync>(
+    rt: &R,
+    case: &Case,
+    text: &str,
+    wanted: &Started,
+) -> Result<bool, Memory> {
+    let alloc = rt.alloc();
+    let start = match read_start(alloc, text.as_bytes()) {
+        Ok(start) => start,
+        Err(_) => return Ok(false),
+    };
+    let Loading {
+        net,
+        trips,
+        horizon,
+        ..
+    } = case.loading();
+    let routes = started_routes(rt, net, trips, horizon, 4, &start)?;
+    let after_one = route_iterations(alloc, net, trips, &start, 1)?;
+    let after_two = route_iterations(alloc, net, trips, &start, 2)?;
+    Ok(
+        are_wanted(&routes, wanted.lengths)
+            && after_one.as_slice() == wanted.after_one
+            && after_two.as_slice() == wanted.after_two,
+    )
+}
+
+// The agents of two iterations over a narrow link and a way round it.
+const AGENTS: &str =
+    "agent_id,o_zone_id,d_zone_id,departure_step,arrival_step,status,link_ids,entry_steps
+0,1,3,0,21,arrived,40,0
+1,1,3,0,20,arrived,20;30,0;10
+2,1,3,0,21,arrived,40,0
+3,1,3,0,21,arrived,20;30,0;11
+";
+
+// The same, where the first agent leaves from another zone.
+const ANOTHER_ZONE: &str = "agent_id,o_zone_id,d_zone_id,link_ids,route_iteration
+0,2,3,40,0
+1,1,3,20;30,0
+2,1,3,40,0
+3,1,3,20;30,0
+";
+
+#[test]
+fn a_start_of_all_vehicles(rt: HostRuntime) -> Result<(), Fail> {
+    let case = worked_cases::nobody_goes(rt.alloc())?;
+    let wanted = Started {
+        lengths: &[1, 2, 1, 2],
+        after_one: &[0, 0, 0, 0],
+        after_two: &[2, 0, 2, 0],
+    };
+    assert!(rt; starts(&rt, &case, AGENTS, &wanted)?);
+    Ok(())
+}
+
+#[test]
+fn a_row_of_another_zone(rt: HostRuntime) -> Result<(), Fail> {
+    let case = worked_cases::nobody_goes(rt.alloc())?;
+    let wanted = Started {
+        lengths: &[2, 2, 1, 2],
+        after_one: &[1, 0, 0, 0],
+        after_two: &[2, 0, 2, 0],
+    };
+    assert!(rt; starts(&rt, &case, ANOTHER_ZONE, &wanted)?);
+    Ok(())
+}
+
+// One row each, over how many links the first of four vehicles goes, and since which iteration: a
+// row that fits it counts as 0, and without one it goes over two links.
+#[test]
+fn rows_that_fit(rt: HostRuntime) -> Result<(), Fail> {
+    let case = worked_cases::nobody_goes(rt.alloc())?;
+    for (row, over, since) in [
+        ("0,1,3,40", 1, 0),
+        ("0,1,3,20;30", 2, 0),
+        ("0.0,1,03, 40 ", 1, 0),
+        ("0,1,3,", 2, 1),
+        ("0,1,3,20", 2, 1),
+        ("0,1,3,30", 2, 1),
+        ("0,1,3,30;20", 2, 1),
+        ("0,1,3,20;20;30", 2, 1),
+        ("0,1,3,40;40", 2, 1),
+        ("0,1,3,99", 2, 1),
+        ("0,1,3,20;99", 2, 1),
+        ("0,3,1,40", 2, 1),
+        ("0,1,2,20", 2, 1),
+        ("4,1,3,40", 2, 1),
+        ("9223372036854775807,1,3,40", 2, 1),
+    ] {
+        let text = format!(in rt.alloc(); "agent_id,o_zone_id,d_zone_id,link_ids\n{row}\n")?;
+        let wanted = Started {
+            lengths: &[over, 2, 2, 2],
+            after_one: &[since, 1, 1, 1],
+            after_two: &[2, 1, 2, 1],
+        };
+        assert!(rt; starts(&rt, &case, text.as_str(), &wanted)?, "{row}");
+    }
+    Ok(())
+}
+
 #[test]
 fn a_narrow_link_and_a_way_round(rt: HostRuntime) -> Result<(), Fail> {
     let case = worked_cases::nobody_goes(rt.alloc())?;
@@ -388,5 +504,71 @@ fn who_is_selected(rt: HostRuntime) {
 fn routes_by_several_workers(rt: HostRuntime) -> Result<(), Fail> {
     let case = a_ring_of_nine_zones(rt.alloc())?;
     assert!(rt; lead_round(&rt, &case)?);
+    Ok(())
+}
+
+// A fault of a start table: its line, code and column.
+macro_rules! fault {
+    ($line:expr, $code:ident $column:ident) => {
+        Some(($line, Code::$code, Column::$column))
+    };
+}
+
+// The first fault of a start table. Want of memory is told as a fault that no table has.
+fn fault_in(alloc: Global, text: &str) -> Option<(u64, Code, Column)> {
+    match read_start(alloc, text.as_bytes()) {
+        Ok(_) => None,
+        Err(TableRefusal::Fault(fault)) => Some((fault.line, fault.code, fault.column)),
+        Err(TableRefusal::Memory) => Some((0, Code::E13, Column::NoColumn)),
+    }
+}
+
+#[test]
+fn start_tables(rt: HostRuntime) -> Result<(), Fail> {
+    for (text, wanted) in [
+        ("", fault!(1, E1 AgentId)),
+        ("agent_id\n", fault!(1, E1 OZoneId)),
+        ("o_zone_id,agent_id\n", fault!(1, E1 DZoneId)),
+        ("d_zone_id,o_zone_id,agent_id\n", fault!(1, E1 LinkIds)),
+        ("link_ids,d_zone_id,o_zone_id,agent_id\n", None),
+        (
+            "agent_id,o_zone_id,d_zone_id,link_ids\n0,1,3,\n1,1,3,40\n",
+            None,
+        ),
+        (
+            "agent_id,o_zone_id,d_zone_id,link_ids\n0,1,3\n",
+            fault!(2, E2 NoColumn),
+        ),
+        (
+            "agent_id,o_zone_id,d_zone_id,link_ids\n,1,3,40\n",
+            fault!(2, E3 AgentId),
+        ),
+        (
+            "agent_id,o_zone_id,d_zone_id,link_ids\n0,,3,40\n",
+            fault!(2, E3 OZoneId),
+        ),
+        (
+            "agent_id,o_zone_id,d_zone_id,link_ids\n0,1,-1,40\n",
+            fault!(2, E5 DZoneId),
+        ),
+        (
+            "agent_id,o_zone_id,d_zone_id,link_ids\n0,1,3,40; 20\n",
+            fault!(2, E4 LinkIds),
+        ),
+        (
+            "agent_id,o_zone_id,d_zone_id,link_ids\n0,1,3,9223372036854775808;4\n",
+            fault!(2, E5 LinkIds),
+        ),
+        (
+            "agent_id,o_zone_id,d_zone_id,link_ids\n0,1,3,-1;x\n",
+            fault!(2, E4 LinkIds),
+        ),
+        (
+            "agent_id,o_zone_id,d_zone_id,link_ids\n0,1,3,40\n0.0,x,3,40\n",
+            fault!(3, E6 AgentId),
+        ),
+    ] {
+        assert!(rt; fault_in(rt.alloc(), text) == wanted, "{text}");
+    }
     Ok(())
 }

@@ -1,47 +1,28 @@
-use Rattle.std.proofs.Common.{◌++◌, [], rules, arith}
+use Rattle.std.proofs.Common.{◌++◌, rules, arith}
 use Rattle.std.proofs.lemmas.Grind.{common_steps}
-use Rattle.std.specs.Prelude.{None, Some}
 use Rattle.std.proofs.lemmas.Result.{on_err_weaker, on_ok_weaker}
+use Rattle.std.specs.Prelude.{option_copied}
 use Rattle.desk_io.specs.declared.desk.Output.TheVariants as output
 use Rattle.desk_io.specs.Transfers.{IsPartOut}
 use Rattle.pending_text.specs.Sending.{IsAdded}
-use Rattle.reports.specs.Texts.{agent_line, ids_of, way_columns}
-use Rattle.reports.proofs.TextsFacts.{added-agent, part-agent, added-unrouted, part-unrouted}
+use Rattle.pending_text.proofs.SendingFacts.{added-then, part-then}
+use Rattle.reports.specs.Texts.{agent_columns, agent_line, line_end}
 use Rattle.reports.proofs.agents.add_agent.Goals as goal
 
-pub returns-in_ok-add_trip-in-None : goal.returns-in_ok-add_trip-in-None
-returns-in_ok-add_trip-in-None g c =
+pub returns : goal.returns
+unfolding agent_line
+returns g c =
     record {
-      whole = (let all : IsAdded output.Agent (way_columns [] []) c.add_trip.new.pending c.add_way.new.pending (g.D.Desk.taken c.add_trip.new.desk) (g.D.Desk.taken c.add_way.new.desk)
-          → IsAdded output.Agent (agent_line c.args.net.now c.args.trip.now None c.args.journey.now) c.args.pending.now c.add_way.new.pending
-          (g.D.Desk.taken c.args.desk.now) (g.D.Desk.taken c.add_way.new.desk)
-          = λ way. added-unrouted c.args.net.now c.args.trip.now c.args.journey.now _ _ _ _ _ _ c.in_ok-add_trip-in-None.ensures.whole way in
-          rw c.in-None.is (on_ok_weaker _ all c.add_way.ensures.whole));
-      refused = (let some : IsPartOut output.Agent (c.add_trip.new.pending ++ (way_columns [] [])) (g.D.Desk.taken c.add_trip.new.desk) (g.D.Desk.taken c.add_way.new.desk)
-          → IsPartOut output.Agent (c.args.pending.now ++ agent_line c.args.net.now c.args.trip.now None c.args.journey.now)
-          (g.D.Desk.taken c.args.desk.now) (g.D.Desk.taken c.add_way.new.desk)
-          = λ way. part-unrouted c.args.net.now c.args.trip.now c.args.journey.now _ _ _ _ _ c.in_ok-add_trip-in-None.ensures.whole way in
-          rw c.in-None.is (on_err_weaker _ some c.add_way.ensures.refused));
-      cause = record { later = grind (arith, common_steps); failed = grind (arith, common_steps) };
-      left = search rules;
-      reads = search rules;
-    }
-
-pub returns-in_ok-add_trip-in-Some : goal.returns-in_ok-add_trip-in-Some
-returns-in_ok-add_trip-in-Some g c =
-    record {
-      whole = (let all : IsAdded output.Agent (way_columns (ids_of c.args.net.now c.as_slice.result.now) c.as_slice-in-Some.result.now) c.add_trip-in-Some.new.pending c.add_way-in-Some.new.pending (g.D.Desk.taken c.add_trip-in-Some.new.desk) (g.D.Desk.taken c.add_way-in-Some.new.desk)
-          → IsAdded output.Agent (agent_line c.args.net.now c.args.trip.now (Some c.in-Some.route.now) c.args.journey.now) c.args.pending.now c.add_way-in-Some.new.pending
-          (g.D.Desk.taken c.args.desk.now) (g.D.Desk.taken c.add_way-in-Some.new.desk)
-          = λ way. added-agent c.args.net.now c.args.trip.now c.in-Some.route.now c.as_slice.result.now c.args.journey.now c.status_of.result c.as_slice-in-Some.result.now _ _ _ _ _ _
-          c.status_of.ensures c.as_slice.ensures c.as_slice-in-Some.ensures c.in_ok-add_trip-in-Some.ensures.whole way in
-          rw c.in-Some.is (on_ok_weaker _ all c.add_way-in-Some.ensures.whole));
-      refused = (let some : IsPartOut output.Agent (c.add_trip-in-Some.new.pending ++ (way_columns (ids_of c.args.net.now c.as_slice.result.now) c.as_slice-in-Some.result.now)) (g.D.Desk.taken c.add_trip-in-Some.new.desk) (g.D.Desk.taken c.add_way-in-Some.new.desk)
-          → IsPartOut output.Agent (c.args.pending.now ++ agent_line c.args.net.now c.args.trip.now (Some c.in-Some.route.now) c.args.journey.now)
-          (g.D.Desk.taken c.args.desk.now) (g.D.Desk.taken c.add_way-in-Some.new.desk)
-          = λ way. part-agent c.args.net.now c.args.trip.now c.in-Some.route.now c.as_slice.result.now c.args.journey.now c.status_of.result c.as_slice-in-Some.result.now _ _ _ _ _
-          c.status_of.ensures c.as_slice.ensures c.as_slice-in-Some.ensures c.in_ok-add_trip-in-Some.ensures.whole way in
-          rw c.in-Some.is (on_err_weaker _ some c.add_way-in-Some.ensures.refused));
+      whole = (let all : IsAdded output.Agent (line_end (option_copied c.args.route) c.args.iteration) c.add_columns.new.pending c.add_end.new.pending (g.D.Desk.taken c.add_columns.new.desk) (g.D.Desk.taken c.add_end.new.desk)
+          → IsAdded output.Agent (agent_line c.args.net.now c.args.trip.now (option_copied c.args.route) c.args.journey.now c.args.iteration) c.args.pending.now c.add_end.new.pending
+          (g.D.Desk.taken c.args.desk.now) (g.D.Desk.taken c.add_end.new.desk)
+          = λ end. added-then output.Agent (agent_columns c.args.net.now c.args.trip.now (option_copied c.args.route) c.args.journey.now) _ _ _ _ _ _ _ c.in_ok-add_columns.ensures.whole end in
+          on_ok_weaker _ all c.add_end.ensures.whole);
+      refused = (let some : IsPartOut output.Agent (c.add_columns.new.pending ++ line_end (option_copied c.args.route) c.args.iteration) (g.D.Desk.taken c.add_columns.new.desk) (g.D.Desk.taken c.add_end.new.desk)
+          → IsPartOut output.Agent (c.args.pending.now ++ agent_line c.args.net.now c.args.trip.now (option_copied c.args.route) c.args.journey.now c.args.iteration)
+          (g.D.Desk.taken c.args.desk.now) (g.D.Desk.taken c.add_end.new.desk)
+          = λ end. part-then output.Agent (agent_columns c.args.net.now c.args.trip.now (option_copied c.args.route) c.args.journey.now) _ _ _ _ _ _ c.in_ok-add_columns.ensures.whole end in
+          on_err_weaker _ some c.add_end.ensures.refused);
       cause = record { later = grind (arith, common_steps); failed = grind (arith, common_steps) };
       left = search rules;
       reads = search rules;

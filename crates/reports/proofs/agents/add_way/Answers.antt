@@ -15,24 +15,8 @@ returns-in_err-add g c =
     let p = err_from_is_err_and c.from_residual-in_err-add.result c.from_residual-in_err-add.ensures.1 in
     rw p.1 (record {
       whole = tt;
-      refused = (part-first output.Agent (((joined (ids_of c.args.net.now c.args.route.now)) ++ codes ",") ++ joined c.args.steps.now) (codes "\n") _ _ _
-          (part-first output.Agent ((joined (ids_of c.args.net.now c.args.route.now)) ++ codes ",") (joined c.args.steps.now) _ _ _
-          (part-then output.Agent (joined (ids_of c.args.net.now c.args.route.now)) (codes ",") _ _ _ _ _ c.in_ok-add_ids.ensures.whole c.in_err-add.ensures.refused)));
-      cause = record { later = grind (arith, common_steps); failed = grind (arith, common_steps) };
-      left = grind (arith, common_steps);
-      reads = grind (arith, common_steps);
-    })
-
-pub returns-in_err-add_steps : goal.returns-in_err-add_steps
-unfolding way_columns
-returns-in_err-add_steps g c =
-    let p = err_from_is_err_and c.from_residual-in_err-add_steps.result c.from_residual-in_err-add_steps.ensures.1 in
-    rw p.1 (record {
-      whole = tt;
-      refused = (part-first output.Agent (((joined (ids_of c.args.net.now c.args.route.now)) ++ codes ",") ++ joined c.args.steps.now) (codes "\n") _ _ _
-          (part-then output.Agent ((joined (ids_of c.args.net.now c.args.route.now)) ++ codes ",") (joined c.args.steps.now) _ _ _ _ _
-          (added-then output.Agent (joined (ids_of c.args.net.now c.args.route.now)) (codes ",") _ _ _ _ _ _ c.in_ok-add_ids.ensures.whole c.in_ok-add.ensures.whole)
-          c.in_err-add_steps.ensures.refused));
+      refused = (part-first output.Agent ((joined (ids_of c.args.net.now c.args.route.now)) ++ codes ",") (joined c.args.steps.now) _ _ _
+          (part-then output.Agent (joined (ids_of c.args.net.now c.args.route.now)) (codes ",") _ _ _ _ _ c.in_ok-add_ids.ensures.whole c.in_err-add.ensures.refused));
       cause = record { later = grind (arith, common_steps); failed = grind (arith, common_steps) };
       left = grind (arith, common_steps);
       reads = grind (arith, common_steps);
@@ -42,22 +26,18 @@ pub returns : goal.returns
 unfolding way_columns
 returns g c =
     record {
-      whole = (let all : IsAdded output.Agent (codes "\n") c.add_steps.new.pending c.add-2.new.self (g.D.Desk.taken c.add_steps.new.desk) (g.D.Desk.taken c.add-2.new.desk)
-          → IsAdded output.Agent (way_columns (ids_of c.args.net.now c.args.route.now) c.args.steps.now) c.args.pending.now c.add-2.new.self (g.D.Desk.taken c.args.desk.now) (g.D.Desk.taken c.add-2.new.desk)
-          = λ last. added-then output.Agent (((joined (ids_of c.args.net.now c.args.route.now)) ++ codes ",") ++ joined c.args.steps.now) (codes "\n") _ _ _ _ _ _
-          (added-then output.Agent ((joined (ids_of c.args.net.now c.args.route.now)) ++ codes ",") (joined c.args.steps.now) _ _ _ _ _ _
+      whole = (let all : IsAdded output.Agent (joined c.args.steps.now) c.add.new.self c.add_steps.new.pending (g.D.Desk.taken c.add.new.desk) (g.D.Desk.taken c.add_steps.new.desk)
+          → IsAdded output.Agent (way_columns (ids_of c.args.net.now c.args.route.now) c.args.steps.now) c.args.pending.now c.add_steps.new.pending (g.D.Desk.taken c.args.desk.now) (g.D.Desk.taken c.add_steps.new.desk)
+          = λ last. added-then output.Agent ((joined (ids_of c.args.net.now c.args.route.now)) ++ codes ",") (joined c.args.steps.now) _ _ _ _ _ _
           (added-then output.Agent (joined (ids_of c.args.net.now c.args.route.now)) (codes ",") _ _ _ _ _ _ c.in_ok-add_ids.ensures.whole c.in_ok-add.ensures.whole)
-          c.in_ok-add_steps.ensures.whole)
           last in
-          on_ok_weaker _ all c.add-2.ensures.whole);
-      refused = (let some : IsPartOut output.Agent (c.add_steps.new.pending ++ codes "\n") (g.D.Desk.taken c.add_steps.new.desk) (g.D.Desk.taken c.add-2.new.desk)
-          → IsPartOut output.Agent (c.args.pending.now ++ (way_columns (ids_of c.args.net.now c.args.route.now) c.args.steps.now)) (g.D.Desk.taken c.args.desk.now) (g.D.Desk.taken c.add-2.new.desk)
-          = λ last. part-then output.Agent (((joined (ids_of c.args.net.now c.args.route.now)) ++ codes ",") ++ joined c.args.steps.now) (codes "\n") _ _ _ _ _
-          (added-then output.Agent ((joined (ids_of c.args.net.now c.args.route.now)) ++ codes ",") (joined c.args.steps.now) _ _ _ _ _ _
+          on_ok_weaker _ all c.add_steps.ensures.whole);
+      refused = (let some : IsPartOut output.Agent (c.add.new.self ++ joined c.args.steps.now) (g.D.Desk.taken c.add.new.desk) (g.D.Desk.taken c.add_steps.new.desk)
+          → IsPartOut output.Agent (c.args.pending.now ++ (way_columns (ids_of c.args.net.now c.args.route.now) c.args.steps.now)) (g.D.Desk.taken c.args.desk.now) (g.D.Desk.taken c.add_steps.new.desk)
+          = λ last. part-then output.Agent ((joined (ids_of c.args.net.now c.args.route.now)) ++ codes ",") (joined c.args.steps.now) _ _ _ _ _
           (added-then output.Agent (joined (ids_of c.args.net.now c.args.route.now)) (codes ",") _ _ _ _ _ _ c.in_ok-add_ids.ensures.whole c.in_ok-add.ensures.whole)
-          c.in_ok-add_steps.ensures.whole)
           last in
-          on_err_weaker _ some c.add-2.ensures.refused);
+          on_err_weaker _ some c.add_steps.ensures.refused);
       cause = record { later = grind (arith, common_steps); failed = grind (arith, common_steps) };
       left = search rules;
       reads = search rules;

@@ -1,7 +1,7 @@
 use Rattle.std.proofs.Common.{◌∙◌, ap, length}
 use Rattle.route_flows.specs.Averages.{free_time}
 use Rattle.route_flows.proofs.Averaged.{chosen_walk}
-use Rattle.route_flows.proofs.FreeTimes.{first_are, free-many, table_are}
+use Rattle.route_flows.proofs.FreeTimes.{first_are, free-many, nobody_starts, table_are}
 use Rattle.route_flows.proofs.flows.first_routes.Goals as goal
 
 pub tell_by_shares-requires-clause-table : goal.tell_by_shares-requires-clause-table
@@ -20,3 +20,6 @@ pub returns-clause-walks : goal.returns-clause-walks
 returns-clause-walks g c =
     chosen_walk (free_time c.args.net.now) c.args.net.now c.args.trips.now c.of.result
     (first_are c.args.net.now c.args.trips.now c.in_ok-times.times c.deref.result.now c.in_ok-told.told.walks.items c.of.result c.in_ok-times.ensures.table (c.deref.ensures.value ∙ c.in_ok-asks.ensures) c.in_ok-told.ensures.walks c.of.ensures)
+
+pub returns-clause-unstarted : goal.returns-clause-unstarted
+returns-clause-unstarted g c = nobody_starts c.args.net.now c.args.trips.now c.of.result (returns-clause-first g c)
