@@ -1,5 +1,5 @@
 -- The nodes of a step may be taken in any order: the texts of an assignment are the same.
-use Rattle.std.proofs.Common.{◌≡◌, ◌+◌, List, [], ◌∷◌, refl, sym, ap, subst, ◌∙◌}
+use Rattle.std.proofs.Common.{◌≡◌, ℕ, ◌+◌, List, [], ◌∷◌, refl, sym, ap, subst, ◌∙◌}
 use Rattle.dta_model.specs.LinkTimes.{TimeTable, time_at}
 use Rattle.dta_model.specs.Loading.{journeys_of}
 use Rattle.dta_model.specs.State.{eight_after}
@@ -9,7 +9,7 @@ use Rattle.dta_model.proofs.AnyOrder.{any_order, same_journeys}
 use Rattle.link_times.proofs.AnyOrder.{same_times}
 use Rattle.gap.specs.Gap.{IsGapLine}
 use Rattle.gap.specs.declared.line.GapLine.{GapLine}
-use Rattle.reports.specs.Texts.{agent_text, gap_text, link_time_text, report_text}
+use Rattle.reports.specs.Texts.{agent_text_by, gap_text, link_time_text, report_text}
 use Rattle.route_flows.specs.Averages.{AreNextRoutes}
 use Rattle.dta_words.specs.declared.command.Command.{Command}
 use Rattle.dta_words.specs.declared.command.Command.TheVariants as command
@@ -30,13 +30,14 @@ use Rattle.counts.specs.declared.turn_counts.TurnCount.{TurnCount}
 use Rattle.counts.proofs.AnyOrder.{same_through_counts, same_turn_counts}
 use Rattle.net_core.specs.declared.rows.LinkNo.{LinkNo}
 use Rattle.std.specs.Prelude.{Option, None, Some}
-use Rattle.dta.proofs.Determined.{but-watch-assigned, lasts-by, same-lines, same-routes}
+use Rattle.dta.proofs.Determined.{RouteLaws, but-watch-assigned, lasts-by, same-lines, same-routes, same-since}
 
 -- iterations over equal tables of link times
 by-times : (job : JobRows) (times other : VehicleRoutes → TimeTable)
     → ((r : VehicleRoutes) → times r ≡ other r) → (routes : List VehicleRoutes) (lines : List GapLine)
     → AreIterationsBy times job routes lines → AreIterationsBy other job routes lines
 by-times job times other same routes lines it = record {
+  start = it.start;
   first = it.first;
   next = λ i old new e f.
       subst (λ (t : TimeTable). AreNextRoutes (time_at t) job.net job.trips (i + 1) old new) (same old)
@@ -80,42 +81,43 @@ module _ (s : Settings) (job : JobRows) (order : NodeOrders) (all : AreNodeOrder
       ∙ ap (λ (t : List ThroughCount). text_to output.Counts (counts_text job.net (turn_counts (plan_of s job last) s.bucket) t s.bucket s.horizon))
       (through-same last (asked_link job.net s.link))
 
-  texts-same : (c : Command) (last : VehicleRoutes) (lines : List GapLine) (line : GapLine)
-      → texts_by c s job order last lines line ≡ but_watch (last_texts c s job last lines line)
-  texts-same command.Assign last lines line =
-      ap (λ (j : List Journey). text_to output.Agent (agent_text job.net job.trips last j)
+  texts-same : (c : Command) (last : VehicleRoutes) (since : Option (List ℕ)) (lines : List GapLine) (line : GapLine)
+      → texts_by c s job order last since lines line ≡ but_watch (last_texts c s job last since lines line)
+  texts-same command.Assign last since lines line =
+      ap (λ (j : List Journey). text_to output.Agent (agent_text_by job.net job.trips last j since)
       ∷ text_to output.LinkTime (link_time_text job.net (times_by s job order last))
       ∷ text_to output.Gap (gap_text lines)
       ∷ text_to output.Report (report_text (summary_by s job order last line)) ∷ []) (journeys-same last)
       ∙ ap (λ (t : TimeTable).
-      text_to output.Agent (agent_text job.net job.trips last (journeys_of (plan_of s job last)))
+      text_to output.Agent (agent_text_by job.net job.trips last (journeys_of (plan_of s job last)) since)
       ∷ text_to output.LinkTime (link_time_text job.net t) ∷ text_to output.Gap (gap_text lines)
       ∷ text_to output.Report (report_text (summary_by s job order last line)) ∷ []) (times-same last)
       ∙ ap (λ x.
-      text_to output.Agent (agent_text job.net job.trips last (journeys_of (plan_of s job last)))
+      text_to output.Agent (agent_text_by job.net job.trips last (journeys_of (plan_of s job last)) since)
       ∷ text_to output.LinkTime (link_time_text job.net (times_of s job last))
       ∷ text_to output.Gap (gap_text lines) ∷ text_to output.Report (report_text x) ∷ [])
       (summary-same last line)
-  texts-same (command.Demo n) last lines line =
+  texts-same (command.Demo n) last since lines line =
       ap (λ x. text_to output.Report (report_text x) ∷ []) (summary-same last line)
-  texts-same command.Freeflow last lines line =
+  texts-same command.Freeflow last since lines line =
       ap (λ x. text_to output.Report (report_text x) ∷ []) (summary-same last line)
-  texts-same command.Skim last lines line =
+  texts-same command.Skim last since lines line =
       ap (λ x. text_to output.Report (report_text x) ∷ []) (summary-same last line)
-  texts-same command.Counts last lines line =
+  texts-same command.Counts last since lines line =
       ap (λ x. x ∷ text_to output.Report (report_text (summary_by s job order last line)) ∷ []) (counts-same last)
       ∙ ap (λ x. counts_out s job (turn_counts (plan_of s job last) s.bucket) (through_counts (plan_of s job last))
       ∷ text_to output.Report (report_text x) ∷ []) (summary-same last line)
 
-pub texts_in_any_order : TextsInAnyOrder
-texts_in_any_order s job order all xs ys a b =
+pub texts_in_any_order : RouteLaws → TextsInAnyOrder
+texts_in_any_order laws s job order all xs ys a b =
     let it : AreIterations s job a.routes a.lines = by-times job (times_by s job order) (times_of s job)
     (times-same s job order all) a.routes a.lines a.iterations in
-    let routes : a.routes ≡ b.routes = same-routes s job a.routes b.routes a.lines b.lines it b.iterations
+    let routes : a.routes ≡ b.routes = same-routes laws s job a.routes b.routes a.lines b.lines it b.iterations
     (a.as_many ∙ sym b.as_many) in
-    let lines : a.lines ≡ b.lines = same-lines s job a.routes b.routes a.lines b.lines it b.iterations
+    let lines : a.lines ≡ b.lines = same-lines laws s job a.routes b.routes a.lines b.lines it b.iterations
     routes (a.with_gaps ∙ sym a.as_many) (a.with_gaps ∙ sym b.with_gaps) in
-    a.texts_are ∙ texts-same s job order all s.command a.last a.lines a.line
-    ∙ ap but_watch (lasts-by s job a.routes b.routes a.lines b.lines a.last b.last a.line b.line routes
-    lines a.last_routes b.last_routes a.last_line b.last_line)
+    let since : a.since ≡ b.since = same-since laws s job s.start a.since b.since a.since_told b.since_told in
+    a.texts_are ∙ texts-same s job order all s.command a.last a.since a.lines a.line
+    ∙ ap but_watch (lasts-by s job a.routes b.routes a.lines b.lines a.last b.last a.line b.line a.since b.since routes
+    lines since a.last_routes b.last_routes a.last_line b.last_line)
     ∙ sym (but-watch-assigned s job ys b)

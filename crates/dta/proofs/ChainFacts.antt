@@ -1,12 +1,13 @@
 -- Tables one after the other: those that were accepted, and the table at which the reading stopped.
-use Rattle.std.proofs.Common.{ℕ, ◌≤◌, List, [], ◌∷◌, ◌++◌, refl, subst, arith, inl, inr}
+use Rattle.std.proofs.Common.{◌≡◌, ℕ, ◌≤◌, Bool, false, true, List, [], ◌∷◌, ◌++◌, refl, subst, sym, arith, inl, inr}
+use Rattle.desk_io.specs.declared.desk.Table.TheVariants as table
 use Rattle.desk_io.specs.declared.desk.Table.{Table}
 use Rattle.desk_io.specs.Desk.{Left}
 use Rattle.desk_io.specs.Faults.{Rose}
 use Rattle.reports.specs.declared.refusal.Refusal.TheVariants as refusal
 use Rattle.dta.specs.Outcome.{DeskState}
 use Rattle.dta.specs.Stops.{StopsAmong, StopsAt}
-use Rattle.dta.specs.Tables.{AreAccepted, ReachedAmong, IsAccepted, TableRows}
+use Rattle.dta.specs.Tables.{AreAccepted, ReachedAmong, IsAccepted, TableRows, all_tables, loading_tables, no_rows}
 use Rattle.dta.specs.declared.stop.Stop.{Stop}
 use Rattle.dta.specs.declared.stop.Stop.TheVariants.{Refused, Memory}
 use Rattle.dta_words.specs.declared.command.Settings.{Settings}
@@ -70,3 +71,24 @@ module _ (settings : Settings) where
       → StopsAt settings t next s between after → StopsAmong settings (tables ++ t ∷ others) rows s before after
   among-then tables others t rows next s before between after a h stops =
       (t, reached-then t _ tables (t ∷ others) rows next before.left between.left after.left a (inl (refl, stop-since settings t next s before between after h stops)))
+
+  -- the start table was accepted after the others, where it is asked for
+  pub accepted-start : (start : Bool) (rows more : TableRows) (left between rest : Left) → start ≡ true → AreAccepted settings all_tables no_rows rows left between
+      → IsAccepted settings table.Start rows more between rest → AreAccepted settings (loading_tables start) no_rows more left rest
+  accepted-start start rows more left between rest asks others own =
+      subst (λ (b : Bool). AreAccepted settings (loading_tables b) no_rows more left rest) (sym asks)
+      (accepted-both all_tables (table.Start ∷ []) no_rows rows more left between rest others (accepted-one table.Start rows more between rest own))
+
+  -- the reading stopped there
+  pub among-start : (start : Bool) (rows : TableRows) (s : Stop) (before between after : DeskState) → start ≡ true
+      → AreAccepted settings all_tables no_rows rows before.left between.left → before.read_faults ≤ between.read_faults
+      → StopsAt settings table.Start rows s between after → StopsAmong settings (loading_tables start) no_rows s before after
+  among-start start rows s before between after asks others h stops =
+      subst (λ (b : Bool). StopsAmong settings (loading_tables b) no_rows s before after) (sym asks)
+      (among-then all_tables [] table.Start no_rows rows s before between after others h stops)
+
+  -- no start table is asked for
+  pub accepted-unstarted : (start : Bool) (rows : TableRows) (left rest : Left) → start ≡ false → AreAccepted settings all_tables no_rows rows left rest
+      → AreAccepted settings (loading_tables start) no_rows rows left rest
+  accepted-unstarted start rows left rest asks others =
+      subst (λ (b : Bool). AreAccepted settings (loading_tables b) no_rows rows left rest) (sym asks) others

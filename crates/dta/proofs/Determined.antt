@@ -1,7 +1,7 @@
 -- Settings and a job have one list of texts but for Watch, and with the plain loader of all texts.
-use Rattle.std.proofs.Common.{◌≡◌, ℕ, zero, suc, ◌+◌, ◌-◌, Bool, true, List, [], ◌∷◌, ◌++◌, length, map}
+use Rattle.std.proofs.Common.{◌≡◌, ℕ, zero, suc, ◌+◌, ◌-◌, Bool, false, true, List, [], ◌∷◌, ◌++◌, length, map}
 use Rattle.std.proofs.Common.{refl, sym, ap, subst, arith, ◌∙◌}
-use Rattle.std.specs.Prelude.{Some, get_or, not, slice_get}
+use Rattle.std.specs.Prelude.{Option, None, Some, get_or, not, slice_get}
 use Rattle.std.proofs.lemmas.List.Elements.{filter-append}
 use Rattle.std.proofs.lemmas.List.{ext_get_or}
 use Rattle.std.proofs.lemmas.Option.{slice_get-get_or, slice_get_within}
@@ -9,14 +9,14 @@ use Rattle.dta_model.specs.LinkTimes.{time_at}
 use Rattle.gap.specs.declared.line.GapLine.{GapLine}
 use Rattle.gap.proofs.Determined.{lines_are_determined}
 use Rattle.route_flows.specs.Averages.{free_time}
-use Rattle.route_flows.proofs.Determined.{chosen_are_determined, next_are_determined}
+use Rattle.route_flows.specs.Laws.{NextAreDetermined, SinceAreDetermined, StartedAreDetermined}
 use Rattle.dta_words.specs.declared.command.Command.{Command}
 use Rattle.dta_words.specs.declared.command.Command.TheVariants as command
 use Rattle.dta_words.specs.declared.command.Settings.{Settings}
 use Rattle.dta.specs.Assignment.{AreIterations, VehicleRoutes, times_of}
 use Rattle.dta.specs.Jobs.{JobRows}
 use Rattle.dta.specs.Laws.{AreDetermined, TextsAreDetermined}
-use Rattle.dta.specs.Outputs.{AreAssigned, AreTexts, AreToldSteps, AreWatchLines, AreWatchTexts, OutText}
+use Rattle.dta.specs.Outputs.{AreAssigned, AreSinceTold, AreTexts, AreToldSteps, AreWatchLines, AreWatchTexts, OutText}
 use Rattle.dta.specs.Outputs.{but_watch, is_watch, last_texts, skim_texts, watch_text}
 use Rattle.skims.specs.GivenTimes.{table_given}
 use Rattle.skims.proofs.Determined.{skims_are_determined}
@@ -27,7 +27,22 @@ some-is x y e = cc
 abbrev no_line : GapLine
 no_line = record { route_steps = 0; least_steps = 0; gap_steps = 0; ppm = 0 }
 
-module _ (s : Settings) (job : JobRows) (ra rb : List VehicleRoutes) (la lb : List GapLine) (a : AreIterations s job ra la) (b : AreIterations s job rb lb) where
+-- routes and the iterations in which they were taken are determined
+pub record RouteLaws : Type 0 where
+  pub started : StartedAreDetermined
+  pub next : NextAreDetermined
+  pub since : SinceAreDetermined
+
+-- the iterations of the routes, where they are told
+pub same-since : RouteLaws → (s : Settings) (job : JobRows) (start : Bool) (a b : Option (List ℕ))
+    → AreSinceTold start s job a → AreSinceTold start s job b → a ≡ b
+same-since laws s job false a b x y = x ∙ sym y
+same-since laws s job true None b x y = absurd x
+same-since laws s job true (Some a) None x y = absurd y
+same-since laws s job true (Some a) (Some b) x y =
+    ap Some (laws.since job.net job.start job.trips s.iterations a b x y)
+
+module _ (laws : RouteLaws) (s : Settings) (job : JobRows) (ra rb : List VehicleRoutes) (la lb : List GapLine) (a : AreIterations s job ra la) (b : AreIterations s job rb lb) where
   -- an iteration's routes are as many as the trips
   many : (i : ℕ) (x : VehicleRoutes) → slice_get ra i ≡ Some x → length x ≡ length job.trips
   many zero x e = (a.first x e).as_many
@@ -37,7 +52,7 @@ module _ (s : Settings) (job : JobRows) (ra rb : List VehicleRoutes) (la lb : Li
       (a.next i (get_or ra i []) x old (subst (λ n. slice_get ra n ≡ Some x) (omega arith) e)).as_many
 
   same-at : (i : ℕ) (x y : VehicleRoutes) → slice_get ra i ≡ Some x → slice_get rb i ≡ Some y → x ≡ y
-  same-at zero x y e f = chosen_are_determined (free_time job.net) job.net job.trips x y (a.first x e) (b.first y f)
+  same-at zero x y e f = laws.started (free_time job.net) job.net job.start job.trips x y a.start (a.first x e) (b.first y f)
   same-at (suc i) x y e f =
       let h = slice_get_within ra (suc i) x e in
       let k = slice_get_within rb (suc i) y f in
@@ -46,7 +61,7 @@ module _ (s : Settings) (job : JobRows) (ra rb : List VehicleRoutes) (la lb : Li
       let p : get_or rb i [] ≡ get_or ra i [] = sym (same-at i (get_or ra i []) (get_or rb i []) old other) in
       let next = a.next i (get_or ra i []) x old (subst (λ n. slice_get ra n ≡ Some x) (omega arith) e) in
       let again = b.next i (get_or ra i []) y (subst (λ (r : VehicleRoutes). slice_get rb i ≡ Some r) p other) (subst (λ n. slice_get rb n ≡ Some y) (omega arith) f) in
-      next_are_determined (time_at (times_of s job (get_or ra i []))) job.net job.trips (i + 1) (get_or ra i []) x y next again
+      laws.next (time_at (times_of s job (get_or ra i []))) job.net job.trips (i + 1) (get_or ra i []) x y next again
 
   pub same-routes : length ra ≡ length rb → ra ≡ rb
   same-routes e = ext_get_or [] ra rb e (λ i h.
@@ -110,18 +125,19 @@ module _ (s : Settings) (job : JobRows) where
 
 -- the texts after the last iteration, over the same routes and gaps
 pub lasts-by : (s : Settings) (job : JobRows) (ra rb : List VehicleRoutes) (la lb : List GapLine)
-    (last_a last_b : VehicleRoutes) (line_a line_b : GapLine) → ra ≡ rb → la ≡ lb
+    (last_a last_b : VehicleRoutes) (line_a line_b : GapLine) (since_a since_b : Option (List ℕ)) → ra ≡ rb → la ≡ lb → since_a ≡ since_b
     → slice_get ra (s.iterations - 1) ≡ Some last_a → slice_get rb (s.iterations - 1) ≡ Some last_b
     → slice_get la (s.iterations - 1) ≡ Some line_a → slice_get lb (s.iterations - 1) ≡ Some line_b
-    → last_texts s.command s job last_a la line_a ≡ last_texts s.command s job last_b lb line_b
-lasts-by s job ra rb la lb last_a last_b line_a line_b routes lines at_a at_b on_a on_b =
+    → last_texts s.command s job last_a since_a la line_a ≡ last_texts s.command s job last_b since_b lb line_b
+lasts-by s job ra rb la lb last_a last_b line_a line_b since_a since_b routes lines since at_a at_b on_a on_b =
     let last : last_a ≡ last_b = some-is last_a last_b (sym at_a
     ∙ ap (λ (rs : List VehicleRoutes). slice_get rs (s.iterations - 1)) routes ∙ at_b) in
     let line : line_a ≡ line_b = some-is line_a line_b (sym on_a
     ∙ ap (λ (ls : List GapLine). slice_get ls (s.iterations - 1)) lines ∙ on_b) in
-    ap (λ (r : VehicleRoutes). last_texts s.command s job r la line_a) last
-    ∙ ap (λ (ls : List GapLine). last_texts s.command s job last_b ls line_a) lines
-    ∙ ap (λ (l : GapLine). last_texts s.command s job last_b lb l) line
+    ap (λ (r : VehicleRoutes). last_texts s.command s job r since_a la line_a) last
+    ∙ ap (λ (o : Option (List ℕ)). last_texts s.command s job last_b o la line_a) since
+    ∙ ap (λ (ls : List GapLine). last_texts s.command s job last_b since_b ls line_a) lines
+    ∙ ap (λ (l : GapLine). last_texts s.command s job last_b since_b lb l) line
 
 -- the texts of an assignment but for Watch are those after its last iteration
 but-watch-is : (texts watched last : List OutText) → texts ≡ watched ++ last
@@ -131,23 +147,24 @@ but-watch-is texts watched last are none =
     ∙ ap (λ (xs : List OutText). xs ++ but_watch last) none
 
 pub but-watch-assigned : (s : Settings) (job : JobRows) (xs : List OutText) (a : AreAssigned s job xs)
-    → but_watch xs ≡ but_watch (last_texts s.command s job a.last a.lines a.line)
+    → but_watch xs ≡ but_watch (last_texts s.command s job a.last a.since a.lines a.line)
 but-watch-assigned s job xs a =
-    but-watch-is xs a.watched (last_texts s.command s job a.last a.lines a.line) a.texts_are
+    but-watch-is xs a.watched (last_texts s.command s job a.last a.since a.lines a.line) a.texts_are
     (none-left s job 1 a.routes a.watched a.watch_lines)
 
-module _ (s : Settings) (job : JobRows) (xs ys : List OutText) (a : AreAssigned s job xs)
+module _ (laws : RouteLaws) (s : Settings) (job : JobRows) (xs ys : List OutText) (a : AreAssigned s job xs)
     (b : AreAssigned s job ys) where
   routes-same : a.routes ≡ b.routes
-  routes-same = same-routes s job a.routes b.routes a.lines b.lines a.iterations b.iterations
+  routes-same = same-routes laws s job a.routes b.routes a.lines b.lines a.iterations b.iterations
       (a.as_many ∙ sym b.as_many)
 
-  lasts-same : last_texts s.command s job a.last a.lines a.line
-      ≡ last_texts s.command s job b.last b.lines b.line
+  lasts-same : last_texts s.command s job a.last a.since a.lines a.line
+      ≡ last_texts s.command s job b.last b.since b.lines b.line
   lasts-same =
-      lasts-by s job a.routes b.routes a.lines b.lines a.last b.last a.line b.line routes-same
-      (same-lines s job a.routes b.routes a.lines b.lines a.iterations b.iterations routes-same
+      lasts-by s job a.routes b.routes a.lines b.lines a.last b.last a.line b.line a.since b.since routes-same
+      (same-lines laws s job a.routes b.routes a.lines b.lines a.iterations b.iterations routes-same
       (a.with_gaps ∙ sym a.as_many) (a.with_gaps ∙ sym b.with_gaps))
+      (same-since laws s job s.start a.since b.since a.since_told b.since_told)
       a.last_routes b.last_routes a.last_line b.last_line
 
   both-assigned : AreDetermined s job xs ys
@@ -159,23 +176,23 @@ module _ (s : Settings) (job : JobRows) (xs ys : List OutText) (a : AreAssigned 
         (subst (λ (rs : List VehicleRoutes). AreWatchTexts s job 1 rs a.watched) routes-same
         a.watch_lines) b.watch_lines in
         a.texts_are
-        ∙ ap (λ (w : List OutText). w ++ last_texts s.command s job a.last a.lines a.line) watched
+        ∙ ap (λ (w : List OutText). w ++ last_texts s.command s job a.last a.since a.lines a.line) watched
         ∙ ap (λ (l : List OutText). b.watched ++ l) lasts-same ∙ sym b.texts_are;
   }
 
 both-free : (s : Settings) (job : JobRows) (xs ys : List OutText) → xs ≡ ys → AreDetermined s job xs ys
 both-free s job xs ys same = record { but_watch_lines = ap but_watch same; plain = λ plain. same }
 
-determined-by : (c : Command) (s : Settings) (job : JobRows) (xs ys : List OutText) → AreTexts c s job xs
+determined-by : RouteLaws → (c : Command) (s : Settings) (job : JobRows) (xs ys : List OutText) → AreTexts c s job xs
     → AreTexts c s job ys → AreDetermined s job xs ys
-determined-by command.Freeflow s job xs ys a b = both-free s job xs ys (a ∙ sym b)
-determined-by command.Assign s job xs ys a b = both-assigned s job xs ys a b
-determined-by (command.Demo n) s job xs ys a b = both-assigned s job xs ys a b
-determined-by command.Skim s job xs ys a b =
+determined-by laws command.Freeflow s job xs ys a b = both-free s job xs ys (a ∙ sym b)
+determined-by laws command.Assign s job xs ys a b = both-assigned laws s job xs ys a b
+determined-by laws (command.Demo n) s job xs ys a b = both-assigned laws s job xs ys a b
+determined-by laws command.Skim s job xs ys a b =
     both-free s job xs ys (a.texts_are
     ∙ ap (skim_texts job.net) (skims_are_determined (time_at (table_given job.net s.bucket s.horizon job.times)) job.net s.starts a.entries b.entries a.skim b.skim)
     ∙ sym b.texts_are)
-determined-by command.Counts s job xs ys a b = both-assigned s job xs ys a b
+determined-by laws command.Counts s job xs ys a b = both-assigned laws s job xs ys a b
 
-pub texts_are_determined : TextsAreDetermined
-texts_are_determined s job xs ys a b = determined-by s.command s job xs ys a b
+pub texts_are_determined : RouteLaws → TextsAreDetermined
+texts_are_determined laws s job xs ys a b = determined-by laws s.command s job xs ys a b

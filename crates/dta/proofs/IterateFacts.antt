@@ -27,7 +27,9 @@ use Rattle.dta_model.specs.Sound.{AreWalks}
 use Rattle.link_times.specs.TimeTables.{IsShort}
 use Rattle.gap.specs.Gap.{IsGapLine}
 use Rattle.gap.specs.declared.line.GapLine.{GapLine}
-use Rattle.route_flows.specs.Averages.{AreFirstRoutes, AreNextRoutes}
+use Rattle.route_flows.specs.Averages.{AreNextRoutes, AreStartedRoutes}
+use Rattle.route_flows.specs.Starts.{AreStartRows}
+use Rattle.route_flows.specs.declared.start_rows.StartRow.{StartRow}
 use Rattle.dta_words.specs.Ranges.{AreSettings}
 use Rattle.dta_words.specs.declared.command.Settings.{Settings}
 use Rattle.dta.specs.Assignment.{AreIterations, VehicleRoutes, end_of, times_of}
@@ -36,7 +38,7 @@ use Rattle.dta.specs.Progress.{Halts, HaltsIn, HasCounts, IsAssigned, IsAt, IsLa
 use Rattle.dta.specs.declared.iterate.Assigned.{Assigned}
 use Rattle.dta.specs.declared.halt.Halt.{Halt}
 use Rattle.dta.specs.declared.halt.Halt.TheVariants as halt
-use Rattle.dta.specs.Outputs.{IsCutOff, end_lines}
+use Rattle.dta.specs.Outputs.{AreSinceTold, IsCutOff, end_lines}
 use Rattle.dta.specs.Calls.{HaltsFrom, IsFinished}
 use Rattle.dta.proofs.ChainFacts.{rose-earlier}
 use Rattle.dta.proofs.OutputFacts.{cut-more, end-lines, grown-more, watch-more}
@@ -49,6 +51,7 @@ sound-plan s job routes settings good are = record {
   delta_most = settings.step.1;
   horizon_least = settings.horizon.0;
   horizon_most = (let h = settings.horizon.1 in omega (arith, h));
+  queue = settings.queue;
   trips = good.trips.in_order;
   rising = good.trips.rising;
   early = good.trips.early;
@@ -114,24 +117,24 @@ pub on-net : (job : JobRows) (routes : VehicleRoutes) → AreRoutesOf job routes
 on-net job routes are =
     walks-on-net (record { net = job.net; queue = queue.Point; delta = 1; horizon = 1; trips = job.trips; routes = routes }) are.walks are.each
 
--- a job by its network, its trips and its link times
-abbrev pub job_with : NetRows → List Trip → List TimeRow → JobRows
-job_with net trips times = record { net = net; trips = trips; times = times }
+-- a job by its network, its trips, the rows of its start table and its link times
+abbrev pub job_with : NetRows → List Trip → List StartRow → List TimeRow → JobRows
+job_with net trips start times = record { net = net; trips = trips; start = start; times = times }
 
 -- routes that are walks are those of a job
-pub routes-of : {times : List TimeRow} (job : JobRows) (net : NetRows) (trips : List Trip) (routes : VehicleRoutes) → job_with net trips times ≡ job
+pub routes-of : {start : List StartRow} {times : List TimeRow} (job : JobRows) (net : NetRows) (trips : List Trip) (routes : VehicleRoutes) → job_with net trips start times ≡ job
     → length routes ≡ length trips → AreWalks net trips routes → AreRoutesOf job routes
 routes-of job net trips routes e each walks =
     subst (λ (j : JobRows). AreRoutesOf j routes) e (record { each = each; walks = walks })
 
 -- and the other way round
-pub walks-of : {times : List TimeRow} (job : JobRows) (net : NetRows) (trips : List Trip) (routes : VehicleRoutes) → job_with net trips times ≡ job
+pub walks-of : {start : List StartRow} {times : List TimeRow} (job : JobRows) (net : NetRows) (trips : List Trip) (routes : VehicleRoutes) → job_with net trips start times ≡ job
     → AreRoutesOf job routes → AreWalks net trips routes
 walks-of job net trips routes e are =
     subst (λ (j : JobRows). AreWalks j.net j.trips routes) (sym e) are.walks
 
 -- as many journeys as trips
-pub many-journeys : {link_times : List TimeRow} (s : Settings) (job : JobRows) (net : NetRows) (trips : List Trip) (routes : VehicleRoutes) (loaded : List Journey) → job_with net trips link_times ≡ job
+pub many-journeys : {start : List StartRow} {link_times : List TimeRow} (s : Settings) (job : JobRows) (net : NetRows) (trips : List Trip) (routes : VehicleRoutes) (loaded : List Journey) → job_with net trips start link_times ≡ job
     → loaded ≡ journeys_of (plan_of s job routes) → length loaded ≡ length trips
 unfolding journeys_of
 many-journeys s job net trips routes loaded e is =
@@ -139,12 +142,12 @@ many-journeys s job net trips routes loaded e is =
     ∙ ap (λ (j : JobRows). length j.trips) (sym e)
 
 -- the routes of a job are over its network
-pub net-routes : {times : List TimeRow} (job : JobRows) (net : NetRows) (trips : List Trip) (routes : VehicleRoutes) → job_with net trips times ≡ job → AreRoutesOf job routes → AreOnNet net routes
+pub net-routes : {start : List StartRow} {times : List TimeRow} (job : JobRows) (net : NetRows) (trips : List Trip) (routes : VehicleRoutes) → job_with net trips start times ≡ job → AreRoutesOf job routes → AreOnNet net routes
 net-routes job net trips routes e are =
     subst (λ (j : JobRows). AreOnNet j.net routes) (sym e) (on-net job routes are)
 
 -- a table of a job's loading has the free-flow steps of its links
-pub free-of : {link_times : List TimeRow} (s : Settings) (job : JobRows) (net : NetRows) (trips : List Trip) (routes : VehicleRoutes) (times : TimeTable) → job_with net trips link_times ≡ job
+pub free-of : {start : List StartRow} {link_times : List TimeRow} (s : Settings) (job : JobRows) (net : NetRows) (trips : List Trip) (routes : VehicleRoutes) (times : TimeTable) → job_with net trips start link_times ≡ job
     → times ≡ times_of s job routes → times.free ≡ free_steps net
 free-of s job net trips routes times e is =
     ap (λ (x : TimeTable). x.free) is ∙ table-free (plan_of s job routes) s.bucket
@@ -187,19 +190,20 @@ module _ (s : Settings) (job : JobRows) (r : Result Assigned Halt) (routes : Veh
 -- the iterations of a job
 module _ (s : Settings) (job : JobRows) where
   -- the first routes alone
-  only-first : (r : VehicleRoutes) → AreFirstRoutes job.net job.trips r → AreIterations s job (r ∷ []) []
-  only-first r are = record {
-    first = λ z e. subst (AreFirstRoutes job.net job.trips) (get-last [] r 0 z e refl) are;
+  only-first : (r : VehicleRoutes) → AreStartRows job.start → AreStartedRoutes job.net job.start job.trips r → AreIterations s job (r ∷ []) []
+  only-first r rows are = record {
+    start = rows;
+    first = λ z e. subst (AreStartedRoutes job.net job.start job.trips) (get-last [] r 0 z e refl) are;
     next = λ i old new e f. let h = slice_get_within (r ∷ []) (i + 1) new f in absurd (omega (arith, h));
     gaps = λ i z line e f. let h = slice_get_within {A = GapLine} [] i line f in absurd (omega (arith, h));
   }
 
-  pub begun : (r : VehicleRoutes) (lines : List GapLine) (start : Taken) → lines ≡ [] → AreFirstRoutes job.net job.trips r → IsAt s job 1 r lines start start
-  begun r lines start none are = rw none record {
+  pub begun : (r : VehicleRoutes) (lines : List GapLine) (start : Taken) → lines ≡ [] → AreStartRows job.start → AreStartedRoutes job.net job.start job.trips r → IsAt s job 1 r lines start start
+  begun r lines start none rows are = rw none record {
     done = [];
     as_many = refl;
     with_gaps = refl;
-    iterations = only-first r are;
+    iterations = only-first r rows are;
     texts = [];
     watch_lines = refl;
     watched = refl;
@@ -208,6 +212,7 @@ module _ (s : Settings) (job : JobRows) where
   -- the iterations before one of them
   but-last : (done : List VehicleRoutes) (r : VehicleRoutes) (lines : List GapLine) → AreIterations s job (done ++ r ∷ []) lines → AreIterations s job done lines
   but-last done r lines it = record {
+    start = it.start;
     first = λ z e. it.first z (get-kept done (r ∷ []) 0 z e);
     next = λ i old new e f. it.next i old new (get-kept done (r ∷ []) i old e) (get-kept done (r ∷ []) (i + 1) new f);
     gaps = λ i z line e f. it.gaps i z line (get-kept done (r ∷ []) i z e) f;
@@ -218,6 +223,7 @@ module _ (s : Settings) (job : JobRows) where
       → IsGapLine (time_at (times_of s job r)) job.net job.trips r line
       → AreIterations s job (done ++ r ∷ []) lines → AreIterations s job (done ++ r ∷ []) (lines ++ line ∷ [])
   with-gap done r lines line many gap it = record {
+    start = it.start;
     first = it.first;
     next = it.next;
     gaps = λ i z l e f. by i z l e f (last-or-before lines line i l f);
@@ -235,6 +241,7 @@ module _ (s : Settings) (job : JobRows) where
       → AreNextRoutes (time_at (times_of s job r)) job.net job.trips (length done + 1) r next
       → AreIterations s job (done ++ r ∷ []) lines → AreIterations s job ((done ++ r ∷ []) ++ next ∷ []) lines
   with-next done r next lines many are it = record {
+    start = it.start;
     first = λ z e. it.first z (get-back all (next ∷ []) 0 z e (omega (arith, long)));
     next = λ i old new e f. by i old new e f (last-or-before all next (i + 1) new f);
     gaps = λ i z l e f.
@@ -344,9 +351,9 @@ module _ (s : Settings) (job : JobRows) where
       → IsWatched s job s.iterations a.routes before now
       → a.lines.items ≡ lines ++ a.line ∷ []
       → IsGapLine (time_at (times_of s job a.routes)) job.net job.trips a.routes a.line
-      → IsLastOf s job a → HasCounts s job a.routes a.counts
+      → IsLastOf s job a → AreSinceTold s.start s job a.since → HasCounts s job a.routes a.counts
       → IsAssigned s job a start now
-  assigned a lines start before now at put pushed gap last counted = record {
+  assigned a lines start before now at put pushed gap last since counted = record {
     done = at.done;
     as_many = at.as_many;
     before = lines;
@@ -357,17 +364,19 @@ module _ (s : Settings) (job : JobRows) where
     watch_lines = watch-more s job 1 s.iterations at.done a.routes at.texts put.0 at.as_many at.watch_lines put.1;
     watched = grown-more at.texts put.0 start before now at.watched put.2;
     last = last;
+    since_told = since;
     counted = counted;
   }
 
   -- memory was wanting for the first routes
-  pub halts-first : (start : Taken) → Halts s job halt.Memory start start
-  halts-first start = (
+  pub halts-first : (start : Taken) → AreStartRows job.start → Halts s job halt.Memory start start
+  halts-first start rows = (
     [],
     record {
       routes = [];
       lines = [];
       iterations = record {
+        start = rows;
         first = λ r e. let h = slice_get_within {A = VehicleRoutes} [] 0 r e in absurd (omega (arith, h));
         next = λ i old new e f. let h = slice_get_within {A = VehicleRoutes} [] i old e in absurd (omega (arith, h));
         gaps = λ i r line e f. let h = slice_get_within {A = VehicleRoutes} [] i r e in absurd (omega (arith, h));

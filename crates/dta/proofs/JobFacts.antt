@@ -1,7 +1,9 @@
 -- Jobs of accepted tables, and what stops a run before its work.
-use Rattle.std.proofs.Common.{◌≡◌, ◌≢◌, ℕ, List, [], ◌∷◌, refl, sym, ap, subst, arith, inl, inr, ◌⊎◌, ◌∙◌}
-use Rattle.std.specs.Prelude.{⊤, Result, Ok, Err, OnOk, IfOk, IfErr, filter, nat_eq}
-use Rattle.std.specs.List.{flat_map}
+use Rattle.std.proofs.Common.{◌≡◌, ◌≢◌, ◌<◌, ℕ, List, [], ◌∷◌, length, refl, sym, ap, subst, arith, rules, inl, inr, ◌⊎◌, ◌∙◌}
+use Rattle.std.specs.Prelude.{⊤, Bool, Result, Ok, Err, OnOk, IfOk, IfErr, filter, nat_eq}
+use Rattle.std.specs.List.{IsDistinct, flat_map}
+use Rattle.std.proofs.lemmas.List.{length-map}
+use Rattle.std.proofs.lemmas.List.Elements.{All-nil}
 use Rattle.std.proofs.lemmas.Result.{IfErr-weaker, IfOk-weaker}
 use Rattle.desk_io.specs.declared.desk.Table.{Table}
 use Rattle.desk_io.specs.declared.desk.Table.TheVariants as table
@@ -12,6 +14,10 @@ use Rattle.desk_io.specs.Transfers.{IsBegun, IsLong}
 use Rattle.net_core.specs.Network.{numbers_below}
 use Rattle.net_core.specs.declared.rows.LinkRow.{LinkRow}
 use Rattle.net_core.specs.declared.rows.NodeRow.{NodeRow}
+use Rattle.gmns_tables.specs.Net.{net_rows}
+use Rattle.gmns_tables.specs.RowsWithWindows.{rows_of}
+use Rattle.route_flows.specs.Starts.{AreStartRows}
+use Rattle.gmns_tables.specs.declared.with_windows.WithWindows.{WithWindows}
 use Rattle.dta_model.specs.Release.{in_order_of_departure, released, Released, trips_of}
 use Rattle.vehicle_release.specs.Limits.{IsWithin}
 use Rattle.grid_maker.specs.Grid.{node_text, link_text, demand_text}
@@ -21,12 +27,12 @@ use Rattle.desk_io.specs.declared.transfers.TheConstants.{MOST_TABLE_BYTES}
 use Rattle.dta_words.specs.declared.command.Command.{Command}
 use Rattle.dta_words.specs.declared.command.Command.TheVariants as command
 use Rattle.dta_words.specs.declared.command.Settings.{Settings}
-use Rattle.dta.specs.Jobs.{AreWithin, HasRoom, IsAcceptedJob, IsJobOf, JobRows, LeavesOf, Loads, Reading, job_of, read_tables, source, tables_of}
+use Rattle.dta.specs.Jobs.{AreTripsBelow, AreWithin, HasRoom, IsAcceptedJob, IsJobOf, JobRows, LeavesOf, Loads, Reading, job_of, read_tables, source, tables_of}
 use Rattle.dta.specs.Outcome.{AreCounted, DeskState, IsCauseAmong, IsCauseIn, IsCutIn, ReadsFailed}
 use Rattle.dta.specs.Stops.{HasFault, Stops, StopsAmong, StopsIn, StopsJob, StopsSkim, StopsAt}
 use Rattle.desk_io.proofs.DeskFacts.{before_left-empty}
 use Rattle.dta.proofs.ChainFacts.{reached-then}
-use Rattle.dta.specs.Tables.{AreAccepted, ReachedAmong, IsFaulty, TableRows, net_of, network_tables, no_rows, road_rows, skim_tables}
+use Rattle.dta.specs.Tables.{AreAccepted, ReachedAmong, IsFaulty, TableRows, loading_tables, net_of, network_tables, no_rows, road_rows, skim_tables}
 use Rattle.dta.specs.declared.stop.Stop.{Stop}
 use Rattle.dta.specs.declared.stop.Stop.TheVariants.{Refused, Memory}
 
@@ -39,6 +45,23 @@ none-in-any-step (x ∷ xs) = none-in-any-step xs
 pub trips_of-none : (period : ℕ) → trips_of [] period ≡ []
 unfolding trips_of released in_order_of_departure
 trips_of-none period = rw (none-in-any-step (numbers_below period)) refl
+
+-- no vehicles
+pub no-trips : (horizon : ℕ) → AreTripsBelow horizon []
+no-trips horizon = record {
+  in_order = record { few = search rules; numbered = refl; apart = All-nil (λ trip. trip.origin ≢ trip.destination) };
+  rising = λ i j d l h. absurd (omega (arith, h));
+  early = All-nil (λ trip. trip.departure < horizon);
+}
+
+-- no rows of a start table
+pub no-start-rows : AreStartRows []
+unfolding IsDistinct
+no-start-rows = record { distinct = tt; few = search rules }
+
+-- as many links as rows of links
+pub link-count : (links : List (WithWindows LinkRow)) (rows : List LinkRow) → rows ≡ rows_of links → length links ≡ length rows
+link-count links rows are = sym (length-map links (λ link. link.row)) ∙ ap length (sym are)
 
 -- ---- tables that were reached
 
@@ -71,32 +94,32 @@ module _ (s : Settings) (before after : DeskState) where
   abbrev Ends : Table → Stop → TableRows → Left → Left → Type 0
   Ends t stop rows left rest = StopsAt s t rows stop (record before { left = left }) (record after { left = rest })
 
-  pub among-in : (stop : Stop) → StopsAmong s (tables_of s.command) no_rows stop before after → StopsIn s stop before after
+  pub among-in : (stop : Stop) → StopsAmong s (tables_of s.command s.start) no_rows stop before after → StopsIn s stop before after
   among-in Memory h = inr (inl h)
   among-in (Refused refusal.Usage) h =
-      absurd (reached-holds s h.0 (Ends h.0 (Refused refusal.Usage)) ⊥ (tables_of s.command) no_rows before.left after.left (λ r a b k. k) h.1)
+      absurd (reached-holds s h.0 (Ends h.0 (Refused refusal.Usage)) ⊥ (tables_of s.command s.start) no_rows before.left after.left (λ r a b k. k) h.1)
   among-in (Refused (refusal.Table fault)) h =
-      let same : fault.table ≡ h.0 = reached-holds s h.0 (Ends h.0 (Refused (refusal.Table fault))) (fault.table ≡ h.0) (tables_of s.command) no_rows before.left after.left (λ r a b k. k.0) h.1 in
-      let faulty = reached-map s h.0 (Ends h.0 (Refused (refusal.Table fault))) (IsFaulty s fault h.0) (tables_of s.command) no_rows before.left after.left (λ r a b k. k.1) h.1 in
-      (subst (λ (t : Table). ReachedAmong s (tables_of s.command) t (IsFaulty s fault t) no_rows before.left after.left) (sym same) faulty, tt)
+      let same : fault.table ≡ h.0 = reached-holds s h.0 (Ends h.0 (Refused (refusal.Table fault))) (fault.table ≡ h.0) (tables_of s.command s.start) no_rows before.left after.left (λ r a b k. k.0) h.1 in
+      let faulty = reached-map s h.0 (Ends h.0 (Refused (refusal.Table fault))) (IsFaulty s fault h.0) (tables_of s.command s.start) no_rows before.left after.left (λ r a b k. k.1) h.1 in
+      (subst (λ (t : Table). ReachedAmong s (tables_of s.command s.start) t (IsFaulty s fault t) no_rows before.left after.left) (sym same) faulty, tt)
   among-in (Refused (refusal.Read u)) h =
-      let same : u ≡ h.0 = reached-holds s h.0 (Ends h.0 (Refused (refusal.Read u))) (u ≡ h.0) (tables_of s.command) no_rows before.left after.left (λ r a b k. k.0) h.1 in
-      let failed : ReadsFailed before after = reached-holds s h.0 (Ends h.0 (Refused (refusal.Read u))) (ReadsFailed before after) (tables_of s.command) no_rows before.left after.left (λ r a b k. k.2) h.1 in
-      let begun = reached-map s h.0 (Ends h.0 (Refused (refusal.Read u))) (λ _. IsBegun h.0) (tables_of s.command) no_rows before.left after.left (λ r a b k. k.1) h.1 in
-      (subst (λ (t : Table). ReachedAmong s (tables_of s.command) t (λ _. IsBegun t) no_rows before.left after.left) (sym same) begun, failed)
+      let same : u ≡ h.0 = reached-holds s h.0 (Ends h.0 (Refused (refusal.Read u))) (u ≡ h.0) (tables_of s.command s.start) no_rows before.left after.left (λ r a b k. k.0) h.1 in
+      let failed : ReadsFailed before after = reached-holds s h.0 (Ends h.0 (Refused (refusal.Read u))) (ReadsFailed before after) (tables_of s.command s.start) no_rows before.left after.left (λ r a b k. k.2) h.1 in
+      let begun = reached-map s h.0 (Ends h.0 (Refused (refusal.Read u))) (λ _. IsBegun h.0) (tables_of s.command s.start) no_rows before.left after.left (λ r a b k. k.1) h.1 in
+      (subst (λ (t : Table). ReachedAmong s (tables_of s.command s.start) t (λ _. IsBegun t) no_rows before.left after.left) (sym same) begun, failed)
   among-in (Refused (refusal.LongTable u)) h =
-      let same : u ≡ h.0 = reached-holds s h.0 (Ends h.0 (Refused (refusal.LongTable u))) (u ≡ h.0) (tables_of s.command) no_rows before.left after.left (λ r a b k. k.0) h.1 in
-      let long = reached-map s h.0 (Ends h.0 (Refused (refusal.LongTable u))) (λ _. IsLong h.0 MOST_TABLE_BYTES) (tables_of s.command) no_rows before.left after.left (λ r a b k. k.1) h.1 in
-      (subst (λ (t : Table). ReachedAmong s (tables_of s.command) t (λ _. IsLong t MOST_TABLE_BYTES) no_rows before.left after.left) (sym same) long, tt)
+      let same : u ≡ h.0 = reached-holds s h.0 (Ends h.0 (Refused (refusal.LongTable u))) (u ≡ h.0) (tables_of s.command s.start) no_rows before.left after.left (λ r a b k. k.0) h.1 in
+      let long = reached-map s h.0 (Ends h.0 (Refused (refusal.LongTable u))) (λ _. IsLong h.0 MOST_TABLE_BYTES) (tables_of s.command s.start) no_rows before.left after.left (λ r a b k. k.1) h.1 in
+      (subst (λ (t : Table). ReachedAmong s (tables_of s.command s.start) t (λ _. IsLong t MOST_TABLE_BYTES) no_rows before.left after.left) (sym same) long, tt)
   among-in (Refused (refusal.Cells links steps)) h =
-      absurd (reached-holds s h.0 (Ends h.0 (Refused (refusal.Cells links steps))) ⊥ (tables_of s.command) no_rows before.left after.left (λ r a b k. k) h.1)
+      absurd (reached-holds s h.0 (Ends h.0 (Refused (refusal.Cells links steps))) ⊥ (tables_of s.command s.start) no_rows before.left after.left (λ r a b k. k) h.1)
   among-in (Refused (refusal.Vehicles line total)) h =
-      absurd (reached-holds s h.0 (Ends h.0 (Refused (refusal.Vehicles line total))) ⊥ (tables_of s.command) no_rows before.left after.left (λ r a b k. k) h.1)
+      absurd (reached-holds s h.0 (Ends h.0 (Refused (refusal.Vehicles line total))) ⊥ (tables_of s.command s.start) no_rows before.left after.left (λ r a b k. k) h.1)
   among-in (Refused (refusal.SkimPairs number)) h =
-      absurd (reached-holds s h.0 (Ends h.0 (Refused (refusal.SkimPairs number))) ⊥ (tables_of s.command) no_rows before.left after.left (λ r a b k. k) h.1)
+      absurd (reached-holds s h.0 (Ends h.0 (Refused (refusal.SkimPairs number))) ⊥ (tables_of s.command s.start) no_rows before.left after.left (λ r a b k. k) h.1)
 
   -- the sizes of accepted tables, as the cause of the stop
-  pub job-in : (rows : TableRows) (stop : Stop) → Loads s.command → AreAccepted s (tables_of s.command) no_rows rows before.left after.left
+  pub job-in : (rows : TableRows) (stop : Stop) → Loads s.command → AreAccepted s (tables_of s.command s.start) no_rows rows before.left after.left
       → StopsJob s rows stop → StopsIn s stop before after
   job-in rows Memory loads read h = inr (inr (record { rows = rows; read = read; part = tt }))
   job-in rows (Refused refusal.Usage) loads read h = absurd h
@@ -108,7 +131,7 @@ module _ (s : Settings) (before after : DeskState) where
   job-in rows (Refused (refusal.SkimPairs number)) loads read h = absurd h
 
   -- and those of a skim's tables
-  pub skim-in : (rows : TableRows) (stop : Stop) → s.command ≡ command.Skim → AreAccepted s (tables_of s.command) no_rows rows before.left after.left
+  pub skim-in : (rows : TableRows) (stop : Stop) → s.command ≡ command.Skim → AreAccepted s (tables_of s.command s.start) no_rows rows before.left after.left
       → StopsSkim s rows stop → StopsIn s stop before after
   skim-in rows Memory asks read h = inr (inr (record { rows = rows; read = read; part = tt }))
   skim-in rows (Refused refusal.Usage) asks read h = absurd h
@@ -121,7 +144,7 @@ module _ (s : Settings) (before after : DeskState) where
 
 -- the same at a desk that is the source itself
 pub own-stops : (s : Settings) (stop : Stop) (before after : DeskState)
-    → read_tables s.command ≡ tables_of s.command → source s.command before.left ≡ before.left
+    → read_tables s.command s.start ≡ tables_of s.command s.start → source s.command before.left ≡ before.left
     → LeavesOf s.command after.left before.left after.left → StopsIn s stop before after → Stops s stop before after
 own-stops s Memory before after all from leaves h = record { rest = after.left; leaves = leaves; part = subst (λ l. IsCutIn s l after.left) (sym from) h }
 own-stops s (Refused r) before after all from leaves h =
@@ -131,7 +154,7 @@ own-stops s (Refused r) before after all from leaves h =
 
 -- a command that reads its tables of the desk
 abbrev ReadsDesk : Command → Type 0
-ReadsDesk c = (read_tables c ≡ tables_of c) × ((left : Left) → source c left ≡ left) × ((rest before : Left) → LeavesOf c rest before rest)
+ReadsDesk c = ((start : Bool) → read_tables c start ≡ tables_of c start) × ((left : Left) → source c left ≡ left) × ((rest before : Left) → LeavesOf c rest before rest)
 
 at-desk : (s : Settings) (c : Command) → s.command ≡ c → ReadsDesk c → ReadsDesk s.command
 at-desk s c asks reads = subst ReadsDesk (sym asks) reads
@@ -139,17 +162,17 @@ at-desk s c asks reads = subst ReadsDesk (sym asks) reads
 module _ {T : Type 0} (s : Settings) (r : Result T Stop) (before after : DeskState) where
   stop-at-desk : ReadsDesk s.command → IfErr r (λ stop. StopsIn s stop before after) → IfErr r (λ stop. Stops s stop before after)
   stop-at-desk reads h = IfErr-weaker r (λ stop. StopsIn s stop before after) (λ stop. Stops s stop before after)
-      (λ stop k. own-stops s stop before after reads.0 (reads.1 before.left) (reads.2 after.left before.left) k) h
+      (λ stop k. own-stops s stop before after (reads.0 s.start) (reads.1 before.left) (reads.2 after.left before.left) k) h
 
   pub free-stop : s.command ≡ command.Freeflow → IfErr r (λ stop. StopsIn s stop before after) → IfErr r (λ stop. Stops s stop before after)
-  free-stop asks h = stop-at-desk (at-desk s command.Freeflow asks (refl, λ left. refl, λ rest before. refl)) h
+  free-stop asks h = stop-at-desk (at-desk s command.Freeflow asks (λ start. refl, λ left. refl, λ rest before. refl)) h
 
   pub loaded-stop : (s.command ≡ command.Assign) ⊎ (s.command ≡ command.Counts) → IfErr r (λ stop. StopsIn s stop before after) → IfErr r (λ stop. Stops s stop before after)
-  loaded-stop (inl asks) h = stop-at-desk (at-desk s command.Assign asks (refl, λ left. refl, λ rest before. refl)) h
-  loaded-stop (inr asks) h = stop-at-desk (at-desk s command.Counts asks (refl, λ left. refl, λ rest before. refl)) h
+  loaded-stop (inl asks) h = stop-at-desk (at-desk s command.Assign asks (λ start. refl, λ left. refl, λ rest before. refl)) h
+  loaded-stop (inr asks) h = stop-at-desk (at-desk s command.Counts asks (λ start. refl, λ left. refl, λ rest before. refl)) h
 
   pub skim-stop : s.command ≡ command.Skim → IfErr r (λ stop. StopsIn s stop before after) → IfErr r (λ stop. Stops s stop before after)
-  skim-stop asks h = stop-at-desk (at-desk s command.Skim asks (refl, λ left. refl, λ rest before. refl)) h
+  skim-stop asks h = stop-at-desk (at-desk s command.Skim asks (λ start. refl, λ left. refl, λ rest before. refl)) h
 
 -- the job of a desk that is the source itself
 own-job : (s : Settings) (r : Result JobRows Stop) (before after : Left) → source s.command before ≡ before
@@ -164,14 +187,14 @@ module _ (s : Settings) (r : Result JobRows Stop) (before after : Left) where
   own-at-desk reads = own-job s r before after (reads.1 before) (reads.2 after before)
 
   pub free-own : s.command ≡ command.Freeflow → IfOk r (λ job. IsJobOf s job before after) → IfOk r (λ job. IsAcceptedJob s job before after)
-  free-own asks = own-at-desk (at-desk s command.Freeflow asks (refl, λ left. refl, λ rest before. refl))
+  free-own asks = own-at-desk (at-desk s command.Freeflow asks (λ start. refl, λ left. refl, λ rest before. refl))
 
   pub loaded-own : (s.command ≡ command.Assign) ⊎ (s.command ≡ command.Counts) → IfOk r (λ job. IsJobOf s job before after) → IfOk r (λ job. IsAcceptedJob s job before after)
-  loaded-own (inl asks) = own-at-desk (at-desk s command.Assign asks (refl, λ left. refl, λ rest before. refl))
-  loaded-own (inr asks) = own-at-desk (at-desk s command.Counts asks (refl, λ left. refl, λ rest before. refl))
+  loaded-own (inl asks) = own-at-desk (at-desk s command.Assign asks (λ start. refl, λ left. refl, λ rest before. refl))
+  loaded-own (inr asks) = own-at-desk (at-desk s command.Counts asks (λ start. refl, λ left. refl, λ rest before. refl))
 
   pub skim-own : s.command ≡ command.Skim → IfOk r (λ job. IsJobOf s job before after) → IfOk r (λ job. IsAcceptedJob s job before after)
-  skim-own asks = own-at-desk (at-desk s command.Skim asks (refl, λ left. refl, λ rest before. refl))
+  skim-own asks = own-at-desk (at-desk s command.Skim asks (λ start. refl, λ left. refl, λ rest before. refl))
 
 never-rose : Rose 0 0 → ⊥
 never-rose r = omega (arith, r)
@@ -221,18 +244,18 @@ module _ (s : Settings) (n : ℕ) (asks : s.command ≡ command.Demo n) where
   grid-stops Memory made later before after from m l same h =
       grid-reading (IsCutIn s) later.left before.left after.left same (subst (λ x. IsCutIn s x later.left) from h)
   grid-stops (Refused r) made later before after from m l same h =
-      let made_for = subst (λ x. IsCauseAmong (tables_of s.command) s r x later.left) from h.0 in
-      let own = any-tables s r (tables_of s.command) (read_tables s.command) grid_left later.left made later m l h.1 made_for in
+      let made_for = subst (λ x. IsCauseAmong (tables_of s.command s.start) s r x later.left) from h.0 in
+      let own = any-tables s r (tables_of s.command s.start) (read_tables s.command s.start) grid_left later.left made later m l h.1 made_for in
       (grid-reading (IsCauseIn s r) later.left before.left after.left same own, no-fault r made later before after m l h.1)
 
 -- ---- jobs
 
-pub full-tables : (c : Command) → Loads c → tables_of c ≡ table.Node ∷ table.Link ∷ table.Movement ∷ table.Demand ∷ []
-full-tables command.Freeflow loads = absurd loads
-full-tables command.Assign loads = refl
-full-tables (command.Demo n) loads = refl
-full-tables command.Skim loads = absurd loads
-full-tables command.Counts loads = refl
+pub full-tables : (c : Command) (start : Bool) → Loads c → tables_of c start ≡ loading_tables start
+full-tables command.Freeflow start loads = absurd loads
+full-tables command.Assign start loads = refl
+full-tables (command.Demo n) start loads = refl
+full-tables command.Skim start loads = absurd loads
+full-tables command.Counts start loads = refl
 
 within-of : (s : Settings) (rows : TableRows) (c : Command) → Loads c → HasRoom s rows × IsWithin rows.demand_cells → AreWithin c s rows
 within-of s rows command.Freeflow loads w = absurd loads
@@ -241,13 +264,13 @@ within-of s rows (command.Demo n) loads w = w
 within-of s rows command.Skim loads w = absurd loads
 within-of s rows command.Counts loads w = w
 
--- the job of all four tables
+-- the job of all tables
 pub full-job : (s : Settings) (rows : TableRows) (job : JobRows) (left rest : Left) → Loads s.command
-    → AreAccepted s (table.Node ∷ table.Link ∷ table.Movement ∷ table.Demand ∷ []) no_rows rows left rest
+    → AreAccepted s (loading_tables s.start) no_rows rows left rest
     → HasRoom s rows × IsWithin rows.demand_cells → job ≡ job_of s rows → IsJobOf s job left rest
 full-job s rows job left rest loads read within makes = record {
   rows = rows;
-  read = subst (λ (ts : List Table). AreAccepted s ts no_rows rows left rest) (sym (full-tables s.command loads)) read;
+  read = subst (λ (ts : List Table). AreAccepted s ts no_rows rows left rest) (sym (full-tables s.command s.start loads)) read;
   within = within-of s rows s.command loads within;
   makes = makes;
 }
@@ -257,30 +280,30 @@ full-made (Ok x) P Q K f k p = f x k p
 full-made (Err e) P Q K f k p = tt
 
 pub full-jobs : {E : Type 0} (s : Settings) (rows : TableRows) (r : Result JobRows E) (left rest : Left) → Loads s.command
-    → AreAccepted s (table.Node ∷ table.Link ∷ table.Movement ∷ table.Demand ∷ []) no_rows rows left rest
+    → AreAccepted s (loading_tables s.start) no_rows rows left rest
     → OnOk r (HasRoom s rows × IsWithin rows.demand_cells) → IfOk r (λ job. job ≡ job_of s rows) → IfOk r (λ job. IsJobOf s job left rest)
 full-jobs s rows r left rest loads read within makes =
     full-made r (λ job. job ≡ job_of s rows) (λ job. IsJobOf s job left rest) (HasRoom s rows × IsWithin rows.demand_cells)
     (λ job w m. full-job s rows job left rest loads read w m) within makes
 
--- what stopped the reading of all four tables, or was over their rows
+-- what stopped the reading of all tables, or was over their rows
 module _ (s : Settings) (loads : Loads s.command) (before after : DeskState) where
-  pub among-full : (stop : Stop) → StopsAmong s (table.Node ∷ table.Link ∷ table.Movement ∷ table.Demand ∷ []) no_rows stop before after → StopsIn s stop before after
-  among-full stop h = among-in s before after stop (subst (λ (ts : List Table). StopsAmong s ts no_rows stop before after) (sym (full-tables s.command loads)) h)
+  pub among-full : (stop : Stop) → StopsAmong s (loading_tables s.start) no_rows stop before after → StopsIn s stop before after
+  among-full stop h = among-in s before after stop (subst (λ (ts : List Table). StopsAmong s ts no_rows stop before after) (sym (full-tables s.command s.start loads)) h)
 
   pub sized : {T : Type 0} (rows : TableRows) (r : Result T Stop)
-      → AreAccepted s (table.Node ∷ table.Link ∷ table.Movement ∷ table.Demand ∷ []) no_rows rows before.left after.left
+      → AreAccepted s (loading_tables s.start) no_rows rows before.left after.left
       → IfErr r (StopsJob s rows) → IfErr r (λ stop. StopsIn s stop before after)
   sized rows r read h = IfErr-weaker r (StopsJob s rows) (λ stop. StopsIn s stop before after)
-      (λ stop k. job-in s before after rows stop loads (subst (λ (ts : List Table). AreAccepted s ts no_rows rows before.left after.left) (sym (full-tables s.command loads)) read) k) h
+      (λ stop k. job-in s before after rows stop loads (subst (λ (ts : List Table). AreAccepted s ts no_rows rows before.left after.left) (sym (full-tables s.command s.start loads)) read) k) h
 
 -- the tables of `freeflow`
-module _ (s : Settings) (asks : s.command ≡ command.Freeflow) (nodes : List NodeRow) (links : List LinkRow) (left rest : Left)
+module _ (s : Settings) (asks : s.command ≡ command.Freeflow) (nodes : List NodeRow) (links : List (WithWindows LinkRow)) (left rest : Left)
     (read : AreAccepted s (table.Node ∷ table.Link ∷ []) no_rows (road_rows nodes links) left rest) where
-  free-read : AreAccepted s (tables_of s.command) no_rows (road_rows nodes links) left rest
-  free-read = subst (λ (c : Command). AreAccepted s (tables_of c) no_rows (road_rows nodes links) left rest) (sym asks) read
+  free-read : AreAccepted s (tables_of s.command s.start) no_rows (road_rows nodes links) left rest
+  free-read = subst (λ (c : Command). AreAccepted s (tables_of c s.start) no_rows (road_rows nodes links) left rest) (sym asks) read
 
-  pub free-job : IsJobOf s (record { net = record { nodes = nodes; links = links; turns = [] }; trips = []; times = [] }) left rest
+  pub free-job : IsJobOf s (record { net = net_rows nodes links []; trips = []; start = []; times = [] }) left rest
   free-job = record {
     rows = road_rows nodes links;
     read = free-read;
@@ -293,16 +316,16 @@ module _ (s : Settings) (asks : s.command ≡ command.Freeflow) (nodes : List No
 
 -- the tables of a skim
 module _ (s : Settings) (asks : s.command ≡ command.Skim) where
-  pub skim-read : (rows : TableRows) (left rest : Left) → AreAccepted s skim_tables no_rows rows left rest → AreAccepted s (tables_of s.command) no_rows rows left rest
-  skim-read rows left rest read = subst (λ (c : Command). AreAccepted s (tables_of c) no_rows rows left rest) (sym asks) read
+  pub skim-read : (rows : TableRows) (left rest : Left) → AreAccepted s skim_tables no_rows rows left rest → AreAccepted s (tables_of s.command s.start) no_rows rows left rest
+  skim-read rows left rest read = subst (λ (c : Command). AreAccepted s (tables_of c s.start) no_rows rows left rest) (sym asks) read
 
   pub skim-job : (rows : TableRows) (left rest : Left) → AreAccepted s skim_tables no_rows rows left rest → AreWithin command.Skim s rows
-      → rows.demand_cells ≡ [] → IsJobOf s (record { net = net_of rows; trips = []; times = rows.times }) left rest
-  skim-job rows left rest read within none = record {
+      → rows.demand_cells ≡ [] → rows.start ≡ [] → IsJobOf s (record { net = net_of rows; trips = []; start = []; times = rows.times }) left rest
+  skim-job rows left rest read within none unstarted = record {
     rows = rows;
     read = skim-read rows left rest read;
     within = subst (λ (c : Command). AreWithin c s rows) (sym asks) within;
-    makes = rw (none, trips_of-none s.period) refl;
+    makes = rw (none, unstarted, trips_of-none s.period) refl;
   }
 
   module _ (before after : DeskState) where
@@ -311,10 +334,10 @@ module _ (s : Settings) (asks : s.command ≡ command.Skim) where
     skim-starved rows read =
         let reached = reached-then s table.Times (λ _. IsBegun table.Times) network_tables (table.Times ∷ []) no_rows rows before.left after.left after.left read
         (inl (refl, record { bytes = []; read = sym (before_left-empty table.Times after.left) })) in
-        inr (inl (table.Times, subst (λ (c : Command). ReachedAmong s (tables_of c) table.Times (λ _. IsBegun table.Times) no_rows before.left after.left) (sym asks) reached))
+        inr (inl (table.Times, subst (λ (c : Command). ReachedAmong s (tables_of c s.start) table.Times (λ _. IsBegun table.Times) no_rows before.left after.left) (sym asks) reached))
 
     pub among-skim : (stop : Stop) → StopsAmong s skim_tables no_rows stop before after → StopsIn s stop before after
-    among-skim stop h = among-in s before after stop (subst (λ (c : Command). StopsAmong s (tables_of c) no_rows stop before after) (sym asks) h)
+    among-skim stop h = among-in s before after stop (subst (λ (c : Command). StopsAmong s (tables_of c s.start) no_rows stop before after) (sym asks) h)
 
     pub skim-sized : {T : Type 0} (rows : TableRows) (r : Result T Stop) → AreAccepted s skim_tables no_rows rows before.left after.left
         → IfErr r (StopsSkim s rows) → IfErr r (λ stop. StopsIn s stop before after)

@@ -1,7 +1,7 @@
 -- Texts that go out one after another.
 use Rattle.std.proofs.Common.{◌≡◌, ℕ, zero, suc, ◌+◌, ◌≤◌, Bool, true, false, List, [], ◌∷◌, ◌++◌, length}
 use Rattle.std.proofs.Common.{refl, ap, sym, subst, ◌∙◌, arith, rules, inl, inr}
-use Rattle.std.specs.Prelude.{count_by, nat_lt}
+use Rattle.std.specs.Prelude.{Option, Some, count_by, nat_lt}
 use Rattle.std.proofs.lemmas.List.FromFn.{length-range_with_len}
 use Rattle.std.proofs.lemmas.List.Sums.{count_by-le-length}
 use Rattle.net_core.specs.Network.{numbers_below}
@@ -23,7 +23,7 @@ use Rattle.dta.specs.Assignment.{VehicleRoutes, end_of}
 use Rattle.counts.specs.Through.{through_counts}
 use Rattle.counts.specs.Turns.{turn_counts}
 use Rattle.dta.specs.Jobs.{JobRows, plan_of}
-use Rattle.dta.specs.Outputs.{AreToldSteps, AreWatchLines, AreWatchTexts, IsCutOff, OutText, end_lines}
+use Rattle.dta.specs.Outputs.{AreSinceTold, AreToldSteps, AreWatchLines, AreWatchTexts, IsCutOff, OutText, end_lines}
 use Rattle.dta.specs.Outputs.{counts_out, grown_by, last_texts, summary_of, table_texts, text_to}
 
 -- some texts went out, and then others
@@ -144,44 +144,50 @@ grown-one o text before now e = e
 pub cut-one : (o : Output) (text : List ℕ) (before now : Taken) → IsPartOut o text before now → IsCutOff (text_to o text ∷ []) before now
 cut-one o text before now part = inl part
 
+-- there is an iteration for each vehicle, where they are told
+pub told-many : (start : Bool) (s : Settings) (job : JobRows) (numbers : List ℕ) → AreSinceTold start s job (Some numbers)
+    → length numbers ≡ length job.trips
+told-many false s job numbers told = absurd cc
+told-many true s job numbers told = told.as_many
+
 pub ruleset parts = (grown-append, cut-later, grown-one, cut-one)
 
 -- the texts after the last iteration
-module _ (s : Settings) (job : JobRows) (r : VehicleRoutes) (lines : List GapLine) (line : GapLine) where
+module _ (s : Settings) (job : JobRows) (r : VehicleRoutes) (since : Option (List ℕ)) (lines : List GapLine) (line : GapLine) where
   -- the tables and then the report went out
   pub tables-reported : (k : Command) (before mid now : Taken) → k ≡ command.Assign
-      → mid ≡ grown_by (table_texts s job r lines) before
+      → mid ≡ grown_by (table_texts s job r since lines) before
       → now ≡ grown output.Report (report_text (summary_of s job r line)) mid
-      → now ≡ grown_by (last_texts k s job r lines line) before
+      → now ≡ grown_by (last_texts k s job r since lines line) before
   tables-reported k before mid now e tables report =
       rw e (report ∙ ap (grown output.Report (report_text (summary_of s job r line))) tables
-      ∙ sym (grown-append (table_texts s job r lines) (text_to output.Report (report_text (summary_of s job r line)) ∷ []) before))
+      ∙ sym (grown-append (table_texts s job r since lines) (text_to output.Report (report_text (summary_of s job r line)) ∷ []) before))
 
   -- the report was cut off after the tables
   pub report-cut : (k : Command) (before mid now : Taken) → k ≡ command.Assign
-      → mid ≡ grown_by (table_texts s job r lines) before
+      → mid ≡ grown_by (table_texts s job r since lines) before
       → IsPartOut output.Report (report_text (summary_of s job r line)) mid now
-      → IsCutOff (last_texts k s job r lines line) before now
+      → IsCutOff (last_texts k s job r since lines line) before now
   report-cut k before mid now e tables part =
-      rw e (cut-later (table_texts s job r lines) (text_to output.Report (report_text (summary_of s job r line)) ∷ []) before now
+      rw e (cut-later (table_texts s job r since lines) (text_to output.Report (report_text (summary_of s job r line)) ∷ []) before now
       (rw (← tables) (cut-one output.Report (report_text (summary_of s job r line)) mid now part)))
 
   -- the tables were cut off
   pub tables-cut : (k : Command) (before now : Taken) → k ≡ command.Assign
-      → IsCutOff (table_texts s job r lines) before now
-      → IsCutOff (last_texts k s job r lines line) before now
+      → IsCutOff (table_texts s job r since lines) before now
+      → IsCutOff (last_texts k s job r since lines line) before now
   tables-cut k before now e cut =
-      rw e (cut-sooner (table_texts s job r lines) (text_to output.Report (report_text (summary_of s job r line)) ∷ []) before now cut)
+      rw e (cut-sooner (table_texts s job r since lines) (text_to output.Report (report_text (summary_of s job r line)) ∷ []) before now cut)
 
   -- the report of a demonstration went out, or was cut off
   pub demo-reported : (k : Command) (n : ℕ) (before now : Taken) → k ≡ command.Demo n
       → now ≡ grown output.Report (report_text (summary_of s job r line)) before
-      → now ≡ grown_by (last_texts k s job r lines line) before
+      → now ≡ grown_by (last_texts k s job r since lines line) before
   demo-reported k n before now e report = rw e report
 
   pub demo-cut : (k : Command) (n : ℕ) (before now : Taken) → k ≡ command.Demo n
       → IsPartOut output.Report (report_text (summary_of s job r line)) before now
-      → IsCutOff (last_texts k s job r lines line) before now
+      → IsCutOff (last_texts k s job r since lines line) before now
   demo-cut k n before now e part = rw e (cut-one output.Report (report_text (summary_of s job r line)) before now part)
 
   -- the counts and then the report went out
@@ -191,14 +197,14 @@ module _ (s : Settings) (job : JobRows) (r : VehicleRoutes) (lines : List GapLin
 
     pub counts-reported : mid ≡ grown_by counted before
         → now ≡ grown output.Report (report_text (summary_of s job r line)) mid
-        → now ≡ grown_by (last_texts k s job r lines line) before
+        → now ≡ grown_by (last_texts k s job r since lines line) before
     counts-reported counts report =
         rw asks (report ∙ ap (grown output.Report (report_text (summary_of s job r line))) counts)
 
     -- the report was cut off after the counts
     pub counts-report-cut : mid ≡ grown_by counted before
         → IsPartOut output.Report (report_text (summary_of s job r line)) mid now
-        → IsCutOff (last_texts k s job r lines line) before now
+        → IsCutOff (last_texts k s job r since lines line) before now
     counts-report-cut counts part =
         rw asks (cut-later counted (text_to output.Report (report_text (summary_of s job r line)) ∷ []) before now
         (rw (← counts) (cut-one output.Report (report_text (summary_of s job r line)) mid now part)))
@@ -206,7 +212,7 @@ module _ (s : Settings) (job : JobRows) (r : VehicleRoutes) (lines : List GapLin
   -- the counts were cut off
   pub counts-cut : (k : Command) (before now : Taken) → k ≡ command.Counts
       → IsCutOff (counts_out s job (turn_counts (plan_of s job r) s.bucket) (through_counts (plan_of s job r)) ∷ []) before now
-      → IsCutOff (last_texts k s job r lines line) before now
+      → IsCutOff (last_texts k s job r since lines line) before now
   counts-cut k before now e cut =
       rw e (cut-sooner (counts_out s job (turn_counts (plan_of s job r) s.bucket) (through_counts (plan_of s job r)) ∷ [])
       (text_to output.Report (report_text (summary_of s job r line)) ∷ []) before now cut)
@@ -214,23 +220,23 @@ module _ (s : Settings) (job : JobRows) (r : VehicleRoutes) (lines : List GapLin
   -- and so of another command
   pub skim-reported : (k : Command) (before now : Taken) → k ≡ command.Skim
       → now ≡ grown output.Report (report_text (summary_of s job r line)) before
-      → now ≡ grown_by (last_texts k s job r lines line) before
+      → now ≡ grown_by (last_texts k s job r since lines line) before
   skim-reported k before now e report = rw e report
 
   pub skim-cut : (k : Command) (before now : Taken) → k ≡ command.Skim
       → IsPartOut output.Report (report_text (summary_of s job r line)) before now
-      → IsCutOff (last_texts k s job r lines line) before now
+      → IsCutOff (last_texts k s job r since lines line) before now
   skim-cut k before now e part =
       rw e (cut-one output.Report (report_text (summary_of s job r line)) before now part)
 
   pub free-reported : (k : Command) (before now : Taken) → k ≡ command.Freeflow
       → now ≡ grown output.Report (report_text (summary_of s job r line)) before
-      → now ≡ grown_by (last_texts k s job r lines line) before
+      → now ≡ grown_by (last_texts k s job r since lines line) before
   free-reported k before now e report = rw e report
 
   pub free-cut : (k : Command) (before now : Taken) → k ≡ command.Freeflow
       → IsPartOut output.Report (report_text (summary_of s job r line)) before now
-      → IsCutOff (last_texts k s job r lines line) before now
+      → IsCutOff (last_texts k s job r since lines line) before now
   free-cut k before now e part =
       rw e (cut-one output.Report (report_text (summary_of s job r line)) before now part)
 

@@ -17,6 +17,7 @@ use Rattle.skims.specs.Skim.{IsSkim}
 use Rattle.skims.specs.Texts.{IsCutShort as IsSkimCut, IsSkimOut}
 use Rattle.skims.specs.declared.skim_entry.SkimEntry.{SkimEntry}
 use Rattle.dta_model.specs.LinkTimes.{time_at}
+use Rattle.route_flows.specs.Starts.{AreStartRows}
 use Rattle.dta.specs.Jobs.{IsAcceptedJob, JobRows, Loads}
 use Rattle.dta.specs.Outcome.{DeskState, IsCause, IsCutShort, IsRefused, Means, ReportsLine, Works}
 use Rattle.dta.specs.Outputs.{AreAssigned, AreSkimmed, AreTexts, AreTextsSoFar, AreWatched, IsCutOff, OutText, free_texts, grown_by, last_texts, skim_texts}
@@ -61,7 +62,7 @@ module _ (s : Settings) (job : JobRows) (loads : Loads s.command) where
   -- all texts of an assignment whose iterations are done
   module _ (x : Assigned) (start now : Taken) (a : IsAssigned s job x start now) where
     abbrev last : List OutText
-    last = last_texts s.command s job x.routes x.lines.items x.line
+    last = last_texts s.command s job x.routes x.since x.lines.items x.line
 
     assigned-texts : AreAssigned s job (a.texts ++ last)
     assigned-texts = record {
@@ -74,6 +75,8 @@ module _ (s : Settings) (job : JobRows) (loads : Loads s.command) where
       with_gaps = ap length a.lines_are ∙ length-append a.before (x.line ∷ []) ∙ ap (λ n. n + 1) a.with_gaps ∙ a.as_many;
       last_routes = ap (λ n. slice_get (a.done ++ x.routes ∷ []) n) (omega (arith, a.as_many)) ∙ get-seam a.done x.routes;
       last_line = ap (λ xs. slice_get xs (s.iterations - 1)) a.lines_are ∙ ap (λ n. slice_get (a.before ++ x.line ∷ []) n) (omega (arith, a.as_many, a.with_gaps)) ∙ get-seam a.before x.line;
+      since = x.since;
+      since_told = a.since_told;
       watched = a.texts;
       watch_lines = a.watch_lines;
       texts_are = refl;
@@ -122,18 +125,18 @@ module _ (s : Settings) (job : JobRows) (asks : s.command ≡ command.Skim) (ent
       (skim_texts job.net entries, subst (λ (c : Command). AreTextsSoFar c s job (skim_texts job.net entries)) (sym asks) skimmed, inr (inl part))
 
 -- no iteration, and so no watch line
-nothing-watched : (s : Settings) (job : JobRows) → AreWatched s job []
-nothing-watched s job = record {
+nothing-watched : (s : Settings) (job : JobRows) → AreStartRows job.start → AreWatched s job []
+nothing-watched s job rows = record {
   routes = [];
   lines = [];
-  iterations = record { first = λ r e. absurd cc; next = λ i old new e f. absurd cc; gaps = λ i r line e f. absurd cc };
+  iterations = record { start = rows; first = λ r e. absurd cc; next = λ i old new e f. absurd cc; gaps = λ i r line e f. absurd cc };
   few = omega arith;
   watch_lines = refl;
 }
 
 -- nothing was put
-pub skim-starved : (s : Settings) (job : JobRows) (taken : Taken) → Works s job status.Memory taken taken
-skim-starved s job taken = ([], nothing-watched s job, refl)
+pub skim-starved : (s : Settings) (job : JobRows) (taken : Taken) → AreStartRows job.start → Works s job status.Memory taken taken
+skim-starved s job taken rows = ([], nothing-watched s job rows, refl)
 
 -- ---- the answer
 

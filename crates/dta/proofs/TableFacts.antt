@@ -1,6 +1,6 @@
 -- The first fault of a table stands in that table, and reading stops there.
-use Rattle.std.proofs.Common.{◌≡◌, ℕ, ◌+◌, ◌≤◌, List, [], ◌∷◌, ◌++◌, length, refl, sym, ap, subst, true, false}
-use Rattle.std.specs.Prelude.{Option, Result, Ok, Err, nat_lt}
+use Rattle.std.proofs.Common.{◌≡◌, ℕ, ◌+◌, ◌≤◌, List, [], ◌∷◌, ◌++◌, length, refl, sym, ap, subst, true, false, arith}
+use Rattle.std.specs.Prelude.{All, Option, Result, Ok, Err, nat_lt}
 use Rattle.std.proofs.Common.{Vec}
 use Rattle.std.specs.declared.alloc.Global.{Global}
 use Rattle.desk_io.specs.declared.desk.Table.{Table}
@@ -25,14 +25,22 @@ use Rattle.dta_model.specs.declared.trip.DemandCell.{DemandCell}
 use Rattle.net_core.specs.declared.rows.TheConstants.{MOST_LINKS, MOST_NODES, MOST_TURNS}
 use Rattle.gmns_tables.specs.Links.{link_of, link_places, link_verdict}
 use Rattle.gmns_tables.specs.Movements.{movement_of, movement_places}
-use Rattle.gmns_tables.specs.Net.{listed_turns}
+use Rattle.gmns_tables.specs.Net.{listed_turns, net_rows}
+use Rattle.gmns_tables.specs.RowsWithWindows.{AreLinkRows, AreTurnRows, rows_of}
+use Rattle.std.proofs.lemmas.List.{length-map}
+use Rattle.net_core.specs.Network.{IsNet}
+use Rattle.net_core.specs.Rows.{AreNodes, IsBetween, IsTurning}
+use Rattle.gmns_tables.specs.declared.with_windows.WithWindows.{WithWindows}
 use Rattle.gmns_tables.specs.Nodes.{node_of, node_places, node_verdict}
 use Rattle.demand.specs.DemandRows.{demand_cell_of, demand_places, demand_verdict}
+use Rattle.route_flows.specs.StartTable.{start_places, start_row_of, start_verdict}
+use Rattle.route_flows.specs.declared.start_rows.StartRow.{StartRow}
+use Rattle.route_flows.specs.declared.start_rows.TheConstants.{MOST_START_ROWS}
 use Rattle.demand.specs.declared.demand_rows.TheConstants.{MOST_DEMAND_CELLS}
 use Rattle.desk_io.specs.declared.transfers.TheConstants.{MOST_TABLE_BYTES}
 use Rattle.dta.specs.Outcome.{DeskState}
 use Rattle.dta.specs.Stops.{StopsAt, stop_of}
-use Rattle.dta.specs.Calls.{rows_in_roads, rows_with_turns, with_demand_cells, with_time_rows}
+use Rattle.dta.specs.Calls.{rows_in_roads, rows_with_turns, with_demand_cells, with_start_rows, with_time_rows}
 use Rattle.skims.specs.TimesTable.{none_missing, row_count, time_row_of, times_places, times_verdict}
 use Rattle.skims.specs.declared.times_table.TheConstants.{MOST_TIME_ROWS}
 use Rattle.skims.specs.declared.time_rows.TimeRow.{TimeRow}
@@ -90,7 +98,7 @@ links-told settings rows bytes refusal.Memory told = tt
 turns-table : (settings : Settings) (rows : TableRows) (bytes : List ℕ) (f : TableFault) → turns_of settings rows bytes ≡ Err f → f.table ≡ table.Movement
 turns-table settings rows [] f told = absurd cc
 turns-table settings rows (b ∷ bytes) f told =
-    verdict-table table.Movement MOST_TURNS movement_places (movement_of rows.nodes rows.links settings.units) (records (b ∷ bytes)) f told
+    verdict-table table.Movement MOST_TURNS movement_places (movement_of rows.nodes (rows_of rows.links) settings.units) (records (b ∷ bytes)) f told
 
 turns-told : (settings : Settings) (rows : TableRows) (bytes : List ℕ) (why : TableRefusal) → Tells (turns_of settings rows bytes) (Err why)
     → IsToldBy settings table.Movement rows bytes why
@@ -102,6 +110,12 @@ demand_cells-told : (settings : Settings) (rows : TableRows) (bytes : List ℕ) 
 demand_cells-told settings rows bytes (refusal.Fault f) told =
     (rw (told) refl, verdict-table table.Demand MOST_DEMAND_CELLS demand_places demand_cell_of (records bytes) f told)
 demand_cells-told settings rows bytes refusal.Memory told = tt
+
+start-told : (settings : Settings) (rows : TableRows) (bytes : List ℕ) (why : TableRefusal) → Tells (start_verdict (records bytes)) (Err why)
+    → IsToldBy settings table.Start rows bytes why
+start-told settings rows bytes (refusal.Fault f) told =
+    (rw (told) refl, verdict-table table.Start MOST_START_ROWS start_places start_row_of (records bytes) f told)
+start-told settings rows bytes refusal.Memory told = tt
 
 -- the fault of missing link times, and of those that are there
 missing-table : (n : ℕ) (r : Result (List TimeRow) TableFault) (f : TableFault) → ((g : TableFault) → r ≡ Err g → g.table ≡ table.Times)
@@ -144,6 +158,11 @@ pub demand_cells-stop : (settings : Settings) (rows : TableRows) (bytes text : L
 demand_cells-stop settings rows bytes text before after why read short same told =
     stop-at settings table.Demand rows bytes before after why read short (demand_cells-told settings rows bytes why (subst (λ x. Tells (demand_verdict (records x)) (Err why)) same told))
 
+pub start-stop : (settings : Settings) (rows : TableRows) (bytes text : List ℕ) (before after : DeskState) (why : TableRefusal) → IsRead table.Start bytes before.left after.left
+    → length bytes ≤ MOST_TABLE_BYTES → text ≡ bytes → Tells (start_verdict (records text)) (Err why) → StopsAt settings table.Start rows (stop_of why) before after
+start-stop settings rows bytes text before after why read short same told =
+    stop-at settings table.Start rows bytes before after why read short (start-told settings rows bytes why (subst (λ x. Tells (start_verdict (records x)) (Err why)) same told))
+
 pub times-stop : (settings : Settings) (rows : TableRows) (net : NetRows) (bytes text : List ℕ) (before after : DeskState) (why : TableRefusal)
     → net_of rows ≡ net → IsRead table.Times bytes before.left after.left → length bytes ≤ MOST_TABLE_BYTES → text ≡ bytes
     → Tells (times_verdict net settings.bucket settings.horizon (records text)) (Err why) → StopsAt settings table.Times rows (stop_of why) before after
@@ -164,7 +183,7 @@ nodes-accepted settings bytes text nodes before after read short same is =
     subst (λ x. node_verdict (records x) ≡ Ok nodes) same is in
     record { bytes = bytes; read = read; short = short; accepted = rw k refl }
 
-pub links-accepted : (settings : Settings) (nodes : List NodeRow) (bytes text : List ℕ) (links : List LinkRow)
+pub links-accepted : (settings : Settings) (nodes : List NodeRow) (bytes text : List ℕ) (links : List (WithWindows LinkRow))
     (before after : Left) → IsRead table.Link bytes before after → length bytes ≤ MOST_TABLE_BYTES
     → text ≡ bytes → Tells (link_verdict nodes settings.units (records text)) (Ok links)
     → IsAccepted settings table.Link (road_rows nodes []) (road_rows nodes links) before after
@@ -174,7 +193,7 @@ links-accepted settings nodes bytes text links before after read short same is =
     record { bytes = bytes; read = read; short = short; accepted = rw k refl }
 
 pub turns-accepted : (settings : Settings) (roads : Roads) (bytes text : List ℕ)
-    (turns : Option (List TurnRow)) (before after : Left) → IsRead table.Movement bytes before after
+    (turns : Option (List (WithWindows TurnRow))) (before after : Left) → IsRead table.Movement bytes before after
     → length bytes ≤ MOST_TABLE_BYTES → text ≡ bytes
     → turns_of settings (rows_in_roads roads) text ≡ Ok (listed_turns turns)
     → IsAccepted settings table.Movement (rows_in_roads roads) (rows_with_turns roads turns) before after
@@ -192,6 +211,15 @@ demand_cells-accepted settings rows bytes text demand_cells before after read sh
     subst (λ x. demand_verdict (records x) ≡ Ok demand_cells.items) same is in
     record { bytes = bytes; read = read; short = short; accepted = rw k refl }
 
+pub start-accepted : (settings : Settings) (rows : TableRows) (bytes text : List ℕ)
+    (start : List StartRow) (before after : Left) → IsRead table.Start bytes before after
+    → length bytes ≤ MOST_TABLE_BYTES → text ≡ bytes → Tells (start_verdict (records text)) (Ok start)
+    → IsAccepted settings table.Start rows (with_start_rows rows start) before after
+start-accepted settings rows bytes text start before after read short same is =
+    let k : start_verdict (records bytes) ≡ Ok start =
+    subst (λ x. start_verdict (records x) ≡ Ok start) same is in
+    record { bytes = bytes; read = read; short = short; accepted = rw k refl }
+
 pub times-accepted : (settings : Settings) (rows : TableRows) (net : NetRows) (bytes text : List ℕ) (times : List TimeRow) (before after : Left)
     → net_of rows ≡ net → IsRead table.Times bytes before after → length bytes ≤ MOST_TABLE_BYTES → text ≡ bytes
     → times_verdict net settings.bucket settings.horizon (records text) ≡ Ok times
@@ -201,3 +229,21 @@ times-accepted settings rows net bytes text times before after over read short s
     subst (λ x. times_verdict (net_of rows) settings.bucket settings.horizon (records x) ≡ Ok times) same
     (subst (λ (n : NetRows). times_verdict n settings.bucket settings.horizon (records text) ≡ Ok times) (sym over) is) in
     record { bytes = bytes; read = read; short = short; accepted = rw k refl }
+
+-- ---- networks
+
+-- rows that were accepted one table after another make a network
+pub joined-net : (nodes : List NodeRow) (links : List (WithWindows LinkRow)) (turns : List (WithWindows TurnRow))
+    → AreNodes nodes → AreLinkRows links → All (IsBetween nodes) (rows_of links) → AreTurnRows turns
+    → All (IsTurning (rows_of links)) (rows_of turns) → IsNet (net_rows nodes links turns)
+joined-net nodes links turns named made between listed turning = record {
+  nodes = named;
+  links = made.rows;
+  between = between;
+  turns = listed.rows;
+  turning = turning;
+  link_windows = made.windows;
+  turn_windows = listed.windows;
+  of_links = (let a = length-map links (λ link. link.windows) in let b = length-map links (λ link. link.row) in omega (arith, a, b));
+  of_turns = (let a = length-map turns (λ turn. turn.windows) in let b = length-map turns (λ turn. turn.row) in omega (arith, a, b));
+}

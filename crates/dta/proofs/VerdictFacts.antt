@@ -5,7 +5,7 @@ use Rattle.std.specs.List.{range_with_len}
 use Rattle.std.proofs.lemmas.List.{append-nil}
 use Rattle.std.specs.Io.KnownBytes.{prepend_known, IsAtEnd}
 use Rattle.desk_io.specs.declared.desk.Table.{Table}
-use Rattle.desk_io.specs.declared.desk.Table.TheVariants.{Node, Link, Movement, Demand, Times}
+use Rattle.desk_io.specs.declared.desk.Table.TheVariants.{Node, Link, Movement, Demand, Start, Times}
 use Rattle.desk_io.specs.Desk.{Left, left_of, before_left}
 use Rattle.desk_io.specs.Transfers.{IsBegun, IsRead, IsLong}
 use Rattle.row_reader.specs.declared.faults.TableFault.{TableFault}
@@ -27,7 +27,7 @@ use Rattle.reports.specs.declared.refusal.TheConstants.{MOST_SKIM_ENTRIES}
 use Rattle.dta.specs.Jobs.{AreWithin, HasRoom, IsAcceptedJob, JobRows, Loads, job_of, read_tables, skim_entries, source, tables_of}
 use Rattle.dta.specs.Outcome.{AreCounted, Answers, DeskState, IsCause, IsHindered, IsReadBy, IsRefused, IsUnread, Means, ReadsFailed}
 use Rattle.dta.specs.Status.{refusal_status}
-use Rattle.dta.specs.Tables.{AreAccepted, AreTold, ReachedAmong, IsAccepted, IsFaulty, TableRows, no_rows, with_table}
+use Rattle.dta.specs.Tables.{AreAccepted, AreTold, ReachedAmong, IsAccepted, IsFaulty, TableRows, loading_tables, no_rows, with_table}
 use Rattle.dta.specs.Verdict.{Verdict, Refused, Accepted, AreToldBy, first_above, texts_of, verdict, verdict_by, verdict_on, verdict_on_rows, verdict_on_sizes, verdict_on_skim}
 
 -- ---- what was read is what is told
@@ -46,6 +46,7 @@ its-own Node bytes left = refl
 its-own Link bytes left = refl
 its-own Movement bytes left = refl
 its-own Demand bytes left = refl
+its-own Start bytes left = refl
 its-own Times bytes left = refl
 
 -- and what is left of another table
@@ -54,6 +55,7 @@ another Node Node bytes left n = absurd (n refl)
 another Link Link bytes left n = absurd (n refl)
 another Movement Movement bytes left n = absurd (n refl)
 another Demand Demand bytes left n = absurd (n refl)
+another Start Start bytes left n = absurd (n refl)
 another Times Times bytes left n = absurd (n refl)
 another t u bytes left n = refl
 
@@ -264,42 +266,48 @@ on-many-vehicles s rows line total room h =
 
 -- ---- the verdict of a run whose words are in the grammar
 
-distinct : (c : Command) → AreDistinct (tables_of c)
-distinct command.Freeflow = ((λ e. absurd cc, tt), (tt, tt))
-distinct command.Assign =
+distinct-loading : (start : Bool) → AreDistinct (loading_tables start)
+distinct-loading false =
     ((λ e. absurd cc, (λ e. absurd cc, (λ e. absurd cc, tt))), ((λ e. absurd cc, (λ e. absurd cc, tt)), ((λ e. absurd cc, tt), (tt, tt))))
-distinct (command.Demo n) =
-    ((λ e. absurd cc, (λ e. absurd cc, (λ e. absurd cc, tt))), ((λ e. absurd cc, (λ e. absurd cc, tt)), ((λ e. absurd cc, tt), (tt, tt))))
-distinct command.Skim =
-    ((λ e. absurd cc, (λ e. absurd cc, (λ e. absurd cc, tt))), ((λ e. absurd cc, (λ e. absurd cc, tt)), ((λ e. absurd cc, tt), (tt, tt))))
-distinct command.Counts =
-    ((λ e. absurd cc, (λ e. absurd cc, (λ e. absurd cc, tt))), ((λ e. absurd cc, (λ e. absurd cc, tt)), ((λ e. absurd cc, tt), (tt, tt))))
+distinct-loading true = (
+  (λ e. absurd cc, (λ e. absurd cc, (λ e. absurd cc, (λ e. absurd cc, tt)))),
+  ((λ e. absurd cc, (λ e. absurd cc, (λ e. absurd cc, tt))), ((λ e. absurd cc, (λ e. absurd cc, tt)), ((λ e. absurd cc, tt), (tt, tt)))),
+)
 
-source-told : (c : Command) (left : Left) (texts : Table → List ℕ) → AreTold (read_tables c) left texts
-    → AreTold (tables_of c) (source c left) (texts_of c texts)
-source-told command.Freeflow left texts h = h
-source-told command.Assign left texts h = h
-source-told (command.Demo n) left texts h = (refl, (refl, (refl, (refl, tt))))
-source-told command.Skim left texts h = h
-source-told command.Counts left texts h = h
+distinct : (c : Command) (start : Bool) → AreDistinct (tables_of c start)
+distinct command.Freeflow start = ((λ e. absurd cc, tt), (tt, tt))
+distinct command.Assign start = distinct-loading start
+distinct (command.Demo n) start = distinct-loading start
+distinct command.Skim start =
+    ((λ e. absurd cc, (λ e. absurd cc, (λ e. absurd cc, tt))), ((λ e. absurd cc, (λ e. absurd cc, tt)), ((λ e. absurd cc, tt), (tt, tt))))
+distinct command.Counts start = distinct-loading start
+
+source-told : (c : Command) (start : Bool) (left : Left) (texts : Table → List ℕ) → AreTold (read_tables c start) left texts
+    → AreTold (tables_of c start) (source c left) (texts_of c texts)
+source-told command.Freeflow start left texts h = h
+source-told command.Assign start left texts h = h
+source-told (command.Demo n) false left texts h = (refl, (refl, (refl, (refl, tt))))
+source-told (command.Demo n) true left texts h = (refl, (refl, (refl, (refl, (refl, tt)))))
+source-told command.Skim start left texts h = h
+source-told command.Counts start left texts h = h
 
 -- the texts that these settings read are told
 abbrev pub AreAllTold : Settings → Left → (Table → List ℕ) → Type 0
-AreAllTold s left texts = AreTold (tables_of s.command) (source s.command left) (texts_of s.command texts)
+AreAllTold s left texts = AreTold (tables_of s.command s.start) (source s.command left) (texts_of s.command texts)
 
 pub verdict-job : (s : Settings) (job : JobRows) (texts : Table → List ℕ) (before after : Left) → AreAllTold s before texts
     → IsAcceptedJob s job before after → verdict_by (Some s) texts ≡ Accepted s job
 verdict-job s job texts before after told h =
-    on-all s (tables_of s.command) (texts_of s.command texts) no_rows h.part.rows (source s.command before) h.rest
-    (verdict_on_rows s.command s) (distinct s.command) told h.part.read
+    on-all s (tables_of s.command s.start) (texts_of s.command texts) no_rows h.part.rows (source s.command before) h.rest
+    (verdict_on_rows s.command s) (distinct s.command s.start) told h.part.read
     ∙ on-within s.command s h.part.rows h.part.within ∙ ap (Accepted s) (sym h.part.makes)
 
-verdict-counted : (s : Settings) (Part : TableRows → Type 0) (texts : Table → List ℕ) (before after : Left) (v : Verdict) → AreTold (tables_of s.command) before (texts_of s.command texts)
+verdict-counted : (s : Settings) (Part : TableRows → Type 0) (texts : Table → List ℕ) (before after : Left) (v : Verdict) → AreTold (tables_of s.command s.start) before (texts_of s.command texts)
     → AreCounted s Part before after → ((rows : TableRows) → Part rows → verdict_on_rows s.command s rows ≡ v)
     → verdict_by (Some s) texts ≡ v
 verdict-counted s Part texts before after v told h step =
-    on-all s (tables_of s.command) (texts_of s.command texts) no_rows h.rows before after
-    (verdict_on_rows s.command s) (distinct s.command) told h.read
+    on-all s (tables_of s.command s.start) (texts_of s.command texts) no_rows h.rows before after
+    (verdict_on_rows s.command s) (distinct s.command s.start) told h.read
     ∙ step h.rows h.part
 
 -- a refusal whose cause the bytes of the tables show
@@ -317,12 +325,12 @@ verdict-refused : (s : Settings) (r : Refusal) (texts : Table → List ℕ) (bef
 verdict-refused s refusal.Usage texts before after i told h = absurd i
 verdict-refused s (refusal.Read t) texts before after i told h = absurd i
 verdict-refused s (refusal.Table fault) texts before after i told h =
-    on-reached s (tables_of s.command) fault.table (IsFaulty s fault fault.table) (texts_of s.command texts) no_rows
-    (source s.command before) h.rest (verdict_on_rows s.command s) (Refused (refusal.Table fault)) (distinct s.command) told h.part
+    on-reached s (tables_of s.command s.start) fault.table (IsFaulty s fault fault.table) (texts_of s.command texts) no_rows
+    (source s.command before) h.rest (verdict_on_rows s.command s) (Refused (refusal.Table fault)) (distinct s.command s.start) told h.part
     (λ others rows left turn e. on-faulty s fault fault.table others (texts_of s.command texts) rows left h.rest (verdict_on_rows s.command s) turn e)
 verdict-refused s (refusal.LongTable t) texts before after i told h =
-    on-reached s (tables_of s.command) t (λ _. IsLong t MOST_TABLE_BYTES) (texts_of s.command texts) no_rows
-    (source s.command before) h.rest (verdict_on_rows s.command s) (Refused (refusal.LongTable t)) (distinct s.command) told h.part
+    on-reached s (tables_of s.command s.start) t (λ _. IsLong t MOST_TABLE_BYTES) (texts_of s.command texts) no_rows
+    (source s.command before) h.rest (verdict_on_rows s.command s) (Refused (refusal.LongTable t)) (distinct s.command s.start) told h.part
     (λ others rows left turn e. on-long s t others (texts_of s.command texts) rows left h.rest (verdict_on_rows s.command s) turn e)
 verdict-refused s (refusal.Cells links steps) texts before after i told h =
     verdict-counted s (λ rows. (links ≡ length rows.links) × (steps ≡ s.horizon) × (MOST_LINK_STEPS < links * steps)) texts
@@ -342,7 +350,7 @@ verdict-refused s (refusal.SkimPairs number) texts before after i told h =
 pub all-told : (words : List (List ℕ)) (s : Settings) (left : Left) (texts : Table → List ℕ) → settings_of words ≡ Some s
     → AreToldBy (settings_of words) left texts → AreAllTold s left texts
 all-told words s left texts e told =
-    source-told s.command left texts (subst (λ (o : Option Settings). AreToldBy o left texts) e told)
+    source-told s.command s.start left texts (subst (λ (o : Option Settings). AreToldBy o left texts) e told)
 
 -- a run that was hindered may have any verdict
 hindered : (o : Option Settings) (v : Verdict) (answer : Status) (before after : DeskState)
@@ -378,7 +386,7 @@ unread : (words : List (List ℕ)) (t : Table) (before after : DeskState)
     → IsUnread (settings_of words) before after
 unread words t before after h failed =
     let s = h.settings in
-    let one : IsReadBy (Some s) t = reached-one s (read_tables s.command) t (λ _. IsBegun t) no_rows
+    let one : IsReadBy (Some s) t = reached-one s (read_tables s.command s.start) t (λ _. IsBegun t) no_rows
     (source s.command before.left) h.cause.rest h.cause.part in
     (t, subst (λ (o : Option Settings). IsReadBy o t) (sym h.told) one, h.report, failed)
 

@@ -7,7 +7,8 @@ use Rattle.dta_model.specs.State.{eight_after}
 use Rattle.dta_model.specs.declared.eight.Eight.{Eight}
 use Rattle.gap.specs.Gap.{IsGapLine}
 use Rattle.gap.specs.declared.line.GapLine.{GapLine}
-use Rattle.route_flows.specs.Averages.{AreFirstRoutes, AreNextRoutes}
+use Rattle.route_flows.specs.Averages.{AreNextRoutes, AreStartedRoutes}
+use Rattle.route_flows.specs.Starts.{AreStartRows}
 use Rattle.dta_words.specs.declared.command.Settings.{Settings}
 use Rattle.dta.specs.Jobs.{JobRows, plan_of}
 
@@ -27,8 +28,13 @@ end_of s job routes = eight_after (plan_of s job routes) s.horizon
 -- these link times
 pub record AreIterationsBy (times : VehicleRoutes → TimeTable) (job : JobRows)
     (routes : List VehicleRoutes) (lines : List GapLine) : Type 0 where
-  -- the first routes are the chosen walks by free-flow steps
-  pub first : (r : VehicleRoutes) → slice_get routes 0 ≡ Some r → AreFirstRoutes job.net job.trips r
+  -- an agent has one row of the start table
+  pub start : AreStartRows job.start
+  -- the first routes are the walks of the rows that fit, and else the chosen walks by free-flow
+  -- steps; without a start table no row is there
+  pub first :
+      (r : VehicleRoutes) → slice_get routes 0 ≡ Some r
+      → AreStartedRoutes job.net job.start job.trips r
   -- after iteration i some vehicles take their chosen walks in its table, and the others stay
   pub next :
       (i : ℕ) (old new : VehicleRoutes) → slice_get routes i ≡ Some old

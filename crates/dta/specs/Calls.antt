@@ -1,5 +1,5 @@
 -- What a call inside a run does to the desk, in one record each.
-use Rattle.std.specs.Prelude.{◌≡◌, ◌≤◌, ◌+◌, ℕ, List, [], length, Option, Result, IfOk, IfErr}
+use Rattle.std.specs.Prelude.{◌≡◌, ◌≤◌, ◌+◌, ℕ, List, length, Option, Result, IfOk, IfErr}
 use Rattle.std.proofs.Common.{Vec}
 use Rattle.std.specs.declared.alloc.Global.{Global}
 use Rattle.desk_io.specs.declared.desk.Table.{Table}
@@ -9,6 +9,8 @@ use Rattle.net_core.specs.declared.rows.TurnRow.{TurnRow}
 use Rattle.dta_model.specs.declared.trip.DemandCell.{DemandCell}
 use Rattle.gap.specs.declared.line.GapLine.{GapLine}
 use Rattle.gmns_tables.specs.Net.{listed_turns}
+use Rattle.gmns_tables.specs.declared.with_windows.WithWindows.{WithWindows}
+use Rattle.route_flows.specs.declared.start_rows.StartRow.{StartRow}
 use Rattle.reports.specs.declared.refusal.Refusal.{Refusal}
 use Rattle.desk_io.specs.declared.transfers.TheConstants.{MOST_TABLE_BYTES}
 use Rattle.dta_words.specs.declared.command.Settings.{Settings}
@@ -19,7 +21,7 @@ use Rattle.dta.specs.Outputs.{IsCutOff, OutText, grown_by}
 use Rattle.dta.specs.Progress.{Halts, IsAssigned, IsAt}
 use Rattle.dta.specs.Status.{refusal_status}
 use Rattle.dta.specs.Stops.{StopsAmong, StopsAt}
-use Rattle.dta.specs.Tables.{AreAccepted, IsAccepted, TableRows, road_rows, rows_of}
+use Rattle.dta.specs.Tables.{AreAccepted, IsAccepted, TableRows, road_rows}
 use Rattle.dta.specs.declared.iterate.Assigned.{Assigned}
 use Rattle.dta.specs.declared.halt.Halt.{Halt}
 use Rattle.dta.specs.declared.halt.Halt.TheVariants as halt
@@ -66,15 +68,19 @@ AcceptsAll settings tables rows more before after result =
     OnlyReads (λ x. AreAccepted settings tables rows (more x)) (StopsAmong settings tables rows)
     before after result
 
--- the rows of nodes and links, those with turns, rows with those of a demand table, and all rows
+-- the rows of nodes and links, those with turns, rows with those of a demand table, of a start
+-- table and of link times, and all rows
 abbrev pub rows_in_roads : Roads → TableRows
 rows_in_roads roads = road_rows roads.nodes roads.links
 
-abbrev pub rows_with_turns : Roads → Option (List TurnRow) → TableRows
-rows_with_turns roads turns = rows_of roads.nodes roads.links (listed_turns turns) []
+abbrev pub rows_with_turns : Roads → Option (List (WithWindows TurnRow)) → TableRows
+rows_with_turns roads turns = record (rows_in_roads roads) { turns = listed_turns turns }
 
 abbrev pub with_demand_cells : TableRows → Vec DemandCell Global → TableRows
 with_demand_cells rows demand_cells = record rows { demand_cells = demand_cells.items }
+
+abbrev pub with_start_rows : TableRows → List StartRow → TableRows
+with_start_rows rows start = record rows { start = start }
 
 abbrev pub with_time_rows : TableRows → List TimeRow → TableRows
 with_time_rows rows times = record rows { times = times }
@@ -83,7 +89,8 @@ abbrev pub rows_in_network : NetworkTables → TableRows
 rows_in_network t = rows_with_turns t.roads t.turns
 
 abbrev pub rows_in_tables : Tables → TableRows
-rows_in_tables t = with_demand_cells (rows_in_network t.network) t.demand_cells
+rows_in_tables t =
+    with_start_rows (with_demand_cells (rows_in_network t.network) t.demand_cells) t.start
 
 -- ---- calls that put
 

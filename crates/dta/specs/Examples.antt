@@ -20,6 +20,7 @@ tables node link movement demand table.Node = node
 tables node link movement demand table.Link = link
 tables node link movement demand table.Movement = movement
 tables node link movement demand table.Demand = demand
+tables node link movement demand table.Start = []
 tables node link movement demand table.Times = []
 
 abbrev three_nodes : List ℕ

@@ -1,5 +1,5 @@
 -- What the settings and the tables come to: the network and the trips of a run.
-use Rattle.std.specs.Prelude.{ℕ, ◌≡◌, ◌<◌, ◌≤◌, ◌*◌, ◌-◌, ⊤, List, [], length, Option, All}
+use Rattle.std.specs.Prelude.{ℕ, ◌≡◌, ◌<◌, ◌≤◌, ◌*◌, ◌-◌, ⊤, Bool, List, [], length, Option, All}
 use Rattle.std.specs.List.Sorted.{IsNonDecreasingBy}
 use Rattle.desk_io.specs.declared.desk.Table.{Table}
 use Rattle.desk_io.specs.Desk.{Left}
@@ -21,16 +21,19 @@ use Rattle.dta_words.specs.declared.command.Settings.{Settings}
 use Rattle.skims.specs.GivenTimes.{AreRowsOf}
 use Rattle.skims.specs.declared.time_rows.TimeRow.{TimeRow}
 use Rattle.reports.specs.declared.refusal.TheConstants.{MOST_SKIM_ENTRIES}
-use Rattle.dta.specs.Tables.{AreAccepted, TableRows, all_tables, net_of, no_rows, road_tables}
+use Rattle.route_flows.specs.Starts.{AreStartRows}
+use Rattle.route_flows.specs.declared.start_rows.StartRow.{StartRow}
+use Rattle.dta.specs.Tables.{AreAccepted, TableRows, loading_tables, net_of, no_rows, road_tables}
 use Rattle.dta.specs.Tables.{skim_tables}
 
--- the tables of a command, in the order in which they are read; those of a demonstration are made
-abbrev pub tables_of : Command → List Table
-tables_of command.Freeflow = road_tables
-tables_of command.Assign = all_tables
-tables_of (command.Demo n) = all_tables
-tables_of command.Skim = skim_tables
-tables_of command.Counts = all_tables
+-- the tables of a command, in the order in which they are read, where a start table is asked for
+-- or not; those of a demonstration are made
+abbrev pub tables_of : Command → (start : Bool) → List Table
+tables_of command.Freeflow start = road_tables
+tables_of command.Assign start = loading_tables start
+tables_of (command.Demo n) start = loading_tables start
+tables_of command.Skim start = skim_tables
+tables_of command.Counts start = loading_tables start
 
 -- a command loads vehicles: all but `freeflow` and `skim`
 abbrev pub Loads : Command → Type 0
@@ -41,12 +44,12 @@ Loads command.Skim = ⊥
 Loads command.Counts = ⊤
 
 -- those that it reads from the desk
-abbrev pub read_tables : Command → List Table
-read_tables (command.Demo n) = []
-read_tables c = tables_of c
+abbrev pub read_tables : Command → (start : Bool) → List Table
+read_tables (command.Demo n) start = []
+read_tables c start = tables_of c start
 
 -- where the tables stand before they are read: at the desk, or for a demonstration in the texts of
--- its grid, which has no movement table
+-- its grid, which has no movement table and no start table
 abbrev pub source : Command → Left → Left
 source (command.Demo n) left = all_left (node_text n) (link_text n) [] (demand_text n)
 source c left = left
@@ -62,17 +65,20 @@ pub record Reading (c : Command) (Part : Left → Left → Type 0) (before after
   pub leaves : LeavesOf c rest before after
   pub part : Part (source c before) rest
 
--- the network of a run, its trips and its link times; a command whose tables have no demand has no
--- trips, and one without a table of link times has none of these
+-- the network of a run, its trips, the rows of its start table and its link times; a command
+-- whose tables have no demand has no trips, one without a start table has no rows of one, and one
+-- without a table of link times has none of these
 pub record JobRows : Type 0 where
   pub net : NetRows
   pub trips : List Trip
+  pub start : List StartRow
   pub times : List TimeRow
 
 abbrev pub job_of : Settings → TableRows → JobRows
 job_of s rows = record {
   net = net_of rows;
   trips = trips_of rows.demand_cells s.period;
+  start = rows.start;
   times = rows.times;
 }
 
@@ -95,7 +101,7 @@ AreWithin c s rows = HasRoom s rows × IsWithin rows.demand_cells
 -- the tables were read one after the other and accepted, are within the limits, and make this job
 pub record IsJobOf (s : Settings) (job : JobRows) (before after : Left) : Type 0 where
   pub rows : TableRows
-  pub read : AreAccepted s (tables_of s.command) no_rows rows before after
+  pub read : AreAccepted s (tables_of s.command s.start) no_rows rows before after
   pub within : AreWithin s.command s rows
   pub makes : job ≡ job_of s rows
 
@@ -109,11 +115,13 @@ pub record AreTripsBelow (horizon : ℕ) (trips : List Trip) : Type 0 where
   pub rising : IsNonDecreasingBy (λ trip. trip.departure) trips
   pub early : All (λ trip. trip.departure < horizon) trips
 
--- what is true of every job: its rows make a network, its trips depart below the horizon, and for a
--- skim there are link times of each bucket of each link
+-- what is true of every job: its rows make a network, its trips depart below the horizon, the rows
+-- of its start table are of different agents, and for a skim there are link times of each bucket of
+-- each link
 pub record IsJob (s : Settings) (job : JobRows) : Type 0 where
   pub net : IsNet job.net
   pub trips : AreTripsBelow s.horizon job.trips
+  pub start : AreStartRows job.start
   pub times : s.command ≡ command.Skim → AreRowsOf job.net s.bucket s.horizon job.times
 
 -- the loading of a job over the routes of its vehicles

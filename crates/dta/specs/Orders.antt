@@ -1,5 +1,5 @@
 -- Assignments whose loadings take the nodes of a step in another order.
-use Rattle.std.specs.Prelude.{ℕ, ◌≡◌, ◌-◌, List, [], ◌∷◌, length, Some, slice_get}
+use Rattle.std.specs.Prelude.{ℕ, ◌≡◌, ◌-◌, List, [], ◌∷◌, length, Option, Some, slice_get}
 use Rattle.desk_io.specs.declared.desk.Output.TheVariants as output
 use Rattle.dta_model.specs.LinkTimes.{TimeTable, table_in}
 use Rattle.dta_model.specs.Loading.{journeys_in}
@@ -9,7 +9,7 @@ use Rattle.dta_model.specs.Trace.{Move}
 use Rattle.dta_model.specs.declared.eight.Eight.{Eight}
 use Rattle.dta_model.specs.declared.loaded.Journey.{Journey}
 use Rattle.gap.specs.declared.line.GapLine.{GapLine}
-use Rattle.reports.specs.Texts.{agent_text, gap_text, link_time_text, report_text}
+use Rattle.reports.specs.Texts.{agent_text_by, gap_text, link_time_text, report_text}
 use Rattle.reports.specs.declared.summary.Summary.{Summary}
 use Rattle.dta_words.specs.declared.command.Command.{Command}
 use Rattle.dta_words.specs.declared.command.Command.TheVariants as command
@@ -18,7 +18,7 @@ use Rattle.dta.specs.Assignment.{AreIterationsBy, VehicleRoutes}
 use Rattle.dta.specs.Jobs.{JobRows, plan_of}
 use Rattle.counts.specs.Through.{through_counts_in}
 use Rattle.counts.specs.Turns.{turn_counts_in}
-use Rattle.dta.specs.Outputs.{OutText, counts_out, summary_of, text_to}
+use Rattle.dta.specs.Outputs.{AreSinceTold, OutText, counts_out, summary_of, text_to}
 
 -- for the loading over each routes an order of the nodes, for each of its steps
 abbrev pub NodeOrders : Type 0
@@ -61,17 +61,18 @@ counts_by s job order routes =
 
 -- the texts after the last iteration
 abbrev pub texts_by :
-    Command → Settings → JobRows → NodeOrders → VehicleRoutes → List GapLine → GapLine
-    → List OutText
-texts_by command.Assign s job order last lines line =
-    text_to output.Agent (agent_text job.net job.trips last (journeys_by s job order last))
+    Command → Settings → JobRows → NodeOrders → VehicleRoutes → Option (List ℕ) → List GapLine
+    → GapLine → List OutText
+texts_by command.Assign s job order last since lines line =
+    text_to output.Agent
+    (agent_text_by job.net job.trips last (journeys_by s job order last) since)
     ∷ text_to output.LinkTime (link_time_text job.net (times_by s job order last))
     ∷ text_to output.Gap (gap_text lines)
     ∷ text_to output.Report (report_text (summary_by s job order last line)) ∷ []
-texts_by command.Counts s job order last lines line =
+texts_by command.Counts s job order last since lines line =
     counts_by s job order last
     ∷ text_to output.Report (report_text (summary_by s job order last line)) ∷ []
-texts_by c s job order last lines line =
+texts_by c s job order last since lines line =
     text_to output.Report (report_text (summary_by s job order last line)) ∷ []
 
 -- the texts but for Watch of a whole assignment by such loadings
@@ -86,4 +87,6 @@ pub record AreAssignedBy (s : Settings) (job : JobRows) (order : NodeOrders) (te
   pub with_gaps : length lines ≡ s.iterations
   pub last_routes : slice_get routes (s.iterations - 1) ≡ Some last
   pub last_line : slice_get lines (s.iterations - 1) ≡ Some line
-  pub texts_are : texts ≡ texts_by s.command s job order last lines line
+  pub since : Option (List ℕ)
+  pub since_told : AreSinceTold s.start s job since
+  pub texts_are : texts ≡ texts_by s.command s job order last since lines line

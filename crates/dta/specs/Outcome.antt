@@ -43,13 +43,13 @@ ReportsLine r before after =
 pub record AreCounted (s : Settings) (Part : TableRows → Type 0) (before after : Left)
     : Type 0 where
   pub rows : TableRows
-  pub read : AreAccepted s (tables_of s.command) no_rows rows before after
+  pub read : AreAccepted s (tables_of s.command s.start) no_rows rows before after
   pub part : Part rows
 
 -- a table of the command was reached, and this was so of it
 abbrev pub Reached : Settings → Table → (TableRows → Left → Left → Type 0) → Left → Left → Type 0
 Reached s t Part before after =
-    ReachedAmong s (tables_of s.command) t Part no_rows before after
+    ReachedAmong s (tables_of s.command s.start) t Part no_rows before after
 
 -- the cause of a refusal, as the reading of the tables until then shows it, where reads of these
 -- tables can fail; `freeflow` has no sizes
@@ -78,7 +78,7 @@ IsCauseAmong tables s (refusal.SkimPairs number) before after =
 
 -- the same where only reads of the desk can fail: `demo` reads nothing of it
 abbrev pub IsCauseIn : Settings → Refusal → Left → Left → Type 0
-IsCauseIn s r before after = IsCauseAmong (read_tables s.command) s r before after
+IsCauseIn s r before after = IsCauseAmong (read_tables s.command s.start) s r before after
 
 -- the same of the desk of a run
 abbrev pub IsCause : Settings → Refusal → Left → Left → Type 0
@@ -174,7 +174,7 @@ Means words status.Memory before after = IsStarved words before after
 -- these settings read this table of the desk
 abbrev pub IsReadBy : Option Settings → Table → Type 0
 IsReadBy None t = ⊥
-IsReadBy (Some s) t = Contains (read_tables s.command) t
+IsReadBy (Some s) t = Contains (read_tables s.command s.start) t
 
 -- a table that the settings read couldn't be read, and Report names it
 abbrev pub IsUnread : Option Settings → DeskState → DeskState → Type 0

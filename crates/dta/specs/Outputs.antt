@@ -14,6 +14,7 @@ use Rattle.dta_model.specs.Loading.{journeys_of}
 use Rattle.dta_model.specs.State.{eight_after}
 use Rattle.dta_model.specs.declared.eight.Eight.{Eight}
 use Rattle.gap.specs.declared.line.GapLine.{GapLine}
+use Rattle.route_flows.specs.Averages.{AreSince}
 use Rattle.counts.specs.Text.{counts_text}
 use Rattle.counts.specs.Through.{through_counts}
 use Rattle.counts.specs.Turns.{turn_counts}
@@ -23,7 +24,7 @@ use Rattle.skims.specs.GivenTimes.{table_given}
 use Rattle.skims.specs.Skim.{IsSkim}
 use Rattle.skims.specs.Texts.{skim_report_text, skim_text}
 use Rattle.skims.specs.declared.skim_entry.SkimEntry.{SkimEntry}
-use Rattle.reports.specs.Texts.{agent_text, free_link_time_text, free_report_text, gap_text}
+use Rattle.reports.specs.Texts.{agent_text_by, free_link_time_text, free_report_text, gap_text}
 use Rattle.reports.specs.Texts.{link_time_text, report_text, watch_line}
 use Rattle.reports.specs.Watch.{AreWatchSteps}
 use Rattle.reports.specs.declared.summary.Summary.{Summary}
@@ -102,10 +103,20 @@ summary_of s job last line = record {
   gap = line;
 }
 
--- Agent, LinkTime and Gap after the last iteration
-abbrev pub table_texts : Settings → JobRows → VehicleRoutes → List GapLine → List OutText
-table_texts s job last lines =
-    text_to output.Agent (agent_text job.net job.trips last (journeys_of (plan_of s job last)))
+-- the iterations in which the vehicles took their last routes, which are told exactly where a
+-- start table is asked for
+abbrev pub AreSinceTold : (start : Bool) → Settings → JobRows → Option (List ℕ) → Type 0
+AreSinceTold false s job since = since ≡ None
+AreSinceTold true s job None = ⊥
+AreSinceTold true s job (Some numbers) = AreSince job.net job.start job.trips s.iterations numbers
+
+-- Agent, LinkTime and Gap after the last iteration, Agent with the iterations of the routes where
+-- these are told
+abbrev pub table_texts :
+    Settings → JobRows → VehicleRoutes → Option (List ℕ) → List GapLine → List OutText
+table_texts s job last since lines =
+    text_to output.Agent
+    (agent_text_by job.net job.trips last (journeys_of (plan_of s job last)) since)
     ∷ text_to output.LinkTime (link_time_text job.net (times_of s job last))
     ∷ text_to output.Gap (gap_text lines) ∷ []
 
@@ -130,15 +141,16 @@ counts_out s job turns through =
 -- the texts after the last iteration: `assign` has its tables and the report, `counts` its counts
 -- and the report, and any other command that comes there the report alone
 abbrev pub last_texts :
-    Command → Settings → JobRows → VehicleRoutes → List GapLine → GapLine → List OutText
-last_texts command.Assign s job last lines line =
-    table_texts s job last lines
+    Command → Settings → JobRows → VehicleRoutes → Option (List ℕ) → List GapLine → GapLine
+    → List OutText
+last_texts command.Assign s job last since lines line =
+    table_texts s job last since lines
     ++ text_to output.Report (report_text (summary_of s job last line)) ∷ []
-last_texts command.Counts s job last lines line =
+last_texts command.Counts s job last since lines line =
     counts_out s job (turn_counts (plan_of s job last) s.bucket)
     (through_counts (plan_of s job last))
     ∷ text_to output.Report (report_text (summary_of s job last line)) ∷ []
-last_texts c s job last lines line =
+last_texts c s job last since lines line =
     text_to output.Report (report_text (summary_of s job last line)) ∷ []
 
 -- the texts of `freeflow`
@@ -186,9 +198,11 @@ pub record AreAssigned (s : Settings) (job : JobRows) (texts : List OutText) : T
   pub with_gaps : length lines ≡ s.iterations
   pub last_routes : slice_get routes (s.iterations - 1) ≡ Some last
   pub last_line : slice_get lines (s.iterations - 1) ≡ Some line
+  pub since : Option (List ℕ)
+  pub since_told : AreSinceTold s.start s job since
   pub watched : List OutText
   pub watch_lines : AreWatchTexts s job 1 routes watched
-  pub texts_are : texts ≡ watched ++ last_texts s.command s job last lines line
+  pub texts_are : texts ≡ watched ++ last_texts s.command s job last since lines line
 
 -- the watch lines of the first iterations
 pub record AreWatched (s : Settings) (job : JobRows) (texts : List OutText) : Type 0 where

@@ -14,7 +14,8 @@ use Rattle.counts.specs.Through.{through_counts}
 use Rattle.counts.specs.Turns.{IsOfNet, turn_counts}
 use Rattle.dta.specs.Assignment.{AreIterations, VehicleRoutes, end_of, times_of}
 use Rattle.dta.specs.Jobs.{AreRoutesOf, JobRows, plan_of}
-use Rattle.dta.specs.Outputs.{AreWatchLines, AreWatchTexts, AreWatched, IsCutOff, OutText}
+use Rattle.dta.specs.Outputs.{AreSinceTold, AreWatchLines, AreWatchTexts, AreWatched, IsCutOff}
+use Rattle.dta.specs.Outputs.{OutText}
 use Rattle.dta.specs.Outputs.{asked_link, grown_by, through_asked}
 use Rattle.dta.specs.declared.counted.Counted.{Counted}
 use Rattle.dta.specs.declared.iterate.Assigned.{Assigned}
@@ -88,7 +89,7 @@ abbrev pub IsLastOf : Settings → JobRows → Assigned → Type 0
 IsLastOf s job a = IsLast s job a.routes a.loaded a.times a.end
 
 -- all iterations are done: these are the last one's routes, journeys, link times, last state and
--- gap, and the gaps of all
+-- gap, the iterations of the routes where they are told, and the gaps of all
 pub record IsAssigned (s : Settings) (job : JobRows) (a : Assigned) (start now : Taken)
     : Type 0 where
   pub done : List VehicleRoutes
@@ -101,4 +102,5 @@ pub record IsAssigned (s : Settings) (job : JobRows) (a : Assigned) (start now :
   pub watch_lines : AreWatchTexts s job 1 (done ++ a.routes ∷ []) texts
   pub watched : now ≡ grown_by texts start
   pub last : IsLastOf s job a
+  pub since_told : AreSinceTold s.start s job a.since
   pub counted : HasCounts s job a.routes a.counts

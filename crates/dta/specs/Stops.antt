@@ -77,7 +77,7 @@ HasFault _ before after = ⊤
 abbrev pub StopsIn : Settings → Stop → DeskState → DeskState → Type 0
 StopsIn s Memory before after = IsCutIn s before.left after.left
 StopsIn s (Refused r) before after =
-    IsCauseAmong (tables_of s.command) s r before.left after.left × HasFault r before after
+    IsCauseAmong (tables_of s.command s.start) s r before.left after.left × HasFault r before after
 
 -- a run of these settings ended in this stop
 abbrev pub Stops : Settings → Stop → DeskState → DeskState → Type 0

@@ -1,5 +1,6 @@
 -- The tables that a command reads, one after the other, and the rows that they give.
-use Rattle.std.specs.Prelude.{ℕ, ◌≡◌, ◌≤◌, ◌⊎◌, ⊤, List, [], ◌∷◌, length, Some, Result, Ok, Err}
+use Rattle.std.specs.Prelude.{ℕ, ◌≡◌, ◌≤◌, ◌⊎◌, ⊤, Bool, true, false, List, [], ◌∷◌, ◌++◌, length}
+use Rattle.std.specs.Prelude.{Some, Result, Ok, Err}
 use Rattle.desk_io.specs.declared.desk.Table.{Table}
 use Rattle.desk_io.specs.declared.desk.Table.TheVariants as table
 use Rattle.desk_io.specs.Desk.{Left, left_of}
@@ -15,14 +16,19 @@ use Rattle.dta_model.specs.declared.trip.DemandCell.{DemandCell}
 use Rattle.gmns_tables.specs.Nodes.{node_verdict}
 use Rattle.gmns_tables.specs.Links.{link_verdict}
 use Rattle.gmns_tables.specs.Movements.{movement_verdict}
+use Rattle.gmns_tables.specs.Net.{net_rows}
+use Rattle.gmns_tables.specs.RowsWithWindows.{rows_of}
+use Rattle.gmns_tables.specs.declared.with_windows.WithWindows.{WithWindows}
 use Rattle.demand.specs.DemandRows.{demand_verdict}
+use Rattle.route_flows.specs.StartTable.{start_verdict}
+use Rattle.route_flows.specs.declared.start_rows.StartRow.{StartRow}
 use Rattle.skims.specs.TimesTable.{times_verdict}
 use Rattle.skims.specs.declared.time_rows.TimeRow.{TimeRow}
 use Rattle.desk_io.specs.declared.transfers.TheConstants.{MOST_TABLE_BYTES}
 use Rattle.dta_words.specs.declared.command.Settings.{Settings}
 
--- the tables of a network's nodes and links, those of a network with its turns, and those of an
--- assignment, in the order in which they are read
+-- the tables of a network's nodes and links, those of a network with its turns, and those that
+-- each assignment has, in the order in which they are read
 abbrev pub road_tables : List Table
 road_tables = table.Node ∷ table.Link ∷ []
 
@@ -32,44 +38,46 @@ network_tables = table.Node ∷ table.Link ∷ table.Movement ∷ []
 abbrev pub all_tables : List Table
 all_tables = table.Node ∷ table.Link ∷ table.Movement ∷ table.Demand ∷ []
 
+-- the start table, an earlier agent table, where it is asked for
+abbrev pub start_tables : (start : Bool) → List Table
+start_tables false = []
+start_tables true = table.Start ∷ []
+
+-- the tables of an assignment, with the start table where it is asked for
+abbrev pub loading_tables : (start : Bool) → List Table
+loading_tables start = all_tables ++ start_tables start
+
 -- the tables of a skim: those of its network, and link times
 abbrev pub skim_tables : List Table
 skim_tables = table.Node ∷ table.Link ∷ table.Movement ∷ table.Times ∷ []
 
--- the rows of the tables that were accepted so far; those of the others are missing
+-- the rows of the tables that were accepted so far; those of the others are missing. Links and
+-- turns stand with the windows of their capacities
 pub record TableRows : Type 0 where
   pub nodes : List NodeRow
-  pub links : List LinkRow
-  pub turns : List TurnRow
+  pub links : List (WithWindows LinkRow)
+  pub turns : List (WithWindows TurnRow)
   pub demand_cells : List DemandCell
+  pub start : List StartRow
   pub times : List TimeRow
 
 abbrev pub no_rows : TableRows
-no_rows = record { nodes = []; links = []; turns = []; demand_cells = []; times = [] }
+no_rows = record { nodes = []; links = []; turns = []; demand_cells = []; start = []; times = [] }
 
 -- the rows of a node and a link table
-abbrev pub road_rows : List NodeRow → List LinkRow → TableRows
+abbrev pub road_rows : List NodeRow → List (WithWindows LinkRow) → TableRows
 road_rows nodes links = record no_rows { nodes = nodes; links = links }
 
--- the rows of the four tables of an assignment
-abbrev pub rows_of : List NodeRow → List LinkRow → List TurnRow → List DemandCell → TableRows
-rows_of nodes links turns demand_cells = record {
-  nodes = nodes;
-  links = links;
-  turns = turns;
-  demand_cells = demand_cells;
-  times = [];
-}
-
--- the network of these rows
+-- the network of these rows, with its windows
 abbrev pub net_of : TableRows → NetRows
-net_of rows = record { nodes = rows.nodes; links = rows.links; turns = rows.turns }
+net_of rows = net_rows rows.nodes rows.links rows.turns
 
 -- a movement table of zero bytes stands for none
-abbrev pub turns_of : Settings → TableRows → List ℕ → Result (List TurnRow) TableFault
+abbrev pub turns_of :
+    Settings → TableRows → List ℕ → Result (List (WithWindows TurnRow)) TableFault
 turns_of settings rows [] = Ok []
 turns_of settings rows (byte ∷ bytes) =
-    movement_verdict rows.nodes rows.links settings.units (records (byte ∷ bytes))
+    movement_verdict rows.nodes (rows_of rows.links) settings.units (records (byte ∷ bytes))
 
 -- the rows with those of one more table, or that table's first fault
 abbrev pub with_table : Settings → TableRows → Table → List ℕ → Result TableRows TableFault
@@ -83,6 +91,8 @@ with_table settings rows table.Movement bytes =
 with_table settings rows table.Demand bytes =
     then_with (demand_verdict (records bytes))
     (λ demand_cells. Ok (record rows { demand_cells = demand_cells }))
+with_table settings rows table.Start bytes =
+    then_with (start_verdict (records bytes)) (λ start. Ok (record rows { start = start }))
 with_table settings rows table.Times bytes =
     then_with (times_verdict (net_of rows) settings.bucket settings.horizon (records bytes))
     (λ times. Ok (record rows { times = times }))

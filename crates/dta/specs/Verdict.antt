@@ -34,6 +34,7 @@ grid_texts n table.Node = node_text n
 grid_texts n table.Link = link_text n
 grid_texts n table.Movement = []
 grid_texts n table.Demand = demand_text n
+grid_texts n table.Start = []
 grid_texts n table.Times = []
 
 abbrev pub texts_of : Command → (Table → List ℕ) → Table → List ℕ
@@ -95,7 +96,7 @@ verdict_on_rows c s rows = verdict_on_sizes s rows
 abbrev pub verdict_by : Option Settings → (Table → List ℕ) → Verdict
 verdict_by None texts = Refused refusal.Usage
 verdict_by (Some s) texts =
-    verdict_on s (tables_of s.command) (texts_of s.command texts) no_rows
+    verdict_on s (tables_of s.command s.start) (texts_of s.command texts) no_rows
     (verdict_on_rows s.command s)
 
 -- the first cause in the order of the work: the words; each table, too long or with a first fault,
@@ -106,4 +107,4 @@ verdict words texts = verdict_by (settings_of words) texts
 -- the texts of all tables that these words read are told
 abbrev pub AreToldBy : Option Settings → Left → (Table → List ℕ) → Type 0
 AreToldBy None left texts = ⊤
-AreToldBy (Some s) left texts = AreTold (read_tables s.command) left texts
+AreToldBy (Some s) left texts = AreTold (read_tables s.command s.start) left texts

@@ -7,10 +7,11 @@ ghost use Rattle.dta_words.specs.Ranges.{AreSettings};
 ghost use Rattle.link_times.specs.TimeTables.{IsShort};
 ghost use Rattle.gap.specs.Gap.{IsGapLine};
 ghost use Rattle.loader.specs.Gates.{gate_of};
-ghost use Rattle.route_flows.specs.Averages.{AreFirstRoutes, AreNextRoutes};
+ghost use Rattle.route_flows.specs.Averages.{AreNextRoutes, AreStartedRoutes};
 ghost use Rattle.dta.specs.Assignment.{times_of};
 ghost use Rattle.dta.specs.Jobs.{AreRoutesOf, IsJob};
 ghost use Rattle.dta.specs.Calls.{HaltsFrom, IsAhead, IsFinished, OnlyWatches};
+ghost use Rattle.dta.specs.Outputs.{AreSinceTold};
 ghost use Rattle.dta.specs.Progress.{Halts, IsAssigned};
 ghost use Rattle.dta.specs.Receipts.{Gives, numbers_in, receipts_of};
 ghost use Rattle.dta.specs.declared.halt.Halt.TheVariants as halt;
@@ -20,17 +21,19 @@ use crate::halt::Halt;
 use crate::job::Job;
 use crate::load::{Round, load_round};
 use desk_io::Desk;
-use dta_model::{Eight, Loaded, Routes};
+use dta_model::{Eight, Loaded, Routes, Steps};
 use dta_words::Settings;
 use gap::{GapLine, gap_by_shares};
 use link_times::LinkTimes;
 use loader::Gate;
-use route_flows::{first_routes, gap_and_next_routes};
+use route_flows::{gap_and_next_routes, route_iterations, started_routes};
+use std::alloc::Global;
 use std::sync::Wait;
 use std::thread::Threads;
 
-/// What the last iteration of an assignment gives, the gaps of all, and the counts over the last
-/// one's loading where the command asks for them.
+/// What the last iteration of an assignment gives, the gaps of all, the iterations in which the
+/// vehicles took their routes where there is a start table, and the counts over the last one's
+/// loading where the command asks for them.
 #[derive(Drop)]
 pub(crate) struct Assigned {
     pub(crate) routes: Routes,
@@ -39,10 +42,12 @@ pub(crate) struct Assigned {
     pub(crate) end: Eight,
     pub(crate) lines: Vec<GapLine>,
     pub(crate) line: GapLine,
+    pub(crate) since: Option<Steps>,
     pub(crate) counts: Counted,
 }
 
-// The routes of the first iteration.
+// The routes of the first iteration: those of the start table's rows that fit, and else the chosen
+// walks by free-flow steps.
 #[tactic(auto, using(crate::proofs::IterateFacts::routings))]
 fn begin<R: AllocGlobal + Threads + Sync>(
     rt: &R,
@@ -51,11 +56,14 @@ fn begin<R: AllocGlobal + Threads + Sync>(
 ) -> Result<Routes, Halt>
     requires settings { AreSettings settings.now }
     requires job { IsJob settings.now job.now }
-    ensures first { IfOk result (λ routes. AreFirstRoutes job.now.net job.now.trips routes) }
+    ensures first { IfOk result (AreStartedRoutes job.now.net job.now.start job.now.trips) }
     ensures routes { IfOk result (λ routes. AreRoutesOf job.now routes) }
     ensures memory { IfErr result (λ why. why ≡ halt.Memory) }
 {
-    let routes = first_routes(rt, &job.net, &job.trips, settings.horizon, settings.workers)?;
+    let trips = job.trips.as_slice();
+    let horizon = settings.horizon;
+    let workers = settings.workers;
+    let routes = started_routes(rt, &job.net, trips, horizon, workers, &job.start)?;
     Ok(routes)
 }
 
@@ -120,6 +128,21 @@ fn gap_of<R: AllocGlobal + Threads + Sync>(
     Ok(gap_by_shares(rt, &job.net, times, trips, routes, settings.workers)?)
 }
 
+// The iterations in which the vehicles took their last routes, where there is a start table.
+fn since(alloc: Global, settings: &Settings, job: &Job) -> Result<Option<Steps>, Halt>
+    requires settings { AreSettings settings.now }
+    requires job { IsJob settings.now job.now }
+    ensures told { IfOk result (AreSinceTold settings.now.start settings.now job.now) }
+    ensures memory { IfErr result (λ why. why ≡ halt.Memory) }
+{
+    if !settings.start {
+        return Ok(None);
+    }
+    let trips = job.trips.as_slice();
+    let numbers = route_iterations(alloc, &job.net, trips, &job.start, settings.iterations)?;
+    Ok(Some(numbers))
+}
+
 // Does an iteration that isn't the last: its loading, its gap, and the routes of the next.
 fn advance<R: AllocGlobal + Threads + Wait + Sync, D: Desk + Send, G: Gate + Sync>(
     rt: &R,
@@ -151,7 +174,8 @@ fn advance<R: AllocGlobal + Threads + Wait + Sync, D: Desk + Send, G: Gate + Syn
     Ok(())
 }
 
-// Does the last iteration: its loading, its gap, and its counts where the command asks for them.
+// Does the last iteration: its loading, its gap, the iterations of the routes where there is a
+// start table, and its counts where the command asks for them.
 fn finish<R: AllocGlobal + Threads + Wait + Sync, D: Desk + Send, G: Gate + Sync>(
     rt: &R,
     settings: &Settings,
@@ -174,6 +198,7 @@ fn finish<R: AllocGlobal + Threads + Wait + Sync, D: Desk + Send, G: Gate + Sync
 {
     let round = load_round(rt, settings, job, &routes, settings.iterations, gate, desk)?;
     let line = gap_of(rt, settings, job, &routes, &round.times)?;
+    let since = since(rt.alloc(), settings, job)?;
     let counts = counts_over(rt.alloc(), settings, job, &routes, &round.loaded)?;
     let mut lines = lines;
     lines.push(line)?;
@@ -185,6 +210,7 @@ fn finish<R: AllocGlobal + Threads + Wait + Sync, D: Desk + Send, G: Gate + Sync
         end,
         lines,
         line,
+        since,
         counts,
     })
 }

@@ -8,6 +8,7 @@ ghost use Rattle.dta_words.specs.Ranges.{AreSettings};
 ghost use Rattle.dta_words.specs.declared.command.Command.TheVariants as command;
 ghost use Rattle.gmns_tables.specs.Net.{net_of as joined};
 ghost use Rattle.net_core.specs.Network.{IsNet};
+ghost use Rattle.route_flows.specs.Starts.{AreStartRows};
 ghost use Rattle.dta_model.specs.declared.loading.TheConstants.{MOST_LINK_STEPS};
 ghost use Rattle.vehicle_release.specs.Limits.{IsWithin};
 ghost use Rattle.dta.specs.Calls.{OnlyReads, rows_in_tables};
@@ -30,17 +31,20 @@ use gmns_tables::join_net;
 use grid_maker::{GridFault, grid};
 use net_core::Net;
 use reports::{MOST_SKIM_ENTRIES, Refusal};
+use route_flows::StartRows;
 use skims::TimeRows;
 use std::alloc::Global;
 use std::marker::Model;
 use vehicle_release::release;
 
-/// The network of a run, its trips and its link times. A command whose tables have no demand has no
-/// trips, and one without a table of link times has none of these.
+/// The network of a run, its trips, the rows of its start table and its link times. A command
+/// whose tables have no demand has no trips, one without a start table has no rows of one, and one
+/// without a table of link times has none of these.
 #[derive(Drop)]
 pub(crate) struct Job {
     pub(crate) net: Net,
     pub(crate) trips: Vec<Trip>,
+    pub(crate) start: StartRows,
     pub(crate) times: TimeRows,
 }
 
@@ -50,7 +54,7 @@ impl Model for Job {
     ghost Value = { JobRows };
 
     ghost view = { λ job.
-        record { net = job.net; trips = job.trips.items; times = job.times } };
+        record { net = job.net; trips = job.trips.items; start = job.start; times = job.times } };
 }
 
 impl Job {
@@ -103,6 +107,7 @@ fn job_of(alloc: Global, tables: Tables, settings: &Settings) -> Result<Job, Sto
     requires net { let network = tables.network in
         IsNet (joined network.roads.nodes network.roads.links network.turns) }
     requires demand_cells { AreDemandCells tables.demand_cells.items }
+    requires start { AreStartRows tables.start }
     ensures makes { IfOk result (λ job.
         job ≡ job_of_rows settings.now (rows_in_tables tables)) }
     ensures sound { IfOk result (IsJob settings.now) }
@@ -113,16 +118,23 @@ fn job_of(alloc: Global, tables: Tables, settings: &Settings) -> Result<Job, Sto
     let Tables {
         network,
         demand_cells,
+        start,
     } = tables;
     let NetworkTables { roads, turns } = network;
     let links = roads.links.as_slice().len() as u32;
     let trips = trips_within(alloc, links, &demand_cells, settings)?;
     let net = join_net(alloc, roads.nodes, roads.links, turns)?;
     let times = TimeRows::of(Vec::new(alloc));
-    Ok(Job { net, trips, times })
+    Ok(Job {
+        net,
+        trips,
+        start,
+        times,
+    })
 }
 
-// Reads and checks all tables of an assignment, and makes its job.
+// Reads and checks all tables of an assignment, and makes its job. The start table is among them
+// where the settings ask for it.
 fn accept_tables<D: Desk>(alloc: Global, desk: &mut D, settings: &Settings) -> Result<Job, Stop>
     requires settings { AreSettings settings.now }
     requires command { Loads settings.now.command }
@@ -147,8 +159,14 @@ fn accept_free<D: Desk>(alloc: Global, desk: &mut D, settings: &Settings) -> Res
     let roads = accept_roads(alloc, desk, settings)?;
     let net = join_net(alloc, roads.nodes, roads.links, None)?;
     let trips = Vec::new(alloc);
+    let start = StartRows::new(alloc);
     let times = TimeRows::of(Vec::new(alloc));
-    Ok(Job { net, trips, times })
+    Ok(Job {
+        net,
+        trips,
+        start,
+        times,
+    })
 }
 
 // Checks the sizes of a skim: the links times the steps, and then the entries, one for each ordered
@@ -194,7 +212,13 @@ fn accept_skim<D: Desk>(alloc: Global, desk: &mut D, settings: &Settings) -> Res
     let times = accept_times(alloc, desk, settings, &net)?;
     skim_sizes(&net, settings)?;
     let trips = Vec::new(alloc);
-    Ok(Job { net, trips, times })
+    let start = StartRows::new(alloc);
+    Ok(Job {
+        net,
+        trips,
+        start,
+        times,
+    })
 }
 
 // Makes the tables of a demonstration, checks them as any others, and makes their job.

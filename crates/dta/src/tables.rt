@@ -3,18 +3,21 @@ ghost use Rattle.std.specs.Prelude.{◌≡◌, [], All, Ok, Err, IfOk, IfErr};
 ghost use Rattle.desk_io.specs.declared.desk.Table.TheVariants as table;
 ghost use Rattle.demand.specs.DemandRows.{AreDemandCells};
 ghost use Rattle.gmns_tables.specs.Net.{listed_turns, net_of as joined};
+ghost use Rattle.gmns_tables.specs.RowsWithWindows.{AreLinkRows, AreTurnRows, rows_of};
 ghost use Rattle.dta_words.specs.Ranges.{AreSettings};
 ghost use Rattle.dta_words.specs.declared.command.Settings.{Settings};
 ghost use Rattle.net_core.specs.Network.{IsNet};
-ghost use Rattle.net_core.specs.Rows.{AreLinks, AreNodes, AreTurns, IsBetween, IsTurning};
+ghost use Rattle.net_core.specs.Rows.{AreNodes, IsBetween, IsTurning};
+ghost use Rattle.route_flows.specs.Starts.{AreStartRows};
 ghost use Rattle.row_reader.specs.FirstFault.{Tells};
 ghost use Rattle.dta.specs.Calls.{Accepts, AcceptsAll, IsWhole, OnlyReads};
 ghost use Rattle.dta.specs.Calls.{rows_in_roads, rows_in_tables, rows_with_turns};
-ghost use Rattle.dta.specs.Calls.{rows_in_network, with_demand_cells, with_time_rows};
+ghost use Rattle.dta.specs.Calls.{rows_in_network, with_demand_cells, with_start_rows};
+ghost use Rattle.dta.specs.Calls.{with_time_rows};
 ghost use Rattle.skims.specs.GivenTimes.{AreRowsOf};
 ghost use Rattle.dta.specs.Outcome.{state_of};
 ghost use Rattle.dta.specs.Stops.{StopsAt};
-ghost use Rattle.dta.specs.Tables.{TableRows, all_tables, no_rows, road_rows, road_tables};
+ghost use Rattle.dta.specs.Tables.{TableRows, loading_tables, no_rows, road_rows, road_tables};
 ghost use Rattle.dta.specs.Tables.{net_of, network_tables, turns_of};
 
 use crate::stop::Stop;
@@ -25,6 +28,7 @@ use dta_words::Settings;
 use gmns_tables::{LinkRows, NodeRows, TurnRows, read_links, read_movements, read_nodes};
 use net_core::Net;
 use reports::Refusal;
+use route_flows::{StartRows, read_start};
 use row_reader::TableRefusal;
 use skims::{TimeRows, read_times};
 use std::alloc::Global;
@@ -73,8 +77,8 @@ fn accept_links<D: Desk>(
     ensures reads { let state = state_of D.left D.taken D.read_faults D.put_faults in
         Accepts settings.now table.Link (road_rows nodes.now []) (road_rows nodes.now)
         (state desk.old) (state desk.new) result }
-    ensures sound { IfOk result AreLinks }
-    ensures between { IfOk result (All (IsBetween nodes.now)) }
+    ensures sound { IfOk result AreLinkRows }
+    ensures between { IfOk result (λ links. All (IsBetween nodes.now) (rows_of links)) }
 {
     let bytes = bytes_of(alloc, desk, Table::Link)?;
     Ok(read_links(alloc, nodes, &bytes, &settings.units)?)
@@ -91,8 +95,8 @@ pub(crate) fn accept_roads<D: Desk>(
         AcceptsAll settings.now road_tables no_rows rows_in_roads (state desk.old) (state desk.new)
         result }
     ensures nodes { IfOk result (λ roads. AreNodes roads.nodes) }
-    ensures links { IfOk result (λ roads. AreLinks roads.links) }
-    ensures between { IfOk result (λ roads. All (IsBetween roads.nodes) roads.links) }
+    ensures links { IfOk result (λ roads. AreLinkRows roads.links) }
+    ensures between { IfOk result (λ roads. All (IsBetween roads.nodes) (rows_of roads.links)) }
 {
     let nodes = accept_nodes(alloc, desk)?;
     let links = accept_links(alloc, desk, settings, &nodes)?;
@@ -111,8 +115,9 @@ fn turns_in(
         turns_of settings.now (rows_in_roads roads.now) bytes.now ≡ Ok (listed_turns turns)) }
     ensures refused { IfErr result (λ why.
         Tells (turns_of settings.now (rows_in_roads roads.now) bytes.now) (Err why)) }
-    ensures sound { IfOk result (λ turns. AreTurns (listed_turns turns)) }
-    ensures turning { IfOk result (λ turns. All (IsTurning roads.now.links) (listed_turns turns)) }
+    ensures sound { IfOk result (λ turns. AreTurnRows (listed_turns turns)) }
+    ensures turning { IfOk result (λ turns.
+        All (IsTurning (rows_of roads.now.links)) (rows_of (listed_turns turns))) }
 {
     if bytes.is_empty() {
         Ok(None)
@@ -133,8 +138,9 @@ fn accept_turns<D: Desk>(
     ensures reads { let state = state_of D.left D.taken D.read_faults D.put_faults in
         Accepts settings.now table.Movement (rows_in_roads roads.now) (rows_with_turns roads.now)
         (state desk.old) (state desk.new) result }
-    ensures sound { IfOk result (λ turns. AreTurns (listed_turns turns)) }
-    ensures turning { IfOk result (λ turns. All (IsTurning roads.now.links) (listed_turns turns)) }
+    ensures sound { IfOk result (λ turns. AreTurnRows (listed_turns turns)) }
+    ensures turning { IfOk result (λ turns.
+        All (IsTurning (rows_of roads.now.links)) (rows_of (listed_turns turns))) }
 {
     let bytes = bytes_of(alloc, desk, Table::Movement)?;
     Ok(turns_in(alloc, roads, &bytes, settings)?)
@@ -150,6 +156,18 @@ fn accept_demand_cells<D: Desk>(alloc: Global, desk: &mut D) -> Result<Vec<Deman
 {
     let bytes = bytes_of(alloc, desk, Table::Demand)?;
     Ok(read_demand(alloc, &bytes)?)
+}
+
+// Reads and checks the start table.
+fn accept_start<D: Desk>(alloc: Global, desk: &mut D) -> Result<StartRows, Stop>
+    ensures reads { let state = state_of D.left D.taken D.read_faults D.put_faults in
+        (settings : Settings) (rows : TableRows)
+        → Accepts settings table.Start rows (with_start_rows rows)
+        (state desk.old) (state desk.new) result }
+    ensures sound { IfOk result AreStartRows }
+{
+    let bytes = bytes_of(alloc, desk, Table::Start)?;
+    Ok(read_start(alloc, &bytes)?)
 }
 
 /// Reads and checks a table of link times over an accepted network.
@@ -194,14 +212,16 @@ pub(crate) fn accept_network<D: Desk>(
     Ok(NetworkTables { roads, turns })
 }
 
-/// The rows of all tables of an assignment.
+/// The rows of all tables of an assignment. Without a start table there are no rows of one.
 #[derive(Drop)]
 pub(crate) struct Tables {
     pub(crate) network: NetworkTables,
     pub(crate) demand_cells: Vec<DemandCell>,
+    pub(crate) start: StartRows,
 }
 
-/// Reads and checks all tables of an assignment, one after the other.
+/// Reads and checks all tables of an assignment, one after the other, the start table last where
+/// the settings ask for it.
 pub(crate) fn accept_all<D: Desk>(
     alloc: Global,
     desk: &mut D,
@@ -209,16 +229,23 @@ pub(crate) fn accept_all<D: Desk>(
 ) -> Result<Tables, Stop>
     requires settings { AreSettings settings.now }
     ensures reads { let state = state_of D.left D.taken D.read_faults D.put_faults in
-        AcceptsAll settings.now all_tables no_rows rows_in_tables (state desk.old) (state desk.new)
-        result }
+        AcceptsAll settings.now (loading_tables settings.now.start) no_rows rows_in_tables
+        (state desk.old) (state desk.new) result }
     ensures net { IfOk result (λ t.
         IsNet (joined t.network.roads.nodes t.network.roads.links t.network.turns)) }
     ensures demand_cells { IfOk result (λ t. AreDemandCells t.demand_cells.items) }
+    ensures start { IfOk result (λ t. AreStartRows t.start) }
 {
     let network = accept_network(alloc, desk, settings)?;
     let demand_cells = accept_demand_cells(alloc, desk)?;
+    let start = if settings.start {
+        accept_start(alloc, desk)?
+    } else {
+        StartRows::new(alloc)
+    };
     Ok(Tables {
         network,
         demand_cells,
+        start,
     })
 }

@@ -4,6 +4,7 @@ mod held;
 mod refusals;
 mod skims_and_counts;
 mod whole_runs;
+mod windows_waves_and_starts;
 mod workers;
 
 use crate::NoGate;

@@ -1,5 +1,5 @@
 -- Settings by what the words tell.
-use Rattle.std.proofs.Common.{◌≡◌, ◌∙◌, ◌||◌, Bool, false, codes, refl, sym, ap, List, [], ◌∷◌, drop, Option, Some, None}
+use Rattle.std.proofs.Common.{◌≡◌, ◌∙◌, ◌||◌, Bool, false, codes, refl, sym, ap, ap₂, List, [], ◌∷◌, drop, Option, Some, None}
 use Rattle.std.specs.Prelude.{option_and_then, slice_get}
 use Rattle.clap.specs.Matches.{first_value}
 use Rattle.clap.specs.declared.parser.matches.Found.{Found}
@@ -7,9 +7,10 @@ use Rattle.std.specs.Str.{bytes_eq}
 use Rattle.dta_words.specs.Uses.{Text, has_name, uses_of, value_in}
 use Rattle.dta_words.specs.Options.{takes_of}
 use Rattle.dta_words.specs.Reading.{Reads}
-use Rattle.dta_words.specs.Grammar.{is_plain, settings_by, settings_from, settings_of, word_of}
+use Rattle.dta_words.specs.Grammar.{flags_in, settings_by, settings_from, settings_of, word_of}
 use Rattle.dta_words.specs.declared.options.CommandWord.{CommandWord}
 use Rattle.dta_words.specs.declared.options.CommandWord.TheVariants as word
+use Rattle.dta_words.specs.declared.options.Flags.{Flags}
 
 -- settings read no more of the values than these names
 record SameValues (v w : Text → Option Text) : Type 0 where
@@ -23,14 +24,15 @@ record SameValues (v w : Text → Option Text) : Type 0 where
   iterations : v (codes "iterations") ≡ w (codes "iterations")
   workers : v (codes "workers") ≡ w (codes "workers")
   bucket : v (codes "bucket") ≡ w (codes "bucket")
+  wave : v (codes "wave") ≡ w (codes "wave")
   line : v (codes "queue") ≡ w (codes "queue")
   watch : v (codes "watch") ≡ w (codes "watch")
   starts : v (codes "at") ≡ w (codes "at")
   link : v (codes "link") ≡ w (codes "link")
 
-same_settings : (word : CommandWord) (v w : Text → Option Text) (plain : Bool) → SameValues v w
-    → settings_by word v plain ≡ settings_by word w plain
-same_settings word v w plain s = rw (
+same_settings : (word : CommandWord) (v w : Text → Option Text) (flags : Flags) → SameValues v w
+    → settings_by word v flags ≡ settings_by word w flags
+same_settings word v w flags s = rw (
   s.number,
   s.step,
   s.jam,
@@ -41,48 +43,52 @@ same_settings word v w plain s = rw (
   s.iterations,
   s.workers,
   s.bucket,
+  s.wave,
   s.line,
   s.watch,
   s.starts,
   s.link,
 ) refl
 
--- a name is no flag's where it isn't that of the one flag
+-- a name is no flag's where it isn't that of one of the two flags
 no_flag : (word : CommandWord) (name : Text) → bytes_eq (codes "plain") name ≡ false
-    → has_name (takes_of word).flags name ≡ false
-no_flag word.Freeflow name e = refl
-no_flag word.Assign name e = ap (λ b. b || false) e
-no_flag word.Demo name e = ap (λ b. b || false) e
-no_flag word.Skim name e = refl
-no_flag word.Counts name e = ap (λ b. b || false) e
+    → bytes_eq (codes "start") name ≡ false → has_name (takes_of word).flags name ≡ false
+no_flag word.Freeflow name e f = refl
+no_flag word.Assign name e f = ap₂ (λ a b. a || (b || false)) e f
+no_flag word.Demo name e f = ap (λ b. b || false) e
+no_flag word.Skim name e f = refl
+no_flag word.Counts name e f = ap (λ b. b || false) e
 
 values_of : (word : CommandWord) (words : List Text) (found : Found) (r : Reads (takes_of word) words found)
     → SameValues (first_value found) (value_in r.uses)
 values_of word words found r =
-    let read : (name : Text) → bytes_eq (codes "plain") name ≡ false → first_value found name ≡ value_in r.uses name = λ name e. r.values name (no_flag word name e) in
+    let read : (name : Text) → bytes_eq (codes "plain") name ≡ false → bytes_eq (codes "start") name ≡ false
+    → first_value found name ≡ value_in r.uses name =
+    λ name e f. r.values name (no_flag word name e f) in
     record {
-      number = read _ refl;
-      step = read _ refl;
-      jam = read _ refl;
-      length_unit = read _ refl;
-      speed_unit = read _ refl;
-      horizon = read _ refl;
-      period = read _ refl;
-      iterations = read _ refl;
-      workers = read _ refl;
-      bucket = read _ refl;
-      line = read _ refl;
-      watch = read _ refl;
-      starts = read _ refl;
-      link = read _ refl;
+      number = read _ refl refl;
+      step = read _ refl refl;
+      jam = read _ refl refl;
+      length_unit = read _ refl refl;
+      speed_unit = read _ refl refl;
+      horizon = read _ refl refl;
+      period = read _ refl refl;
+      iterations = read _ refl refl;
+      workers = read _ refl refl;
+      bucket = read _ refl refl;
+      wave = read _ refl refl;
+      line = read _ refl refl;
+      watch = read _ refl refl;
+      starts = read _ refl refl;
+      link = read _ refl refl;
     }
 
-pub settings_read : (word : CommandWord) (words : List Text) (found : Found) (plain : Bool)
-    (r : Reads (takes_of word) words found) → plain ≡ is_plain word r.uses
-    → settings_by word (first_value found) plain
+pub settings_read : (word : CommandWord) (words : List Text) (found : Found) (flags : Flags)
+    (r : Reads (takes_of word) words found) → flags ≡ flags_in word r.uses
+    → settings_by word (first_value found) flags
     ≡ option_and_then (settings_from word) (uses_of (takes_of word) words)
-settings_read word words found plain r is =
-    same_settings word (first_value found) (value_in r.uses) plain (values_of word words found r)
+settings_read word words found flags r is =
+    same_settings word (first_value found) (value_in r.uses) flags (values_of word words found r)
     ∙ ap (settings_by word (value_in r.uses)) is
     ∙ sym (ap (option_and_then (settings_from word)) r.all)
 

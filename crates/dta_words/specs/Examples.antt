@@ -16,7 +16,7 @@ use Rattle.dta_words.specs.declared.numbers.TheConstants.{MOST_DIGITS}
 use Rattle.dta_words.specs.declared.options.Bounds.{Bounds}
 use Rattle.dta_words.specs.declared.options.TheConstants.{BUCKET, DEFAULT_PERIOD, HORIZON}
 use Rattle.dta_words.specs.declared.options.TheConstants.{ITERATIONS, JAM, LEAST_SIDE, MOST_SIDE}
-use Rattle.dta_words.specs.declared.options.TheConstants.{MOST_STARTS, STEP, WATCH, WORKERS}
+use Rattle.dta_words.specs.declared.options.TheConstants.{MOST_STARTS, STEP, WATCH, WAVE, WORKERS}
 
 -- ---- the numbers of the options
 
@@ -49,6 +49,10 @@ workers_is = refl
 bucket_is : BUCKET ≡ bounds 1 86400 50
 unfolding bounds
 bucket_is = refl
+
+wave_is : WAVE ≡ bounds 1 100 20
+unfolding bounds
+wave_is = refl
 
 watch_is : WATCH ≡ bounds 0 86400 0
 unfolding bounds
@@ -157,6 +161,7 @@ defaults what = record {
   queue = queue.Point;
   watch = 0;
   plain = false;
+  start = false;
   starts = 0 ∷ [];
   link = None;
 }
@@ -192,6 +197,29 @@ counts_of_a_link :
     ≡ Some (record (defaults command.Counts) { period = 30; plain = true; link = Some 20 })
 unfolding defaults number
 counts_of_a_link = refl
+
+-- a backward wave goes 20 kilometres an hour where no option says it
+newell_alone : settings_of (codes "assign" ∷ codes "--queue" ∷ codes "newell" ∷ [])
+    ≡ Some (record (defaults command.Assign) { queue = queue.Newell 20 })
+unfolding defaults
+newell_alone = refl
+
+newell_of_a_wave : settings_of (codes "counts" ∷ codes "--wave=60" ∷ codes "--queue=newell" ∷ [])
+    ≡ Some (record (defaults command.Counts) { queue = queue.Newell 60 })
+unfolding defaults
+newell_of_a_wave = refl
+
+-- with another queue the wave has no effect
+wave_of_no_queue : settings_of (codes "demo" ∷ codes "7" ∷ codes "--wave" ∷ codes "100" ∷ [])
+    ≡ Some (defaults (command.Demo 7))
+unfolding defaults
+wave_of_no_queue = refl
+
+-- the first routes from an earlier agent table
+assign_from_a_start : settings_of (codes "assign" ∷ codes "--start" ∷ codes "--plain" ∷ [])
+    ≡ Some (record (defaults command.Assign) { plain = true; start = true })
+unfolding defaults
+assign_from_a_start = refl
 
 -- a horizon below 600 steps is the period too
 short_horizon : settings_of (codes "assign" ∷ codes "--horizon" ∷ codes "60" ∷ [])
@@ -249,6 +277,35 @@ flag_with_nothing = refl
 
 flag_with_a_text : settings_of (codes "assign" ∷ codes "--plain=x" ∷ []) ≡ None
 flag_with_a_text = refl
+
+start_with_nothing : settings_of (codes "assign" ∷ codes "--start=" ∷ []) ≡ None
+start_with_nothing = refl
+
+start_with_a_text : settings_of (codes "assign" ∷ codes "--start=start.csv" ∷ []) ≡ None
+start_with_a_text = refl
+
+start_twice : settings_of (codes "assign" ∷ codes "--start" ∷ codes "--start" ∷ []) ≡ None
+start_twice = refl
+
+demo_with_a_start : settings_of (codes "demo" ∷ codes "7" ∷ codes "--start" ∷ []) ≡ None
+demo_with_a_start = refl
+
+counts_with_a_start : settings_of (codes "counts" ∷ codes "--start" ∷ []) ≡ None
+counts_with_a_start = refl
+
+no_wave : settings_of (codes "assign" ∷ codes "--queue=newell" ∷ codes "--wave=0" ∷ []) ≡ None
+no_wave = refl
+
+-- with another queue the wave is checked in the same way
+wave_too_fast :
+    settings_of (codes "assign" ∷ codes "--queue=point" ∷ codes "--wave=101" ∷ []) ≡ None
+wave_too_fast = refl
+
+skim_with_a_wave : settings_of (codes "skim" ∷ codes "--wave=20" ∷ []) ≡ None
+skim_with_a_wave = refl
+
+freeflow_with_a_wave : settings_of (codes "freeflow" ∷ codes "--wave=20" ∷ []) ≡ None
+freeflow_with_a_wave = refl
 
 short_option : settings_of (codes "assign" ∷ codes "-s" ∷ codes "6" ∷ []) ≡ None
 short_option = refl

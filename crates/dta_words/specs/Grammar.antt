@@ -18,9 +18,10 @@ use Rattle.dta_words.specs.Starts.{starts_given}
 use Rattle.dta_words.specs.declared.options.Bounds.{Bounds}
 use Rattle.dta_words.specs.declared.options.CommandWord.{CommandWord}
 use Rattle.dta_words.specs.declared.options.CommandWord.TheVariants as word
+use Rattle.dta_words.specs.declared.options.Flags.{Flags}
 use Rattle.dta_words.specs.declared.options.TheConstants.{BUCKET, DEFAULT_PERIOD, HORIZON}
 use Rattle.dta_words.specs.declared.options.TheConstants.{ITERATIONS, JAM, LEAST_SIDE, MOST_SIDE}
-use Rattle.dta_words.specs.declared.options.TheConstants.{STEP, WATCH, WORKERS}
+use Rattle.dta_words.specs.declared.options.TheConstants.{STEP, WATCH, WAVE, WORKERS}
 use Rattle.dta_words.specs.declared.command.Command.{Command}
 use Rattle.dta_words.specs.declared.command.Command.TheVariants as command
 use Rattle.dta_words.specs.declared.command.Settings.{Settings}
@@ -50,10 +51,12 @@ speed_unit_of None = Some speed_unit.Kmh
 speed_unit_of (Some text) = if bytes_eq text (codes "kmh") then Some speed_unit.Kmh
     else (if bytes_eq text (codes "mph") then Some speed_unit.Mph else None)
 
-abbrev pub queue_of : Option Text → Option Queue
-queue_of None = Some queue.Point
-queue_of (Some text) = if bytes_eq text (codes "point") then Some queue.Point
-    else (if bytes_eq text (codes "spatial") then Some queue.Spatial else None)
+-- the speed of a backward wave belongs to Newell's queue alone
+abbrev pub queue_of : ℕ → Option Text → Option Queue
+queue_of wave None = Some queue.Point
+queue_of wave (Some text) = if bytes_eq text (codes "point") then Some queue.Point
+    else (if bytes_eq text (codes "spatial") then Some queue.Spatial
+    else (if bytes_eq text (codes "newell") then Some (queue.Newell wave) else None))
 
 -- the link that the option gives by its identifier, if it is given
 abbrev pub link_given : Option Text → Option (Option ℕ)
@@ -90,17 +93,18 @@ units_by value = do
   Some (record { delta = step; jam = jam; length = length_unit; speed = speed_unit })
 
 -- the settings over a horizon with these starts, where `value` has the text of each option, and
--- `plain` says whether that flag is given
+-- `flags` says which flags are given
 abbrev pub settings_over :
-    ℕ → List ℕ → CommandWord → (Text → Option Text) → Bool → Option Settings
-settings_over horizon starts first value plain = do
+    ℕ → List ℕ → CommandWord → (Text → Option Text) → Flags → Option Settings
+settings_over horizon starts first value flags = do
   what ← command_of first (value number_name)
   units ← units_by value
   period ← number_given (period_within horizon) (value (codes "period"))
   iterations ← number_given ITERATIONS (value (codes "iterations"))
   workers ← number_given WORKERS (value (codes "workers"))
   bucket ← number_given BUCKET (value (codes "bucket"))
-  line ← queue_of (value (codes "queue"))
+  wave ← number_given WAVE (value (codes "wave"))
+  line ← queue_of wave (value (codes "queue"))
   watch ← number_given WATCH (value (codes "watch"))
   link ← link_given (value (codes "link"))
   Some (record {
@@ -113,19 +117,20 @@ settings_over horizon starts first value plain = do
     bucket = bucket;
     queue = line;
     watch = watch;
-    plain = plain;
+    plain = flags.plain;
+    start = flags.start;
     starts = starts;
     link = link;
   })
 
 -- the settings; the starts are below the horizon
-abbrev pub settings_by : CommandWord → (Text → Option Text) → Bool → Option Settings
-settings_by first value plain = do
+abbrev pub settings_by : CommandWord → (Text → Option Text) → Flags → Option Settings
+settings_by first value flags = do
   horizon ← number_given HORIZON (value (codes "horizon"))
   starts ← starts_given horizon (value (codes "at"))
-  settings_over horizon starts first value plain
+  settings_over horizon starts first value flags
 
--- whether a command's uses have the flag; `freeflow` and `skim` have none
+-- whether a command's uses have the flag for the plain loader; `freeflow` and `skim` have none
 abbrev pub is_plain : CommandWord → List Use → Bool
 is_plain word.Freeflow uses = false
 is_plain word.Assign uses = is_given uses (codes "plain")
@@ -133,8 +138,19 @@ is_plain word.Demo uses = is_given uses (codes "plain")
 is_plain word.Skim uses = false
 is_plain word.Counts uses = is_given uses (codes "plain")
 
+-- whether a command's uses have the flag for a start table; `assign` alone has it
+abbrev pub has_start : CommandWord → List Use → Bool
+has_start word.Freeflow uses = false
+has_start word.Assign uses = is_given uses (codes "start")
+has_start word.Demo uses = false
+has_start word.Skim uses = false
+has_start word.Counts uses = false
+
+abbrev pub flags_in : CommandWord → List Use → Flags
+flags_in first uses = record { plain = is_plain first uses; start = has_start first uses }
+
 abbrev pub settings_from : CommandWord → List Use → Option Settings
-settings_from first uses = settings_by first (value_in uses) (is_plain first uses)
+settings_from first uses = settings_by first (value_in uses) (flags_in first uses)
 
 -- the settings that a list of words asks for
 abbrev pub settings_of : List Text → Option Settings

@@ -14,13 +14,13 @@ takes_of word.Freeflow = record {
 takes_of word.Assign = record {
   options = codes "step" ∷ codes "jam" ∷ codes "length-unit" ∷ codes "speed-unit"
       ∷ codes "horizon" ∷ codes "period" ∷ codes "iterations" ∷ codes "workers"
-      ∷ codes "bucket" ∷ codes "queue" ∷ codes "watch" ∷ [];
-  flags = codes "plain" ∷ [];
+      ∷ codes "bucket" ∷ codes "queue" ∷ codes "wave" ∷ codes "watch" ∷ [];
+  flags = codes "plain" ∷ codes "start" ∷ [];
   number = false;
 }
 takes_of word.Demo = record {
   options = codes "step" ∷ codes "jam" ∷ codes "horizon" ∷ codes "period" ∷ codes "iterations"
-      ∷ codes "workers" ∷ codes "bucket" ∷ codes "queue" ∷ codes "watch" ∷ [];
+      ∷ codes "workers" ∷ codes "bucket" ∷ codes "queue" ∷ codes "wave" ∷ codes "watch" ∷ [];
   flags = codes "plain" ∷ [];
   number = true;
 }
@@ -33,7 +33,7 @@ takes_of word.Skim = record {
 takes_of word.Counts = record {
   options = codes "step" ∷ codes "jam" ∷ codes "length-unit" ∷ codes "speed-unit"
       ∷ codes "horizon" ∷ codes "period" ∷ codes "iterations" ∷ codes "workers"
-      ∷ codes "bucket" ∷ codes "queue" ∷ codes "link" ∷ [];
+      ∷ codes "bucket" ∷ codes "queue" ∷ codes "wave" ∷ codes "link" ∷ [];
   flags = codes "plain" ∷ [];
   number = false;
 }

@@ -1,6 +1,7 @@
 -- The ranges of settings.
 use Rattle.std.specs.Prelude.{ℕ, ◌≤◌, ◌<◌, ⊤, List, length}
 use Rattle.std.specs.List.{All}
+use Rattle.dta_model.specs.Sound.{IsQueue}
 use Rattle.dta_words.specs.declared.command.Command.{Command}
 use Rattle.dta_words.specs.declared.command.Command.TheVariants as command
 use Rattle.dta_words.specs.declared.command.Settings.{Settings}
@@ -30,5 +31,7 @@ pub record AreSettings (s : Settings) : Type 0 where
   pub iterations : IsBetween 1 1000 s.iterations
   pub workers : IsBetween 1 16 s.workers
   pub bucket : IsBetween 1 86400 s.bucket
+  -- a backward wave goes 1 to 100 kilometres an hour
+  pub queue : IsQueue s.queue
   pub watch : s.watch ≤ 86400
   pub starts : AreStarts s.horizon s.starts

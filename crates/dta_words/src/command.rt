@@ -37,6 +37,8 @@ pub struct Settings {
     pub watch: u32,
     /// Whether the plain loader loads.
     pub plain: bool,
+    /// Whether the first routes come from an earlier agent table.
+    pub start: bool,
     /// The steps in which walks start, in the order given: 1 to 64, each below the horizon. Step 0
     /// alone is the default.
     pub starts: Steps,

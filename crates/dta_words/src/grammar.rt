@@ -2,6 +2,7 @@
 ghost use Rattle.std.specs.Prelude.{◌≡◌, ◌<◌, IfErr, IfOk, List, None, Some, drop, length};
 ghost use Rattle.std.specs.Prelude.{option_and_then};
 ghost use Rattle.clap.specs.Matches.{found_of};
+ghost use Rattle.dta_words.specs.Grammar.{flags_in, has_start as has_start_of};
 ghost use Rattle.dta_words.specs.Grammar.{is_plain as is_plain_of, settings_from};
 ghost use Rattle.dta_words.specs.Grammar.{settings_of, word_of};
 ghost use Rattle.dta_words.specs.Options.{takes_of};
@@ -11,7 +12,7 @@ ghost use Rattle.dta_words.specs.Uses.{Text, uses_of};
 ghost use Rattle.dta_words.specs.declared.refusal.WordsRefusal.TheVariants as refusal;
 
 use crate::command::Settings;
-use crate::options::CommandWord;
+use crate::options::{CommandWord, Flags};
 use crate::reading::read;
 use crate::refusal::WordsRefusal;
 use crate::values::settings_by_values;
@@ -49,6 +50,29 @@ fn is_plain(word: CommandWord, found: &ArgMatches) -> bool
     }
 }
 
+/// Whether the flag for a start table is given.
+fn has_start(word: CommandWord, found: &ArgMatches) -> bool
+    ensures { (words : List Text) → (r : Reads (takes_of word) words (found_of found.now))
+        → result ≡ has_start_of word r.uses }
+{
+    match word {
+        CommandWord::Assign => found.get_flag("start"),
+        CommandWord::Freeflow | CommandWord::Demo | CommandWord::Skim | CommandWord::Counts =>
+            false,
+    }
+}
+
+/// The flags that are given.
+fn flags(word: CommandWord, found: &ArgMatches) -> Flags
+    ensures { (words : List Text) → (r : Reads (takes_of word) words (found_of found.now))
+        → result ≡ flags_in word r.uses }
+{
+    Flags {
+        plain: is_plain(word, found),
+        start: has_start(word, found),
+    }
+}
+
 /// The settings of the words behind a command's name.
 fn settings_behind(
     alloc: Global,
@@ -65,8 +89,8 @@ fn settings_behind(
         ≡ None) }
 {
     let found = read(alloc, word, words)?;
-    let plain = is_plain(word, &found);
-    match settings_by_values(alloc, word, &found, plain)? {
+    let flags = flags(word, &found);
+    match settings_by_values(alloc, word, &found, flags)? {
         Some(settings) => Ok(settings),
         None => Err(WordsRefusal::Usage),
     }

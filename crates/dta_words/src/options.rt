@@ -3,7 +3,7 @@ ghost use Rattle.std.specs.Prelude.{◌≡◌};
 ghost use Rattle.clap.specs.Walk.{texts};
 ghost use Rattle.dta_words.specs.Options.{takes_of};
 
-use dta_model::MOST_HORIZON;
+use dta_model::{MOST_HORIZON, MOST_WAVE};
 
 /// The command that the first word names.
 #[derive(Clone, Copy, Debug, PartialEq, Eq)]
@@ -22,6 +22,13 @@ pub(crate) struct Bounds {
     pub(crate) least: u32,
     pub(crate) most: u32,
     pub(crate) default: u32,
+}
+
+/// Which flags are given.
+#[derive(Clone, Copy, Debug, PartialEq, Eq)]
+pub(crate) struct Flags {
+    pub(crate) plain: bool,
+    pub(crate) start: bool,
 }
 
 /// The seconds of a step.
@@ -69,6 +76,13 @@ pub(crate) const BUCKET: Bounds = Bounds {
     default: 50,
 };
 
+/// The speed of a backward wave in kilometres an hour.
+pub(crate) const WAVE: Bounds = Bounds {
+    least: 1,
+    most: MOST_WAVE,
+    default: 20,
+};
+
 /// The steps between two watch lines, 0 for none.
 pub(crate) const WATCH: Bounds = Bounds {
     least: 0,
@@ -87,7 +101,7 @@ pub(crate) const MOST_SIDE: u32 = 60;
 
 static FREEFLOW_OPTIONS: [&str; 4] = ["step", "jam", "length-unit", "speed-unit"];
 
-static ASSIGN_OPTIONS: [&str; 11] = [
+static ASSIGN_OPTIONS: [&str; 12] = [
     "step",
     "jam",
     "length-unit",
@@ -98,10 +112,11 @@ static ASSIGN_OPTIONS: [&str; 11] = [
     "workers",
     "bucket",
     "queue",
+    "wave",
     "watch",
 ];
 
-static DEMO_OPTIONS: [&str; 9] = [
+static DEMO_OPTIONS: [&str; 10] = [
     "step",
     "jam",
     "horizon",
@@ -110,6 +125,7 @@ static DEMO_OPTIONS: [&str; 9] = [
     "workers",
     "bucket",
     "queue",
+    "wave",
     "watch",
 ];
 
@@ -123,7 +139,7 @@ static SKIM_OPTIONS: [&str; 7] = [
     "at",
 ];
 
-static COUNTS_OPTIONS: [&str; 11] = [
+static COUNTS_OPTIONS: [&str; 12] = [
     "step",
     "jam",
     "length-unit",
@@ -134,10 +150,13 @@ static COUNTS_OPTIONS: [&str; 11] = [
     "workers",
     "bucket",
     "queue",
+    "wave",
     "link",
 ];
 
-static FLAGS: [&str; 1] = ["plain"];
+static ASSIGN_FLAGS: [&str; 2] = ["plain", "start"];
+
+static PLAIN_ALONE: [&str; 1] = ["plain"];
 
 static NO_FLAGS: [&str; 0] = [];
 
@@ -160,7 +179,8 @@ pub(crate) fn flags_of(word: CommandWord) -> &'static [&'static str]
 {
     match word {
         CommandWord::Freeflow | CommandWord::Skim => NO_FLAGS.as_slice(),
-        CommandWord::Assign | CommandWord::Demo | CommandWord::Counts => FLAGS.as_slice(),
+        CommandWord::Assign => ASSIGN_FLAGS.as_slice(),
+        CommandWord::Demo | CommandWord::Counts => PLAIN_ALONE.as_slice(),
     }
 }
 

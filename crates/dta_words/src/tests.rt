@@ -26,6 +26,7 @@ struct Wanted {
     queue: Queue,
     watch: u32,
     plain: bool,
+    start: bool,
     starts: &'static [u32],
     link: Option<u64>,
 }
@@ -42,6 +43,7 @@ impl Wanted {
             && settings.queue == self.queue
             && settings.watch == self.watch
             && settings.plain == self.plain
+            && settings.start == self.start
             && settings.starts.as_slice() == self.starts
             && settings.link == self.link
     }
@@ -64,11 +66,12 @@ const DEFAULTS: Wanted = Wanted {
     queue: Queue::Point,
     watch: 0,
     plain: false,
+    start: false,
     starts: &[0],
     link: None,
 };
 
-const ACCEPTED: [(&[&str], Wanted); 10] = [
+const ACCEPTED: [(&[&str], Wanted); 16] = [
     (&["assign"], DEFAULTS),
     (
         &["assign", "--step=6", "--horizon", "60"],
@@ -84,6 +87,44 @@ const ACCEPTED: [(&[&str], Wanted); 10] = [
             horizon: 60,
             period: 30,
             plain: true,
+            ..DEFAULTS
+        },
+    ),
+    (
+        &["assign", "--queue", "newell"],
+        Wanted {
+            queue: Queue::Newell { wave: 20 },
+            ..DEFAULTS
+        },
+    ),
+    (
+        &["assign", "--queue", "newell", "--wave", "60"],
+        Wanted {
+            queue: Queue::Newell { wave: 60 },
+            ..DEFAULTS
+        },
+    ),
+    (&["assign", "--wave", "60"], DEFAULTS),
+    (
+        &["counts", "--wave=007", "--queue=newell"],
+        Wanted {
+            command: Command::Counts,
+            queue: Queue::Newell { wave: 7 },
+            ..DEFAULTS
+        },
+    ),
+    (
+        &["demo", "12", "--queue=newell", "--wave=100"],
+        Wanted {
+            command: Command::Demo(12),
+            queue: Queue::Newell { wave: 100 },
+            ..DEFAULTS
+        },
+    ),
+    (
+        &["assign", "--start"],
+        Wanted {
+            start: true,
             ..DEFAULTS
         },
     ),
@@ -148,7 +189,7 @@ const ACCEPTED: [(&[&str], Wanted); 10] = [
     ),
 ];
 
-const REFUSED: [&[&str]; 34] = [
+const REFUSED: [&[&str]; 46] = [
     &[],
     &["Assign"],
     &["assign", "--step", "61"],
@@ -158,6 +199,18 @@ const REFUSED: [&[&str]; 34] = [
     &["demo"],
     &["assign", "--plain="],
     &["assign", "--plain=x"],
+    &["assign", "--start="],
+    &["assign", "--start=start.csv"],
+    &["demo", "12", "--start"],
+    &["counts", "--start"],
+    &["skim", "--start"],
+    &["assign", "--queue", "newell", "--wave", "0"],
+    &["assign", "--wave", "0"],
+    &["assign", "--queue", "newell", "--wave", "101"],
+    &["assign", "--queue", "newell", "--wave", "20.5"],
+    &["assign", "--queue", "Newell"],
+    &["skim", "--wave", "20"],
+    &["freeflow", "--wave", "20"],
     &["assign", "-s", "6"],
     &["assign", "--ste", "6"],
     &["assign", "--help"],

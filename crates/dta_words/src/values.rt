@@ -1,6 +1,7 @@
 // The values of options, as settings.
 ghost use Rattle.std.specs.Prelude.{◌≡◌, ◌≤◌, IfOk, IfSome, Some, codes};
 ghost use Rattle.clap.specs.Matches.{first_value, found_of, one_text};
+ghost use Rattle.dta_model.specs.Sound.{IsQueue};
 ghost use Rattle.dta_words.specs.Numbers.{number_given};
 ghost use Rattle.dta_words.specs.Grammar.{command_of, length_unit_of, link_given, period_within};
 ghost use Rattle.dta_words.specs.Grammar.{queue_of, settings_by, side_of, speed_unit_of, units_by};
@@ -12,8 +13,8 @@ use crate::clap_command::NUMBER;
 use crate::command::{Command, Settings};
 use crate::numbers::number_between;
 use crate::options::{
-    BUCKET, Bounds, CommandWord, DEFAULT_PERIOD, HORIZON, ITERATIONS, JAM, LEAST_SIDE, MOST_SIDE,
-    STEP, WATCH, WORKERS,
+    BUCKET, Bounds, CommandWord, DEFAULT_PERIOD, Flags, HORIZON, ITERATIONS, JAM, LEAST_SIDE,
+    MOST_SIDE, STEP, WATCH, WAVE, WORKERS,
 };
 use crate::starts::{first_step, starts_in};
 use clap::ArgMatches;
@@ -73,9 +74,11 @@ fn speed_unit(found: &ArgMatches) -> Option<SpeedUnit>
     }
 }
 
-/// The kind of queues.
-fn queue(found: &ArgMatches) -> Option<Queue>
-    ensures { result ≡ queue_of (first_value (found_of found.now) (codes "queue")) }
+/// The kind of queues, where a backward wave has this speed.
+fn queue(found: &ArgMatches, wave: u32) -> Option<Queue>
+    requires { IsBetween WAVE.least WAVE.most wave }
+    ensures value { result ≡ queue_of wave (first_value (found_of found.now) (codes "queue")) }
+    ensures within { IfSome result IsQueue }
 {
     match found.get_str("queue") {
         None => Some(Queue::Point),
@@ -84,6 +87,8 @@ fn queue(found: &ArgMatches) -> Option<Queue>
                 Some(Queue::Point)
             } else if text == "spatial" {
                 Some(Queue::Spatial)
+            } else if text == "newell" {
+                Some(Queue::Newell { wave })
             } else {
                 None
             }
@@ -182,12 +187,12 @@ fn settings_over(
     starts: Steps,
     word: CommandWord,
     found: &ArgMatches,
-    plain: bool,
+    flags: Flags,
 ) -> Option<Settings>
     requires horizon { IsBetween HORIZON.least HORIZON.most horizon }
     requires starts { AreStarts horizon starts }
     ensures value { result
-        ≡ settings_over_of horizon starts word (first_value (found_of found.now)) plain }
+        ≡ settings_over_of horizon starts word (first_value (found_of found.now)) flags }
     ensures ranges { IfSome result AreSettings }
 {
     let command = command(word, found)?;
@@ -196,7 +201,8 @@ fn settings_over(
     let iterations = number(found, "iterations", ITERATIONS)?;
     let workers = number(found, "workers", WORKERS)?;
     let bucket = number(found, "bucket", BUCKET)?;
-    let queue = queue(found)?;
+    let wave = number(found, "wave", WAVE)?;
+    let queue = queue(found, wave)?;
     let watch = number(found, "watch", WATCH)?;
     let link = link(found)?;
     Some(Settings {
@@ -209,7 +215,8 @@ fn settings_over(
         bucket,
         queue,
         watch,
-        plain,
+        plain: flags.plain,
+        start: flags.start,
         starts,
         link,
     })
@@ -220,10 +227,10 @@ pub(crate) fn settings_by_values(
     alloc: Global,
     word: CommandWord,
     found: &ArgMatches,
-    plain: bool,
+    flags: Flags,
 ) -> Result<Option<Settings>, Memory>
     ensures value { IfOk result (λ settings.
-        settings ≡ settings_by word (first_value (found_of found.now)) plain) }
+        settings ≡ settings_by word (first_value (found_of found.now)) flags) }
     ensures ranges { IfOk result (λ settings. IfSome settings AreSettings) }
 {
     let horizon = match number(found, "horizon", HORIZON) {
@@ -232,6 +239,6 @@ pub(crate) fn settings_by_values(
     };
     match starts(alloc, found, horizon)? {
         None => Ok(None),
-        Some(starts) => Ok(settings_over(horizon, starts, word, found, plain)),
+        Some(starts) => Ok(settings_over(horizon, starts, word, found, flags)),
     }
 }

@@ -32,6 +32,20 @@ returns-in_err-line-clause-watches g c =
       reads = w.reads;
     })
 
+pub returns-in_err-since-clause-watches : goal.returns-in_err-since-clause-watches
+returns-in_err-since-clause-watches g c =
+    let p = err_from_is_err_and c.from_residual-in_err-since.result c.from_residual-in_err-since.ensures.1 in
+    let w = c.in_ok-round.ensures.watches in
+    rw (p.1, p.2) (record {
+      done = tt;
+      halts = λ start before. halts-after c.args.settings.now c.args.job.now c.in_err-since.field-0.0 c.args.settings.now.iterations c.args.routes c.args.lines.items start
+          (g.D.Desk.taken c.args.desk.now) (g.D.Desk.taken c.load_round.new.desk) before (omega arith) w.done c.in_err-since.ensures.memory;
+      failed = not-watch c.in_err-since.field-0.0 _ c.in_err-since.ensures.memory;
+      later = w.later;
+      left = w.left;
+      reads = w.reads;
+    })
+
 pub returns-in_err-counts-clause-watches : goal.returns-in_err-counts-clause-watches
 returns-in_err-counts-clause-watches g c =
     let p = err_from_is_err_and c.from_residual-in_err-counts.result c.from_residual-in_err-counts.ensures.1 in
@@ -66,7 +80,7 @@ returns-clause-watches g c =
     record {
       done = λ start before. assigned c.args.settings.now c.args.job.now _ c.args.lines.items start
           (g.D.Desk.taken c.args.desk.now) (g.D.Desk.taken c.load_round.new.desk) before w.done c.in_ok-push.ensures.items c.in_ok-line.ensures.gap c.in_ok-round.ensures.last
-          c.in_ok-counts.ensures;
+          c.in_ok-since.ensures.told c.in_ok-counts.ensures;
       halts = tt;
       failed = tt;
       later = w.later;

@@ -9,4 +9,4 @@ gap_by_shares-requires-clause-table g c _ _ =
 
 pub gap_by_shares-requires-clause-walks : goal.gap_by_shares-requires-clause-walks
 gap_by_shares-requires-clause-walks g c _ _ =
-    walks-of {times = c.job.inside.times} c.args.job.now c.job.inside.net c.as_slice-trips.result.now c.args.routes.now (rw c.as_slice-trips.ensures.value c.job.view_is) c.requires.routes
+    walks-of {start = c.job.inside.start} {times = c.job.inside.times} c.args.job.now c.job.inside.net c.as_slice-trips.result.now c.args.routes.now (rw c.as_slice-trips.ensures.value c.job.view_is) c.requires.routes

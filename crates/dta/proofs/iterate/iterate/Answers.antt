@@ -13,7 +13,7 @@ returns-in_err-routes-clause-watches g c =
     let p = err_from_is_err_and c.from_residual.result c.from_residual.ensures.1 in
     rw (p.1, p.2) (record {
       done = tt;
-      halts = rw c.in_err-routes.ensures.memory (halts-first c.args.settings.now c.args.job.now (g.D.Desk.taken c.args.desk.now));
+      halts = rw c.in_err-routes.ensures.memory (halts-first c.args.settings.now c.args.job.now (g.D.Desk.taken c.args.desk.now) c.requires.job.start);
       failed = not-watch c.in_err-routes.field-0.0 _ c.in_err-routes.ensures.memory;
       later = omega arith;
       left = refl;
@@ -27,7 +27,7 @@ returns-in_err-routes-clause-receipts g c =
 
 pub loop-iteration-init : goal.loop-iteration-init
 loop-iteration-init g c = record {
-  before = begun c.args.settings.now c.args.job.now c.in_ok-routes.routes c.new-lines.result.items (g.D.Desk.taken c.args.desk.now) (search rules) c.in_ok-routes.ensures.first;
+  before = begun c.args.settings.now c.args.job.now c.in_ok-routes.routes c.new-lines.result.items (g.D.Desk.taken c.args.desk.now) (search rules) c.requires.job.start c.in_ok-routes.ensures.first;
   routes = c.in_ok-routes.ensures.routes;
   left = refl;
   later = omega arith;

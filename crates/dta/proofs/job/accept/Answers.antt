@@ -1,4 +1,4 @@
-use Rattle.std.proofs.Common.{rules}
+use Rattle.std.proofs.Common.{arith, refl, rules}
 use Rattle.dta.proofs.JobFacts.{free-own, free-stop, loaded-own, loaded-stop, skim-own, skim-stop}
 use Rattle.dta.proofs.job.accept.Goals as goal
 
@@ -34,3 +34,12 @@ returns-in-Skim-clause-reads g c =
       taken = r.taken;
       puts = r.puts;
     }
+
+pub returns-in-Demo-clause-reads : goal.returns-in-Demo-clause-reads
+returns-in-Demo-clause-reads g c = record {
+  done = c.accept_grid.ensures.job _;
+  stops = c.accept_grid.ensures.stops _ _ refl;
+  later = omega arith;
+  taken = refl;
+  puts = refl;
+}

@@ -5,7 +5,7 @@ use Rattle.dta.specs.Calls.{rows_in_network, with_time_rows}
 use Rattle.dta.specs.Outcome.{state_of}
 use Rattle.dta.specs.Tables.{network_tables, no_rows}
 use Rattle.dta.proofs.ChainFacts.{accepted-both, accepted-one, among-first, among-then}
-use Rattle.dta.proofs.JobFacts.{among-skim, skim-in, skim-job, skim-read, skim-starved}
+use Rattle.dta.proofs.JobFacts.{among-skim, no-start-rows, no-trips, skim-in, skim-job, skim-read, skim-starved}
 use Rattle.dta.proofs.job.accept_skim.Goals as goal
 
 pub returns-in_err-network-clause-reads : goal.returns-in_err-network-clause-reads
@@ -85,10 +85,18 @@ returns-clause-reads g c =
     let read = accepted-both s network_tables (table.Times ∷ []) no_rows rows all _ _ _ r.done
     (accepted-one s table.Times rows all _ _ t.done) in
     record {
-      done = rw (c.in_ok-net.ensures, c.new-trips.ensures.items)
-          (skim-job s c.requires.command all _ _ read (c.in_ok-skim_sizes.ensures.within all (sym c.in_ok-net.ensures)) refl);
+      done = rw (c.in_ok-net.ensures, c.new-trips.ensures.items, c.new-start.ensures)
+          (skim-job s c.requires.command all _ _ read (c.in_ok-skim_sizes.ensures.within all (sym c.in_ok-net.ensures)) refl refl);
       stops = tt;
       later = (let a = r.later in let b = t.later in omega (arith, a, b));
       taken = t.taken ∙ r.taken;
       puts = t.puts ∙ r.puts;
     }
+
+pub returns-clause-sound : goal.returns-clause-sound
+returns-clause-sound g c = record {
+  net = rw (c.in_ok-net.ensures) c.in_ok-network.ensures.net;
+  trips = rw (c.new-trips.ensures.items) (no-trips c.args.settings.now.horizon);
+  start = rw (c.new-start.ensures) no-start-rows;
+  times = λ asks. c.in_ok-times.ensures.sound;
+}

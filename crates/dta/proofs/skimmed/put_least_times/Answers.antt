@@ -32,7 +32,7 @@ returns-in-Ok g c =
 
 pub returns : goal.returns
 returns g c = record {
-  work = skim-starved c.args.settings.now c.args.job.now _;
+  work = skim-starved c.args.settings.now c.args.job.now _ c.requires.job.start;
   failed = λ (k : status.Memory ≡ status.WriteFault). absurd cc;
   later = omega arith;
   left = refl;

@@ -1,10 +1,11 @@
 use Rattle.std.proofs.Common.{[], ◌∷◌, ◌∙◌, arith}
 use Rattle.std.proofs.lemmas.Result.{err_from_is_err_and}
 use Rattle.desk_io.specs.declared.desk.Table.TheVariants as table
-use Rattle.dta.specs.Calls.{rows_in_network}
-use Rattle.dta.specs.Tables.{network_tables, no_rows}
-use Rattle.dta.proofs.ChainFacts.{accepted-both, accepted-one, among-first, among-then}
+use Rattle.dta.specs.Calls.{rows_in_network, with_demand_cells, with_start_rows}
+use Rattle.dta.specs.Tables.{network_tables, no_rows, start_tables}
+use Rattle.dta.proofs.ChainFacts.{accepted-both, accepted-one, accepted-start, accepted-unstarted, among-first, among-start, among-then}
 use Rattle.dta.proofs.tables.accept_all.Goals as goal
+use Rattle.dta.proofs.tables.accept_all.Goals.{then-settings+in_ok-start, else-settings}
 
 pub returns-in_err-network-clause-reads : goal.returns-in_err-network-clause-reads
 returns-in_err-network-clause-reads g c =
@@ -12,7 +13,7 @@ returns-in_err-network-clause-reads g c =
     let r = c.in_err-network.ensures.reads in
     rw (p.1, p.2) (record {
       done = tt;
-      stops = among-first c.args.settings.now network_tables (table.Demand ∷ []) no_rows _ _ _ r.stops;
+      stops = among-first c.args.settings.now network_tables (table.Demand ∷ start_tables c.args.settings.now.start) no_rows _ _ _ r.stops;
       later = r.later;
       taken = r.taken;
       puts = r.puts;
@@ -26,22 +27,56 @@ returns-in_err-demand_cells-clause-reads g c =
     let d = c.in_err-demand_cells.ensures.reads c.args.settings.now network in
     rw (p.1, p.2) (record {
       done = tt;
-      stops = among-then c.args.settings.now network_tables [] table.Demand no_rows network _ _ _ _ r.done r.later d.stops;
+      stops = among-then c.args.settings.now network_tables (start_tables c.args.settings.now.start) table.Demand no_rows network _ _ _ _ r.done r.later d.stops;
       later = (let a = r.later in let b = d.later in omega (arith, a, b));
       taken = d.taken ∙ r.taken;
       puts = d.puts ∙ r.puts;
     })
 
+pub returns-in_err-start-clause-reads : goal.returns-in_err-start-clause-reads
+returns-in_err-start-clause-reads g c =
+    let p = err_from_is_err_and c.from_residual-in_err-start.result c.from_residual-in_err-start.ensures.1 in
+    let s = c.args.settings.now in
+    let network = rows_in_network c.in_ok-network.network in
+    let cells = with_demand_cells network c.in_ok-demand_cells.demand_cells in
+    let r = c.in_ok-network.ensures.reads in
+    let d = c.in_ok-demand_cells.ensures.reads s network in
+    let t = c.in_err-start.ensures.reads s cells in
+    let others = accepted-both s network_tables (table.Demand ∷ []) no_rows network cells _ _ _ r.done
+    (accepted-one s table.Demand network cells _ _ d.done) in
+    rw (p.1, p.2) (record {
+      done = tt;
+      stops = among-start s s.start cells _ _ _ _ c.if-settings.true others (let a = r.later in let b = d.later in omega (arith, a, b)) t.stops;
+      later = (let a = r.later in let b = d.later in let e = t.later in omega (arith, a, b, e));
+      taken = t.taken ∙ d.taken ∙ r.taken;
+      puts = t.puts ∙ d.puts ∙ r.puts;
+    })
+
 pub returns-clause-reads : goal.returns-clause-reads
 returns-clause-reads g c =
+    let s = c.args.settings.now in
     let network = rows_in_network c.in_ok-network.network in
+    let cells = with_demand_cells network c.in_ok-demand_cells.demand_cells in
     let r = c.in_ok-network.ensures.reads in
-    let d = c.in_ok-demand_cells.ensures.reads c.args.settings.now network in
-    record {
-      done = accepted-both c.args.settings.now network_tables (table.Demand ∷ []) no_rows network _ _ _ _ r.done
-          (accepted-one c.args.settings.now table.Demand network _ _ _ d.done);
-      stops = tt;
-      later = (let a = r.later in let b = d.later in omega (arith, a, b));
-      taken = d.taken ∙ r.taken;
-      puts = d.puts ∙ r.puts;
-    }
+    let d = c.in_ok-demand_cells.ensures.reads s network in
+    let others = accepted-both s network_tables (table.Demand ∷ []) no_rows network cells _ _ _ r.done
+    (accepted-one s table.Demand network cells _ _ d.done) in
+    elim c.if-settings.branch [
+      | then-settings+in_ok-start w ↦
+          let t = w.in_ok-start.ensures.reads s cells in
+          rw (w.start-is, w.desk-is) (record {
+            done = accepted-start s s.start cells (with_start_rows cells w.in_ok-start.start) _ _ _ w.if-settings.true others t.done;
+            stops = tt;
+            later = (let a = r.later in let b = d.later in let e = t.later in omega (arith, a, b, e));
+            taken = t.taken ∙ d.taken ∙ r.taken;
+            puts = t.puts ∙ d.puts ∙ r.puts;
+          })
+      | else-settings w ↦
+          rw (w.start-is, w.new-start.ensures, w.desk-is) (record {
+            done = accepted-unstarted s s.start cells _ _ w.if-settings.false others;
+            stops = tt;
+            later = (let a = r.later in let b = d.later in omega (arith, a, b));
+            taken = d.taken ∙ r.taken;
+            puts = d.puts ∙ r.puts;
+          })
+    ]

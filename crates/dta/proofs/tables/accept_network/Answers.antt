@@ -3,6 +3,8 @@ use Rattle.std.proofs.lemmas.Result.{err_from_is_err_and}
 use Rattle.desk_io.specs.declared.desk.Table.TheVariants as table
 use Rattle.dta.specs.Calls.{rows_in_roads}
 use Rattle.dta.specs.Tables.{no_rows, road_tables}
+use Rattle.gmns_tables.specs.Net.{listed_turns}
+use Rattle.dta.proofs.TableFacts.{joined-net}
 use Rattle.dta.proofs.ChainFacts.{accepted-both, accepted-one, among-first, among-then}
 use Rattle.dta.proofs.tables.accept_network.Goals as goal
 
@@ -45,3 +47,8 @@ returns-clause-reads g c =
       taken = t.taken ∙ r.taken;
       puts = t.puts ∙ r.puts;
     }
+
+pub returns-clause-net : goal.returns-clause-net
+returns-clause-net g c =
+    joined-net c.in_ok-roads.roads.nodes c.in_ok-roads.roads.links (listed_turns c.in_ok-turns.turns) c.in_ok-roads.ensures.nodes
+    c.in_ok-roads.ensures.links c.in_ok-roads.ensures.between c.in_ok-turns.ensures.sound c.in_ok-turns.ensures.turning
