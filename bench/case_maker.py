@@ -4,20 +4,31 @@ Everything comes from the random numbers that a caller hands in, so that equal s
 cases. A case is made sound first, a small network with demand and the words of a command, and then
 spelled: numbers and quotes in odd but accepted ways. Every second case or so is then spoilt, in
 its fields, columns, bytes, words or files, so that most spoilt cases are near to sound ones.
+
+Of some features that PEER has only from a stage on there are kinds of cases by themselves:
+capacities in windows (case_windows.py), the queue `newell`, and start tables (case_starts.py).
 """
 from dataclasses import dataclass, field
+
+import case_starts
+import case_windows
 
 INPUTS = ("node.csv", "link.csv", "movement.csv", "demand.csv")
 OUTPUTS = ("agent.csv", "link_performance.csv", "gap.csv")
 OUTPUTS_OF = {"skim": ("skim.csv",), "counts": ("counts.csv",)}
 TIMES = "times.csv"
+START = "start.csv"
+LAST_STAGE = 19
 
 
 @dataclass
 class Case:
-    """The words of a run (as bytes), the files of its folder, and what stands in place of some."""
+    """The words of a run (as bytes), the files of its folder, what stands in place of some, its
+    kind, and the stage from which on PEER has what the case needs."""
     words: list
     files: dict
+    kind: str = "assign"
+    stage: int = 0
     folders: list = field(default_factory=list)
     links_to_themselves: list = field(default_factory=list)
 
@@ -32,48 +43,106 @@ class Table:
         return self.columns.index(column)
 
 
-def make_case(r, assign, only=None):
-    """A case by these random numbers, of the command `only` where it is said. `assign(words,
-    files)` answers the link times of an assignment with these words over these tables, as bytes, or
-    None where it is refused."""
-    command = only or r.choices(list(SHARES), weights=SHARES.values())[0]
-    groups = make_options(r, command)
-    tables = make_tables(r, flat(command, groups))
+def make_case(r, assign, only=None, known=LAST_STAGE):
+    """A case by these random numbers, of the kind `only` where it is said; features of a stage
+    above `known` aren't in it. `assign(words, files, stage)` answers the files that an assignment
+    with these words over these tables leaves, or None where it is refused."""
+    kind = only or choose_kind(r, known)
+    features = choose_features(r, kind, only, known)
+    command = choose_command(r, kind, features, known)
+    stage = max(FIRST_STAGE.get(what, 0) for what in [command] + features)
+    groups = make_options(r, command, features)
+    tables = make_tables(r, flat(command, groups), features)
     if command == "counts":
         add_link(r, groups, tables["link.csv"])
     words = flat(command, groups)
+    earlier = Earlier(assign, stage)
+    if "start" in features:
+        tables[START] = start_table(r, groups, tables, earlier)
     for name in list(tables):
-        add_columns(r, name, tables[name], command)
+        add_columns(r, name, tables[name])
     if command == "skim":
-        tables[TIMES] = times_table(r, groups, tables, assign)
-        add_columns(r, TIMES, tables[TIMES], command)
+        tables[TIMES] = times_table(r, groups, tables, earlier)
+        add_columns(r, TIMES, tables[TIMES])
     spelled = r.random() < .5
     if spelled:
         for name in tables:
             spell_fields(r, tables[name])
-    spoils = choose_spoils(r, command)
+    spoils = choose_spoils(r, command, features)
     if "rows" in spoils:
         spoil_rows(r, tables[TIMES])
     if "fields" in spoils:
-        spoil_fields(r, tables[choose_table(r, tables)])
+        spoil_fields(r, tables[choose_table(r, tables, features)])
     if "columns" in spoils:
-        spoil_columns(r, tables[choose_table(r, tables)])
+        spoil_columns(r, tables[choose_table(r, tables, features)])
     files = {name: write_table(r, tables[name], spelled) for name in tables}
     if "bytes" in spoils:
-        name = choose_table(r, files)
+        name = choose_table(r, files, features)
         files[name] = spoil_bytes(r, files[name])
     if "words" in spoils:
-        words = spoil_words(r, words, command)
-    case = Case([word.encode("utf-8", "surrogateescape") for word in words], files)
+        words = spoil_words(r, words, command, known)
+    case = Case([word.encode("utf-8", "surrogateescape") for word in words], files, kind, stage)
     if "files" in spoils:
-        spoil_files(r, case, command)
+        spoil_files(r, case, command, features)
     return case
 
 
-def choose_spoils(r, command):
+@dataclass
+class Earlier:
+    """Runs of PEER that a case stands on."""
+    assign: object
+    stage: int
+
+    def file(self, words, tables, name):
+        """A file that an assignment over these tables leaves, or None where it is refused."""
+        texts = {each: text if isinstance(text, bytes) else write_table(None, text, False)
+                 for each, text in tables.items()}
+        files = self.assign(words, texts, self.stage)
+        return None if files is None else files[name]
+
+
+# What PEER has from which stage on: commands, and features of tables and words.
+FIRST_STAGE = {"skim": 19, "counts": 19, "windows": 14, "newell": 15, "start": 16}
+FEATURES = ["windows", "newell", "start"]
+
+
+def choose_kind(r, known):
+    kinds = [kind for kind in SHARES if kind not in FEATURES or FIRST_STAGE[kind] <= known]
+    return r.choices(kinds, weights=[SHARES[kind] for kind in kinds])[0]
+
+
+def choose_features(r, kind, only, known):
+    """The feature of the kind, and now and then others that go with it, unless one kind alone is
+    asked for."""
+    features = [kind] if kind in FEATURES else []
+    if features and not only:
+        features += [one for one in FEATURES if one != kind and FIRST_STAGE[one] <= known
+                     and (one != "start" or kind == "newell") and r.random() < .2]
+    return features
+
+
+def choose_command(r, kind, features, known):
+    """A command in which the features of a case can be met."""
+    if kind not in FEATURES:
+        return kind
+    if "start" in features:
+        return "assign"
+    commands = {"assign": 70}
+    if kind == "windows":
+        commands["freeflow"] = 10
+    if kind == "newell":
+        commands["demo"] = 10
+    if known >= FIRST_STAGE["start"]:
+        commands["counts"] = 15
+        if kind == "windows":
+            commands["skim"] = 5
+    return r.choices(list(commands), weights=commands.values())[0]
+
+
+def choose_spoils(r, command, features):
     """What is spoilt: mostly nothing or one kind."""
     kinds = ["fields", "columns", "bytes", "words", "files"]
-    weights = [8, 3, 4, 4, 2]
+    weights = [20 if "windows" in features or "start" in features else 8, 3, 4, 4, 2]
     if command == "skim":
         kinds.append("rows")
         weights.append(6)
@@ -85,25 +154,30 @@ def choose_spoils(r, command):
     return r.sample(kinds, 2)
 
 
-def choose_table(r, tables):
-    """The name of a table; mostly that of link times, where there is one."""
-    if TIMES in tables and r.random() < .6:
-        return TIMES
+def choose_table(r, tables, features):
+    """The name of a table; mostly that of link times or the start table, where there is one, and
+    with windows those that have them."""
+    for name in (TIMES, START):
+        if name in tables and r.random() < .6:
+            return name
+    if "windows" in features and r.random() < .8:
+        return r.choice([name for name in ("link.csv", "movement.csv") if name in tables])
     return r.choice(list(tables))
 
 
 # Words.
 
-def option_values(r, command):
+def option_values(r, command, features=()):
     """A value in its range for each option; the horizon is small, so that runs are short. In that
     of counts vehicles mostly take some turns."""
     horizon = r.choice([1, 5, 30, 60, 100, 150, 200, 300, r.randint(1, 400)])
-    if command == "counts" and r.random() < .8:
+    if (command == "counts" or features) and r.random() < .9:
         horizon = r.choice([150, 200, 300, r.randint(100, 400)])
     period = r.choice([1, horizon, r.randint(1, horizon), 1 + horizon // 4, 1 + horizon // 10])
+    crowded = "newell" in features and r.random() < .7
     return {
         "step": r.choice([1, 6, 6, 10, 30, 60, r.randint(1, 60)]),
-        "jam": r.choice([1, 125, 150, 1000, r.randint(1, 1000)]),
+        "jam": r.choice([10, 30, 60, 125] if crowded else [1, 125, 150, 1000, r.randint(1, 1000)]),
         "length-unit": r.choice(["m", "m", "km", "mi"]),
         "speed-unit": r.choice(["kmh", "mph"]),
         "horizon": horizon,
@@ -111,7 +185,9 @@ def option_values(r, command):
         "iterations": r.choice([1, 2, 3, 4, r.randint(1, 8)]),
         "workers": r.choice([1, 2, 3, 16, 16, r.randint(1, 16)]),
         "bucket": r.choice([1, 7, 10, 50, horizon, 86400, r.randint(1, 100)]),
-        "queue": r.choice(["point", "spatial", "spatial"]),
+        "queue": r.choice(["point", "spatial", "spatial"]
+                          + ["newell"] * 6 * ("newell" in features)),
+        "wave": r.choice([1, 2, 5, 10, 15, 20, 20, 30, 60, 100, r.randint(1, 100)]),
         "watch": r.choice([0, 1, 1, 7, 10, 50, 86400, r.randint(1, 100)]),
         "at": some_starts(r, horizon),
     }
@@ -124,18 +200,19 @@ def some_starts(r, horizon):
     return ";".join(str(step).zfill(r.choice([1, 1, 1, 4])) for step in steps)
 
 
-# Of 100 cases: how many have each command.
-SHARES = {"assign": 28, "freeflow": 4, "demo": 2, "skim": 33, "counts": 33}
+# Of 100 cases: how many are of each kind, a command or a feature.
+SHARES = {"assign": 12, "freeflow": 3, "demo": 1, "skim": 17, "counts": 17, "windows": 16,
+          "newell": 16, "start": 18}
 
 TAKEN = {
     "freeflow": ["step", "jam", "length-unit", "speed-unit"],
     "assign": ["step", "jam", "length-unit", "speed-unit", "horizon", "period", "iterations",
-               "workers", "bucket", "queue", "watch"],
-    "demo": ["step", "jam", "horizon", "period", "iterations", "workers", "bucket", "queue",
+               "workers", "bucket", "queue", "wave", "watch"],
+    "demo": ["step", "jam", "horizon", "period", "iterations", "workers", "bucket", "queue", "wave",
              "watch"],
     "skim": ["step", "jam", "length-unit", "speed-unit", "horizon", "bucket", "at"],
     "counts": ["step", "jam", "length-unit", "speed-unit", "horizon", "period", "iterations",
-               "workers", "bucket", "queue"],
+               "workers", "bucket", "queue", "wave"],
 }
 
 
@@ -144,10 +221,18 @@ def flat(command, groups):
     return [command] + [word for group in groups for word in group]
 
 
-def make_options(r, command):
-    """The options of a command, all in its grammar, each as a group of words."""
-    values = option_values(r, command)
-    chosen = [name for name in TAKEN[command] if r.random() < .45]
+def make_options(r, command, features=()):
+    """The options of a command, all in its grammar, each as a group of words. Whether there is a
+    wave has nothing to do with the queue."""
+    values = option_values(r, command, features)
+    chosen = [name for name in TAKEN[command] if r.random() < .45 and name != "wave"]
+    if "newell" in features:
+        if "queue" not in chosen and r.random() < .9:
+            chosen.append("queue")
+        if r.random() < .7:
+            chosen.append("wave")
+    if "start" in features and "iterations" not in chosen and r.random() < .6:
+        chosen.append("iterations")
     if command != "freeflow" and "horizon" not in chosen:
         chosen.append("horizon")
     if "period" in chosen and command != "freeflow":
@@ -160,6 +245,8 @@ def make_options(r, command):
         groups.append([f"--{name}={value}"] if r.random() < .4 else [f"--{name}", value])
     if command not in ("freeflow", "skim") and r.random() < .35:
         groups.append(["--plain"])
+    if "start" in features:
+        groups.append(["--start"])
     if command == "demo":
         groups.append([str(r.choice([2, 2, 3, 4, 5])).zfill(r.choice([1, 1, 1, 3, 9]))])
     r.shuffle(groups)
@@ -182,8 +269,8 @@ def add_link(r, groups, links):
     groups.insert(r.randint(0, len(groups)), group)
 
 
-# What PEER knows at the stage at which it has skims and counts, and PROGRAM doesn't.
-NOT_YET = ("--wave=20", "--queue=newell", "newell", "capacity_by_step")
+# What PEER knows at the stage at which it has skims and counts, and an older PROGRAM doesn't.
+NOT_YET = ("--wave=20", "--queue=newell", "newell")
 
 
 ODD_VALUES = ["", "0", "-1", "+1", "1.0", "1e0", " 1", "1 ", "61", "1001", "86400", "86401", "17",
@@ -197,18 +284,22 @@ ODD_WORDS = ["", "-", "--", "--help", "-h", "--version", "-V", "help", "--plain=
              "--plain=1", "--hor", "--horizons", "-s", "--Step", "-step", "---step", "--step",
              "--workers", "--start", "--wave=20", "--queue=newell", "--unknown=1", "demo",
              "assign", "freeflow", "skims", "5", "2", "60", "61", "\udcff", "--step=\udcc3", "é",
-             "--at", "--at=0", "--scales=1", "--link=1", "--wörkers=1", "\t", "="]
+             "--at", "--at=0", "--scales=1", "--link=1", "--wörkers=1", "\t", "=", "--wave",
+             "--wave=0", "--wave=101", "--wave=1.0", "--wave=", "--start=", "--start=1", "--starts",
+             "--start.csv", "--queue=Newell", "--queue=newell ", "--waves=20"]
 ODD_COMMANDS = ["Assign", "assig", "demo", "freeflow", "", "skims", "count", "--assign"]
 
 
-def spoil_words(r, words, command):
+def spoil_words(r, words, command, known):
     """Words of which one thing or two are odd; a few of them are in the grammar all the same."""
     words = list(words)
-    later = command in OUTPUTS_OF
+    later = command in OUTPUTS_OF and known < FIRST_STAGE["start"]
     values = ODD_VALUES + (ODD_STARTS if command == "skim" else [])
     odd_values = [value for value in values if not later or value not in NOT_YET]
     odd_words = [word for word in ODD_WORDS if not later or word not in NOT_YET]
-    odd_commands = ODD_COMMANDS + (["assign", "skim", "counts"] if later else [])
+    if known < FIRST_STAGE["newell"] and command == "counts":
+        odd_words = [word for word in odd_words if not word.startswith("--wave")]
+    odd_commands = ODD_COMMANDS + (["assign", "skim", "counts"] if command in OUTPUTS_OF else [])
     for _ in range(r.choice([1, 1, 2])):
         choice = r.randrange(8)
         place = r.randrange(len(words)) if words else 0
@@ -342,6 +433,17 @@ def link_table(r, net, units):
                   "capacity"], rows)
 
 
+def narrow_links(r, table, units):
+    """Gives links few or many vehicles an hour and lengths of some waves' steps, so that jams grow
+    before narrow ones and move back."""
+    scale = {"m": 1, "km": 1000, "mi": 1609.344}[units]
+    for row in table.rows:
+        row[table.place("length")] = f"{r.choice([60, 120, 200, 350, 600]) / scale:.6f}"
+        row[table.place("capacity")] = r.choice(["300", "450", "600", "1800", "3600"])
+        row[table.place("lanes")] = "1"
+        row[table.place("free_speed")] = r.choice(["30", "60", ""])
+
+
 def movement_table(r, net):
     """Turns at some of the nodes, each of their pairs of links or most of them."""
     rows = []
@@ -381,10 +483,10 @@ def demand_table(r, net):
     return Table(["o_zone_id", "d_zone_id", "volume"], rows)
 
 
-def make_tables(r, words):
+def make_tables(r, words, features=()):
     """The tables of a sound case. The movement table is left out every second time."""
     net = make_net(r)
-    if words[0] in OUTPUTS_OF:
+    if words[0] in OUTPUTS_OF or features:
         net = make_roomy_net(r)
     text = " ".join(words)
     units = next((u for u in ("km", "mi") if f"length-unit {u}" in text
@@ -392,24 +494,43 @@ def make_tables(r, words):
     if r.random() < .05:
         units = r.choice(["m", "km"])
     tables = {"node.csv": node_table(r, net), "link.csv": link_table(r, net, units)}
+    if "newell" in features and r.random() < .7:
+        narrow_links(r, tables["link.csv"], units)
     if r.random() < .5:
         tables["movement.csv"] = movement_table(r, net)
     tables["demand.csv"] = demand_table(r, net)
-    if words[0] == "counts" and len(net.zones) > 1:
-        for _ in range(r.choice([0, 2, 3, 4])):
+    if (words[0] == "counts" or features) and len(net.zones) > 1:
+        most = 200 if "newell" in features else 40 if "windows" in features else 20
+        for _ in range(r.choice([2, 3, 4] if features else [0, 2, 3, 4])):
             ends = [str(zone) for zone in r.sample(net.zones, 2)]
-            tables["demand.csv"].rows.append(ends + [str(r.randint(1, 20))])
+            tables["demand.csv"].rows.append(ends + [str(r.randint(1, most))])
+    if "windows" in features:
+        add_windows(r, tables)
     return tables
+
+
+def add_windows(r, tables):
+    """Puts the column `capacity_by_step` into the link table, the movement table, or both. Where a
+    field of it has a text, the capacity beside it isn't used, but checked."""
+    names = [name for name in ("link.csv", "movement.csv") if name in tables]
+    if len(names) > 1 and r.random() < .5:
+        names.remove(r.choice(names))
+    share = r.choice([.2, .5, .9, 1])
+    for name in names:
+        tables[name].columns.append("capacity_by_step")
+        for row in tables[name].rows:
+            has = r.random() < share
+            row.append(case_windows.windows(r, name == "movement.csv") if has else "")
 
 
 TIME_COLUMNS = ["link_id", "from_step", "to_step", "entered", "travel_steps", "free_steps"]
 
 
-def times_table(r, groups, tables, assign):
+def times_table(r, groups, tables, earlier):
     """The link times of an assignment over these tables, which a skim with these options can mostly
     read; travel steps are often others than came out."""
-    files = {name: write_table(r, table, False) for name, table in tables.items()}
-    text = assign(flat("assign", times_options(r, groups)), files)
+    words = ["assign"] + times_options(r, groups)
+    text = earlier.file(words, tables, "link_performance.csv")
     if text is None:
         return Table(list(TIME_COLUMNS), [])
     lines = [line.split(",") for line in text.decode("ascii").splitlines()]
@@ -432,26 +553,89 @@ def times_options(r, groups):
         kept = [group for group in kept if not group[0].startswith("--" + name)]
         kept.append([f"--{name}={option_values(r, 'skim')[name]}"])
     kept.append(["--queue", r.choice(["point", "spatial"])])
-    return kept + [["--iterations", r.choice("123")], ["--plain"]]
+    return [word for group in kept for word in group] + ["--iterations", r.choice("123"), "--plain"]
+
+
+def start_table(r, groups, tables, earlier):
+    """The agent table of an earlier assignment, of the same tables or of others, itself from free
+    flow or from a start table; then often with rows that fit nobody."""
+    words = ["assign"] + start_options(r, groups)
+    before = dict(tables)
+    if r.random() < .6:
+        before = other_tables(r, tables)
+    text = earlier.file(words, before, "agent.csv")
+    if text is not None and r.random() < .3:
+        text = earlier.file(words + ["--start"], {**before, START: text}, "agent.csv")
+    if text is None:
+        return Table(list(case_starts.REQUIRED), [])
+    columns, rows = case_starts.earlier_columns_and_rows(text)
+    links = tables["link.csv"]
+    names = [row[links.place("link_id")] for row in links.rows]
+    if r.random() < .5:
+        case_starts.turn_stale(r, columns, rows, names)
+    if r.random() < .35:
+        case_starts.number_anew(r, columns, rows)
+    if r.random() < .3:
+        case_starts.leave_columns_out(r, columns, rows)
+    return Table(columns, rows)
+
+
+def start_options(r, groups):
+    """Options of the assignment from which a start table comes: those of the case, now and then one
+    of them another."""
+    kept = [group for group in groups if group[0] != "--start"]
+    if r.random() < .4:
+        name = r.choice(["iterations", "iterations", "bucket", "queue", "step"])
+        kept = [group for group in kept if not group[0].startswith("--" + name)]
+        kept.append([f"--{name}={option_values(r, 'assign')[name]}"])
+    return [word for group in kept for word in group]
+
+
+def other_tables(r, tables):
+    """The tables of a network or of a demand that is nearly the same."""
+    others = {name: Table(list(table.columns), [list(row) for row in table.rows])
+              for name, table in tables.items()}
+    name = r.choice(["link.csv", "demand.csv", "demand.csv", "movement.csv"])
+    if name not in others:
+        name = "link.csv"
+    table = others[name]
+    choice = r.randrange(6)
+    if choice > 3:
+        links = others["link.csv"]
+        lengths = [row[links.place("length")] for row in links.rows]
+        r.shuffle(lengths)
+        for row, length in zip(links.rows, lengths):
+            row[links.place("length")] = length
+    elif choice == 0 and name == "movement.csv":
+        del others[name]
+    elif choice == 1 and table.rows:
+        table.rows.append(table.rows.pop(r.randrange(len(table.rows))))
+    elif choice == 2 and name == "demand.csv":
+        for row in table.rows:
+            row[table.place("volume")] = str(r.randint(0, 12))
+    else:
+        table.rows = [row for row in table.rows if r.random() < .8]
+    return others
 
 
 # Spelling.
 
 UNREAD = {"node.csv": ["x_coord", "y_coord", "name", "ctrl_type"],
-          "link.csv": ["directed", "directed", "geometry", "name", "dir_flag", "capacity_by_step"],
-          "movement.csv": ["mvmt_id", "type", "capacity_by_step", "name"],
+          "link.csv": ["directed", "directed", "geometry", "name", "dir_flag",
+                       "capacity_by_steps"],
+          "movement.csv": ["mvmt_id", "type", "Capacity_by_step", "name"],
           "demand.csv": ["time_periods", "name", "Volume", "volume2"],
-          TIMES: ["name", "Entered", "queue", "volume", "storage"]}
+          TIMES: ["name", "Entered", "queue", "volume", "storage"],
+          START: ["name", "agent_type", "route_iteration", "node_ids", "link_id", "volume"]}
 TEXTS = ["", "1", "true", "Mill, North", 'a "quoted" name', "two\nlines", "ümlaut", "0:600;20:0",
          "LINESTRING (-111.9 33.4, -111.8 33.3)", " ", "\t", "\0", "\r", "😀"]
 
 
-def add_columns(r, name, table, command):
+def add_columns(r, name, table):
     """Adds columns that are passed over, leaves optional ones out, and puts columns in any order.
     `directed` is checked and not kept."""
-    later = command in OUTPUTS_OF
     for _ in range(r.choice([0, 0, 1, 2])):
-        column = r.choice([name for name in UNREAD[name] if not later or name not in NOT_YET])
+        column = r.choice(UNREAD[name])
         table.columns.append(column)
         texts = ["", "1", "true", "yes", "2", "x"] if column == "directed" else TEXTS
         for row in table.rows:
@@ -474,7 +658,7 @@ def drop_column(table, place):
 
 IDENTIFIERS = {"node_id", "zone_id", "link_id", "from_node_id", "to_node_id", "ib_link_id",
                "ob_link_id", "o_zone_id", "d_zone_id", "from_step", "to_step", "entered",
-               "travel_steps", "free_steps"}
+               "travel_steps", "free_steps", "agent_id"}
 QUANTITIES = {"length", "lanes", "free_speed", "capacity", "penalty", "volume"}
 
 
@@ -505,14 +689,18 @@ def spell_quantity(r, text):
 def spell_fields(r, table):
     """Spells numbers in other ways that are accepted and mean the same, with blanks round them."""
     for place, column in enumerate(table.columns):
-        if column not in IDENTIFIERS | QUANTITIES:
+        if column not in IDENTIFIERS | QUANTITIES | {"capacity_by_step", "link_ids"}:
             continue
         for row in table.rows:
             text = row[place]
             if not text or r.random() < .6:
                 continue
             signed = text.startswith("-")
-            if column in IDENTIFIERS and not signed and "." not in text:
+            if column == "capacity_by_step":
+                text = case_windows.spell(r, text, spell_quantity)
+            elif column == "link_ids":
+                text = case_starts.spell_list(r, text, spell_identifier)
+            elif column in IDENTIFIERS and not signed and "." not in text:
                 text = spell_identifier(r, text)
             elif column in QUANTITIES:
                 text = spell_quantity(r, text)
@@ -532,7 +720,8 @@ def write_field(r, text, spelled):
 
 
 def write_table(r, table, spelled):
-    """The bytes of a table, with line ends of one kind or of several, and blank lines."""
+    """The bytes of a table; where it is spelled, with line ends of one kind or of several, and
+    blank lines. Where it isn't, no random number is taken."""
     ends = ["\n"]
     if spelled:
         mixed = ["\n", "\r\n", "\r", "\n\n", "\r\n\r\n"]
@@ -542,7 +731,8 @@ def write_table(r, table, spelled):
     for place, line in enumerate(lines):
         fields = ",".join(write_field(r, one, spelled) for one in line)
         last = place + 1 == len(lines)
-        text += fields + ("" if last and spelled and r.random() < .3 else r.choice(ends))
+        end = r.choice(ends) if spelled else "\n"
+        text += fields + ("" if last and spelled and r.random() < .3 else end)
     mark = b"\xef\xbb\xbf" * r.choice([0, 0, 0, 1]) if spelled else b""
     return mark + text.encode("utf-8", "surrogateescape")
 
@@ -576,14 +766,26 @@ ODD_BY_COLUMN = {
     "length": ["1e9", "1e9.0", "1000000000.0009", "1000000000.001", "-1", "1e10", "-0"],
     "penalty": ["36000", "36000.0009", "36000.001", "36001", "-1", "1e5", "0.001"],
     "volume": ["2000000", "2000001", "1e9", "1999999.999", "-0.0001", "1e10"],
+    "link_ids": case_starts.ODD_LISTS,
+    "agent_id": LONG,
 }
 
 
-def odd_field(r, column):
+def odd_field(r, column, text=""):
     """An odd text for a field, often one that is odd in this very column."""
+    if column == "capacity_by_step" and r.random() < .9:
+        return case_windows.odd(r, text)
     if column in ODD_BY_COLUMN and r.random() < .6:
         return r.choice(ODD_BY_COLUMN[column])
     return r.choice(ODD_FIELDS)
+
+
+def odd_place(r, table, row):
+    """A place in a row; mostly that of windows or of a list of links, where there is one."""
+    for name in ("capacity_by_step", "link_ids"):
+        if name in table.columns and table.place(name) < len(row) and r.random() < .7:
+            return table.place(name)
+    return r.randrange(len(row))
 
 
 def spoil_fields(r, table):
@@ -592,7 +794,7 @@ def spoil_fields(r, table):
         if not table.rows:
             return
         row = r.choice(table.rows)
-        place = r.randrange(len(row)) if row else None
+        place = odd_place(r, table, row) if row else None
         choice = r.randrange(12)
         if place is None or choice == 0:
             table.rows.insert(r.randint(0, len(table.rows)), list(row))
@@ -606,7 +808,7 @@ def spoil_fields(r, table):
         elif choice == 5:
             row.insert(place, r.choice(ODD_FIELDS))
         else:
-            row[place] = odd_field(r, (table.columns + [""] * len(row))[place].strip())
+            row[place] = odd_field(r, (table.columns + [""] * len(row))[place].strip(), row[place])
 
 
 def spoil_rows(r, table):
@@ -686,10 +888,11 @@ def spoil_bytes(r, text):
     return text
 
 
-def spoil_files(r, case, command):
+def spoil_files(r, case, command, features):
     """Takes a table away, or puts a folder or a link to itself in place of one or of an output."""
     choice = r.randrange(4)
     inputs = INPUTS + ((TIMES,) * 3 if command == "skim" else ())
+    inputs += (START,) * 4 if "start" in features else ()
     name = r.choice(inputs if choice < 3 else OUTPUTS_OF.get(command, OUTPUTS))
     case.files.pop(name, None)
     if choice == 1:

@@ -6,7 +6,7 @@
 # and calls the program as another user. It takes some minutes, and 1 GB in the folder of mktemp.
 groups='folder_without_writing full_outputs full_disk broken_streams closed_streams no_files pipes
 longest_tables long_rows odd_bytes most_vehicles little_memory little_memory_for_shares
-little_memory_for_threads no_threads times_tables skims_and_counts kills'
+little_memory_for_threads no_threads times_tables skims_and_counts windows waves start_tables kills'
 [ $# -ge 1 ] || { echo 'usage: hostile.sh PROGRAM [GROUP..]' >&2; exit 2; }
 work=$(mktemp -d)
 trap 'umount "$work/small" 2>/dev/null; rm -rf "$work"' EXIT
@@ -514,6 +514,160 @@ skims_and_counts() {
     done
     awk 'BEGIN { print "node_id,zone_id"; for (k = 1; k < 4098; k++) print k "," k }' >node.csv
     ends '4,097 zones' '7 none size: skim 16781312 limit 16777216' skim.csv skim
+}
+
+# link_windows NAME TEXT WANTED: a run where the second link has these windows.
+link_windows() {
+    begin
+    printf 'link_id,from_node_id,to_node_id,length,free_speed,capacity_by_step\n' >link.csv
+    { printf '10,1,2,1000,60,\n20,2,3,1000,60,'; cat; printf '\n'; } >>link.csv
+    ends "$1" "$2" agent.csv assign
+}
+
+# Windows that are good, of wrong forms and past their limits.
+windows() {
+    range='3 none link line 3: E5 OutOfRange capacity_by_step'
+    form='3 none link line 3: E4 NotNumber capacity_by_step'
+    many='BEGIN { for (k = 0; k < count; k++) printf "%s%d:600", k ? ";" : "", k }'
+    awk -v count=64 "$many" | link_windows '64 windows' '0 3001 nodes 3'
+    awk -v count=65 "$many" | link_windows '65 windows' "$range"
+    awk -v count=1000000 "$many" | link_windows '1,000,000 windows' "$range"
+    { awk -v count=1000000 "$many"; printf ';'; } | link_windows 'and nothing behind them' "$form"
+    { printf 0:; head -c 10000000 /dev/zero | tr '\0' 0; } | link_windows 'a rate of 10 MB' "$form"
+    { printf '0:600;'; head -c 10000000 /dev/zero | tr '\0' 0; printf 7:0; } |
+        link_windows 'a step of 10 MB, with leading zeros' '0 3001 nodes 3'
+    { printf '0:600;'; head -c 10000000 /dev/zero | tr '\0' 9; printf :0; } |
+        link_windows 'a step of 10,000,000 digits' "$range"
+    printf '0:600;86400:0' | link_windows 'a window from step 86,400 on' '0 3001 nodes 3'
+    printf '0:600;86401:0' | link_windows 'a window from step 86,401 on' "$range"
+    printf '0:600;20:0\0' | link_windows 'a NUL behind windows' "$form"
+    printf '"0:600;\n20:0"' | link_windows 'windows in two lines' "$form"
+    printf '0:none' | link_windows 'a link without a limit' "$form"
+    printf '"0:600;20:' | link_windows 'windows in a quote that never ends' \
+        '3 none link line 3: E4 NotNumber capacity_by_step'
+    begin
+    printf 'node_id,ib_link_id,ob_link_id,capacity_by_step\n2,10,20,0:none;5:0;9:none\n' \
+        >movement.csv
+    ends 'a turn that is closed for some steps' '0 3001 nodes 3' agent.csv assign
+    printf 'node_id,ib_link_id,ob_link_id,capacity_by_step\n2,10,20,0:None\n' >movement.csv
+    rm -f agent.csv
+    ends 'a turn with None' '3 none movement line 2: E4 NotNumber capacity_by_step' agent.csv assign
+}
+
+# Waves in and out of their range, over short and very long links, and in little memory.
+waves() {
+    for words in assign,--wave,0 assign,--wave,101 assign,--wave=1.0 assign,--wave= assign,--wave \
+        assign,--queue=newell,--wave,0 assign,--queue,Newell skim,--wave,20 freeflow,--wave,20 \
+        demo,2,--wave,101; do
+        begin
+        # shellcheck disable=SC2046
+        ends "refused words $words" "2 none $usage" agent.csv $(echo "$words" | tr , ' ')
+    done
+    for wave in 1 20 100; do
+        begin
+        run assign --wave $wave
+        check "a wave of $wave with another queue" '0 whole whole whole report' "$(outcome)"
+        ends "a wave of $wave" '0 3001 nodes 3' agent.csv assign --queue newell --wave $wave
+    done
+    begin
+    printf 'link_id,from_node_id,to_node_id,length,free_speed\n10,1,2,1e9,1e9\n20,2,3,0,60\n' \
+        >link.csv
+    ends 'links of 1,000,000 km and of 0 m' '0 3001 nodes 3' agent.csv assign --queue newell \
+        --wave 1 --step 1
+    begin
+    ring 2
+    for kilobytes in 2000000 1000000 500000 200000 50000 5000; do
+        in_memory $kilobytes --plain --queue newell --wave 1 --step 1
+        fits "65,536 links, each with 360 steps of its wave, in $kilobytes KB" "$(outcome)" \
+            '6 none none none -' '0 other other other nodes 65536'
+    done
+}
+
+# start_rows COUNT LINKS: a start table with so many rows of such links.
+start_rows() {
+    awk -v count="$1" -v links="$2" 'BEGIN {
+        print "agent_id,o_zone_id,d_zone_id,link_ids"
+        for (k = 0; k < count; k++) print k ",1,3," links
+    }' >start.csv
+}
+
+# same NAME WORDS: a run with a start table writes what one without does, but for a last column in
+# its agent table that is 1 everywhere.
+same() {
+    ends "$1" '0 3001 nodes 3' agent.csv assign --start
+    awk 'NR > 1 { print $0 ",1" } NR == 1 { print $0 ",route_iteration" }' "$whole/agent.csv" |
+        cmp -s - agent.csv
+    check "$1, the same routes" 0 $?
+    rm -f agent.csv
+}
+
+# What stands in place of a start table. The sound one has 3,000 rows.
+start_tables() {
+    begin
+    ends 'no start table' '4 none read fault in start' agent.csv assign --start
+    mkdir start.csv
+    ends 'start.csv is a folder' '4 none read fault in start' agent.csv assign --start
+    rmdir start.csv
+    ln -s start.csv start.csv
+    ends 'start.csv is itself' '4 none read fault in start' agent.csv assign --start
+    rm -f start.csv
+    ln -s /dev/zero start.csv
+    size='size: table start limit 268435456'
+    ends 'start.csv without end' "7 none $size" agent.csv assign --start
+    rm -f start.csv
+    : >start.csv
+    ends 'start.csv of zero bytes' '3 none start line 1: E1 MissingColumn agent_id' agent.csv \
+        assign --start
+    printf '\377\376\0\1,\200\n' >start.csv
+    ends 'bytes that are no text' '3 none start line 1: E2 BadRecord -' agent.csv assign --start
+    cp "$whole/link_performance.csv" start.csv
+    ends 'a table of link times' '3 none start line 1: E1 MissingColumn agent_id' agent.csv \
+        assign --start
+    start_rows 0 ''
+    same 'a header alone'
+    start_rows 3000 ''
+    same 'rows without links'
+    start_rows 3000 10\;99
+    same 'rows with a link that is not there'
+    start_rows 3000 20\;10
+    same 'rows with a wrong turn'
+    cp "$whole/agent.csv" start.csv
+    ends 'the agent table of a run' '0 3001 nodes 3' agent.csv assign --start
+    mv agent.csv start.csv
+    ends 'the agent table of a run from a start table' '0 3001 nodes 3' agent.csv assign --start
+    check 'its routes are those of the start table' 3000 "$(grep -c ',0$' agent.csv)"
+    sed -i '$p' start.csv
+    rm -f agent.csv
+    ends 'a row that comes twice' '3 none start line 3002: E6 Duplicate agent_id' agent.csv \
+        assign --start
+    start_rows 2000000 10\;20
+    ends '2,000,000 rows' '0 3001 nodes 3' agent.csv assign --start
+    rm -f agent.csv
+    echo '2000000,1,3,' >>start.csv
+    ends '2,000,001 rows' '3 none start line 2000002: E12 TooMany -' agent.csv assign --start
+    start_rows 1999999 10\;20
+    echo '5,1,3,' >>start.csv
+    ends 'the last of 2,000,000 rows comes twice' \
+        '3 none start line 2000001: E6 Duplicate agent_id' agent.csv assign --start
+    start_rows 1999999 10\;20
+    echo '1999999,1,3,10;' >>start.csv
+    ends 'the last of 2,000,000 rows has a bad list' \
+        '3 none start line 2000001: E4 NotNumber link_ids' agent.csv assign --start
+    { echo agent_id,o_zone_id,d_zone_id,link_ids; printf 0,1,3,10
+        awk 'BEGIN { for (k = 0; k < 20000000; k++) printf ";20" }'; echo; } >start.csv
+    same 'a list of 20,000,001 links'
+    cp "$whole/agent.csv" start.csv
+    longer start.csv 268435456
+    ends 'start.csv of 268435456 bytes' '0 3001 nodes 3' agent.csv assign --start
+    printf '\n' >>start.csv
+    rm -f agent.csv
+    ends 'start.csv of one byte more' "7 none $size" agent.csv assign --start
+    cp "$whole/agent.csv" start.csv
+    for words in assign,--start= assign,--start=1 assign,--start,1 assign,--start,--start \
+        assign,--starts demo,2,--start counts,--start skim,--start freeflow,--start; do
+        # shellcheck disable=SC2046
+        ends "refused words $words" "2 none $usage" agent.csv $(echo "$words" | tr , ' ')
+    done
 }
 
 # Waits for so many seconds, or until the run has begun with this output.

@@ -1,18 +1,19 @@
 #!/bin/sh
 # large.sh PROGRAM PEER [STAGE] [CASE..]: large input gets an answer. Runs a built program over
 # large tables, with --plain and with workers, and beside it PEER, another program of the same
-# rules, with `--stage STAGE` before its words (12 where it isn't said, nothing where it is 0; for
+# rules, with `--stage STAGE` before its words (16 where it isn't said, nothing where it is 0; for
 # skims and counts at least 19). One runs after another. Each must end with status 0, and all must
 # write the same tables and the same report. Prints the seconds and the peak memory of each run;
 # ends with 0 where all is as it should be. Cases are the functions that `cases` names, and all of
 # them run where none is said.
 cases='many_vehicles long_chain long_horizon wide_labels many_iterations many_links many_rows
-many_turns crossings many_zones no_demand many_counts many_entries'
+many_turns crossings many_zones no_demand many_counts many_entries many_windows many_waves
+long_waves many_starts'
 [ $# -ge 2 ] || { echo 'usage: large.sh PROGRAM PEER [STAGE] [CASE..]' >&2; exit 2; }
 program=$(realpath "$1")
 peer=$(realpath "$2")
 shift 2
-stage=12
+stage=16
 case $1 in [0-9]*) stage=$1; shift ;; esac
 work=$(mktemp -d)
 trap 'rm -rf "$work"' EXIT
@@ -274,6 +275,69 @@ many_entries() {
     first skim "$@"
     then_same skim skim "$@"
     end
+}
+
+# windowed TABLE CAPACITY..: the table with 64 windows in each row, as a last column. One begins
+# every 18 steps, with these capacities in turn.
+windowed() {
+    table=$1
+    shift
+    awk -v capacities="$*" 'BEGIN {
+        count = split(capacities, of, " ")
+        for (k = 0; k < 64; k++) text = text (k ? ";" : "") 18 * k ":" of[k % count + 1]
+    }
+    { print $0 "," (NR == 1 ? "capacity_by_step" : text) }' "$table" >windowed
+    mv windowed "$table"
+}
+
+many_windows() {
+    begin '64 windows at each of 39,600 links and of 157,208 turns, 50,000 vehicles'
+    known_from 14
+    grid 100 40
+    awk -F, 'NR > 1 { into[$3] = into[$3] " " $1; out[$2] = out[$2] " " $1 }
+    END {
+        print "node_id,ib_link_id,ob_link_id"
+        for (k = 1; k <= 10000; k++) {
+            m = split(into[k], a, " ")
+            n = split(out[k], b, " ")
+            for (i = 1; i <= m; i++) for (j = 1; j <= n; j++) print k "," a[i] "," b[j]
+        }
+    }' link.csv >movement.csv
+    windowed link.csv 1800 0 900
+    windowed movement.csv none 0 600
+    echo o_zone_id,d_zone_id,volume >demand.csv
+    awk 'BEGIN { for (o = 1; o <= 40; o++) for (d = 1; d <= 40; d++) print o "," d ",32" }' \
+        >>demand.csv
+    compare assign
+}
+
+many_waves() {
+    begin '1,900,000 vehicles and backward waves'
+    known_from 15
+    grid 12 4
+    demand 1,2,500000 2,3,500000 3,4,500000 4,1,400000
+    compare assign --iterations 2 --queue newell --wave 15
+}
+
+# Waves that take longer than the horizon: each link keeps how many left it in each step.
+long_waves() {
+    begin 'a chain of 2,000 links, each with 20,000 steps of its wave'
+    known_from 15
+    chain 2001 10000
+    demand 1,2,2000
+    compare assign --horizon 20000 --bucket 500 --step 1 --queue newell --wave 1
+}
+
+many_starts() {
+    begin 'a start table of 1,900,000 rows'
+    known_from 16
+    grid 12 4
+    demand 1,2,500000 2,3,500000 3,4,500000 4,1,400000
+    # shellcheck disable=SC2086
+    timed 'the earlier run' "$peer" $at_stage assign --plain --iterations 3
+    mv agent.csv start.csv
+    sed -i '50s/,1800$/,300/' link.csv
+    compare assign --iterations 2 --start
 }
 
 for case in ${*:-$cases}; do $case; done

@@ -1,18 +1,22 @@
 #!/usr/bin/env python3
-"""random_cases.py PROGRAM PEER [--cases N] [--seed S] [--stage 12] [--jobs J] [--case K] [--all]
-                                 [--only COMMAND]
+"""random_cases.py PROGRAM PEER [--cases N] [--seed S] [--stage 16] [--jobs J] [--case K] [--all]
+                                 [--only KIND]
 
 Runs PROGRAM and PEER, another program of the same rules, in folders with equal tables, N times
 (1000 where N isn't said), and compares the status, standard output and standard error, and every
-file that is then there. Case K of seed S is the same wherever it is made: `--case K` runs it
-alone. With `--only COMMAND`, such as skim or counts, all cases have this command; otherwise a third
-each has `skim` and `counts`, and the rest the others. The link times that a skim reads are those of
-an `assign` of PEER, as they are or changed.
+file that is then there. Case K of seed S is the same wherever it is made with the same words:
+`--case K` runs it alone. With `--only KIND` all cases are of this kind: a command, such as skim or
+counts; `windows`, capacities by step in link and movement tables; `newell`, the queue with and
+without a wave; `start`, assignments from a start table. Otherwise each kind has its share. The link
+times that a skim reads are those of an `assign` of PEER, and a start table is its agent table; both
+as they are or changed.
 
-PEER is called with `--stage` and its number before the words, unless the number is 0; for `skim`
-and `counts` the number is at least 19. A stage below 17 has an older usage line, and it is compared
-as if it were the one of now. At the first difference its folder is kept and named, and the status
-is 1; with --all each one is told.
+PEER is called with `--stage` and its number before the words, unless the number is 0. The number is
+at least that from which on PEER has what the case needs: 14 for windows, 15 for `newell`, 16 for a
+start table, 19 for `skim` and `counts`. Features above the stage that is said aren't tried, unless
+`--only` asks for one. A stage below 17 has an older usage line, which is compared as if it were the
+one of now. At the first difference its folder is kept and named, and the status is 1; with --all
+each one is told.
 
 Where workers load, which watch lines come before the last one of an iteration is free within its
 rule, so those are held to the rule and to the agent table (watch_rule.py).
@@ -32,7 +36,6 @@ import case_maker  # noqa: E402
 import watch_rule  # noqa: E402
 
 LONGEST = 120  # seconds that a run may take
-FIRST_STAGE = {b"skim": 19, b"counts": 19}  # from which on PEER has the command
 USAGE = b"usage: dta COMMAND [options]\n"
 OLDER_USAGE = b"usage: dta freeflow|assign|demo N [options]\n"
 
@@ -82,23 +85,24 @@ def run(command, case, folder):
 
 
 def run_peer(settings, case, folder):
-    """Runs PEER at the stage that the command of a case asks for."""
+    """Runs PEER at the stage that a case asks for."""
     command = [settings.peer]
     if settings.stage > 0:
-        first = FIRST_STAGE.get(case.words[0], 0) if case.words else 0
-        command += ["--stage", str(max(settings.stage, first))]
+        command += ["--stage", str(max(settings.stage, case.stage))]
     outcome = run(command, case, folder)
     if outcome.report == OLDER_USAGE:
         outcome.report = USAGE
     return outcome
 
 
-def link_times(settings, folder):
-    """A function that answers the link times of an assignment of PEER, run in this folder."""
-    def assign(words, files):
-        case = case_maker.Case([word.encode("ascii") for word in words], files)
+def earlier_run(settings, folder):
+    """A function that answers the files that an assignment of PEER leaves in such a folder, or None
+    where it doesn't end with 0."""
+    def assign(words, files, stage):
+        case = case_maker.Case([word.encode("ascii") for word in words], files, stage=stage)
         outcome = run_peer(settings, case, folder)
-        return outcome.files["link_performance.csv"] if outcome.status == 0 else None
+        shutil.rmtree(folder)
+        return outcome.files if outcome.status == 0 else None
     return assign
 
 
@@ -152,12 +156,14 @@ def keep(folder, case, outcomes):
 
 
 def try_case(job):
-    """Runs one case; its number, the status, the command, and where it differs also how and the
+    """Runs one case; its number, the status, the kind, and where it differs also how and the
     folder."""
     settings, number = job
     folder = tempfile.mkdtemp(prefix=f"case_{settings.seed}_{number}_", dir=settings.folder)
+    known = settings.stage or case_maker.LAST_STAGE
     case = case_maker.make_case(random.Random(f"{settings.seed}:{number}"),
-                                link_times(settings, os.path.join(folder, "times")), settings.only)
+                                earlier_run(settings, os.path.join(folder, "earlier")),
+                                settings.only, known)
     got = run([settings.program], case, os.path.join(folder, "program"))
     wanted = run_peer(settings, case, os.path.join(folder, "peer"))
     found = differences(case, got, wanted)
@@ -166,8 +172,7 @@ def try_case(job):
     else:
         shutil.rmtree(folder)
         folder = None
-    command = case.words[0].decode("utf-8", "replace") if case.words else ""
-    return number, wanted.status, command, found, folder
+    return number, wanted.status, case.kind, found, folder
 
 
 def read_settings():
@@ -176,7 +181,7 @@ def read_settings():
     reader.add_argument("peer", type=os.path.abspath)
     reader.add_argument("--cases", type=int, default=1000)
     reader.add_argument("--seed", type=int, default=1)
-    reader.add_argument("--stage", type=int, default=12)
+    reader.add_argument("--stage", type=int, default=16)
     reader.add_argument("--jobs", type=int, default=2)
     reader.add_argument("--case", type=int)
     reader.add_argument("--all", action="store_true")
@@ -186,14 +191,14 @@ def read_settings():
 
 def try_cases(settings):
     """Runs the cases, tells of the first that differs or of all; how many did, and how many cases
-    there were of each command and status."""
+    there were of each kind and status."""
     numbers = range(settings.cases) if settings.case is None else [settings.case]
     kinds = collections.Counter()
     differing = 0
     with multiprocessing.Pool(settings.jobs) as pool:
         jobs = ((settings, number) for number in numbers)
-        for number, status, command, found, folder in pool.imap(try_case, jobs, chunksize=4):
-            kinds[(command if command in case_maker.TAKEN else "other", str(status))] += 1
+        for number, status, kind, found, folder in pool.imap(try_case, jobs, chunksize=4):
+            kinds[(kind, str(status))] += 1
             if found:
                 differing += 1
                 print(f"case {number} of seed {settings.seed}: {'; '.join(found)}: {folder}",
@@ -210,8 +215,8 @@ def main():
     settings = read_settings()
     settings.folder = tempfile.mkdtemp(prefix="random_cases_")
     differing, kinds = try_cases(settings)
-    for (command, status), count in sorted(kinds.items()):
-        print(f"{command}, status {status}: {count}")
+    for (kind, status), count in sorted(kinds.items()):
+        print(f"{kind}, status {status}: {count}")
     print(f"seed {settings.seed}: {sum(kinds.values())} cases, {differing} with a difference")
     if not differing and settings.case is None:
         shutil.rmtree(settings.folder)

@@ -40,11 +40,13 @@ tables() {
 }
 
 # Every option at once: all words are taken, Report goes to standard output and Watch to standard
-# error. The last vehicle is on the second link.
+# error. The last vehicle is on the second link. In iteration 2 the first and third vehicle choose
+# their routes anew, and the second keeps that of the start table.
 tables 3
+printf 'agent_id,o_zone_id,d_zone_id,link_ids\n1,1,3,10;20\n2,2,3,10;20\n' >start.csv
 ends 'every option' 0 "$program" assign --step 12 --jam 250 --length-unit km --speed-unit mph \
-    --horizon 36 --period 36 --iterations 2 --workers 3 --bucket 20 --queue spatial --watch 10 \
-    --plain >report 2>watch
+    --horizon 36 --period 36 --iterations 2 --workers 3 --bucket 20 --queue newell --wave 18 \
+    --watch 10 --plain --start >report 2>watch
 has 'every option' report <<'TEXT'
 nodes 3
 links 2
@@ -64,10 +66,10 @@ has 'every option' watch <<'TEXT'
 2,36,0,1,2,0,1,0,0
 TEXT
 has 'every option' agent.csv <<'TEXT'
-agent_id,o_zone_id,d_zone_id,departure_step,arrival_step,status,link_ids,entry_steps
-0,1,3,6,14,arrived,10;20,6;10
-1,1,3,18,26,arrived,10;20,18;22
-2,1,3,30,,running,10;20,30;34
+agent_id,o_zone_id,d_zone_id,departure_step,arrival_step,status,link_ids,entry_steps,route_iteration
+0,1,3,6,14,arrived,10;20,6;10,2
+1,1,3,18,26,arrived,10;20,18;22,0
+2,1,3,30,,running,10;20,30;34,2
 TEXT
 mv link_performance.csv times.csv
 ends 'every option of skim' 0 "$program" skim --step 12 --jam 250 --length-unit km \
@@ -87,7 +89,7 @@ o_zone_id,d_zone_id,start_step,least_steps
 TEXT
 ends 'every option of counts' 0 "$program" counts --step 12 --jam 250 --length-unit km \
     --speed-unit mph --horizon 36 --period 36 --iterations 2 --workers 3 --bucket 20 \
-    --queue spatial --link 20 --plain >report 2>>watch
+    --queue spatial --wave 100 --link 20 --plain >report 2>>watch
 has 'every option of counts' counts.csv <<'TEXT'
 kind,first,second,from_step,to_step,vehicles
 turn,10,20,0,20,1
@@ -100,6 +102,21 @@ has 'every option of counts' states <<'TEXT'
 arrived 2
 running 1
 waiting 0
+TEXT
+
+# Red on a link and on a turn, and a wave that keeps the first link's space back: vehicles leave it
+# in step 9, and the wave takes 10 steps.
+tables 3
+printf 'link_id,from_node_id,to_node_id,length,capacity,capacity_by_step\n' >link.csv
+printf '10,1,2,0.1,,\n20,2,3,0.1,,0:0;9:1800\n' >>link.csv
+printf 'node_id,ib_link_id,ob_link_id,capacity_by_step\n2,10,20,0:none;20:0;24:none\n' >movement.csv
+ends 'windows and a wave' 0 "$program" assign --length-unit km --period 3 --jam 20 \
+    --queue newell --wave 6 >report
+has 'windows and a wave' agent.csv <<'TEXT'
+agent_id,o_zone_id,d_zone_id,departure_step,arrival_step,status,link_ids,entry_steps
+0,1,3,0,11,arrived,10;20,0;9
+1,1,3,1,11,arrived,10;20,1;9
+2,1,3,2,26,arrived,10;20,19;24
 TEXT
 
 # A file that takes the first part of a piece and then no more.

@@ -1,10 +1,11 @@
 #!/usr/bin/env python3
 """turn_sums.py PROGRAM [FOLDER [WORDS..]]
 
-Checks the sums of turning counts over examples: in each bucket of steps the turns into a link add up
-to the vehicles that entered it less those that began there. PROGRAM runs `assign` and `counts` with
-the same words in a copy of each folder; without FOLDER these are examples/turns and
-examples/sioux_falls. Prints the links and buckets looked at; the status is 1 where a sum differs.
+Checks the sums of turning counts over examples: in each bucket of steps the turns into a link add
+up to the vehicles that entered it less those that began there. PROGRAM runs `assign` and `counts`
+with the same words in a copy of each folder; without FOLDER these are turns, sioux_falls, signal
+and backward_wave of examples/. Prints the links and buckets looked at; the status is 1 where a sum
+differs.
 """
 import csv
 import os
@@ -15,8 +16,10 @@ import tempfile
 
 EXAMPLES = os.path.join(os.path.dirname(os.path.abspath(__file__)), "..", "examples")
 TABLES = ["node.csv", "link.csv", "movement.csv", "demand.csv"]
-CASES = [("turns", ["--period", "20", "--horizon", "60", "--bucket", "20"]),
-         ("sioux_falls", ["--iterations", "2"])]
+CASES = [("turns", "--period 20 --horizon 60 --bucket 20".split()),
+         ("sioux_falls", "--iterations 2".split()),
+         ("signal", "--period 60 --horizon 120 --bucket 5".split()),
+         ("backward_wave", "--period 96 --horizon 138 --bucket 6 --queue newell".split())]
 
 
 def rows(folder, name):
