@@ -7,7 +7,7 @@ use Rattle.desk_io.specs.Desk.{Left, Taken, before_left, grown}
 use Rattle.desk_io.specs.declared.desk.Table.{Table}
 use Rattle.desk_io.specs.declared.desk.Table.TheVariants.{Node, Link, Movement, Demand, Start, Times}
 use Rattle.desk_io.specs.declared.desk.Output.{Output}
-use Rattle.desk_io.specs.declared.desk.Output.TheVariants.{Agent, LinkTime, Gap, Report, Watch, Skim, Counts}
+use Rattle.desk_io.specs.declared.desk.Output.TheVariants.{Agent, LinkTime, Gap, Report, Watch, Skim, Counts, Sweep}
 
 pub append_known-append_known : (k : Option (List ℕ)) (a b : List ℕ) → append_known (append_known k a) b ≡ append_known k (a ++ b)
 append_known-append_known None a b = refl
@@ -25,6 +25,7 @@ grown-grown Report a b t = ap (λ k. record t { report = k }) (append_known-appe
 grown-grown Watch a b t = ap (λ k. record t { watch = k }) (append_known-append_known t.watch a b)
 grown-grown Skim a b t = ap (λ k. record t { skim = k }) (append_known-append_known t.skim a b)
 grown-grown Counts a b t = ap (λ k. record t { counts = k }) (append_known-append_known t.counts a b)
+grown-grown Sweep a b t = ap (λ k. record t { sweep = k }) (append_known-append_known t.sweep a b)
 
 pub append_known-empty : (k : Option (List ℕ)) → append_known k [] ≡ k
 append_known-empty None = refl
@@ -38,6 +39,7 @@ grown-empty Report t = ap (λ k. record t { report = k }) (append_known-empty t.
 grown-empty Watch t = ap (λ k. record t { watch = k }) (append_known-empty t.watch)
 grown-empty Skim t = ap (λ k. record t { skim = k }) (append_known-empty t.skim)
 grown-empty Counts t = ap (λ k. record t { counts = k }) (append_known-empty t.counts)
+grown-empty Sweep t = ap (λ k. record t { sweep = k }) (append_known-empty t.sweep)
 
 pub prepend_known-empty : (k : Option (List ℕ)) → prepend_known [] k ≡ k
 prepend_known-empty None = refl

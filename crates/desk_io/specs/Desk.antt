@@ -7,7 +7,7 @@ use Rattle.desk_io.specs.declared.desk.Table.TheVariants.{Node, Link, Movement, 
 use Rattle.desk_io.specs.declared.desk.Table.TheVariants.{Start, Times}
 use Rattle.desk_io.specs.declared.desk.Output.{Output}
 use Rattle.desk_io.specs.declared.desk.Output.TheVariants.{Agent, LinkTime, Gap, Report, Watch}
-use Rattle.desk_io.specs.declared.desk.Output.TheVariants.{Skim, Counts}
+use Rattle.desk_io.specs.declared.desk.Output.TheVariants.{Skim, Counts, Sweep}
 
 -- the bytes of each table that are not read yet
 pub record Left : Type 0 where
@@ -27,6 +27,7 @@ pub record Taken : Type 0 where
   pub watch : Option (List ℕ)
   pub skim : Option (List ℕ)
   pub counts : Option (List ℕ)
+  pub sweep : Option (List ℕ)
 
 -- what is left of one table
 abbrev pub left_of : Table → Left → Option (List ℕ)
@@ -55,6 +56,7 @@ taken_of Report t = t.report
 taken_of Watch t = t.watch
 taken_of Skim t = t.skim
 taken_of Counts t = t.counts
+taken_of Sweep t = t.sweep
 
 -- one output grown by these bytes: all other outputs are the same
 abbrev pub grown : Output → List ℕ → Taken → Taken
@@ -65,3 +67,4 @@ grown Report bs t = record t { report = append_known t.report bs }
 grown Watch bs t = record t { watch = append_known t.watch bs }
 grown Skim bs t = record t { skim = append_known t.skim bs }
 grown Counts bs t = record t { counts = append_known t.counts bs }
+grown Sweep bs t = record t { sweep = append_known t.sweep bs }

@@ -50,7 +50,7 @@ with_start start left = record left { start = Some start }
 abbrev pub with_times : List ℕ → Left → Left
 with_times times left = record left { times = Some times }
 
--- every output tells what it has taken; the last two nothing
+-- every output tells what it has taken; the last three nothing
 abbrev pub all_taken : List ℕ → List ℕ → List ℕ → List ℕ → List ℕ → Taken
 all_taken agent link_time gap report watch = record {
   agent = Some agent;
@@ -60,4 +60,5 @@ all_taken agent link_time gap report watch = record {
   watch = Some watch;
   skim = Some [];
   counts = Some [];
+  sweep = Some [];
 }

@@ -7,7 +7,11 @@ abbrev pub mem_view : mem.Inside → MemView
 mem_view d = record {
   left = with_times d.times (with_start d.start (all_left d.node d.link d.movement d.demand));
   taken = record (all_taken d.agent.items d.link_time.items d.gap.items d.report.items
-      d.watch.items) { skim = Some d.skim.items; counts = Some d.counts.items };
+      d.watch.items) {
+        skim = Some d.skim.items;
+        counts = Some d.counts.items;
+        sweep = Some d.sweep.items;
+      };
   read_faults = d.read_faults;
   put_faults = d.put_faults;
   starved = d.starved;

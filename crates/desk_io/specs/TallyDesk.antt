@@ -14,6 +14,7 @@ pub record Counts : Type 0 where
   pub watch : ℕ
   pub skim : ℕ
   pub counts : ℕ
+  pub sweep : ℕ
 
 pub record TallyView : Type 0 where
   pub left : Left
@@ -28,6 +29,7 @@ count_of output.Report c = c.report
 count_of output.Watch c = c.watch
 count_of output.Skim c = c.skim
 count_of output.Counts c = c.counts
+count_of output.Sweep c = c.sweep
 
 -- a count and so many bytes more: it stands still at its last value
 abbrev pub count_after : ℕ → ℕ → ℕ
@@ -42,6 +44,7 @@ counted output.Report more c = record c { report = count_after c.report more }
 counted output.Watch more c = record c { watch = count_after c.watch more }
 counted output.Skim more c = record c { skim = count_after c.skim more }
 counted output.Counts more c = record c { counts = count_after c.counts more }
+counted output.Sweep more c = record c { sweep = count_after c.sweep more }
 
 -- no output has taken anything
 abbrev pub no_counts : Counts
@@ -53,6 +56,7 @@ no_counts = record {
   watch = 0;
   skim = 0;
   counts = 0;
+  sweep = 0;
 }
 
 -- of no output is it told which bytes it took
@@ -65,4 +69,5 @@ nothing_told = record {
   watch = None;
   skim = None;
   counts = None;
+  sweep = None;
 }

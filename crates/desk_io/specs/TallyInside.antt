@@ -21,5 +21,6 @@ tally_view d = record {
     watch = d.watch;
     skim = d.skim;
     counts = d.counts;
+    sweep = d.sweep;
   };
 }

@@ -25,6 +25,7 @@ pub enum Output {
     Watch,
     Skim,
     Counts,
+    Sweep,
 }
 
 /// A read or a put that failed. The desk's count of such failures rose in the call.

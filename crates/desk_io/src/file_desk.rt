@@ -17,10 +17,10 @@ enum TableFile {
 
 /// A desk over the current folder. It reads `node.csv`, `link.csv`, `movement.csv`, `demand.csv`,
 /// `start.csv` and `times.csv`, and puts to `agent.csv`, `link_performance.csv`, `gap.csv`,
-/// `skim.csv`, `counts.csv`, a stream for Report and one for Watch: standard output and standard
-/// error. A `movement.csv` that doesn't exist reads as zero bytes; another missing file fails. A
-/// file is made, and an older one emptied, at its first put of a piece that isn't empty. It tells
-/// nothing of contents, and counts each failure.
+/// `skim.csv`, `counts.csv`, `sweep.txt`, a stream for Report and one for Watch: standard output and
+/// standard error. A `movement.csv` that doesn't exist reads as zero bytes; another missing file
+/// fails. A file is made, and an older one emptied, at its first put of a piece that isn't empty. It
+/// tells nothing of contents, and counts each failure.
 #[derive(Drop)]
 pub struct FileDesk<R, W> {
     rt: HostRuntime,
@@ -35,6 +35,7 @@ pub struct FileDesk<R, W> {
     gap: Option<File>,
     skim: Option<File>,
     counts: Option<File>,
+    sweep: Option<File>,
     pub(crate) report: R,
     pub(crate) watch: W,
     read_faults: u64,
@@ -69,6 +70,7 @@ impl<R, W> FileDesk<R, W> {
             gap: None,
             skim: None,
             counts: None,
+            sweep: None,
             report,
             watch,
             read_faults: 0,
@@ -133,6 +135,7 @@ impl<R: Write, W: Write> FileDesk<R, W> {
             Output::Watch => self.watch.write(piece),
             Output::Skim => made(&self.rt, &mut self.skim, "skim.csv")?.write(piece),
             Output::Counts => made(&self.rt, &mut self.counts, "counts.csv")?.write(piece),
+            Output::Sweep => made(&self.rt, &mut self.sweep, "sweep.txt")?.write(piece),
         }
     }
 }

@@ -12,7 +12,7 @@ use crate::{Desk, Failed, Memory, Output, Table};
 use std::alloc::Global;
 use std::marker::Model;
 
-/// A desk in memory: six texts to read and seven outputs that grow. It tells all, and calls can be
+/// A desk in memory: six texts to read and eight outputs that grow. It tells all, and calls can be
 /// listed to fail.
 #[derive(Drop)]
 pub struct MemDesk {
@@ -29,6 +29,7 @@ pub struct MemDesk {
     watch: Vec<u8>,
     skim: Vec<u8>,
     counts: Vec<u8>,
+    sweep: Vec<u8>,
     failing_reads: Vec<u64>,
     failing_puts: Vec<u64>,
     next_read: Option<u64>,
@@ -82,6 +83,7 @@ impl MemDesk {
             watch: Vec::new(alloc),
             skim: Vec::new(alloc),
             counts: Vec::new(alloc),
+            sweep: Vec::new(alloc),
             failing_reads: Vec::new(alloc),
             failing_puts: Vec::new(alloc),
             next_read: Some(1),
@@ -119,6 +121,23 @@ impl MemDesk {
             Output::Watch => &self.watch,
             Output::Skim => &self.skim,
             Output::Counts => &self.counts,
+            Output::Sweep => &self.sweep,
+        }
+    }
+
+    /// What an output has taken, in place of the desk.
+    pub fn into_taken(self, output: Output) -> Vec<u8>
+        ensures { taken_of output self.taken ≡ Some result.items }
+    {
+        match output {
+            Output::Agent => self.agent,
+            Output::LinkTime => self.link_time,
+            Output::Gap => self.gap,
+            Output::Report => self.report,
+            Output::Watch => self.watch,
+            Output::Skim => self.skim,
+            Output::Counts => self.counts,
+            Output::Sweep => self.sweep,
         }
     }
 
@@ -285,6 +304,7 @@ impl Desk for MemDesk {
             Output::Watch => self.watch.extend_from_slice(&piece[..count]),
             Output::Skim => self.skim.extend_from_slice(&piece[..count]),
             Output::Counts => self.counts.extend_from_slice(&piece[..count]),
+            Output::Sweep => self.sweep.extend_from_slice(&piece[..count]),
         };
         match grew {
             Ok(()) => Ok(count),

@@ -26,6 +26,7 @@ pub struct TallyDesk {
     watch: u64,
     skim: u64,
     counts: u64,
+    sweep: u64,
 }
 
 impl Model for TallyDesk {
@@ -59,6 +60,7 @@ impl TallyDesk {
             watch: 0,
             skim: 0,
             counts: 0,
+            sweep: 0,
         }
     }
 
@@ -88,6 +90,7 @@ impl TallyDesk {
             Output::Watch => self.watch,
             Output::Skim => self.skim,
             Output::Counts => self.counts,
+            Output::Sweep => self.sweep,
         }
     }
 }
@@ -147,6 +150,7 @@ impl Desk for TallyDesk {
             Output::Watch => self.watch = self.watch.saturating_add(count),
             Output::Skim => self.skim = self.skim.saturating_add(count),
             Output::Counts => self.counts = self.counts.saturating_add(count),
+            Output::Sweep => self.sweep = self.sweep.saturating_add(count),
         }
         Ok(piece.len())
     }

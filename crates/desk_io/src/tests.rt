@@ -81,6 +81,7 @@ fn a_tally_reads_and_counts(rt: HostRuntime) -> Result<(), Fail> {
     assert!(rt; put_all(&mut desk, Output::Report, b"links 4\n") == Ok(()));
     assert!(rt; put_all(&mut desk, Output::Skim, b"1,3,0,20\n") == Ok(()));
     assert!(rt; put_all(&mut desk, Output::Counts, b"turn\n") == Ok(()));
+    assert!(rt; put_all(&mut desk, Output::Sweep, b"scenario") == Ok(()));
     assert!(rt; put_all(&mut desk, Output::Gap, b"1,0,0,0,0\n") == Ok(()));
     for (output, count) in [
         (Output::Agent, 0),
@@ -90,6 +91,7 @@ fn a_tally_reads_and_counts(rt: HostRuntime) -> Result<(), Fail> {
         (Output::Watch, 0),
         (Output::Skim, 9),
         (Output::Counts, 5),
+        (Output::Sweep, 8),
     ] {
         assert!(rt; desk.count(output) == count);
     }
@@ -120,6 +122,7 @@ fn files_of_the_folder(rt: HostRuntime) -> Result<(), Fail> {
         (Output::Gap, "gap.csv"),
         (Output::Skim, "skim.csv"),
         (Output::Counts, "counts.csv"),
+        (Output::Sweep, "sweep.txt"),
     ] {
         assert!(rt; put_all(&mut desk, output, b"two ") == Ok(()));
         assert!(rt; put_all(&mut desk, output, b"puts") == Ok(()));

@@ -2,7 +2,8 @@
 ghost use Rattle.std.specs.Prelude.{◌≡◌, ◌++◌, flat_map, OnOk, IfOk};
 ghost use Rattle.grid_maker.specs.Grid.{demand_header, demand_line, demand_text, zones};
 
-use crate::text::Text;
+use crate::draft::Draft;
+use desk_io::Text;
 use std::alloc::{AllocError, Global};
 
 /// The zones are numbered from 1 to this.
@@ -13,17 +14,17 @@ const VOLUME: u64 = 25;
 
 // The first line.
 #[tactic(auto, unfolding(crate::specs::Grid::demand_header))]
-fn header(alloc: Global) -> Result<Text, AllocError>
+fn header(alloc: Global) -> Result<Draft, AllocError>
     ensures { IfOk result (λ text. text ≡ demand_header) }
 {
-    let mut text = Text::new(alloc);
+    let mut text = Draft::new(alloc);
     text.push(b"o_zone_id,d_zone_id,volume\n")?;
     Ok(text)
 }
 
 // Adds the line of a pair of zones: none for a zone and itself.
 #[tactic(auto, using(crate::proofs::GridFacts::pieces), unfolding(crate::specs::Grid::demand_line))]
-fn push_pair(text: &mut Text, side: u32, origin: u64, destination: u64) -> Result<(), AllocError>
+fn push_pair(text: &mut Draft, side: u32, origin: u64, destination: u64) -> Result<(), AllocError>
     ensures { OnOk result (text.new ≡ text.old ++ demand_line side origin destination) }
 {
     if origin == destination {
@@ -39,7 +40,7 @@ fn push_pair(text: &mut Text, side: u32, origin: u64, destination: u64) -> Resul
 
 // Adds the lines of an origin.
 #[tactic(auto, using(crate::proofs::GridFacts::counts))]
-fn push_origin(text: &mut Text, side: u32, origin: u64) -> Result<(), AllocError>
+fn push_origin(text: &mut Draft, side: u32, origin: u64) -> Result<(), AllocError>
     ensures { OnOk result (text.new ≡ text.old ++ flat_map (demand_line side origin) zones) }
 {
     'each: for destination in 1..=ZONES {
@@ -57,5 +58,5 @@ pub(crate) fn demand_table(alloc: Global, side: u32) -> Result<Text, AllocError>
     'each: for origin in 1..=ZONES {
         push_origin(&mut text, side, origin)?;
     }
-    Ok(text)
+    Ok(text.finish())
 }

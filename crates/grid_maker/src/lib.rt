@@ -6,6 +6,7 @@
 #![tactic(auto)]
 
 mod demand_table;
+mod draft;
 mod link_table;
 mod links;
 mod maker;
@@ -13,7 +14,6 @@ mod node_table;
 mod places;
 #[cfg(test)]
 mod tests;
-mod text;
 
+pub use desk_io::Text;
 pub use maker::{GridFault, LEAST_SIDE, MOST_SIDE, Texts, grid};
-pub use text::Text;

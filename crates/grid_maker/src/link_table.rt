@@ -2,23 +2,24 @@
 ghost use Rattle.std.specs.Prelude.{◌≡◌, ◌<◌, ◌++◌, OnOk, IfOk};
 ghost use Rattle.grid_maker.specs.Grid.{link_header, link_line, link_text};
 
+use crate::draft::Draft;
 use crate::links::{GridLink, all_links};
-use crate::text::Text;
+use desk_io::Text;
 use std::alloc::{AllocError, Global};
 
 // The first line.
 #[tactic(auto, unfolding(crate::specs::Grid::link_header))]
-fn header(alloc: Global) -> Result<Text, AllocError>
+fn header(alloc: Global) -> Result<Draft, AllocError>
     ensures { IfOk result (λ text. text ≡ link_header) }
 {
-    let mut text = Text::new(alloc);
+    let mut text = Draft::new(alloc);
     text.push(b"link_id,from_node_id,to_node_id,length,lanes,free_speed,capacity\n")?;
     Ok(text)
 }
 
 // Adds the line of a link.
 #[tactic(auto, using(crate::proofs::GridFacts::pieces), unfolding(crate::specs::Grid::link_line))]
-fn push_link(text: &mut Text, side: u32, number: u64, link: GridLink) -> Result<(), AllocError>
+fn push_link(text: &mut Draft, side: u32, number: u64, link: GridLink) -> Result<(), AllocError>
     ensures { OnOk result (text.new ≡ text.old ++ link_line side number link) }
 {
     text.push_number(number)?;
@@ -45,5 +46,5 @@ pub(crate) fn link_table(alloc: Global, side: u32) -> Result<Text, AllocError>
         number += 1;
         push_link(&mut text, side, number, *link)?;
     }
-    Ok(text)
+    Ok(text.finish())
 }

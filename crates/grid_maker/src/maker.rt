@@ -6,7 +6,7 @@ ghost use Rattle.grid_maker.specs.Grid.{IsOutOfRange, node_text, link_text, dema
 use crate::demand_table::demand_table;
 use crate::link_table::link_table;
 use crate::node_table::node_table;
-use crate::text::Text;
+use desk_io::Text;
 use std::alloc::{AllocError, Global};
 
 /// The least number of rows and columns.

@@ -2,22 +2,23 @@
 ghost use Rattle.std.specs.Prelude.{◌≡◌, ◌<◌, ◌++◌, OnOk, IfOk};
 ghost use Rattle.grid_maker.specs.Grid.{node_header, node_line, node_text, zone_field};
 
+use crate::draft::Draft;
 use crate::places::{Place, all_places};
-use crate::text::Text;
+use desk_io::Text;
 use std::alloc::{AllocError, Global};
 
 // The first line.
 #[tactic(auto, unfolding(crate::specs::Grid::node_header))]
-fn header(alloc: Global) -> Result<Text, AllocError>
+fn header(alloc: Global) -> Result<Draft, AllocError>
     ensures { IfOk result (λ text. text ≡ node_header) }
 {
-    let mut text = Text::new(alloc);
+    let mut text = Draft::new(alloc);
     text.push(b"node_id,zone_id\n")?;
     Ok(text)
 }
 
 // Adds a zone field.
-fn push_zone(text: &mut Text, zone: Option<u64>) -> Result<(), AllocError>
+fn push_zone(text: &mut Draft, zone: Option<u64>) -> Result<(), AllocError>
     ensures { OnOk result (text.new ≡ text.old ++ zone_field zone) }
 {
     match zone {
@@ -28,7 +29,7 @@ fn push_zone(text: &mut Text, zone: Option<u64>) -> Result<(), AllocError>
 
 // Adds the line of the node at a place.
 #[tactic(auto, using(crate::proofs::GridFacts::pieces), unfolding(crate::specs::Grid::node_line))]
-fn push_node(text: &mut Text, side: u32, place: Place) -> Result<(), AllocError>
+fn push_node(text: &mut Draft, side: u32, place: Place) -> Result<(), AllocError>
     requires { 0 < side }
     ensures { OnOk result (text.new ≡ text.old ++ node_line side place) }
 {
@@ -49,5 +50,5 @@ pub(crate) fn node_table(alloc: Global, side: u32) -> Result<Text, AllocError>
     'each: for place in &places {
         push_node(&mut text, side, *place)?;
     }
-    Ok(text)
+    Ok(text.finish())
 }

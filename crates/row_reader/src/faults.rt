@@ -65,7 +65,11 @@ pub enum Column {
     FreeSteps,
     CapacityByStep,
     AgentId,
+    DepartureStep,
+    ArrivalStep,
+    Status,
     LinkIds,
+    EntrySteps,
     NoColumn,
 }
 
@@ -157,7 +161,11 @@ pub fn column_name(column: Column) -> &'static str
         Column::FreeSteps => "free_steps",
         Column::CapacityByStep => "capacity_by_step",
         Column::AgentId => "agent_id",
+        Column::DepartureStep => "departure_step",
+        Column::ArrivalStep => "arrival_step",
+        Column::Status => "status",
         Column::LinkIds => "link_ids",
+        Column::EntrySteps => "entry_steps",
         Column::NoColumn => "-",
     }
 }

@@ -1,53 +1,33 @@
-// Texts as bytes.
+// Texts while they are made.
 ghost use Rattle.std.specs.Prelude.{◌≡◌, ◌++◌, [], decimal, OnOk};
 
+use desk_io::Text;
 use itoa::Buffer;
 use std::alloc::{AllocError, Global};
 use std::marker::Model;
 
-/// A text, as its bytes.
+/// A text while it is made.
 #[derive(Drop)]
-pub struct Text {
+pub(crate) struct Draft {
     bytes: Vec<u8>,
 }
 
-impl Model for Text {
+impl Model for Draft {
     ghost use Rattle.std.specs.Prelude.{List, ℕ};
 
     ghost Value = { List ℕ };
 
-    ghost view = { λ t. t.bytes.items };
+    ghost view = { λ d. d.bytes.items };
 }
 
-impl Text {
+impl Draft {
     /// No text.
     pub(crate) fn new(alloc: Global) -> Self
         ensures { result ≡ [] }
     {
-        Text {
+        Draft {
             bytes: Vec::new(alloc),
         }
-    }
-
-    /// The text of these bytes.
-    pub fn of(bytes: Vec<u8>) -> Self
-        ensures { result ≡ bytes.items }
-    {
-        Text { bytes }
-    }
-
-    /// The bytes, lent.
-    pub fn as_slice(&self) -> &[u8]
-        ensures { result.now ≡ self.now }
-    {
-        self.bytes.as_slice()
-    }
-
-    /// The bytes, given away.
-    pub fn into_vec(self) -> Vec<u8>
-        ensures { result.items ≡ self }
-    {
-        self.bytes
     }
 
     /// Adds bytes last.
@@ -64,5 +44,12 @@ impl Text {
         let mut buffer = Buffer::new();
         self.bytes
             .extend_from_slice(buffer.format(number).as_bytes())
+    }
+
+    /// The text, which is made.
+    pub(crate) fn finish(self) -> Text
+        ensures { result ≡ self }
+    {
+        Text::of(self.bytes)
     }
 }
