@@ -6,3 +6,4 @@ pub mod AskedFacts
 pub mod ReadFacts
 pub mod SettingsFacts
 pub mod StartFacts
+pub mod ScaleFacts

@@ -15,7 +15,7 @@ use Rattle.dta_words.specs.Asked.{asked_app}
 use Rattle.dta_words.specs.Options.{takes_of}
 use Rattle.dta_words.specs.Reading.{Reads}
 use Rattle.dta_words.specs.declared.options.CommandWord.{CommandWord}
-use Rattle.dta_words.specs.declared.options.CommandWord.TheVariants.{Freeflow, Assign, Demo, Skim, Counts}
+use Rattle.dta_words.specs.declared.options.CommandWord.TheVariants.{Freeflow, Assign, Demo, Skim, Counts, Sweep, Audit}
 use Rattle.dta_words.proofs.ClapWalk.{Fails, IsSound}
 use Rattle.dta_words.proofs.ClapReads.{no_uses, reads}
 
@@ -26,6 +26,8 @@ simple Assign = refl
 simple Demo = refl
 simple Skim = refl
 simple Counts = refl
+simple Sweep = refl
+simple Audit = refl
 
 pub simple_alone : (word : CommandWord)
     → is_simple (asked_app (codes "dta") (takes_of word)) ≡ true
@@ -34,6 +36,8 @@ simple_alone Assign = refl
 simple_alone Demo = refl
 simple_alone Skim = refl
 simple_alone Counts = refl
+simple_alone Sweep = refl
+simple_alone Audit = refl
 
 sound : (word : CommandWord) → IsSound (takes_of word)
 sound Freeflow = record { no_option = refl; no_flag = refl }
@@ -41,6 +45,8 @@ sound Assign = record { no_option = refl; no_flag = refl }
 sound Demo = record { no_option = refl; no_flag = refl }
 sound Skim = record { no_option = refl; no_flag = refl }
 sound Counts = record { no_option = refl; no_flag = refl }
+sound Sweep = record { no_option = refl; no_flag = refl }
+sound Audit = record { no_option = refl; no_flag = refl }
 
 pub read_whole : (word : CommandWord) (words : List Text) → 0 < length words
     → list_any is_short (drop 1 words) ≡ false → (found : Found)

@@ -1,5 +1,5 @@
 -- Settings by what the words tell.
-use Rattle.std.proofs.Common.{◌≡◌, ◌∙◌, ◌||◌, Bool, false, codes, refl, sym, ap, ap₂, List, [], ◌∷◌, drop, Option, Some, None}
+use Rattle.std.proofs.Common.{◌≡◌, ◌∙◌, ◌||◌, false, codes, refl, sym, ap, ap₂, List, [], ◌∷◌, drop, Option, Some, None}
 use Rattle.std.specs.Prelude.{option_and_then, slice_get}
 use Rattle.clap.specs.Matches.{first_value}
 use Rattle.clap.specs.declared.parser.matches.Found.{Found}
@@ -29,6 +29,7 @@ record SameValues (v w : Text → Option Text) : Type 0 where
   watch : v (codes "watch") ≡ w (codes "watch")
   starts : v (codes "at") ≡ w (codes "at")
   link : v (codes "link") ≡ w (codes "link")
+  scales : v (codes "scales") ≡ w (codes "scales")
 
 same_settings : (word : CommandWord) (v w : Text → Option Text) (flags : Flags) → SameValues v w
     → settings_by word v flags ≡ settings_by word w flags
@@ -48,6 +49,7 @@ same_settings word v w flags s = rw (
   s.watch,
   s.starts,
   s.link,
+  s.scales,
 ) refl
 
 -- a name is no flag's where it isn't that of one of the two flags
@@ -58,6 +60,8 @@ no_flag word.Assign name e f = ap₂ (λ a b. a || (b || false)) e f
 no_flag word.Demo name e f = ap (λ b. b || false) e
 no_flag word.Skim name e f = refl
 no_flag word.Counts name e f = ap (λ b. b || false) e
+no_flag word.Sweep name e f = refl
+no_flag word.Audit name e f = refl
 
 values_of : (word : CommandWord) (words : List Text) (found : Found) (r : Reads (takes_of word) words found)
     → SameValues (first_value found) (value_in r.uses)
@@ -81,6 +85,7 @@ values_of word words found r =
       watch = read _ refl refl;
       starts = read _ refl refl;
       link = read _ refl refl;
+      scales = read _ refl refl;
     }
 
 pub settings_read : (word : CommandWord) (words : List Text) (found : Found) (flags : Flags)

@@ -12,7 +12,8 @@ use Rattle.clap.specs.Walk.{texts}
 use Rattle.dta_words.specs.Uses.{Text}
 use Rattle.dta_words.specs.Numbers.{is_number, number_between, when_between}
 use Rattle.dta_words.specs.Ranges.{AreStarts}
-use Rattle.dta_words.specs.Starts.{is_semicolon, is_start, pieces_of, start_of, steps_of}
+use Rattle.dta_words.specs.Pieces.{is_semicolon, pieces_of}
+use Rattle.dta_words.specs.Starts.{is_start, start_of, steps_of}
 
 below : (n h : ℕ) → 1 ≤ h → (nat_le 0 n && nat_le n (h - 1)) ≡ nat_lt n h
 below n h some = grind arith

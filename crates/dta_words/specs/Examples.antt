@@ -8,15 +8,20 @@ use Rattle.dta_model.specs.declared.queue.Queue.TheVariants as queue
 use Rattle.fixed_units.specs.Quantity.{number}
 use Rattle.dta_words.specs.Grammar.{link_given, settings_of}
 use Rattle.dta_words.specs.Numbers.{number_of}
-use Rattle.dta_words.specs.Starts.{pieces_of, starts_given, starts_of}
+use Rattle.dta_words.specs.Pieces.{pieces_of}
+use Rattle.dta_words.specs.Starts.{starts_given, starts_of}
+use Rattle.dta_words.specs.Scales.{scale_of, scales_given, scales_in}
 use Rattle.dta_words.specs.declared.command.Command.{Command}
 use Rattle.dta_words.specs.declared.command.Command.TheVariants as command
 use Rattle.dta_words.specs.declared.command.Settings.{Settings}
 use Rattle.dta_words.specs.declared.numbers.TheConstants.{MOST_DIGITS}
 use Rattle.dta_words.specs.declared.options.Bounds.{Bounds}
+use Rattle.dta_words.specs.declared.options.CommandWord.TheVariants as word
 use Rattle.dta_words.specs.declared.options.TheConstants.{BUCKET, DEFAULT_PERIOD, HORIZON}
-use Rattle.dta_words.specs.declared.options.TheConstants.{ITERATIONS, JAM, LEAST_SIDE, MOST_SIDE}
-use Rattle.dta_words.specs.declared.options.TheConstants.{MOST_STARTS, STEP, WATCH, WAVE, WORKERS}
+use Rattle.dta_words.specs.declared.options.TheConstants.{GREATEST_SCALE, ITERATIONS, JAM}
+use Rattle.dta_words.specs.declared.options.TheConstants.{LEAST_SCALE, LEAST_SIDE, MOST_SCALES}
+use Rattle.dta_words.specs.declared.options.TheConstants.{MOST_SIDE, MOST_STARTS, STEP, WATCH, WAVE}
+use Rattle.dta_words.specs.declared.options.TheConstants.{WORKERS}
 
 -- ---- the numbers of the options
 
@@ -69,6 +74,15 @@ most_digits_is = refl
 
 most_starts_is : MOST_STARTS ≡ 64
 most_starts_is = refl
+
+most_scales_is : MOST_SCALES ≡ 16
+most_scales_is = refl
+
+least_scale_is : LEAST_SCALE ≡ 1
+least_scale_is = refl
+
+greatest_scale_is : GREATEST_SCALE ≡ 10000
+greatest_scale_is = refl
 
 -- ---- numbers
 
@@ -123,6 +137,67 @@ sixty_five = refl
 no_starts : starts_given 60 None ≡ Some (0 ∷ [])
 no_starts = refl
 
+-- ---- multiples of the demand between semicolons
+
+three_scales : scales_in (codes "0.8;1;1.2") ≡ Some (800 ∷ 1000 ∷ 1200 ∷ [])
+unfolding number
+three_scales = refl
+
+-- multiples stay in the order given, and may repeat
+repeated_scales : scales_in (codes "2;.5;2") ≡ Some (2000 ∷ 500 ∷ 2000 ∷ [])
+unfolding number
+repeated_scales = refl
+
+-- what is finer than a thousandth is dropped
+thousandth : scales_in (codes "0.0019") ≡ Some (1 ∷ [])
+unfolding number
+thousandth = refl
+
+less_than_a_thousandth : scales_in (codes "0.0009") ≡ None
+unfolding number
+less_than_a_thousandth = refl
+
+scale_of_zero : scales_in (codes "0") ≡ None
+unfolding number
+scale_of_zero = refl
+
+tenfold : scales_in (codes "1e1") ≡ Some (10000 ∷ [])
+unfolding number
+tenfold = refl
+
+more_than_tenfold : scales_in (codes "1;10.001") ≡ None
+unfolding number
+more_than_tenfold = refl
+
+scale_below_zero : scale_of (codes "-1") ≡ None
+unfolding number
+scale_below_zero = refl
+
+no_scale_at_all : scales_in (codes "") ≡ None
+no_scale_at_all = refl
+
+no_scale_behind : scales_in (codes "1;") ≡ None
+unfolding number
+no_scale_behind = refl
+
+scale_with_a_blank : scales_in (codes "1; 2") ≡ None
+unfolding number
+scale_with_a_blank = refl
+
+sixteen_scales : scales_in (join_with_byte 59 (replicate 16 (codes "1"))) ≡ Some (replicate 16 1000)
+unfolding number
+sixteen_scales = refl
+
+seventeen_scales : scales_in (join_with_byte 59 (replicate 17 (codes "1"))) ≡ None
+seventeen_scales = refl
+
+-- a sweep has to be given them, and other commands have none
+sweep_needs_scales : scales_given word.Sweep None ≡ None
+sweep_needs_scales = refl
+
+assign_has_no_scales : scales_given word.Assign None ≡ Some []
+assign_has_no_scales = refl
+
 -- ---- a link's identifier
 
 no_link : link_given None ≡ Some None
@@ -164,6 +239,7 @@ defaults what = record {
   start = false;
   starts = 0 ∷ [];
   link = None;
+  scales = [];
 }
 
 freeflow_alone : settings_of (codes "freeflow" ∷ []) ≡ Some (defaults command.Freeflow)
@@ -197,6 +273,26 @@ counts_of_a_link :
     ≡ Some (record (defaults command.Counts) { period = 30; plain = true; link = Some 20 })
 unfolding defaults number
 counts_of_a_link = refl
+
+audit_alone : settings_of (codes "audit" ∷ []) ≡ Some (defaults command.Audit)
+unfolding defaults
+audit_alone = refl
+
+audit_of_a_period : settings_of (codes "audit" ∷ codes "--period=30" ∷ codes "--queue=newell" ∷ [])
+    ≡ Some (record (defaults command.Audit) { period = 30; queue = queue.Newell 20 })
+unfolding defaults
+audit_of_a_period = refl
+
+sweep_of_three : settings_of (codes "sweep" ∷ codes "--scales" ∷ codes "0.8;1;1.2" ∷ [])
+    ≡ Some (record (defaults command.Sweep) { scales = 800 ∷ 1000 ∷ 1200 ∷ [] })
+unfolding defaults number
+sweep_of_three = refl
+
+sweep_by_workers :
+    settings_of (codes "sweep" ∷ codes "--workers=2" ∷ codes "--scales=2" ∷ codes "--wave=7" ∷ [])
+    ≡ Some (record (defaults command.Sweep) { workers = 2; scales = 2000 ∷ [] })
+unfolding defaults number
+sweep_by_workers = refl
 
 -- a backward wave goes 20 kilometres an hour where no option says it
 newell_alone : settings_of (codes "assign" ∷ codes "--queue" ∷ codes "newell" ∷ [])
@@ -346,3 +442,35 @@ counts_with_starts = refl
 
 assign_with_a_link : settings_of (codes "assign" ∷ codes "--link" ∷ codes "20" ∷ []) ≡ None
 assign_with_a_link = refl
+
+sweep_without_scales : settings_of (codes "sweep" ∷ codes "--period" ∷ codes "30" ∷ []) ≡ None
+sweep_without_scales = refl
+
+sweep_of_zero : settings_of (codes "sweep" ∷ codes "--scales" ∷ codes "0" ∷ []) ≡ None
+unfolding number
+sweep_of_zero = refl
+
+sweep_twice : settings_of (codes "sweep" ∷ codes "--scales=1" ∷ codes "--scales=1" ∷ []) ≡ None
+sweep_twice = refl
+
+sweep_with_a_watch :
+    settings_of (codes "sweep" ∷ codes "--scales=1" ∷ codes "--watch=5" ∷ []) ≡ None
+sweep_with_a_watch = refl
+
+sweep_with_a_flag : settings_of (codes "sweep" ∷ codes "--scales=1" ∷ codes "--plain" ∷ []) ≡ None
+sweep_with_a_flag = refl
+
+sweep_with_a_start : settings_of (codes "sweep" ∷ codes "--scales=1" ∷ codes "--start" ∷ []) ≡ None
+sweep_with_a_start = refl
+
+assign_with_scales : settings_of (codes "assign" ∷ codes "--scales=1" ∷ []) ≡ None
+assign_with_scales = refl
+
+audit_with_workers : settings_of (codes "audit" ∷ codes "--workers" ∷ codes "2" ∷ []) ≡ None
+audit_with_workers = refl
+
+audit_with_iterations : settings_of (codes "audit" ∷ codes "--iterations" ∷ codes "2" ∷ []) ≡ None
+audit_with_iterations = refl
+
+audit_with_a_flag : settings_of (codes "audit" ∷ codes "--plain" ∷ []) ≡ None
+audit_with_a_flag = refl

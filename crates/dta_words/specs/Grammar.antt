@@ -15,6 +15,7 @@ use Rattle.dta_words.specs.Uses.{Text, Use, is_given, number_name, uses_of, valu
 use Rattle.dta_words.specs.Options.{takes_of}
 use Rattle.dta_words.specs.Numbers.{number_between, number_given}
 use Rattle.dta_words.specs.Starts.{starts_given}
+use Rattle.dta_words.specs.Scales.{scales_given}
 use Rattle.dta_words.specs.declared.options.Bounds.{Bounds}
 use Rattle.dta_words.specs.declared.options.CommandWord.{CommandWord}
 use Rattle.dta_words.specs.declared.options.CommandWord.TheVariants as word
@@ -36,7 +37,9 @@ word_of text = if bytes_eq text (codes "freeflow") then Some word.Freeflow
     else (if bytes_eq text (codes "assign") then Some word.Assign
     else (if bytes_eq text (codes "demo") then Some word.Demo
     else (if bytes_eq text (codes "skim") then Some word.Skim
-    else (if bytes_eq text (codes "counts") then Some word.Counts else None))))
+    else (if bytes_eq text (codes "counts") then Some word.Counts
+    else (if bytes_eq text (codes "sweep") then Some word.Sweep
+    else (if bytes_eq text (codes "audit") then Some word.Audit else None))))))
 
 -- ---- values that aren't numbers
 
@@ -83,6 +86,8 @@ command_of word.Demo side = do
   Some (command.Demo n)
 command_of word.Skim side = Some command.Skim
 command_of word.Counts side = Some command.Counts
+command_of word.Sweep side = Some command.Sweep
+command_of word.Audit side = Some command.Audit
 
 abbrev pub units_by : (Text → Option Text) → Option Units
 units_by value = do
@@ -92,11 +97,11 @@ units_by value = do
   speed_unit ← speed_unit_of (value (codes "speed-unit"))
   Some (record { delta = step; jam = jam; length = length_unit; speed = speed_unit })
 
--- the settings over a horizon with these starts, where `value` has the text of each option, and
--- `flags` says which flags are given
+-- the settings over a horizon with these starts and multiples of the demand, where `value` has the
+-- text of each option, and `flags` says which flags are given
 abbrev pub settings_over :
-    ℕ → List ℕ → CommandWord → (Text → Option Text) → Flags → Option Settings
-settings_over horizon starts first value flags = do
+    ℕ → List ℕ → List ℕ → CommandWord → (Text → Option Text) → Flags → Option Settings
+settings_over horizon starts scales first value flags = do
   what ← command_of first (value number_name)
   units ← units_by value
   period ← number_given (period_within horizon) (value (codes "period"))
@@ -121,6 +126,7 @@ settings_over horizon starts first value flags = do
     start = flags.start;
     starts = starts;
     link = link;
+    scales = scales;
   })
 
 -- the settings; the starts are below the horizon
@@ -128,15 +134,18 @@ abbrev pub settings_by : CommandWord → (Text → Option Text) → Flags → Op
 settings_by first value flags = do
   horizon ← number_given HORIZON (value (codes "horizon"))
   starts ← starts_given horizon (value (codes "at"))
-  settings_over horizon starts first value flags
+  scales ← scales_given first (value (codes "scales"))
+  settings_over horizon starts scales first value flags
 
--- whether a command's uses have the flag for the plain loader; `freeflow` and `skim` have none
+-- whether a command's uses have the flag for the plain loader; four commands have no such flag
 abbrev pub is_plain : CommandWord → List Use → Bool
 is_plain word.Freeflow uses = false
 is_plain word.Assign uses = is_given uses (codes "plain")
 is_plain word.Demo uses = is_given uses (codes "plain")
 is_plain word.Skim uses = false
 is_plain word.Counts uses = is_given uses (codes "plain")
+is_plain word.Sweep uses = false
+is_plain word.Audit uses = false
 
 -- whether a command's uses have the flag for a start table; `assign` alone has it
 abbrev pub has_start : CommandWord → List Use → Bool
@@ -145,6 +154,8 @@ has_start word.Assign uses = is_given uses (codes "start")
 has_start word.Demo uses = false
 has_start word.Skim uses = false
 has_start word.Counts uses = false
+has_start word.Sweep uses = false
+has_start word.Audit uses = false
 
 abbrev pub flags_in : CommandWord → List Use → Flags
 flags_in first uses = record { plain = is_plain first uses; start = has_start first uses }

@@ -3,7 +3,9 @@ pub mod Uses
 pub mod Asked
 pub mod Options
 pub mod Numbers
+pub mod Pieces
 pub mod Starts
+pub mod Scales
 pub mod Reading
 pub mod Grammar
 pub mod Ranges

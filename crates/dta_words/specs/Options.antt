@@ -37,3 +37,16 @@ takes_of word.Counts = record {
   flags = codes "plain" ∷ [];
   number = false;
 }
+takes_of word.Sweep = record {
+  options = codes "step" ∷ codes "jam" ∷ codes "length-unit" ∷ codes "speed-unit"
+      ∷ codes "horizon" ∷ codes "period" ∷ codes "iterations" ∷ codes "workers"
+      ∷ codes "bucket" ∷ codes "queue" ∷ codes "wave" ∷ codes "scales" ∷ [];
+  flags = [];
+  number = false;
+}
+takes_of word.Audit = record {
+  options = codes "step" ∷ codes "jam" ∷ codes "length-unit" ∷ codes "speed-unit"
+      ∷ codes "horizon" ∷ codes "period" ∷ codes "bucket" ∷ codes "queue" ∷ codes "wave" ∷ [];
+  flags = [];
+  number = false;
+}

@@ -1,5 +1,5 @@
 -- The ranges of settings.
-use Rattle.std.specs.Prelude.{ℕ, ◌≤◌, ◌<◌, ⊤, List, length}
+use Rattle.std.specs.Prelude.{ℕ, ◌≡◌, ◌≤◌, ◌<◌, ⊤, true, List, length}
 use Rattle.std.specs.List.{All}
 use Rattle.dta_model.specs.Sound.{IsQueue}
 use Rattle.dta_words.specs.declared.command.Command.{Command}
@@ -16,10 +16,16 @@ IsSide command.Assign = ⊤
 IsSide (command.Demo n) = IsBetween 2 60 n
 IsSide command.Skim = ⊤
 IsSide command.Counts = ⊤
+IsSide command.Sweep = ⊤
+IsSide command.Audit = ⊤
 
 -- there are 1 to 64 of the steps, and each is below the horizon
 abbrev pub AreStarts : ℕ → List ℕ → Type 0
 AreStarts horizon starts = IsBetween 1 64 (length starts) × All (λ step. step < horizon) starts
+
+-- there are 1 to 16 multiples of the demand, each from a thousandth to ten times it
+abbrev pub AreScales : List ℕ → Type 0
+AreScales scales = IsBetween 1 16 (length scales) × All (IsBetween 1 10000) scales
 
 -- what every settings keep, whatever the words
 pub record AreSettings (s : Settings) : Type 0 where
@@ -35,3 +41,7 @@ pub record AreSettings (s : Settings) : Type 0 where
   pub queue : IsQueue s.queue
   pub watch : s.watch ≤ 86400
   pub starts : AreStarts s.horizon s.starts
+  -- a sweep has multiples of the demand
+  pub scales : s.command ≡ command.Sweep → AreScales s.scales
+  -- an assignment alone may begin with a start table
+  pub start : s.start ≡ true → s.command ≡ command.Assign

@@ -1,19 +1,12 @@
 -- The steps that `--at` gives.
-use Rattle.std.specs.Prelude.{ℕ, Bool, ◌==◌, ◌&&◌, List, [], ◌∷◌, length, map, nat_le, nat_lt}
+use Rattle.std.specs.Prelude.{ℕ, Bool, ◌&&◌, List, [], ◌∷◌, length, map, nat_le, nat_lt}
 use Rattle.std.specs.Prelude.{Option, Some, None, if◌then◌else◌}
-use Rattle.std.specs.List.{list_all, slice_split}
+use Rattle.std.specs.List.{list_all}
 use Rattle.std.specs.Str.Parse.{digits_value}
 use Rattle.dta_words.specs.Uses.{Text}
 use Rattle.dta_words.specs.Numbers.{is_number}
+use Rattle.dta_words.specs.Pieces.{pieces_of}
 use Rattle.dta_words.specs.declared.options.TheConstants.{MOST_STARTS}
-
--- the byte is `;` (59)
-abbrev pub is_semicolon : ℕ → Bool
-is_semicolon byte = byte == 59
-
--- the pieces of a text between semicolons, of which there is always one
-abbrev pub pieces_of : Text → List Text
-pieces_of text = slice_split is_semicolon text
 
 -- a piece is a number below the horizon
 abbrev pub is_start : ℕ → Text → Bool

@@ -1,4 +1,5 @@
 // The settings of a run.
+use crate::scales::Scales;
 use dta_model::{Queue, Steps};
 use fixed_units::Units;
 
@@ -15,6 +16,10 @@ pub enum Command {
     Skim,
     /// Counts of turns, and of the vehicles through a link.
     Counts,
+    /// The assignment for several multiples of the demand.
+    Sweep,
+    /// A check of an agent table and a table of link times.
+    Audit,
 }
 
 /// The settings of a run. A field that the command has no option for holds its default.
@@ -44,4 +49,7 @@ pub struct Settings {
     pub starts: Steps,
     /// The identifier of the link whose vehicles are counted, if one is given.
     pub link: Option<u64>,
+    /// The multiples of the demand of a sweep, in thousandths, in the order given: 1 to 16, each
+    /// from 1 to 10,000. Other commands have none.
+    pub scales: Scales,
 }

@@ -1,6 +1,6 @@
 // The settings that words ask for.
 ghost use Rattle.std.specs.Prelude.{◌≡◌, ◌<◌, IfErr, IfOk, List, None, Some, drop, length};
-ghost use Rattle.std.specs.Prelude.{option_and_then};
+ghost use Rattle.std.specs.Prelude.{option_and_then, true};
 ghost use Rattle.clap.specs.Matches.{found_of};
 ghost use Rattle.dta_words.specs.Grammar.{flags_in, has_start as has_start_of};
 ghost use Rattle.dta_words.specs.Grammar.{is_plain as is_plain_of, settings_from};
@@ -34,6 +34,10 @@ fn command_word(text: &str) -> Option<CommandWord>
         Some(CommandWord::Skim)
     } else if text == "counts" {
         Some(CommandWord::Counts)
+    } else if text == "sweep" {
+        Some(CommandWord::Sweep)
+    } else if text == "audit" {
+        Some(CommandWord::Audit)
     } else {
         None
     }
@@ -45,27 +49,34 @@ fn is_plain(word: CommandWord, found: &ArgMatches) -> bool
         → result ≡ is_plain_of word r.uses }
 {
     match word {
-        CommandWord::Freeflow | CommandWord::Skim => false,
         CommandWord::Assign | CommandWord::Demo | CommandWord::Counts => found.get_flag("plain"),
+        CommandWord::Freeflow | CommandWord::Skim | CommandWord::Sweep | CommandWord::Audit =>
+            false,
     }
 }
 
 /// Whether the flag for a start table is given.
 fn has_start(word: CommandWord, found: &ArgMatches) -> bool
-    ensures { (words : List Text) → (r : Reads (takes_of word) words (found_of found.now))
+    ensures value { (words : List Text) → (r : Reads (takes_of word) words (found_of found.now))
         → result ≡ has_start_of word r.uses }
+    ensures assign { result ≡ true → word ≡ CommandWord.Assign }
 {
     match word {
         CommandWord::Assign => found.get_flag("start"),
-        CommandWord::Freeflow | CommandWord::Demo | CommandWord::Skim | CommandWord::Counts =>
-            false,
+        CommandWord::Freeflow
+        | CommandWord::Demo
+        | CommandWord::Skim
+        | CommandWord::Counts
+        | CommandWord::Sweep
+        | CommandWord::Audit => false,
     }
 }
 
 /// The flags that are given.
 fn flags(word: CommandWord, found: &ArgMatches) -> Flags
-    ensures { (words : List Text) → (r : Reads (takes_of word) words (found_of found.now))
+    ensures value { (words : List Text) → (r : Reads (takes_of word) words (found_of found.now))
         → result ≡ flags_in word r.uses }
+    ensures assign { result.start ≡ true → word ≡ CommandWord.Assign }
 {
     Flags {
         plain: is_plain(word, found),

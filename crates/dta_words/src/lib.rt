@@ -1,11 +1,11 @@
 //! The words of a command line, and the settings that they ask for.
 //!
-//! The first word is a command's name and is read by hand: freeflow, assign, demo, skim or counts.
-//! The words behind it are read by one `clap` command per name, whose options all take text, and
-//! the product reads the values: numbers, units, a list of steps, a link's identifier. The crate's
-//! promise: `settings` answers the settings that the grammar gives the words, or refuses them
-//! exactly where it gives none. The grammar stands in specs/ over the list of words, apart from
-//! clap.
+//! The first word is a command's name and is read by hand: freeflow, assign, demo, skim, counts,
+//! sweep or audit. The words behind it are read by one `clap` command per name, whose options all
+//! take text, and the product reads the values: numbers, units, a list of steps, a link's
+//! identifier, multiples of the demand. The crate's promise: `settings` answers the settings that
+//! the grammar gives the words, or refuses them exactly where it gives none. The grammar stands in
+//! specs/ over the list of words, apart from clap.
 #![tactic(auto)]
 
 mod clap_command;
@@ -13,8 +13,10 @@ mod command;
 mod grammar;
 mod numbers;
 mod options;
+mod pieces;
 mod reading;
 mod refusal;
+mod scales;
 mod starts;
 mod values;
 mod words;
@@ -22,6 +24,7 @@ mod words;
 pub use command::{Command, Settings};
 pub use grammar::settings;
 pub use refusal::WordsRefusal;
+pub use scales::Scales;
 pub use words::Words;
 
 #[cfg(test)]

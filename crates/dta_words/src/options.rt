@@ -13,6 +13,8 @@ pub(crate) enum CommandWord {
     Demo,
     Skim,
     Counts,
+    Sweep,
+    Audit,
 }
 
 /// A whole number that an option takes: its least and its most, and what stands where the option
@@ -93,6 +95,15 @@ pub(crate) const WATCH: Bounds = Bounds {
 /// A list of steps has at most as many.
 pub(crate) const MOST_STARTS: usize = 64;
 
+/// A sweep has at most as many multiples of the demand.
+pub(crate) const MOST_SCALES: usize = 16;
+
+/// A multiple of the demand in thousandths, at least.
+pub(crate) const LEAST_SCALE: u64 = 1;
+
+/// A multiple of the demand in thousandths, at most.
+pub(crate) const GREATEST_SCALE: u64 = 10_000;
+
 /// The nodes on a side of the grid of `demo`, at least.
 pub(crate) const LEAST_SIDE: u32 = 2;
 
@@ -154,6 +165,33 @@ static COUNTS_OPTIONS: [&str; 12] = [
     "link",
 ];
 
+static SWEEP_OPTIONS: [&str; 12] = [
+    "step",
+    "jam",
+    "length-unit",
+    "speed-unit",
+    "horizon",
+    "period",
+    "iterations",
+    "workers",
+    "bucket",
+    "queue",
+    "wave",
+    "scales",
+];
+
+static AUDIT_OPTIONS: [&str; 9] = [
+    "step",
+    "jam",
+    "length-unit",
+    "speed-unit",
+    "horizon",
+    "period",
+    "bucket",
+    "queue",
+    "wave",
+];
+
 static ASSIGN_FLAGS: [&str; 2] = ["plain", "start"];
 
 static PLAIN_ALONE: [&str; 1] = ["plain"];
@@ -170,6 +208,8 @@ pub(crate) fn options_of(word: CommandWord) -> &'static [&'static str]
         CommandWord::Demo => DEMO_OPTIONS.as_slice(),
         CommandWord::Skim => SKIM_OPTIONS.as_slice(),
         CommandWord::Counts => COUNTS_OPTIONS.as_slice(),
+        CommandWord::Sweep => SWEEP_OPTIONS.as_slice(),
+        CommandWord::Audit => AUDIT_OPTIONS.as_slice(),
     }
 }
 
@@ -178,9 +218,10 @@ pub(crate) fn flags_of(word: CommandWord) -> &'static [&'static str]
     ensures { texts result.now ≡ (takes_of word).flags }
 {
     match word {
-        CommandWord::Freeflow | CommandWord::Skim => NO_FLAGS.as_slice(),
         CommandWord::Assign => ASSIGN_FLAGS.as_slice(),
         CommandWord::Demo | CommandWord::Counts => PLAIN_ALONE.as_slice(),
+        CommandWord::Freeflow | CommandWord::Skim | CommandWord::Sweep | CommandWord::Audit =>
+            NO_FLAGS.as_slice(),
     }
 }
 

@@ -2,21 +2,15 @@
 ghost use Rattle.std.specs.Prelude.{◌≡◌, ◌≤◌, ◌∷◌, [], IfOk, IfSome, option_map};
 ghost use Rattle.clap.specs.Walk.{texts};
 ghost use Rattle.dta_words.specs.Ranges.{AreStarts};
-ghost use Rattle.dta_words.specs.Starts.{pieces_of, starts_of};
+ghost use Rattle.dta_words.specs.Starts.{starts_of};
 ghost use Rattle.dta_words.specs.Starts.{start_of as start_written, steps_of as steps_written};
 
 use crate::numbers::number_between;
 use crate::options::MOST_STARTS;
+use crate::pieces::pieces;
 use desk_io::Memory;
 use dta_model::Steps;
 use std::alloc::Global;
-
-/// The pieces of a text between semicolons.
-fn pieces(alloc: Global, text: &str) -> Result<Vec<&str>, Memory>
-    ensures { IfOk result (λ pieces. texts pieces.items ≡ pieces_of text.now) }
-{
-    text.split(';').collect(alloc)
-}
 
 /// The step that a piece writes, if it is below the horizon.
 #[tactic(auto, using(crate::proofs::StartFacts::start_between))]

@@ -13,7 +13,7 @@ fn words_of(alloc: Global, texts: &[&str]) -> Result<Words, Memory> {
     Ok(words)
 }
 
-// Settings as a table holds them, with their steps lent.
+// Settings as a table holds them, with their lists lent.
 #[derive(Clone, Copy)]
 struct Wanted {
     command: Command,
@@ -29,6 +29,7 @@ struct Wanted {
     start: bool,
     starts: &'static [u32],
     link: Option<u64>,
+    scales: &'static [u64],
 }
 
 impl Wanted {
@@ -46,6 +47,7 @@ impl Wanted {
             && settings.start == self.start
             && settings.starts.as_slice() == self.starts
             && settings.link == self.link
+            && settings.scales.as_slice() == self.scales
     }
 }
 
@@ -69,9 +71,10 @@ const DEFAULTS: Wanted = Wanted {
     start: false,
     starts: &[0],
     link: None,
+    scales: &[],
 };
 
-const ACCEPTED: [(&[&str], Wanted); 16] = [
+const ACCEPTED: [(&[&str], Wanted); 18] = [
     (&["assign"], DEFAULTS),
     (
         &["assign", "--step=6", "--horizon", "60"],
@@ -184,6 +187,24 @@ const ACCEPTED: [(&[&str], Wanted); 16] = [
         Wanted {
             command: Command::Counts,
             link: Some(20),
+            ..DEFAULTS
+        },
+    ),
+    (
+        &["sweep", "--workers", "2", "--scales", "0.8;1;1.2e0"],
+        Wanted {
+            command: Command::Sweep,
+            workers: 2,
+            scales: &[800, 1000, 1200],
+            ..DEFAULTS
+        },
+    ),
+    (
+        &["audit", "--queue=newell", "--bucket", "10"],
+        Wanted {
+            command: Command::Audit,
+            bucket: 10,
+            queue: Queue::Newell { wave: 20 },
             ..DEFAULTS
         },
     ),

@@ -1,12 +1,13 @@
 // The values of options, as settings.
-ghost use Rattle.std.specs.Prelude.{◌≡◌, ◌≤◌, IfOk, IfSome, Some, codes};
+ghost use Rattle.std.specs.Prelude.{◌≡◌, ◌≤◌, IfOk, IfSome, Some, codes, true};
 ghost use Rattle.clap.specs.Matches.{first_value, found_of, one_text};
 ghost use Rattle.dta_model.specs.Sound.{IsQueue};
 ghost use Rattle.dta_words.specs.Numbers.{number_given};
 ghost use Rattle.dta_words.specs.Grammar.{command_of, length_unit_of, link_given, period_within};
 ghost use Rattle.dta_words.specs.Grammar.{queue_of, settings_by, side_of, speed_unit_of, units_by};
 ghost use Rattle.dta_words.specs.Grammar.{settings_over as settings_over_of};
-ghost use Rattle.dta_words.specs.Ranges.{AreSettings, AreStarts, IsBetween, IsSide};
+ghost use Rattle.dta_words.specs.Ranges.{AreScales, AreSettings, AreStarts, IsBetween, IsSide};
+ghost use Rattle.dta_words.specs.Scales.{scales_given};
 ghost use Rattle.dta_words.specs.Starts.{starts_given};
 
 use crate::clap_command::NUMBER;
@@ -16,6 +17,7 @@ use crate::options::{
     BUCKET, Bounds, CommandWord, DEFAULT_PERIOD, Flags, HORIZON, ITERATIONS, JAM, LEAST_SIDE,
     MOST_SIDE, STEP, WATCH, WAVE, WORKERS,
 };
+use crate::scales::{Scales, no_scales, scales_in};
 use crate::starts::{first_step, starts_in};
 use clap::ArgMatches;
 use desk_io::Memory;
@@ -109,6 +111,8 @@ fn side(found: &ArgMatches) -> Option<u32>
 fn command(word: CommandWord, found: &ArgMatches) -> Option<Command>
     ensures value { result ≡ command_of word (first_value (found_of found.now) (codes "number")) }
     ensures within { IfSome result IsSide }
+    ensures assign { IfSome result (λ c. word ≡ CommandWord.Assign → c ≡ Command.Assign) }
+    ensures sweep { IfSome result (λ c. c ≡ Command.Sweep → word ≡ CommandWord.Sweep) }
 {
     match word {
         CommandWord::Freeflow => Some(Command::Freeflow),
@@ -119,6 +123,8 @@ fn command(word: CommandWord, found: &ArgMatches) -> Option<Command>
         }
         CommandWord::Skim => Some(Command::Skim),
         CommandWord::Counts => Some(Command::Counts),
+        CommandWord::Sweep => Some(Command::Sweep),
+        CommandWord::Audit => Some(Command::Audit),
     }
 }
 
@@ -168,6 +174,27 @@ fn starts(alloc: Global, found: &ArgMatches, horizon: u32) -> Result<Option<Step
     }
 }
 
+/// The multiples of the demand, which a sweep has to be given.
+fn scales(alloc: Global, word: CommandWord, found: &ArgMatches) -> Result<Option<Scales>, Memory>
+    ensures value { IfOk result (λ scales.
+        scales ≡ scales_given word (first_value (found_of found.now) (codes "scales"))) }
+    ensures within { IfOk result (λ scales.
+        IfSome scales (λ s. word ≡ CommandWord.Sweep → AreScales s)) }
+{
+    match word {
+        CommandWord::Sweep => match found.get_str("scales") {
+            None => Ok(None),
+            Some(text) => scales_in(alloc, text),
+        },
+        CommandWord::Freeflow
+        | CommandWord::Assign
+        | CommandWord::Demo
+        | CommandWord::Skim
+        | CommandWord::Counts
+        | CommandWord::Audit => Ok(Some(no_scales(alloc))),
+    }
+}
+
 /// The identifier of a link, if one is given.
 fn link(found: &ArgMatches) -> Option<Option<u64>>
     ensures { result ≡ link_given (first_value (found_of found.now) (codes "link")) }
@@ -181,18 +208,21 @@ fn link(found: &ArgMatches) -> Option<Option<u64>>
     }
 }
 
-/// The settings that the values come to over a horizon with these starts.
+/// The settings that the values come to over a horizon with these starts and multiples.
 fn settings_over(
     horizon: u32,
     starts: Steps,
+    scales: Scales,
     word: CommandWord,
     found: &ArgMatches,
     flags: Flags,
 ) -> Option<Settings>
     requires horizon { IsBetween HORIZON.least HORIZON.most horizon }
     requires starts { AreStarts horizon starts }
+    requires scales { word ≡ CommandWord.Sweep → AreScales scales }
+    requires start { flags.start ≡ true → word ≡ CommandWord.Assign }
     ensures value { result
-        ≡ settings_over_of horizon starts word (first_value (found_of found.now)) flags }
+        ≡ settings_over_of horizon starts scales word (first_value (found_of found.now)) flags }
     ensures ranges { IfSome result AreSettings }
 {
     let command = command(word, found)?;
@@ -219,6 +249,7 @@ fn settings_over(
         start: flags.start,
         starts,
         link,
+        scales,
     })
 }
 
@@ -229,6 +260,7 @@ pub(crate) fn settings_by_values(
     found: &ArgMatches,
     flags: Flags,
 ) -> Result<Option<Settings>, Memory>
+    requires { flags.start ≡ true → word ≡ CommandWord.Assign }
     ensures value { IfOk result (λ settings.
         settings ≡ settings_by word (first_value (found_of found.now)) flags) }
     ensures ranges { IfOk result (λ settings. IfSome settings AreSettings) }
@@ -237,8 +269,12 @@ pub(crate) fn settings_by_values(
         None => return Ok(None),
         Some(horizon) => horizon,
     };
-    match starts(alloc, found, horizon)? {
+    let starts = match starts(alloc, found, horizon)? {
+        None => return Ok(None),
+        Some(starts) => starts,
+    };
+    match scales(alloc, word, found)? {
         None => Ok(None),
-        Some(starts) => Ok(settings_over(horizon, starts, word, found, flags)),
+        Some(scales) => Ok(settings_over(horizon, starts, scales, word, found, flags)),
     }
 }

@@ -1,7 +1,7 @@
 use Rattle.std.proofs.Common.{lit<}
 use Rattle.std.proofs.lemmas.Iterator.Consumers.{map_from_collect}
 use Rattle.std.proofs.lemmas.Iterator.Splits.{YieldsList-from_str_split}
-use Rattle.dta_words.proofs.starts.pieces.Goals as goal
+use Rattle.dta_words.proofs.pieces.pieces.Goals as goal
 
 pub returns : goal.returns
 returns c = map_from_collect _ c.collect.ensures.ran

@@ -1,0 +1,99 @@
+// Multiples of a demand.
+ghost use Rattle.std.specs.Prelude.{◌≡◌, [], IfOk, IfSome, option_map};
+ghost use Rattle.clap.specs.Walk.{texts};
+ghost use Rattle.dta_words.specs.Ranges.{AreScales};
+ghost use Rattle.dta_words.specs.Scales.{scales_in as scales_in_text};
+ghost use Rattle.dta_words.specs.Scales.{scale_of as scale_written, scales_of as scales_written};
+
+use crate::options::{GREATEST_SCALE, LEAST_SCALE, MOST_SCALES};
+use crate::pieces::pieces;
+use desk_io::Memory;
+use fixed_units::milli;
+use std::alloc::Global;
+use std::marker::Model;
+
+/// Multiples of a demand in thousandths, in the order in which they were given.
+#[derive(Drop)]
+pub struct Scales {
+    items: Vec<u64>,
+}
+
+impl Model for Scales {
+    ghost use Rattle.std.specs.Prelude.{List, ℕ};
+
+    ghost Value = { List ℕ };
+
+    ghost view = { λ s. s.items.items };
+}
+
+impl Scales {
+    /// These multiples.
+    pub fn of(items: Vec<u64>) -> Self
+        ensures { result ≡ items.items }
+    {
+        Scales { items }
+    }
+
+    /// The multiples, lent.
+    pub fn as_slice(&self) -> &[u64]
+        ensures { result.now ≡ self.now }
+    {
+        self.items.as_slice()
+    }
+
+    /// The multiples, given away.
+    pub fn into_vec(self) -> Vec<u64>
+        ensures { result.items ≡ self }
+    {
+        self.items
+    }
+}
+
+/// The multiple that a piece writes, in thousandths, if it is within the bounds.
+fn scale_of(piece: &str) -> Option<u64>
+    ensures { result ≡ scale_written piece.now }
+{
+    let scale = milli(piece.as_bytes()).ok()?;
+    if LEAST_SCALE <= scale && scale <= GREATEST_SCALE {
+        Some(scale)
+    } else {
+        None
+    }
+}
+
+/// The multiples that pieces write, if each of them writes one.
+fn scales_of(alloc: Global, pieces: &[&str]) -> Result<Option<Vec<u64>>, Memory>
+    ensures { IfOk result (λ scales.
+        option_map (λ s. s.items) scales ≡ scales_written (texts pieces.now)) }
+{
+    let mut scales = Vec::new(alloc);
+    for piece in pieces {
+        match scale_of(*piece) {
+            None => return Ok(None),
+            Some(scale) => scales.push(scale)?,
+        }
+    }
+    Ok(Some(scales))
+}
+
+/// The multiples that a text writes, if they are 1 to 16 and each is within the bounds.
+pub(crate) fn scales_in(alloc: Global, text: &str) -> Result<Option<Scales>, Memory>
+    ensures value { IfOk result (λ scales. scales ≡ scales_in_text text.now) }
+    ensures within { IfOk result (λ scales. IfSome scales AreScales) }
+{
+    let pieces = pieces(alloc, text)?;
+    if pieces.len() > MOST_SCALES {
+        return Ok(None);
+    }
+    match scales_of(alloc, pieces.as_slice())? {
+        None => Ok(None),
+        Some(scales) => Ok(Some(Scales::of(scales))),
+    }
+}
+
+/// No multiples.
+pub(crate) fn no_scales(alloc: Global) -> Scales
+    ensures { result ≡ [] }
+{
+    Scales::of(Vec::new(alloc))
+}
