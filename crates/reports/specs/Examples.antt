@@ -1,6 +1,6 @@
 -- Worked cases of the definitions, computed: vehicles of all four statuses, without and with the
--- iterations of their routes, a table of link times
--- cut short by its horizon, gaps, the report, a watch line and the refusals.
+-- iterations of their routes, a table of link times cut short by its horizon, gaps, the report,
+-- that of an audit, a watch line and the refusals.
 use Rattle.std.specs.Prelude.{◌≡◌, refl, codes, map, false, [], ◌∷◌, ◌++◌, List, Option}
 use Rattle.std.specs.Prelude.{None, Some}
 use Rattle.std.specs.Fmt.{digits}
@@ -23,7 +23,8 @@ use Rattle.desk_io.specs.declared.transfers.TheConstants.{MOST_TABLE_BYTES}
 use Rattle.dta_model.specs.declared.loading.TheConstants.{MOST_LINK_STEPS}
 use Rattle.reports.specs.declared.summary.Summary.{Summary}
 use Rattle.reports.specs.Texts.{agent_columns, agent_header, agent_header_from, agent_line}
-use Rattle.reports.specs.Texts.{agent_text, agent_text_from, bucket_line, count_lines}
+use Rattle.reports.specs.Texts.{agent_text, agent_text_from, audit_ok_text, audit_text}
+use Rattle.reports.specs.Texts.{bucket_line, count_lines, differs_line}
 use Rattle.reports.specs.Texts.{free_link_line, free_link_time_header, free_link_time_text}
 use Rattle.reports.specs.Texts.{free_report_text, gap_header, gap_line, gap_text, last_gap_lines}
 use Rattle.reports.specs.Texts.{link_lines, link_time_header, link_time_text, refusal_line}
@@ -171,6 +172,24 @@ twelve-lines : report_text the_summary
 unfolding report_text count_lines last_gap_lines digits
 twelve-lines = refl
 
+-- ---- the report of an audit
+
+a-step-differs : audit_text the_network 3
+    (Some (record { table = table.Start; line = 3; column = column.ArrivalStep }))
+    ≡ codes "audit: start line 3 arrival_step\n"
+unfolding audit_text differs_line digits
+a-step-differs = refl
+
+a-row-is-missing : audit_text the_network 3
+    (Some (record { table = table.Start; line = 4; column = column.NoColumn }))
+    ≡ codes "audit: start line 4 -\n"
+unfolding audit_text differs_line digits
+a-row-is-missing = refl
+
+nothing-differs : audit_text the_network 3 None ≡ codes "audit ok\nvehicles 3\nlinks 2\n"
+unfolding audit_text audit_ok_text digits
+nothing-differs = refl
+
 -- ---- watch lines
 
 abbrev a_state : Eight
@@ -244,6 +263,11 @@ large-skim : refusal_line (refusal.SkimPairs 16777217)
     ≡ codes "size: skim 16777217 limit 16777216\n"
 unfolding refusal_line digits
 large-skim = refl
+
+large-sweep : refusal_line (refusal.SweepCells 40000 420)
+    ≡ codes "size: links 40000 steps 420 limit 16777216\n"
+unfolding refusal_line digits
+large-sweep = refl
 
 -- the limits: bytes of a table, links times steps, and vehicles
 most-bytes : MOST_TABLE_BYTES ≡ 268435456

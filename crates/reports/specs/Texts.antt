@@ -2,7 +2,7 @@
 -- and each line ends with a line feed.
 use Rattle.std.specs.Prelude.{ℕ, zero, suc, ◌≡◌, ◌+◌, ◌*◌, ◌<◌, ◌⊎◌, if◌then◌else◌, min, nat_lt}
 use Rattle.std.specs.Prelude.{is_some, List, [], ◌∷◌, ◌++◌, length, map, All, IfSome, Option, None}
-use Rattle.std.specs.Prelude.{Some, slice_get, slice_index, codes, decimal}
+use Rattle.std.specs.Prelude.{Some, slice_get, slice_index, codes, decimal, Bool}
 use Rattle.std.specs.List.{enumerate_from, flat_map, join_with_byte, zip}
 use Rattle.desk_io.specs.declared.desk.Output.TheVariants as output
 use Rattle.desk_io.specs.Desk.{Taken, grown}
@@ -18,8 +18,9 @@ use Rattle.dta_model.specs.declared.loaded.Journey.{Journey}
 use Rattle.dta_model.specs.declared.trip.TheConstants.{MOST_TRIPS}
 use Rattle.dta_model.specs.declared.trip.Trip.{Trip}
 use Rattle.gap.specs.declared.line.GapLine.{GapLine}
+use Rattle.reports.specs.declared.audited.Place.{Place}
 use Rattle.reports.specs.declared.refusal.Refusal.{Refusal}
-use Rattle.reports.specs.declared.refusal.TheConstants.{MOST_SKIM_ENTRIES}
+use Rattle.reports.specs.declared.refusal.TheConstants.{MOST_SKIM_ENTRIES, MOST_SWEEP_LINK_STEPS}
 use Rattle.reports.specs.declared.refusal.Refusal.TheVariants as refusal
 use Rattle.desk_io.specs.declared.transfers.TheConstants.{MOST_TABLE_BYTES}
 use Rattle.dta_model.specs.declared.loading.TheConstants.{MOST_LINK_STEPS}
@@ -90,6 +91,10 @@ routed_status journey =
     if is_some journey.arrival then status.Arrived
     else if nat_lt 0 (length journey.entries) then status.Running
     else status.Waiting
+
+-- the status of a vehicle that has a route or not
+abbrev pub told_status : Bool → Journey → AgentStatus
+told_status routed journey = if routed then routed_status journey else status.Unrouted
 
 abbrev pub status_name : AgentStatus → List ℕ
 status_name status.Unrouted = codes "unrouted"
@@ -264,6 +269,25 @@ last_gap_lines line =
 unfoldable pub report_text : Summary → List ℕ
 report_text s = count_lines s ++ last_gap_lines s.gap
 
+-- ---- Report of `audit`
+
+-- the line of the first place that differs: its table, its line and its column
+unfoldable pub differs_line : Place → List ℕ
+differs_line place =
+    codes "audit: " ++ table_name place.table ++ codes " line " ++ decimal place.line
+    ++ codes " " ++ column_name place.column ++ codes "\n"
+
+-- the lines where no place differs: the numbers of vehicles and links
+unfoldable pub audit_ok_text : ℕ → ℕ → List ℕ
+audit_ok_text vehicle_count link_count =
+    codes "audit ok\nvehicles " ++ decimal vehicle_count ++ codes "\nlinks "
+    ++ decimal link_count ++ codes "\n"
+
+-- either, for a network and its vehicles
+unfoldable pub audit_text : NetRows → ℕ → Option Place → List ℕ
+audit_text net vehicle_count None = audit_ok_text vehicle_count (length net.links)
+audit_text net vehicle_count (Some place) = differs_line place
+
 -- ---- Watch
 
 -- the line of an iteration's state
@@ -279,6 +303,12 @@ watch_line iteration eight =
 
 -- ---- Report of a refusal
 
+-- so many links over so many steps, above a limit
+abbrev pub link_steps_text : ℕ → ℕ → ℕ → List ℕ
+link_steps_text links steps limit =
+    codes "size: links " ++ decimal links ++ codes " steps " ++ decimal steps
+    ++ codes " limit " ++ decimal limit ++ codes "\n"
+
 unfoldable pub refusal_line : Refusal → List ℕ
 refusal_line refusal.Usage = codes "usage: dta COMMAND [options]\n"
 refusal_line (refusal.Table fault) =
@@ -288,12 +318,11 @@ refusal_line (refusal.Read t) = codes "read fault in " ++ table_name t ++ codes 
 refusal_line (refusal.LongTable t) =
     codes "size: table " ++ table_name t
     ++ codes " limit " ++ decimal MOST_TABLE_BYTES ++ codes "\n"
-refusal_line (refusal.Cells links steps) =
-    codes "size: links " ++ decimal links ++ codes " steps " ++ decimal steps
-    ++ codes " limit " ++ decimal MOST_LINK_STEPS ++ codes "\n"
+refusal_line (refusal.Cells links steps) = link_steps_text links steps MOST_LINK_STEPS
 refusal_line (refusal.Vehicles line total) =
     codes "size: demand line " ++ decimal line ++ codes " vehicles " ++ decimal total
     ++ codes " limit " ++ decimal MOST_TRIPS ++ codes "\n"
 refusal_line (refusal.SkimPairs number) =
     codes "size: skim " ++ decimal number ++ codes " limit " ++ decimal MOST_SKIM_ENTRIES
     ++ codes "\n"
+refusal_line (refusal.SweepCells links steps) = link_steps_text links steps MOST_SWEEP_LINK_STEPS

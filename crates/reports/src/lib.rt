@@ -1,5 +1,5 @@
-//! The texts that go out: those of `freeflow`, vehicles, link times, gaps, the report, watch lines
-//! and refusals.
+//! The texts that go out: those of `freeflow`, vehicles, link times, gaps, the report, that of an
+//! audit, watch lines and refusals.
 //!
 //! Each call puts one text (`put_free` two) to its output of a desk, in pieces of a few kilobytes,
 //! and takes no memory. Its contract names the whole text, as a function of the data that it is
@@ -8,8 +8,10 @@
 #![tactic(auto)]
 
 mod agents;
+mod audited;
 mod free;
 mod gaps;
+mod names;
 mod refusal;
 mod refused;
 mod status;
@@ -18,10 +20,12 @@ mod times;
 mod watch;
 
 pub use agents::{put_agents, put_agents_from};
+pub use audited::{Place, put_audit};
 pub use free::put_free;
 pub use gaps::put_gaps;
-pub use refusal::{MOST_SKIM_ENTRIES, Refusal};
+pub use refusal::{MOST_SKIM_ENTRIES, MOST_SWEEP_LINK_STEPS, Refusal};
 pub use refused::put_refusal;
+pub use status::status_text;
 pub use summary::{Summary, put_summary};
 pub use times::put_link_times;
 pub use watch::put_watch;

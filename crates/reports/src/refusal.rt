@@ -5,6 +5,9 @@ use row_reader::TableFault;
 /// The most entries of a skim.
 pub const MOST_SKIM_ENTRIES: u64 = 16_777_216;
 
+/// The most links times steps of a sweep.
+pub const MOST_SWEEP_LINK_STEPS: u64 = 16_777_216;
+
 /// Why a run does none of its work.
 #[derive(Clone, Copy, Debug, PartialEq, Eq)]
 pub enum Refusal {
@@ -22,4 +25,6 @@ pub enum Refusal {
     Vehicles { line: u64, total: u64 },
     /// A skim of so many entries, pairs of zones times starts, is above the limit.
     SkimPairs { number: u128 },
+    /// So many links over so many steps are above the limit of a sweep.
+    SweepCells { links: u32, steps: u32 },
 }

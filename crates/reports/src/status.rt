@@ -1,6 +1,6 @@
 // What has become of a vehicle at the horizon.
 ghost use Rattle.std.specs.Prelude.{◌≡◌, ◌≤◌, length};
-ghost use Rattle.reports.specs.Texts.{routed_status, status_name};
+ghost use Rattle.reports.specs.Texts.{routed_status, status_name, told_status};
 
 use dta_model::Journey;
 
@@ -42,5 +42,16 @@ impl AgentStatus {
             AgentStatus::Running => "running",
             AgentStatus::Waiting => "waiting",
         }
+    }
+}
+
+/// The status of a vehicle as Agent names it: of one that has a route or not, and by its journey.
+pub fn status_text(routed: bool, journey: &Journey) -> &'static str
+    ensures { result.now ≡ status_name (told_status routed journey.now) }
+{
+    if routed {
+        status_of(journey).name()
+    } else {
+        AgentStatus::Unrouted.name()
     }
 }

@@ -1,7 +1,7 @@
 // Worked cases of each text, and puts that fail.
 use crate::{
-    Refusal, Summary, put_agents, put_agents_from, put_free, put_gaps, put_link_times, put_refusal,
-    put_summary, put_watch,
+    Place, Refusal, Summary, put_agents, put_agents_from, put_audit, put_free, put_gaps,
+    put_link_times, put_refusal, put_summary, put_watch,
 };
 use desk_io::{Failed, MemDesk, Output, Table};
 use dta_model::{Eight, Loading, Steps};
@@ -60,7 +60,7 @@ const REPORT: &[u8] = b"nodes 3\nlinks 3\nvehicles 4\nunrouted 0\niterations 2\n
 running 0\nwaiting 0\nroute_steps 84\nleast_steps 84\ngap_steps 0\ngap_ppm 0\n";
 
 // Each refusal, and its line.
-const REFUSALS: [(Refusal, &[u8]); 7] = [
+const REFUSALS: [(Refusal, &[u8]); 8] = [
     (Refusal::Usage, b"usage: dta COMMAND [options]\n"),
     (
         Refusal::Table(TableFault {
@@ -95,6 +95,26 @@ const REFUSALS: [(Refusal, &[u8]); 7] = [
             number: 18_446_744_073_709_551_616,
         },
         b"size: skim 18446744073709551616 limit 16777216\n",
+    ),
+    (
+        Refusal::SweepCells {
+            links: 39_946,
+            steps: 421,
+        },
+        b"size: links 39946 steps 421 limit 16777216\n",
+    ),
+];
+
+// What an audit of three vehicles finds, and its report.
+const AUDITS: [(Option<Place>, &[u8]); 2] = [
+    (None, b"audit ok\nvehicles 3\nlinks 2\n"),
+    (
+        Some(Place {
+            table: Table::Start,
+            line: 3,
+            column: Column::ArrivalStep,
+        }),
+        b"audit: start line 3 arrival_step\n",
     ),
 ];
 
@@ -270,6 +290,17 @@ fn each_refusal(rt: HostRuntime) -> Result<(), Fail> {
         let mut desk = empty_desk(rt.alloc());
         assert!(rt; put_refusal(&mut desk, &refusal) == Ok(()));
         assert!(rt; desk.taken(Output::Report) == line);
+    }
+    Ok(())
+}
+
+#[test]
+fn both_reports_of_an_audit(rt: HostRuntime) -> Result<(), Fail> {
+    let net = two_links(rt.alloc())?;
+    for (differs, report) in AUDITS {
+        let mut desk = empty_desk(rt.alloc());
+        assert!(rt; put_audit(&mut desk, &net, 3, differs.as_ref()) == Ok(()));
+        assert!(rt; desk.taken(Output::Report) == report);
     }
     Ok(())
 }
