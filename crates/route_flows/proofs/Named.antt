@@ -21,7 +21,7 @@ use Rattle.dta_model.specs.Walks.{IsWalk}
 use Rattle.dta_model.specs.declared.trip.Trip.{Trip}
 use Rattle.route_flows.proofs.Pieces.{any_here}
 use Rattle.route_flows.specs.Starting.{TellsNames}
-use Rattle.route_flows.specs.Starts.{agents_of, AreNamed, AreStartRows, Fits, IsStarted, row_of, TellsFit, TellsStart}
+use Rattle.route_flows.specs.Starts.{agents_of, AreNamed, AreStartRows, Fits, IsNamedWalk, IsStarted, row_of, TellsFit, TellsStart, TellsWalk}
 use Rattle.route_flows.specs.declared.start_rows.StartRow.{StartRow}
 
 -- a test that no element before a place passes
@@ -98,9 +98,9 @@ somes_same (x ∷ a) (y ∷ b) h =
     let rest : map Some a ≡ map Some b = cc in
     ap (λ z. z ∷ a) head ∙ ap (λ l. y ∷ l) (somes_same a b rest)
 
-pub names_none : (net : NetRows) (trip : Trip) (row : StartRow) (index : List ℕ) (walk : List LinkNo) → index ≡ link_ids net.links → TellsNames index row.links None → Fits net trip row walk → ⊥
-names_none net trip row index walk is (i, id, e, none) fits =
-    named_none net.links row.links walk i id e (ap (λ l. place_of l id) (sym is) ∙ none) fits.names
+pub names_none : (net : NetRows) (o d : ℕ) (ids index : List ℕ) (walk : List LinkNo) → index ≡ link_ids net.links → TellsNames index ids None → IsNamedWalk net o d ids walk → ⊥
+names_none net o d ids index walk is (i, id, e, none) named =
+    named_none net.links ids walk i id e (ap (λ l. place_of l id) (sym is) ∙ none) named.names
 
 pub names_are : (net : NetRows) (ids index : List ℕ) (walk : List LinkNo) → index ≡ link_ids net.links → TellsNames index ids (Some walk) → AreNamed net ids walk
 names_are net ids index walk is h = named_are net.links ids walk (ap (λ l. map (place_of l) ids) (sym is) ∙ h)
@@ -129,20 +129,27 @@ within_more n place links new low is all = subst (λ l. All (λ (link : LinkNo).
     one n place low zero d h = low
     one n place low (suc k) d h = absurd (omega (arith, h))
 
-pub row_fits : (net : NetRows) (trip : Trip) (row : StartRow) (index : List ℕ) (links : List LinkNo) → index ≡ link_ids net.links → row.agent ≡ trip.number → row.origin ≡ trip.origin → row.destination ≡ trip.destination
-    → TellsNames index row.links (Some links) → IsWalk net trip.origin trip.destination (link_numbers links) → Fits net trip row links
-row_fits net trip row index links is agent origin destination names walks = record {
+pub names_walk : (net : NetRows) (o d : ℕ) (ids index : List ℕ) (links : List LinkNo) → index ≡ link_ids net.links
+    → TellsNames index ids (Some links) → IsWalk net o d (link_numbers links) → IsNamedWalk net o d ids links
+names_walk net o d ids index links is names walks = record { names = names_are net ids index links is names; walks = walks }
+
+pub names_no_walk : (net : NetRows) (o d : ℕ) (ids index : List ℕ) (links walk : List LinkNo) → index ≡ link_ids net.links → TellsNames index ids (Some links)
+    → (IsWalk net o d (link_numbers links) → ⊥) → IsNamedWalk net o d ids walk → ⊥
+names_no_walk net o d ids index links walk is names no_walk named =
+    let same : walk ≡ links = named_once net ids walk links named.names (names_are net ids index links is names) in
+    no_walk (subst (λ w. IsWalk net o d (link_numbers w)) same named.walks)
+
+-- what the links of a row name tells whether the row fits
+pub named_fits : (net : NetRows) (trip : Trip) (row : StartRow) (told : Option (List LinkNo)) → row.agent ≡ trip.number → row.origin ≡ trip.origin → row.destination ≡ trip.destination
+    → TellsWalk net trip.origin trip.destination row.links told → TellsFit net trip row told
+named_fits net trip row None agent origin destination none = λ walk fits. none walk (record { names = fits.names; walks = fits.walks })
+named_fits net trip row (Some walk) agent origin destination named = record {
   agent = agent;
   origin = origin;
   destination = destination;
-  names = names_are net row.links index links is names;
-  walks = walks;
+  names = named.names;
+  walks = named.walks;
 }
-
-pub row_unfit : (net : NetRows) (trip : Trip) (row : StartRow) (index : List ℕ) (links walk : List LinkNo) → index ≡ link_ids net.links → TellsNames index row.links (Some links) → (IsWalk net trip.origin trip.destination (link_numbers links) → ⊥) → Fits net trip row walk → ⊥
-row_unfit net trip row index links walk is names no_walk fits =
-    let same : walk ≡ links = named_once net row.links walk links fits.names (names_are net row.links index links is names) in
-    no_walk (subst (λ w. IsWalk net trip.origin trip.destination (link_numbers w)) same fits.walks)
 
 -- ---- the row of an agent
 no_row : StartRow

@@ -8,8 +8,8 @@ use Rattle.std.proofs.lemmas.List.Folds.{list_any_more}
 use Rattle.fixed_units.specs.Quantity.{whole_of}
 use Rattle.fixed_units.specs.declared.fault.NumberFault.TheVariants.{NotNumber, OutOfRange}
 use Rattle.row_reader.specs.Fields.{not_a_number}
-use Rattle.row_reader.specs.declared.faults.Column.TheVariants.{LinkIds}
-use Rattle.route_flows.specs.StartTable.{identifiers_of, is_beyond, is_formless, links_told, value_in}
+use Rattle.row_reader.specs.declared.faults.Column.{Column}
+use Rattle.route_flows.specs.StartTable.{identifiers_of, is_beyond, is_formless, ids_told, value_in}
 
 any_map : {X Y : Type 0} (p : Y → Bool) (f : X → Y) (xs : List X) → list_any p (map f xs) ≡ list_any (λ x. p (f x)) xs
 any_map p f [] = refl
@@ -29,7 +29,7 @@ any_here p (x ∷ xs) (suc i) d h e = by (p x) refl (any_here p xs i d (omega (a
     by true t rest = rw t refl
     by false t rest = rw t rest
 
-module _ {X : Type 0} (text : X → List ℕ) (pieces : List X) where
+module _ {X : Type 0} (what : Column) (text : X → List ℕ) (pieces : List X) where
   abbrev texts : List (List ℕ)
   texts = map text pieces
 
@@ -43,18 +43,18 @@ module _ {X : Type 0} (text : X → List ℕ) (pieces : List X) where
   pub formed_more : (i : ℕ) (d : X) → i < length pieces → list_any formless (take i pieces) ≡ false → formless (get_or pieces i d) ≡ false → list_any formless (take (i + 1) pieces) ≡ false
   formed_more i d h before here = list_any_more formless pieces i d h ∙ rw (before, here) refl
 
-  pub told_formless : list_any formless pieces ≡ true → links_told (identifiers_of texts) ≡ Err (not_a_number LinkIds NotNumber)
+  pub told_formless : list_any formless pieces ≡ true → ids_told what (identifiers_of texts) ≡ Err (not_a_number what NotNumber)
   told_formless h =
       let any : list_any (λ piece. is_formless (whole_of piece)) texts ≡ true = any_map (λ piece. is_formless (whole_of piece)) text pieces ∙ h in
       rw any refl
 
-  pub told_beyond : list_any formless pieces ≡ false → list_any beyond pieces ≡ true → links_told (identifiers_of texts) ≡ Err (not_a_number LinkIds OutOfRange)
+  pub told_beyond : list_any formless pieces ≡ false → list_any beyond pieces ≡ true → ids_told what (identifiers_of texts) ≡ Err (not_a_number what OutOfRange)
   told_beyond f h =
       let none : list_any (λ piece. is_formless (whole_of piece)) texts ≡ false = any_map (λ piece. is_formless (whole_of piece)) text pieces ∙ f in
       let any : list_any (λ piece. is_beyond (whole_of piece)) texts ≡ true = any_map (λ piece. is_beyond (whole_of piece)) text pieces ∙ h in
       rw (none, any) refl
 
-  pub told_values : (ids : List ℕ) → list_any formless pieces ≡ false → list_any beyond pieces ≡ false → ids ≡ map (λ p. value_in (whole_of (text p))) pieces → links_told (identifiers_of texts) ≡ Ok ids
+  pub told_values : (ids : List ℕ) → list_any formless pieces ≡ false → list_any beyond pieces ≡ false → ids ≡ map (λ p. value_in (whole_of (text p))) pieces → ids_told what (identifiers_of texts) ≡ Ok ids
   told_values ids f b is =
       let none : list_any (λ piece. is_formless (whole_of piece)) texts ≡ false = any_map (λ piece. is_formless (whole_of piece)) text pieces ∙ f in
       let low : list_any (λ piece. is_beyond (whole_of piece)) texts ≡ false = any_map (λ piece. is_beyond (whole_of piece)) text pieces ∙ b in

@@ -11,6 +11,7 @@ use Rattle.row_reader.specs.Columns.{field_in}
 use Rattle.row_reader.specs.Fields.{identifier, not_a_number, required_column, unless}
 use Rattle.row_reader.specs.FirstFault.{then_with, verdict}
 use Rattle.row_reader.specs.declared.faults.Code.TheVariants as code
+use Rattle.row_reader.specs.declared.faults.Column.{Column}
 use Rattle.row_reader.specs.declared.faults.Column.TheVariants as column
 use Rattle.row_reader.specs.declared.faults.Complaint.{Complaint}
 use Rattle.row_reader.specs.declared.faults.TableFault.{TableFault}
@@ -64,15 +65,15 @@ identifiers_of pieces =
     else (if list_any (λ piece. is_beyond (whole_of piece)) pieces then Err OutOfRange
     else Ok (map (λ piece. value_in (whole_of piece)) pieces))
 
--- identifiers that were read, or the complaint
-abbrev pub links_told : Result (List ℕ) NumberFault → Result (List ℕ) Complaint
-links_told (Ok ids) = Ok ids
-links_told (Err fault) = Err (not_a_number column.LinkIds fault)
+-- identifiers that were read, or the complaint about their column
+abbrev pub ids_told : Column → Result (List ℕ) NumberFault → Result (List ℕ) Complaint
+ids_told what (Ok ids) = Ok ids
+ids_told what (Err fault) = Err (not_a_number what fault)
 
--- the identifiers in a field of links; an empty one has none
-unfoldable pub link_ids_in : List ℕ → Result (List ℕ) Complaint
-link_ids_in text =
-    if length text == 0 then Ok [] else links_told (identifiers_of (pieces_of text))
+-- the identifiers in a field of a column; an empty one has none
+unfoldable pub ids_in : Column → List ℕ → Result (List ℕ) Complaint
+ids_in what text =
+    if length text == 0 then Ok [] else ids_told what (identifiers_of (pieces_of text))
 
 -- ---- rows
 
@@ -83,7 +84,7 @@ start_row_of places before r =
     then_with (unless (is_some (place_of (agents_of before) agent)) code.E6 column.AgentId) (λ _.
     then_with (identifier column.OZoneId (field_in r (Some places.origin))) (λ origin.
     then_with (identifier column.DZoneId (field_in r (Some places.destination))) (λ destination.
-    then_with (link_ids_in (field_in r (Some places.links))) (λ links.
+    then_with (ids_in column.LinkIds (field_in r (Some places.links))) (λ links.
     Ok (record { agent = agent; origin = origin; destination = destination; links = links }))))))
 
 -- a start table's rows, or its first fault

@@ -29,6 +29,18 @@ pub record AreStartRows (rows : List StartRow) : Type 0 where
 abbrev pub AreNamed : NetRows → List ℕ → List LinkNo → Type 0
 AreNamed net ids links = map (link_named net.links) ids ≡ map Some links
 
+-- identifiers name a walk between two zones
+pub record IsNamedWalk
+    (net : NetRows) (origin destination : ℕ) (ids : List ℕ) (walk : List LinkNo) : Type 0 where
+  pub names : AreNamed net ids walk
+  pub walks : IsWalk net origin destination (link_numbers walk)
+
+-- what identifiers name: a walk between two zones, or none
+abbrev pub TellsWalk : NetRows → ℕ → ℕ → List ℕ → Option (List LinkNo) → Type 0
+TellsWalk net origin destination ids None =
+    (walk : List LinkNo) → IsNamedWalk net origin destination ids walk → ⊥
+TellsWalk net origin destination ids (Some walk) = IsNamedWalk net origin destination ids walk
+
 -- a row fits a vehicle by a walk: its agent is the vehicle's number, its zones are those of the
 -- vehicle's trip, and its links name the walk, which leads between these zones
 pub record Fits (net : NetRows) (trip : Trip) (row : StartRow) (walk : List LinkNo) : Type 0 where

@@ -9,7 +9,8 @@
 //! [`read_start`] reads a start table, an earlier table of agents, and answers exactly its rows or
 //! exactly its first fault. From it [`started_routes`] gives a vehicle that a row fits the row's
 //! walk and any other its chosen one, and [`route_iterations`] tells for each vehicle in which
-//! iteration it last took its route.
+//! iteration it last took its route. Other tables that name links are read with [`ids_in`], and
+//! [`walk_named`] tells the walk that such identifiers name.
 //!
 //! Destinations are worked in shares side by side, at most four and at most as many as there are
 //! workers, in threads where they can be made. In a share they are worked up to four at once, and
@@ -33,7 +34,8 @@ pub use routeless::unrouted;
 pub use selection::{MOST_ITERATION, is_selected};
 pub use since::route_iterations;
 pub use start_rows::{Ids, MOST_START_ROWS, StartRow, StartRows};
-pub use start_table::read_start;
+pub use start_table::{ids_in, read_start};
+pub use starts::{link_index, walk_named};
 
 #[cfg(test)]
 mod tests;

@@ -5,8 +5,9 @@ ghost use Rattle.row_reader.specs.FirstFault.{Tells};
 ghost use Rattle.row_reader.specs.Records.{records};
 ghost use Rattle.row_reader.specs.declared.accepted.RowRefusal.TheVariants as refusal;
 ghost use Rattle.row_reader.specs.declared.faults.Complaint.{Complaint};
-ghost use Rattle.route_flows.specs.StartTable.{link_ids_in, pieces_of, start_places, start_row_of};
-ghost use Rattle.route_flows.specs.StartTable.{identifiers_of, links_told, start_verdict};
+ghost use Rattle.route_flows.specs.StartTable.{ids_in as ids_of, pieces_of, start_places};
+ghost use Rattle.route_flows.specs.StartTable.{identifiers_of, ids_told, start_row_of};
+ghost use Rattle.route_flows.specs.StartTable.{start_verdict};
 ghost use Rattle.route_flows.specs.StartTable.{is_beyond as is_beyond_of, value_in as value_in_of};
 ghost use Rattle.route_flows.specs.StartTable.{is_formless as is_formless_of};
 ghost use Rattle.route_flows.specs.Starts.{AreStartRows, agents_of};
@@ -80,44 +81,43 @@ fn value_in(read: &Result<u64, NumberFault>) -> u64
     }
 }
 
-// The identifiers that pieces write, or the complaint.
-fn identifiers(alloc: Global, pieces: &[&[u8]]) -> Result<Ids, RowRefusal>
+// The identifiers that pieces of a column's field write, or the complaint.
+fn identifiers(alloc: Global, column: Column, pieces: &[&[u8]]) -> Result<Ids, RowRefusal>
     ensures ids { IfOk result (λ ids.
-        links_told (identifiers_of (map (λ p. p.now) pieces.now)) ≡ Ok ids) }
+        ids_told column (identifiers_of (map (λ p. p.now) pieces.now)) ≡ Ok ids) }
     ensures complaint { (c : Complaint) → result ≡ Err (refusal.Complaint c)
-        → links_told (identifiers_of (map (λ p. p.now) pieces.now)) ≡ Err c }
+        → ids_told column (identifiers_of (map (λ p. p.now) pieces.now)) ≡ Err c }
 {
     let mut ids = Vec::with_capacity(alloc, pieces.len())?;
     let mut beyond = false;
     for piece in pieces {
         let read = whole(*piece);
         if is_formless(&read) {
-            return Err(RowRefusal::Complaint(not_a_number(
-                Column::LinkIds,
-                NumberFault::NotNumber,
-            )));
+            return Err(RowRefusal::Complaint(not_a_number(column, NumberFault::NotNumber)));
         }
         beyond |= is_beyond(&read);
         ids.push(value_in(&read))?;
     }
     if beyond {
-        return Err(RowRefusal::Complaint(not_a_number(Column::LinkIds, NumberFault::OutOfRange)));
+        return Err(RowRefusal::Complaint(not_a_number(column, NumberFault::OutOfRange)));
     }
     Ok(Ids::of(ids))
 }
 
-// The identifiers in a field of links.
-#[tactic(auto, unfolding(crate::specs::StartTable::link_ids_in))]
-fn link_ids(alloc: Global, text: &[u8]) -> Result<Ids, RowRefusal>
-    ensures ids { IfOk result (λ ids. link_ids_in text.now ≡ Ok ids) }
+/// The identifiers in a field of a column, joined by semicolons; an empty field has none. It is E4
+/// where some piece isn't of the form of an identifier, and E5 where all are and some is out of
+/// range; else the refusal is want of memory.
+#[tactic(auto, unfolding(crate::specs::StartTable::ids_in))]
+pub fn ids_in(alloc: Global, column: Column, text: &[u8]) -> Result<Ids, RowRefusal>
+    ensures ids { IfOk result (λ ids. ids_of column text.now ≡ Ok ids) }
     ensures complaint { (c : Complaint) → result ≡ Err (refusal.Complaint c)
-        → link_ids_in text.now ≡ Err c }
+        → ids_of column text.now ≡ Err c }
 {
     if text.is_empty() {
         return Ok(Ids::of(Vec::new(alloc)));
     }
     let pieces = pieces(alloc, text)?;
-    identifiers(alloc, &pieces)
+    identifiers(alloc, column, &pieces)
 }
 
 // A start table that is being read.
@@ -142,7 +142,11 @@ impl StartTable {
         unless(self.rows.contains(agent), Code::E6, Column::AgentId)?;
         let origin = identifier(Column::OZoneId, row.field_in(Some(places.origin)))?;
         let destination = identifier(Column::DZoneId, row.field_in(Some(places.destination)))?;
-        let links = link_ids(self.alloc, row.field_in(Some(places.links)))?;
+        let links = ids_in(
+            self.alloc,
+            Column::LinkIds,
+            row.field_in(Some(places.links)),
+        )?;
         Ok(StartRow {
             agent,
             origin,

@@ -9,7 +9,7 @@ ghost use Rattle.dta_model.specs.Plans.{link_numbers};
 ghost use Rattle.dta_model.specs.Walks.{IsWalk, begins_in as begins_at, ends_in as ends_at};
 ghost use Rattle.dta_model.specs.Walks.{is_zone, zone_at};
 ghost use Rattle.time_routes.specs.Destinations.{AreTold};
-ghost use Rattle.route_flows.specs.Starts.{TellsFit, TellsStart};
+ghost use Rattle.route_flows.specs.Starts.{TellsFit, TellsStart, TellsWalk};
 ghost use Rattle.route_flows.specs.Starting.{EndsRight, TellsNames, TurnsOn};
 
 use crate::start_rows::{StartRow, StartRows};
@@ -17,8 +17,8 @@ use dta_model::{Route, Trip};
 use net_core::{LinkNo, LinkRow, Memory, Net, NodeNo};
 use std::alloc::Global;
 
-// The links of a network by their identifiers.
-fn link_index(alloc: Global, net: &Net) -> Result<net_core::Ids, Memory>
+/// The links of a network by their identifiers.
+pub fn link_index(alloc: Global, net: &Net) -> Result<net_core::Ids, Memory>
     ensures index { IfOk result (λ ids. ids ≡ link_ids net.now.links) }
     ensures few { IfOk result (λ ids. length ids ≤ MOST_LINKS) }
 {
@@ -141,6 +141,31 @@ fn is_walk(net: &Net, origin: u64, destination: u64, links: &[LinkNo]) -> bool
     true
 }
 
+/// The walk from a zone to a zone that identifiers of links name, or none where they name none.
+/// The index is that of the network's links.
+pub fn walk_named(
+    alloc: Global,
+    net: &Net,
+    index: &net_core::Ids,
+    origin: u64,
+    destination: u64,
+    ids: &[u64],
+) -> Result<Option<Route>, Memory>
+    requires index { index.now ≡ link_ids net.now.links }
+    requires few { length index.now ≤ MOST_LINKS }
+    ensures { IfOk result (TellsWalk net.now origin destination ids.now) }
+{
+    let links = match links_named(alloc, index, ids)? {
+        Some(links) => links,
+        None => return Ok(None),
+    };
+    if is_walk(net, origin, destination, &links) {
+        Ok(Some(Route::of(links)))
+    } else {
+        Ok(None)
+    }
+}
+
 // The walk by which a row fits a vehicle, or none where it doesn't.
 fn walk_of_row(
     alloc: Global,
@@ -157,15 +182,14 @@ fn walk_of_row(
     if row.origin != trip.origin || row.destination != trip.destination {
         return Ok(None);
     }
-    let links = match links_named(alloc, index, row.links.as_slice())? {
-        Some(links) => links,
-        None => return Ok(None),
-    };
-    if is_walk(net, trip.origin, trip.destination, &links) {
-        Ok(Some(Route::of(links)))
-    } else {
-        Ok(None)
-    }
+    walk_named(
+        alloc,
+        net,
+        index,
+        trip.origin,
+        trip.destination,
+        row.links.as_slice(),
+    )
 }
 
 // The walk of a row that fits a vehicle, or none where no row does.
