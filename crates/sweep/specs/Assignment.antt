@@ -1,0 +1,91 @@
+-- The iterations of an assignment: routes, loadings, tables of link times and gaps (successive
+-- averages over loadings, Zhou and Taylor 2014), and the numbers of its report.
+use Rattle.std.specs.Prelude.{ℕ, ◌≡◌, ◌+◌, List, count_by, is_none, length, Option, Some, slice_get}
+use Rattle.net_core.specs.declared.rows.LinkNo.{LinkNo}
+use Rattle.net_core.specs.declared.rows.NetRows.{NetRows}
+use Rattle.dta_model.specs.LinkTimes.{TimeTable, table_of, time_at}
+use Rattle.dta_model.specs.State.{eight_after}
+use Rattle.dta_model.specs.declared.eight.Eight.{Eight}
+use Rattle.dta_model.specs.declared.plan.Plan.{Plan}
+use Rattle.dta_model.specs.declared.trip.Trip.{Trip}
+use Rattle.gap.specs.Gap.{IsGapLine}
+use Rattle.gap.specs.declared.line.GapLine.{GapLine}
+use Rattle.route_flows.specs.Averages.{AreNextRoutes, AreStartedRoutes}
+use Rattle.route_flows.specs.Starts.{AreStartRows}
+use Rattle.route_flows.specs.declared.start_rows.StartRow.{StartRow}
+use Rattle.reports.specs.declared.summary.Summary.{Summary}
+use Rattle.dta_words.specs.declared.command.Settings.{Settings}
+
+-- what is assigned: a network, the trips over it, and the rows of a start table
+pub record Traffic : Type 0 where
+  pub net : NetRows
+  pub trips : List Trip
+  pub start : List StartRow
+
+-- a route for each vehicle that has one
+abbrev pub VehicleRoutes : Type 0
+VehicleRoutes = List (Option (List LinkNo))
+
+-- the loading of traffic over the routes of its vehicles
+abbrev pub plan_of : Settings → Traffic → VehicleRoutes → Plan
+plan_of s traffic routes = record {
+  net = traffic.net;
+  queue = s.queue;
+  delta = s.units.delta;
+  horizon = s.horizon;
+  trips = traffic.trips;
+  routes = routes;
+}
+
+-- the link times of the loading over these routes
+abbrev pub times_of : Settings → Traffic → VehicleRoutes → TimeTable
+times_of s traffic routes = table_of (plan_of s traffic routes) s.bucket
+
+-- the state after the last step of that loading
+abbrev pub end_of : Settings → Traffic → VehicleRoutes → Eight
+end_of s traffic routes = eight_after (plan_of s traffic routes) s.horizon
+
+-- the routes of iterations one after another, and their gaps, where the loading over routes has
+-- these link times
+pub record AreIterationsBy (times : VehicleRoutes → TimeTable) (traffic : Traffic)
+    (routes : List VehicleRoutes) (lines : List GapLine) : Type 0 where
+  -- an agent has one row of the start table
+  pub start : AreStartRows traffic.start
+  -- the first routes are the walks of the rows that fit, and else the chosen walks by free-flow
+  -- steps; without a start table no row is there
+  pub first :
+      (r : VehicleRoutes) → slice_get routes 0 ≡ Some r
+      → AreStartedRoutes traffic.net traffic.start traffic.trips r
+  -- after iteration i some vehicles take their chosen walks in its table, and the others stay
+  pub next :
+      (i : ℕ) (old new : VehicleRoutes) → slice_get routes i ≡ Some old
+      → slice_get routes (i + 1) ≡ Some new
+      → AreNextRoutes (time_at (times old)) traffic.net traffic.trips (i + 1) old new
+  -- each gap is that of an iteration's routes in its own table
+  pub gaps :
+      (i : ℕ) (r : VehicleRoutes) (line : GapLine) → slice_get routes i ≡ Some r
+      → slice_get lines i ≡ Some line
+      → IsGapLine (time_at (times r)) traffic.net traffic.trips r line
+
+-- the same by the loadings of this traffic
+abbrev pub AreIterations :
+    Settings → Traffic → List VehicleRoutes → List GapLine → Type 0
+AreIterations s traffic routes lines = AreIterationsBy (times_of s traffic) traffic routes lines
+
+-- how many vehicles have no route
+abbrev pub unrouted : VehicleRoutes → ℕ
+unrouted routes = count_by is_none routes
+
+-- the numbers of a report: those of the last iteration, over its routes and its gap
+abbrev pub summary_of : Settings → Traffic → VehicleRoutes → GapLine → Summary
+summary_of s traffic last line = record {
+  nodes = length traffic.net.nodes;
+  links = length traffic.net.links;
+  vehicles = length traffic.trips;
+  unrouted = unrouted last;
+  iterations = s.iterations;
+  arrived = (end_of s traffic last).arrived;
+  running = (end_of s traffic last).running;
+  waiting = (end_of s traffic last).waiting;
+  gap = line;
+}

@@ -1,0 +1,46 @@
+-- The scenarios of a sweep: the assignment for each multiple of the demand.
+use Rattle.std.specs.Prelude.{ℕ, ◌≡◌, ◌-◌, List, [], length, Some, slice_get}
+use Rattle.std.specs.List.{AllZip}
+use Rattle.net_core.specs.declared.rows.NetRows.{NetRows}
+use Rattle.dta_model.specs.Loading.{journeys_of}
+use Rattle.dta_model.specs.declared.trip.DemandCell.{DemandCell}
+use Rattle.gap.specs.declared.line.GapLine.{GapLine}
+use Rattle.reports.specs.Texts.{agent_text, gap_text, link_time_text, report_text}
+use Rattle.dta_words.specs.declared.command.Settings.{Settings}
+use Rattle.sweep.specs.Assignment.{AreIterations, Traffic, VehicleRoutes, plan_of, summary_of}
+use Rattle.sweep.specs.Assignment.{times_of}
+use Rattle.sweep.specs.Scales.{trips_at}
+use Rattle.sweep.specs.declared.scenario.Scenario.{Scenario}
+
+-- the traffic of a scenario: the trips of the demand times its scale, without a start table
+abbrev pub traffic_at : Settings → NetRows → List DemandCell → ℕ → Traffic
+traffic_at s net cells scale =
+    record { net = net; trips = trips_at scale cells s.period; start = [] }
+
+-- the texts of an assignment of this traffic, as `assign` puts them
+pub record HasTexts (s : Settings) (traffic : Traffic) (it : Scenario) : Type 0 where
+  pub routes : List VehicleRoutes
+  pub lines : List GapLine
+  pub last : VehicleRoutes
+  pub line : GapLine
+  pub iterations : AreIterations s traffic routes lines
+  pub as_many : length routes ≡ s.iterations
+  pub with_gaps : length lines ≡ s.iterations
+  pub last_routes : slice_get routes (s.iterations - 1) ≡ Some last
+  pub last_line : slice_get lines (s.iterations - 1) ≡ Some line
+  pub agent : it.agent
+      ≡ agent_text traffic.net traffic.trips last (journeys_of (plan_of s traffic last))
+  pub link_time : it.link_time ≡ link_time_text traffic.net (times_of s traffic last)
+  pub gap : it.gap ≡ gap_text lines
+  pub report : it.report ≡ report_text (summary_of s traffic last line)
+
+-- the scenario of a scale: its texts depend on no other scale, and on no number of workers
+pub record IsScenario (s : Settings) (net : NetRows) (cells : List DemandCell) (scale : ℕ)
+    (it : Scenario) : Type 0 where
+  pub scale_is : it.scale ≡ scale
+  pub texts : HasTexts s (traffic_at s net cells scale) it
+
+-- the scenarios of scales, in their order
+abbrev pub AreScenarios :
+    Settings → NetRows → List DemandCell → List ℕ → List Scenario → Type 0
+AreScenarios s net cells scales scenarios = AllZip (IsScenario s net cells) scales scenarios

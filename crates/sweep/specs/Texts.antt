@@ -1,0 +1,45 @@
+-- The texts of a sweep, as functions of what they tell.
+use Rattle.std.specs.Prelude.{ℕ, ◌≡◌, ◌⊎◌, List, ◌++◌, length, codes, decimal}
+use Rattle.std.specs.List.{enumerate_from, flat_map}
+use Rattle.desk_io.specs.declared.desk.Output.TheVariants as output
+use Rattle.desk_io.specs.Desk.{Taken, grown}
+use Rattle.desk_io.specs.Transfers.{IsPartOut}
+use Rattle.sweep.specs.declared.scenario.Scenario.{Scenario}
+
+-- the line before a scenario's texts: its place and its scale in thousandths
+unfoldable pub scenario_line : ℕ → ℕ → List ℕ
+scenario_line place scale =
+    codes "scenario " ++ decimal place ++ codes " scale " ++ decimal scale ++ codes "\n"
+
+-- the texts of a scenario, one after the other
+unfoldable pub tables_of : Scenario → List ℕ
+tables_of it = it.agent ++ it.link_time ++ it.gap ++ it.report
+
+-- a scenario: its line, and then its texts
+unfoldable pub scenario_text : ℕ → Scenario → List ℕ
+scenario_text place it = scenario_line place it.scale ++ tables_of it
+
+-- the text of a scenario with its place
+abbrev pub numbered_text : ℕ × Scenario → List ℕ
+numbered_text numbered = scenario_text numbered.0 numbered.1
+
+-- Sweep: the scenarios one after the other, from 0
+unfoldable pub sweep_text : List Scenario → List ℕ
+sweep_text scenarios = flat_map numbered_text (enumerate_from 0 scenarios)
+
+-- Report: how many scenarios there are
+unfoldable pub sweep_report_line : ℕ → List ℕ
+sweep_report_line scenarios = codes "scenarios " ++ decimal scenarios ++ codes "\n"
+
+-- both texts of a sweep went out whole, Sweep first
+abbrev pub IsSweepOut : List Scenario → Taken → Taken → Type 0
+IsSweepOut scenarios before after =
+    after ≡ grown output.Report (sweep_report_line (length scenarios))
+    (grown output.Sweep (sweep_text scenarios) before)
+
+-- a first part of Sweep went out, or Sweep whole and a first part of Report
+abbrev pub IsCutShort : List Scenario → Taken → Taken → Type 0
+IsCutShort scenarios before after =
+    IsPartOut output.Sweep (sweep_text scenarios) before after
+    ⊎ IsPartOut output.Report (sweep_report_line (length scenarios))
+    (grown output.Sweep (sweep_text scenarios) before) after

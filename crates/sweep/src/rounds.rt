@@ -1,0 +1,171 @@
+// The scenarios of a sweep, a few at once.
+ghost use Rattle.std.specs.Prelude.{◌≡◌, ◌<◌, ◌≤◌, ◌↔◌, ℕ, All, Err, IfOk, OnOk, get_or, length};
+ghost use Rattle.std.specs.List.{AllZip};
+ghost use Rattle.fixed_units.specs.declared.quantity.TheConstants.{MOST_THOUSANDTHS};
+ghost use Rattle.dta_words.specs.Ranges.{AreScales, AreSettings};
+ghost use Rattle.sweep.specs.Rounds.{AreKept};
+ghost use Rattle.sweep.specs.Scales.{AreAllWithin, IsFirstTooMany, scaled, trips_at};
+ghost use Rattle.sweep.specs.Scenarios.{AreScenarios, IsScenario};
+ghost use Rattle.sweep.specs.Traffic.{IsTraffic, traffic_over};
+ghost use Rattle.sweep.specs.declared.fault.SweepFault.TheVariants as fault;
+ghost use Rattle.sweep.specs.declared.scales.TheConstants.{MOST_SCALE};
+ghost use Rattle.vehicle_release.specs.Limits.{IsWithin};
+
+use crate::assignment::assign;
+use crate::fault::SweepFault;
+use crate::limits::check_scales;
+use crate::scales::all_times;
+use crate::scenario::{Scenario, Sweep};
+use crate::scenario_texts::scenario_of;
+use dta_model::{DemandCell, Trip};
+use dta_words::Settings;
+use net_core::{Memory, Net};
+use std::alloc::{AllocError, Global};
+use std::thread;
+use std::thread::Threads;
+use vehicle_release::{ReleaseFault, release};
+
+/// The most scenarios that are worked at once.
+pub const MOST_AT_ONCE: u32 = 4;
+
+// The trips of a scenario that hasn't too many vehicles.
+fn released(
+    alloc: Global,
+    settings: &Settings,
+    net: &Net,
+    cells: &[DemandCell],
+    scale: u64,
+) -> Result<Vec<Trip>, Memory>
+    requires settings { AreSettings settings.now }
+    requires volumes { All (λ cell. cell.volume ≤ MOST_THOUSANDTHS) cells.now }
+    requires scale { scale ≤ MOST_SCALE }
+    requires within { IsWithin (scaled scale cells.now) }
+    ensures trips { IfOk result (λ trips.
+        trips.items ≡ trips_at scale cells.now settings.now.period) }
+    ensures traffic { IfOk result (λ trips.
+        IsTraffic settings.now.horizon (traffic_over net.now trips.items)) }
+{
+    let _sound = net.link_count();
+    let scaled = all_times(alloc, cells, scale)?;
+    match release(alloc, &scaled, settings.period) {
+        Ok(trips) => Ok(trips),
+        Err(ReleaseFault::TooMany { .. }) => unreachable!(),
+        Err(ReleaseFault::Memory) => Err(AllocError),
+    }
+}
+
+// The scenario of a scale.
+fn worked<R: AllocGlobal + Threads + Sync>(
+    rt: &R,
+    settings: &Settings,
+    net: &Net,
+    cells: &[DemandCell],
+    scale: u64,
+) -> Result<Scenario, Memory>
+    requires settings { AreSettings settings.now }
+    requires volumes { All (λ cell. cell.volume ≤ MOST_THOUSANDTHS) cells.now }
+    requires scale { scale ≤ MOST_SCALE }
+    requires within { IsWithin (scaled scale cells.now) }
+    ensures { IfOk result (IsScenario settings.now net.now cells.now scale) }
+{
+    let alloc = rt.alloc();
+    let trips = released(alloc, settings, net, cells, scale)?;
+    let assigned = assign(rt, settings, net, &trips)?;
+    scenario_of(alloc, settings, net, &trips, &assigned, scale)
+}
+
+// The scenarios of a few scales, worked side by side: each comes, or memory is wanting for it.
+fn side_by_side<R: AllocGlobal + Threads + Sync>(
+    rt: &R,
+    settings: &Settings,
+    net: &Net,
+    cells: &[DemandCell],
+    scales: &[u64],
+) -> Result<Vec<Result<Scenario, Memory>>, Memory>
+    requires settings { AreSettings settings.now }
+    requires volumes { All (λ cell. cell.volume ≤ MOST_THOUSANDTHS) cells.now }
+    requires scales { All (λ scale. scale ≤ MOST_SCALE) scales.now }
+    requires within { AreAllWithin cells.now scales.now }
+    ensures { IfOk result (λ all. AllZip (λ scale one.
+        IfOk one (IsScenario settings.now net.now cells.now scale)) scales.now all.items) }
+{
+    let one = |place: usize| -> Result<Scenario, Memory>
+        requires { AreSettings settings.now
+            × All (λ cell. cell.volume ≤ MOST_THOUSANDTHS) cells.now
+            × All (λ scale. scale ≤ MOST_SCALE) scales.now
+            × AreAllWithin cells.now scales.now × (place < length scales.now) }
+        ensures { IfOk result (IsScenario settings.entry.now net.entry.now cells.entry.now
+            (get_or scales.entry.now place 0)) }
+    { worked(rt, settings, net, cells, scales[place]) };
+    let all = thread::map_indices(rt, rt.alloc(), scales.len(), &one)?;
+    Ok(all)
+}
+
+// Keeps the scenarios of a round.
+fn keep(kept: &mut Vec<Scenario>, round: Vec<Result<Scenario, Memory>>) -> Result<(), Memory>
+    ensures { OnOk result (AreKept kept.old.items round.items kept.new.items) }
+{
+    for one in round {
+        kept.push(one?)?;
+    }
+    Ok(())
+}
+
+// The scenarios of all scales, a round of consecutive ones after another.
+fn all_scenarios<R: AllocGlobal + Threads + Sync>(
+    rt: &R,
+    settings: &Settings,
+    net: &Net,
+    cells: &[DemandCell],
+    scales: &[u64],
+    workers: u32,
+) -> Result<Vec<Scenario>, Memory>
+    requires settings { AreSettings settings.now }
+    requires volumes { All (λ cell. cell.volume ≤ MOST_THOUSANDTHS) cells.now }
+    requires scales { All (λ scale. scale ≤ MOST_SCALE) scales.now }
+    requires within { AreAllWithin cells.now scales.now }
+    requires workers { 1 ≤ workers }
+    ensures { IfOk result (λ all.
+        AreScenarios settings.now net.now cells.now scales.now all.items) }
+{
+    let at_once = workers.min(MOST_AT_ONCE) as usize;
+    let mut kept = Vec::new(rt.alloc());
+    let mut from = 0;
+    'round: while from < scales.len() {
+        let to = (from + at_once).min(scales.len());
+        let round = side_by_side(rt, settings, net, cells, &scales[from..to])?;
+        keep(&mut kept, round)?;
+        from = to;
+    }
+    Ok(kept)
+}
+
+/// The scenarios of a demand's scales over a network. At most four scenarios, and at most as many
+/// as there are workers, are worked at once, each in its own thread: a round of consecutive scales
+/// after another. Too many vehicles are told before any scenario is worked. Volumes and scales are
+/// in thousandths.
+pub fn sweep<R: AllocGlobal + Threads + Sync>(
+    rt: &R,
+    net: &Net,
+    cells: &[DemandCell],
+    settings: &Settings,
+    scales: &[u64],
+    workers: u32,
+) -> Result<Sweep, SweepFault>
+    requires settings { AreSettings settings.now }
+    requires scales { AreScales scales.now }
+    requires volumes { All (λ cell. cell.volume ≤ MOST_THOUSANDTHS) cells.now }
+    requires workers { 1 ≤ workers }
+    ensures scenarios { IfOk result (AreScenarios settings.now net.now cells.now scales.now) }
+
+    // A scenario is told exactly where it is the first with too many vehicles.
+    ensures too_many { (scenario line total : ℕ) →
+        (result ≡ Err (fault.TooMany scenario line total))
+        ↔ IsFirstTooMany cells.now scales.now scenario line total }
+    ensures ok_within { OnOk result (AreAllWithin cells.now scales.now) }
+    ensures memory_within { result ≡ Err fault.Memory → AreAllWithin cells.now scales.now }
+{
+    check_scales(cells, scales)?;
+    let all = all_scenarios(rt, settings, net, cells, scales, workers)?;
+    Ok(Sweep::of(all))
+}
