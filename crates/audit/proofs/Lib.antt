@@ -1,0 +1,4 @@
+pub mod Verdicts
+pub mod Routed
+pub mod Placed
+pub mod Whole
