@@ -15,8 +15,9 @@ use Rattle.dta_words.specs.declared.command.Command.{Command}
 use Rattle.dta_words.specs.declared.command.Command.TheVariants as command
 use Rattle.dta_words.specs.declared.command.Settings.{Settings}
 use Rattle.desk_io.specs.declared.desk.Output.TheVariants as output
-use Rattle.dta.specs.Assignment.{AreIterations, AreIterationsBy, VehicleRoutes, end_of, times_of}
-use Rattle.dta.specs.Jobs.{JobRows, plan_of}
+use Rattle.sweep.specs.Assignment.{VehicleRoutes}
+use Rattle.dta.specs.Assignment.{AreIterations, AreIterationsBy, end_of, times_of}
+use Rattle.dta.specs.Jobs.{JobRows, plan_of, traffic_of}
 use Rattle.dta.specs.Laws.{TextsInAnyOrder}
 use Rattle.dta.specs.Orders.{AreNodeOrders, NodeOrders, counts_by, end_by, journeys_by, summary_by}
 use Rattle.dta.specs.Orders.{texts_by, times_by, trace_by}
@@ -30,7 +31,8 @@ use Rattle.counts.specs.declared.turn_counts.TurnCount.{TurnCount}
 use Rattle.counts.proofs.AnyOrder.{same_through_counts, same_turn_counts}
 use Rattle.net_core.specs.declared.rows.LinkNo.{LinkNo}
 use Rattle.std.specs.Prelude.{Option, None, Some}
-use Rattle.dta.proofs.Determined.{RouteLaws, but-watch-assigned, lasts-by, same-lines, same-routes, same-since}
+use Rattle.sweep.proofs.Determined.{RouteLaws, same-lines, same-routes}
+use Rattle.dta.proofs.Determined.{but-watch-assigned, lasts-by, same-since}
 
 -- iterations over equal tables of link times
 by-times : (job : JobRows) (times other : VehicleRoutes → TimeTable)
@@ -103,6 +105,10 @@ module _ (s : Settings) (job : JobRows) (order : NodeOrders) (all : AreNodeOrder
       ap (λ x. text_to output.Report (report_text x) ∷ []) (summary-same last line)
   texts-same command.Skim last since lines line =
       ap (λ x. text_to output.Report (report_text x) ∷ []) (summary-same last line)
+  texts-same command.Sweep last since lines line =
+      ap (λ x. text_to output.Report (report_text x) ∷ []) (summary-same last line)
+  texts-same command.Audit last since lines line =
+      ap (λ x. text_to output.Report (report_text x) ∷ []) (summary-same last line)
   texts-same command.Counts last since lines line =
       ap (λ x. x ∷ text_to output.Report (report_text (summary_by s job order last line)) ∷ []) (counts-same last)
       ∙ ap (λ x. counts_out s job (turn_counts (plan_of s job last) s.bucket) (through_counts (plan_of s job last))
@@ -112,9 +118,9 @@ pub texts_in_any_order : RouteLaws → TextsInAnyOrder
 texts_in_any_order laws s job order all xs ys a b =
     let it : AreIterations s job a.routes a.lines = by-times job (times_by s job order) (times_of s job)
     (times-same s job order all) a.routes a.lines a.iterations in
-    let routes : a.routes ≡ b.routes = same-routes laws s job a.routes b.routes a.lines b.lines it b.iterations
+    let routes : a.routes ≡ b.routes = same-routes laws (times_of s job) (traffic_of job) a.routes b.routes a.lines b.lines it b.iterations
     (a.as_many ∙ sym b.as_many) in
-    let lines : a.lines ≡ b.lines = same-lines laws s job a.routes b.routes a.lines b.lines it b.iterations
+    let lines : a.lines ≡ b.lines = same-lines laws (times_of s job) (traffic_of job) a.routes b.routes a.lines b.lines it b.iterations
     routes (a.with_gaps ∙ sym a.as_many) (a.with_gaps ∙ sym b.with_gaps) in
     let since : a.since ≡ b.since = same-since laws s job s.start a.since b.since a.since_told b.since_told in
     a.texts_are ∙ texts-same s job order all s.command a.last a.since a.lines a.line

@@ -30,6 +30,7 @@ stop-since settings t rows (Refused (refusal.LongTable u)) earlier before after 
 stop-since settings t rows (Refused (refusal.Cells links steps)) earlier before after h stops = stops
 stop-since settings t rows (Refused (refusal.Vehicles line total)) earlier before after h stops = stops
 stop-since settings t rows (Refused (refusal.SkimPairs number)) earlier before after h stops = stops
+stop-since settings t rows (Refused (refusal.SweepCells links steps)) earlier before after h stops = stops
 
 module _ (settings : Settings) where
   pub accepted-one : (t : Table) (rows more : TableRows) (left rest : Left) → IsAccepted settings t rows more left rest → AreAccepted settings (t ∷ []) rows more left rest

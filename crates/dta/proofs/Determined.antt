@@ -1,37 +1,31 @@
 -- Settings and a job have one list of texts but for Watch, and with the plain loader of all texts.
-use Rattle.std.proofs.Common.{◌≡◌, ℕ, zero, suc, ◌+◌, ◌-◌, Bool, false, true, List, [], ◌∷◌, ◌++◌, length, map}
-use Rattle.std.proofs.Common.{refl, sym, ap, subst, arith, ◌∙◌}
-use Rattle.std.specs.Prelude.{Option, None, Some, get_or, not, slice_get}
+use Rattle.std.proofs.Common.{◌≡◌, ℕ, zero, suc, ◌+◌, ◌-◌, Bool, false, true, List, [], ◌∷◌, ◌++◌, map}
+use Rattle.std.proofs.Common.{refl, sym, ap, subst, ◌∙◌}
+use Rattle.std.specs.Prelude.{Option, None, Some, not, slice_get}
 use Rattle.std.proofs.lemmas.List.Elements.{filter-append}
-use Rattle.std.proofs.lemmas.List.{ext_get_or}
-use Rattle.std.proofs.lemmas.Option.{slice_get-get_or, slice_get_within}
 use Rattle.dta_model.specs.LinkTimes.{time_at}
 use Rattle.gap.specs.declared.line.GapLine.{GapLine}
-use Rattle.gap.proofs.Determined.{lines_are_determined}
-use Rattle.route_flows.specs.Averages.{free_time}
-use Rattle.route_flows.specs.Laws.{NextAreDetermined, SinceAreDetermined, StartedAreDetermined}
 use Rattle.dta_words.specs.declared.command.Command.{Command}
 use Rattle.dta_words.specs.declared.command.Command.TheVariants as command
 use Rattle.dta_words.specs.declared.command.Settings.{Settings}
-use Rattle.dta.specs.Assignment.{AreIterations, VehicleRoutes, times_of}
-use Rattle.dta.specs.Jobs.{JobRows}
-use Rattle.dta.specs.Laws.{AreDetermined, TextsAreDetermined}
+use Rattle.sweep.specs.Assignment.{VehicleRoutes}
+use Rattle.dta.specs.Assignment.{times_of}
+use Rattle.dta.specs.Jobs.{JobRows, traffic_of}
+use Rattle.dta.specs.Laws.{AreDetermined, ScenariosAreAlone, TextsAreDetermined, alone, job_at, scenario_texts}
+use Rattle.reports.specs.Texts.{agent_text_by}
+use Rattle.net_core.specs.declared.rows.NetRows.{NetRows}
+use Rattle.dta_model.specs.declared.trip.DemandCell.{DemandCell}
+use Rattle.sweep.proofs.Determined.{RouteLaws, same-lines, same-routes}
+use Rattle.sweep.specs.Laws.{Agree, ScenariosStandAlone}
+use Rattle.sweep.specs.Scenarios.{AreScenarios, HasTexts, traffic_at}
+use Rattle.sweep.specs.declared.scenario.Scenario.{Scenario}
 use Rattle.dta.specs.Outputs.{AreAssigned, AreSinceTold, AreTexts, AreToldSteps, AreWatchLines, AreWatchTexts, OutText}
-use Rattle.dta.specs.Outputs.{but_watch, is_watch, last_texts, skim_texts, watch_text}
+use Rattle.dta.specs.Outputs.{but_watch, is_watch, last_texts, skim_texts, sweep_texts, watch_text}
 use Rattle.skims.specs.GivenTimes.{table_given}
 use Rattle.skims.proofs.Determined.{skims_are_determined}
 
 some-is : {A : Type 0} (x y : A) → Some x ≡ Some y → x ≡ y
 some-is x y e = cc
-
-abbrev no_line : GapLine
-no_line = record { route_steps = 0; least_steps = 0; gap_steps = 0; ppm = 0 }
-
--- routes and the iterations in which they were taken are determined
-pub record RouteLaws : Type 0 where
-  pub started : StartedAreDetermined
-  pub next : NextAreDetermined
-  pub since : SinceAreDetermined
 
 -- the iterations of the routes, where they are told
 pub same-since : RouteLaws → (s : Settings) (job : JobRows) (start : Bool) (a b : Option (List ℕ))
@@ -41,40 +35,6 @@ same-since laws s job true None b x y = absurd x
 same-since laws s job true (Some a) None x y = absurd y
 same-since laws s job true (Some a) (Some b) x y =
     ap Some (laws.since job.net job.start job.trips s.iterations a b x y)
-
-module _ (laws : RouteLaws) (s : Settings) (job : JobRows) (ra rb : List VehicleRoutes) (la lb : List GapLine) (a : AreIterations s job ra la) (b : AreIterations s job rb lb) where
-  -- an iteration's routes are as many as the trips
-  many : (i : ℕ) (x : VehicleRoutes) → slice_get ra i ≡ Some x → length x ≡ length job.trips
-  many zero x e = (a.first x e).as_many
-  many (suc i) x e =
-      let h = slice_get_within ra (suc i) x e in
-      let old = slice_get-get_or ra i [] (omega (arith, h)) in
-      (a.next i (get_or ra i []) x old (subst (λ n. slice_get ra n ≡ Some x) (omega arith) e)).as_many
-
-  same-at : (i : ℕ) (x y : VehicleRoutes) → slice_get ra i ≡ Some x → slice_get rb i ≡ Some y → x ≡ y
-  same-at zero x y e f = laws.started (free_time job.net) job.net job.start job.trips x y a.start (a.first x e) (b.first y f)
-  same-at (suc i) x y e f =
-      let h = slice_get_within ra (suc i) x e in
-      let k = slice_get_within rb (suc i) y f in
-      let old = slice_get-get_or ra i [] (omega (arith, h)) in
-      let other = slice_get-get_or rb i [] (omega (arith, k)) in
-      let p : get_or rb i [] ≡ get_or ra i [] = sym (same-at i (get_or ra i []) (get_or rb i []) old other) in
-      let next = a.next i (get_or ra i []) x old (subst (λ n. slice_get ra n ≡ Some x) (omega arith) e) in
-      let again = b.next i (get_or ra i []) y (subst (λ (r : VehicleRoutes). slice_get rb i ≡ Some r) p other) (subst (λ n. slice_get rb n ≡ Some y) (omega arith) f) in
-      laws.next (time_at (times_of s job (get_or ra i []))) job.net job.trips (i + 1) (get_or ra i []) x y next again
-
-  pub same-routes : length ra ≡ length rb → ra ≡ rb
-  same-routes e = ext_get_or [] ra rb e (λ i h.
-      same-at i (get_or ra i []) (get_or rb i []) (slice_get-get_or ra i [] h) (slice_get-get_or rb i [] (omega (arith, h, e))))
-
-  pub same-lines : ra ≡ rb → length la ≡ length ra → length la ≡ length lb → la ≡ lb
-  same-lines same n e = ext_get_or no_line la lb e (λ i h.
-      let r = get_or ra i [] in
-      let there = slice_get-get_or ra i [] (omega (arith, h, n)) in
-      let here : slice_get rb i ≡ Some r = subst (λ (rs : List VehicleRoutes). slice_get rs i ≡ Some r) same there in
-      lines_are_determined (time_at (times_of s job r)) job.net job.trips r (get_or la i no_line) (get_or lb i no_line) (many i r there)
-      (a.gaps i r (get_or la i no_line) there (slice_get-get_or la i no_line h))
-      (b.gaps i r (get_or lb i no_line) here (slice_get-get_or lb i no_line (omega (arith, h, e)))))
 
 -- ---- watch lines
 
@@ -155,14 +115,14 @@ but-watch-assigned s job xs a =
 module _ (laws : RouteLaws) (s : Settings) (job : JobRows) (xs ys : List OutText) (a : AreAssigned s job xs)
     (b : AreAssigned s job ys) where
   routes-same : a.routes ≡ b.routes
-  routes-same = same-routes laws s job a.routes b.routes a.lines b.lines a.iterations b.iterations
+  routes-same = same-routes laws (times_of s job) (traffic_of job) a.routes b.routes a.lines b.lines a.iterations b.iterations
       (a.as_many ∙ sym b.as_many)
 
   lasts-same : last_texts s.command s job a.last a.since a.lines a.line
       ≡ last_texts s.command s job b.last b.since b.lines b.line
   lasts-same =
       lasts-by s job a.routes b.routes a.lines b.lines a.last b.last a.line b.line a.since b.since routes-same
-      (same-lines laws s job a.routes b.routes a.lines b.lines a.iterations b.iterations routes-same
+      (same-lines laws (times_of s job) (traffic_of job) a.routes b.routes a.lines b.lines a.iterations b.iterations routes-same
       (a.with_gaps ∙ sym a.as_many) (a.with_gaps ∙ sym b.with_gaps))
       (same-since laws s job s.start a.since b.since a.since_told b.since_told)
       a.last_routes b.last_routes a.last_line b.last_line
@@ -183,16 +143,69 @@ module _ (laws : RouteLaws) (s : Settings) (job : JobRows) (xs ys : List OutText
 both-free : (s : Settings) (job : JobRows) (xs ys : List OutText) → xs ≡ ys → AreDetermined s job xs ys
 both-free s job xs ys same = record { but_watch_lines = ap but_watch same; plain = λ plain. same }
 
-determined-by : RouteLaws → (c : Command) (s : Settings) (job : JobRows) (xs ys : List OutText) → AreTexts c s job xs
+-- the scenarios of a sweep
+scenarios-same : ScenariosStandAlone → (s : Settings) (net : NetRows) (cells : List DemandCell) (scales : List ℕ) (xs ys : List Scenario)
+    → AreScenarios s net cells scales xs → AreScenarios s net cells scales ys → xs ≡ ys
+scenarios-same one s net cells [] [] [] h k = refl
+scenarios-same one s net cells [] (x ∷ xs) ys h k = absurd h
+scenarios-same one s net cells [] [] (y ∷ ys) h k = absurd k
+scenarios-same one s net cells (scale ∷ scales) [] ys h k = absurd h
+scenarios-same one s net cells (scale ∷ scales) (x ∷ xs) [] h k = absurd k
+scenarios-same one s net cells (scale ∷ scales) (x ∷ xs) (y ∷ ys) h k =
+    let agree : Agree s s = record { step = refl; horizon = refl; period = refl; iterations = refl; bucket = refl; queue = refl } in
+    ap (λ (a : Scenario). a ∷ xs) (one s s net cells scale x y agree h.0 k.0)
+    ∙ ap (λ (as' : List Scenario). y ∷ as') (scenarios-same one s net cells scales xs ys h.1 k.1)
+
+determined-by : RouteLaws → ScenariosStandAlone → (c : Command) (s : Settings) (job : JobRows) (xs ys : List OutText) → AreTexts c s job xs
     → AreTexts c s job ys → AreDetermined s job xs ys
-determined-by laws command.Freeflow s job xs ys a b = both-free s job xs ys (a ∙ sym b)
-determined-by laws command.Assign s job xs ys a b = both-assigned laws s job xs ys a b
-determined-by laws (command.Demo n) s job xs ys a b = both-assigned laws s job xs ys a b
-determined-by laws command.Skim s job xs ys a b =
+determined-by laws one command.Freeflow s job xs ys a b = both-free s job xs ys (a ∙ sym b)
+determined-by laws one command.Assign s job xs ys a b = both-assigned laws s job xs ys a b
+determined-by laws one (command.Demo n) s job xs ys a b = both-assigned laws s job xs ys a b
+determined-by laws one command.Skim s job xs ys a b =
     both-free s job xs ys (a.texts_are
     ∙ ap (skim_texts job.net) (skims_are_determined (time_at (table_given job.net s.bucket s.horizon job.times)) job.net s.starts a.entries b.entries a.skim b.skim)
     ∙ sym b.texts_are)
-determined-by laws command.Counts s job xs ys a b = both-assigned laws s job xs ys a b
+determined-by laws one command.Counts s job xs ys a b = both-assigned laws s job xs ys a b
+determined-by laws one command.Sweep s job xs ys a b =
+    both-free s job xs ys (a.texts_are
+    ∙ ap sweep_texts (scenarios-same one s job.net job.demand_cells s.scales a.scenarios b.scenarios a.sweep b.sweep)
+    ∙ sym b.texts_are)
+determined-by laws one command.Audit s job xs ys a b = both-free s job xs ys (a.texts_are ∙ sym b.texts_are)
 
-pub texts_are_determined : RouteLaws → TextsAreDetermined
-texts_are_determined laws s job xs ys a b = determined-by laws s.command s job xs ys a b
+pub texts_are_determined : RouteLaws → ScenariosStandAlone → TextsAreDetermined
+texts_are_determined laws one s job xs ys a b = determined-by laws one s.command s job xs ys a b
+
+-- ---- a scenario of a sweep, and the assignment over the demand times its scale
+
+module _ (laws : RouteLaws) (s : Settings) (job : JobRows) (scale workers watch : ℕ) (plain : Bool) (it : Scenario)
+    (h : HasTexts s (traffic_at s job.net job.demand_cells scale) it) where
+  abbrev own : Settings
+  own = alone s workers watch plain
+
+  abbrev by_itself : JobRows
+  by_itself = job_at s job scale
+
+  -- the texts after its last iteration are those of the scenario
+  told-alone : last_texts command.Assign own by_itself h.last None h.lines h.line ≡ scenario_texts it
+  unfolding agent_text_by
+  told-alone = rw (h.agent, h.link_time, h.gap, h.report) refl
+
+  module _ (texts : List OutText) (a : AreAssigned own by_itself texts) where
+    routes-alone : a.routes ≡ h.routes
+    routes-alone = same-routes laws (times_of own by_itself) (traffic_of by_itself) a.routes h.routes a.lines h.lines a.iterations h.iterations (a.as_many ∙ sym h.as_many)
+
+    lines-alone : a.lines ≡ h.lines
+    lines-alone =
+        same-lines laws (times_of own by_itself) (traffic_of by_itself) a.routes h.routes a.lines h.lines a.iterations h.iterations routes-alone
+        (a.with_gaps ∙ sym a.as_many) (a.with_gaps ∙ sym h.with_gaps)
+
+    pub scenario-alone : but_watch texts ≡ scenario_texts it
+    scenario-alone =
+        but-watch-assigned own by_itself texts a
+        ∙ ap but_watch (lasts-by own by_itself a.routes h.routes a.lines h.lines a.last h.last a.line h.line a.since None routes-alone lines-alone
+        a.since_told a.last_routes h.last_routes a.last_line h.last_line)
+        ∙ ap but_watch told-alone
+
+pub scenarios_are_alone : RouteLaws → ScenariosAreAlone
+scenarios_are_alone laws s job scale workers watch plain it texts h a =
+    scenario-alone laws s job scale workers watch plain it h.texts texts a

@@ -1,45 +1,39 @@
 -- The iterations of an assignment, one after another.
-use Rattle.dta_model.specs.declared.queue.Queue.TheVariants as queue
-use Rattle.reports.proofs.TextsFacts.{walks-on-net}
-use Rattle.std.specs.Prelude.{All, Result, IfOk, IfErr, slice_get}
+use Rattle.std.specs.Prelude.{Result, IfOk, IfErr, slice_get}
 use Rattle.std.proofs.Common.{◌≡◌, ℕ, ◌+◌, ◌<◌, ◌≤◌, List, [], ◌∷◌, ◌++◌, length, refl, ap, sym, subst, ◌∙◌, arith, length-append, ◌⊎◌, inl, inr, Some}
 use Rattle.std.proofs.lemmas.Bool.{cases_lt}
-use Rattle.std.proofs.lemmas.List.{get_or_append_left, length-map}
+use Rattle.std.proofs.lemmas.List.{get_or_append_left}
 use Rattle.std.proofs.lemmas.Result.{IfErr-weaker, IfOk-weaker}
 use Rattle.desk_io.specs.Faults.{Rose}
-use Rattle.std.proofs.lemmas.List.FromFn.{length-map-range_with_len}
 use Rattle.std.proofs.lemmas.Option.{get_or_from_slice_get, slice_get-get_or, slice_get_within}
 use Rattle.std.proofs.Math.Seq.{get_or-append_seam}
 use Rattle.desk_io.specs.Desk.{Taken}
 use Rattle.net_core.specs.declared.rows.NetRows.{NetRows}
-use Rattle.dta_model.specs.LinkTimes.{TimeTable, free_steps, table_in, table_of, time_at}
-use Rattle.dta_model.specs.Loading.{journey_of, journeys_of}
+use Rattle.dta_model.specs.LinkTimes.{TimeTable, free_steps, time_at}
+use Rattle.dta_model.specs.Loading.{journeys_of}
 use Rattle.dta_model.specs.Sound.{IsSound}
 use Rattle.dta_model.specs.declared.eight.Eight.{Eight}
 use Rattle.dta_model.specs.declared.loaded.Journey.{Journey}
-use Rattle.dta_model.specs.declared.loading.TheConstants.{MOST_HORIZON}
-use Rattle.dta_model.specs.declared.plan.Plan.{Plan}
 use Rattle.dta_model.specs.declared.trip.Trip.{Trip}
-use Rattle.skims.specs.declared.time_rows.TimeRow.{TimeRow}
 use Rattle.reports.specs.Texts.{AreOnNet}
-use Rattle.link_times.proofs.Links.{steps_most}
 use Rattle.dta_model.specs.Sound.{AreWalks}
-use Rattle.link_times.specs.TimeTables.{IsShort}
 use Rattle.gap.specs.Gap.{IsGapLine}
 use Rattle.gap.specs.declared.line.GapLine.{GapLine}
 use Rattle.route_flows.specs.Averages.{AreNextRoutes, AreStartedRoutes}
 use Rattle.route_flows.specs.Starts.{AreStartRows}
-use Rattle.route_flows.specs.declared.start_rows.StartRow.{StartRow}
 use Rattle.dta_words.specs.Ranges.{AreSettings}
 use Rattle.dta_words.specs.declared.command.Settings.{Settings}
-use Rattle.dta.specs.Assignment.{AreIterations, VehicleRoutes, end_of, times_of}
-use Rattle.dta.specs.Jobs.{AreRoutesOf, IsJob, JobRows, plan_of}
+use Rattle.sweep.specs.Assignment.{VehicleRoutes}
+use Rattle.dta.specs.Assignment.{AreIterations, end_of, times_of}
+use Rattle.dta.specs.Jobs.{AreRoutesOf, IsJob, JobRows, plan_of, traffic_of}
 use Rattle.dta.specs.Progress.{Halts, HaltsIn, HasCounts, IsAssigned, IsAt, IsLastOf, IsWatched}
 use Rattle.dta.specs.declared.iterate.Assigned.{Assigned}
 use Rattle.dta.specs.declared.halt.Halt.{Halt}
 use Rattle.dta.specs.declared.halt.Halt.TheVariants as halt
 use Rattle.dta.specs.Outputs.{AreSinceTold, IsCutOff, end_lines}
 use Rattle.dta.specs.Calls.{HaltsFrom, IsFinished}
+use Rattle.sweep.proofs.AssignmentFacts.{free-of as free-steps-of, table-links as links-of-table}
+use Rattle.sweep.proofs.ScenarioFacts.{many-journeys as journeys-of, on-net as on-net-of}
 use Rattle.dta.proofs.ChainFacts.{rose-earlier}
 use Rattle.dta.proofs.OutputFacts.{cut-more, end-lines, grown-more, watch-more}
 
@@ -57,18 +51,6 @@ sound-plan s job routes settings good are = record {
   early = good.trips.early;
   each = are.each;
   walks = are.walks;
-}
-
--- the free-flow steps of a loading's table are those of its network
-pub table-free : (p : Plan) (bucket : ℕ) → (table_of p bucket).free ≡ free_steps p.net
-unfolding table_in
-table-free p bucket = refl
-
--- the table of a sound loading is short
-pub short-table : (p : Plan) (bucket : ℕ) (t : TimeTable) → IsSound p → t ≡ table_of p bucket → All (λ x. x ≤ MOST_HORIZON) t.times → IsShort t
-short-table p bucket t sound e times = record {
-  times = times;
-  free = rw (ap (λ (x : TimeTable). x.free) e ∙ table-free p bucket) (steps_most p.net sound.net);
 }
 
 -- an element of a list stands there too once more is added
@@ -107,51 +89,39 @@ no_trip = record { number = 0; origin = 0; destination = 0; departure = 0 }
 -- a table of a job's loading has its links
 pub table-links : (s : Settings) (job : JobRows) (routes : VehicleRoutes) (t : TimeTable) (net : NetRows) → t ≡ times_of s job routes → net ≡ job.net → length t.free ≡ length net.links
 table-links s job routes t net e same =
-    ap (λ (x : TimeTable). length x.free) e
-    ∙ ap length (table-free (plan_of s job routes) s.bucket)
-    ∙ length-map job.net.links (λ link. link.free)
-    ∙ ap (λ (x : NetRows). length x.links) (sym same)
+    links-of-table s (traffic_of job) routes t e ∙ ap (λ (x : NetRows). length x.links) (sym same)
 
 -- each route is one over the network
 pub on-net : (job : JobRows) (routes : VehicleRoutes) → AreRoutesOf job routes → AreOnNet job.net routes
-on-net job routes are =
-    walks-on-net (record { net = job.net; queue = queue.Point; delta = 1; horizon = 1; trips = job.trips; routes = routes }) are.walks are.each
-
--- a job by its network, its trips, the rows of its start table and its link times
-abbrev pub job_with : NetRows → List Trip → List StartRow → List TimeRow → JobRows
-job_with net trips start times = record { net = net; trips = trips; start = start; times = times }
+on-net job routes are = on-net-of (traffic_of job) routes are
 
 -- routes that are walks are those of a job
-pub routes-of : {start : List StartRow} {times : List TimeRow} (job : JobRows) (net : NetRows) (trips : List Trip) (routes : VehicleRoutes) → job_with net trips start times ≡ job
+pub routes-of : (job : JobRows) (net : NetRows) (trips : List Trip) (routes : VehicleRoutes) → net ≡ job.net → trips ≡ job.trips
     → length routes ≡ length trips → AreWalks net trips routes → AreRoutesOf job routes
-routes-of job net trips routes e each walks =
-    subst (λ (j : JobRows). AreRoutesOf j routes) e (record { each = each; walks = walks })
+routes-of job net trips routes over same each walks = record {
+  each = each ∙ ap length same;
+  walks = subst (λ (n : NetRows). AreWalks n job.trips routes) over (subst (λ (t : List Trip). AreWalks net t routes) same walks);
+}
 
 -- and the other way round
-pub walks-of : {start : List StartRow} {times : List TimeRow} (job : JobRows) (net : NetRows) (trips : List Trip) (routes : VehicleRoutes) → job_with net trips start times ≡ job
+pub walks-of : (job : JobRows) (net : NetRows) (trips : List Trip) (routes : VehicleRoutes) → net ≡ job.net → trips ≡ job.trips
     → AreRoutesOf job routes → AreWalks net trips routes
-walks-of job net trips routes e are =
-    subst (λ (j : JobRows). AreWalks j.net j.trips routes) (sym e) are.walks
+walks-of job net trips routes over same are =
+    subst (λ (n : NetRows). AreWalks n trips routes) (sym over) (subst (λ (t : List Trip). AreWalks job.net t routes) (sym same) are.walks)
 
 -- as many journeys as trips
-pub many-journeys : {start : List StartRow} {link_times : List TimeRow} (s : Settings) (job : JobRows) (net : NetRows) (trips : List Trip) (routes : VehicleRoutes) (loaded : List Journey) → job_with net trips start link_times ≡ job
+pub many-journeys : (s : Settings) (job : JobRows) (trips : List Trip) (routes : VehicleRoutes) (loaded : List Journey) → trips ≡ job.trips
     → loaded ≡ journeys_of (plan_of s job routes) → length loaded ≡ length trips
-unfolding journeys_of
-many-journeys s job net trips routes loaded e is =
-    ap length is ∙ length-map-range_with_len (journey_of (plan_of s job routes)) 0 (length job.trips)
-    ∙ ap (λ (j : JobRows). length j.trips) (sym e)
+many-journeys s job trips routes loaded same is = journeys-of s (traffic_of job) routes loaded is ∙ ap length (sym same)
 
 -- the routes of a job are over its network
-pub net-routes : {start : List StartRow} {times : List TimeRow} (job : JobRows) (net : NetRows) (trips : List Trip) (routes : VehicleRoutes) → job_with net trips start times ≡ job → AreRoutesOf job routes → AreOnNet net routes
-net-routes job net trips routes e are =
-    subst (λ (j : JobRows). AreOnNet j.net routes) (sym e) (on-net job routes are)
+pub net-routes : (job : JobRows) (net : NetRows) (routes : VehicleRoutes) → net ≡ job.net → AreRoutesOf job routes → AreOnNet net routes
+net-routes job net routes over are = subst (λ (n : NetRows). AreOnNet n routes) (sym over) (on-net job routes are)
 
 -- a table of a job's loading has the free-flow steps of its links
-pub free-of : {start : List StartRow} {link_times : List TimeRow} (s : Settings) (job : JobRows) (net : NetRows) (trips : List Trip) (routes : VehicleRoutes) (times : TimeTable) → job_with net trips start link_times ≡ job
+pub free-of : (s : Settings) (job : JobRows) (net : NetRows) (routes : VehicleRoutes) (times : TimeTable) → net ≡ job.net
     → times ≡ times_of s job routes → times.free ≡ free_steps net
-free-of s job net trips routes times e is =
-    ap (λ (x : TimeTable). x.free) is ∙ table-free (plan_of s job routes) s.bucket
-    ∙ ap (λ (j : JobRows). free_steps j.net) (sym e)
+free-of s job net routes times over is = free-steps-of s (traffic_of job) routes times is ∙ ap free_steps (sym over)
 
 -- the line of the last state was cut off
 pub watch-halts : (s : Settings) (job : JobRows) (iteration : ℕ) (r : VehicleRoutes) (end : Eight)

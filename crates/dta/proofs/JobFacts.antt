@@ -1,6 +1,6 @@
 -- Jobs of accepted tables, and what stops a run before its work.
-use Rattle.std.proofs.Common.{◌≡◌, ◌≢◌, ◌<◌, ℕ, List, [], ◌∷◌, length, refl, sym, ap, subst, arith, rules, inl, inr, ◌⊎◌, ◌∙◌}
-use Rattle.std.specs.Prelude.{⊤, Bool, Result, Ok, Err, OnOk, IfOk, IfErr, filter, nat_eq}
+use Rattle.std.proofs.Common.{◌≡◌, ◌≢◌, ◌<◌, ℕ, Bool, false, true, List, [], ◌∷◌, ◌++◌, length, refl, sym, ap, subst, arith, rules, inl, inr, ◌⊎◌, ◌∙◌}
+use Rattle.std.specs.Prelude.{◌↔◌, ⊤, Result, Ok, Err, OnOk, IfOk, IfErr, filter, nat_eq}
 use Rattle.std.specs.List.{IsDistinct, flat_map}
 use Rattle.std.proofs.lemmas.List.{length-map}
 use Rattle.std.proofs.lemmas.List.Elements.{All-nil}
@@ -19,7 +19,9 @@ use Rattle.gmns_tables.specs.RowsWithWindows.{rows_of}
 use Rattle.route_flows.specs.Starts.{AreStartRows}
 use Rattle.gmns_tables.specs.declared.with_windows.WithWindows.{WithWindows}
 use Rattle.dta_model.specs.Release.{in_order_of_departure, released, Released, trips_of}
-use Rattle.vehicle_release.specs.Limits.{IsWithin}
+use Rattle.vehicle_release.specs.Limits.{IsFirstAbove, IsWithin}
+use Rattle.dta_model.specs.declared.trip.DemandCell.{DemandCell}
+use Rattle.dta_words.specs.Ranges.{AreSettings}
 use Rattle.grid_maker.specs.Grid.{node_text, link_text, demand_text}
 use Rattle.reports.specs.declared.refusal.Refusal.{Refusal}
 use Rattle.reports.specs.declared.refusal.Refusal.TheVariants as refusal
@@ -27,12 +29,16 @@ use Rattle.desk_io.specs.declared.transfers.TheConstants.{MOST_TABLE_BYTES}
 use Rattle.dta_words.specs.declared.command.Command.{Command}
 use Rattle.dta_words.specs.declared.command.Command.TheVariants as command
 use Rattle.dta_words.specs.declared.command.Settings.{Settings}
-use Rattle.dta.specs.Jobs.{AreTripsBelow, AreWithin, HasRoom, IsAcceptedJob, IsJobOf, JobRows, LeavesOf, Loads, Reading, job_of, read_tables, source, tables_of}
-use Rattle.dta.specs.Outcome.{AreCounted, DeskState, IsCauseAmong, IsCauseIn, IsCutIn, ReadsFailed}
-use Rattle.dta.specs.Stops.{HasFault, Stops, StopsAmong, StopsIn, StopsJob, StopsSkim, StopsAt}
+use Rattle.sweep.specs.Traffic.{AreTripsBelow}
+use Rattle.dta.specs.Jobs.{AreWithin, HasRoom, HasSweepRoom, IsAcceptedJob, IsJobOf, JobRows, LeavesOf, Assigns, Reading, TakesTimes, job_of, read_tables, released_cells, source, swept_cells, tables_of}
+use Rattle.dta.specs.Outcome.{AreCounted, DeskState, HasSizes, HasTooMany, IsCauseAmong, IsCauseIn, IsCutIn, ReadsFailed}
+use Rattle.sweep.specs.Scales.{IsFirstTooMany}
+use Rattle.sweep.specs.declared.fault.SweepFault.{SweepFault}
+use Rattle.sweep.specs.declared.fault.SweepFault.TheVariants as sweep
+use Rattle.dta.specs.Stops.{stop_at_scale, HasFault, Stops, StopsAmong, StopsIn, StopsJob, StopsSkim, StopsSweep, StopsAt}
 use Rattle.desk_io.proofs.DeskFacts.{before_left-empty}
 use Rattle.dta.proofs.ChainFacts.{reached-then}
-use Rattle.dta.specs.Tables.{AreAccepted, ReachedAmong, IsFaulty, TableRows, loading_tables, net_of, network_tables, no_rows, road_rows, skim_tables}
+use Rattle.dta.specs.Tables.{AreAccepted, ReachedAmong, IsFaulty, TableRows, all_tables, audit_tables, loading_tables, net_of, network_tables, no_rows, road_rows, skim_tables}
 use Rattle.dta.specs.declared.stop.Stop.{Stop}
 use Rattle.dta.specs.declared.stop.Stop.TheVariants.{Refused, Memory}
 
@@ -79,15 +85,76 @@ module _ (settings : Settings) where
   reached-holds t Part P (u ∷ tables) rows left rest f (inl h) = f rows left rest h.1
   reached-holds t Part P (u ∷ tables) rows left rest f (inr h) = reached-holds t Part P tables h.0 h.1 rest f h.3
 
--- a command that loads isn't `freeflow`, and neither is `skim`
-pub not-free : (c : Command) → Loads c → c ≢ command.Freeflow
-not-free c loads e = subst (λ (x : Command). Loads x) e loads
+-- a command that assigns has the size of a loading, takes no link times and isn't `sweep`
+assigned-sizes : (c : Command) → Assigns c → HasSizes c
+assigned-sizes command.Freeflow loads = absurd loads
+assigned-sizes command.Assign loads = tt
+assigned-sizes (command.Demo n) loads = tt
+assigned-sizes command.Skim loads = absurd loads
+assigned-sizes command.Counts loads = tt
+assigned-sizes command.Sweep loads = absurd loads
+assigned-sizes command.Audit loads = absurd loads
 
-pub loads-no-skim : (c : Command) → Loads c → c ≡ command.Skim → ⊥
-loads-no-skim c loads e = subst (λ (x : Command). Loads x) e loads
+pub assigned-no-times : (c : Command) → Assigns c → TakesTimes c → ⊥
+assigned-no-times command.Freeflow loads takes = absurd loads
+assigned-no-times command.Assign loads takes = takes
+assigned-no-times (command.Demo n) loads takes = takes
+assigned-no-times command.Skim loads takes = absurd loads
+assigned-no-times command.Counts loads takes = takes
+assigned-no-times command.Sweep loads takes = absurd loads
+assigned-no-times command.Audit loads takes = absurd loads
 
-skim-not-free : (c : Command) → c ≡ command.Skim → c ≢ command.Freeflow
-skim-not-free c asks e = let same : command.Skim ≡ command.Freeflow = sym asks ∙ e in absurd cc
+pub assigned-no-sweep : (c : Command) → Assigns c → c ≡ command.Sweep → ⊥
+assigned-no-sweep c loads e = subst (λ (x : Command). Assigns x) e loads
+
+-- its demand is released once
+pub assigned-released : (c : Command) → Assigns c → (cells : List DemandCell) → released_cells c cells ≡ cells
+assigned-released command.Freeflow loads cells = absurd loads
+assigned-released command.Assign loads cells = refl
+assigned-released (command.Demo n) loads cells = refl
+assigned-released command.Skim loads cells = absurd loads
+assigned-released command.Counts loads cells = refl
+assigned-released command.Sweep loads cells = absurd loads
+assigned-released command.Audit loads cells = absurd loads
+
+pub assigned-unswept : (c : Command) → Assigns c → (cells : List DemandCell) → swept_cells c cells ≡ []
+assigned-unswept command.Freeflow loads cells = absurd loads
+assigned-unswept command.Assign loads cells = refl
+assigned-unswept (command.Demo n) loads cells = refl
+assigned-unswept command.Skim loads cells = absurd loads
+assigned-unswept command.Counts loads cells = refl
+assigned-unswept command.Sweep loads cells = absurd loads
+assigned-unswept command.Audit loads cells = absurd loads
+
+-- no demand is none, whatever the command
+released-none : (c : Command) → released_cells c [] ≡ []
+released-none command.Freeflow = refl
+released-none command.Assign = refl
+released-none (command.Demo n) = refl
+released-none command.Skim = refl
+released-none command.Counts = refl
+released-none command.Sweep = refl
+released-none command.Audit = refl
+
+swept-none : (c : Command) → swept_cells c [] ≡ []
+swept-none command.Freeflow = refl
+swept-none command.Assign = refl
+swept-none (command.Demo n) = refl
+swept-none command.Skim = refl
+swept-none command.Counts = refl
+swept-none command.Sweep = refl
+swept-none command.Audit = refl
+
+-- too many vehicles of the demand
+assigned-many : (c : Command) (s : Settings) (line total : ℕ) (rows : TableRows) → Assigns c
+    → HasRoom s rows × IsFirstAbove rows.demand_cells line total → HasTooMany c s line total rows
+assigned-many command.Freeflow s line total rows loads h = absurd loads
+assigned-many command.Assign s line total rows loads h = h
+assigned-many (command.Demo n) s line total rows loads h = h
+assigned-many command.Skim s line total rows loads h = absurd loads
+assigned-many command.Counts s line total rows loads h = h
+assigned-many command.Sweep s line total rows loads h = absurd loads
+assigned-many command.Audit s line total rows loads h = absurd loads
 
 -- the table at which reading stopped, as the cause of the stop
 module _ (s : Settings) (before after : DeskState) where
@@ -117,18 +184,22 @@ module _ (s : Settings) (before after : DeskState) where
       absurd (reached-holds s h.0 (Ends h.0 (Refused (refusal.Vehicles line total))) ⊥ (tables_of s.command s.start) no_rows before.left after.left (λ r a b k. k) h.1)
   among-in (Refused (refusal.SkimPairs number)) h =
       absurd (reached-holds s h.0 (Ends h.0 (Refused (refusal.SkimPairs number))) ⊥ (tables_of s.command s.start) no_rows before.left after.left (λ r a b k. k) h.1)
+  among-in (Refused (refusal.SweepCells links steps)) h =
+      absurd (reached-holds s h.0 (Ends h.0 (Refused (refusal.SweepCells links steps))) ⊥ (tables_of s.command s.start) no_rows before.left after.left (λ r a b k. k) h.1)
 
   -- the sizes of accepted tables, as the cause of the stop
-  pub job-in : (rows : TableRows) (stop : Stop) → Loads s.command → AreAccepted s (tables_of s.command s.start) no_rows rows before.left after.left
+  pub job-in : (rows : TableRows) (stop : Stop) → Assigns s.command → AreAccepted s (tables_of s.command s.start) no_rows rows before.left after.left
       → StopsJob s rows stop → StopsIn s stop before after
   job-in rows Memory loads read h = inr (inr (record { rows = rows; read = read; part = tt }))
   job-in rows (Refused refusal.Usage) loads read h = absurd h
   job-in rows (Refused (refusal.Table fault)) loads read h = absurd h
   job-in rows (Refused (refusal.Read u)) loads read h = absurd h
   job-in rows (Refused (refusal.LongTable u)) loads read h = absurd h
-  job-in rows (Refused (refusal.Cells links steps)) loads read h = ((not-free s.command loads, record { rows = rows; read = read; part = h }), tt)
-  job-in rows (Refused (refusal.Vehicles line total)) loads read h = ((loads, record { rows = rows; read = read; part = h }), tt)
+  job-in rows (Refused (refusal.Cells links steps)) loads read h = ((assigned-sizes s.command loads, record { rows = rows; read = read; part = h }), tt)
+  job-in rows (Refused (refusal.Vehicles line total)) loads read h =
+      (record { rows = rows; read = read; part = assigned-many s.command s line total rows loads h }, tt)
   job-in rows (Refused (refusal.SkimPairs number)) loads read h = absurd h
+  job-in rows (Refused (refusal.SweepCells links steps)) loads read h = absurd h
 
   -- and those of a skim's tables
   pub skim-in : (rows : TableRows) (stop : Stop) → s.command ≡ command.Skim → AreAccepted s (tables_of s.command s.start) no_rows rows before.left after.left
@@ -138,9 +209,40 @@ module _ (s : Settings) (before after : DeskState) where
   skim-in rows (Refused (refusal.Table fault)) asks read h = absurd h
   skim-in rows (Refused (refusal.Read u)) asks read h = absurd h
   skim-in rows (Refused (refusal.LongTable u)) asks read h = absurd h
-  skim-in rows (Refused (refusal.Cells links steps)) asks read h = ((skim-not-free s.command asks, record { rows = rows; read = read; part = h }), tt)
+  skim-in rows (Refused (refusal.Cells links steps)) asks read h =
+      ((subst HasSizes (sym asks) tt, record { rows = rows; read = read; part = h }), tt)
   skim-in rows (Refused (refusal.Vehicles line total)) asks read h = absurd h
   skim-in rows (Refused (refusal.SkimPairs number)) asks read h = ((asks, record { rows = rows; read = read; part = h }), tt)
+  skim-in rows (Refused (refusal.SweepCells links steps)) asks read h = absurd h
+
+  -- those of a sweep's
+  pub sweep-in : (rows : TableRows) (stop : Stop) → s.command ≡ command.Sweep → AreAccepted s (tables_of s.command s.start) no_rows rows before.left after.left
+      → StopsSweep s rows stop → StopsIn s stop before after
+  sweep-in rows Memory asks read h = inr (inr (record { rows = rows; read = read; part = tt }))
+  sweep-in rows (Refused refusal.Usage) asks read h = absurd h
+  sweep-in rows (Refused (refusal.Table fault)) asks read h = absurd h
+  sweep-in rows (Refused (refusal.Read u)) asks read h = absurd h
+  sweep-in rows (Refused (refusal.LongTable u)) asks read h = absurd h
+  sweep-in rows (Refused (refusal.Cells links steps)) asks read h = absurd h
+  sweep-in rows (Refused (refusal.Vehicles line total)) asks read h =
+      (record { rows = rows; read = read; part = subst (λ (c : Command). HasTooMany c s line total rows) (sym asks) h }, tt)
+  sweep-in rows (Refused (refusal.SkimPairs number)) asks read h = absurd h
+  sweep-in rows (Refused (refusal.SweepCells links steps)) asks read h = ((asks, record { rows = rows; read = read; part = h }), tt)
+
+  -- and those of an audit's
+  pub audit-in : (rows : TableRows) (stop : Stop) → s.command ≡ command.Audit → AreAccepted s (tables_of s.command s.start) no_rows rows before.left after.left
+      → StopsJob s rows stop → StopsIn s stop before after
+  audit-in rows Memory asks read h = inr (inr (record { rows = rows; read = read; part = tt }))
+  audit-in rows (Refused refusal.Usage) asks read h = absurd h
+  audit-in rows (Refused (refusal.Table fault)) asks read h = absurd h
+  audit-in rows (Refused (refusal.Read u)) asks read h = absurd h
+  audit-in rows (Refused (refusal.LongTable u)) asks read h = absurd h
+  audit-in rows (Refused (refusal.Cells links steps)) asks read h =
+      ((subst HasSizes (sym asks) tt, record { rows = rows; read = read; part = h }), tt)
+  audit-in rows (Refused (refusal.Vehicles line total)) asks read h =
+      (record { rows = rows; read = read; part = subst (λ (c : Command). HasTooMany c s line total rows) (sym asks) h }, tt)
+  audit-in rows (Refused (refusal.SkimPairs number)) asks read h = absurd h
+  audit-in rows (Refused (refusal.SweepCells links steps)) asks read h = absurd h
 
 -- the same at a desk that is the source itself
 pub own-stops : (s : Settings) (stop : Stop) (before after : DeskState)
@@ -174,6 +276,12 @@ module _ {T : Type 0} (s : Settings) (r : Result T Stop) (before after : DeskSta
   pub skim-stop : s.command ≡ command.Skim → IfErr r (λ stop. StopsIn s stop before after) → IfErr r (λ stop. Stops s stop before after)
   skim-stop asks h = stop-at-desk (at-desk s command.Skim asks (λ start. refl, λ left. refl, λ rest before. refl)) h
 
+  pub sweep-stop : s.command ≡ command.Sweep → IfErr r (λ stop. StopsIn s stop before after) → IfErr r (λ stop. Stops s stop before after)
+  sweep-stop asks h = stop-at-desk (at-desk s command.Sweep asks (λ start. refl, λ left. refl, λ rest before. refl)) h
+
+  pub audit-stop : s.command ≡ command.Audit → IfErr r (λ stop. StopsIn s stop before after) → IfErr r (λ stop. Stops s stop before after)
+  audit-stop asks h = stop-at-desk (at-desk s command.Audit asks (λ start. refl, λ left. refl, λ rest before. refl)) h
+
 -- the job of a desk that is the source itself
 own-job : (s : Settings) (r : Result JobRows Stop) (before after : Left) → source s.command before ≡ before
     → LeavesOf s.command after before after → IfOk r (λ job. IsJobOf s job before after)
@@ -196,6 +304,12 @@ module _ (s : Settings) (r : Result JobRows Stop) (before after : Left) where
   pub skim-own : s.command ≡ command.Skim → IfOk r (λ job. IsJobOf s job before after) → IfOk r (λ job. IsAcceptedJob s job before after)
   skim-own asks = own-at-desk (at-desk s command.Skim asks (λ start. refl, λ left. refl, λ rest before. refl))
 
+  pub sweep-own : s.command ≡ command.Sweep → IfOk r (λ job. IsJobOf s job before after) → IfOk r (λ job. IsAcceptedJob s job before after)
+  sweep-own asks = own-at-desk (at-desk s command.Sweep asks (λ start. refl, λ left. refl, λ rest before. refl))
+
+  pub audit-own : s.command ≡ command.Audit → IfOk r (λ job. IsJobOf s job before after) → IfOk r (λ job. IsAcceptedJob s job before after)
+  audit-own asks = own-at-desk (at-desk s command.Audit asks (λ start. refl, λ left. refl, λ rest before. refl))
+
 never-rose : Rose 0 0 → ⊥
 never-rose r = omega (arith, r)
 
@@ -207,6 +321,7 @@ no-fault (refusal.LongTable u) made later before after m l h = tt
 no-fault (refusal.Cells links steps) made later before after m l h = tt
 no-fault (refusal.Vehicles line total) made later before after m l h = tt
 no-fault (refusal.SkimPairs number) made later before after m l h = tt
+no-fault (refusal.SweepCells links steps) made later before after m l h = tt
 
 -- where no read failed, it is no matter of which tables reads could fail
 any-tables : (s : Settings) (r : Refusal) (tables others : List Table) (before after : Left)
@@ -220,6 +335,7 @@ any-tables s (refusal.LongTable u) tables others before after made later m l f h
 any-tables s (refusal.Cells links steps) tables others before after made later m l f h = h
 any-tables s (refusal.Vehicles line total) tables others before after made later m l f h = h
 any-tables s (refusal.SkimPairs number) tables others before after made later m l f h = h
+any-tables s (refusal.SweepCells links steps) tables others before after made later m l f h = h
 
 -- and at a desk that was made for the source
 module _ (s : Settings) (n : ℕ) (asks : s.command ≡ command.Demo n) where
@@ -250,22 +366,26 @@ module _ (s : Settings) (n : ℕ) (asks : s.command ≡ command.Demo n) where
 
 -- ---- jobs
 
-pub full-tables : (c : Command) (start : Bool) → Loads c → tables_of c start ≡ loading_tables start
+pub full-tables : (c : Command) (start : Bool) → Assigns c → tables_of c start ≡ loading_tables start
 full-tables command.Freeflow start loads = absurd loads
 full-tables command.Assign start loads = refl
 full-tables (command.Demo n) start loads = refl
 full-tables command.Skim start loads = absurd loads
 full-tables command.Counts start loads = refl
+full-tables command.Sweep start loads = absurd loads
+full-tables command.Audit start loads = absurd loads
 
-within-of : (s : Settings) (rows : TableRows) (c : Command) → Loads c → HasRoom s rows × IsWithin rows.demand_cells → AreWithin c s rows
+within-of : (s : Settings) (rows : TableRows) (c : Command) → Assigns c → HasRoom s rows × IsWithin rows.demand_cells → AreWithin c s rows
 within-of s rows command.Freeflow loads w = absurd loads
 within-of s rows command.Assign loads w = w
 within-of s rows (command.Demo n) loads w = w
 within-of s rows command.Skim loads w = absurd loads
 within-of s rows command.Counts loads w = w
+within-of s rows command.Sweep loads w = absurd loads
+within-of s rows command.Audit loads w = absurd loads
 
 -- the job of all tables
-pub full-job : (s : Settings) (rows : TableRows) (job : JobRows) (left rest : Left) → Loads s.command
+pub full-job : (s : Settings) (rows : TableRows) (job : JobRows) (left rest : Left) → Assigns s.command
     → AreAccepted s (loading_tables s.start) no_rows rows left rest
     → HasRoom s rows × IsWithin rows.demand_cells → job ≡ job_of s rows → IsJobOf s job left rest
 full-job s rows job left rest loads read within makes = record {
@@ -279,7 +399,7 @@ full-made : {T E : Type 0} (r : Result T E) (P Q : T → Type 0) (K : Type 0) �
 full-made (Ok x) P Q K f k p = f x k p
 full-made (Err e) P Q K f k p = tt
 
-pub full-jobs : {E : Type 0} (s : Settings) (rows : TableRows) (r : Result JobRows E) (left rest : Left) → Loads s.command
+pub full-jobs : {E : Type 0} (s : Settings) (rows : TableRows) (r : Result JobRows E) (left rest : Left) → Assigns s.command
     → AreAccepted s (loading_tables s.start) no_rows rows left rest
     → OnOk r (HasRoom s rows × IsWithin rows.demand_cells) → IfOk r (λ job. job ≡ job_of s rows) → IfOk r (λ job. IsJobOf s job left rest)
 full-jobs s rows r left rest loads read within makes =
@@ -287,7 +407,7 @@ full-jobs s rows r left rest loads read within makes =
     (λ job w m. full-job s rows job left rest loads read w m) within makes
 
 -- what stopped the reading of all tables, or was over their rows
-module _ (s : Settings) (loads : Loads s.command) (before after : DeskState) where
+module _ (s : Settings) (loads : Assigns s.command) (before after : DeskState) where
   pub among-full : (stop : Stop) → StopsAmong s (loading_tables s.start) no_rows stop before after → StopsIn s stop before after
   among-full stop h = among-in s before after stop (subst (λ (ts : List Table). StopsAmong s ts no_rows stop before after) (sym (full-tables s.command s.start loads)) h)
 
@@ -303,12 +423,12 @@ module _ (s : Settings) (asks : s.command ≡ command.Freeflow) (nodes : List No
   free-read : AreAccepted s (tables_of s.command s.start) no_rows (road_rows nodes links) left rest
   free-read = subst (λ (c : Command). AreAccepted s (tables_of c s.start) no_rows (road_rows nodes links) left rest) (sym asks) read
 
-  pub free-job : IsJobOf s (record { net = net_rows nodes links []; trips = []; start = []; times = [] }) left rest
+  pub free-job : IsJobOf s (record { net = net_rows nodes links []; trips = []; start = []; times = []; demand_cells = []; agents = [] }) left rest
   free-job = record {
     rows = road_rows nodes links;
     read = free-read;
     within = subst (λ (c : Command). AreWithin c s (road_rows nodes links)) (sym asks) tt;
-    makes = rw (trips_of-none s.period) refl;
+    makes = rw (released-none s.command, swept-none s.command, trips_of-none s.period) refl;
   }
 
   pub free-counted : AreCounted s (λ rows. ⊤) left rest
@@ -320,12 +440,13 @@ module _ (s : Settings) (asks : s.command ≡ command.Skim) where
   skim-read rows left rest read = subst (λ (c : Command). AreAccepted s (tables_of c s.start) no_rows rows left rest) (sym asks) read
 
   pub skim-job : (rows : TableRows) (left rest : Left) → AreAccepted s skim_tables no_rows rows left rest → AreWithin command.Skim s rows
-      → rows.demand_cells ≡ [] → rows.start ≡ [] → IsJobOf s (record { net = net_of rows; trips = []; start = []; times = rows.times }) left rest
-  skim-job rows left rest read within none unstarted = record {
+      → rows.demand_cells ≡ [] → rows.start ≡ [] → rows.agents ≡ []
+      → IsJobOf s (record { net = net_of rows; trips = []; start = []; times = rows.times; demand_cells = []; agents = [] }) left rest
+  skim-job rows left rest read within none unstarted unaudited = record {
     rows = rows;
     read = skim-read rows left rest read;
     within = subst (λ (c : Command). AreWithin c s rows) (sym asks) within;
-    makes = rw (none, unstarted, trips_of-none s.period) refl;
+    makes = rw (none, unstarted, unaudited, released-none s.command, swept-none s.command, trips_of-none s.period) refl;
   }
 
   module _ (before after : DeskState) where
@@ -343,3 +464,100 @@ module _ (s : Settings) (asks : s.command ≡ command.Skim) where
         → IfErr r (StopsSkim s rows) → IfErr r (λ stop. StopsIn s stop before after)
     skim-sized rows r read h = IfErr-weaker r (StopsSkim s rows) (λ stop. StopsIn s stop before after)
         (λ stop k. skim-in s before after rows stop asks (skim-read rows before.left after.left read) k) h
+
+-- the first scenario that has too many vehicles, as the stop
+pub scale-stops : {T : Type 0} (s : Settings) (rows : TableRows) (cells : List DemandCell) (scales : List ℕ) (r : Result T SweepFault) (why : SweepFault)
+    → r ≡ Err why → HasSweepRoom s rows → rows.demand_cells ≡ cells → scales ≡ s.scales
+    → ((scenario line total : ℕ) → (r ≡ Err (sweep.TooMany scenario line total)) ↔ IsFirstTooMany cells scales scenario line total)
+    → StopsSweep s rows (stop_at_scale why)
+scale-stops s rows cells scales r (sweep.TooMany scenario line total) is room same are tells = (
+  room,
+  (
+    scenario,
+    subst (λ (xs : List ℕ). IsFirstTooMany rows.demand_cells xs scenario line total) are
+        (subst (λ (cs : List DemandCell). IsFirstTooMany cs scales scenario line total) (sym same) ((tells scenario line total).0 is)),
+  ),
+)
+scale-stops s rows cells scales r sweep.Memory is room same are tells = tt
+
+-- the tables of a sweep, and what is over their rows
+module _ (s : Settings) (asks : s.command ≡ command.Sweep) where
+  sweep-read : (rows : TableRows) (left rest : Left) → s.start ≡ false → AreAccepted s (loading_tables s.start) no_rows rows left rest
+      → AreAccepted s (tables_of s.command s.start) no_rows rows left rest
+  sweep-read rows left rest unstarted read =
+      subst (λ (c : Command). AreAccepted s (tables_of c s.start) no_rows rows left rest) (sym asks)
+      (subst (λ (b : Bool). AreAccepted s (loading_tables b) no_rows rows left rest) unstarted read)
+
+  sweep-job : (rows : TableRows) (job : JobRows) (left rest : Left) → s.start ≡ false → AreAccepted s (loading_tables s.start) no_rows rows left rest
+      → AreWithin command.Sweep s rows → job ≡ job_of s rows → IsJobOf s job left rest
+  sweep-job rows job left rest unstarted read within makes = record {
+    rows = rows;
+    read = sweep-read rows left rest unstarted read;
+    within = subst (λ (c : Command). AreWithin c s rows) (sym asks) within;
+    makes = makes;
+  }
+
+  pub sweep-jobs : {E : Type 0} (rows : TableRows) (r : Result JobRows E) (left rest : Left) → s.start ≡ false
+      → AreAccepted s (loading_tables s.start) no_rows rows left rest
+      → OnOk r (AreWithin command.Sweep s rows) → IfOk r (λ job. job ≡ job_of s rows) → IfOk r (λ job. IsJobOf s job left rest)
+  sweep-jobs rows r left rest unstarted read within makes =
+      full-made r (λ job. job ≡ job_of s rows) (λ job. IsJobOf s job left rest) (AreWithin command.Sweep s rows)
+      (λ job w m. sweep-job rows job left rest unstarted read w m) within makes
+
+  module _ (before after : DeskState) where
+    pub among-sweep : (stop : Stop) → s.start ≡ false → StopsAmong s (loading_tables s.start) no_rows stop before after → StopsIn s stop before after
+    among-sweep stop unstarted h =
+        among-in s before after stop
+        (subst (λ (c : Command). StopsAmong s (tables_of c s.start) no_rows stop before after) (sym asks)
+        (subst (λ (b : Bool). StopsAmong s (loading_tables b) no_rows stop before after) unstarted h))
+
+    pub sweep-sized : {T : Type 0} (rows : TableRows) (r : Result T Stop) → s.start ≡ false
+        → AreAccepted s (loading_tables s.start) no_rows rows before.left after.left
+        → IfErr r (StopsSweep s rows) → IfErr r (λ stop. StopsIn s stop before after)
+    sweep-sized rows r unstarted read h = IfErr-weaker r (StopsSweep s rows) (λ stop. StopsIn s stop before after)
+        (λ stop k. sweep-in s before after rows stop asks (sweep-read rows before.left after.left unstarted read) k) h
+
+-- no command but `assign` has a start table
+pub unstarted : (s : Settings) → AreSettings s → (c : Command) → s.command ≡ c → (c ≡ command.Assign → ⊥) → s.start ≡ false
+unstarted s settings c asks other =
+    elim s.start as (λ b. s.start ≡ b → b ≡ false) [
+      | true ↦ λ e. absurd (other (sym asks ∙ settings.start e))
+      | false ↦ λ e. refl
+    ] refl
+
+-- the tables of an audit
+module _ (s : Settings) (asks : s.command ≡ command.Audit) where
+  audit-read : (rows : TableRows) (left rest : Left) → AreAccepted s audit_tables no_rows rows left rest
+      → AreAccepted s (tables_of s.command s.start) no_rows rows left rest
+  audit-read rows left rest read = subst (λ (c : Command). AreAccepted s (tables_of c s.start) no_rows rows left rest) (sym asks) read
+
+  pub audit-job : (rows : TableRows) (left rest : Left) → AreAccepted s audit_tables no_rows rows left rest → AreWithin command.Audit s rows
+      → IsJobOf s (record {
+        net = net_of rows;
+        trips = trips_of rows.demand_cells s.period;
+        start = rows.start;
+        times = rows.times;
+        demand_cells = [];
+        agents = rows.agents;
+      }) left rest
+  audit-job rows left rest read within = record {
+    rows = rows;
+    read = audit-read rows left rest read;
+    within = subst (λ (c : Command). AreWithin c s rows) (sym asks) within;
+    makes = rw asks refl;
+  }
+
+  module _ (before after : DeskState) where
+    pub among-audit : (stop : Stop) → StopsAmong s audit_tables no_rows stop before after → StopsIn s stop before after
+    among-audit stop h = among-in s before after stop (subst (λ (c : Command). StopsAmong s (tables_of c s.start) no_rows stop before after) (sym asks) h)
+
+    -- memory was wanting before the link times were read
+    pub audit-starved : (rows : TableRows) → AreAccepted s (all_tables ++ table.Start ∷ []) no_rows rows before.left after.left → IsCutIn s before.left after.left
+    audit-starved rows read =
+        let reached = reached-then s table.Times (λ _. IsBegun table.Times) (all_tables ++ table.Start ∷ []) (table.Times ∷ []) no_rows rows before.left after.left after.left read
+        (inl (refl, record { bytes = []; read = sym (before_left-empty table.Times after.left) })) in
+        inr (inl (table.Times, subst (λ (c : Command). ReachedAmong s (tables_of c s.start) table.Times (λ _. IsBegun table.Times) no_rows before.left after.left) (sym asks) reached))
+
+    pub audit-stops : (rows : TableRows) (stop : Stop) → AreAccepted s audit_tables no_rows rows before.left after.left
+        → StopsJob s rows stop → StopsIn s stop before after
+    audit-stops rows stop read h = audit-in s before after rows stop asks (audit-read rows before.left after.left read) h

@@ -11,7 +11,7 @@ use Rattle.loader.specs.Gates.{GateState, Numbers, numbers_by, taking}
 use Rattle.loader.specs.Loads.{Loads}
 use Rattle.loader.specs.declared.loading.LoadFault.{LoadFault}
 use Rattle.loader.specs.declared.loading.LoadFault.TheVariants as fault
-use Rattle.dta.specs.Assignment.{VehicleRoutes}
+use Rattle.sweep.specs.Assignment.{VehicleRoutes}
 use Rattle.dta.specs.Calls.{OnlyWatches}
 use Rattle.dta.specs.Jobs.{JobRows, plan_of}
 use Rattle.dta.specs.Progress.{HaltsIn, IsWatched, halt_of}

@@ -1,11 +1,7 @@
 -- Texts that go out one after another.
 use Rattle.std.proofs.Common.{◌≡◌, ℕ, zero, suc, ◌+◌, ◌≤◌, Bool, true, false, List, [], ◌∷◌, ◌++◌, length}
 use Rattle.std.proofs.Common.{refl, ap, sym, subst, ◌∙◌, arith, rules, inl, inr}
-use Rattle.std.specs.Prelude.{Option, Some, count_by, nat_lt}
-use Rattle.std.proofs.lemmas.List.FromFn.{length-range_with_len}
-use Rattle.std.proofs.lemmas.List.Sums.{count_by-le-length}
-use Rattle.net_core.specs.Network.{numbers_below}
-use Rattle.dta_model.specs.State.{arrived_in, eight_after, eight_in, running_in, waiting_in}
+use Rattle.std.specs.Prelude.{Option, Some, nat_lt}
 use Rattle.std.proofs.lemmas.List.{append_assoc, append-nil}
 use Rattle.desk_io.specs.declared.desk.Output.{Output}
 use Rattle.desk_io.specs.declared.desk.Output.TheVariants as output
@@ -19,7 +15,8 @@ use Rattle.dta_words.specs.Ranges.{AreSettings}
 use Rattle.dta_words.specs.declared.command.Command.{Command}
 use Rattle.dta_words.specs.declared.command.Command.TheVariants as command
 use Rattle.dta_words.specs.declared.command.Settings.{Settings}
-use Rattle.dta.specs.Assignment.{VehicleRoutes, end_of}
+use Rattle.sweep.specs.Assignment.{VehicleRoutes}
+use Rattle.dta.specs.Assignment.{end_of}
 use Rattle.counts.specs.Through.{through_counts}
 use Rattle.counts.specs.Turns.{turn_counts}
 use Rattle.dta.specs.Jobs.{JobRows, plan_of}
@@ -112,30 +109,6 @@ pub end-lines : (s : Settings) (job : JobRows) (iteration : ℕ) (r : VehicleRou
     → AreWatchLines s job iteration r (end_lines s.watch iteration end)
 end-lines s job iteration r end settings is =
     end-by s job iteration r end s.watch refl settings.horizon.0 is
-
--- ---- the last state
-
-count_few : (p : ℕ → Bool) (n : ℕ) → count_by p (numbers_below n) ≤ n
-count_few p n =
-    let a = count_by-le-length p (numbers_below n) in
-    let b = length-range_with_len 0 n in
-    omega (arith, a, b)
-
--- no more vehicles wait, run or have arrived than there are
-pub few-waiting : (s : Settings) (job : JobRows) (r : VehicleRoutes) (end : Eight)
-    → end ≡ end_of s job r → end.waiting ≤ length job.trips
-unfolding eight_after eight_in waiting_in
-few-waiting s job r end is = rw is (count_few _ (length job.trips))
-
-pub few-running : (s : Settings) (job : JobRows) (r : VehicleRoutes) (end : Eight)
-    → end ≡ end_of s job r → end.running ≤ length job.trips
-unfolding eight_after eight_in running_in
-few-running s job r end is = rw is (count_few _ (length job.trips))
-
-pub few-arrived : (s : Settings) (job : JobRows) (r : VehicleRoutes) (end : Eight)
-    → end ≡ end_of s job r → end.arrived ≤ length job.trips
-unfolding eight_after eight_in arrived_in
-few-arrived s job r end is = rw is (count_few _ (length job.trips))
 
 -- one text went out, or was cut off
 pub grown-one : (o : Output) (text : List ℕ) (before now : Taken) → now ≡ grown o text before → now ≡ grown_by (text_to o text ∷ []) before

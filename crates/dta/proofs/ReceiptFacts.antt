@@ -11,8 +11,8 @@ use Rattle.dta_words.specs.declared.command.Settings.{Settings}
 use Rattle.loader.specs.Gates.{GateState, Numbers, numbers_by, taking}
 use Rattle.reports.specs.declared.refusal.Refusal.{Refusal}
 use Rattle.reports.specs.declared.refusal.Refusal.TheVariants as refusal
-use Rattle.dta.specs.Assignment.{VehicleRoutes}
-use Rattle.dta.specs.Jobs.{IsAcceptedJob, JobRows, Loads, plan_of}
+use Rattle.sweep.specs.Assignment.{VehicleRoutes}
+use Rattle.dta.specs.Jobs.{IsAcceptedJob, JobRows, Assigns, plan_of}
 use Rattle.dta.specs.Outcome.{Works}
 use Rattle.dta.specs.Receipts.{Gives, HasWorked, RunGives, ToldGives, TookAtMost, WorkGives, numbers_in, receipts_in, receipts_of, taking_all}
 use Rattle.dta.specs.Status.{refusal_status}
@@ -93,56 +93,69 @@ module _ (plain : Bool) (numbers : Numbers) (gate : GateState) where
 -- ---- the receipts of a run
 
 -- a command that assigns gives one for each iteration
-receipts-are : (c : Command) (s : Settings) → Loads c → receipts_of s.plain s.iterations ≡ receipts_in c s
+receipts-are : (c : Command) (s : Settings) → Assigns c → receipts_of s.plain s.iterations ≡ receipts_in c s
 receipts-are command.Freeflow s loads = absurd loads
 receipts-are command.Assign s loads = refl
 receipts-are (command.Demo n) s loads = refl
 receipts-are command.Skim s loads = absurd loads
 receipts-are command.Counts s loads = refl
+receipts-are command.Sweep s loads = absurd loads
+receipts-are command.Audit s loads = absurd loads
 
 -- work that gave all receipts, at most as many, or none
 module _ (s : Settings) (job : JobRows) (gate now : GateState) where
-  pub work-all : Loads s.command → now ≡ taking_all (receipts_of s.plain s.iterations) (numbers_in s job) gate
+  pub work-all : Assigns s.command → now ≡ taking_all (receipts_of s.plain s.iterations) (numbers_in s job) gate
       → now ≡ taking_all (receipts_in s.command s) (numbers_in s job) gate
   work-all loads took = took ∙ ap (λ (n : ℕ). taking_all n (numbers_in s job) gate) (receipts-are s.command s loads)
 
-  pub work-some : Loads s.command → TookAtMost (receipts_of s.plain s.iterations) (numbers_in s job) gate now
+  pub work-some : Assigns s.command → TookAtMost (receipts_of s.plain s.iterations) (numbers_in s job) gate now
       → TookAtMost (receipts_in s.command s) (numbers_in s job) gate now
   work-some loads took = subst (λ (n : ℕ). TookAtMost n (numbers_in s job) gate now) (receipts-are s.command s loads) took
 
   pub free-none : s.command ≡ command.Freeflow → now ≡ gate → now ≡ taking_all (receipts_in s.command s) (numbers_in s job) gate
   free-none asks same = rw asks same
 
-  pub skim-none : s.command ≡ command.Skim → now ≡ gate → now ≡ taking_all (receipts_in s.command s) (numbers_in s job) gate
-  skim-none asks same = rw asks same
-
   pub took-none : now ≡ gate → TookAtMost (receipts_in s.command s) (numbers_in s job) gate now
   took-none same = (0, omega arith, same)
 
--- a skim gives none, however it ends
-pub skim-gives : (s : Settings) (job : JobRows) (answer : Status) (gate : GateState) → s.command ≡ command.Skim → WorkGives s job answer gate gate
-skim-gives s job status.Done gate asks = skim-none s job gate gate asks refl
-skim-gives s job status.Usage gate asks = took-none s job gate gate refl
-skim-gives s job status.Table gate asks = took-none s job gate gate refl
-skim-gives s job status.ReadFault gate asks = took-none s job gate gate refl
-skim-gives s job status.WriteFault gate asks = took-none s job gate gate refl
-skim-gives s job status.Memory gate asks = took-none s job gate gate refl
-skim-gives s job status.Size gate asks = took-none s job gate gate refl
+-- a command that assigns nothing gives none, however it ends
+pub none-given : (c : Command) (s : Settings) → receipts_in c s ≡ 0 → s.command ≡ c → (job : JobRows) (answer : Status) (gate : GateState)
+    → WorkGives s job answer gate gate
+none-given c s none asks job status.Done gate =
+    let zero_in : receipts_in s.command s ≡ 0 = ap (λ (x : Command). receipts_in x s) asks ∙ none in
+    ap (λ (n : ℕ). taking_all n (numbers_in s job) gate) (sym zero_in)
+none-given c s none asks job status.Usage gate = took-none s job gate gate refl
+none-given c s none asks job status.Table gate = took-none s job gate gate refl
+none-given c s none asks job status.ReadFault gate = took-none s job gate gate refl
+none-given c s none asks job status.WriteFault gate = took-none s job gate gate refl
+none-given c s none asks job status.Memory gate = took-none s job gate gate refl
+none-given c s none asks job status.Size gate = took-none s job gate gate refl
+none-given c s none asks job status.Differs gate = took-none s job gate gate refl
+
+-- at most none is none
+none-taken : (s : Settings) (job : JobRows) (gate now : GateState) → s.command ≡ command.Audit
+    → TookAtMost (receipts_in s.command s) (numbers_in s job) gate now → now ≡ gate
+none-taken s job gate now asks took =
+    let few : took.0 ≤ 0 = subst (λ (c : Command). took.0 ≤ receipts_in c s) asks took.1 in
+    let none : took.0 ≡ 0 = omega (arith, few) in
+    took.2 ∙ ap (λ (n : ℕ). taking_all n (numbers_in s job) gate) none
 
 -- the receipts of the work are those of the run
 pub work-gives : (words : List (List ℕ)) (s : Settings) (job : JobRows) (answer : Status) (left rest : Left) (before after : Taken)
     (gate now : GateState) → settings_of words ≡ Some s → IsAcceptedJob s job left rest → Works s job answer before after
-    → WorkGives s job answer gate now → RunGives words answer left rest gate now
-work-gives words s job status.Done left rest before after gate now told accepted works gives =
+    → (answer ≡ status.Differs → s.command ≡ command.Audit) → WorkGives s job answer gate now → RunGives words answer left rest gate now
+work-gives words s job status.Done left rest before after gate now told accepted works audits gives =
     record { settings = s; told = told; job = job; accepted = accepted; receipts = gives }
-work-gives words s job status.WriteFault left rest before after gate now told accepted works gives =
+work-gives words s job status.WriteFault left rest before after gate now told accepted works audits gives =
     record { settings = s; told = told; job = job; accepted = accepted; receipts = gives }
-work-gives words s job status.Memory left rest before after gate now told accepted works gives =
+work-gives words s job status.Memory left rest before after gate now told accepted works audits gives =
     inr (record { settings = s; told = told; job = job; accepted = accepted; receipts = gives })
-work-gives words s job status.Usage left rest before after gate now told accepted works gives = absurd works
-work-gives words s job status.Table left rest before after gate now told accepted works gives = absurd works
-work-gives words s job status.ReadFault left rest before after gate now told accepted works gives = absurd works
-work-gives words s job status.Size left rest before after gate now told accepted works gives = absurd works
+work-gives words s job status.Usage left rest before after gate now told accepted works audits gives = absurd works
+work-gives words s job status.Table left rest before after gate now told accepted works audits gives = absurd works
+work-gives words s job status.ReadFault left rest before after gate now told accepted works audits gives = absurd works
+work-gives words s job status.Size left rest before after gate now told accepted works audits gives = absurd works
+work-gives words s job status.Differs left rest before after gate now told accepted works audits gives =
+    none-taken s job gate now (audits refl) gives
 
 -- a refused run gives none
 pub refused-gives : (words : List (List ℕ)) (r : Refusal) (left rest : Left) (gate : GateState)
@@ -154,6 +167,7 @@ refused-gives words (refusal.LongTable t) left rest gate = refl
 refused-gives words (refusal.Cells links steps) left rest gate = refl
 refused-gives words (refusal.Vehicles line total) left rest gate = refl
 refused-gives words (refusal.SkimPairs number) left rest gate = refl
+refused-gives words (refusal.SweepCells links steps) left rest gate = refl
 
 -- ---- where the bytes of the tables are told
 
@@ -167,6 +181,7 @@ none-told (Accepted s job) status.ReadFault gate now other same = (0, omega arit
 none-told (Accepted s job) status.WriteFault gate now other same = (0, omega arith, same)
 none-told (Accepted s job) status.Memory gate now other same = (0, omega arith, same)
 none-told (Accepted s job) status.Size gate now other same = (0, omega arith, same)
+none-told (Accepted s job) status.Differs gate now other same = (0, omega arith, same)
 
 -- the verdict is on the job whose work gave the receipts
 worked-told : (words : List (List ℕ)) (texts : Table → List ℕ) (answer : Status) (left rest : Left) (gate now : GateState)
@@ -189,5 +204,6 @@ told_gives words texts status.Usage left rest gate now h told = none-told (verdi
 told_gives words texts status.Table left rest gate now h told = none-told (verdict words texts) status.Table gate now (λ e. absurd cc) h
 told_gives words texts status.ReadFault left rest gate now h told = none-told (verdict words texts) status.ReadFault gate now (λ e. absurd cc) h
 told_gives words texts status.Size left rest gate now h told = none-told (verdict words texts) status.Size gate now (λ e. absurd cc) h
+told_gives words texts status.Differs left rest gate now h told = none-told (verdict words texts) status.Differs gate now (λ e. absurd cc) h
 
 pub ruleset answers = (usage_means, told, told_gives)

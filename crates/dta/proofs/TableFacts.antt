@@ -1,5 +1,5 @@
 -- The first fault of a table stands in that table, and reading stops there.
-use Rattle.std.proofs.Common.{◌≡◌, ℕ, ◌+◌, ◌≤◌, List, [], ◌∷◌, ◌++◌, length, refl, sym, ap, subst, true, false, arith}
+use Rattle.std.proofs.Common.{◌≡◌, ℕ, ◌+◌, ◌≤◌, List, [], ◌∷◌, ◌++◌, length, refl, sym, ap, subst, true, false, arith, ◌∙◌}
 use Rattle.std.specs.Prelude.{All, Option, Result, Ok, Err, nat_lt}
 use Rattle.std.proofs.Common.{Vec}
 use Rattle.std.specs.declared.alloc.Global.{Global}
@@ -34,17 +34,22 @@ use Rattle.gmns_tables.specs.declared.with_windows.WithWindows.{WithWindows}
 use Rattle.gmns_tables.specs.Nodes.{node_of, node_places, node_verdict}
 use Rattle.demand.specs.DemandRows.{demand_cell_of, demand_places, demand_verdict}
 use Rattle.route_flows.specs.StartTable.{start_places, start_row_of, start_verdict}
+use Rattle.audit.specs.Agents.{agent_places, agent_row_of, agents_verdict}
+use Rattle.audit.specs.declared.agent_rows.AgentRow.{AgentRow}
+use Rattle.audit.specs.declared.agent_rows.TheConstants.{MOST_AGENT_ROWS}
+use Rattle.dta_words.specs.declared.command.Command.{Command}
+use Rattle.dta_words.specs.declared.command.Command.TheVariants as command
 use Rattle.route_flows.specs.declared.start_rows.StartRow.{StartRow}
 use Rattle.route_flows.specs.declared.start_rows.TheConstants.{MOST_START_ROWS}
 use Rattle.demand.specs.declared.demand_rows.TheConstants.{MOST_DEMAND_CELLS}
 use Rattle.desk_io.specs.declared.transfers.TheConstants.{MOST_TABLE_BYTES}
 use Rattle.dta.specs.Outcome.{DeskState}
 use Rattle.dta.specs.Stops.{StopsAt, stop_of}
-use Rattle.dta.specs.Calls.{rows_in_roads, rows_with_turns, with_demand_cells, with_start_rows, with_time_rows}
+use Rattle.dta.specs.Calls.{rows_in_roads, rows_with_turns, with_agent_rows, with_demand_cells, with_start_rows, with_time_rows}
 use Rattle.skims.specs.TimesTable.{none_missing, row_count, time_row_of, times_places, times_verdict}
 use Rattle.skims.specs.declared.times_table.TheConstants.{MOST_TIME_ROWS}
 use Rattle.skims.specs.declared.time_rows.TimeRow.{TimeRow}
-use Rattle.dta.specs.Tables.{IsAccepted, TableRows, net_of, no_rows, road_rows, turns_of, with_table}
+use Rattle.dta.specs.Tables.{IsAccepted, TableRows, net_of, no_rows, road_rows, turns_of, with_agents, with_table}
 use Rattle.dta.specs.declared.tables.Roads.{Roads}
 use Rattle.dta_words.specs.declared.command.Settings.{Settings}
 
@@ -111,11 +116,26 @@ demand_cells-told settings rows bytes (refusal.Fault f) told =
     (rw (told) refl, verdict-table table.Demand MOST_DEMAND_CELLS demand_places demand_cell_of (records bytes) f told)
 demand_cells-told settings rows bytes refusal.Memory told = tt
 
-start-told : (settings : Settings) (rows : TableRows) (bytes : List ℕ) (why : TableRefusal) → Tells (start_verdict (records bytes)) (Err why)
-    → IsToldBy settings table.Start rows bytes why
-start-told settings rows bytes (refusal.Fault f) told =
-    (rw (told) refl, verdict-table table.Start MOST_START_ROWS start_places start_row_of (records bytes) f told)
-start-told settings rows bytes refusal.Memory told = tt
+-- what a start table of an assignment gives, and the agent table of an audit
+start-with : (settings : Settings) (rows : TableRows) (bytes : List ℕ) → settings.command ≡ command.Assign
+    → with_table settings rows table.Start bytes ≡ then_with (start_verdict (records bytes)) (λ start. Ok (record rows { start = start }))
+start-with settings rows bytes asks = ap (λ (c : Command). with_agents c rows bytes) asks
+
+agents-with : (settings : Settings) (rows : TableRows) (bytes : List ℕ) → settings.command ≡ command.Audit
+    → with_table settings rows table.Start bytes ≡ then_with (agents_verdict (records bytes)) (λ agents. Ok (record rows { agents = agents }))
+agents-with settings rows bytes asks = ap (λ (c : Command). with_agents c rows bytes) asks
+
+start-told : (settings : Settings) (rows : TableRows) (bytes : List ℕ) (why : TableRefusal) → settings.command ≡ command.Assign
+    → Tells (start_verdict (records bytes)) (Err why) → IsToldBy settings table.Start rows bytes why
+start-told settings rows bytes (refusal.Fault f) asks told =
+    (start-with settings rows bytes asks ∙ (rw (told) refl), verdict-table table.Start MOST_START_ROWS start_places start_row_of (records bytes) f told)
+start-told settings rows bytes refusal.Memory asks told = tt
+
+agents-told : (settings : Settings) (rows : TableRows) (bytes : List ℕ) (why : TableRefusal) → settings.command ≡ command.Audit
+    → Tells (agents_verdict (records bytes)) (Err why) → IsToldBy settings table.Start rows bytes why
+agents-told settings rows bytes (refusal.Fault f) asks told =
+    (agents-with settings rows bytes asks ∙ (rw (told) refl), verdict-table table.Start MOST_AGENT_ROWS agent_places agent_row_of (records bytes) f told)
+agents-told settings rows bytes refusal.Memory asks told = tt
 
 -- the fault of missing link times, and of those that are there
 missing-table : (n : ℕ) (r : Result (List TimeRow) TableFault) (f : TableFault) → ((g : TableFault) → r ≡ Err g → g.table ≡ table.Times)
@@ -158,10 +178,17 @@ pub demand_cells-stop : (settings : Settings) (rows : TableRows) (bytes text : L
 demand_cells-stop settings rows bytes text before after why read short same told =
     stop-at settings table.Demand rows bytes before after why read short (demand_cells-told settings rows bytes why (subst (λ x. Tells (demand_verdict (records x)) (Err why)) same told))
 
-pub start-stop : (settings : Settings) (rows : TableRows) (bytes text : List ℕ) (before after : DeskState) (why : TableRefusal) → IsRead table.Start bytes before.left after.left
-    → length bytes ≤ MOST_TABLE_BYTES → text ≡ bytes → Tells (start_verdict (records text)) (Err why) → StopsAt settings table.Start rows (stop_of why) before after
-start-stop settings rows bytes text before after why read short same told =
-    stop-at settings table.Start rows bytes before after why read short (start-told settings rows bytes why (subst (λ x. Tells (start_verdict (records x)) (Err why)) same told))
+pub start-stop : (settings : Settings) (rows : TableRows) (bytes text : List ℕ) (before after : DeskState) (why : TableRefusal) → settings.command ≡ command.Assign
+    → IsRead table.Start bytes before.left after.left → length bytes ≤ MOST_TABLE_BYTES → text ≡ bytes → Tells (start_verdict (records text)) (Err why)
+    → StopsAt settings table.Start rows (stop_of why) before after
+start-stop settings rows bytes text before after why asks read short same told =
+    stop-at settings table.Start rows bytes before after why read short (start-told settings rows bytes why asks (subst (λ x. Tells (start_verdict (records x)) (Err why)) same told))
+
+pub agents-stop : (settings : Settings) (rows : TableRows) (bytes text : List ℕ) (before after : DeskState) (why : TableRefusal) → settings.command ≡ command.Audit
+    → IsRead table.Start bytes before.left after.left → length bytes ≤ MOST_TABLE_BYTES → text ≡ bytes → Tells (agents_verdict (records text)) (Err why)
+    → StopsAt settings table.Start rows (stop_of why) before after
+agents-stop settings rows bytes text before after why asks read short same told =
+    stop-at settings table.Start rows bytes before after why read short (agents-told settings rows bytes why asks (subst (λ x. Tells (agents_verdict (records x)) (Err why)) same told))
 
 pub times-stop : (settings : Settings) (rows : TableRows) (net : NetRows) (bytes text : List ℕ) (before after : DeskState) (why : TableRefusal)
     → net_of rows ≡ net → IsRead table.Times bytes before.left after.left → length bytes ≤ MOST_TABLE_BYTES → text ≡ bytes
@@ -212,13 +239,22 @@ demand_cells-accepted settings rows bytes text demand_cells before after read sh
     record { bytes = bytes; read = read; short = short; accepted = rw k refl }
 
 pub start-accepted : (settings : Settings) (rows : TableRows) (bytes text : List ℕ)
-    (start : List StartRow) (before after : Left) → IsRead table.Start bytes before after
+    (start : List StartRow) (before after : Left) → settings.command ≡ command.Assign → IsRead table.Start bytes before after
     → length bytes ≤ MOST_TABLE_BYTES → text ≡ bytes → Tells (start_verdict (records text)) (Ok start)
     → IsAccepted settings table.Start rows (with_start_rows rows start) before after
-start-accepted settings rows bytes text start before after read short same is =
+start-accepted settings rows bytes text start before after asks read short same is =
     let k : start_verdict (records bytes) ≡ Ok start =
     subst (λ x. start_verdict (records x) ≡ Ok start) same is in
-    record { bytes = bytes; read = read; short = short; accepted = rw k refl }
+    record { bytes = bytes; read = read; short = short; accepted = start-with settings rows bytes asks ∙ (rw k refl) }
+
+pub agents-accepted : (settings : Settings) (rows : TableRows) (bytes text : List ℕ)
+    (agents : List AgentRow) (before after : Left) → settings.command ≡ command.Audit → IsRead table.Start bytes before after
+    → length bytes ≤ MOST_TABLE_BYTES → text ≡ bytes → Tells (agents_verdict (records text)) (Ok agents)
+    → IsAccepted settings table.Start rows (with_agent_rows rows agents) before after
+agents-accepted settings rows bytes text agents before after asks read short same is =
+    let k : agents_verdict (records bytes) ≡ Ok agents =
+    subst (λ x. agents_verdict (records x) ≡ Ok agents) same is in
+    record { bytes = bytes; read = read; short = short; accepted = agents-with settings rows bytes asks ∙ (rw k refl) }
 
 pub times-accepted : (settings : Settings) (rows : TableRows) (net : NetRows) (bytes text : List ℕ) (times : List TimeRow) (before after : Left)
     → net_of rows ≡ net → IsRead table.Times bytes before after → length bytes ≤ MOST_TABLE_BYTES → text ≡ bytes

@@ -23,12 +23,14 @@ use Rattle.dta_words.specs.declared.command.Command.TheVariants as command
 use Rattle.dta_words.specs.declared.command.Settings.{Settings}
 use Rattle.dta.specs.declared.status.Status.{Status}
 use Rattle.dta.specs.declared.status.Status.TheVariants as status
-use Rattle.reports.specs.declared.refusal.TheConstants.{MOST_SKIM_ENTRIES}
-use Rattle.dta.specs.Jobs.{AreWithin, HasRoom, IsAcceptedJob, JobRows, Loads, job_of, read_tables, skim_entries, source, tables_of}
-use Rattle.dta.specs.Outcome.{AreCounted, Answers, DeskState, IsCause, IsHindered, IsReadBy, IsRefused, IsUnread, Means, ReadsFailed}
+use Rattle.reports.specs.declared.refusal.TheConstants.{MOST_SKIM_ENTRIES, MOST_SWEEP_LINK_STEPS}
+use Rattle.std.proofs.lemmas.List.Elements.{All-head, All-tail}
+use Rattle.sweep.specs.Scales.{AreAllWithin, IsFirstTooMany, scaled}
+use Rattle.dta.specs.Jobs.{AreWithin, HasRoom, HasSweepRoom, IsAcceptedJob, JobRows, job_of, read_tables, skim_entries, source, tables_of}
+use Rattle.dta.specs.Outcome.{AreCounted, Answers, DeskState, HasSizes, HasTooMany, IsCause, IsHindered, IsReadBy, IsRefused, IsUnread, Means, ReadsFailed}
 use Rattle.dta.specs.Status.{refusal_status}
 use Rattle.dta.specs.Tables.{AreAccepted, AreTold, ReachedAmong, IsAccepted, IsFaulty, TableRows, loading_tables, no_rows, with_table}
-use Rattle.dta.specs.Verdict.{Verdict, Refused, Accepted, AreToldBy, first_above, texts_of, verdict, verdict_by, verdict_on, verdict_on_rows, verdict_on_sizes, verdict_on_skim}
+use Rattle.dta.specs.Verdict.{Verdict, Refused, Accepted, AreToldBy, first_above, texts_of, verdict, verdict_by, verdict_on, verdict_on_rows, verdict_on_scales, verdict_on_scenario, verdict_on_sizes, verdict_on_skim, verdict_on_sweep}
 
 -- ---- what was read is what is told
 
@@ -203,13 +205,63 @@ row-above demand_cells line total h =
     (above-is (vehicles_before demand_cells (h.row + 1)) MOST_TRIPS many)
     (λ row below. within-is (vehicles_before demand_cells (row + 1)) MOST_TRIPS (h.first row below))
 
--- a command that loads has the sizes of a loading
-has-sizes : (c : Command) (s : Settings) (rows : TableRows) → Loads c → verdict_on_rows c s rows ≡ verdict_on_sizes s rows
-has-sizes command.Freeflow s rows n = absurd n
-has-sizes command.Assign s rows n = refl
-has-sizes (command.Demo size) s rows n = refl
-has-sizes command.Skim s rows n = absurd n
-has-sizes command.Counts s rows n = refl
+-- no scenario has too many vehicles
+on-scales-within : (demand_cells : List DemandCell) (scales : List ℕ) (next : Verdict) → AreAllWithin demand_cells scales
+    → verdict_on_scales demand_cells scales next ≡ next
+on-scales-within demand_cells [] next w = refl
+on-scales-within demand_cells (scale ∷ scales) next w =
+    let here : IsWithin (scaled scale demand_cells) = All-head (λ m. IsWithin (scaled m demand_cells)) scale scales w in
+    let none : first_above (scaled scale demand_cells) ≡ None = no-row-above (scaled scale demand_cells) here in
+    ap (λ (o : Option ℕ). verdict_on_scenario (scaled scale demand_cells) o (verdict_on_scales demand_cells scales next)) none
+    ∙ on-scales-within demand_cells scales next (All-tail (λ m. IsWithin (scaled m demand_cells)) scale scales w)
+
+-- or one is the first that has
+on-scenario-above : (demand_cells : List DemandCell) (next : Verdict) (line total : ℕ) (h : IsFirstAbove demand_cells line total)
+    → verdict_on_scenario demand_cells (first_above demand_cells) next ≡ Refused (refusal.Vehicles line total)
+on-scenario-above demand_cells next line total h =
+    let f : first_above demand_cells ≡ Some h.row = row-above demand_cells line total h in
+    let at : slice_get demand_cells h.row ≡ Some h.cell = h.at in
+    let on : h.cell.line ≡ line = h.on in
+    let many : vehicles_before demand_cells (h.row + 1) ≡ total = h.so_many in
+    rw (f, at, on, many) refl
+
+on-scales-above : (demand_cells : List DemandCell) (scales : List ℕ) (next : Verdict) (scenario line total : ℕ)
+    → IsFirstTooMany demand_cells scales scenario line total → verdict_on_scales demand_cells scales next ≡ Refused (refusal.Vehicles line total)
+on-scales-above demand_cells [] next scenario line total h = let e = h.at in absurd cc
+on-scales-above demand_cells (scale ∷ scales) next zero line total h =
+    let e : Some scale ≡ Some h.scale = h.at in
+    let same : h.scale ≡ scale = cc in
+    on-scenario-above (scaled scale demand_cells) (verdict_on_scales demand_cells scales next) line total
+    (subst (λ m. IsFirstAbove (scaled m demand_cells) line total) same h.above)
+on-scales-above demand_cells (scale ∷ scales) next (suc scenario) line total h =
+    let here : IsWithin (scaled scale demand_cells) = h.before 0 scale (omega arith) refl in
+    let none : first_above (scaled scale demand_cells) ≡ None = no-row-above (scaled scale demand_cells) here in
+    ap (λ (o : Option ℕ). verdict_on_scenario (scaled scale demand_cells) o (verdict_on_scales demand_cells scales next)) none
+    ∙ on-scales-above demand_cells scales next scenario line total (record {
+      scale = h.scale;
+      at = h.at;
+      above = h.above;
+      before = λ earlier other below there. h.before (suc earlier) other (omega (arith, below)) there;
+    })
+
+on-sweep : (s : Settings) (rows : TableRows) → HasSweepRoom s rows → AreAllWithin rows.demand_cells s.scales
+    → verdict_on_sweep s rows ≡ Accepted s (job_of s rows)
+on-sweep s rows room w =
+    let r : nat_le (length rows.links * s.horizon) MOST_SWEEP_LINK_STEPS ≡ true = short-is (length rows.links * s.horizon) MOST_SWEEP_LINK_STEPS room in
+    rw r (on-scales-within rows.demand_cells s.scales (Accepted s (job_of s rows)) w)
+
+on-sweep-above : (s : Settings) (rows : TableRows) (scenario line total : ℕ) → HasSweepRoom s rows
+    → IsFirstTooMany rows.demand_cells s.scales scenario line total → verdict_on_sweep s rows ≡ Refused (refusal.Vehicles line total)
+on-sweep-above s rows scenario line total room h =
+    let r : nat_le (length rows.links * s.horizon) MOST_SWEEP_LINK_STEPS ≡ true = short-is (length rows.links * s.horizon) MOST_SWEEP_LINK_STEPS room in
+    rw r (on-scales-above rows.demand_cells s.scales (Accepted s (job_of s rows)) scenario line total h)
+
+on-many-sweep-steps : (s : Settings) (rows : TableRows) (links steps : ℕ) → links ≡ length rows.links → steps ≡ s.horizon
+    → MOST_SWEEP_LINK_STEPS < links * steps → verdict_on_sweep s rows ≡ Refused (refusal.SweepCells links steps)
+on-many-sweep-steps s rows links steps l t m =
+    let n : MOST_SWEEP_LINK_STEPS < length rows.links * s.horizon = rw (l, t) at m in
+    let r : nat_le (length rows.links * s.horizon) MOST_SWEEP_LINK_STEPS ≡ false = long-is (length rows.links * s.horizon) MOST_SWEEP_LINK_STEPS n in
+    rw (l, t, r) refl
 
 on-sizes : (s : Settings) (rows : TableRows) → HasRoom s rows → IsWithin rows.demand_cells → verdict_on_sizes s rows ≡ Accepted s (job_of s rows)
 on-sizes s rows room w =
@@ -226,6 +278,8 @@ on-within command.Skim s rows w =
     let n : nat_le (skim_entries s rows) MOST_SKIM_ENTRIES ≡ true = short-is (skim_entries s rows) MOST_SKIM_ENTRIES w.1 in
     rw (r, n) refl
 on-within command.Counts s rows w = on-sizes s rows w.0 w.1
+on-within command.Sweep s rows w = on-sweep s rows w.0 w.1
+on-within command.Audit s rows w = on-sizes s rows w.0 w.1
 
 on-many-link-steps : (s : Settings) (rows : TableRows) (links steps : ℕ) → links ≡ length rows.links → steps ≡ s.horizon → MOST_LINK_STEPS < links * steps
     → verdict_on_sizes s rows ≡ Refused (refusal.Cells links steps)
@@ -234,10 +288,12 @@ on-many-link-steps s rows links steps l t m =
     let r : nat_le (length rows.links * s.horizon) MOST_LINK_STEPS ≡ false = long-is (length rows.links * s.horizon) MOST_LINK_STEPS n in
     rw (l, t, r) refl
 
-on-many-cells : (c : Command) (s : Settings) (rows : TableRows) (links steps : ℕ) → c ≢ command.Freeflow
+on-many-cells : (c : Command) (s : Settings) (rows : TableRows) (links steps : ℕ) → HasSizes c
     → links ≡ length rows.links → steps ≡ s.horizon → MOST_LINK_STEPS < links * steps
     → verdict_on_rows c s rows ≡ Refused (refusal.Cells links steps)
-on-many-cells command.Freeflow s rows links steps n l t m = absurd (n refl)
+on-many-cells command.Freeflow s rows links steps n l t m = absurd n
+on-many-cells command.Sweep s rows links steps n l t m = absurd n
+on-many-cells command.Audit s rows links steps n l t m = on-many-link-steps s rows links steps l t m
 on-many-cells command.Assign s rows links steps n l t m = on-many-link-steps s rows links steps l t m
 on-many-cells (command.Demo size) s rows links steps n l t m = on-many-link-steps s rows links steps l t m
 on-many-cells command.Counts s rows links steps n l t m = on-many-link-steps s rows links steps l t m
@@ -264,6 +320,17 @@ on-many-vehicles s rows line total room h =
     let many : vehicles_before rows.demand_cells (h.row + 1) ≡ total = h.so_many in
     rw (r, f, at, on, many) refl
 
+-- too many vehicles of the demand, or of a scenario
+on-too-many : (c : Command) (s : Settings) (rows : TableRows) (line total : ℕ) → HasTooMany c s line total rows
+    → verdict_on_rows c s rows ≡ Refused (refusal.Vehicles line total)
+on-too-many command.Freeflow s rows line total h = absurd h
+on-too-many command.Assign s rows line total h = on-many-vehicles s rows line total h.0 h.1
+on-too-many (command.Demo size) s rows line total h = on-many-vehicles s rows line total h.0 h.1
+on-too-many command.Skim s rows line total h = absurd h
+on-too-many command.Counts s rows line total h = on-many-vehicles s rows line total h.0 h.1
+on-too-many command.Sweep s rows line total h = on-sweep-above s rows h.1.0 line total h.0 h.1.1
+on-too-many command.Audit s rows line total h = on-many-vehicles s rows line total h.0 h.1
+
 -- ---- the verdict of a run whose words are in the grammar
 
 distinct-loading : (start : Bool) → AreDistinct (loading_tables start)
@@ -281,6 +348,17 @@ distinct (command.Demo n) start = distinct-loading start
 distinct command.Skim start =
     ((λ e. absurd cc, (λ e. absurd cc, (λ e. absurd cc, tt))), ((λ e. absurd cc, (λ e. absurd cc, tt)), ((λ e. absurd cc, tt), (tt, tt))))
 distinct command.Counts start = distinct-loading start
+distinct command.Sweep start = distinct-loading false
+distinct command.Audit start = (
+  (λ e. absurd cc, (λ e. absurd cc, (λ e. absurd cc, (λ e. absurd cc, (λ e. absurd cc, tt))))),
+  (
+    (λ e. absurd cc, (λ e. absurd cc, (λ e. absurd cc, (λ e. absurd cc, tt)))),
+    (
+      (λ e. absurd cc, (λ e. absurd cc, (λ e. absurd cc, tt))),
+      ((λ e. absurd cc, (λ e. absurd cc, tt)), ((λ e. absurd cc, tt), (tt, tt))),
+    ),
+  ),
+)
 
 source-told : (c : Command) (start : Bool) (left : Left) (texts : Table → List ℕ) → AreTold (read_tables c start) left texts
     → AreTold (tables_of c start) (source c left) (texts_of c texts)
@@ -290,6 +368,8 @@ source-told (command.Demo n) false left texts h = (refl, (refl, (refl, (refl, tt
 source-told (command.Demo n) true left texts h = (refl, (refl, (refl, (refl, (refl, tt)))))
 source-told command.Skim start left texts h = h
 source-told command.Counts start left texts h = h
+source-told command.Sweep start left texts h = h
+source-told command.Audit start left texts h = h
 
 -- the texts that these settings read are told
 abbrev pub AreAllTold : Settings → Left → (Table → List ℕ) → Type 0
@@ -319,6 +399,7 @@ IsShown (refusal.LongTable t) = ⊤
 IsShown (refusal.Cells links steps) = ⊤
 IsShown (refusal.Vehicles line total) = ⊤
 IsShown (refusal.SkimPairs number) = ⊤
+IsShown (refusal.SweepCells links steps) = ⊤
 
 verdict-refused : (s : Settings) (r : Refusal) (texts : Table → List ℕ) (before after : Left) → IsShown r → AreAllTold s before texts
     → IsCause s r before after → verdict_by (Some s) texts ≡ Refused r
@@ -337,13 +418,17 @@ verdict-refused s (refusal.Cells links steps) texts before after i told h =
     (source s.command before) h.rest (Refused (refusal.Cells links steps)) told h.part.1
     (λ rows p. on-many-cells s.command s rows links steps h.part.0 p.0 p.1 p.2)
 verdict-refused s (refusal.Vehicles line total) texts before after i told h =
-    verdict-counted s (λ rows. HasRoom s rows × IsFirstAbove rows.demand_cells line total) texts
-    (source s.command before) h.rest (Refused (refusal.Vehicles line total)) told h.part.1
-    (λ rows p. has-sizes s.command s rows h.part.0 ∙ on-many-vehicles s rows line total p.0 p.1)
+    verdict-counted s (HasTooMany s.command s line total) texts
+    (source s.command before) h.rest (Refused (refusal.Vehicles line total)) told h.part
+    (λ rows p. on-too-many s.command s rows line total p)
 verdict-refused s (refusal.SkimPairs number) texts before after i told h =
     verdict-counted s (λ rows. HasRoom s rows × (number ≡ skim_entries s rows) × (MOST_SKIM_ENTRIES < number)) texts
     (source s.command before) h.rest (Refused (refusal.SkimPairs number)) told h.part.1
     (λ rows p. ap (λ (c : Command). verdict_on_rows c s rows) h.part.0 ∙ on-many-entries s rows number p.0 p.1 p.2)
+verdict-refused s (refusal.SweepCells links steps) texts before after i told h =
+    verdict-counted s (λ rows. (links ≡ length rows.links) × (steps ≡ s.horizon) × (MOST_SWEEP_LINK_STEPS < links * steps)) texts
+    (source s.command before) h.rest (Refused (refusal.SweepCells links steps)) told h.part.1
+    (λ rows p. ap (λ (c : Command). verdict_on_rows c s rows) h.part.0 ∙ on-many-sweep-steps s rows links steps p.0 p.1 p.2)
 
 -- ---- the answer
 
@@ -411,12 +496,17 @@ told words texts status.Done before after m t =
 told words texts status.WriteFault before after m t =
     answers-by words texts (Some m.settings) (Accepted m.settings m.job) status.WriteFault before after m.told
     (verdict-job m.settings m.job texts before.left after.left (all-told words m.settings before.left texts m.told t) m.accepted)
-    (inl (inr (refl, (m.texts, m.work, m.out), m.failed)))
+    (inl (inr (inl (refl, (m.texts, m.work, m.out), m.failed))))
+told words texts status.Differs before after m t =
+    answers-by words texts (Some m.settings) (Accepted m.settings m.job) status.Differs before after m.told
+    (verdict-job m.settings m.job texts before.left after.left (all-told words m.settings before.left texts m.told t) m.accepted)
+    (inl (inr (inr (refl, m.different))))
 told words texts status.Table before after m t = answers-refused words texts (refusal.Table m.0) before after tt m.1 t
 told words texts status.Size before after (inl m) t = answers-refused words texts (refusal.LongTable m.0) before after tt m.1 t
 told words texts status.Size before after (inr (inl m)) t = answers-refused words texts (refusal.Cells m.0 m.1) before after tt m.2 t
 told words texts status.Size before after (inr (inr (inl m))) t = answers-refused words texts (refusal.Vehicles m.0 m.1) before after tt m.2 t
-told words texts status.Size before after (inr (inr (inr m))) t = answers-refused words texts (refusal.SkimPairs m.0) before after tt m.1 t
+told words texts status.Size before after (inr (inr (inr (inl m)))) t = answers-refused words texts (refusal.SkimPairs m.0) before after tt m.1 t
+told words texts status.Size before after (inr (inr (inr (inr m)))) t = answers-refused words texts (refusal.SweepCells m.0 m.1) before after tt m.2 t
 told words texts status.ReadFault before after m t =
     hindered (settings_of words) (verdict words texts) status.ReadFault before after
     (inl (refl, unread words m.0 before after m.1 m.2))

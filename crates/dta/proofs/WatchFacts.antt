@@ -7,7 +7,7 @@ use Rattle.loader.specs.Lines.{AreCutOff, AreLinesOf, AreStepsTold, line_after, 
 use Rattle.loader.specs.Lines.{IsWatchCut as IsCutByWorkers, IsWatched as IsWatchedByWorkers}
 use Rattle.loader.specs.declared.watch.Watch.{Watch}
 use Rattle.dta_words.specs.declared.command.Settings.{Settings}
-use Rattle.dta.specs.Assignment.{VehicleRoutes}
+use Rattle.sweep.specs.Assignment.{VehicleRoutes}
 use Rattle.dta.specs.Jobs.{JobRows, plan_of}
 use Rattle.dta.specs.Outputs.{AreToldSteps, AreWatchLines, IsCutOff, OutText, grown_by, text_to, watch_text}
 use Rattle.dta.specs.Progress.{IsWatchCut, IsWatched}

@@ -14,9 +14,9 @@ use Rattle.route_flows.specs.declared.start_rows.StartRow.{StartRow}
 use Rattle.reports.specs.declared.refusal.Refusal.{Refusal}
 use Rattle.desk_io.specs.declared.transfers.TheConstants.{MOST_TABLE_BYTES}
 use Rattle.dta_words.specs.declared.command.Settings.{Settings}
-use Rattle.dta.specs.Assignment.{VehicleRoutes}
+use Rattle.sweep.specs.Assignment.{VehicleRoutes}
 use Rattle.dta.specs.Jobs.{JobRows}
-use Rattle.dta.specs.Outcome.{DeskState, PutsFailed, ReportsLine, Works}
+use Rattle.dta.specs.Outcome.{DeskState, IsDifferent, PutsFailed, ReportsLine, Works}
 use Rattle.dta.specs.Outputs.{IsCutOff, OutText, grown_by}
 use Rattle.dta.specs.Progress.{Halts, IsAssigned, IsAt}
 use Rattle.dta.specs.Status.{refusal_status}
@@ -32,6 +32,7 @@ use Rattle.dta.specs.declared.tables.Roads.{Roads}
 use Rattle.dta.specs.declared.tables.NetworkTables.{NetworkTables}
 use Rattle.dta.specs.declared.tables.Tables.{Tables}
 use Rattle.skims.specs.declared.time_rows.TimeRow.{TimeRow}
+use Rattle.audit.specs.declared.agent_rows.AgentRow.{AgentRow}
 
 -- ---- calls that read
 
@@ -69,7 +70,7 @@ AcceptsAll settings tables rows more before after result =
     before after result
 
 -- the rows of nodes and links, those with turns, rows with those of a demand table, of a start
--- table and of link times, and all rows
+-- table, of link times and of an agent table, and all rows of an assignment
 abbrev pub rows_in_roads : Roads → TableRows
 rows_in_roads roads = road_rows roads.nodes roads.links
 
@@ -84,6 +85,9 @@ with_start_rows rows start = record rows { start = start }
 
 abbrev pub with_time_rows : TableRows → List TimeRow → TableRows
 with_time_rows rows times = record rows { times = times }
+
+abbrev pub with_agent_rows : TableRows → List AgentRow → TableRows
+with_agent_rows rows agents = record rows { agents = agents }
 
 abbrev pub rows_in_network : NetworkTables → TableRows
 rows_in_network t = rows_with_turns t.roads t.turns
@@ -114,6 +118,7 @@ pub record DoesWork (s : Settings) (job : JobRows) (before after : DeskState) (a
     : Type 0 where
   pub work : Works s job answer before.taken after.taken
   pub failed : answer ≡ status.WriteFault → PutsFailed before after
+  pub differs : answer ≡ status.Differs → IsDifferent s job before after
   pub later : before.put_faults ≤ after.put_faults
   pub left : after.left ≡ before.left
   pub reads : after.read_faults ≡ before.read_faults

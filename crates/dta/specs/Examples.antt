@@ -34,8 +34,8 @@ two_links =
 -- the number of each status
 the-numbers : map number_of
     (status.Done ∷ status.Usage ∷ status.Table ∷ status.ReadFault ∷ status.WriteFault
-    ∷ status.Memory ∷ status.Size ∷ [])
-    ≡ 0 ∷ 2 ∷ 3 ∷ 4 ∷ 5 ∷ 6 ∷ 7 ∷ []
+    ∷ status.Memory ∷ status.Size ∷ status.Differs ∷ [])
+    ≡ 0 ∷ 2 ∷ 3 ∷ 4 ∷ 5 ∷ 6 ∷ 7 ∷ 8 ∷ []
 the-numbers = refl
 
 -- words are judged before any table

@@ -14,7 +14,8 @@ use Rattle.reports.specs.declared.summary.Summary.{Summary}
 use Rattle.dta_words.specs.declared.command.Command.{Command}
 use Rattle.dta_words.specs.declared.command.Command.TheVariants as command
 use Rattle.dta_words.specs.declared.command.Settings.{Settings}
-use Rattle.dta.specs.Assignment.{AreIterationsBy, VehicleRoutes}
+use Rattle.sweep.specs.Assignment.{VehicleRoutes}
+use Rattle.dta.specs.Assignment.{AreIterationsBy}
 use Rattle.dta.specs.Jobs.{JobRows, plan_of}
 use Rattle.counts.specs.Through.{through_counts_in}
 use Rattle.counts.specs.Turns.{turn_counts_in}

@@ -1,5 +1,5 @@
 -- What a run's answer says of its desk, from before the run to after it.
-use Rattle.std.specs.Prelude.{ℕ, ◌≡◌, ◌≢◌, ◌<◌, ◌*◌, ◌⊎◌, ⊤}
+use Rattle.std.specs.Prelude.{ℕ, ◌≡◌, ◌<◌, ◌*◌, ◌⊎◌, ⊤}
 use Rattle.std.specs.Prelude.{List, Contains, length, Option, None, Some}
 use Rattle.desk_io.specs.declared.desk.Table.{Table}
 use Rattle.desk_io.specs.declared.desk.Output.TheVariants as output
@@ -9,20 +9,25 @@ pub use Rattle.desk_io.specs.State.{DeskState, state_of}
 use Rattle.desk_io.specs.Transfers.{IsBegun, IsLong, IsOut}
 use Rattle.row_reader.specs.declared.faults.TableFault.{TableFault}
 use Rattle.vehicle_release.specs.Limits.{IsFirstAbove}
-use Rattle.reports.specs.Texts.{refusal_line}
+use Rattle.audit.specs.declared.verdict.Verdict.TheVariants as verdict
+use Rattle.sweep.specs.Scales.{IsFirstTooMany}
+use Rattle.reports.specs.Texts.{differs_line, refusal_line}
+use Rattle.reports.specs.declared.audited.Place.{Place}
 use Rattle.reports.specs.declared.refusal.Refusal.{Refusal}
 use Rattle.reports.specs.declared.refusal.Refusal.TheVariants as refusal
 use Rattle.desk_io.specs.declared.transfers.TheConstants.{MOST_TABLE_BYTES}
 use Rattle.dta_model.specs.declared.loading.TheConstants.{MOST_LINK_STEPS}
 use Rattle.dta_words.specs.Grammar.{settings_of}
+use Rattle.dta_words.specs.declared.command.Command.{Command}
 use Rattle.dta_words.specs.declared.command.Command.TheVariants as command
 use Rattle.dta_words.specs.declared.command.Settings.{Settings}
 use Rattle.dta.specs.declared.status.Status.{Status}
 use Rattle.dta.specs.declared.status.Status.TheVariants as status
-use Rattle.reports.specs.declared.refusal.TheConstants.{MOST_SKIM_ENTRIES}
-use Rattle.dta.specs.Jobs.{HasRoom, IsAcceptedJob, JobRows, Loads, Reading, read_tables}
+use Rattle.reports.specs.declared.refusal.TheConstants.{MOST_SKIM_ENTRIES, MOST_SWEEP_LINK_STEPS}
+use Rattle.dta.specs.Jobs.{HasRoom, HasSweepRoom, IsAcceptedJob, JobRows, Reading, read_tables}
 use Rattle.dta.specs.Jobs.{skim_entries, tables_of}
-use Rattle.dta.specs.Outputs.{AreTexts, AreTextsSoFar, AreWatched, IsCutOff, OutText, grown_by}
+use Rattle.dta.specs.Outputs.{AreTexts, AreTextsSoFar, AreWatched, IsAudited, IsCutOff, OutText}
+use Rattle.dta.specs.Outputs.{grown_by}
 use Rattle.dta.specs.Status.{refusal_status}
 use Rattle.dta.specs.Tables.{AreAccepted, ReachedAmong, IsFaulty, TableRows, no_rows}
 use Rattle.dta.specs.Verdict.{Verdict, Refused, Accepted}
@@ -51,8 +56,24 @@ abbrev pub Reached : Settings → Table → (TableRows → Left → Left → Typ
 Reached s t Part before after =
     ReachedAmong s (tables_of s.command s.start) t Part no_rows before after
 
+-- a command has the size of a loading; `freeflow` has none, and a sweep its own
+abbrev pub HasSizes : Command → Type 0
+HasSizes command.Freeflow = ⊥
+HasSizes command.Sweep = ⊥
+HasSizes c = ⊤
+
+-- the vehicles of accepted rows are too many, first at this line, where so many are: those of the
+-- demand, or those of the first scenario of a sweep that has too many
+abbrev pub HasTooMany : Command → Settings → ℕ → ℕ → TableRows → Type 0
+HasTooMany command.Freeflow s line total rows = ⊥
+HasTooMany command.Skim s line total rows = ⊥
+HasTooMany command.Sweep s line total rows =
+    HasSweepRoom s rows
+    × ((scenario : ℕ) × IsFirstTooMany rows.demand_cells s.scales scenario line total)
+HasTooMany c s line total rows = HasRoom s rows × IsFirstAbove rows.demand_cells line total
+
 -- the cause of a refusal, as the reading of the tables until then shows it, where reads of these
--- tables can fail; `freeflow` has no sizes
+-- tables can fail
 abbrev pub IsCauseAmong : List Table → Settings → Refusal → Left → Left → Type 0
 IsCauseAmong tables s refusal.Usage before after = ⊥
 IsCauseAmong tables s (refusal.Table fault) before after =
@@ -62,18 +83,21 @@ IsCauseAmong tables s (refusal.Read t) before after =
 IsCauseAmong tables s (refusal.LongTable t) before after =
     Reached s t (λ _. IsLong t MOST_TABLE_BYTES) before after
 IsCauseAmong tables s (refusal.Cells links steps) before after =
-    (s.command ≢ command.Freeflow)
+    HasSizes s.command
     × AreCounted s (λ rows. (links ≡ length rows.links) × (steps ≡ s.horizon)
     × (MOST_LINK_STEPS < links * steps))
     before after
 IsCauseAmong tables s (refusal.Vehicles line total) before after =
-    Loads s.command
-    × AreCounted s (λ rows. HasRoom s rows × IsFirstAbove rows.demand_cells line total)
-    before after
+    AreCounted s (HasTooMany s.command s line total) before after
 IsCauseAmong tables s (refusal.SkimPairs number) before after =
     (s.command ≡ command.Skim)
     × AreCounted s (λ rows. HasRoom s rows × (number ≡ skim_entries s rows)
     × (MOST_SKIM_ENTRIES < number))
+    before after
+IsCauseAmong tables s (refusal.SweepCells links steps) before after =
+    (s.command ≡ command.Sweep)
+    × AreCounted s (λ rows. (links ≡ length rows.links) × (steps ≡ s.horizon)
+    × (MOST_SWEEP_LINK_STEPS < links * steps))
     before after
 
 -- the same where only reads of the desk can fail: `demo` reads nothing of it
@@ -97,7 +121,16 @@ pub record IsUsage (words : List (List ℕ)) (before after : DeskState) : Type 0
   pub left : after.left ≡ before.left
   pub report : ReportsLine refusal.Usage before after
 
--- what the work over an accepted job put, by the status with which it ended
+-- an audit found a check that fails, and its place was put to Report alone, whole unless puts failed
+pub record IsDifferent (s : Settings) (job : JobRows) (before after : DeskState) : Type 0 where
+  pub asks : s.command ≡ command.Audit
+  pub place : Place
+  pub fails : IsAudited s job (verdict.No place.table place.line place.column)
+  pub report : IsOut output.Report (differs_line place) before.taken after.taken before.put_faults
+      after.put_faults
+
+-- what the work over an accepted job put, by the status with which it ended; of a difference more
+-- is told apart
 abbrev pub Works : Settings → JobRows → Status → Taken → Taken → Type 0
 Works s job status.Done before after =
     (texts : List OutText) × AreTexts s.command s job texts × (after ≡ grown_by texts before)
@@ -105,6 +138,7 @@ Works s job status.WriteFault before after =
     (texts : List OutText) × AreTextsSoFar s.command s job texts × IsCutOff texts before after
 Works s job status.Memory before after =
     (texts : List OutText) × AreWatched s job texts × (after ≡ grown_by texts before)
+Works s job status.Differs before after = ⊤
 Works s job _ before after = ⊥
 
 -- all tables were accepted, and all texts of the work went out whole, in their order
@@ -128,6 +162,14 @@ pub record IsUnfinished (words : List (List ℕ)) (before after : DeskState) : T
   pub work : AreTextsSoFar settings.command settings job texts
   pub out : IsCutOff texts before.taken after.taken
   pub failed : PutsFailed before after
+
+-- all tables were accepted, and the audit found a difference
+pub record DiffersAt (words : List (List ℕ)) (before after : DeskState) : Type 0 where
+  pub settings : Settings
+  pub told : settings_of words ≡ Some settings
+  pub job : JobRows
+  pub accepted : IsAcceptedJob settings job before.left after.left
+  pub different : IsDifferent settings job before after
 
 -- memory was wanting before a table was read, at one of them, or after all were accepted
 abbrev pub IsCutIn : Settings → Left → Left → Type 0
@@ -167,9 +209,11 @@ Means words status.Size before after =
     ((t : Table) × IsRefused (refusal.LongTable t) words before after)
     ⊎ (((links : ℕ) × (steps : ℕ) × IsRefused (refusal.Cells links steps) words before after)
     ⊎ (((line : ℕ) × (total : ℕ) × IsRefused (refusal.Vehicles line total) words before after)
-    ⊎ ((number : ℕ) × IsRefused (refusal.SkimPairs number) words before after)))
+    ⊎ (((number : ℕ) × IsRefused (refusal.SkimPairs number) words before after)
+    ⊎ ((links : ℕ) × (steps : ℕ) × IsRefused (refusal.SweepCells links steps) words before after))))
 Means words status.WriteFault before after = IsUnfinished words before after
 Means words status.Memory before after = IsStarved words before after
+Means words status.Differs before after = DiffersAt words before after
 
 -- these settings read this table of the desk
 abbrev pub IsReadBy : Option Settings → Table → Type 0
@@ -187,16 +231,18 @@ abbrev pub IsHindered : Option Settings → Status → DeskState → DeskState �
 IsHindered settings answer before after =
     ((answer ≡ status.ReadFault) × IsUnread settings before after) ⊎ (answer ≡ status.Memory)
 
--- all texts of the work went out whole, or puts failed and they were cut off
+-- all texts of the work went out whole, or puts failed and they were cut off, or an audit found a
+-- difference
 abbrev pub IsPut : Settings → JobRows → Status → DeskState → DeskState → Type 0
 IsPut s job answer before after =
     ((answer ≡ status.Done)
     × ((texts : List OutText) × AreTexts s.command s job texts
     × (after.taken ≡ grown_by texts before.taken)))
-    ⊎ ((answer ≡ status.WriteFault)
+    ⊎ (((answer ≡ status.WriteFault)
     × ((texts : List OutText) × AreTextsSoFar s.command s job texts
     × IsCutOff texts before.taken after.taken)
     × PutsFailed before after)
+    ⊎ ((answer ≡ status.Differs) × IsDifferent s job before after))
 
 -- what a run answers where the bytes of its tables are told, and so the verdict is known before it
 -- runs

@@ -1,7 +1,7 @@
 -- The texts of a run, in the order in which they go out.
 use Rattle.std.specs.Prelude.{ℕ, ◌≡◌, ◌+◌, ◌-◌, suc, zero, ◌≤◌, ◌⊎◌, Bool, true, false, not}
-use Rattle.std.specs.Prelude.{List, [], ◌∷◌, ◌++◌, length, map, filter, count_by, slice_get}
-use Rattle.std.specs.Prelude.{◌==◌, Option, Some, None, is_none, option_map}
+use Rattle.std.specs.Prelude.{List, [], ◌∷◌, ◌++◌, length, map, filter, slice_get}
+use Rattle.std.specs.Prelude.{◌==◌, Option, Some, None, option_map}
 use Rattle.std.specs.List.{position}
 use Rattle.desk_io.specs.declared.desk.Output.{Output}
 use Rattle.desk_io.specs.declared.desk.Output.TheVariants as output
@@ -24,15 +24,25 @@ use Rattle.skims.specs.GivenTimes.{table_given}
 use Rattle.skims.specs.Skim.{IsSkim}
 use Rattle.skims.specs.Texts.{skim_report_text, skim_text}
 use Rattle.skims.specs.declared.skim_entry.SkimEntry.{SkimEntry}
+use Rattle.audit.specs.Audit.{IsAudit}
+use Rattle.audit.specs.declared.plan.Plan.{Plan}
+use Rattle.audit.specs.declared.verdict.Verdict.{Verdict}
+use Rattle.audit.specs.declared.verdict.Verdict.TheVariants as verdict
+use Rattle.sweep.specs.Assignment.{summary_of as summary_over}
+use Rattle.sweep.specs.Scenarios.{AreScenarios}
+use Rattle.sweep.specs.Texts.{sweep_report_line, sweep_text}
+use Rattle.sweep.specs.declared.scenario.Scenario.{Scenario}
 use Rattle.reports.specs.Texts.{agent_text_by, free_link_time_text, free_report_text, gap_text}
+use Rattle.reports.specs.Texts.{audit_text}
 use Rattle.reports.specs.Texts.{link_time_text, report_text, watch_line}
 use Rattle.reports.specs.Watch.{AreWatchSteps}
 use Rattle.reports.specs.declared.summary.Summary.{Summary}
 use Rattle.dta_words.specs.declared.command.Command.{Command}
 use Rattle.dta_words.specs.declared.command.Command.TheVariants as command
 use Rattle.dta_words.specs.declared.command.Settings.{Settings}
-use Rattle.dta.specs.Assignment.{AreIterations, VehicleRoutes, end_of, times_of}
-use Rattle.dta.specs.Jobs.{JobRows, plan_of}
+use Rattle.sweep.specs.Assignment.{VehicleRoutes}
+use Rattle.dta.specs.Assignment.{AreIterations, times_of}
+use Rattle.dta.specs.Jobs.{JobRows, plan_of, traffic_of}
 
 -- a text for an output
 pub record OutText : Type 0 where
@@ -85,23 +95,9 @@ AreWatchTexts s job number (routes ∷ others) texts =
     (lines : List OutText) × (more : List OutText) × AreWatchLines s job number routes lines
     × AreWatchTexts s job (number + 1) others more × (texts ≡ lines ++ more)
 
--- how many vehicles have no route
-abbrev pub unrouted : VehicleRoutes → ℕ
-unrouted routes = count_by is_none routes
-
 -- the numbers of a report: those of the last iteration, over its routes and its gap
 abbrev pub summary_of : Settings → JobRows → VehicleRoutes → GapLine → Summary
-summary_of s job last line = record {
-  nodes = length job.net.nodes;
-  links = length job.net.links;
-  vehicles = length job.trips;
-  unrouted = unrouted last;
-  iterations = s.iterations;
-  arrived = (end_of s job last).arrived;
-  running = (end_of s job last).running;
-  waiting = (end_of s job last).waiting;
-  gap = line;
-}
+summary_of s job last line = summary_over s (traffic_of job) last line
 
 -- the iterations in which the vehicles took their last routes, which are told exactly where a
 -- start table is asked for
@@ -172,6 +168,36 @@ pub record AreSkimmed (s : Settings) (job : JobRows) (texts : List OutText) : Ty
       entries
   pub texts_are : texts ≡ skim_texts job.net entries
 
+-- Sweep and Report of these scenarios
+abbrev pub sweep_texts : List Scenario → List OutText
+sweep_texts scenarios =
+    text_to output.Sweep (sweep_text scenarios)
+    ∷ text_to output.Report (sweep_report_line (length scenarios)) ∷ []
+
+-- the texts of `sweep`: the assignments for the multiples of the demand
+pub record AreSwept (s : Settings) (job : JobRows) (texts : List OutText) : Type 0 where
+  pub scenarios : List Scenario
+  pub sweep : AreScenarios s job.net job.demand_cells s.scales scenarios
+  pub texts_are : texts ≡ sweep_texts scenarios
+
+-- how the loading was made that is audited
+abbrev pub audit_plan : Settings → Plan
+audit_plan s =
+    record { queue = s.queue; delta = s.units.delta; horizon = s.horizon; bucket = s.bucket }
+
+-- the verdict on the agents and the link times of a job
+abbrev pub IsAudited : Settings → JobRows → Verdict → Type 0
+IsAudited s job v = IsAudit job.net job.trips job.agents job.times (audit_plan s) v
+
+-- Report of an audit that found nothing
+abbrev pub audit_texts : JobRows → List OutText
+audit_texts job = text_to output.Report (audit_text job.net (length job.trips) None) ∷ []
+
+-- the texts of `audit` where no check fails
+pub record AreAudited (s : Settings) (job : JobRows) (texts : List OutText) : Type 0 where
+  pub passes : IsAudited s job verdict.Yes
+  pub texts_are : texts ≡ audit_texts job
+
 -- whether a text is for Watch
 abbrev pub is_watch : Output → Bool
 is_watch output.Watch = true
@@ -181,6 +207,7 @@ is_watch output.Gap = false
 is_watch output.Report = false
 is_watch output.Skim = false
 is_watch output.Counts = false
+is_watch output.Sweep = false
 
 -- the texts but those for Watch
 abbrev pub but_watch : List OutText → List OutText
@@ -216,10 +243,14 @@ pub record AreWatched (s : Settings) (job : JobRows) (texts : List OutText) : Ty
 abbrev pub AreTexts : Command → Settings → JobRows → List OutText → Type 0
 AreTexts command.Freeflow s job texts = texts ≡ free_texts job.net
 AreTexts command.Skim s job texts = AreSkimmed s job texts
+AreTexts command.Sweep s job texts = AreSwept s job texts
+AreTexts command.Audit s job texts = AreAudited s job texts
 AreTexts c s job texts = AreAssigned s job texts
 
 -- texts of a run's work as far as it came
 abbrev pub AreTextsSoFar : Command → Settings → JobRows → List OutText → Type 0
 AreTextsSoFar command.Freeflow s job texts = texts ≡ free_texts job.net
 AreTextsSoFar command.Skim s job texts = AreSkimmed s job texts
+AreTextsSoFar command.Sweep s job texts = AreSwept s job texts
+AreTextsSoFar command.Audit s job texts = AreAudited s job texts
 AreTextsSoFar c s job texts = AreAssigned s job texts ⊎ AreWatched s job texts

@@ -12,7 +12,8 @@ use Rattle.dta_words.specs.declared.command.Command.TheVariants as command
 use Rattle.dta_words.specs.declared.command.Settings.{Settings}
 use Rattle.counts.specs.Through.{through_counts}
 use Rattle.counts.specs.Turns.{IsOfNet, turn_counts}
-use Rattle.dta.specs.Assignment.{AreIterations, VehicleRoutes, end_of, times_of}
+use Rattle.sweep.specs.Assignment.{VehicleRoutes}
+use Rattle.dta.specs.Assignment.{AreIterations, end_of, times_of}
 use Rattle.dta.specs.Jobs.{AreRoutesOf, JobRows, plan_of}
 use Rattle.dta.specs.Outputs.{AreSinceTold, AreWatchLines, AreWatchTexts, AreWatched, IsCutOff}
 use Rattle.dta.specs.Outputs.{OutText}

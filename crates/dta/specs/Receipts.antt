@@ -28,10 +28,12 @@ receipts_of true loadings = 0
 receipts_of false loadings = loadings
 
 -- how many the whole work of a command gives: one for each iteration that is loaded by workers;
--- `freeflow` and `skim` load nothing
+-- a sweep and an audit load plainly, and `freeflow` and `skim` not at all
 abbrev pub receipts_in : Command → Settings → ℕ
 receipts_in command.Freeflow s = 0
 receipts_in command.Skim s = 0
+receipts_in command.Sweep s = 0
+receipts_in command.Audit s = 0
 receipts_in c s = receipts_of s.plain s.iterations
 
 -- the gate took so many receipts with these numbers, one after another

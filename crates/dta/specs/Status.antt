@@ -4,7 +4,7 @@ use Rattle.reports.specs.declared.refusal.Refusal.{Refusal}
 use Rattle.reports.specs.declared.refusal.Refusal.TheVariants as refusal
 use Rattle.dta.specs.declared.status.Status.{Status}
 use Rattle.dta.specs.declared.status.Status.TheVariants.{Done, Usage, Table, ReadFault}
-use Rattle.dta.specs.declared.status.Status.TheVariants.{WriteFault, Memory, Size}
+use Rattle.dta.specs.declared.status.Status.TheVariants.{WriteFault, Memory, Size, Differs}
 
 abbrev pub number_of : Status → ℕ
 number_of Done = 0
@@ -14,6 +14,7 @@ number_of ReadFault = 4
 number_of WriteFault = 5
 number_of Memory = 6
 number_of Size = 7
+number_of Differs = 8
 
 -- the status of a run that is refused
 abbrev pub refusal_status : Refusal → Status
@@ -24,3 +25,4 @@ refusal_status (refusal.LongTable _) = Size
 refusal_status (refusal.Cells _ _) = Size
 refusal_status (refusal.Vehicles _ _) = Size
 refusal_status (refusal.SkimPairs _) = Size
+refusal_status (refusal.SweepCells _ _) = Size

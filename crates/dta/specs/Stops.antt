@@ -1,5 +1,5 @@
 -- What stops a run before its work.
-use Rattle.std.specs.Prelude.{◌≡◌, ◌<◌, ◌*◌, ⊤, List, length}
+use Rattle.std.specs.Prelude.{ℕ, ◌≡◌, ◌<◌, ◌*◌, ⊤, List, length}
 use Rattle.desk_io.specs.declared.desk.Table.{Table}
 use Rattle.desk_io.specs.Transfers.{IsBegun, IsLong}
 use Rattle.row_reader.specs.declared.faults.TableRefusal.{TableRefusal}
@@ -14,8 +14,11 @@ use Rattle.dta.specs.declared.stop.Stop.TheVariants.{Refused, Memory}
 use Rattle.vehicle_release.specs.Limits.{IsFirstAbove}
 use Rattle.vehicle_release.specs.declared.fault.ReleaseFault.{ReleaseFault}
 use Rattle.vehicle_release.specs.declared.fault.ReleaseFault.TheVariants as release
-use Rattle.reports.specs.declared.refusal.TheConstants.{MOST_SKIM_ENTRIES}
-use Rattle.dta.specs.Jobs.{HasRoom, skim_entries, tables_of}
+use Rattle.reports.specs.declared.refusal.TheConstants.{MOST_SKIM_ENTRIES, MOST_SWEEP_LINK_STEPS}
+use Rattle.sweep.specs.Scales.{IsFirstTooMany}
+use Rattle.sweep.specs.declared.fault.SweepFault.{SweepFault}
+use Rattle.sweep.specs.declared.fault.SweepFault.TheVariants as sweep
+use Rattle.dta.specs.Jobs.{HasRoom, HasSweepRoom, skim_entries, tables_of}
 use Rattle.dta.specs.Outcome.{DeskState, ReadsFailed, IsCause, IsCauseAmong, IsCutIn, IsCutShort}
 use Rattle.dta.specs.Tables.{ReachedAmong, IsFaulty, TableRows}
 
@@ -28,6 +31,11 @@ stop_of table_refusal.Memory = Memory
 abbrev pub stop_at_release : ReleaseFault → Stop
 stop_at_release (release.TooMany line total) = Refused (refusal.Vehicles line total)
 stop_at_release release.Memory = Memory
+
+-- and what scenarios with too many vehicles stop
+abbrev pub stop_at_scale : SweepFault → Stop
+stop_at_scale (sweep.TooMany scenario line total) = Refused (refusal.Vehicles line total)
+stop_at_scale sweep.Memory = Memory
 
 -- the reading stopped at a table, where these rows were accepted before
 abbrev pub StopsAt : Settings → Table → TableRows → Stop → DeskState → DeskState → Type 0
@@ -42,6 +50,7 @@ StopsAt settings t rows (Refused (refusal.LongTable u)) before after =
 StopsAt settings t rows (Refused (refusal.Cells links steps)) before after = ⊥
 StopsAt settings t rows (Refused (refusal.Vehicles line total)) before after = ⊥
 StopsAt settings t rows (Refused (refusal.SkimPairs number)) before after = ⊥
+StopsAt settings t rows (Refused (refusal.SweepCells links steps)) before after = ⊥
 
 -- the reading of these tables ended in this stop, at one of them
 abbrev pub StopsAmong : Settings → List Table → TableRows → Stop → DeskState → DeskState → Type 0
@@ -67,6 +76,16 @@ StopsSkim s rows (Refused (refusal.Cells links steps)) =
 StopsSkim s rows (Refused (refusal.SkimPairs number)) =
     HasRoom s rows × (number ≡ skim_entries s rows) × (MOST_SKIM_ENTRIES < number)
 StopsSkim s rows (Refused _) = ⊥
+
+-- the same of a sweep's tables
+abbrev pub StopsSweep : Settings → TableRows → Stop → Type 0
+StopsSweep s rows Memory = ⊤
+StopsSweep s rows (Refused (refusal.SweepCells links steps)) =
+    (links ≡ length rows.links) × (steps ≡ s.horizon) × (MOST_SWEEP_LINK_STEPS < links * steps)
+StopsSweep s rows (Refused (refusal.Vehicles line total)) =
+    HasSweepRoom s rows
+    × ((scenario : ℕ) × IsFirstTooMany rows.demand_cells s.scales scenario line total)
+StopsSweep s rows (Refused _) = ⊥
 
 -- a count of failed reads rose where a table couldn't be read
 abbrev pub HasFault : Refusal → DeskState → DeskState → Type 0

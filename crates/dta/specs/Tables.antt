@@ -22,9 +22,13 @@ use Rattle.gmns_tables.specs.declared.with_windows.WithWindows.{WithWindows}
 use Rattle.demand.specs.DemandRows.{demand_verdict}
 use Rattle.route_flows.specs.StartTable.{start_verdict}
 use Rattle.route_flows.specs.declared.start_rows.StartRow.{StartRow}
+use Rattle.audit.specs.Agents.{agents_verdict}
+use Rattle.audit.specs.declared.agent_rows.AgentRow.{AgentRow}
 use Rattle.skims.specs.TimesTable.{times_verdict}
 use Rattle.skims.specs.declared.time_rows.TimeRow.{TimeRow}
 use Rattle.desk_io.specs.declared.transfers.TheConstants.{MOST_TABLE_BYTES}
+use Rattle.dta_words.specs.declared.command.Command.{Command}
+use Rattle.dta_words.specs.declared.command.Command.TheVariants as command
 use Rattle.dta_words.specs.declared.command.Settings.{Settings}
 
 -- the tables of a network's nodes and links, those of a network with its turns, and those that
@@ -51,6 +55,11 @@ loading_tables start = all_tables ++ start_tables start
 abbrev pub skim_tables : List Table
 skim_tables = table.Node ∷ table.Link ∷ table.Movement ∷ table.Times ∷ []
 
+-- the tables of an audit: those of an assignment, the agent table and the link times that are
+-- audited
+abbrev pub audit_tables : List Table
+audit_tables = all_tables ++ table.Start ∷ table.Times ∷ []
+
 -- the rows of the tables that were accepted so far; those of the others are missing. Links and
 -- turns stand with the windows of their capacities
 pub record TableRows : Type 0 where
@@ -60,9 +69,18 @@ pub record TableRows : Type 0 where
   pub demand_cells : List DemandCell
   pub start : List StartRow
   pub times : List TimeRow
+  pub agents : List AgentRow
 
 abbrev pub no_rows : TableRows
-no_rows = record { nodes = []; links = []; turns = []; demand_cells = []; start = []; times = [] }
+no_rows = record {
+  nodes = [];
+  links = [];
+  turns = [];
+  demand_cells = [];
+  start = [];
+  times = [];
+  agents = [];
+}
 
 -- the rows of a node and a link table
 abbrev pub road_rows : List NodeRow → List (WithWindows LinkRow) → TableRows
@@ -79,6 +97,14 @@ turns_of settings rows [] = Ok []
 turns_of settings rows (byte ∷ bytes) =
     movement_verdict rows.nodes (rows_of rows.links) settings.units (records (byte ∷ bytes))
 
+-- the rows with those of an agent table: a start table, or for an audit all that it tells of its
+-- vehicles
+abbrev pub with_agents : Command → TableRows → List ℕ → Result TableRows TableFault
+with_agents command.Audit rows bytes =
+    then_with (agents_verdict (records bytes)) (λ agents. Ok (record rows { agents = agents }))
+with_agents c rows bytes =
+    then_with (start_verdict (records bytes)) (λ start. Ok (record rows { start = start }))
+
 -- the rows with those of one more table, or that table's first fault
 abbrev pub with_table : Settings → TableRows → Table → List ℕ → Result TableRows TableFault
 with_table settings rows table.Node bytes =
@@ -91,8 +117,7 @@ with_table settings rows table.Movement bytes =
 with_table settings rows table.Demand bytes =
     then_with (demand_verdict (records bytes))
     (λ demand_cells. Ok (record rows { demand_cells = demand_cells }))
-with_table settings rows table.Start bytes =
-    then_with (start_verdict (records bytes)) (λ start. Ok (record rows { start = start }))
+with_table settings rows table.Start bytes = with_agents settings.command rows bytes
 with_table settings rows table.Times bytes =
     then_with (times_verdict (net_of rows) settings.bucket settings.horizon (records bytes))
     (λ times. Ok (record rows { times = times }))

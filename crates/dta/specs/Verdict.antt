@@ -19,7 +19,8 @@ use Rattle.dta_words.specs.Grammar.{settings_of}
 use Rattle.dta_words.specs.declared.command.Command.{Command}
 use Rattle.dta_words.specs.declared.command.Command.TheVariants as command
 use Rattle.dta_words.specs.declared.command.Settings.{Settings}
-use Rattle.reports.specs.declared.refusal.TheConstants.{MOST_SKIM_ENTRIES}
+use Rattle.reports.specs.declared.refusal.TheConstants.{MOST_SKIM_ENTRIES, MOST_SWEEP_LINK_STEPS}
+use Rattle.sweep.specs.Scales.{scaled}
 use Rattle.dta.specs.Jobs.{JobRows, job_of, skim_entries, tables_of, read_tables}
 use Rattle.dta.specs.Tables.{AreTold, TableRows, no_rows, with_table}
 
@@ -88,9 +89,30 @@ verdict_on_skim s rows =
     else Refused (refusal.SkimPairs (skim_entries s rows)))
     else Refused (refusal.Cells (length rows.links) s.horizon)
 
+-- the scenarios of a sweep: the first whose vehicles are too many is told
+abbrev pub verdict_on_scenario : List DemandCell → Option ℕ → Verdict → Verdict
+verdict_on_scenario demand_cells None next = next
+verdict_on_scenario demand_cells (Some row) next = Refused (refusal.Vehicles
+    (line_in (slice_get demand_cells row))
+    (vehicles_before demand_cells (row + 1)))
+
+abbrev pub verdict_on_scales : List DemandCell → List ℕ → Verdict → Verdict
+verdict_on_scales demand_cells [] next = next
+verdict_on_scales demand_cells (scale ∷ scales) next =
+    verdict_on_scenario (scaled scale demand_cells) (first_above (scaled scale demand_cells))
+    (verdict_on_scales demand_cells scales next)
+
+-- the sizes of a sweep: its links times its steps, and then the vehicles of each scenario
+abbrev pub verdict_on_sweep : Settings → TableRows → Verdict
+verdict_on_sweep s rows =
+    if nat_le (length rows.links * s.horizon) MOST_SWEEP_LINK_STEPS
+    then verdict_on_scales rows.demand_cells s.scales (Accepted s (job_of s rows))
+    else Refused (refusal.SweepCells (length rows.links) s.horizon)
+
 abbrev pub verdict_on_rows : Command → Settings → TableRows → Verdict
 verdict_on_rows command.Freeflow s rows = Accepted s (job_of s rows)
 verdict_on_rows command.Skim s rows = verdict_on_skim s rows
+verdict_on_rows command.Sweep s rows = verdict_on_sweep s rows
 verdict_on_rows c s rows = verdict_on_sizes s rows
 
 abbrev pub verdict_by : Option Settings → (Table → List ℕ) → Verdict

@@ -8,6 +8,7 @@
 #![tactic(auto)]
 
 mod arguments;
+mod audited;
 mod counted;
 mod halt;
 mod iterate;
@@ -22,6 +23,7 @@ mod sizes;
 mod skimmed;
 mod status;
 mod stop;
+mod swept;
 mod tables;
 #[cfg(test)]
 mod tests;

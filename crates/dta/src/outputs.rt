@@ -161,8 +161,7 @@ pub(crate) fn put_assigned<D: Desk>(
             put_counted(desk, settings, job, assigned)?;
             put_report(desk, settings, job, assigned)
         }
-        Command::Freeflow | Command::Skim | Command::Demo(_) => {
-            put_report(desk, settings, job, assigned)
-        }
+        Command::Freeflow | Command::Demo(_) | Command::Skim | Command::Sweep | Command::Audit =>
+            put_report(desk, settings, job, assigned),
     }
 }

@@ -1,27 +1,32 @@
 // The public call.
 ghost use Rattle.std.specs.Prelude.{◌≡◌, ◌≢◌, ◌≤◌, ℕ, List, None, Some};
 ghost use Rattle.dta_words.specs.Ranges.{AreSettings};
-ghost use Rattle.dta.specs.Jobs.{IsJob, Loads};
+ghost use Rattle.dta.specs.Jobs.{IsJob, Assigns};
 ghost use Rattle.desk_io.specs.declared.desk.Table.{Table};
 ghost use Rattle.dta_model.specs.Laws.{JourneysEndInOrder, LeftInOrder, VehiclesAreConserved};
 ghost use Rattle.dta_words.specs.Grammar.{settings_of};
 ghost use Rattle.loader.specs.Gates.{gate_of};
 ghost use Rattle.dta.specs.Status.{refusal_status as status_of_refusal};
 ghost use Rattle.dta.specs.declared.status.Status.TheVariants as status;
+ghost use Rattle.dta.specs.Laws.{AuditsAreDetermined, ScenariosAreAlone};
 ghost use Rattle.dta.specs.Laws.{TextsAreDetermined, TextsInAnyOrder};
 ghost use Rattle.dta.specs.Calls.{DoesWork, Refuses};
 ghost use Rattle.dta.specs.Outcome.{state_of, Means, Answers};
 ghost use Rattle.dta.specs.Receipts.{RunGives, ToldGives, WorkGives};
 ghost use Rattle.dta.specs.Verdict.{verdict, AreToldBy};
 
+use crate::audited::put_verdict;
 use crate::halt::Halt;
 use crate::iterate::iterate;
 use crate::job::{Job, accept};
-use crate::laws::{texts_are_determined, texts_in_any_order};
+use crate::laws::{
+    audits_are_determined, scenarios_are_alone, texts_are_determined, texts_in_any_order,
+};
 use crate::outputs::put_assigned;
 use crate::skimmed::put_least_times;
 use crate::status::Status;
 use crate::stop::Stop;
+use crate::swept::put_scenarios;
 use desk_io::{Desk, Failed};
 use dta_model::{journeys_end_in_order, links_are_left_in_order, vehicles_are_conserved};
 use dta_words::{Command, Settings, Words, WordsRefusal, settings};
@@ -41,7 +46,8 @@ fn refusal_status(refusal: Refusal) -> Status
         Refusal::LongTable(_)
         | Refusal::Cells { .. }
         | Refusal::Vehicles { .. }
-        | Refusal::SkimPairs { .. } => Status::Size,
+        | Refusal::SkimPairs { .. }
+        | Refusal::SweepCells { .. } => Status::Size,
     }
 }
 
@@ -65,7 +71,7 @@ fn assign<R: AllocGlobal + Threads + Wait + Sync, D: Desk + Send, G: Gate + Sync
 ) -> Status
     requires settings { AreSettings settings.now }
     requires job { IsJob settings.now job.now }
-    requires command { Loads settings.now.command }
+    requires command { Assigns settings.now.command }
     ensures works { let state = state_of D.left D.taken D.read_faults D.put_faults in
         DoesWork settings.now job.now (state desk.old) (state desk.new) result }
     ensures receipts { let shown = gate_of G.closes G.last in
@@ -102,6 +108,8 @@ fn work<R: AllocGlobal + Threads + Wait + Sync, D: Desk + Send, G: Gate + Sync>(
             Err(Failed) => Status::WriteFault,
         },
         Command::Skim => put_least_times(rt.alloc(), settings, job, desk),
+        Command::Sweep => put_scenarios(rt, settings, job, desk),
+        Command::Audit => put_verdict(rt.alloc(), settings, job, desk),
         Command::Assign | Command::Demo(_) | Command::Counts => {
             assign(rt, settings, job, gate, desk)
         }
@@ -166,7 +174,10 @@ fn answer<R: AllocGlobal + Threads + Wait + Sync, D: Desk + Send, G: Gate + Sync
 /// `demo` does the same over a made grid, and puts the report alone. `counts` does the work of
 /// `assign` and puts the counts of turns over the last loading, and through a link, to Counts, and
 /// Report. `skim` reads a network and a table of link times, and puts the least times between all
-/// zones to Skim, and Report. With a watch, each iteration puts lines of counts to Watch, the last
+/// zones to Skim, and Report. `sweep` puts the texts of an assignment for each multiple of the demand
+/// to Sweep, and Report. `audit` reads an agent table and a table of link times beside those of an
+/// assignment, and reports whether they are what the plain loading over the agents' routes gives, or
+/// the first place that differs, and then answers Differs. With a watch, each iteration puts lines of counts to Watch, the last
 /// one once it is loaded. Loadings are by workers, who pass the gate, unless the words ask for the
 /// plain loader.
 ///
@@ -204,6 +215,12 @@ pub fn run<R: AllocGlobal + Threads + Wait + Sync, D: Desk + Send, G: Gate + Syn
     // They are the same where loadings take the nodes of a step in any order.
     ensures any_order { TextsInAnyOrder }
 
+    // A scenario of a sweep has the texts of the assignment over the demand times its scale.
+    ensures swept_alone { ScenariosAreAlone }
+
+    // An audit has one verdict, so that its status is Differs exactly where some check fails.
+    ensures audited { AuditsAreDetermined }
+
     // The gate took one receipt for each iteration that was loaded by workers, and none otherwise;
     // where the work wasn't done at most as many.
     ensures receipts { let shown = gate_of G.closes G.last in
@@ -222,5 +239,7 @@ pub fn run<R: AllocGlobal + Threads + Wait + Sync, D: Desk + Send, G: Gate + Syn
     journeys_end_in_order();
     texts_are_determined();
     texts_in_any_order();
+    scenarios_are_alone();
+    audits_are_determined();
     answer(rt, words, gate, desk)
 }

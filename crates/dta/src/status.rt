@@ -17,8 +17,10 @@ pub enum Status {
     WriteFault,
     /// There was no memory.
     Memory,
-    /// A table is too long, or the loading is too large. Report has the limit.
+    /// A table is too long, or the work is too large. Report has the limit.
     Size,
+    /// The tables of an audit differ from what was computed. Report names the first place.
+    Differs,
 }
 
 impl Status {
@@ -34,6 +36,7 @@ impl Status {
             Status::WriteFault => 5,
             Status::Memory => 6,
             Status::Size => 7,
+            Status::Differs => 8,
         }
     }
 }

@@ -1,11 +1,12 @@
 // Why a run stops before its work.
 ghost use Rattle.std.specs.Prelude.{◌≡◌};
-ghost use Rattle.dta.specs.Stops.{stop_at_release, stop_of};
+ghost use Rattle.dta.specs.Stops.{stop_at_release, stop_at_scale, stop_of};
 ghost use Rattle.dta.specs.declared.stop.Stop.TheVariants as stop;
 
 use reports::Refusal;
 use row_reader::TableRefusal;
 use std::alloc::AllocError;
+use sweep::SweepFault;
 use vehicle_release::ReleaseFault;
 
 /// Why a run stops before its work.
@@ -45,6 +46,19 @@ impl From<ReleaseFault> for Stop {
                 Stop::Refused(Refusal::Vehicles { line, total })
             }
             ReleaseFault::Memory => Stop::Memory,
+        }
+    }
+}
+
+impl From<SweepFault> for Stop {
+    ghost from_gives = { λ why e. e ≡ stop_at_scale why };
+
+    fn from(why: SweepFault) -> Self {
+        match why {
+            SweepFault::TooMany { line, total, .. } => {
+                Stop::Refused(Refusal::Vehicles { line, total })
+            }
+            SweepFault::Memory => Stop::Memory,
         }
     }
 }

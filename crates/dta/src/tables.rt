@@ -5,6 +5,7 @@ ghost use Rattle.demand.specs.DemandRows.{AreDemandCells};
 ghost use Rattle.gmns_tables.specs.Net.{listed_turns, net_of as joined};
 ghost use Rattle.gmns_tables.specs.RowsWithWindows.{AreLinkRows, AreTurnRows, rows_of};
 ghost use Rattle.dta_words.specs.Ranges.{AreSettings};
+ghost use Rattle.dta_words.specs.declared.command.Command.TheVariants as command;
 ghost use Rattle.dta_words.specs.declared.command.Settings.{Settings};
 ghost use Rattle.net_core.specs.Network.{IsNet};
 ghost use Rattle.net_core.specs.Rows.{AreNodes, IsBetween, IsTurning};
@@ -12,8 +13,8 @@ ghost use Rattle.route_flows.specs.Starts.{AreStartRows};
 ghost use Rattle.row_reader.specs.FirstFault.{Tells};
 ghost use Rattle.dta.specs.Calls.{Accepts, AcceptsAll, IsWhole, OnlyReads};
 ghost use Rattle.dta.specs.Calls.{rows_in_roads, rows_in_tables, rows_with_turns};
-ghost use Rattle.dta.specs.Calls.{rows_in_network, with_demand_cells, with_start_rows};
-ghost use Rattle.dta.specs.Calls.{with_time_rows};
+ghost use Rattle.dta.specs.Calls.{rows_in_network, with_agent_rows, with_demand_cells};
+ghost use Rattle.dta.specs.Calls.{with_start_rows, with_time_rows};
 ghost use Rattle.skims.specs.GivenTimes.{AreRowsOf};
 ghost use Rattle.dta.specs.Outcome.{state_of};
 ghost use Rattle.dta.specs.Stops.{StopsAt};
@@ -21,6 +22,7 @@ ghost use Rattle.dta.specs.Tables.{TableRows, loading_tables, no_rows, road_rows
 ghost use Rattle.dta.specs.Tables.{net_of, network_tables, turns_of};
 
 use crate::stop::Stop;
+use audit::{AgentRows, read_agents};
 use demand::read_demand;
 use desk_io::{Desk, MOST_TABLE_BYTES, ReadRefusal, Table, read_table};
 use dta_model::DemandCell;
@@ -161,13 +163,24 @@ fn accept_demand_cells<D: Desk>(alloc: Global, desk: &mut D) -> Result<Vec<Deman
 // Reads and checks the start table.
 fn accept_start<D: Desk>(alloc: Global, desk: &mut D) -> Result<StartRows, Stop>
     ensures reads { let state = state_of D.left D.taken D.read_faults D.put_faults in
-        (settings : Settings) (rows : TableRows)
+        (settings : Settings) (rows : TableRows) → settings.command ≡ command.Assign
         → Accepts settings table.Start rows (with_start_rows rows)
         (state desk.old) (state desk.new) result }
     ensures sound { IfOk result AreStartRows }
 {
     let bytes = bytes_of(alloc, desk, Table::Start)?;
     Ok(read_start(alloc, &bytes)?)
+}
+
+/// Reads and checks the agent table of an audit.
+pub(crate) fn accept_agents<D: Desk>(alloc: Global, desk: &mut D) -> Result<AgentRows, Stop>
+    ensures reads { let state = state_of D.left D.taken D.read_faults D.put_faults in
+        (settings : Settings) (rows : TableRows) → settings.command ≡ command.Audit
+        → Accepts settings table.Start rows (with_agent_rows rows)
+        (state desk.old) (state desk.new) result }
+{
+    let bytes = bytes_of(alloc, desk, Table::Start)?;
+    Ok(read_agents(alloc, &bytes)?)
 }
 
 /// Reads and checks a table of link times over an accepted network.

@@ -3,6 +3,7 @@ mod faults;
 mod held;
 mod refusals;
 mod skims_and_counts;
+mod sweeps_and_audits;
 mod whole_runs;
 mod windows_waves_and_starts;
 mod workers;

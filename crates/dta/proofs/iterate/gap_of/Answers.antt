@@ -1,4 +1,4 @@
-use Rattle.std.proofs.Common.{ap}
+use Rattle.std.proofs.Common.{ap, ◌∙◌}
 use Rattle.dta.specs.Jobs.{JobRows}
 use Rattle.dta.proofs.IterateFacts.{table-links, walks-of}
 use Rattle.dta.proofs.iterate.gap_of.Goals as goal
@@ -9,4 +9,4 @@ gap_by_shares-requires-clause-table g c _ _ =
 
 pub gap_by_shares-requires-clause-walks : goal.gap_by_shares-requires-clause-walks
 gap_by_shares-requires-clause-walks g c _ _ =
-    walks-of {start = c.job.inside.start} {times = c.job.inside.times} c.args.job.now c.job.inside.net c.as_slice-trips.result.now c.args.routes.now (rw c.as_slice-trips.ensures.value c.job.view_is) c.requires.routes
+    walks-of c.args.job.now c.job.inside.net c.as_slice-trips.result.now c.args.routes.now (ap (λ (j : JobRows). j.net) c.job.view_is) (c.as_slice-trips.ensures.value ∙ ap (λ (j : JobRows). j.trips) c.job.view_is) c.requires.routes

@@ -1,4 +1,4 @@
-use Rattle.std.proofs.Common.{ap}
+use Rattle.std.proofs.Common.{ap, ◌∙◌}
 use Rattle.dta.specs.Jobs.{JobRows}
 use Rattle.dta.proofs.IterateFacts.{routes-of, table-links, walks-of}
 use Rattle.dta.proofs.iterate.leave.Goals as goal
@@ -10,8 +10,8 @@ gap_and_next_routes-requires-clause-table g c _ _ =
 pub gap_and_next_routes-requires-clause-walks : goal.gap_and_next_routes-requires-clause-walks
 gap_and_next_routes-requires-clause-walks g c _ _ =
     rw c.replace-old.ensures.value
-    (walks-of {start = c.job.inside.start} {times = c.job.inside.times} c.args.job.now c.job.inside.net c.as_slice-trips.result.now c.args.routes.now (rw c.as_slice-trips.ensures.value c.job.view_is) c.requires.routes)
+    (walks-of c.args.job.now c.job.inside.net c.as_slice-trips.result.now c.args.routes.now (ap (λ (j : JobRows). j.net) c.job.view_is) (c.as_slice-trips.ensures.value ∙ ap (λ (j : JobRows). j.trips) c.job.view_is) c.requires.routes)
 
 pub returns-clause-routes : goal.returns-clause-routes
 returns-clause-routes g c =
-    routes-of {start = c.job.inside.start} {times = c.job.inside.times} c.args.job.now c.job.inside.net c.as_slice-trips.result.now c.in_ok-line.next (rw c.as_slice-trips.ensures.value c.job.view_is) c.in_ok-line.ensures.next.as_many c.in_ok-line.ensures.walks
+    routes-of c.args.job.now c.job.inside.net c.as_slice-trips.result.now c.in_ok-line.next (ap (λ (j : JobRows). j.net) c.job.view_is) (c.as_slice-trips.ensures.value ∙ ap (λ (j : JobRows). j.trips) c.job.view_is) c.in_ok-line.ensures.next.as_many c.in_ok-line.ensures.walks

@@ -1,5 +1,5 @@
 use Rattle.std.proofs.Common.{arith, refl, rules}
-use Rattle.dta.proofs.JobFacts.{free-own, free-stop, loaded-own, loaded-stop, skim-own, skim-stop}
+use Rattle.dta.proofs.JobFacts.{audit-own, audit-stop, free-own, free-stop, loaded-own, loaded-stop, skim-own, skim-stop, sweep-own, sweep-stop}
 use Rattle.dta.proofs.job.accept.Goals as goal
 
 pub returns-in-Freeflow-clause-reads : goal.returns-in-Freeflow-clause-reads
@@ -43,3 +43,25 @@ returns-in-Demo-clause-reads g c = record {
   taken = refl;
   puts = refl;
 }
+
+pub returns-in-Sweep-clause-reads : goal.returns-in-Sweep-clause-reads
+returns-in-Sweep-clause-reads g c =
+    let r = c.accept_sweep.ensures.reads in
+    record {
+      done = sweep-own c.args.settings.now c.accept_sweep.result _ _ (search rules) r.done;
+      stops = sweep-stop c.args.settings.now c.accept_sweep.result _ _ (search rules) r.stops;
+      later = r.later;
+      taken = r.taken;
+      puts = r.puts;
+    }
+
+pub returns-in-Audit-clause-reads : goal.returns-in-Audit-clause-reads
+returns-in-Audit-clause-reads g c =
+    let r = c.accept_audit.ensures.reads in
+    record {
+      done = audit-own c.args.settings.now c.accept_audit.result _ _ (search rules) r.done;
+      stops = audit-stop c.args.settings.now c.accept_audit.result _ _ (search rules) r.stops;
+      later = r.later;
+      taken = r.taken;
+      puts = r.puts;
+    }

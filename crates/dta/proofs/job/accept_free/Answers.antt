@@ -1,4 +1,5 @@
-use Rattle.std.proofs.Common.{[], ◌≡◌, ◌∙◌, inr, sym}
+use Rattle.std.proofs.Common.{[], ◌≡◌, ◌∙◌, inr, subst, sym}
+use Rattle.dta.specs.Jobs.{TakesTimes}
 use Rattle.dta_words.specs.declared.command.Command.TheVariants as command
 use Rattle.std.proofs.lemmas.List.Elements.{All-nil}
 use Rattle.std.proofs.lemmas.Result.{err_from_is_err_and}
@@ -30,7 +31,7 @@ pub returns-clause-reads : goal.returns-clause-reads
 returns-clause-reads g c =
     let r = c.in_ok-roads.ensures.reads in
     record {
-      done = rw (c.in_ok-net.ensures, c.new-trips.ensures.items, c.new-start.ensures, c.of-times.ensures, c.new.ensures.items)
+      done = rw (c.in_ok-net.ensures, c.new-trips.ensures.items, c.new-start.ensures, c.of-times.ensures, c.new.ensures.items, c.new-demand_cells.ensures.items, c.of-agents.ensures, c.new-2.ensures.items)
           (free-job c.args.settings.now c.requires.command c.in_ok-roads.roads.nodes c.in_ok-roads.roads.links _ _ r.done);
       stops = tt;
       later = r.later;
@@ -45,5 +46,6 @@ returns-clause-sound g c = record {
       c.in_ok-roads.ensures.between no-turns (All-nil (IsTurning (rows_of c.in_ok-roads.roads.links))));
   trips = rw (c.new-trips.ensures.items) (no-trips c.args.settings.now.horizon);
   start = rw (c.new-start.ensures) no-start-rows;
-  times = λ asks. let same : command.Freeflow ≡ command.Skim = sym c.requires.command ∙ asks in absurd cc;
+  times = λ takes. absurd (subst TakesTimes c.requires.command takes);
+  sweep = λ asks. let same : command.Freeflow ≡ command.Sweep = sym c.requires.command ∙ asks in absurd cc;
 }

@@ -1,4 +1,5 @@
-use Rattle.std.proofs.Common.{[], ◌∷◌, ◌∙◌, arith, refl, sym}
+use Rattle.std.proofs.Common.{[], ◌∷◌, ◌≡◌, ◌∙◌, arith, refl, sym}
+use Rattle.dta_words.specs.declared.command.Command.TheVariants as command
 use Rattle.std.proofs.lemmas.Result.{err_from_is_err_and}
 use Rattle.desk_io.specs.declared.desk.Table.TheVariants as table
 use Rattle.dta.specs.Calls.{rows_in_network, with_time_rows}
@@ -85,8 +86,8 @@ returns-clause-reads g c =
     let read = accepted-both s network_tables (table.Times ∷ []) no_rows rows all _ _ _ r.done
     (accepted-one s table.Times rows all _ _ t.done) in
     record {
-      done = rw (c.in_ok-net.ensures, c.new-trips.ensures.items, c.new-start.ensures)
-          (skim-job s c.requires.command all _ _ read (c.in_ok-skim_sizes.ensures.within all (sym c.in_ok-net.ensures)) refl refl);
+      done = rw (c.in_ok-net.ensures, c.new-trips.ensures.items, c.new-start.ensures, c.new-demand_cells.ensures.items, c.of-agents.ensures, c.new.ensures.items)
+          (skim-job s c.requires.command all _ _ read (c.in_ok-skim_sizes.ensures.within all (sym c.in_ok-net.ensures)) refl refl refl);
       stops = tt;
       later = (let a = r.later in let b = t.later in omega (arith, a, b));
       taken = t.taken ∙ r.taken;
@@ -98,5 +99,6 @@ returns-clause-sound g c = record {
   net = rw (c.in_ok-net.ensures) c.in_ok-network.ensures.net;
   trips = rw (c.new-trips.ensures.items) (no-trips c.args.settings.now.horizon);
   start = rw (c.new-start.ensures) no-start-rows;
-  times = λ asks. c.in_ok-times.ensures.sound;
+  times = λ takes. c.in_ok-times.ensures.sound;
+  sweep = λ asks. let same : command.Skim ≡ command.Sweep = sym c.requires.command ∙ asks in absurd cc;
 }

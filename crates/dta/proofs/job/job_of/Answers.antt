@@ -1,9 +1,9 @@
-use Rattle.std.proofs.Common.{ℕ, ◌*◌, ◌≤◌, subst, sym}
+use Rattle.std.proofs.Common.{ℕ, ◌*◌, ◌≤◌, refl, subst, sym}
 use Rattle.std.proofs.lemmas.Result.{err_from_is_err_and}
 use Rattle.dta_model.specs.declared.loading.TheConstants.{MOST_LINK_STEPS}
 use Rattle.vehicle_release.specs.Limits.{IsWithin}
 use Rattle.dta.specs.Calls.{rows_in_tables}
-use Rattle.dta.proofs.JobFacts.{link-count, loads-no-skim}
+use Rattle.dta.proofs.JobFacts.{assigned-no-sweep, assigned-no-times, assigned-released, assigned-unswept, link-count}
 use Rattle.dta.proofs.job.job_of.Goals as goal
 
 pub returns-in_err-trips-clause-stops : goal.returns-in_err-trips-clause-stops
@@ -17,7 +17,8 @@ returns-clause-sound c = record {
   net = rw (c.in_ok-net.ensures) c.requires.net;
   trips = c.in_ok-trips.ensures.sound;
   start = c.requires.start;
-  times = λ asks. absurd (loads-no-skim c.args.settings.now.command c.requires.command asks);
+  times = λ takes. absurd (assigned-no-times c.args.settings.now.command c.requires.command takes);
+  sweep = λ asks. absurd (assigned-no-sweep c.args.settings.now.command c.requires.command asks);
 }
 
 pub returns-clause-within : goal.returns-clause-within
@@ -26,3 +27,20 @@ returns-clause-within c = (
       (sym (link-count c.args.tables.network.roads.links c.as_slice.result.now c.as_slice.ensures.links)) c.in_ok-trips.ensures.within.0,
   subst IsWithin c.deref.ensures.value c.in_ok-trips.ensures.within.1,
 )
+
+pub returns-clause-makes : goal.returns-clause-makes
+returns-clause-makes c =
+    let s = c.args.settings.now in
+    let cells = c.args.tables.demand_cells.items in
+    rw (
+      c.in_ok-net.ensures,
+      c.in_ok-trips.ensures.trips,
+      c.deref.ensures.value,
+      c.of-times.ensures,
+      c.new.ensures.items,
+      c.new-demand_cells.ensures.items,
+      c.of-agents.ensures,
+      c.new-2.ensures.items,
+      assigned-released s.command c.requires.command cells,
+      assigned-unswept s.command c.requires.command cells,
+    ) refl

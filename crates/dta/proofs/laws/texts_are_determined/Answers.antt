@@ -7,4 +7,4 @@ returns c =
       started = c.routes_are_determined.ensures.started;
       next = c.routes_are_determined.ensures.next;
       since = c.iterations_are_determined.ensures;
-    })
+    }) c.scenarios_stand_alone.ensures

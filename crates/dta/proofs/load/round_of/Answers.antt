@@ -1,7 +1,8 @@
 use Rattle.std.proofs.Common.{sym, subst}
 use Rattle.dta_model.specs.Lent.{plan_of as loading_plan}
 use Rattle.dta_model.specs.Sound.{IsSound}
-use Rattle.dta.proofs.IterateFacts.{short-table, sound-plan}
+use Rattle.sweep.proofs.AssignmentFacts.{short-table}
+use Rattle.dta.proofs.IterateFacts.{sound-plan}
 use Rattle.dta.proofs.load.round_of.Goals as goal
 
 pub of-requires-clause-sound : goal.of-requires-clause-sound

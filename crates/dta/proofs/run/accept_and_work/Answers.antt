@@ -13,7 +13,7 @@ pub returns-in-Ok-clause-means : goal.returns-in-Ok-clause-means
 returns-in-Ok-clause-means g c = λ words told.
     let state = state_of g.D.Desk.left g.D.Desk.taken g.D.Desk.read_faults g.D.Desk.put_faults in
     works-means words c.args.settings.now _ c.work.result (state c.args.desk.now) (state c.accept.new.desk) (state c.work.new.desk) told
-    c.in-Ok.ensures.reads.done c.in-Ok.ensures.reads.taken (sym c.in-Ok.ensures.reads.puts) c.work.ensures.works.left c.work.ensures.works.work c.work.ensures.works.failed
+    c.in-Ok.ensures.reads.done c.in-Ok.ensures.reads.taken (sym c.in-Ok.ensures.reads.puts) c.work.ensures.works.left c.work.ensures.works.work c.work.ensures.works.failed c.work.ensures.works.differs
 
 pub returns-in-Err-Refused-clause-means : goal.returns-in-Err-Refused-clause-means
 returns-in-Err-Refused-clause-means g c = λ words told.
@@ -30,7 +30,7 @@ returns-in-Ok-clause-receipts g c = λ words told.
     (g.D.Desk.taken c.accept.new.desk) (g.D.Desk.taken c.work.new.desk)
     (shown c.args.gate.now) (shown c.work.new.gate) told
     (subst (λ (rest : Left). IsAcceptedJob c.args.settings.now c.in-Ok.job (g.D.Desk.left c.args.desk.now) rest) (sym c.work.ensures.works.left) c.in-Ok.ensures.reads.done)
-    c.work.ensures.works.work c.work.ensures.receipts
+    c.work.ensures.works.work (λ found. (c.work.ensures.works.differs found).asks) c.work.ensures.receipts
 
 pub returns-in-Err-Refused-clause-receipts : goal.returns-in-Err-Refused-clause-receipts
 returns-in-Err-Refused-clause-receipts g c = λ words told.

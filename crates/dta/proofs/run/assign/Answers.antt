@@ -12,6 +12,7 @@ returns-in-Ok-put_assigned-clause-works g c =
     record {
       work = assigned-done c.args.settings.now c.args.job.now c.requires.command c.in-Ok.assigned _ _ i.done _ o.whole;
       failed = λ (k : status.Done ≡ status.WriteFault). absurd cc;
+      differs = λ (k : status.Done ≡ status.Differs). absurd cc;
       later = (let a = i.later in let b = o.cause.later in omega (arith, a, b));
       left = o.left ∙ i.left;
       reads = o.reads ∙ i.reads;
@@ -28,6 +29,7 @@ returns-in-Ok-clause-works g c =
     record {
       work = assigned-cut c.args.settings.now c.args.job.now c.requires.command c.in-Ok.assigned _ _ i.done _ o.refused;
       failed = λ _. rose-earlier _ _ _ i.later o.cause.failed;
+      differs = λ (k : status.WriteFault ≡ status.Differs). absurd cc;
       later = (let a = i.later in let b = o.cause.later in omega (arith, a, b));
       left = o.left ∙ i.left;
       reads = o.reads ∙ i.reads;

@@ -1,6 +1,7 @@
 use Rattle.std.proofs.Common.{◌≡◌, refl, rules}
 use Rattle.dta.specs.declared.status.Status.TheVariants as status
-use Rattle.dta.proofs.ReceiptFacts.{free-none, took-none}
+use Rattle.dta_words.specs.declared.command.Command.TheVariants as command
+use Rattle.dta.proofs.ReceiptFacts.{free-none, none-given, took-none}
 use Rattle.dta.proofs.RunFacts.{free-cut, free-done}
 use Rattle.dta.proofs.run.work.Goals as goal
 
@@ -10,6 +11,7 @@ returns-in-Ok-clause-works g c =
     record {
       work = rw (← c.job.view_is) (free-done c.args.settings.now _ (search rules) _ _ o.whole);
       failed = λ (k : status.Done ≡ status.WriteFault). absurd cc;
+      differs = λ (k : status.Done ≡ status.Differs). absurd cc;
       later = o.cause.later;
       left = o.left;
       reads = o.reads;
@@ -21,6 +23,7 @@ returns-in-Err-clause-works g c =
     record {
       work = rw (← c.job.view_is) (free-cut c.args.settings.now _ (search rules) _ _ o.refused);
       failed = λ _. o.cause.failed;
+      differs = λ (k : status.WriteFault ≡ status.Differs). absurd cc;
       later = o.cause.later;
       left = o.left;
       reads = o.reads;
@@ -31,3 +34,15 @@ returns-in-Ok-clause-receipts g c = free-none c.args.settings.now c.args.job.now
 
 pub returns-in-Err-clause-receipts : goal.returns-in-Err-clause-receipts
 returns-in-Err-clause-receipts g c = took-none c.args.settings.now c.args.job.now _ _ refl
+
+pub returns-in-Skim-clause-receipts : goal.returns-in-Skim-clause-receipts
+returns-in-Skim-clause-receipts g c =
+    none-given command.Skim c.args.settings.now refl (search rules) c.args.job.now c.put_least_times.result _
+
+pub returns-in-Sweep-clause-receipts : goal.returns-in-Sweep-clause-receipts
+returns-in-Sweep-clause-receipts g c =
+    none-given command.Sweep c.args.settings.now refl (search rules) c.args.job.now c.put_scenarios.result _
+
+pub returns-in-Audit-clause-receipts : goal.returns-in-Audit-clause-receipts
+returns-in-Audit-clause-receipts g c =
+    none-given command.Audit c.args.settings.now refl (search rules) c.args.job.now c.put_verdict.result _

@@ -3,7 +3,7 @@ use Rattle.net_core.specs.declared.rows.NetRows.{NetRows}
 use Rattle.skims.specs.Texts.{IsCutShort, IsSkimOut}
 use Rattle.dta.specs.Jobs.{JobRows}
 use Rattle.dta.specs.declared.status.Status.TheVariants as status
-use Rattle.dta.proofs.RunFacts.{skim-cut, skim-done, skim-starved}
+use Rattle.dta.proofs.RunFacts.{nothing-put, skim-cut, skim-done}
 use Rattle.dta.proofs.skimmed.put_least_times.Goals as goal
 
 pub returns-in-Ok-put_skim : goal.returns-in-Ok-put_skim
@@ -13,6 +13,7 @@ returns-in-Ok-put_skim g c =
       work = skim-done c.args.settings.now c.args.job.now c.requires.command _ c.in-Ok.ensures (g.D.Desk.taken c.args.desk.now) (g.D.Desk.taken c.put_skim.new.desk)
           (subst (λ (n : NetRows). IsSkimOut n c.in-Ok.skim (g.D.Desk.taken c.args.desk.now) (g.D.Desk.taken c.put_skim.new.desk)) (ap (λ (j : JobRows). j.net) c.job.view_is) o.whole);
       failed = λ (k : status.Done ≡ status.WriteFault). absurd cc;
+      differs = λ (k : status.Done ≡ status.Differs). absurd cc;
       later = o.cause.later;
       left = o.left;
       reads = o.reads;
@@ -25,6 +26,7 @@ returns-in-Ok g c =
       work = skim-cut c.args.settings.now c.args.job.now c.requires.command _ c.in-Ok.ensures (g.D.Desk.taken c.args.desk.now) (g.D.Desk.taken c.put_skim.new.desk)
           (subst (λ (n : NetRows). IsCutShort n c.in-Ok.skim (g.D.Desk.taken c.args.desk.now) (g.D.Desk.taken c.put_skim.new.desk)) (ap (λ (j : JobRows). j.net) c.job.view_is) o.refused);
       failed = λ _. o.cause.failed;
+      differs = λ (k : status.WriteFault ≡ status.Differs). absurd cc;
       later = o.cause.later;
       left = o.left;
       reads = o.reads;
@@ -32,8 +34,9 @@ returns-in-Ok g c =
 
 pub returns : goal.returns
 returns g c = record {
-  work = skim-starved c.args.settings.now c.args.job.now _ c.requires.job.start;
+  work = nothing-put c.args.settings.now c.args.job.now _ c.requires.job.start;
   failed = λ (k : status.Memory ≡ status.WriteFault). absurd cc;
+  differs = λ (k : status.Memory ≡ status.Differs). absurd cc;
   later = omega arith;
   left = refl;
   reads = refl;

@@ -41,7 +41,7 @@ returns-in_err-start-clause-reads g c =
     let cells = with_demand_cells network c.in_ok-demand_cells.demand_cells in
     let r = c.in_ok-network.ensures.reads in
     let d = c.in_ok-demand_cells.ensures.reads s network in
-    let t = c.in_err-start.ensures.reads s cells in
+    let t = c.in_err-start.ensures.reads s cells (c.requires.settings.start c.if-settings.true) in
     let others = accepted-both s network_tables (table.Demand ∷ []) no_rows network cells _ _ _ r.done
     (accepted-one s table.Demand network cells _ _ d.done) in
     rw (p.1, p.2) (record {
@@ -63,7 +63,7 @@ returns-clause-reads g c =
     (accepted-one s table.Demand network cells _ _ d.done) in
     elim c.if-settings.branch [
       | then-settings+in_ok-start w ↦
-          let t = w.in_ok-start.ensures.reads s cells in
+          let t = w.in_ok-start.ensures.reads s cells (c.requires.settings.start w.if-settings.true) in
           rw (w.start-is, w.desk-is) (record {
             done = accepted-start s s.start cells (with_start_rows cells w.in_ok-start.start) _ _ _ w.if-settings.true others t.done;
             stops = tt;

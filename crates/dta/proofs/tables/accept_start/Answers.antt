@@ -3,7 +3,7 @@ use Rattle.dta.proofs.TableFacts.{start-accepted, start-stop}
 use Rattle.dta.proofs.tables.accept_start.Goals as goal
 
 pub returns-in_err-bytes-clause-reads : goal.returns-in_err-bytes-clause-reads
-returns-in_err-bytes-clause-reads g c = λ settings rows.
+returns-in_err-bytes-clause-reads g c = λ settings rows asks.
     let p = err_from_is_err_and c.from_residual.result c.from_residual.ensures.1 in
     let r = c.in_err-bytes.ensures.reads settings rows in
     rw (p.1, p.2) (record {
@@ -15,12 +15,12 @@ returns-in_err-bytes-clause-reads g c = λ settings rows.
     })
 
 pub returns-in_err-read_start-clause-reads : goal.returns-in_err-read_start-clause-reads
-returns-in_err-read_start-clause-reads g c = λ settings rows.
+returns-in_err-read_start-clause-reads g c = λ settings rows asks.
     let p = err_from_is_err_and c.from_residual-in_err-read_start.result c.from_residual-in_err-read_start.ensures.1 in
     let r = c.in_ok-bytes.ensures.reads settings rows in
     rw (p.1, p.2) (record {
       done = tt;
-      stops = start-stop settings rows c.in_ok-bytes.bytes.items c.deref.result.now _ _ c.in_err-read_start.field-0.0
+      stops = start-stop settings rows c.in_ok-bytes.bytes.items c.deref.result.now _ _ c.in_err-read_start.field-0.0 asks
           r.done.read r.done.short c.deref.ensures.value c.in_err-read_start.ensures.rows;
       later = r.later;
       taken = r.taken;
@@ -28,10 +28,10 @@ returns-in_err-read_start-clause-reads g c = λ settings rows.
     })
 
 pub returns-clause-reads : goal.returns-clause-reads
-returns-clause-reads g c = λ settings rows.
+returns-clause-reads g c = λ settings rows asks.
     let r = c.in_ok-bytes.ensures.reads settings rows in
     record {
-      done = start-accepted settings rows c.in_ok-bytes.bytes.items c.deref.result.now c.in_ok-read_start.field-0 _ _
+      done = start-accepted settings rows c.in_ok-bytes.bytes.items c.deref.result.now c.in_ok-read_start.field-0 _ _ asks
           r.done.read r.done.short c.deref.ensures.value c.in_ok-read_start.ensures.rows;
       stops = tt;
       later = r.later;
