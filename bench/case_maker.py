@@ -7,18 +7,23 @@ its fields, columns, bytes, words or files, so that most spoilt cases are near t
 
 Of some features that PEER has only from a stage on there are kinds of cases by themselves:
 capacities in windows (case_windows.py), the queue `newell`, and start tables (case_starts.py).
+What a sweep is made of beyond an assignment stands in case_sweeps.py, and the changed results that
+an audit looks at are made by case_audits.py.
 """
 from dataclasses import dataclass, field
 
+import case_audits
 import case_starts
+import case_sweeps
 import case_windows
 
 INPUTS = ("node.csv", "link.csv", "movement.csv", "demand.csv")
 OUTPUTS = ("agent.csv", "link_performance.csv", "gap.csv")
-OUTPUTS_OF = {"skim": ("skim.csv",), "counts": ("counts.csv",)}
+OUTPUTS_OF = {"skim": ("skim.csv",), "counts": ("counts.csv",), "sweep": ("sweep.txt",),
+              "audit": ("audit.txt", "agent.csv")}
 TIMES = "times.csv"
 START = "start.csv"
-LAST_STAGE = 19
+LAST_STAGE = 20
 
 
 @dataclass
@@ -55,6 +60,8 @@ def make_case(r, assign, only=None, known=LAST_STAGE):
     tables = make_tables(r, flat(command, groups), features)
     if command == "counts":
         add_link(r, groups, tables["link.csv"])
+    if command == "sweep":
+        add_scales(r, groups, tables)
     words = flat(command, groups)
     earlier = Earlier(assign, stage)
     if "start" in features:
@@ -63,6 +70,10 @@ def make_case(r, assign, only=None, known=LAST_STAGE):
         add_columns(r, name, tables[name])
     if command == "skim":
         tables[TIMES] = times_table(r, groups, tables, earlier)
+        add_columns(r, TIMES, tables[TIMES])
+    if command == "audit":
+        tables[START], tables[TIMES] = audited_tables(r, groups, tables, earlier)
+        add_columns(r, START, tables[START])
         add_columns(r, TIMES, tables[TIMES])
     spelled = r.random() < .5
     if spelled:
@@ -95,19 +106,25 @@ class Earlier:
 
     def file(self, words, tables, name):
         """A file that an assignment over these tables leaves, or None where it is refused."""
+        files = self.files(words, tables)
+        return None if files is None else files[name]
+
+    def files(self, words, tables):
+        """All files that it leaves, or None."""
         texts = {each: text if isinstance(text, bytes) else write_table(None, text, False)
                  for each, text in tables.items()}
-        files = self.assign(words, texts, self.stage)
-        return None if files is None else files[name]
+        return self.assign(words, texts, self.stage)
 
 
 # What PEER has from which stage on: commands, and features of tables and words.
-FIRST_STAGE = {"skim": 19, "counts": 19, "windows": 14, "newell": 15, "start": 16}
+FIRST_STAGE = {"skim": 19, "counts": 19, "windows": 14, "newell": 15, "start": 16, "sweep": 20,
+               "audit": 20}
 FEATURES = ["windows", "newell", "start"]
 
 
 def choose_kind(r, known):
-    kinds = [kind for kind in SHARES if kind not in FEATURES or FIRST_STAGE[kind] <= known]
+    later = FEATURES + ["sweep", "audit"]
+    kinds = [kind for kind in SHARES if kind not in later or FIRST_STAGE[kind] <= known]
     return r.choices(kinds, weights=[SHARES[kind] for kind in kinds])[0]
 
 
@@ -115,6 +132,8 @@ def choose_features(r, kind, only, known):
     """The feature of the kind, and now and then others that go with it, unless one kind alone is
     asked for."""
     features = [kind] if kind in FEATURES else []
+    if kind in ("sweep", "audit"):
+        features = [one for one in ("windows", "newell") if r.random() < .3]
     if features and not only:
         features += [one for one in FEATURES if one != kind and FIRST_STAGE[one] <= known
                      and (one != "start" or kind == "newell") and r.random() < .2]
@@ -146,8 +165,10 @@ def choose_spoils(r, command, features):
     if command == "skim":
         kinds.append("rows")
         weights.append(6)
+    if command == "sweep":
+        weights[kinds.index("words")] = 16
     chance = r.random()
-    if chance < .55:
+    if chance < (.8 if command == "audit" else .55):
         return []
     if chance < .95:
         return r.choices(kinds, weights=weights)
@@ -190,6 +211,7 @@ def option_values(r, command, features=()):
         "wave": r.choice([1, 2, 5, 10, 15, 20, 20, 30, 60, 100, r.randint(1, 100)]),
         "watch": r.choice([0, 1, 1, 7, 10, 50, 86400, r.randint(1, 100)]),
         "at": some_starts(r, horizon),
+        "scales": case_sweeps.some_scales(r),
     }
 
 
@@ -201,8 +223,8 @@ def some_starts(r, horizon):
 
 
 # Of 100 cases: how many are of each kind, a command or a feature.
-SHARES = {"assign": 12, "freeflow": 3, "demo": 1, "skim": 17, "counts": 17, "windows": 16,
-          "newell": 16, "start": 18}
+SHARES = {"assign": 10, "freeflow": 2, "demo": 1, "skim": 10, "counts": 10, "windows": 11,
+          "newell": 11, "start": 13, "sweep": 13, "audit": 19}
 
 TAKEN = {
     "freeflow": ["step", "jam", "length-unit", "speed-unit"],
@@ -213,6 +235,10 @@ TAKEN = {
     "skim": ["step", "jam", "length-unit", "speed-unit", "horizon", "bucket", "at"],
     "counts": ["step", "jam", "length-unit", "speed-unit", "horizon", "period", "iterations",
                "workers", "bucket", "queue", "wave"],
+    "sweep": ["step", "jam", "length-unit", "speed-unit", "horizon", "period", "iterations",
+              "workers", "bucket", "queue", "wave", "scales"],
+    "audit": ["step", "jam", "length-unit", "speed-unit", "horizon", "period", "bucket", "queue",
+              "wave"],
 }
 
 
@@ -235,6 +261,8 @@ def make_options(r, command, features=()):
         chosen.append("iterations")
     if command != "freeflow" and "horizon" not in chosen:
         chosen.append("horizon")
+    if command == "sweep" and "scales" not in chosen:
+        chosen.append("scales")
     if "period" in chosen and command != "freeflow":
         values["period"] = min(values["period"], values["horizon"])
     groups = []
@@ -243,7 +271,7 @@ def make_options(r, command, features=()):
         if value.isdigit() and r.random() < .1:
             value = value.zfill(r.randint(1, 9))
         groups.append([f"--{name}={value}"] if r.random() < .4 else [f"--{name}", value])
-    if command not in ("freeflow", "skim") and r.random() < .35:
+    if command not in ("freeflow", "skim", "sweep", "audit") and r.random() < .35:
         groups.append(["--plain"])
     if "start" in features:
         groups.append(["--start"])
@@ -251,6 +279,24 @@ def make_options(r, command, features=()):
         groups.append([str(r.choice([2, 2, 3, 4, 5])).zfill(r.choice([1, 1, 1, 3, 9]))])
     r.shuffle(groups)
     return groups
+
+
+def put_option(groups, name, value):
+    """Gives an option this value, whether it was there or not."""
+    groups[:] = [group for group in groups if not group[0].startswith("--" + name)]
+    groups.append([f"--{name}={value}"])
+
+
+def add_scales(r, groups, tables):
+    """Makes some sweeps too large: in links times steps, or in the vehicles of a scale."""
+    chance = r.random()
+    if chance < .04:
+        put_option(groups, "horizon", case_sweeps.many_links(r, tables["link.csv"]))
+        put_option(groups, "iterations", 1)
+    elif chance < .18:
+        case_sweeps.too_many(r, tables["demand.csv"])
+        put_option(groups, "scales", r.choice(["0.001;10;0.002", "0.002;0.001;9;10", "10",
+                                               "0.0005;10", "0.001;0.003;10", "0.01;10;10"]))
 
 
 ODD_LINKS = ["0", "999999", "07", "7.0", "007.000", "9223372036854775807", "9223372036854775808",
@@ -294,12 +340,18 @@ def spoil_words(r, words, command, known):
     """Words of which one thing or two are odd; a few of them are in the grammar all the same."""
     words = list(words)
     later = command in OUTPUTS_OF and known < FIRST_STAGE["start"]
-    values = ODD_VALUES + (ODD_STARTS if command == "skim" else [])
+    values = ODD_VALUES + {"skim": ODD_STARTS, "sweep": case_sweeps.ODD_SCALES}.get(command, [])
+    own = {"skim": ["at"], "sweep": ["scales"]}.get(command)
     odd_values = [value for value in values if not later or value not in NOT_YET]
     odd_words = [word for word in ODD_WORDS if not later or word not in NOT_YET]
     if known < FIRST_STAGE["newell"] and command == "counts":
         odd_words = [word for word in odd_words if not word.startswith("--wave")]
     odd_commands = ODD_COMMANDS + (["assign", "skim", "counts"] if command in OUTPUTS_OF else [])
+    if known >= FIRST_STAGE["sweep"]:
+        odd_commands = odd_commands + ["sweep", "audit", "sweeps", "Audit"]
+    if command == "sweep" and r.random() < .6:
+        put_scales(r, words)
+        return words
     for _ in range(r.choice([1, 1, 2])):
         choice = r.randrange(8)
         place = r.randrange(len(words)) if words else 0
@@ -316,11 +368,21 @@ def spoil_words(r, words, command, known):
         elif choice == 5 and words:
             words[place] = words[place].split("=")[0] + "=" + r.choice(odd_values)
         elif choice == 6:
-            name = r.choice(["at"] if command == "skim" and r.random() < .6 else TAKEN["assign"])
+            name = r.choice(own if own and r.random() < .6 else TAKEN["assign"])
             words += [f"--{name}", r.choice(odd_values)]
         else:
             r.shuffle(words)
     return words
+
+
+def put_scales(r, words):
+    """Puts odd scales in place of those that words have."""
+    text = r.choice(case_sweeps.ODD_SCALES)
+    for place, word in enumerate(words):
+        if word.startswith("--scales="):
+            words[place] = "--scales=" + text
+        elif word == "--scales":
+            words[place + 1] = text
 
 
 # Tables.
@@ -556,6 +618,36 @@ def times_options(r, groups):
     return [word for group in kept for word in group] + ["--iterations", r.choice("123"), "--plain"]
 
 
+def audited_tables(r, groups, tables, earlier):
+    """The agent table and the link times of an assignment with the options of an audit over these
+    tables; mostly with something changed. Now and then the assignment had another option or other
+    tables, or began with a start table."""
+    words = ["assign"] + audited_options(r, groups)
+    before = other_tables(r, tables) if r.random() < .06 else tables
+    files = earlier.files(words, before)
+    if files is not None and r.random() < .25:
+        again = earlier.files(words + ["--start"], {**before, START: files["agent.csv"]})
+        files = again or files
+    if files is None:
+        return Table(list(case_audits.AGENT_COLUMNS), []), Table(list(TIME_COLUMNS), [])
+    agents, times = [Table(*case_starts.earlier_columns_and_rows(files[name]))
+                     for name in ("agent.csv", "link_performance.csv")]
+    links = tables["link.csv"]
+    names = [row[links.place("link_id")] for row in links.rows]
+    case_audits.change(r, agents, times, names)
+    return agents, times
+
+
+def audited_options(r, groups):
+    """Options of the assignment that is audited."""
+    kept = [list(group) for group in groups]
+    if r.random() < .06:
+        name = r.choice(["horizon", "bucket", "queue", "step", "period"])
+        put_option(kept, name, option_values(r, "audit")[name])
+    words = [word for group in kept for word in group]
+    return words + ["--iterations", r.choice("1123"), "--plain"]
+
+
 def start_table(r, groups, tables, earlier):
     """The agent table of an earlier assignment, of the same tables or of others, itself from free
     flow or from a start table; then often with rows that fit nobody."""
@@ -658,7 +750,8 @@ def drop_column(table, place):
 
 IDENTIFIERS = {"node_id", "zone_id", "link_id", "from_node_id", "to_node_id", "ib_link_id",
                "ob_link_id", "o_zone_id", "d_zone_id", "from_step", "to_step", "entered",
-               "travel_steps", "free_steps", "agent_id"}
+               "travel_steps", "free_steps", "agent_id", "departure_step", "arrival_step"}
+LISTS = {"link_ids", "entry_steps"}
 QUANTITIES = {"length", "lanes", "free_speed", "capacity", "penalty", "volume"}
 
 
@@ -689,7 +782,7 @@ def spell_quantity(r, text):
 def spell_fields(r, table):
     """Spells numbers in other ways that are accepted and mean the same, with blanks round them."""
     for place, column in enumerate(table.columns):
-        if column not in IDENTIFIERS | QUANTITIES | {"capacity_by_step", "link_ids"}:
+        if column not in IDENTIFIERS | QUANTITIES | LISTS | {"capacity_by_step", "status"}:
             continue
         for row in table.rows:
             text = row[place]
@@ -698,7 +791,7 @@ def spell_fields(r, table):
             signed = text.startswith("-")
             if column == "capacity_by_step":
                 text = case_windows.spell(r, text, spell_quantity)
-            elif column == "link_ids":
+            elif column in LISTS:
                 text = case_starts.spell_list(r, text, spell_identifier)
             elif column in IDENTIFIERS and not signed and "." not in text:
                 text = spell_identifier(r, text)
@@ -767,7 +860,11 @@ ODD_BY_COLUMN = {
     "penalty": ["36000", "36000.0009", "36000.001", "36001", "-1", "1e5", "0.001"],
     "volume": ["2000000", "2000001", "1e9", "1999999.999", "-0.0001", "1e10"],
     "link_ids": case_starts.ODD_LISTS,
+    "entry_steps": case_starts.ODD_LISTS,
     "agent_id": LONG,
+    "departure_step": LONG,
+    "arrival_step": LONG + ["", " "],
+    "status": case_audits.ODD_STATES,
 }
 
 
@@ -781,9 +878,9 @@ def odd_field(r, column, text=""):
 
 
 def odd_place(r, table, row):
-    """A place in a row; mostly that of windows or of a list of links, where there is one."""
-    for name in ("capacity_by_step", "link_ids"):
-        if name in table.columns and table.place(name) < len(row) and r.random() < .7:
+    """A place in a row; mostly that of windows or of a list, where there is one."""
+    for name in ("capacity_by_step", "link_ids", "entry_steps"):
+        if name in table.columns and table.place(name) < len(row) and r.random() < .5:
             return table.place(name)
     return r.randrange(len(row))
 
@@ -891,8 +988,8 @@ def spoil_bytes(r, text):
 def spoil_files(r, case, command, features):
     """Takes a table away, or puts a folder or a link to itself in place of one or of an output."""
     choice = r.randrange(4)
-    inputs = INPUTS + ((TIMES,) * 3 if command == "skim" else ())
-    inputs += (START,) * 4 if "start" in features else ()
+    inputs = INPUTS + ((TIMES,) * 3 if command in ("skim", "audit") else ())
+    inputs += (START,) * 4 if "start" in features or command == "audit" else ()
     name = r.choice(inputs if choice < 3 else OUTPUTS_OF.get(command, OUTPUTS))
     case.files.pop(name, None)
     if choice == 1:

@@ -6,7 +6,8 @@
 # and calls the program as another user. It takes some minutes, and 1 GB in the folder of mktemp.
 groups='folder_without_writing full_outputs full_disk broken_streams closed_streams no_files pipes
 longest_tables long_rows odd_bytes most_vehicles little_memory little_memory_for_shares
-little_memory_for_threads no_threads times_tables skims_and_counts windows waves start_tables kills'
+little_memory_for_threads no_threads times_tables skims_and_counts windows waves start_tables sweeps
+sweeps_in_little_memory audits audited_tables kills'
 [ $# -ge 1 ] || { echo 'usage: hostile.sh PROGRAM [GROUP..]' >&2; exit 2; }
 work=$(mktemp -d)
 trap 'umount "$work/small" 2>/dev/null; rm -rf "$work"' EXIT
@@ -667,6 +668,211 @@ start_tables() {
         assign,--starts demo,2,--start counts,--start skim,--start freeflow,--start; do
         # shellcheck disable=SC2046
         ends "refused words $words" "2 none $usage" agent.csv $(echo "$words" | tr , ' ')
+    done
+}
+
+# Sweeps: outputs that can't be written, words, and limits. A sweep of two scales over the 3,000
+# vehicles has 2 lines of its own, 2 agent tables of 3,001 and 6,001 lines, 2 tables of 49 lines,
+# 2 of 2 and 2 reports of 12.
+sweeps() {
+    begin
+    ends 'a sweep' '0 9130 scenarios 2' sweep.txt sweep --scales '1;2'
+    cat "$whole/agent.csv" "$whole/link_performance.csv" "$whole/gap.csv" "$whole/report" \
+        >"$work/alone"
+    sed -n '2,3065p' sweep.txt | cmp -s - "$work/alone"; check 'its first scenario alone' 0 $?
+    mv sweep.txt "$work/swept"
+    mkdir sweep.txt
+    ends 'sweep.txt is a folder' '5 none ' sweep.txt sweep --scales '1;2'
+    rmdir sweep.txt
+    ln -s /dev/full sweep.txt
+    ends 'sweep.txt is full' '5 none ' sweep.txt sweep --scales '1;2'
+    rm -f sweep.txt
+    "$program" sweep --scales '1;2' >/dev/full
+    check 'sweep, a full standard output' '5 9130' "$? $(wc -l <sweep.txt)"
+    cmp -s sweep.txt "$work/swept"; check 'sweep.txt is whole' 0 $?
+    rm -f sweep.txt
+    as_other prlimit --nproc=1:1 "$program" sweep --scales '1;2' --workers 16 >"$work/report"
+    check 'sweep, no thread to be had' '0 scenarios 2' "$? $(cat "$work/report")"
+    cmp -s sweep.txt "$work/swept"; check 'the same sweep' 0 $?
+    for scales in '1' '0001.0' '1e0' '+1' '1.0009' '0.1e1'; do
+        rm -f sweep.txt
+        ends "the scale $scales" '0 3065 scenarios 1' sweep.txt sweep --scales "$scales"
+        check "the scale $scales is 1000" 'scenario 0 scale 1000' "$(head -n 1 sweep.txt)"
+    done
+    ends 'the least scale and the greatest' '0 30133 scenarios 2' sweep.txt sweep \
+        --scales=0.001\;10
+    ends '16 scales' '0 1088 scenarios 16' sweep.txt sweep --scales "0.001$(printf ';0.001%.0s' \
+        1 2 3 4 5 6 7 8 9 10 11 12 13 14 15)"
+    rm -f sweep.txt
+    for scales in '' ' ' 0 0.0009 10.001 11 -1 -0 '1;' ';1' '1;;2' '1; 2' ' 1' '1 ' '1,2' x 1e2 \
+        1e5 "1$(printf ';1%.0s' 1 2 3 4 5 6 7 8 9 10 11 12 13 14 15 16)" \
+        "$(head -c 65 /dev/zero | tr '\0' 0)1" "1$(head -c 100000 /dev/zero | tr '\0' \;)"; do
+        ends "refused scales $(echo "$scales" | head -c 20)" "2 none $usage" sweep.txt sweep \
+            "--scales=$scales"
+    done
+    for words in sweep sweep,--scales sweep,--scales,-1 sweep,--scale,1 sweep,--scales,1,--plain \
+        sweep,--scales,1,--watch,1 sweep,--scales,1,--start sweep,--scales,1,--at,0 \
+        sweep,--scales,1,--link,10 sweep,--scales,1,--scales,1 sweep,--scales,1,--workers,17 \
+        sweep,1 Sweep,--scales,1 sweeps,--scales,1 assign,--scales,1 demo,2,--scales,1 \
+        counts,--scales,1 skim,--scales,1 freeflow,--scales,1 audit,--scales,1; do
+        # shellcheck disable=SC2046
+        ends "refused words $words" "2 none $usage" sweep.txt $(echo "$words" | tr , ' ')
+    done
+    begin 1000001
+    ends 'too many vehicles at the second scale' \
+        '7 none size: demand line 2 vehicles 2000002 limit 2000000' sweep.txt sweep --scales '0.5;2'
+    begin 1000000000
+    ends 'a volume at its limit, ten times' \
+        '7 none size: demand line 2 vehicles 1000000000 limit 2000000' sweep.txt sweep --scales 10
+    begin
+    rm -f demand.csv
+    ends 'sweep, no demand table' '4 none read fault in demand' sweep.txt sweep --scales 1
+    begin
+    ring 2
+    ends '65,536 links times 257 steps' '7 none size: links 65536 steps 257 limit 16777216' \
+        sweep.txt sweep --scales 1 --horizon 257
+}
+
+# Links times the horizon at the limit of a sweep, four at once, in ever less memory.
+sweeps_in_little_memory() {
+    for kilobytes in 8000000 1000000 300000 100000 30000 10000 5000; do
+        begin
+        ring 2
+        (ulimit -v $kilobytes && exec "$program" sweep --scales '1;2;3;4' --horizon 256 \
+            --bucket 256) >"$work/report" 2>"$work/watch"
+        status=$?
+        [ -f sweep.txt ] && lines=$(wc -l <sweep.txt) || lines=none
+        fits "four times 65,536 links times 256 steps in $kilobytes KB" \
+            "$status $lines $(cat "$work/report")" '6 none ' '0 262312 scenarios 4'
+    done
+}
+
+# A folder with the agent table and the link times that `assign` wrote there.
+begin_audit() {
+    begin
+    cp "$whole/agent.csv" start.csv
+    cp "$whole/link_performance.csv" times.csv
+}
+
+# changed NAME EXPRESSION TABLE WANTED: an audit where sed changed a table.
+changed() {
+    begin_audit
+    sed -i "$2" "$3.csv"
+    ends "$1" "$4" audit.txt audit
+}
+
+# Audits of tables that somebody changed, and words.
+audits() {
+    begin_audit
+    ends 'an audit' '0 none audit ok' audit.txt audit
+    check 'its report' 'audit ok vehicles 3000 links 2 ' "$(tr '\n' ' ' <"$work/report")"
+    check 'no file is made' 'demand.csv link.csv node.csv start.csv times.csv ' \
+        "$(ls | tr '\n' ' ')"
+    "$program" audit >/dev/full; check 'audit, a full standard output' 5 $?
+    differs='8 none audit: start line'
+    changed 'another agent' '3s/^1,/2,/' start "$differs 3 agent_id"
+    changed 'another origin' '3s/^1,1,/1,7,/' start "$differs 3 o_zone_id"
+    changed 'another destination' '3s/^1,1,3,/1,1,1,/' start "$differs 3 d_zone_id"
+    changed 'another departure' '3s/^1,1,3,0,/1,1,3,1,/' start "$differs 3 departure_step"
+    changed 'links the other way' '3s/10;20/20;10/' start "$differs 3 link_ids"
+    changed 'a link that is not there' '3s/10;20/10;99/' start "$differs 3 link_ids"
+    changed 'a walk that ends too early' '3s/10;20/10/' start "$differs 3 link_ids"
+    changed 'no links' '3s/10;20//' start "$differs 3 arrival_step"
+    changed 'another arrival' '3s/^1,1,3,0,21,/1,1,3,0,22,/' start "$differs 3 arrival_step"
+    changed 'no arrival' '3s/^1,1,3,0,21,/1,1,3,0,,/' start "$differs 3 arrival_step"
+    changed 'another status' '3s/arrived/running/' start "$differs 3 status"
+    changed 'no status' '3s/arrived//' start "$differs 3 status"
+    changed 'a status in capitals' '3s/arrived/Arrived/' start "$differs 3 status"
+    changed 'another entry' '3s/1;11$/1;12/' start "$differs 3 entry_steps"
+    changed 'an entry too few' '3s/1;11$/1/' start "$differs 3 entry_steps"
+    changed 'a row is missing' 3d start "$differs 3 agent_id"
+    changed 'the last row is missing' '$d' start "$differs 3001 -"
+    changed 'a row too many' '$p' start "$differs 3002 agent_id"
+    changed 'a header alone' '2,$d' start "$differs 2 -"
+    changed 'other entries' '2s/,50,50,/,50,51,/' times '8 none audit: times line 2 entered'
+    changed 'another time' '2s/,\([0-9]*\),10$/,1\1,10/' times \
+        '8 none audit: times line 2 travel_steps'
+    changed 'other free-flow steps' '2s/,10$/,11/' times \
+        '3 none times line 2: E13 Disagrees free_steps'
+    changed 'blanks and leading zeros' 's/,arrived,10;20,/,\tarrived ,010;20.0, /' start \
+        '0 none audit ok'
+    changed 'a column that is passed over' 's/$/,7/' start '0 none audit ok'
+    for words in audit,--workers,2 audit,--iterations,2 audit,--plain audit,--watch,1 \
+        audit,--start audit,--at,0 audit,--link,10 audit,1 audit,--period,0 \
+        audit,--horizon,10,--period,11 Audit audits; do
+        # shellcheck disable=SC2046
+        ends "refused words $words" "2 none $usage" audit.txt $(echo "$words" | tr , ' ')
+    done
+    begin_audit
+    sed -i '3s/arrived/running/' start.csv
+    "$program" audit >/dev/full; check 'it differs, a full standard output' 8 $?
+    ends 'another horizon' '3 none times line 25: E13 Disagrees to_step' audit.txt audit \
+        --horizon 1199
+    cp "$whole/agent.csv" start.csv
+    ends 'another period' '8 none audit: start line 302 departure_step' audit.txt audit --period 599
+    echo 1,3,1 >>demand.csv
+    ends 'a vehicle more' '8 none audit: start line 1507 departure_step' audit.txt audit
+    echo 1,3,2000000 >>demand.csv
+    ends 'audit, too many vehicles' '7 none size: demand line 4 vehicles 2003001 limit 2000000' \
+        audit.txt audit
+}
+
+# What stands in place of the tables of an audit.
+audited_tables() {
+    for name in start times; do
+        begin_audit
+        rm -f $name.csv
+        ends "audit, no $name.csv" "4 none read fault in $name" audit.txt audit
+        mkdir $name.csv
+        ends "audit, $name.csv is a folder" "4 none read fault in $name" audit.txt audit
+        rmdir $name.csv
+        ln -s $name.csv $name.csv
+        ends "audit, $name.csv is itself" "4 none read fault in $name" audit.txt audit
+        rm -f $name.csv
+        ln -s /dev/zero $name.csv
+        ends "audit, $name.csv without end" "7 none size: table $name limit 268435456" audit.txt \
+            audit
+        rm -f $name.csv
+        printf '\377\376\0\1,\200\n' >$name.csv
+        ends "audit, $name.csv is no text" "3 none $name line 1: E2 BadRecord -" audit.txt audit
+    done
+    begin_audit
+    : >start.csv
+    ends 'start.csv of zero bytes' '3 none start line 1: E1 MissingColumn agent_id' audit.txt audit
+    start_rows 3000 '10;20'
+    ends 'a start table of fewer columns' '3 none start line 1: E1 MissingColumn departure_step' \
+        audit.txt audit
+    begin_audit
+    sed -i '3s/1;11$/1;x/' start.csv
+    ends 'an entry that is no number' '3 none start line 3: E4 NotNumber entry_steps' audit.txt \
+        audit
+    begin_audit
+    sed -i '3s/^1,1,3,0,21,/1,1,3,0,-1,/' start.csv
+    ends 'an arrival below 0' '3 none start line 3: E5 OutOfRange arrival_step' audit.txt audit
+    begin_audit
+    longer start.csv 268435456
+    ends 'start.csv of 268435456 bytes' '0 none audit ok' audit.txt audit
+    printf '\n' >>start.csv
+    ends 'start.csv of one byte more' '7 none size: table start limit 268435456' audit.txt audit
+    begin_audit
+    awk 'BEGIN {
+        print "agent_id,o_zone_id,d_zone_id,departure_step,arrival_step,status,link_ids,entry_steps"
+        for (k = 0; k < 2000000; k++) print k ",1,3,0,,,,"
+    }' >start.csv
+    ends '2,000,000 rows' '8 none audit: start line 7 departure_step' audit.txt audit
+    echo '0,1,3,0,,,,' >>start.csv
+    ends '2,000,001 rows' '3 none start line 2000002: E12 TooMany -' audit.txt audit
+    begin_audit
+    { head -n 1 "$whole/agent.csv"; printf 0,1,3,0,21,arrived,10
+        awk 'BEGIN { for (k = 0; k < 20000000; k++) printf ";20" }'; echo ',0;10'; } >start.csv
+    ends 'a list of 20,000,001 links' '8 none audit: start line 2 link_ids' audit.txt audit
+    { head -n 1 "$whole/agent.csv"; printf '0,1,3,0,,unrouted,,0'
+        awk 'BEGIN { for (k = 0; k < 20000000; k++) printf ";20" }'; echo; } >start.csv
+    ends 'a list of 20,000,001 entries' '8 none audit: start line 3 -' audit.txt audit
+    for kilobytes in 100000 20000 10000 8000 6000 5000 4500 4000; do
+        begin_audit
+        (ulimit -v $kilobytes && exec "$program" audit) >"$work/report" 2>"$work/watch"
+        fits "an audit in $kilobytes KB" "$? $(head -n 1 "$work/report")" '6 ' '0 audit ok'
     done
 }
 

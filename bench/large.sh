@@ -2,13 +2,13 @@
 # large.sh PROGRAM PEER [STAGE] [CASE..]: large input gets an answer. Runs a built program over
 # large tables, with --plain and with workers, and beside it PEER, another program of the same
 # rules, with `--stage STAGE` before its words (16 where it isn't said, nothing where it is 0; for
-# skims and counts at least 19). One runs after another. Each must end with status 0, and all must
-# write the same tables and the same report. Prints the seconds and the peak memory of each run;
-# ends with 0 where all is as it should be. Cases are the functions that `cases` names, and all of
-# them run where none is said.
+# skims and counts at least 19, for sweeps and audits 20). One runs after another. Each must end
+# with status 0, and all must write the same tables and the same report. Prints the seconds and the
+# peak memory of each run; ends with 0 where all is as it should be. Cases are the functions that
+# `cases` names, and all of them run where none is said.
 cases='many_vehicles long_chain long_horizon wide_labels many_iterations many_links many_rows
 many_turns crossings many_zones no_demand many_counts many_entries many_windows many_waves
-long_waves many_starts'
+long_waves many_starts many_scales many_audits'
 [ $# -ge 2 ] || { echo 'usage: large.sh PROGRAM PEER [STAGE] [CASE..]' >&2; exit 2; }
 program=$(realpath "$1")
 peer=$(realpath "$2")
@@ -338,6 +338,33 @@ many_starts() {
     mv agent.csv start.csv
     sed -i '50s/,1800$/,300/' link.csv
     compare assign --iterations 2 --start
+}
+
+many_scales() {
+    begin 'four scenarios of up to 1,900,000 vehicles'
+    known_from 20
+    outputs=sweep.txt
+    grid 12 4
+    demand 1,2,500000 2,3,500000 3,4,500000 4,1,400000
+    set -- --scales '1;0.5;0.25;0.75' --queue spatial
+    first sweep "$@"
+    for way in --workers=1 --workers=4; do then_same $way sweep "$@" $way; done
+    end
+}
+
+many_audits() {
+    begin 'an audit of 1,900,000 vehicles'
+    known_from 20
+    outputs=
+    grid 12 4
+    demand 1,2,500000 2,3,500000 3,4,500000 4,1,400000
+    # shellcheck disable=SC2086
+    timed 'what is audited' "$peer" $at_stage assign --plain --queue spatial
+    mv agent.csv start.csv
+    mv link_performance.csv times.csv
+    first audit --queue spatial
+    then_same audit audit --queue spatial
+    end
 }
 
 for case in ${*:-$cases}; do $case; done

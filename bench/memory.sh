@@ -106,10 +106,19 @@ link_times() {
     printf '20,0,50,3,10,10\n20,50,60,0,10,10\n' >>times.csv
 }
 
+# The same with the agent table of that assignment.
+results() {
+    link_times
+    printf 'agent_id,o_zone_id,d_zone_id,departure_step,arrival_step,status,' >start.csv
+    printf 'link_ids,entry_steps\n' >>start.csv
+    printf '0,1,3,5,25,arrived,10;20,5;15\n1,1,3,15,35,arrived,10;20,15;25\n' >>start.csv
+    printf '2,1,3,25,45,arrived,10;20,25;35\n' >>start.csv
+}
+
 # run NUMBER WORDS: a run whose request of this number is refused, none where it is 0, over outputs
 # of an earlier run.
 run() {
-    cp "$work"/earlier/*.csv .
+    cp "$work"/earlier/*.* .
     refused=$1
     shift
     timeout 20 env LD_PRELOAD="$work/refuse.so" REFUSED="$refused" COUNTED="$work/counted" \
@@ -163,7 +172,7 @@ case_of() {
     outputs=$3
     rm -rf "$work/case" "$work/whole" "$work/earlier"
     mkdir "$work/case" "$work/whole" "$work/earlier"
-    for output in agent.csv link_performance.csv gap.csv skim.csv counts.csv; do
+    for output in agent.csv link_performance.csv gap.csv skim.csv counts.csv sweep.txt; do
         echo earlier >"$work/earlier/$output"
     done
     : >"$work/earlier/report"
@@ -199,5 +208,10 @@ for loader in --plain '--workers 1' '--workers 4'; do
         counts --period 1 --horizon 60 --link 30 $loader
 done
 case_of 'a skim' link_times 'skim.csv report' skim --horizon 60 --at '0;55'
+for workers in 1 4; do
+    case_of "a sweep, $workers workers" a_way_round 'sweep.txt report' sweep --period 1 \
+        --horizon 60 --iterations 2 --scales '1;0.5;2' --workers $workers
+done
+case_of 'an audit' results report audit --period 30 --horizon 60
 [ $failures -eq 0 ] && echo 'all is as it should be'
 exit "$((failures > 0))"

@@ -1,22 +1,23 @@
 #!/usr/bin/env python3
-"""random_cases.py PROGRAM PEER [--cases N] [--seed S] [--stage 16] [--jobs J] [--case K] [--all]
+"""random_cases.py PROGRAM PEER [--cases N] [--seed S] [--stage 20] [--jobs J] [--case K] [--all]
                                  [--only KIND]
 
 Runs PROGRAM and PEER, another program of the same rules, in folders with equal tables, N times
 (1000 where N isn't said), and compares the status, standard output and standard error, and every
 file that is then there. Case K of seed S is the same wherever it is made with the same words:
-`--case K` runs it alone. With `--only KIND` all cases are of this kind: a command, such as skim or
-counts; `windows`, capacities by step in link and movement tables; `newell`, the queue with and
-without a wave; `start`, assignments from a start table. Otherwise each kind has its share. The link
-times that a skim reads are those of an `assign` of PEER, and a start table is its agent table; both
-as they are or changed.
+`--case K` runs it alone. With `--only KIND` all cases are of this kind: a command, such as skim,
+counts, sweep or audit; `windows`, capacities by step in link and movement tables; `newell`, the
+queue with and without a wave; `start`, assignments from a start table. Otherwise each kind has its
+share. The link times that a skim reads are those of an `assign` of PEER, and a start table is its
+agent table; both as they are or changed. An audit reads the agent table and the link times of one
+`assign` of PEER, mostly with one field or one row changed.
 
 PEER is called with `--stage` and its number before the words, unless the number is 0. The number is
 at least that from which on PEER has what the case needs: 14 for windows, 15 for `newell`, 16 for a
-start table, 19 for `skim` and `counts`. Features above the stage that is said aren't tried, unless
-`--only` asks for one. A stage below 17 has an older usage line, which is compared as if it were the
-one of now. At the first difference its folder is kept and named, and the status is 1; with --all
-each one is told.
+start table, 19 for `skim` and `counts`, 20 for `sweep` and `audit`. Features above the stage that
+is said aren't tried, unless `--only` asks for one. A stage below 17 has an older usage line, which
+is compared as if it were the one of now. At the first difference its folder is kept and named, and
+the status is 1; with --all each one is told.
 
 Where workers load, which watch lines come before the last one of an iteration is free within its
 rule, so those are held to the rule and to the agent table (watch_rule.py).
@@ -181,7 +182,7 @@ def read_settings():
     reader.add_argument("peer", type=os.path.abspath)
     reader.add_argument("--cases", type=int, default=1000)
     reader.add_argument("--seed", type=int, default=1)
-    reader.add_argument("--stage", type=int, default=16)
+    reader.add_argument("--stage", type=int, default=20)
     reader.add_argument("--jobs", type=int, default=2)
     reader.add_argument("--case", type=int)
     reader.add_argument("--all", action="store_true")

@@ -32,7 +32,7 @@ has() {
 
 # tables VOLUME: two links in a line, over which so many vehicles go.
 tables() {
-    rm -f ./*.csv
+    rm -f ./*.csv sweep.txt
     printf 'node_id,zone_id\n1,1\n2,\n3,3\n' >node.csv
     printf 'link_id,from_node_id,to_node_id,length,lanes,free_speed,capacity\n' >link.csv
     printf '10,1,2,1,1,60,600\n20,2,3,1,1,60,600\n' >>link.csv
@@ -96,12 +96,115 @@ turn,10,20,0,20,1
 turn,10,20,20,36,2
 through,1,3,0,36,3
 TEXT
-has 'no Watch' watch </dev/null
 sed -n '6,8p' report >states
 has 'every option of counts' states <<'TEXT'
 arrived 2
 running 1
 waiting 0
+TEXT
+
+# A sweep has the assignment of each scale, and an audit finds the tables of the first run right.
+ends 'every option of sweep' 0 "$program" sweep --step 12 --jam 250 --length-unit km \
+    --speed-unit mph --horizon 36 --period 36 --iterations 2 --workers 3 --bucket 20 \
+    --queue newell --wave 18 --scales '0.6667;1' >report 2>>watch
+has 'every option of sweep' report <<'TEXT'
+scenarios 2
+TEXT
+has 'every option of sweep' sweep.txt <<'TEXT'
+scenario 0 scale 666
+agent_id,o_zone_id,d_zone_id,departure_step,arrival_step,status,link_ids,entry_steps
+0,1,3,18,26,arrived,10;20,18;22
+link_id,from_step,to_step,entered,travel_steps,free_steps
+10,0,20,1,4,4
+10,20,36,0,4,4
+20,0,20,0,4,4
+20,20,36,1,4,4
+iteration,route_steps,least_steps,gap_steps,gap_ppm
+1,8,8,0,0
+2,8,8,0,0
+nodes 3
+links 2
+vehicles 1
+unrouted 0
+iterations 2
+arrived 1
+running 0
+waiting 0
+route_steps 8
+least_steps 8
+gap_steps 0
+gap_ppm 0
+scenario 1 scale 1000
+agent_id,o_zone_id,d_zone_id,departure_step,arrival_step,status,link_ids,entry_steps
+0,1,3,6,14,arrived,10;20,6;10
+1,1,3,18,26,arrived,10;20,18;22
+2,1,3,30,,running,10;20,30;34
+link_id,from_step,to_step,entered,travel_steps,free_steps
+10,0,20,2,4,4
+10,20,36,1,4,4
+20,0,20,1,4,4
+20,20,36,2,4,4
+iteration,route_steps,least_steps,gap_steps,gap_ppm
+1,24,24,0,0
+2,24,24,0,0
+nodes 3
+links 2
+vehicles 3
+unrouted 0
+iterations 2
+arrived 2
+running 1
+waiting 0
+route_steps 24
+least_steps 24
+gap_steps 0
+gap_ppm 0
+TEXT
+audited() {
+    "$program" audit --step 12 --jam 250 --length-unit km --speed-unit mph --horizon 36 \
+        --period 36 --bucket 20 --queue newell --wave 18
+}
+cp agent.csv start.csv
+ends 'every option of audit' 0 audited >report 2>>watch
+has 'every option of audit' report <<'TEXT'
+audit ok
+vehicles 3
+links 2
+TEXT
+has 'no Watch' watch </dev/null
+
+# What an audit finds: a row, a journey, a missing row, a link time; also where nobody reads it.
+sed -i '4s/running/arrived/' start.csv
+ends 'another status' 8 audited >report
+has 'another status' report <<'TEXT'
+audit: start line 4 status
+TEXT
+ends 'another status, a full standard output' 8 audited >/dev/full
+sed '4s/,10;20,/,20,/' agent.csv >start.csv
+ends 'a link that does not begin in the zone' 8 audited >report
+has 'a link that does not begin in the zone' report <<'TEXT'
+audit: start line 4 link_ids
+TEXT
+sed 4d agent.csv >start.csv
+ends 'a missing row' 8 audited >report
+has 'a missing row' report <<'TEXT'
+audit: start line 4 -
+TEXT
+cp agent.csv start.csv
+sed -i '3s/,1,4,4$/,1,5,4/' times.csv
+ends 'another link time' 8 audited >report
+has 'another link time' report <<'TEXT'
+audit: times line 3 travel_steps
+TEXT
+sed -i '3s/,1,5,4$/,1,5,5/' times.csv
+ends 'other free-flow steps' 3 audited >report
+has 'other free-flow steps' report <<'TEXT'
+times line 3: E13 Disagrees free_steps
+TEXT
+rm times.csv
+ends 'no link times' 4 audited >report
+has 'no link times' report <<'TEXT'
+read fault in times
 TEXT
 
 # Red on a link and on a turn, and a wave that keeps the first link's space back: vehicles leave it
@@ -145,11 +248,31 @@ ends 'a full standard error' 5 "$program" assign --length-unit km --watch 10 >re
 
 # The other statuses.
 ends 'no command' 2 "$program" >report
+ends 'a sweep without scales' 2 "$program" sweep >report
+ends 'a scale below a thousandth' 2 "$program" sweep --scales '1;0.0009' >report
+ends 'a scale above ten' 2 "$program" sweep --scales '10.001' >report
+ends '17 scales' 2 "$program" sweep --scales '1;1;1;1;1;1;1;1;1;1;1;1;1;1;1;1;1' >report
+ends 'an option that audit has not' 2 "$program" audit --iterations 1 >report
+has 'an option that audit has not' report <<'TEXT'
+usage: dta COMMAND [options]
+TEXT
 ends 'words that are no text' 1 "$program" "$(printf 'assign\377')" >/dev/null 2>&1
 tables 2000001
 ends 'too many vehicles' 7 "$program" assign >report
 has 'too many vehicles' report <<'TEXT'
 size: demand line 2 vehicles 2000001 limit 2000000
+TEXT
+tables 1000001
+ends 'too many vehicles at a scale' 7 "$program" sweep --scales '0.5;2' >report
+has 'too many vehicles at a scale' report <<'TEXT'
+size: demand line 2 vehicles 2000002 limit 2000000
+TEXT
+[ ! -e sweep.txt ] || fails 'too many vehicles at a scale: something was put'
+tables 3
+awk 'BEGIN { for (k = 0; k < 193; k++) print 100 + k ",1,2,1,1,60,600" }' >>link.csv
+ends 'too many links times steps' 7 "$program" sweep --scales 1 --horizon 86400 >report
+has 'too many links times steps' report <<'TEXT'
+size: links 195 steps 86400 limit 16777216
 TEXT
 tables x
 ends 'a volume that is no number' 3 "$program" assign >report

@@ -1,7 +1,7 @@
 #!/bin/sh
 # examples.sh PROGRAM: runs a built program over the examples that have a folder `expected`, with
 # the words of their READMEs and in a folder of its own, and ends with 0 where it writes these very
-# files.
+# files; and over those of audits and of many scenarios, where it prints what their READMEs say.
 [ $# -eq 1 ] || { echo "usage: examples.sh PROGRAM" >&2; exit 2; }
 program=$(realpath "$1")
 examples=$(realpath "$(dirname "$0")/../examples")
@@ -55,6 +55,52 @@ begin warm_start
 mv "$work/start.csv" .
 run assign --horizon 2400 --iterations 5 --start
 writes gap.csv
+
+begin roundabout
+run sweep --queue newell --scales '0.5;1;1.5;2'
+"$examples/roundabout/summary.sh" <sweep.txt >summary.csv
+writes summary.csv
+"$examples/roundabout/cut_out.sh" 1 <sweep.txt
+cp agent.csv link_performance.csv gap.csv report.txt "$work"
+run assign --queue newell
+for file in agent.csv link_performance.csv gap.csv; do cmp "$file" "$work/$file"; done &&
+    cmp report "$work/report.txt" || {
+    echo 'FAILED: roundabout, the scenario of scale 1 alone'
+    failures=$((failures + 1))
+}
+
+# audited STATUS LINE: an audit of the tables start.csv and times.csv ends with this status and
+# prints this line first.
+audited() {
+    "$program" audit --period 1 --horizon 60 >report
+    got="$? $(head -n 1 report)"
+    [ "$got" = "$1 $2" ] || {
+        echo "FAILED: audit, wanted $1 $2, got $got"
+        failures=$((failures + 1))
+    }
+}
+
+begin audit
+cp "$examples/audit/changed/agent.csv" start.csv
+cp "$examples/audit/changed/link_performance.csv" times.csv
+audited 8 'audit: start line 5 arrival_step'
+run assign --period 1 --horizon 60 --iterations 2
+cp agent.csv start.csv
+audited 8 'audit: times line 2 travel_steps'
+cp link_performance.csv times.csv
+audited 0 'audit ok'
+cp "$examples/audit/left_out/agent.csv" start.csv
+cp "$examples/audit/left_out/link_performance.csv" times.csv
+audited 0 'audit ok'
+
+cp -r "$examples/many_scenarios" "$work" && cd "$work/many_scenarios" || exit 2
+for folder in scenarios/*/; do
+    ./run_one.sh "$program" "$folder" || failures=$((failures + 1))
+done
+./check.sh "$program" >/dev/null || {
+    echo 'FAILED: many_scenarios'
+    failures=$((failures + 1))
+}
 
 [ "$failures" -eq 0 ] && echo 'all examples write what is expected'
 exit "$((failures > 0))"
