@@ -23,6 +23,7 @@ mod words;
 
 pub use command::{Command, Settings};
 pub use grammar::settings;
+pub use options::GREATEST_SCALE;
 pub use refusal::WordsRefusal;
 pub use scales::Scales;
 pub use words::Words;

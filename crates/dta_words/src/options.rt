@@ -4,6 +4,7 @@ ghost use Rattle.clap.specs.Walk.{texts};
 ghost use Rattle.dta_words.specs.Options.{takes_of};
 
 use dta_model::{MOST_HORIZON, MOST_WAVE};
+use fixed_units::{MOST_JAM, MOST_STEP};
 
 /// The command that the first word names.
 #[derive(Clone, Copy, Debug, PartialEq, Eq)]
@@ -36,14 +37,14 @@ pub(crate) struct Flags {
 /// The seconds of a step.
 pub(crate) const STEP: Bounds = Bounds {
     least: 1,
-    most: 60,
+    most: MOST_STEP,
     default: 6,
 };
 
 /// The vehicles on a kilometre of a lane in a jam.
 pub(crate) const JAM: Bounds = Bounds {
     least: 1,
-    most: 1000,
+    most: MOST_JAM,
     default: 125,
 };
 
@@ -102,7 +103,7 @@ pub(crate) const MOST_SCALES: usize = 16;
 pub(crate) const LEAST_SCALE: u64 = 1;
 
 /// A multiple of the demand in thousandths, at most.
-pub(crate) const GREATEST_SCALE: u64 = 10_000;
+pub const GREATEST_SCALE: u64 = 10_000;
 
 /// The nodes on a side of the grid of `demo`, at least.
 pub(crate) const LEAST_SIDE: u32 = 2;

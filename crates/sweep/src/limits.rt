@@ -1,16 +1,16 @@
 // The first scenario whose vehicles are too many.
-ghost use Rattle.std.specs.Prelude.{◌≡◌, ◌≢◌, ℕ, ◌+◌, ◌<◌, ◌≤◌, ◌^◌, ◌↔◌, All, Err, IfErr, OnOk};
+ghost use Rattle.std.specs.Prelude.{◌≡◌, ◌≢◌, ℕ, ◌≤◌, ◌↔◌, All, Err, IfErr, OnOk};
 ghost use Rattle.fixed_units.specs.declared.quantity.TheConstants.{MOST_THOUSANDTHS};
-ghost use Rattle.dta_model.specs.Release.{counted};
 ghost use Rattle.dta_words.specs.Ranges.{AreScales};
+ghost use Rattle.dta_words.specs.declared.options.TheConstants.{GREATEST_SCALE};
 ghost use Rattle.vehicle_release.specs.Limits.{IsFirstAbove, IsWithin};
 ghost use Rattle.sweep.specs.Scales.{AreAllWithin, IsFirstTooMany, scaled};
 ghost use Rattle.sweep.specs.declared.fault.SweepFault.TheVariants as fault;
-ghost use Rattle.sweep.specs.declared.scales.TheConstants.{MOST_SCALE};
 
 use crate::fault::SweepFault;
 use crate::scales::times;
 use dta_model::{DemandCell, MOST_TRIPS, VOLUME_OF_A_VEHICLE};
+use vehicle_release::with_row;
 
 // The line of the first row with which the vehicles are too many, and how many there are up to and
 // with it.
@@ -20,23 +20,11 @@ struct Excess {
     total: u64,
 }
 
-// A sum of volumes with one more row. A row within a zone counts nothing.
-fn with_row(volume: u64, cell: &DemandCell) -> u64
-    requires { volume + counted cell.now < 2 ^ 64 }
-    ensures { result ≡ volume + counted cell.now }
-{
-    if cell.origin == cell.destination {
-        volume
-    } else {
-        volume + cell.volume
-    }
-}
-
 // Checks the vehicles of a scenario.
 #[tactic(auto, using(crate::proofs::LimitFacts::counting))]
 fn check_scale(cells: &[DemandCell], scale: u64) -> Result<(), Excess>
     requires volumes { All (λ cell. cell.volume ≤ MOST_THOUSANDTHS) cells.now }
-    requires scale { scale ≤ MOST_SCALE }
+    requires scale { scale ≤ GREATEST_SCALE }
     ensures within { OnOk result (IsWithin (scaled scale cells.now)) }
     ensures first { IfErr result (λ e. IsFirstAbove (scaled scale cells.now) e.line e.total) }
 {

@@ -3,12 +3,12 @@ ghost use Rattle.std.specs.Prelude.{◌≡◌, ◌<◌, ◌≤◌, ◌↔◌, �
 ghost use Rattle.std.specs.List.{AllZip};
 ghost use Rattle.fixed_units.specs.declared.quantity.TheConstants.{MOST_THOUSANDTHS};
 ghost use Rattle.dta_words.specs.Ranges.{AreScales, AreSettings};
+ghost use Rattle.dta_words.specs.declared.options.TheConstants.{GREATEST_SCALE};
 ghost use Rattle.sweep.specs.Rounds.{AreKept};
 ghost use Rattle.sweep.specs.Scales.{AreAllWithin, IsFirstTooMany, scaled, trips_at};
 ghost use Rattle.sweep.specs.Scenarios.{AreScenarios, IsScenario};
 ghost use Rattle.sweep.specs.Traffic.{IsTraffic, traffic_over};
 ghost use Rattle.sweep.specs.declared.fault.SweepFault.TheVariants as fault;
-ghost use Rattle.sweep.specs.declared.scales.TheConstants.{MOST_SCALE};
 ghost use Rattle.vehicle_release.specs.Limits.{IsWithin};
 
 use crate::assignment::assign;
@@ -38,7 +38,7 @@ fn released(
 ) -> Result<Vec<Trip>, Memory>
     requires settings { AreSettings settings.now }
     requires volumes { All (λ cell. cell.volume ≤ MOST_THOUSANDTHS) cells.now }
-    requires scale { scale ≤ MOST_SCALE }
+    requires scale { scale ≤ GREATEST_SCALE }
     requires within { IsWithin (scaled scale cells.now) }
     ensures trips { IfOk result (λ trips.
         trips.items ≡ trips_at scale cells.now settings.now.period) }
@@ -64,7 +64,7 @@ fn worked<R: AllocGlobal + Threads + Sync>(
 ) -> Result<Scenario, Memory>
     requires settings { AreSettings settings.now }
     requires volumes { All (λ cell. cell.volume ≤ MOST_THOUSANDTHS) cells.now }
-    requires scale { scale ≤ MOST_SCALE }
+    requires scale { scale ≤ GREATEST_SCALE }
     requires within { IsWithin (scaled scale cells.now) }
     ensures { IfOk result (IsScenario settings.now net.now cells.now scale) }
 {
@@ -84,7 +84,7 @@ fn side_by_side<R: AllocGlobal + Threads + Sync>(
 ) -> Result<Vec<Result<Scenario, Memory>>, Memory>
     requires settings { AreSettings settings.now }
     requires volumes { All (λ cell. cell.volume ≤ MOST_THOUSANDTHS) cells.now }
-    requires scales { All (λ scale. scale ≤ MOST_SCALE) scales.now }
+    requires scales { All (λ scale. scale ≤ GREATEST_SCALE) scales.now }
     requires within { AreAllWithin cells.now scales.now }
     ensures { IfOk result (λ all. AllZip (λ scale one.
         IfOk one (IsScenario settings.now net.now cells.now scale)) scales.now all.items) }
@@ -92,7 +92,7 @@ fn side_by_side<R: AllocGlobal + Threads + Sync>(
     let one = |place: usize| -> Result<Scenario, Memory>
         requires { AreSettings settings.now
             × All (λ cell. cell.volume ≤ MOST_THOUSANDTHS) cells.now
-            × All (λ scale. scale ≤ MOST_SCALE) scales.now
+            × All (λ scale. scale ≤ GREATEST_SCALE) scales.now
             × AreAllWithin cells.now scales.now × (place < length scales.now) }
         ensures { IfOk result (IsScenario settings.entry.now net.entry.now cells.entry.now
             (get_or scales.entry.now place 0)) }
@@ -122,7 +122,7 @@ fn all_scenarios<R: AllocGlobal + Threads + Sync>(
 ) -> Result<Vec<Scenario>, Memory>
     requires settings { AreSettings settings.now }
     requires volumes { All (λ cell. cell.volume ≤ MOST_THOUSANDTHS) cells.now }
-    requires scales { All (λ scale. scale ≤ MOST_SCALE) scales.now }
+    requires scales { All (λ scale. scale ≤ GREATEST_SCALE) scales.now }
     requires within { AreAllWithin cells.now scales.now }
     requires workers { 1 ≤ workers }
     ensures { IfOk result (λ all.

@@ -1,7 +1,7 @@
 // Demand times a scale.
 ghost use Rattle.std.specs.Prelude.{◌≡◌, ◌≤◌, All, IfOk};
 ghost use Rattle.fixed_units.specs.declared.quantity.TheConstants.{MOST_THOUSANDTHS};
-ghost use Rattle.sweep.specs.declared.scales.TheConstants.{MOST_SCALE};
+ghost use Rattle.dta_words.specs.declared.options.TheConstants.{GREATEST_SCALE};
 ghost use Rattle.sweep.specs.Scales.{scaled, scaled_cell, scaled_volume};
 
 use dta_model::DemandCell;
@@ -12,13 +12,10 @@ use std::alloc::Global;
 /// The thousandths of a scale of one.
 const THOUSANDTHS: u64 = 1000;
 
-/// The greatest scale, in thousandths.
-pub(crate) const MOST_SCALE: u64 = 10_000;
-
 /// A volume times a scale in thousandths, rounded down, and at most the greatest volume.
 fn times_scale(volume: u64, scale: u64) -> u64
     requires volume { volume ≤ MOST_THOUSANDTHS }
-    requires scale { scale ≤ MOST_SCALE }
+    requires scale { scale ≤ GREATEST_SCALE }
     ensures { result ≡ scaled_volume scale volume }
 {
     (volume * scale / THOUSANDTHS).min(MOST_THOUSANDTHS)
@@ -27,7 +24,7 @@ fn times_scale(volume: u64, scale: u64) -> u64
 /// A demand row with its volume times a scale.
 pub(crate) fn times(cell: &DemandCell, scale: u64) -> DemandCell
     requires volume { cell.now.volume ≤ MOST_THOUSANDTHS }
-    requires scale { scale ≤ MOST_SCALE }
+    requires scale { scale ≤ GREATEST_SCALE }
     ensures is { result ≡ scaled_cell scale cell.now }
     ensures volume { result.volume ≤ MOST_THOUSANDTHS }
 {
@@ -44,7 +41,7 @@ pub(crate) fn all_times(
     scale: u64,
 ) -> Result<Vec<DemandCell>, Memory>
     requires volumes { All (λ cell. cell.volume ≤ MOST_THOUSANDTHS) cells.now }
-    requires scale { scale ≤ MOST_SCALE }
+    requires scale { scale ≤ GREATEST_SCALE }
     ensures are { IfOk result (λ items. items.items ≡ scaled scale cells.now) }
     ensures volumes { IfOk result (λ items.
         All (λ cell. cell.volume ≤ MOST_THOUSANDTHS) items.items) }

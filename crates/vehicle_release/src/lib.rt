@@ -9,6 +9,7 @@ mod sums;
 mod trips;
 
 pub use fault::ReleaseFault;
+pub use sums::with_row;
 pub use trips::release;
 
 #[cfg(test)]

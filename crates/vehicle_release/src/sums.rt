@@ -7,8 +7,8 @@ ghost use Rattle.vehicle_release.specs.Limits.{IsWithin, TellsFirstAbove};
 use crate::fault::ReleaseFault;
 use dta_model::{DemandCell, MOST_TRIPS, VOLUME_OF_A_VEHICLE};
 
-/// A sum of volumes with one more row.
-pub(crate) fn with_row(volume: u64, cell: &DemandCell) -> u64
+/// A sum of volumes with one more row, in thousandths. A row within a zone counts nothing.
+pub fn with_row(volume: u64, cell: &DemandCell) -> u64
     requires { volume + counted cell.now < 2 ^ 64 }
     ensures { result ≡ volume + counted cell.now }
 {
