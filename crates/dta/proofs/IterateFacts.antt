@@ -1,12 +1,9 @@
 -- The iterations of an assignment, one after another.
-use Rattle.std.specs.Prelude.{Result, IfOk, IfErr, slice_get}
-use Rattle.std.proofs.Common.{◌≡◌, ℕ, ◌+◌, ◌<◌, ◌≤◌, List, [], ◌∷◌, ◌++◌, length, refl, ap, sym, subst, ◌∙◌, arith, length-append, ◌⊎◌, inl, inr, Some}
-use Rattle.std.proofs.lemmas.Bool.{cases_lt}
-use Rattle.std.proofs.lemmas.List.{get_or_append_left}
+use Rattle.std.specs.Prelude.{Result, IfOk, IfErr}
+use Rattle.std.proofs.Common.{◌≡◌, ℕ, ◌+◌, ◌≤◌, List, [], ◌∷◌, ◌++◌, length, refl, ap, sym, subst, ◌∙◌, arith, length-append, inl, inr}
 use Rattle.std.proofs.lemmas.Result.{IfErr-weaker, IfOk-weaker}
 use Rattle.desk_io.specs.Faults.{Rose}
-use Rattle.std.proofs.lemmas.Option.{get_or_from_slice_get, slice_get-get_or, slice_get_within}
-use Rattle.std.proofs.Math.Seq.{get_or-append_seam}
+use Rattle.std.proofs.lemmas.Option.{slice_get_within}
 use Rattle.desk_io.specs.Desk.{Taken}
 use Rattle.net_core.specs.declared.rows.NetRows.{NetRows}
 use Rattle.dta_model.specs.LinkTimes.{TimeTable, free_steps, time_at}
@@ -32,59 +29,16 @@ use Rattle.dta.specs.declared.halt.Halt.{Halt}
 use Rattle.dta.specs.declared.halt.Halt.TheVariants as halt
 use Rattle.dta.specs.Outputs.{AreSinceTold, IsCutOff, end_lines}
 use Rattle.dta.specs.Calls.{HaltsFrom, IsFinished}
-use Rattle.sweep.proofs.AssignmentFacts.{free-of as free-steps-of, table-links as links-of-table}
+use Rattle.sweep.proofs.AssignmentFacts.{free-of as free-steps-of, get-kept, only-first}
+use Rattle.sweep.proofs.AssignmentFacts.{sound-plan as sound-plan-of, table-links as links-of-table}
+use Rattle.sweep.proofs.AssignmentFacts.{with-gap, with-next}
 use Rattle.sweep.proofs.ScenarioFacts.{many-journeys as journeys-of, on-net as on-net-of}
 use Rattle.dta.proofs.ChainFacts.{rose-earlier}
 use Rattle.dta.proofs.OutputFacts.{cut-more, end-lines, grown-more, watch-more}
 
 -- a job, settings and routes make a sound loading
 pub sound-plan : (s : Settings) (job : JobRows) (routes : VehicleRoutes) → AreSettings s → IsJob s job → AreRoutesOf job routes → IsSound (plan_of s job routes)
-sound-plan s job routes settings good are = record {
-  net = good.net;
-  delta_least = settings.step.0;
-  delta_most = settings.step.1;
-  horizon_least = settings.horizon.0;
-  horizon_most = (let h = settings.horizon.1 in omega (arith, h));
-  queue = settings.queue;
-  trips = good.trips.in_order;
-  rising = good.trips.rising;
-  early = good.trips.early;
-  each = are.each;
-  walks = are.walks;
-}
-
--- an element of a list stands there too once more is added
-get-kept : {A : Type 0} → (xs ys : List A) (i : ℕ) (x : A) → slice_get xs i ≡ Some x → slice_get (xs ++ ys) i ≡ Some x
-get-kept xs ys i x e =
-    let h = slice_get_within xs i x e in
-    slice_get-get_or (xs ++ ys) i x (omega (arith, h, length-append xs ys))
-    ∙ ap Some (get_or_append_left xs ys x i h ∙ get_or_from_slice_get xs i x x e)
-
--- and one that stands early in the longer list stood there before
-get-back : {A : Type 0} → (xs ys : List A) (i : ℕ) (x : A) → slice_get (xs ++ ys) i ≡ Some x → i < length xs → slice_get xs i ≡ Some x
-get-back xs ys i x e h =
-    slice_get-get_or xs i x h
-    ∙ ap Some (sym (get_or_append_left xs ys x i h) ∙ get_or_from_slice_get (xs ++ ys) i x x e)
-
--- after a list stands what was added to it
-get-last : {A : Type 0} → (xs : List A) (y : A) (i : ℕ) (x : A) → slice_get (xs ++ y ∷ []) i ≡ Some x → i ≡ length xs → y ≡ x
-get-last xs y i x e h =
-    sym (get_or-append_seam xs y [] x)
-    ∙ get_or_from_slice_get (xs ++ y ∷ []) (length xs) x x (rw (← h) e)
-
--- how far a place is in a list with one more
-last-or-before : {A : Type 0} → (xs : List A) (y : A) (i : ℕ) (x : A) → slice_get (xs ++ y ∷ []) i ≡ Some x → (i < length xs) ⊎ (i ≡ length xs)
-last-or-before xs y i x e = by (cases_lt i (length xs))
-  where
-    by : (i < length xs) ⊎ (length xs ≤ i) → (i < length xs) ⊎ (i ≡ length xs)
-    by (inl h) = inl h
-    by (inr h) =
-        let w = slice_get_within (xs ++ y ∷ []) i x e in
-        inr (omega (arith, w, h, length-append xs (y ∷ [])))
-
--- what stands for a trip that isn't there
-abbrev pub no_trip : Trip
-no_trip = record { number = 0; origin = 0; destination = 0; departure = 0 }
+sound-plan s job routes settings good are = sound-plan-of s (traffic_of job) routes settings good.net good.trips are
 
 -- a table of a job's loading has its links
 pub table-links : (s : Settings) (job : JobRows) (routes : VehicleRoutes) (t : TimeTable) (net : NetRows) → t ≡ times_of s job routes → net ≡ job.net → length t.free ≡ length net.links
@@ -159,21 +113,13 @@ module _ (s : Settings) (job : JobRows) (r : Result Assigned Halt) (routes : Veh
 
 -- the iterations of a job
 module _ (s : Settings) (job : JobRows) where
-  -- the first routes alone
-  only-first : (r : VehicleRoutes) → AreStartRows job.start → AreStartedRoutes job.net job.start job.trips r → AreIterations s job (r ∷ []) []
-  only-first r rows are = record {
-    start = rows;
-    first = λ z e. subst (AreStartedRoutes job.net job.start job.trips) (get-last [] r 0 z e refl) are;
-    next = λ i old new e f. let h = slice_get_within (r ∷ []) (i + 1) new f in absurd (omega (arith, h));
-    gaps = λ i z line e f. let h = slice_get_within {A = GapLine} [] i line f in absurd (omega (arith, h));
-  }
-
+  -- the first routes are there
   pub begun : (r : VehicleRoutes) (lines : List GapLine) (start : Taken) → lines ≡ [] → AreStartRows job.start → AreStartedRoutes job.net job.start job.trips r → IsAt s job 1 r lines start start
   begun r lines start none rows are = rw none record {
     done = [];
     as_many = refl;
     with_gaps = refl;
-    iterations = only-first r rows are;
+    iterations = only-first s (traffic_of job) r rows are;
     texts = [];
     watch_lines = refl;
     watched = refl;
@@ -187,55 +133,6 @@ module _ (s : Settings) (job : JobRows) where
     next = λ i old new e f. it.next i old new (get-kept done (r ∷ []) i old e) (get-kept done (r ∷ []) (i + 1) new f);
     gaps = λ i z line e f. it.gaps i z line (get-kept done (r ∷ []) i z e) f;
   }
-
-  -- the gap of the last iteration
-  with-gap : (done : List VehicleRoutes) (r : VehicleRoutes) (lines : List GapLine) (line : GapLine) → length lines ≡ length done
-      → IsGapLine (time_at (times_of s job r)) job.net job.trips r line
-      → AreIterations s job (done ++ r ∷ []) lines → AreIterations s job (done ++ r ∷ []) (lines ++ line ∷ [])
-  with-gap done r lines line many gap it = record {
-    start = it.start;
-    first = it.first;
-    next = it.next;
-    gaps = λ i z l e f. by i z l e f (last-or-before lines line i l f);
-  }
-    where
-      by : (i : ℕ) (z : VehicleRoutes) (l : GapLine) → slice_get (done ++ r ∷ []) i ≡ Some z → slice_get (lines ++ line ∷ []) i ≡ Some l
-          → (i < length lines) ⊎ (i ≡ length lines) → IsGapLine (time_at (times_of s job z)) job.net job.trips z l
-      by i z l e f (inl h) = it.gaps i z l e (get-back lines (line ∷ []) i l f h)
-      by i z l e f (inr h) =
-          subst (λ (z : VehicleRoutes). IsGapLine (time_at (times_of s job z)) job.net job.trips z l) (get-last done r i z e (h ∙ many))
-          (subst (IsGapLine (time_at (times_of s job r)) job.net job.trips r) (get-last lines line i l f h) gap)
-
-  -- the routes of one more iteration
-  with-next : (done : List VehicleRoutes) (r next : VehicleRoutes) (lines : List GapLine) → length lines ≡ length done + 1
-      → AreNextRoutes (time_at (times_of s job r)) job.net job.trips (length done + 1) r next
-      → AreIterations s job (done ++ r ∷ []) lines → AreIterations s job ((done ++ r ∷ []) ++ next ∷ []) lines
-  with-next done r next lines many are it = record {
-    start = it.start;
-    first = λ z e. it.first z (get-back all (next ∷ []) 0 z e (omega (arith, long)));
-    next = λ i old new e f. by i old new e f (last-or-before all next (i + 1) new f);
-    gaps = λ i z l e f.
-        let h = slice_get_within lines i l f in
-        it.gaps i z l (get-back all (next ∷ []) i z e (omega (arith, h, long, many))) f;
-  }
-    where
-      all : List VehicleRoutes
-      all = done ++ r ∷ []
-
-      long : length (done ++ r ∷ []) ≡ length done + 1
-      long = omega (arith, length-append done (r ∷ []))
-
-      by : (i : ℕ) (old new : VehicleRoutes) → slice_get ((done ++ r ∷ []) ++ next ∷ []) i ≡ Some old → slice_get ((done ++ r ∷ []) ++ next ∷ []) (i + 1) ≡ Some new
-          → (i + 1 < length (done ++ r ∷ [])) ⊎ (i + 1 ≡ length (done ++ r ∷ [])) → AreNextRoutes (time_at (times_of s job old)) job.net job.trips (i + 1) old new
-      by i old new e f (inl h) =
-          it.next i old new (get-back (done ++ r ∷ []) (next ∷ []) i old e (omega (arith, h))) (get-back (done ++ r ∷ []) (next ∷ []) (i + 1) new f h)
-      by i old new e f (inr h) =
-          let at : i ≡ length done = omega (arith, h, long) in
-          let was = get-last done r i old (get-back (done ++ r ∷ []) (next ∷ []) i old e (omega (arith, h))) at in
-          let is = get-last (done ++ r ∷ []) next (i + 1) new f h in
-          subst (λ (n : ℕ). AreNextRoutes (time_at (times_of s job old)) job.net job.trips (n + 1) old new) (sym at)
-          (subst (λ (old : VehicleRoutes). AreNextRoutes (time_at (times_of s job old)) job.net job.trips (length done + 1) old new) was
-          (subst (AreNextRoutes (time_at (times_of s job r)) job.net job.trips (length done + 1) r) is are))
 
   -- an iteration that isn't the last is done
   pub ahead : (number : ℕ) (r next : VehicleRoutes) (lines more : List GapLine) (line : GapLine) (start before now : Taken)
@@ -253,9 +150,9 @@ module _ (s : Settings) (job : JobRows) where
         done = at.done ++ r ∷ [];
         as_many = omega (arith, many, long);
         with_gaps = omega (arith, gaps, long, length-append lines (line ∷ []));
-        iterations = with-next at.done r next (lines ++ line ∷ []) (omega (arith, gaps, length-append lines (line ∷ [])))
+        iterations = with-next s (traffic_of job) at.done r next (lines ++ line ∷ []) (omega (arith, gaps, length-append lines (line ∷ [])))
             (subst (λ (n : ℕ). AreNextRoutes (time_at (times_of s job r)) job.net job.trips n r next) (sym many) are)
-            (with-gap at.done r lines line gaps gap at.iterations);
+            (with-gap s (traffic_of job) at.done r lines line gaps gap at.iterations);
         texts = at.texts ++ put.0;
         watch_lines = watch-more s job 1 number at.done r at.texts put.0 many at.watch_lines put.1;
         watched = grown-more at.texts put.0 start before now at.watched put.2;
@@ -329,7 +226,7 @@ module _ (s : Settings) (job : JobRows) where
     before = lines;
     with_gaps = at.with_gaps;
     lines_are = pushed;
-    iterations = rw pushed (with-gap at.done a.routes lines a.line at.with_gaps gap at.iterations);
+    iterations = rw pushed (with-gap s (traffic_of job) at.done a.routes lines a.line at.with_gaps gap at.iterations);
     texts = at.texts ++ put.0;
     watch_lines = watch-more s job 1 s.iterations at.done a.routes at.texts put.0 at.as_many at.watch_lines put.1;
     watched = grown-more at.texts put.0 start before now at.watched put.2;

@@ -6,6 +6,7 @@ use Rattle.std.proofs.lemmas.Bool.{cases_lt}
 use Rattle.std.proofs.lemmas.List.{get_or_append_left, length-map}
 use Rattle.std.proofs.lemmas.Option.{get_or_from_slice_get, slice_get-get_or, slice_get_within}
 use Rattle.std.proofs.Math.Seq.{get_or-append_seam}
+use Rattle.net_core.specs.Network.{IsNet}
 use Rattle.net_core.specs.declared.rows.NetRows.{NetRows}
 use Rattle.dta_model.specs.LinkTimes.{TimeTable, free_steps, table_in, table_of, time_at}
 use Rattle.dta_model.specs.Sound.{AreWalks, IsSound}
@@ -22,21 +23,22 @@ use Rattle.dta_words.specs.Ranges.{AreSettings}
 use Rattle.dta_words.specs.declared.command.Settings.{Settings}
 use Rattle.sweep.specs.Assignment.{AreIterations, Traffic, VehicleRoutes, plan_of, times_of}
 use Rattle.sweep.specs.Progress.{IsAssigned, IsAt, IsLast}
-use Rattle.sweep.specs.Traffic.{AreRoutesOf, IsTraffic, traffic_over}
+use Rattle.sweep.specs.Traffic.{AreRoutesOf, AreTripsBelow, IsTraffic, traffic_over}
 use Rattle.sweep.specs.declared.assignment.Assigned.{Assigned}
 
 -- traffic, settings and routes make a sound loading
-pub sound-plan : (s : Settings) (traffic : Traffic) (routes : VehicleRoutes) → AreSettings s → IsTraffic s.horizon traffic → AreRoutesOf traffic routes → IsSound (plan_of s traffic routes)
-sound-plan s traffic routes settings good are = record {
-  net = good.net;
+pub sound-plan : (s : Settings) (traffic : Traffic) (routes : VehicleRoutes) → AreSettings s → IsNet traffic.net → AreTripsBelow s.horizon traffic.trips
+    → AreRoutesOf traffic routes → IsSound (plan_of s traffic routes)
+sound-plan s traffic routes settings net trips are = record {
+  net = net;
   delta_least = settings.step.0;
   delta_most = settings.step.1;
   horizon_least = settings.horizon.0;
   horizon_most = (let h = settings.horizon.1 in omega (arith, h));
   queue = settings.queue;
-  trips = good.trips.in_order;
-  rising = good.trips.rising;
-  early = good.trips.early;
+  trips = trips.in_order;
+  rising = trips.rising;
+  early = trips.early;
   each = are.each;
   walks = are.walks;
 }
@@ -45,7 +47,7 @@ sound-plan s traffic routes settings good are = record {
 pub sound-loading : (s : Settings) (traffic : Traffic) (routes : VehicleRoutes) (p : Plan) → p ≡ plan_of s traffic routes
     → AreSettings s → IsTraffic s.horizon traffic → AreRoutesOf traffic routes → IsSound p
 sound-loading s traffic routes p e settings good are =
-    subst IsSound (sym e) (sound-plan s traffic routes settings good are)
+    subst IsSound (sym e) (sound-plan s traffic routes settings good.net good.trips are)
 
 -- the free-flow steps of a loading's table are those of its network
 table-free : (p : Plan) (bucket : ℕ) → (table_of p bucket).free ≡ free_steps p.net
@@ -70,20 +72,20 @@ table-links s traffic routes t e =
 -- ---- lists with one more
 
 -- an element of a list stands there too once more is added
-get-kept : {A : Type 0} → (xs ys : List A) (i : ℕ) (x : A) → slice_get xs i ≡ Some x → slice_get (xs ++ ys) i ≡ Some x
+pub get-kept : {A : Type 0} → (xs ys : List A) (i : ℕ) (x : A) → slice_get xs i ≡ Some x → slice_get (xs ++ ys) i ≡ Some x
 get-kept xs ys i x e =
     let h = slice_get_within xs i x e in
     slice_get-get_or (xs ++ ys) i x (omega (arith, h, length-append xs ys))
     ∙ ap Some (get_or_append_left xs ys x i h ∙ get_or_from_slice_get xs i x x e)
 
 -- and one that stands early in the longer list stood there before
-get-back : {A : Type 0} → (xs ys : List A) (i : ℕ) (x : A) → slice_get (xs ++ ys) i ≡ Some x → i < length xs → slice_get xs i ≡ Some x
+pub get-back : {A : Type 0} → (xs ys : List A) (i : ℕ) (x : A) → slice_get (xs ++ ys) i ≡ Some x → i < length xs → slice_get xs i ≡ Some x
 get-back xs ys i x e h =
     slice_get-get_or xs i x h
     ∙ ap Some (sym (get_or_append_left xs ys x i h) ∙ get_or_from_slice_get (xs ++ ys) i x x e)
 
 -- after a list stands what was added to it
-get-last : {A : Type 0} → (xs : List A) (y : A) (i : ℕ) (x : A) → slice_get (xs ++ y ∷ []) i ≡ Some x → i ≡ length xs → y ≡ x
+pub get-last : {A : Type 0} → (xs : List A) (y : A) (i : ℕ) (x : A) → slice_get (xs ++ y ∷ []) i ≡ Some x → i ≡ length xs → y ≡ x
 get-last xs y i x e h =
     sym (get_or-append_seam xs y [] x)
     ∙ get_or_from_slice_get (xs ++ y ∷ []) (length xs) x x (rw (← h) e)
@@ -95,7 +97,7 @@ get-added xs y i h =
     ∙ ap Some (get_or-append_seam xs y [] y))
 
 -- how far a place is in a list with one more
-last-or-before : {A : Type 0} → (xs : List A) (y : A) (i : ℕ) (x : A) → slice_get (xs ++ y ∷ []) i ≡ Some x → (i < length xs) ⊎ (i ≡ length xs)
+pub last-or-before : {A : Type 0} → (xs : List A) (y : A) (i : ℕ) (x : A) → slice_get (xs ++ y ∷ []) i ≡ Some x → (i < length xs) ⊎ (i ≡ length xs)
 last-or-before xs y i x e = by (cases_lt i (length xs))
   where
     by : (i < length xs) ⊎ (length xs ≤ i) → (i < length xs) ⊎ (i ≡ length xs)
@@ -113,7 +115,7 @@ no-start-rows = record { distinct = tt; few = search rules }
 
 module _ (s : Settings) (traffic : Traffic) where
   -- the first routes alone
-  only-first : (r : VehicleRoutes) → AreStartRows traffic.start → AreStartedRoutes traffic.net traffic.start traffic.trips r → AreIterations s traffic (r ∷ []) []
+  pub only-first : (r : VehicleRoutes) → AreStartRows traffic.start → AreStartedRoutes traffic.net traffic.start traffic.trips r → AreIterations s traffic (r ∷ []) []
   only-first r rows are = record {
     start = rows;
     first = λ z e. subst (AreStartedRoutes traffic.net traffic.start traffic.trips) (get-last [] r 0 z e refl) are;
@@ -122,7 +124,7 @@ module _ (s : Settings) (traffic : Traffic) where
   }
 
   -- the gap of the last iteration
-  with-gap : (done : List VehicleRoutes) (r : VehicleRoutes) (lines : List GapLine) (line : GapLine) → length lines ≡ length done
+  pub with-gap : (done : List VehicleRoutes) (r : VehicleRoutes) (lines : List GapLine) (line : GapLine) → length lines ≡ length done
       → IsGapLine (time_at (times_of s traffic r)) traffic.net traffic.trips r line
       → AreIterations s traffic (done ++ r ∷ []) lines → AreIterations s traffic (done ++ r ∷ []) (lines ++ line ∷ [])
   with-gap done r lines line many gap it = record {
@@ -140,7 +142,7 @@ module _ (s : Settings) (traffic : Traffic) where
           (subst (IsGapLine (time_at (times_of s traffic r)) traffic.net traffic.trips r) (get-last lines line i l f h) gap)
 
   -- the routes of one more iteration
-  with-next : (done : List VehicleRoutes) (r next : VehicleRoutes) (lines : List GapLine) → length lines ≡ length done + 1
+  pub with-next : (done : List VehicleRoutes) (r next : VehicleRoutes) (lines : List GapLine) → length lines ≡ length done + 1
       → AreNextRoutes (time_at (times_of s traffic r)) traffic.net traffic.trips (length done + 1) r next
       → AreIterations s traffic (done ++ r ∷ []) lines → AreIterations s traffic ((done ++ r ∷ []) ++ next ∷ []) lines
   with-next done r next lines many are it = record {
