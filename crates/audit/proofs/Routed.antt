@@ -1,14 +1,13 @@
 -- Rows of an agent table whose checks against the trips hold: there are as many as trips, and their routes are walks.
-use Rattle.std.proofs.Common.{◌≡◌, ◌⊎◌, inl, inr, ℕ, zero, suc, ◌+◌, ◌<◌, ◌≤◌, Bool, true, false, List, [], ◌∷◌, ◌++◌, length, refl, ap, sym, ◌∙◌, subst, arith, Option, Some, None, get_or, map, rules, take, Bor}
+use Rattle.std.proofs.Common.{◌≡◌, ◌⊎◌, inl, inr, ℕ, ◌+◌, ◌<◌, ◌≤◌, Bool, true, false, List, [], ◌∷◌, ◌++◌, length, refl, ap, sym, ◌∙◌, subst, arith, Option, Some, None, get_or, map, rules, take, Bor}
 use Rattle.std.specs.Prelude.{IsTrue, ◌↔◌, nat_eq, nat_lt, slice_get, option_map, option_copied, is_some, IfSome}
 use Rattle.std.specs.List.{enumerate_from, flat_map}
 use Rattle.std.proofs.lemmas.Bool.{cases_lt, ltb-false, ltb-true}
-use Rattle.std.proofs.lemmas.List.{length-map, map-append, take_more}
+use Rattle.std.proofs.lemmas.List.{map-append, take_more}
 use Rattle.std.proofs.lemmas.Option.{slice_get-map, slice_get_past, slice_get-get_or}
 use Rattle.desk_io.specs.declared.desk.Table.TheVariants.{Start}
 use Rattle.row_reader.specs.declared.faults.Column.TheVariants as column
 use Rattle.net_core.specs.Rows.{link_named}
-use Rattle.net_core.specs.Network.{IsNet}
 use Rattle.net_core.specs.declared.rows.LinkNo.{LinkNo}
 use Rattle.net_core.specs.declared.rows.LinkRow.{LinkRow}
 use Rattle.net_core.specs.declared.rows.NetRows.{NetRows}
@@ -18,7 +17,7 @@ use Rattle.dta_model.specs.Walks.{IsWalk}
 use Rattle.dta_model.specs.declared.trip.Trip.{Trip}
 use Rattle.route_flows.specs.Starts.{IsNamedWalk}
 use Rattle.audit.specs.Audit.{all_trip_checks, missing_checks, number_checks, of_agent, one_link, route_named, routes_named, trip_checks, trip_checks_at}
-use Rattle.audit.specs.Checks.{Check, Holds, IsVerdict, names_route, NamesWalk, never}
+use Rattle.audit.specs.Checks.{Check, Holds, IsVerdict, names_route, never}
 use Rattle.audit.specs.declared.agent_rows.AgentRow.{AgentRow}
 use Rattle.audit.specs.declared.verdict.Verdict.{Verdict}
 use Rattle.audit.specs.declared.verdict.Verdict.TheVariants.{No, Yes}

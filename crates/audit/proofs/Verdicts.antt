@@ -1,23 +1,13 @@
 -- Verdicts of lists of checks.
-use Rattle.std.proofs.Common.{◌≡◌, ◌⊎◌, inl, inr, ℕ, zero, suc, ◌+◌, ◌<◌, ◌≤◌, Bool, true, false, List, [], ◌∷◌, ◌++◌, length, refl, ap, sym, ◌∙◌, subst, arith, Option, Some, None, get_or, drop}
-use Rattle.std.specs.Prelude.{All, ◌↔◌, IsTrue, slice_get}
+use Rattle.std.proofs.Common.{◌≡◌, inl, inr, ℕ, zero, suc, ◌+◌, ◌<◌, ◌≤◌, List, [], ◌∷◌, ◌++◌, length, refl, ap, sym, ◌∙◌, subst, arith, Some, get_or, drop}
+use Rattle.std.specs.Prelude.{All, slice_get}
 use Rattle.std.specs.List.{enumerate_from, flat_map}
 use Rattle.std.proofs.lemmas.List.{drop_more}
 use Rattle.desk_io.specs.declared.desk.Table.{Table}
 use Rattle.row_reader.specs.declared.faults.Column.{Column}
-use Rattle.audit.specs.Checks.{Check, Claim, Holds, IsVerdict}
+use Rattle.audit.specs.Checks.{Check, Holds, IsVerdict}
 use Rattle.audit.specs.declared.verdict.Verdict.{Verdict}
 use Rattle.audit.specs.declared.verdict.Verdict.TheVariants.{No, Yes}
-
--- ---- one check
-pub one_holds : (c : Check) (b : Bool) → b ≡ true → IsTrue b ↔ Holds c.claim → IsVerdict (c ∷ []) Yes
-one_holds c b is test = inl (test.0 is, refl)
-
-pub one_fails : (c : Check) (b : Bool) → b ≡ false → IsTrue b ↔ Holds c.claim → IsVerdict (c ∷ []) (No c.table c.line c.column)
-one_fails c b is test = inr (fails, refl)
-  where
-    fails : Holds c.claim → ⊥
-    fails h = let both : true ≡ false = sym (test.1 h) ∙ is in cc
 
 -- ---- checks one after another
 pub yes_then : (xs ys : List Check) (v : Verdict) → IsVerdict xs Yes → IsVerdict ys v → IsVerdict (xs ++ ys) v

@@ -1,7 +1,7 @@
 -- Texts that go out one after another.
 use Rattle.std.proofs.Common.{◌≡◌, ℕ, zero, suc, ◌+◌, ◌≤◌, Bool, true, false, List, [], ◌∷◌, ◌++◌, length}
 use Rattle.std.proofs.Common.{refl, ap, sym, subst, ◌∙◌, arith, rules, inl, inr}
-use Rattle.std.specs.Prelude.{Option, Some, nat_lt}
+use Rattle.std.specs.Prelude.{Option, nat_lt}
 use Rattle.std.proofs.lemmas.List.{append_assoc, append-nil}
 use Rattle.desk_io.specs.declared.desk.Output.{Output}
 use Rattle.desk_io.specs.declared.desk.Output.TheVariants as output
@@ -20,7 +20,7 @@ use Rattle.dta.specs.Assignment.{end_of}
 use Rattle.counts.specs.Through.{through_counts}
 use Rattle.counts.specs.Turns.{turn_counts}
 use Rattle.dta.specs.Jobs.{JobRows, plan_of}
-use Rattle.dta.specs.Outputs.{AreSinceTold, AreToldSteps, AreWatchLines, AreWatchTexts, IsCutOff, OutText, end_lines}
+use Rattle.dta.specs.Outputs.{AreToldSteps, AreWatchLines, AreWatchTexts, IsCutOff, OutText, end_lines}
 use Rattle.dta.specs.Outputs.{counts_out, grown_by, last_texts, summary_of, table_texts, text_to}
 
 -- some texts went out, and then others
@@ -116,12 +116,6 @@ grown-one o text before now e = e
 
 pub cut-one : (o : Output) (text : List ℕ) (before now : Taken) → IsPartOut o text before now → IsCutOff (text_to o text ∷ []) before now
 cut-one o text before now part = inl part
-
--- there is an iteration for each vehicle, where they are told
-pub told-many : (start : Bool) (s : Settings) (job : JobRows) (numbers : List ℕ) → AreSinceTold start s job (Some numbers)
-    → length numbers ≡ length job.trips
-told-many false s job numbers told = absurd cc
-told-many true s job numbers told = told.as_many
 
 pub ruleset parts = (grown-append, cut-later, grown-one, cut-one)
 

@@ -62,11 +62,6 @@ module _ (plain : Bool) (numbers : Numbers) (gate : GateState) where
       ∙ taking-more (receipts_of plain m) (receipts_of plain n) numbers gate
       ∙ ap (λ (i : ℕ). taking_all i numbers gate) (receipts-more plain n m k e)
 
-  -- a gate that took so many took at most more
-  pub all-some : (n k : ℕ) (now : GateState) → n ≤ k → now ≡ taking_all (receipts_of plain n) numbers gate
-      → TookAtMost (receipts_of plain k) numbers gate now
-  all-some n k now h took = (receipts_of plain n, receipts-least plain n k h, took)
-
   -- so many, and then at most more
   pub some-more : (n m k : ℕ) (between now : GateState) → n + m ≤ k
       → between ≡ taking_all (receipts_of plain n) numbers gate
@@ -107,10 +102,6 @@ module _ (s : Settings) (job : JobRows) (gate now : GateState) where
   pub work-all : Assigns s.command → now ≡ taking_all (receipts_of s.plain s.iterations) (numbers_in s job) gate
       → now ≡ taking_all (receipts_in s.command s) (numbers_in s job) gate
   work-all loads took = took ∙ ap (λ (n : ℕ). taking_all n (numbers_in s job) gate) (receipts-are s.command s loads)
-
-  pub work-some : Assigns s.command → TookAtMost (receipts_of s.plain s.iterations) (numbers_in s job) gate now
-      → TookAtMost (receipts_in s.command s) (numbers_in s job) gate now
-  work-some loads took = subst (λ (n : ℕ). TookAtMost n (numbers_in s job) gate now) (receipts-are s.command s loads) took
 
   pub free-none : s.command ≡ command.Freeflow → now ≡ gate → now ≡ taking_all (receipts_in s.command s) (numbers_in s job) gate
   free-none asks same = rw asks same

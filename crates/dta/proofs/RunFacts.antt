@@ -31,14 +31,13 @@ use Rattle.skims.specs.declared.skim_entry.SkimEntry.{SkimEntry}
 use Rattle.dta_model.specs.LinkTimes.{time_at}
 use Rattle.route_flows.specs.Starts.{AreStartRows}
 use Rattle.dta.specs.Jobs.{IsAcceptedJob, JobRows, Assigns}
-use Rattle.dta.specs.Outcome.{DeskState, IsCause, IsCutShort, IsDifferent, IsRefused, Means, ReportsLine, Works}
+use Rattle.dta.specs.Outcome.{DeskState, IsCause, IsDifferent, IsRefused, Means, ReportsLine, Works}
 use Rattle.dta.specs.Outputs.{AreAssigned, AreAudited, AreSkimmed, AreSwept, AreTexts, AreTextsSoFar, AreWatched, IsAudited, IsCutOff, OutText}
 use Rattle.dta.specs.Outputs.{audit_texts, free_texts, grown_by, last_texts, skim_texts, sweep_texts}
-use Rattle.dta.specs.Progress.{Halts, IsAssigned}
+use Rattle.dta.specs.Progress.{IsAssigned}
 use Rattle.dta.specs.Status.{refusal_status}
 use Rattle.dta.specs.Stops.{HasFault}
 use Rattle.dta.specs.declared.iterate.Assigned.{Assigned}
-use Rattle.dta.specs.declared.halt.Halt.TheVariants as halt
 use Rattle.dta.specs.declared.status.Status.{Status}
 use Rattle.dta.specs.declared.status.Status.TheVariants as status
 use Rattle.dta.proofs.OutputFacts.{cut-later, grown-append}
@@ -114,9 +113,6 @@ module _ (s : Settings) (job : JobRows) (loads : Assigns s.command) where
       so-far-assigned s.command s job (a.texts ++ last) loads assigned-texts,
       cut-later a.texts last start after (subst (λ t. IsCutOff last t after) a.watched cut),
     )
-
-  pub halted-watch : (start now : Taken) → Halts s job halt.Watch start now → Works s job status.WriteFault start now
-  halted-watch start now h = (h.0, so-far-watched s.command s job h.0 loads h.1, h.2)
 
 -- the work of `freeflow`
 module _ (s : Settings) (job : JobRows) (asks : s.command ≡ command.Freeflow) (before after : Taken) where
@@ -310,11 +306,6 @@ module _ (words : List (List ℕ)) (s : Settings) (before between after : DeskSt
   refused-means (refusal.Vehicles line-no total) cause fault line = inr (inr (inl (line-no, total, refused (refusal.Vehicles line-no total) cause line)))
   refused-means (refusal.SkimPairs number) cause fault line = inr (inr (inr (inl (number, refused (refusal.SkimPairs number) cause line))))
   refused-means (refusal.SweepCells links steps) cause fault line = inr (inr (inr (inr (links, steps, refused (refusal.SweepCells links steps) cause line))))
-
--- memory was wanting before the work
-pub starved-means : (words : List (List ℕ)) (s : Settings) (before after : DeskState) → settings_of words ≡ Some s
-    → IsCutShort s before.left after.left → after.taken ≡ before.taken → Means words status.Memory before after
-starved-means words s before after told cut taken = inr (s, told, inl (cut, taken))
 
 -- Usage is the answer to words that aren't in the grammar
 pub usage_means : (words : List (List ℕ)) (answer : Status) (before after : DeskState) → Means words answer before after → answer ≡ status.Usage

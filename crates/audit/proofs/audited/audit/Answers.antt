@@ -1,4 +1,4 @@
-use Rattle.std.proofs.Common.{◌≡◌, ◌∙◌, Ok, ap, length, subst, sym}
+use Rattle.std.proofs.Common.{◌∙◌, Ok, ap, length, subst}
 use Rattle.std.proofs.lemmas.Result.{IfOk-weaker}
 use Rattle.audit.specs.Audit.{IsAudit, routes_named}
 use Rattle.audit.specs.Checks.{IsVerdict}

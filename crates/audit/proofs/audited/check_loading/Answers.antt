@@ -1,4 +1,4 @@
-use Rattle.std.proofs.Common.{◌≡◌, ◌∙◌, ◌*◌, ap, length, subst, sym}
+use Rattle.std.proofs.Common.{◌∙◌, ◌*◌, ap, length, subst, sym}
 use Rattle.dta_model.specs.Lent.{plan_of}
 use Rattle.dta_model.specs.LinkTimes.{bucket_count, table_of}
 use Rattle.dta_model.specs.Loading.{journeys_of}

@@ -1,4 +1,4 @@
-use Rattle.std.proofs.Common.{◌∙◌, ◌<◌, arith, length, sym, subst}
+use Rattle.std.proofs.Common.{◌<◌, arith, length}
 use Rattle.std.specs.List.{zip}
 use Rattle.audit.specs.Audit.{all_journey_checks, journey_checks_at}
 use Rattle.audit.proofs.Placed.{pair_is, pairs_many}

@@ -1,6 +1,5 @@
 use Rattle.std.proofs.Common.{◌++◌, subst, sym}
 use Rattle.audit.specs.Checks.{IsVerdict}
-use Rattle.audit.specs.declared.verdict.Verdict.TheVariants.{Yes}
 use Rattle.audit.proofs.Verdicts.{no_then, yes_then}
 use Rattle.audit.proofs.verdict.Verdict.then.Goals as goal
 
