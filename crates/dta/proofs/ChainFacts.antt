@@ -1,10 +1,13 @@
--- Tables one after the other: those that were accepted, and the table at which the reading stopped.
-use Rattle.std.proofs.Common.{◌≡◌, ℕ, ◌≤◌, Bool, false, true, List, [], ◌∷◌, ◌++◌, refl, subst, sym, arith, inl, inr}
+-- Tables one after the other: those that were accepted, and the table at which the reading stopped;
+-- and calls that only read, one after the other.
+use Rattle.std.specs.Prelude.{⊤, Result, Ok, Err, IfOk, IfErr}
+use Rattle.std.proofs.Common.{◌≡◌, ℕ, ◌≤◌, Bool, false, true, List, [], ◌∷◌, ◌++◌, refl, subst, sym, ◌∙◌, arith, inl, inr}
 use Rattle.desk_io.specs.declared.desk.Table.TheVariants as table
 use Rattle.desk_io.specs.declared.desk.Table.{Table}
 use Rattle.desk_io.specs.Desk.{Left}
 use Rattle.desk_io.specs.Faults.{Rose}
 use Rattle.reports.specs.declared.refusal.Refusal.TheVariants as refusal
+use Rattle.dta.specs.Calls.{OnlyReads}
 use Rattle.dta.specs.Outcome.{DeskState}
 use Rattle.dta.specs.Stops.{StopsAmong, StopsAt}
 use Rattle.dta.specs.Tables.{AreAccepted, ReachedAmong, IsAccepted, TableRows, all_tables, loading_tables, no_rows}
@@ -93,3 +96,31 @@ module _ (settings : Settings) where
       → AreAccepted settings (loading_tables start) no_rows rows left rest
   accepted-unstarted start rows left rest asks others =
       subst (λ (b : Bool). AreAccepted settings (loading_tables b) no_rows rows left rest) (sym asks) others
+
+-- ---- calls that only read
+
+-- a call that does what another did to a desk, and says something else of it
+module _ {T U : Type 0} {Done : T → Left → Left → Type 0} {Done' : U → Left → Left → Type 0} {Stopped Stopped' : Stop → DeskState → DeskState → Type 0}
+    {before after : DeskState} {x : Result T Stop} where
+  pub reads-so : {y : Result U Stop} → OnlyReads Done Stopped before after x
+      → IfOk y (λ v. Done' v before.left after.left) → IfErr y (λ stop. Stopped' stop before after) → OnlyReads Done' Stopped' before after y
+  reads-so r done stops = record { done = done; stops = stops; later = r.later; taken = r.taken; puts = r.puts }
+
+  pub reads-done : {v : U} → OnlyReads Done Stopped before after x → Done' v before.left after.left → OnlyReads Done' Stopped' before after (Ok v)
+  reads-done r done = record { done = done; stops = tt; later = r.later; taken = r.taken; puts = r.puts }
+
+  pub reads-stopped : {stop : Stop} → OnlyReads Done Stopped before after x → Stopped' stop before after → OnlyReads Done' Stopped' before after (Err stop)
+  reads-stopped r stops = record { done = tt; stops = stops; later = r.later; taken = r.taken; puts = r.puts }
+
+-- what a call did to a desk and then another
+pub reads-both : {T U : Type 0} {Done : T → Left → Left → Type 0} {Done' : U → Left → Left → Type 0} {Stopped Stopped' : Stop → DeskState → DeskState → Type 0}
+    {before between after : DeskState} {x : Result T Stop} {y : Result U Stop}
+    → OnlyReads Done Stopped before between x → OnlyReads Done' Stopped' between after y
+    → OnlyReads {T = ⊤} (λ v left rest. ⊤) (λ stop before after. ⊤) before after (Ok tt)
+reads-both r t = record {
+  done = tt;
+  stops = tt;
+  later = (let a = r.later in let b = t.later in omega (arith, a, b));
+  taken = t.taken ∙ r.taken;
+  puts = t.puts ∙ r.puts;
+}

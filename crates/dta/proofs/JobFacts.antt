@@ -85,46 +85,32 @@ module _ (settings : Settings) where
   reached-holds t Part P (u ∷ tables) rows left rest f (inl h) = f rows left rest h.1
   reached-holds t Part P (u ∷ tables) rows left rest f (inr h) = reached-holds t Part P tables h.0 h.1 rest f h.3
 
--- a command that assigns has the size of a loading, takes no link times and isn't `sweep`
+-- what is so of each command that assigns
+by-assigning : (P : Command → Type 0) → P command.Assign → ((n : ℕ) → P (command.Demo n)) → P command.Counts → (c : Command) → Assigns c → P c
+by-assigning P assign demo counts command.Freeflow assigns = absurd assigns
+by-assigning P assign demo counts command.Assign assigns = assign
+by-assigning P assign demo counts (command.Demo n) assigns = demo n
+by-assigning P assign demo counts command.Skim assigns = absurd assigns
+by-assigning P assign demo counts command.Counts assigns = counts
+by-assigning P assign demo counts command.Sweep assigns = absurd assigns
+by-assigning P assign demo counts command.Audit assigns = absurd assigns
+
+-- it has the size of a loading, takes no link times and isn't `sweep`
 assigned-sizes : (c : Command) → Assigns c → HasSizes c
-assigned-sizes command.Freeflow loads = absurd loads
-assigned-sizes command.Assign loads = tt
-assigned-sizes (command.Demo n) loads = tt
-assigned-sizes command.Skim loads = absurd loads
-assigned-sizes command.Counts loads = tt
-assigned-sizes command.Sweep loads = absurd loads
-assigned-sizes command.Audit loads = absurd loads
+assigned-sizes = by-assigning HasSizes tt (λ n. tt) tt
 
 pub assigned-no-times : (c : Command) → Assigns c → TakesTimes c → ⊥
-assigned-no-times command.Freeflow loads takes = absurd loads
-assigned-no-times command.Assign loads takes = takes
-assigned-no-times (command.Demo n) loads takes = takes
-assigned-no-times command.Skim loads takes = absurd loads
-assigned-no-times command.Counts loads takes = takes
-assigned-no-times command.Sweep loads takes = absurd loads
-assigned-no-times command.Audit loads takes = absurd loads
+assigned-no-times = by-assigning (λ c. TakesTimes c → ⊥) (λ takes. takes) (λ n takes. takes) (λ takes. takes)
 
 pub assigned-no-sweep : (c : Command) → Assigns c → c ≡ command.Sweep → ⊥
-assigned-no-sweep c loads e = subst (λ (x : Command). Assigns x) e loads
+assigned-no-sweep c assigns e = subst (λ (x : Command). Assigns x) e assigns
 
 -- its demand is released once
 pub assigned-released : (c : Command) → Assigns c → (cells : List DemandCell) → released_cells c cells ≡ cells
-assigned-released command.Freeflow loads cells = absurd loads
-assigned-released command.Assign loads cells = refl
-assigned-released (command.Demo n) loads cells = refl
-assigned-released command.Skim loads cells = absurd loads
-assigned-released command.Counts loads cells = refl
-assigned-released command.Sweep loads cells = absurd loads
-assigned-released command.Audit loads cells = absurd loads
+assigned-released = by-assigning (λ c. (cells : List DemandCell) → released_cells c cells ≡ cells) (λ cells. refl) (λ n cells. refl) (λ cells. refl)
 
 pub assigned-unswept : (c : Command) → Assigns c → (cells : List DemandCell) → swept_cells c cells ≡ []
-assigned-unswept command.Freeflow loads cells = absurd loads
-assigned-unswept command.Assign loads cells = refl
-assigned-unswept (command.Demo n) loads cells = refl
-assigned-unswept command.Skim loads cells = absurd loads
-assigned-unswept command.Counts loads cells = refl
-assigned-unswept command.Sweep loads cells = absurd loads
-assigned-unswept command.Audit loads cells = absurd loads
+assigned-unswept = by-assigning (λ c. (cells : List DemandCell) → swept_cells c cells ≡ []) (λ cells. refl) (λ n cells. refl) (λ cells. refl)
 
 -- no demand is none, whatever the command
 released-none : (c : Command) → released_cells c [] ≡ []
@@ -145,16 +131,12 @@ swept-none command.Counts = refl
 swept-none command.Sweep = refl
 swept-none command.Audit = refl
 
--- too many vehicles of the demand
-assigned-many : (c : Command) (s : Settings) (line total : ℕ) (rows : TableRows) → Assigns c
-    → HasRoom s rows × IsFirstAbove rows.demand_cells line total → HasTooMany c s line total rows
-assigned-many command.Freeflow s line total rows loads h = absurd loads
-assigned-many command.Assign s line total rows loads h = h
-assigned-many (command.Demo n) s line total rows loads h = h
-assigned-many command.Skim s line total rows loads h = absurd loads
-assigned-many command.Counts s line total rows loads h = h
-assigned-many command.Sweep s line total rows loads h = absurd loads
-assigned-many command.Audit s line total rows loads h = absurd loads
+-- a command whose limits are those of a loading: on the links times the steps, and on the vehicles
+abbrev HasLoadingLimits : Settings → Command → Type 0
+HasLoadingLimits s c = HasSizes c × ((line total : ℕ) (rows : TableRows) → HasRoom s rows × IsFirstAbove rows.demand_cells line total → HasTooMany c s line total rows)
+
+assigned-limits : (s : Settings) (c : Command) → Assigns c → HasLoadingLimits s c
+assigned-limits s = by-assigning (HasLoadingLimits s) (tt, λ line total rows h. h) (λ n. (tt, λ line total rows h. h)) (tt, λ line total rows h. h)
 
 -- the table at which reading stopped, as the cause of the stop
 module _ (s : Settings) (before after : DeskState) where
@@ -188,18 +170,17 @@ module _ (s : Settings) (before after : DeskState) where
       absurd (reached-holds s h.0 (Ends h.0 (Refused (refusal.SweepCells links steps))) ⊥ (tables_of s.command s.start) no_rows before.left after.left (λ r a b k. k) h.1)
 
   -- the sizes of accepted tables, as the cause of the stop
-  pub job-in : (rows : TableRows) (stop : Stop) → Assigns s.command → AreAccepted s (tables_of s.command s.start) no_rows rows before.left after.left
+  job-in : (rows : TableRows) (stop : Stop) → HasLoadingLimits s s.command → AreAccepted s (tables_of s.command s.start) no_rows rows before.left after.left
       → StopsJob s rows stop → StopsIn s stop before after
-  job-in rows Memory loads read h = inr (inr (record { rows = rows; read = read; part = tt }))
-  job-in rows (Refused refusal.Usage) loads read h = absurd h
-  job-in rows (Refused (refusal.Table fault)) loads read h = absurd h
-  job-in rows (Refused (refusal.Read u)) loads read h = absurd h
-  job-in rows (Refused (refusal.LongTable u)) loads read h = absurd h
-  job-in rows (Refused (refusal.Cells links steps)) loads read h = ((assigned-sizes s.command loads, record { rows = rows; read = read; part = h }), tt)
-  job-in rows (Refused (refusal.Vehicles line total)) loads read h =
-      (record { rows = rows; read = read; part = assigned-many s.command s line total rows loads h }, tt)
-  job-in rows (Refused (refusal.SkimPairs number)) loads read h = absurd h
-  job-in rows (Refused (refusal.SweepCells links steps)) loads read h = absurd h
+  job-in rows Memory limits read h = inr (inr (record { rows = rows; read = read; part = tt }))
+  job-in rows (Refused refusal.Usage) limits read h = absurd h
+  job-in rows (Refused (refusal.Table fault)) limits read h = absurd h
+  job-in rows (Refused (refusal.Read u)) limits read h = absurd h
+  job-in rows (Refused (refusal.LongTable u)) limits read h = absurd h
+  job-in rows (Refused (refusal.Cells links steps)) limits read h = ((limits.0, record { rows = rows; read = read; part = h }), tt)
+  job-in rows (Refused (refusal.Vehicles line total)) limits read h = (record { rows = rows; read = read; part = limits.1 line total rows h }, tt)
+  job-in rows (Refused (refusal.SkimPairs number)) limits read h = absurd h
+  job-in rows (Refused (refusal.SweepCells links steps)) limits read h = absurd h
 
   -- and those of a skim's tables
   pub skim-in : (rows : TableRows) (stop : Stop) → s.command ≡ command.Skim → AreAccepted s (tables_of s.command s.start) no_rows rows before.left after.left
@@ -229,21 +210,6 @@ module _ (s : Settings) (before after : DeskState) where
   sweep-in rows (Refused (refusal.SkimPairs number)) asks read h = absurd h
   sweep-in rows (Refused (refusal.SweepCells links steps)) asks read h = ((asks, record { rows = rows; read = read; part = h }), tt)
 
-  -- and those of an audit's
-  pub audit-in : (rows : TableRows) (stop : Stop) → s.command ≡ command.Audit → AreAccepted s (tables_of s.command s.start) no_rows rows before.left after.left
-      → StopsJob s rows stop → StopsIn s stop before after
-  audit-in rows Memory asks read h = inr (inr (record { rows = rows; read = read; part = tt }))
-  audit-in rows (Refused refusal.Usage) asks read h = absurd h
-  audit-in rows (Refused (refusal.Table fault)) asks read h = absurd h
-  audit-in rows (Refused (refusal.Read u)) asks read h = absurd h
-  audit-in rows (Refused (refusal.LongTable u)) asks read h = absurd h
-  audit-in rows (Refused (refusal.Cells links steps)) asks read h =
-      ((subst HasSizes (sym asks) tt, record { rows = rows; read = read; part = h }), tt)
-  audit-in rows (Refused (refusal.Vehicles line total)) asks read h =
-      (record { rows = rows; read = read; part = subst (λ (c : Command). HasTooMany c s line total rows) (sym asks) h }, tt)
-  audit-in rows (Refused (refusal.SkimPairs number)) asks read h = absurd h
-  audit-in rows (Refused (refusal.SweepCells links steps)) asks read h = absurd h
-
 -- the same at a desk that is the source itself
 pub own-stops : (s : Settings) (stop : Stop) (before after : DeskState)
     → read_tables s.command s.start ≡ tables_of s.command s.start → source s.command before.left ≡ before.left
@@ -255,60 +221,43 @@ own-stops s (Refused r) before after all from leaves h =
     (record { rest = after.left; leaves = leaves; part = subst (λ l. IsCauseIn s r l after.left) (sym from) own }, h.1)
 
 -- a command that reads its tables of the desk
+abbrev pub IsAtDesk : Command → Type 0
+IsAtDesk (command.Demo n) = ⊥
+IsAtDesk c = ⊤
+
 abbrev ReadsDesk : Command → Type 0
 ReadsDesk c = ((start : Bool) → read_tables c start ≡ tables_of c start) × ((left : Left) → source c left ≡ left) × ((rest before : Left) → LeavesOf c rest before rest)
 
-at-desk : (s : Settings) (c : Command) → s.command ≡ c → ReadsDesk c → ReadsDesk s.command
-at-desk s c asks reads = subst ReadsDesk (sym asks) reads
+reads-desk : (c : Command) → IsAtDesk c → ReadsDesk c
+reads-desk command.Freeflow is = (λ start. refl, λ left. refl, λ rest before. refl)
+reads-desk command.Assign is = (λ start. refl, λ left. refl, λ rest before. refl)
+reads-desk (command.Demo n) is = absurd is
+reads-desk command.Skim is = (λ start. refl, λ left. refl, λ rest before. refl)
+reads-desk command.Counts is = (λ start. refl, λ left. refl, λ rest before. refl)
+reads-desk command.Sweep is = (λ start. refl, λ left. refl, λ rest before. refl)
+reads-desk command.Audit is = (λ start. refl, λ left. refl, λ rest before. refl)
 
-module _ {T : Type 0} (s : Settings) (r : Result T Stop) (before after : DeskState) where
-  stop-at-desk : ReadsDesk s.command → IfErr r (λ stop. StopsIn s stop before after) → IfErr r (λ stop. Stops s stop before after)
-  stop-at-desk reads h = IfErr-weaker r (λ stop. StopsIn s stop before after) (λ stop. Stops s stop before after)
-      (λ stop k. own-stops s stop before after (reads.0 s.start) (reads.1 before.left) (reads.2 after.left before.left) k) h
+pub at-desk : (s : Settings) (c : Command) → s.command ≡ c → IsAtDesk c → IsAtDesk s.command
+at-desk s c asks is = subst IsAtDesk (sym asks) is
 
-  pub free-stop : s.command ≡ command.Freeflow → IfErr r (λ stop. StopsIn s stop before after) → IfErr r (λ stop. Stops s stop before after)
-  free-stop asks h = stop-at-desk (at-desk s command.Freeflow asks (λ start. refl, λ left. refl, λ rest before. refl)) h
+pub loaded-at-desk : (s : Settings) → (s.command ≡ command.Assign) ⊎ (s.command ≡ command.Counts) → IsAtDesk s.command
+loaded-at-desk s (inl asks) = at-desk s command.Assign asks tt
+loaded-at-desk s (inr asks) = at-desk s command.Counts asks tt
 
-  pub loaded-stop : (s.command ≡ command.Assign) ⊎ (s.command ≡ command.Counts) → IfErr r (λ stop. StopsIn s stop before after) → IfErr r (λ stop. Stops s stop before after)
-  loaded-stop (inl asks) h = stop-at-desk (at-desk s command.Assign asks (λ start. refl, λ left. refl, λ rest before. refl)) h
-  loaded-stop (inr asks) h = stop-at-desk (at-desk s command.Counts asks (λ start. refl, λ left. refl, λ rest before. refl)) h
-
-  pub skim-stop : s.command ≡ command.Skim → IfErr r (λ stop. StopsIn s stop before after) → IfErr r (λ stop. Stops s stop before after)
-  skim-stop asks h = stop-at-desk (at-desk s command.Skim asks (λ start. refl, λ left. refl, λ rest before. refl)) h
-
-  pub sweep-stop : s.command ≡ command.Sweep → IfErr r (λ stop. StopsIn s stop before after) → IfErr r (λ stop. Stops s stop before after)
-  sweep-stop asks h = stop-at-desk (at-desk s command.Sweep asks (λ start. refl, λ left. refl, λ rest before. refl)) h
-
-  pub audit-stop : s.command ≡ command.Audit → IfErr r (λ stop. StopsIn s stop before after) → IfErr r (λ stop. Stops s stop before after)
-  audit-stop asks h = stop-at-desk (at-desk s command.Audit asks (λ start. refl, λ left. refl, λ rest before. refl)) h
+pub stop-at-desk : {T : Type 0} (s : Settings) → IsAtDesk s.command → (r : Result T Stop) (before after : DeskState)
+    → IfErr r (λ stop. StopsIn s stop before after) → IfErr r (λ stop. Stops s stop before after)
+stop-at-desk s is r before after h =
+    let reads = reads-desk s.command is in
+    IfErr-weaker r (λ stop. StopsIn s stop before after) (λ stop. Stops s stop before after)
+    (λ stop k. own-stops s stop before after (reads.0 s.start) (reads.1 before.left) (reads.2 after.left before.left) k) h
 
 -- the job of a desk that is the source itself
-own-job : (s : Settings) (r : Result JobRows Stop) (before after : Left) → source s.command before ≡ before
-    → LeavesOf s.command after before after → IfOk r (λ job. IsJobOf s job before after)
-    → IfOk r (λ job. IsAcceptedJob s job before after)
-own-job s r before after from leaves h =
+pub own-at-desk : (s : Settings) → IsAtDesk s.command → (r : Result JobRows Stop) (before after : Left)
+    → IfOk r (λ job. IsJobOf s job before after) → IfOk r (λ job. IsAcceptedJob s job before after)
+own-at-desk s is r before after h =
+    let reads = reads-desk s.command is in
     IfOk-weaker r (λ job. IsJobOf s job before after) (λ job. IsAcceptedJob s job before after)
-    (λ job k. record { rest = after; leaves = leaves; part = subst (λ l. IsJobOf s job l after) (sym from) k }) h
-
-module _ (s : Settings) (r : Result JobRows Stop) (before after : Left) where
-  own-at-desk : ReadsDesk s.command → IfOk r (λ job. IsJobOf s job before after) → IfOk r (λ job. IsAcceptedJob s job before after)
-  own-at-desk reads = own-job s r before after (reads.1 before) (reads.2 after before)
-
-  pub free-own : s.command ≡ command.Freeflow → IfOk r (λ job. IsJobOf s job before after) → IfOk r (λ job. IsAcceptedJob s job before after)
-  free-own asks = own-at-desk (at-desk s command.Freeflow asks (λ start. refl, λ left. refl, λ rest before. refl))
-
-  pub loaded-own : (s.command ≡ command.Assign) ⊎ (s.command ≡ command.Counts) → IfOk r (λ job. IsJobOf s job before after) → IfOk r (λ job. IsAcceptedJob s job before after)
-  loaded-own (inl asks) = own-at-desk (at-desk s command.Assign asks (λ start. refl, λ left. refl, λ rest before. refl))
-  loaded-own (inr asks) = own-at-desk (at-desk s command.Counts asks (λ start. refl, λ left. refl, λ rest before. refl))
-
-  pub skim-own : s.command ≡ command.Skim → IfOk r (λ job. IsJobOf s job before after) → IfOk r (λ job. IsAcceptedJob s job before after)
-  skim-own asks = own-at-desk (at-desk s command.Skim asks (λ start. refl, λ left. refl, λ rest before. refl))
-
-  pub sweep-own : s.command ≡ command.Sweep → IfOk r (λ job. IsJobOf s job before after) → IfOk r (λ job. IsAcceptedJob s job before after)
-  sweep-own asks = own-at-desk (at-desk s command.Sweep asks (λ start. refl, λ left. refl, λ rest before. refl))
-
-  pub audit-own : s.command ≡ command.Audit → IfOk r (λ job. IsJobOf s job before after) → IfOk r (λ job. IsAcceptedJob s job before after)
-  audit-own asks = own-at-desk (at-desk s command.Audit asks (λ start. refl, λ left. refl, λ rest before. refl))
+    (λ job k. record { rest = after; leaves = reads.2 after before; part = subst (λ l. IsJobOf s job l after) (sym (reads.1 before)) k }) h
 
 never-rose : Rose 0 0 → ⊥
 never-rose r = omega (arith, r)
@@ -367,22 +316,10 @@ module _ (s : Settings) (n : ℕ) (asks : s.command ≡ command.Demo n) where
 -- ---- jobs
 
 pub full-tables : (c : Command) (start : Bool) → Assigns c → tables_of c start ≡ loading_tables start
-full-tables command.Freeflow start loads = absurd loads
-full-tables command.Assign start loads = refl
-full-tables (command.Demo n) start loads = refl
-full-tables command.Skim start loads = absurd loads
-full-tables command.Counts start loads = refl
-full-tables command.Sweep start loads = absurd loads
-full-tables command.Audit start loads = absurd loads
+full-tables c start assigns = by-assigning (λ c. tables_of c start ≡ loading_tables start) refl (λ n. refl) refl c assigns
 
 within-of : (s : Settings) (rows : TableRows) (c : Command) → Assigns c → HasRoom s rows × IsWithin rows.demand_cells → AreWithin c s rows
-within-of s rows command.Freeflow loads w = absurd loads
-within-of s rows command.Assign loads w = w
-within-of s rows (command.Demo n) loads w = w
-within-of s rows command.Skim loads w = absurd loads
-within-of s rows command.Counts loads w = w
-within-of s rows command.Sweep loads w = absurd loads
-within-of s rows command.Audit loads w = absurd loads
+within-of s rows = by-assigning (λ c. HasRoom s rows × IsWithin rows.demand_cells → AreWithin c s rows) (λ w. w) (λ n w. w) (λ w. w)
 
 -- the job of all tables
 pub full-job : (s : Settings) (rows : TableRows) (job : JobRows) (left rest : Left) → Assigns s.command
@@ -415,7 +352,7 @@ module _ (s : Settings) (loads : Assigns s.command) (before after : DeskState) w
       → AreAccepted s (loading_tables s.start) no_rows rows before.left after.left
       → IfErr r (StopsJob s rows) → IfErr r (λ stop. StopsIn s stop before after)
   sized rows r read h = IfErr-weaker r (StopsJob s rows) (λ stop. StopsIn s stop before after)
-      (λ stop k. job-in s before after rows stop loads (subst (λ (ts : List Table). AreAccepted s ts no_rows rows before.left after.left) (sym (full-tables s.command s.start loads)) read) k) h
+      (λ stop k. job-in s before after rows stop (assigned-limits s s.command loads) (subst (λ (ts : List Table). AreAccepted s ts no_rows rows before.left after.left) (sym (full-tables s.command s.start loads)) read) k) h
 
 -- the tables of `freeflow`
 module _ (s : Settings) (asks : s.command ≡ command.Freeflow) (nodes : List NodeRow) (links : List (WithWindows LinkRow)) (left rest : Left)
@@ -459,11 +396,6 @@ module _ (s : Settings) (asks : s.command ≡ command.Skim) where
 
     pub among-skim : (stop : Stop) → StopsAmong s skim_tables no_rows stop before after → StopsIn s stop before after
     among-skim stop h = among-in s before after stop (subst (λ (c : Command). StopsAmong s (tables_of c s.start) no_rows stop before after) (sym asks) h)
-
-    pub skim-sized : {T : Type 0} (rows : TableRows) (r : Result T Stop) → AreAccepted s skim_tables no_rows rows before.left after.left
-        → IfErr r (StopsSkim s rows) → IfErr r (λ stop. StopsIn s stop before after)
-    skim-sized rows r read h = IfErr-weaker r (StopsSkim s rows) (λ stop. StopsIn s stop before after)
-        (λ stop k. skim-in s before after rows stop asks (skim-read rows before.left after.left read) k) h
 
 -- the first scenario that has too many vehicles, as the stop
 pub scale-stops : {T : Type 0} (s : Settings) (rows : TableRows) (cells : List DemandCell) (scales : List ℕ) (r : Result T SweepFault) (why : SweepFault)
@@ -560,4 +492,6 @@ module _ (s : Settings) (asks : s.command ≡ command.Audit) where
 
     pub audit-stops : (rows : TableRows) (stop : Stop) → AreAccepted s audit_tables no_rows rows before.left after.left
         → StopsJob s rows stop → StopsIn s stop before after
-    audit-stops rows stop read h = audit-in s before after rows stop asks (audit-read rows before.left after.left read) h
+    audit-stops rows stop read h =
+        let limits : HasLoadingLimits s command.Audit = (tt, λ line total rows h. h) in
+        job-in s before after rows stop (subst (HasLoadingLimits s) (sym asks) limits) (audit-read rows before.left after.left read) h

@@ -165,21 +165,25 @@ fn answer<R: AllocGlobal + Threads + Wait + Sync, D: Desk + Send, G: Gate + Sync
 
 /// Does what the words ask for. `words` are those after the program's name.
 ///
-/// `freeflow` reads the node and the link table of the desk, and puts each link's free-flow steps
-/// and storage to LinkTime and the numbers of nodes and links to Report. `assign` reads the node,
-/// link, movement and demand table, iterates routes, loadings, link times and gaps (successive
-/// averages over a queue-based simulator, Zhou and Taylor 2014), and puts Agent, LinkTime, Gap and
-/// Report, in this order. With `--start` it reads an earlier agent table too, whose routes come
-/// first where they fit, and tells in Agent since which iteration each vehicle has its route.
-/// `demo` does the same over a made grid, and puts the report alone. `counts` does the work of
-/// `assign` and puts the counts of turns over the last loading, and through a link, to Counts, and
-/// Report. `skim` reads a network and a table of link times, and puts the least times between all
-/// zones to Skim, and Report. `sweep` puts the texts of an assignment for each multiple of the demand
-/// to Sweep, and Report. `audit` reads an agent table and a table of link times beside those of an
-/// assignment, and reports whether they are what the plain loading over the agents' routes gives, or
-/// the first place that differs, and then answers Differs. With a watch, each iteration puts lines of counts to Watch, the last
-/// one once it is loaded. Loadings are by workers, who pass the gate, unless the words ask for the
-/// plain loader.
+/// - `freeflow` reads the node and the link table of the desk, and puts each link's free-flow steps
+///   and storage to LinkTime, and the numbers of nodes and links to Report.
+/// - `assign` reads the node, link, movement and demand table, iterates routes, loadings, link
+///   times and gaps (successive averages over a queue-based simulator, Zhou and Taylor 2014), and
+///   puts Agent, LinkTime, Gap and Report, in this order. With `--start` it reads an earlier agent
+///   table too, whose routes come first where they fit, and tells in Agent since which iteration
+///   each vehicle has its route.
+/// - `demo` does the same over a made grid, and puts Report in place of the four.
+/// - `skim` reads a network and a table of link times, and puts the least times between all zones
+///   to Skim, and Report.
+/// - `counts` does the work of `assign`, and puts the counts of turns over the last loading, and
+///   through a link, to Counts, and Report.
+/// - `sweep` puts the texts of an assignment for each multiple of the demand to Sweep, and Report.
+/// - `audit` reads an agent table and a table of link times beside the tables of an assignment, and
+///   reports whether they are what the plain loading over the agents' routes gives, or the first
+///   place that differs, and then answers Differs.
+///
+/// With a watch, each iteration puts states of its loading to Watch, the last one once it is
+/// loaded. Loadings are by workers, who pass the gate, unless the words ask for the plain loader.
 ///
 /// A table is checked before the next is read. No memory is taken after the first byte of the first
 /// output but Watch.

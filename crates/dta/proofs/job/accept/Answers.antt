@@ -1,39 +1,26 @@
 use Rattle.std.proofs.Common.{arith, refl, rules}
-use Rattle.dta.proofs.JobFacts.{audit-own, audit-stop, free-own, free-stop, loaded-own, loaded-stop, skim-own, skim-stop, sweep-own, sweep-stop}
+use Rattle.dta_words.specs.declared.command.Command.TheVariants as command
+use Rattle.dta.proofs.ChainFacts.{reads-so}
+use Rattle.dta.proofs.JobFacts.{at-desk, loaded-at-desk, own-at-desk, stop-at-desk}
 use Rattle.dta.proofs.job.accept.Goals as goal
 
 pub returns-in-Freeflow-clause-reads : goal.returns-in-Freeflow-clause-reads
 returns-in-Freeflow-clause-reads g c =
     let r = c.accept_free.ensures.reads in
-    record {
-      done = free-own c.args.settings.now c.accept_free.result _ _ (search rules) r.done;
-      stops = free-stop c.args.settings.now c.accept_free.result _ _ (search rules) r.stops;
-      later = r.later;
-      taken = r.taken;
-      puts = r.puts;
-    }
+    let desk = at-desk c.args.settings.now command.Freeflow (search rules) tt in
+    reads-so r (own-at-desk c.args.settings.now desk c.accept_free.result _ _ r.done) (stop-at-desk c.args.settings.now desk c.accept_free.result _ _ r.stops)
 
 pub returns-in-Assign-clause-reads : goal.returns-in-Assign-clause-reads
 returns-in-Assign-clause-reads g c =
     let r = c.accept_tables.ensures.reads in
-    record {
-      done = loaded-own c.args.settings.now c.accept_tables.result _ _ c.in-Assign.is r.done;
-      stops = loaded-stop c.args.settings.now c.accept_tables.result _ _ c.in-Assign.is r.stops;
-      later = r.later;
-      taken = r.taken;
-      puts = r.puts;
-    }
+    let desk = loaded-at-desk c.args.settings.now c.in-Assign.is in
+    reads-so r (own-at-desk c.args.settings.now desk c.accept_tables.result _ _ r.done) (stop-at-desk c.args.settings.now desk c.accept_tables.result _ _ r.stops)
 
 pub returns-in-Skim-clause-reads : goal.returns-in-Skim-clause-reads
 returns-in-Skim-clause-reads g c =
     let r = c.accept_skim.ensures.reads in
-    record {
-      done = skim-own c.args.settings.now c.accept_skim.result _ _ (search rules) r.done;
-      stops = skim-stop c.args.settings.now c.accept_skim.result _ _ (search rules) r.stops;
-      later = r.later;
-      taken = r.taken;
-      puts = r.puts;
-    }
+    let desk = at-desk c.args.settings.now command.Skim (search rules) tt in
+    reads-so r (own-at-desk c.args.settings.now desk c.accept_skim.result _ _ r.done) (stop-at-desk c.args.settings.now desk c.accept_skim.result _ _ r.stops)
 
 pub returns-in-Demo-clause-reads : goal.returns-in-Demo-clause-reads
 returns-in-Demo-clause-reads g c = record {
@@ -47,21 +34,11 @@ returns-in-Demo-clause-reads g c = record {
 pub returns-in-Sweep-clause-reads : goal.returns-in-Sweep-clause-reads
 returns-in-Sweep-clause-reads g c =
     let r = c.accept_sweep.ensures.reads in
-    record {
-      done = sweep-own c.args.settings.now c.accept_sweep.result _ _ (search rules) r.done;
-      stops = sweep-stop c.args.settings.now c.accept_sweep.result _ _ (search rules) r.stops;
-      later = r.later;
-      taken = r.taken;
-      puts = r.puts;
-    }
+    let desk = at-desk c.args.settings.now command.Sweep (search rules) tt in
+    reads-so r (own-at-desk c.args.settings.now desk c.accept_sweep.result _ _ r.done) (stop-at-desk c.args.settings.now desk c.accept_sweep.result _ _ r.stops)
 
 pub returns-in-Audit-clause-reads : goal.returns-in-Audit-clause-reads
 returns-in-Audit-clause-reads g c =
     let r = c.accept_audit.ensures.reads in
-    record {
-      done = audit-own c.args.settings.now c.accept_audit.result _ _ (search rules) r.done;
-      stops = audit-stop c.args.settings.now c.accept_audit.result _ _ (search rules) r.stops;
-      later = r.later;
-      taken = r.taken;
-      puts = r.puts;
-    }
+    let desk = at-desk c.args.settings.now command.Audit (search rules) tt in
+    reads-so r (own-at-desk c.args.settings.now desk c.accept_audit.result _ _ r.done) (stop-at-desk c.args.settings.now desk c.accept_audit.result _ _ r.stops)

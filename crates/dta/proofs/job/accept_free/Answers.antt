@@ -6,6 +6,7 @@ use Rattle.std.proofs.lemmas.Result.{err_from_is_err_and}
 use Rattle.net_core.specs.Rows.{IsTurning}
 use Rattle.gmns_tables.proofs.NetFacts.{no-turns}
 use Rattle.gmns_tables.specs.RowsWithWindows.{rows_of}
+use Rattle.dta.proofs.ChainFacts.{reads-stopped, reads-done}
 use Rattle.dta.proofs.JobFacts.{free-counted, free-job, no-start-rows, no-trips}
 use Rattle.dta.proofs.TableFacts.{joined-net}
 use Rattle.dta.proofs.job.accept_free.Goals as goal
@@ -19,25 +20,13 @@ pub returns-in_err-net-clause-reads : goal.returns-in_err-net-clause-reads
 returns-in_err-net-clause-reads g c =
     let p = err_from_is_err_and c.from_residual-in_err-net.result c.from_residual-in_err-net.ensures.1 in
     let r = c.in_ok-roads.ensures.reads in
-    rw (p.1, p.2) (record {
-      done = tt;
-      stops = inr (inr (free-counted c.args.settings.now c.requires.command c.in_ok-roads.roads.nodes c.in_ok-roads.roads.links _ _ r.done));
-      later = r.later;
-      taken = r.taken;
-      puts = r.puts;
-    })
+    rw (p.1, p.2) (reads-stopped r (inr (inr (free-counted c.args.settings.now c.requires.command c.in_ok-roads.roads.nodes c.in_ok-roads.roads.links _ _ r.done))))
 
 pub returns-clause-reads : goal.returns-clause-reads
 returns-clause-reads g c =
     let r = c.in_ok-roads.ensures.reads in
-    record {
-      done = rw (c.in_ok-net.ensures, c.new-trips.ensures.items, c.new-start.ensures, c.of-times.ensures, c.new.ensures.items, c.new-demand_cells.ensures.items, c.of-agents.ensures, c.new-2.ensures.items)
-          (free-job c.args.settings.now c.requires.command c.in_ok-roads.roads.nodes c.in_ok-roads.roads.links _ _ r.done);
-      stops = tt;
-      later = r.later;
-      taken = r.taken;
-      puts = r.puts;
-    }
+    reads-done r (rw (c.in_ok-net.ensures, c.new-trips.ensures.items, c.new-start.ensures, c.of-times.ensures, c.new.ensures.items, c.new-demand_cells.ensures.items, c.of-agents.ensures, c.new-2.ensures.items)
+    (free-job c.args.settings.now c.requires.command c.in_ok-roads.roads.nodes c.in_ok-roads.roads.links _ _ r.done))
 
 pub returns-clause-sound : goal.returns-clause-sound
 returns-clause-sound g c = record {

@@ -2,6 +2,7 @@ use Rattle.std.proofs.lemmas.Result.{err_from_is_err_and}
 use Rattle.dta_words.specs.declared.command.Command.TheVariants as command
 use Rattle.dta.specs.Calls.{rows_in_tables}
 use Rattle.dta.specs.Outcome.{state_of}
+use Rattle.dta.proofs.ChainFacts.{reads-stopped, reads-so}
 use Rattle.dta.proofs.JobFacts.{among-sweep, sweep-jobs, sweep-sized, unstarted}
 use Rattle.dta.proofs.job.accept_sweep.Goals as goal
 
@@ -12,13 +13,7 @@ returns-in_err-tables-clause-reads g c =
     let s = c.args.settings.now in
     let off = unstarted s c.requires.settings command.Sweep c.requires.command (λ e. absurd cc) in
     let r = c.in_err-tables.ensures.reads in
-    rw (p.1, p.2) (record {
-      done = tt;
-      stops = among-sweep s c.requires.command (state c.args.desk.now) (state c.accept_all.new.desk) _ off r.stops;
-      later = r.later;
-      taken = r.taken;
-      puts = r.puts;
-    })
+    rw (p.1, p.2) (reads-stopped r (among-sweep s c.requires.command (state c.args.desk.now) (state c.accept_all.new.desk) _ off r.stops))
 
 pub returns-clause-reads : goal.returns-clause-reads
 returns-clause-reads g c =
@@ -27,11 +22,7 @@ returns-clause-reads g c =
     let s = c.args.settings.now in
     let off = unstarted s c.requires.settings command.Sweep c.requires.command (λ e. absurd cc) in
     let r = c.in_ok-tables.ensures.reads in
-    record {
-      done = sweep-jobs s c.requires.command (rows_in_tables t) c.sweep_job_of.result _ _ off r.done c.sweep_job_of.ensures.within c.sweep_job_of.ensures.makes;
-      stops = sweep-sized s c.requires.command (state c.args.desk.now) (state c.accept_all.new.desk) (rows_in_tables t)
-          c.sweep_job_of.result off r.done c.sweep_job_of.ensures.stops;
-      later = r.later;
-      taken = r.taken;
-      puts = r.puts;
-    }
+    reads-so r
+    (sweep-jobs s c.requires.command (rows_in_tables t) c.sweep_job_of.result _ _ off r.done c.sweep_job_of.ensures.within c.sweep_job_of.ensures.makes)
+    (sweep-sized s c.requires.command (state c.args.desk.now) (state c.accept_all.new.desk) (rows_in_tables t)
+    c.sweep_job_of.result off r.done c.sweep_job_of.ensures.stops)

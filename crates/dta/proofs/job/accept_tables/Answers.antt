@@ -1,6 +1,7 @@
 use Rattle.std.proofs.lemmas.Result.{err_from_is_err_and}
 use Rattle.dta.specs.Calls.{rows_in_tables}
 use Rattle.dta.specs.Outcome.{state_of}
+use Rattle.dta.proofs.ChainFacts.{reads-stopped, reads-so}
 use Rattle.dta.proofs.JobFacts.{among-full, full-jobs, sized}
 use Rattle.dta.proofs.job.accept_tables.Goals as goal
 
@@ -9,24 +10,14 @@ returns-in_err-tables-clause-reads g c =
     let p = err_from_is_err_and c.from_residual.result c.from_residual.ensures.1 in
     let state = state_of g.D.Desk.left g.D.Desk.taken g.D.Desk.read_faults g.D.Desk.put_faults in
     let r = c.in_err-tables.ensures.reads in
-    rw (p.1, p.2) (record {
-      done = tt;
-      stops = among-full c.args.settings.now c.requires.command (state c.args.desk.now) (state c.accept_all.new.desk) _ r.stops;
-      later = r.later;
-      taken = r.taken;
-      puts = r.puts;
-    })
+    rw (p.1, p.2) (reads-stopped r (among-full c.args.settings.now c.requires.command (state c.args.desk.now) (state c.accept_all.new.desk) _ r.stops))
 
 pub returns-clause-reads : goal.returns-clause-reads
 returns-clause-reads g c =
     let t = c.in_ok-tables.tables in
     let state = state_of g.D.Desk.left g.D.Desk.taken g.D.Desk.read_faults g.D.Desk.put_faults in
     let r = c.in_ok-tables.ensures.reads in
-    record {
-      done = full-jobs c.args.settings.now (rows_in_tables t) c.job_of.result _ _ c.requires.command r.done c.job_of.ensures.within c.job_of.ensures.makes;
-      stops = sized c.args.settings.now c.requires.command (state c.args.desk.now) (state c.accept_all.new.desk) (rows_in_tables t)
-          c.job_of.result r.done c.job_of.ensures.stops;
-      later = r.later;
-      taken = r.taken;
-      puts = r.puts;
-    }
+    reads-so r
+    (full-jobs c.args.settings.now (rows_in_tables t) c.job_of.result _ _ c.requires.command r.done c.job_of.ensures.within c.job_of.ensures.makes)
+    (sized c.args.settings.now c.requires.command (state c.args.desk.now) (state c.accept_all.new.desk) (rows_in_tables t)
+    c.job_of.result r.done c.job_of.ensures.stops)

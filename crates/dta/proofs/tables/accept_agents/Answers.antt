@@ -1,4 +1,5 @@
 use Rattle.std.proofs.lemmas.Result.{err_from_is_err_and}
+use Rattle.dta.proofs.ChainFacts.{reads-stopped, reads-done}
 use Rattle.dta.proofs.TableFacts.{agents-accepted, agents-stop}
 use Rattle.dta.proofs.tables.accept_agents.Goals as goal
 
@@ -8,13 +9,7 @@ returns-in_err-bytes g c =
     rw (p.1, p.2) (record {
       reads = λ settings rows asks.
           let r = c.in_err-bytes.ensures.reads settings rows in
-          record {
-            done = tt;
-            stops = r.stops;
-            later = r.later;
-            taken = r.taken;
-            puts = r.puts;
-          };
+          reads-stopped r r.stops;
     })
 
 pub returns-in_err-read_agents : goal.returns-in_err-read_agents
@@ -23,26 +18,14 @@ returns-in_err-read_agents g c =
     rw (p.1, p.2) (record {
       reads = λ settings rows asks.
           let r = c.in_ok-bytes.ensures.reads settings rows in
-          record {
-            done = tt;
-            stops = agents-stop settings rows c.in_ok-bytes.bytes.items c.deref.result.now _ _ c.in_err-read_agents.field-0.0 asks
-                r.done.read r.done.short c.deref.ensures.value c.in_err-read_agents.ensures;
-            later = r.later;
-            taken = r.taken;
-            puts = r.puts;
-          };
+          reads-stopped r (agents-stop settings rows c.in_ok-bytes.bytes.items c.deref.result.now _ _ c.in_err-read_agents.field-0.0 asks
+          r.done.read r.done.short c.deref.ensures.value c.in_err-read_agents.ensures);
     })
 
 pub returns : goal.returns
 returns g c = record {
   reads = λ settings rows asks.
       let r = c.in_ok-bytes.ensures.reads settings rows in
-      record {
-        done = agents-accepted settings rows c.in_ok-bytes.bytes.items c.deref.result.now c.in_ok-read_agents.field-0 _ _ asks
-            r.done.read r.done.short c.deref.ensures.value c.in_ok-read_agents.ensures;
-        stops = tt;
-        later = r.later;
-        taken = r.taken;
-        puts = r.puts;
-      };
+      reads-done r (agents-accepted settings rows c.in_ok-bytes.bytes.items c.deref.result.now c.in_ok-read_agents.field-0 _ _ asks
+      r.done.read r.done.short c.deref.ensures.value c.in_ok-read_agents.ensures);
 }
