@@ -17,40 +17,21 @@
 # time and gap tables and the same report. Ends with 1 where some did not. Where other work is done
 # meanwhile the seconds say little.
 set -e
-top=$(dirname "$(dirname "$(readlink -f "$0")")")
+bench=$(dirname "$(readlink -f "$0")")
 peer=$1
 make_net=$2
 [ $# -lt 2 ] || shift 2
 wanted=$*
-folder=$(mktemp -d)
-trap 'rm -rf "$folder"' EXIT
-[ -n "$DTA" ] || "$top/dta" demo 2 >/dev/null # built
-program=$(readlink -f "${DTA:-$top/crates/dta/out/dta}")
+outputs='agent.csv link_performance.csv gap.csv'
+. "$bench/beside.sh"
 [ -z "$peer" ] || peer=$(readlink -f "$peer")
 [ -z "$make_net" ] || make_net=$(readlink -f "$make_net")
-status=0
 
 # Whether a case is to be run.
 is_wanted() {
     [ -n "$wanted" ] || return 0
     case " $wanted " in *" $1 "*) return 0 ;; esac
     return 1
-}
-
-# Runs a program in the current folder, and notes what it takes in the file that is named, and the
-# check sums of what it writes in `sums`.
-note_run() {
-    noted=$1
-    shift
-    rm -f agent.csv link_performance.csv gap.csv
-    /usr/bin/time -a -o "$noted" -f '%U %S %M' "$@" >report
-    cat agent.csv link_performance.csv gap.csv report | cksum >>sums
-}
-
-# The middle of the seconds of three runs, and the largest of their peaks in MB.
-middle() {
-    awk '{ print $1 + $2, $3 / 1024 }' "$1" | sort -n |
-        awk '{ seconds[NR] = $1; if ($2 > peak) peak = $2 } END { print seconds[2], peak }'
 }
 
 # Prints the row of a case, whose words follow, in the current folder.
@@ -62,15 +43,14 @@ measure() {
         note_run ours "$program" "$@"
         [ -z "$peer" ] || note_run theirs "$peer" "$@"
     done
-    bytes=equal
-    [ "$(sort -u sums | wc -l)" = 1 ] || { bytes=DIFFERENT; status=1; }
-    [ -n "$peer" ] || echo 0 0 >theirs.middle
+    compare_sums
+    [ -n "$peer" ] || echo 0 0 0 >theirs.middle
     middle ours >ours.middle
     [ -z "$peer" ] || middle theirs >theirs.middle
     paste ours.middle theirs.middle | awk -v name="$name" -v bytes="$bytes" '{
-        over = $3 ? sprintf("%.2f", $1 / $3) : "-"
-        larger = $4 ? sprintf("%.1f", $2 / $4) : "-"
-        printf "| %s | %.2f | %.2f | %s | %d | %d | %s | %s |\n", name, $1, $3, over, $2, $4, larger, bytes
+        over = $5 ? sprintf("%.2f", $2 / $5) : "-"
+        larger = $6 ? sprintf("%.1f", $3 / $6) : "-"
+        printf "| %s | %.2f | %.2f | %s | %d | %d | %s | %s |\n", name, $2, $5, over, $3, $6, larger, bytes
     }'
 }
 
@@ -84,7 +64,7 @@ enter() {
 grid_case() {
     is_wanted "grid_$1" || return 0
     enter "grid_$1"
-    "$top/bench/grid.sh" "$1"
+    "$bench/grid.sh" "$1"
     measure "grid_$1" assign --plain --iterations 10
 }
 
@@ -104,7 +84,7 @@ echo '| case | seconds | other | times | MB | other | times | bytes |'
 echo '|---|---|---|---|---|---|---|---|'
 if is_wanted sioux_falls; then
     enter sioux_falls
-    cp "$top"/examples/sioux_falls/*.csv .
+    cp "$bench"/../examples/sioux_falls/*.csv .
     measure sioux_falls assign --plain --iterations 10
 fi
 grid_case 60

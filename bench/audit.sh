@@ -13,48 +13,34 @@
 # Where other work is done meanwhile the seconds say little.
 set -e
 [ $# -ge 2 ] || { echo 'usage: audit.sh PEER MAKE_NET [STAGE]' >&2; exit 2; }
-top=$(dirname "$(dirname "$(readlink -f "$0")")")
+bench=$(dirname "$(readlink -f "$0")")
 peer=$(readlink -f "$1")
 make_net=$(readlink -f "$2")
-at_stage="--stage ${3:-20}"
-[ "$3" != 0 ] || at_stage=
-folder=$(mktemp -d)
-trap 'rm -rf "$folder"' EXIT
-[ -n "$DTA" ] || "$top/dta" demo 2 >/dev/null # built
-program=$(readlink -f "${DTA:-$top/crates/dta/out/dta}")
+outputs=
+. "$bench/beside.sh"
+at_stage "${3:-20}"
 words='--step 60 --horizon 7200 --period 6000'
-status=0
-
-# Runs a program in the current folder, notes what it takes in the file that is named, and its
-# status and what it prints in `told`.
-note_run() {
-    noted=$1
-    shift
-    ended=0
-    /usr/bin/time -q -a -o "$noted" -f '%e %U %S %M' "$@" >report || ended=$?
-    echo "$ended $(tr '\n' ';' <report)" >>told
-}
 
 # Prints the row of a program.
 row() {
-    awk '{ print $1, $2 + $3, $4 / 1024 }' "$1" | sort -n |
-        awk -v name="$2" -v ended="$ended" '{
-            clock[NR] = $1; busy[NR] = $2; if ($3 > peak) peak = $3
-        } END { printf "| %s | %.2f | %.2f | %d | %d |\n", name, clock[2], busy[2], peak, ended }'
+    middle "$1" | awk -v name="$2" -v ended="$ended" '{
+        printf "| %s | %.2f | %.2f | %d | %d |\n", name, $1, $2, $3, ended
+    }'
 }
 
 # Prints the rows of both programs over the tables of the folder.
 measure() {
-    rm -f ours others told
+    rm -f ours others sums
     for _ in 1 2 3; do
         # shellcheck disable=SC2086
-        note_run ours "$program" audit $words
+        note_run ours "$program" audit $words || :
         # shellcheck disable=SC2086
-        note_run others "$peer" $at_stage audit $words
+        note_run others "$peer" $at_stage audit $words || :
     done
     row ours "dta, $1"
     row others "other, $1"
-    [ "$(sort -u told | wc -l)" = 1 ] || { echo "the answers are DIFFERENT: $1"; status=1; }
+    compare_sums
+    [ $bytes = equal ] || echo "the answers are DIFFERENT: $1"
 }
 
 cd "$folder"

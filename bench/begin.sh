@@ -1,11 +1,12 @@
-# Read by the scripts that measure a program of their own, which have set `bench` to this folder. Makes a folder that is gone at the
-# end; `begin NAME` builds the program of bench/NAME, sets `program` to its path and goes to that folder.
+# Read by the scripts that measure a built program, which have set `bench` to this folder. Makes a folder that is gone at the end.
+# shellcheck shell=sh disable=SC2034,SC2154
 folder=$(mktemp -d)
 trap 'rm -rf "$folder"' EXIT
 
+# begin NAME: builds the program of bench/NAME, sets `program` to its path and goes to the folder.
 begin() {
     program=$("$bench/build.sh" "$1" "$folder/build")
-    cd "$folder"
+    cd "$folder" || exit 2
 }
 
 # Builds the plain Rust program bench/NAME.rs and sets `plain` to its path, which is empty where there is no rustc to build it.
@@ -17,4 +18,10 @@ begin_plain() {
     else
         echo 'no rustc is on the path: the plain Rust program is not measured'
     fi
+}
+
+# Sets `program` to the built dta, which is built first where it isn't yet, or to the program that DTA names.
+begin_dta() {
+    [ -n "${DTA:-}" ] || "$bench/../dta" demo 2 >/dev/null || exit 1
+    program=$(readlink -f "${DTA:-$bench/../crates/dta/out/dta}")
 }

@@ -9,6 +9,7 @@ longest_tables long_rows odd_bytes most_vehicles little_memory little_memory_for
 little_memory_for_threads no_threads times_tables skims_and_counts windows waves start_tables sweeps
 sweeps_in_little_memory audits audited_tables kills'
 [ $# -ge 1 ] || { echo 'usage: hostile.sh PROGRAM [GROUP..]' >&2; exit 2; }
+bench=$(dirname "$(readlink -f "$0")")
 work=$(mktemp -d)
 trap 'umount "$work/small" 2>/dev/null; rm -rf "$work"' EXIT
 trap 'exit 1' INT TERM
@@ -33,22 +34,14 @@ check() {
     fi
 }
 
-# Two links in a line, and so many vehicles.
-tables() {
-    printf 'node_id,zone_id\n1,1\n2,\n3,3\n' >node.csv
-    printf 'link_id,from_node_id,to_node_id,length,lanes,free_speed,capacity\n' >link.csv
-    printf '10,1,2,1000,1,60,600\n20,2,3,1000,1,60,600\n' >>link.csv
-    printf 'o_zone_id,d_zone_id,volume\n1,3,%s\n' "$1" >demand.csv
-}
-
-# A new folder with these tables, which is then the current one.
+# A new folder with two links in a line and so many vehicles, which is then the current one.
 begin() {
     cd "$work" || exit 2
     rm -rf "$work/case"
     mkdir "$work/case"
     chmod 777 "$work/case"
     cd "$work/case" || exit 2
-    tables "${1:-3000}"
+    "$bench/two_links.sh" "${1:-3000}"
 }
 
 # Runs the program with these words. Report and Watch go to files beside the folder.
@@ -454,21 +447,41 @@ ends() {
     check "$told" "$wanted" "$status $lines $(head -n 1 "$work/report")"
 }
 
+# refuses OUTPUT WORDS..: each of these lists of words, joined by commas, is refused.
+refuses() {
+    no_output=$1
+    shift
+    for words in "$@"; do
+        # shellcheck disable=SC2046
+        ends "refused words $words" "2 none $usage" "$no_output" $(echo "$words" | tr , ' ')
+    done
+}
+
+# stand_ins SAID NAME OUTPUT WORDS..: what stands in place of a table NAME is a folder, a link to
+# itself, and a table without end. What is said of each begins with SAID.
+stand_ins() {
+    said=$1
+    table=$2
+    shift 2
+    rm -f "$table.csv"
+    mkdir "$table.csv"
+    ends "$said$table.csv is a folder" "4 none read fault in $table" "$@"
+    rmdir "$table.csv"
+    ln -s "$table.csv" "$table.csv"
+    ends "$said$table.csv is itself" "4 none read fault in $table" "$@"
+    rm -f "$table.csv"
+    ln -s /dev/zero "$table.csv"
+    ends "$said$table.csv without end" "7 none size: table $table limit 268435456" "$@"
+    rm -f "$table.csv"
+}
+
 # What stands in place of a table of link times. Sound ones have 48 rows: 24 of each link.
 times_tables() {
     begin_skim
     ends 'a times table of assign' '0 3 nodes 3' skim.csv skim
     rm -f times.csv skim.csv
     ends 'no times table' '4 none read fault in times' skim.csv skim
-    mkdir times.csv
-    ends 'times.csv is a folder' '4 none read fault in times' skim.csv skim
-    rmdir times.csv
-    ln -s times.csv times.csv
-    ends 'times.csv is itself' '4 none read fault in times' skim.csv skim
-    rm -f times.csv
-    ln -s /dev/zero times.csv
-    size='size: table times limit 268435456'
-    ends 'times.csv without end' "7 none $size" skim.csv skim
+    stand_ins '' times skim.csv skim
     begin_skim
     : >times.csv
     ends 'times.csv of zero bytes' '3 none times line 1: E1 MissingColumn link_id' skim.csv skim
@@ -487,7 +500,7 @@ times_tables() {
     ends 'times.csv of 268435456 bytes' '0 3 nodes 3' skim.csv skim
     printf '\n' >>times.csv
     rm -f skim.csv
-    ends 'times.csv of one byte more' "7 none $size" skim.csv skim
+    ends 'times.csv of one byte more' '7 none size: table times limit 268435456' skim.csv skim
 }
 
 skims_and_counts() {
@@ -507,12 +520,9 @@ skims_and_counts() {
     cmp -s counts.csv "$work/without"; check 'the same counts as without a link' 0 $?
     ends 'a link in another spelling' '0 26 nodes 3' counts.csv counts --link=0020.0
     rm -f counts.csv
-    for words in counts,--link counts,--link= counts,--link=x counts,--link=-1 counts,--watch,1 \
-        counts,--at,0 skim,--at skim,--at=0\; skim,--at,1200 skim,--plain skim,--link=10 \
-        skim,--period,10 Skim count; do
-        # shellcheck disable=SC2046
-        ends "refused words $words" "2 none $usage" skim.csv $(echo "$words" | tr , ' ')
-    done
+    refuses skim.csv counts,--link counts,--link= counts,--link=x counts,--link=-1 \
+        counts,--watch,1 counts,--at,0 skim,--at skim,--at=0\; skim,--at,1200 skim,--plain \
+        skim,--link=10 skim,--period,10 Skim count
     awk 'BEGIN { print "node_id,zone_id"; for (k = 1; k < 4098; k++) print k "," k }' >node.csv
     ends '4,097 zones' '7 none size: skim 16781312 limit 16777216' skim.csv skim
 }
@@ -557,13 +567,10 @@ windows() {
 
 # Waves in and out of their range, over short and very long links, and in little memory.
 waves() {
-    for words in assign,--wave,0 assign,--wave,101 assign,--wave=1.0 assign,--wave= assign,--wave \
-        assign,--queue=newell,--wave,0 assign,--queue,Newell skim,--wave,20 freeflow,--wave,20 \
-        demo,2,--wave,101; do
-        begin
-        # shellcheck disable=SC2046
-        ends "refused words $words" "2 none $usage" agent.csv $(echo "$words" | tr , ' ')
-    done
+    begin
+    refuses agent.csv assign,--wave,0 assign,--wave,101 assign,--wave=1.0 assign,--wave= \
+        assign,--wave assign,--queue=newell,--wave,0 assign,--queue,Newell skim,--wave,20 \
+        freeflow,--wave,20 demo,2,--wave,101
     for wave in 1 20 100; do
         begin
         run assign --wave $wave
@@ -606,16 +613,7 @@ same() {
 start_tables() {
     begin
     ends 'no start table' '4 none read fault in start' agent.csv assign --start
-    mkdir start.csv
-    ends 'start.csv is a folder' '4 none read fault in start' agent.csv assign --start
-    rmdir start.csv
-    ln -s start.csv start.csv
-    ends 'start.csv is itself' '4 none read fault in start' agent.csv assign --start
-    rm -f start.csv
-    ln -s /dev/zero start.csv
-    size='size: table start limit 268435456'
-    ends 'start.csv without end' "7 none $size" agent.csv assign --start
-    rm -f start.csv
+    stand_ins '' start agent.csv assign --start
     : >start.csv
     ends 'start.csv of zero bytes' '3 none start line 1: E1 MissingColumn agent_id' agent.csv \
         assign --start
@@ -662,13 +660,11 @@ start_tables() {
     ends 'start.csv of 268435456 bytes' '0 3001 nodes 3' agent.csv assign --start
     printf '\n' >>start.csv
     rm -f agent.csv
-    ends 'start.csv of one byte more' "7 none $size" agent.csv assign --start
+    ends 'start.csv of one byte more' '7 none size: table start limit 268435456' agent.csv \
+        assign --start
     cp "$whole/agent.csv" start.csv
-    for words in assign,--start= assign,--start=1 assign,--start,1 assign,--start,--start \
-        assign,--starts demo,2,--start counts,--start skim,--start freeflow,--start; do
-        # shellcheck disable=SC2046
-        ends "refused words $words" "2 none $usage" agent.csv $(echo "$words" | tr , ' ')
-    done
+    refuses agent.csv assign,--start= assign,--start=1 assign,--start,1 assign,--start,--start \
+        assign,--starts demo,2,--start counts,--start skim,--start freeflow,--start
 }
 
 # Sweeps: outputs that can't be written, words, and limits. A sweep of two scales over the 3,000
@@ -710,14 +706,12 @@ sweeps() {
         ends "refused scales $(echo "$scales" | head -c 20)" "2 none $usage" sweep.txt sweep \
             "--scales=$scales"
     done
-    for words in sweep sweep,--scales sweep,--scales,-1 sweep,--scale,1 sweep,--scales,1,--plain \
-        sweep,--scales,1,--watch,1 sweep,--scales,1,--start sweep,--scales,1,--at,0 \
-        sweep,--scales,1,--link,10 sweep,--scales,1,--scales,1 sweep,--scales,1,--workers,17 \
-        sweep,1 Sweep,--scales,1 sweeps,--scales,1 assign,--scales,1 demo,2,--scales,1 \
-        counts,--scales,1 skim,--scales,1 freeflow,--scales,1 audit,--scales,1; do
-        # shellcheck disable=SC2046
-        ends "refused words $words" "2 none $usage" sweep.txt $(echo "$words" | tr , ' ')
-    done
+    refuses sweep.txt sweep sweep,--scales sweep,--scales,-1 sweep,--scale,1 \
+        sweep,--scales,1,--plain sweep,--scales,1,--watch,1 sweep,--scales,1,--start \
+        sweep,--scales,1,--at,0 sweep,--scales,1,--link,10 sweep,--scales,1,--scales,1 \
+        sweep,--scales,1,--workers,17 sweep,1 Sweep,--scales,1 sweeps,--scales,1 \
+        assign,--scales,1 demo,2,--scales,1 counts,--scales,1 skim,--scales,1 \
+        freeflow,--scales,1 audit,--scales,1
     begin 1000001
     ends 'too many vehicles at the second scale' \
         '7 none size: demand line 2 vehicles 2000002 limit 2000000' sweep.txt sweep --scales '0.5;2'
@@ -797,12 +791,9 @@ audits() {
     changed 'blanks and leading zeros' 's/,arrived,10;20,/,\tarrived ,010;20.0, /' start \
         '0 none audit ok'
     changed 'a column that is passed over' 's/$/,7/' start '0 none audit ok'
-    for words in audit,--workers,2 audit,--iterations,2 audit,--plain audit,--watch,1 \
+    refuses audit.txt audit,--workers,2 audit,--iterations,2 audit,--plain audit,--watch,1 \
         audit,--start audit,--at,0 audit,--link,10 audit,1 audit,--period,0 \
-        audit,--horizon,10,--period,11 Audit audits; do
-        # shellcheck disable=SC2046
-        ends "refused words $words" "2 none $usage" audit.txt $(echo "$words" | tr , ' ')
-    done
+        audit,--horizon,10,--period,11 Audit audits
     begin_audit
     sed -i '3s/arrived/running/' start.csv
     "$program" audit >/dev/full; check 'it differs, a full standard output' 8 $?
@@ -823,16 +814,7 @@ audited_tables() {
         begin_audit
         rm -f $name.csv
         ends "audit, no $name.csv" "4 none read fault in $name" audit.txt audit
-        mkdir $name.csv
-        ends "audit, $name.csv is a folder" "4 none read fault in $name" audit.txt audit
-        rmdir $name.csv
-        ln -s $name.csv $name.csv
-        ends "audit, $name.csv is itself" "4 none read fault in $name" audit.txt audit
-        rm -f $name.csv
-        ln -s /dev/zero $name.csv
-        ends "audit, $name.csv without end" "7 none size: table $name limit 268435456" audit.txt \
-            audit
-        rm -f $name.csv
+        stand_ins 'audit, ' $name audit.txt audit
         printf '\377\376\0\1,\200\n' >$name.csv
         ends "audit, $name.csv is no text" "3 none $name line 1: E2 BadRecord -" audit.txt audit
     done

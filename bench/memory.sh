@@ -9,6 +9,7 @@
 # minutes.
 [ $# -eq 1 ] || { echo 'usage: memory.sh PROGRAM' >&2; exit 2; }
 program=$(realpath "$1")
+bench=$(dirname "$(readlink -f "$0")")
 every=3000
 stride=50
 work=$(mktemp -d)
@@ -84,10 +85,7 @@ cc -O -fno-builtin -shared -fPIC -o "$work/refuse.so" "$work/refuse.c" || exit 2
 
 # Two links in a line, and three vehicles.
 two_links() {
-    printf 'node_id,zone_id\n1,1\n2,\n3,3\n' >node.csv
-    printf 'link_id,from_node_id,to_node_id,length,lanes,free_speed,capacity\n' >link.csv
-    printf '10,1,2,1000,1,60,600\n20,2,3,1000,1,60,600\n' >>link.csv
-    printf 'o_zone_id,d_zone_id,volume\n1,3,3\n' >demand.csv
+    "$bench/two_links.sh" 3
 }
 
 # A narrow link and a way round it, and four vehicles.

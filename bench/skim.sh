@@ -13,32 +13,12 @@
 # the seconds say little.
 set -e
 [ $# -ge 2 ] || { echo 'usage: skim.sh PEER MAKE_NET [STAGE]' >&2; exit 2; }
-top=$(dirname "$(dirname "$(readlink -f "$0")")")
+bench=$(dirname "$(readlink -f "$0")")
 peer=$(readlink -f "$1")
 make_net=$(readlink -f "$2")
-at_stage="--stage ${3:-19}"
-[ "$3" != 0 ] || at_stage=
-folder=$(mktemp -d)
-trap 'rm -rf "$folder"' EXIT
-[ -n "$DTA" ] || "$top/dta" demo 2 >/dev/null # built
-program=$(readlink -f "${DTA:-$top/crates/dta/out/dta}")
-status=0
-
-# Runs a program in the current folder, notes what it takes in the file that is named, and the check
-# sum of what it writes in `sums`.
-note_run() {
-    noted=$1
-    shift
-    rm -f skim.csv
-    /usr/bin/time -a -o "$noted" -f '%U %S %M' "$@" >report
-    cat skim.csv report | cksum >>sums
-}
-
-# The middle of the seconds of three runs, and the largest of their peaks in MB.
-middle() {
-    awk '{ print $1 + $2, $3 / 1024 }' "$1" | sort -n |
-        awk '{ seconds[NR] = $1; if ($2 > peak) peak = $2 } END { print seconds[2], peak }'
-}
+outputs=skim.csv
+. "$bench/beside.sh"
+at_stage "${3:-19}"
 
 # Prints the row of a list of starts.
 measure() {
@@ -48,14 +28,13 @@ measure() {
         # shellcheck disable=SC2086
         note_run others "$peer" $at_stage skim --horizon 1200 --bucket 50 --at "$1"
     done
-    bytes=equal
-    [ "$(sort -u sums | wc -l)" = 1 ] || { bytes=DIFFERENT; status=1; }
+    compare_sums
     entries=$(sed -n 's/^entries //p' report)
     echo "$(middle ours) $(middle others)" |
         awk -v starts="$1" -v entries="$entries" -v bytes="$bytes" '{
-            over = $3 ? sprintf("%.2f", $1 / $3) : "-"
+            over = $5 ? sprintf("%.2f", $2 / $5) : "-"
             printf "| %s | %d | %.2f | %.2f | %s | %d | %d | %s |\n",
-                starts, entries, $1, $3, over, $2, $4, bytes
+                starts, entries, $2, $5, over, $3, $6, bytes
         }'
 }
 

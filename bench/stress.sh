@@ -5,12 +5,10 @@
 # run must end within a minute with the bytes of the run with --plain. Prints the seconds that the
 # runs by each number of workers took. Ends with 0 where all held.
 set -u
-top=$(dirname "$(dirname "$(readlink -f "$0")")")
+bench=$(dirname "$(readlink -f "$0")")
 runs=${1:-200}
-folder=$(mktemp -d)
-trap 'rm -rf "$folder"' EXIT
-"$top/dta" demo 2 >/dev/null || exit 1 # built
-program=$top/crates/dta/out/dta
+. "$bench/begin.sh"
+begin_dta
 
 # The tables of a small net with short links, in which queues fill and block one another.
 make_net() {

@@ -12,33 +12,12 @@
 # alone for scale 1. Ends with 1 where some did not. Where other work is done meanwhile the seconds
 # say little.
 set -e
-top=$(dirname "$(dirname "$(readlink -f "$0")")")
+bench=$(dirname "$(readlink -f "$0")")
 peer=
 [ $# -eq 0 ] || peer=$(readlink -f "$1")
-at_stage="--stage ${2:-20}"
-[ "$2" != 0 ] || at_stage=
-folder=$(mktemp -d)
-trap 'rm -rf "$folder"' EXIT
-[ -n "$DTA" ] || "$top/dta" demo 2 >/dev/null # built
-program=$(readlink -f "${DTA:-$top/crates/dta/out/dta}")
-status=0
-
-# Runs a program in the current folder, notes what it takes in the file that is named, and the check
-# sum of what it writes in `sums`.
-note_run() {
-    noted=$1
-    shift
-    rm -f sweep.txt
-    /usr/bin/time -a -o "$noted" -f '%e %U %S %M' "$@" >report
-    cat sweep.txt report | cksum >>sums
-}
-
-# The middle of three runs in seconds by the clock and of processors, and their largest peak in MB.
-middle() {
-    awk '{ print $1, $2 + $3, $4 / 1024 }' "$1" | sort -n |
-        awk '{ clock[NR] = $1; busy[NR] = $2; if ($3 > peak) peak = $3 }
-            END { print clock[2], busy[2], peak }'
-}
+outputs=sweep.txt
+. "$bench/beside.sh"
+at_stage "${2:-20}"
 
 # Prints the row of a program with so many workers.
 row() {
@@ -47,7 +26,7 @@ row() {
     }'
 }
 
-cp "$top"/examples/sioux_falls/*.csv "$folder"
+cp "$bench"/../examples/sioux_falls/*.csv "$folder"
 cd "$folder"
 rm -f agent.csv link_performance.csv gap.csv times.csv start.csv
 set -- sweep --scales '0.8;0.9;1;1.1' --iterations 10
@@ -64,8 +43,7 @@ for workers in 1 4; do row ours_$workers dta $workers; done
 [ -z "$peer" ] || for workers in 1 4; do row others_$workers other $workers; done
 echo "$(middle ours_1) $(middle ours_4)" |
     awk '$4 { printf "four workers are %.2f times as fast as one\n", $1 / $4 }'
-bytes=equal
-[ "$(sort -u sums | wc -l)" = 1 ] || { bytes=DIFFERENT; status=1; }
+compare_sums
 echo "the bytes of all runs are $bytes"
 
 # The scenario of scale 1 is the third.

@@ -5,16 +5,14 @@
 # the clock and those of the processors, and the peak memory. Every run must write the same agent,
 # link-time and gap tables and the same report.
 set -e
-top=$(dirname "$(dirname "$(readlink -f "$0")")")
-folder=$(mktemp -d)
-trap 'rm -rf "$folder"' EXIT
-"$top/dta" demo 2 >/dev/null # built
-program=$top/crates/dta/out/dta
+bench=$(dirname "$(readlink -f "$0")")
+. "$bench/begin.sh"
+begin_dta
 
 # Makes the tables of a grid in a folder of its own.
 make_grid() {
     mkdir "$folder/grid_$1"
-    (cd "$folder/grid_$1" && "$top/bench/grid.sh" "$1")
+    (cd "$folder/grid_$1" && "$bench/grid.sh" "$1")
 }
 
 # Runs the program in the current folder with these options, three times, and compares what it
@@ -38,5 +36,5 @@ for tables in "$folder"/grid_60 "$folder"/grid_100 "$@"; do
     cd "$work"
     measure --plain
     for workers in 1 2 3 4; do measure --workers "$workers"; done
-    cd "$top"
+    cd "$bench/.."
 done

@@ -1,18 +1,8 @@
 #!/bin/sh
 # edge.sh PROGRAM: runs the built program where the proofs end, and ends with 0 where each run ends
 # with the number that is wanted and writes what is wanted.
-[ $# -eq 1 ] || { echo "usage: edge.sh PROGRAM" >&2; exit 2; }
-program=$(realpath "$1")
-folder=$(mktemp -d)
-trap 'rm -rf "$folder"' EXIT
-cd "$folder" || exit 2
-failures=0
-
-# fails NAME: tells of a check that failed.
-fails() {
-    echo "FAILED: $1"
-    failures=$((failures + 1))
-}
+checks=$(dirname "$(readlink -f "$0")")
+. "$checks/begin.sh"
 
 # ends NAME NUMBER COMMAND..: a command ends with this number.
 ends() {
@@ -30,13 +20,10 @@ has() {
     cmp -s wanted "$2" || fails "$1: $2 has another text"
 }
 
-# tables VOLUME: two links in a line, over which so many vehicles go.
+# tables VOLUME: two links in a line, each of length 1, over which so many vehicles go.
 tables() {
     rm -f ./*.csv sweep.txt
-    printf 'node_id,zone_id\n1,1\n2,\n3,3\n' >node.csv
-    printf 'link_id,from_node_id,to_node_id,length,lanes,free_speed,capacity\n' >link.csv
-    printf '10,1,2,1,1,60,600\n20,2,3,1,1,60,600\n' >>link.csv
-    printf 'o_zone_id,d_zone_id,volume\n1,3,%s\n' "$1" >demand.csv
+    "$checks/../bench/two_links.sh" "$1" 1
 }
 
 # Every option at once: all words are taken, Report goes to standard output and Watch to standard
@@ -71,7 +58,20 @@ agent_id,o_zone_id,d_zone_id,departure_step,arrival_step,status,link_ids,entry_s
 1,1,3,18,26,arrived,10;20,18;22,0
 2,1,3,30,,running,10;20,30;34,2
 TEXT
+has 'every option' link_performance.csv <<'TEXT'
+link_id,from_step,to_step,entered,travel_steps,free_steps
+10,0,20,2,4,4
+10,20,36,1,4,4
+20,0,20,1,4,4
+20,20,36,2,4,4
+TEXT
+has 'every option' gap.csv <<'TEXT'
+iteration,route_steps,least_steps,gap_steps,gap_ppm
+1,24,24,0,0
+2,24,24,0,0
+TEXT
 mv link_performance.csv times.csv
+mv report assigned
 ends 'every option of skim' 0 "$program" skim --step 12 --jam 250 --length-unit km \
     --speed-unit mph --horizon 36 --bucket 20 --at '0;35' >report 2>watch
 has 'every option of skim' report <<'TEXT'
@@ -103,14 +103,15 @@ running 1
 waiting 0
 TEXT
 
-# A sweep has the assignment of each scale, and an audit finds the tables of the first run right.
+# A sweep has the assignment of each scale, that of scale 1 being the first run but for the column
+# that a start table brings; and an audit finds the tables of the first run right.
 ends 'every option of sweep' 0 "$program" sweep --step 12 --jam 250 --length-unit km \
     --speed-unit mph --horizon 36 --period 36 --iterations 2 --workers 3 --bucket 20 \
     --queue newell --wave 18 --scales '0.6667;1' >report 2>>watch
 has 'every option of sweep' report <<'TEXT'
 scenarios 2
 TEXT
-has 'every option of sweep' sweep.txt <<'TEXT'
+cat >scenarios <<'TEXT'
 scenario 0 scale 666
 agent_id,o_zone_id,d_zone_id,departure_step,arrival_step,status,link_ids,entry_steps
 0,1,3,18,26,arrived,10;20,18;22
@@ -135,31 +136,9 @@ least_steps 8
 gap_steps 0
 gap_ppm 0
 scenario 1 scale 1000
-agent_id,o_zone_id,d_zone_id,departure_step,arrival_step,status,link_ids,entry_steps
-0,1,3,6,14,arrived,10;20,6;10
-1,1,3,18,26,arrived,10;20,18;22
-2,1,3,30,,running,10;20,30;34
-link_id,from_step,to_step,entered,travel_steps,free_steps
-10,0,20,2,4,4
-10,20,36,1,4,4
-20,0,20,1,4,4
-20,20,36,2,4,4
-iteration,route_steps,least_steps,gap_steps,gap_ppm
-1,24,24,0,0
-2,24,24,0,0
-nodes 3
-links 2
-vehicles 3
-unrouted 0
-iterations 2
-arrived 2
-running 1
-waiting 0
-route_steps 24
-least_steps 24
-gap_steps 0
-gap_ppm 0
 TEXT
+cut -d , -f 1-8 agent.csv | cat - times.csv gap.csv assigned >>scenarios
+has 'every option of sweep' sweep.txt <scenarios
 audited() {
     "$program" audit --step 12 --jam 250 --length-unit km --speed-unit mph --horizon 36 \
         --period 36 --bucket 20 --queue newell --wave 18
@@ -285,5 +264,4 @@ has 'no node table' report <<'TEXT'
 read fault in node
 TEXT
 
-[ "$failures" -eq 0 ] && echo 'all is as it should be'
-exit "$((failures > 0))"
+end 'all is as it should be'

@@ -2,33 +2,26 @@
 # examples.sh PROGRAM: runs a built program over the examples that have a folder `expected`, with
 # the words of their READMEs and in a folder of its own, and ends with 0 where it writes these very
 # files; and over those of audits and of many scenarios, where it prints what their READMEs say.
-[ $# -eq 1 ] || { echo "usage: examples.sh PROGRAM" >&2; exit 2; }
-program=$(realpath "$1")
-examples=$(realpath "$(dirname "$0")/../examples")
-work=$(mktemp -d)
-trap 'rm -rf "$work"' EXIT
-failures=0
+checks=$(dirname "$(readlink -f "$0")")
+examples=$(realpath "$checks/../examples")
+. "$checks/begin.sh"
 
 # begin NAME: the tables of an example, in a new folder.
 begin() {
     name=$1
-    mkdir "$work/$name" && cp "$examples/$name"/*.csv "$work/$name" && cd "$work/$name" || exit 2
+    mkdir "$folder/$name" && cp "$examples/$name"/*.csv "$folder/$name" && cd "$folder/$name" ||
+        exit 2
 }
 
 # run WORDS: a run that must end with 0.
 run() {
-    "$program" "$@" >report || {
-        echo "FAILED: $name, $*: status $?"
-        failures=$((failures + 1))
-    }
+    "$program" "$@" >report || fails "$name, $*: status $?"
 }
 
 # writes FILE..: the files that are expected of the last run.
 writes() {
     for file in "$@"; do
-        cmp "$file" "$examples/$name/expected/$file" && continue
-        echo "FAILED: $name, $file"
-        failures=$((failures + 1))
+        cmp "$file" "$examples/$name/expected/$file" || fails "$name, $file"
     done
 }
 
@@ -50,9 +43,9 @@ writes link_performance.csv
 
 begin sioux_falls
 run assign --horizon 2400 --iterations 20
-cp agent.csv "$work/start.csv"
+cp agent.csv "$folder/start.csv"
 begin warm_start
-mv "$work/start.csv" .
+mv "$folder/start.csv" .
 run assign --horizon 2400 --iterations 5 --start
 writes gap.csv
 
@@ -61,23 +54,17 @@ run sweep --queue newell --scales '0.5;1;1.5;2'
 "$examples/roundabout/summary.sh" <sweep.txt >summary.csv
 writes summary.csv
 "$examples/roundabout/cut_out.sh" 1 <sweep.txt
-cp agent.csv link_performance.csv gap.csv report.txt "$work"
+cp agent.csv link_performance.csv gap.csv report.txt "$folder"
 run assign --queue newell
-for file in agent.csv link_performance.csv gap.csv; do cmp "$file" "$work/$file"; done &&
-    cmp report "$work/report.txt" || {
-    echo 'FAILED: roundabout, the scenario of scale 1 alone'
-    failures=$((failures + 1))
-}
+for file in agent.csv link_performance.csv gap.csv; do cmp "$file" "$folder/$file"; done &&
+    cmp report "$folder/report.txt" || fails 'roundabout, the scenario of scale 1 alone'
 
 # audited STATUS LINE: an audit of the tables start.csv and times.csv ends with this status and
 # prints this line first.
 audited() {
     "$program" audit --period 1 --horizon 60 >report
     got="$? $(head -n 1 report)"
-    [ "$got" = "$1 $2" ] || {
-        echo "FAILED: audit, wanted $1 $2, got $got"
-        failures=$((failures + 1))
-    }
+    [ "$got" = "$1 $2" ] || fails "audit, wanted $1 $2, got $got"
 }
 
 begin audit
@@ -93,14 +80,10 @@ cp "$examples/audit/left_out/agent.csv" start.csv
 cp "$examples/audit/left_out/link_performance.csv" times.csv
 audited 0 'audit ok'
 
-cp -r "$examples/many_scenarios" "$work" && cd "$work/many_scenarios" || exit 2
-for folder in scenarios/*/; do
-    ./run_one.sh "$program" "$folder" || failures=$((failures + 1))
+cp -r "$examples/many_scenarios" "$folder" && cd "$folder/many_scenarios" || exit 2
+for scenario in scenarios/*/; do
+    ./run_one.sh "$program" "$scenario" || failures=$((failures + 1))
 done
-./check.sh "$program" >/dev/null || {
-    echo 'FAILED: many_scenarios'
-    failures=$((failures + 1))
-}
+./check.sh "$program" >/dev/null || fails 'many_scenarios'
 
-[ "$failures" -eq 0 ] && echo 'all examples write what is expected'
-exit "$((failures > 0))"
+end 'all examples write what is expected'
