@@ -3,9 +3,14 @@
 folder=$(mktemp -d)
 trap 'rm -rf "$folder"' EXIT
 
-# begin NAME: builds the program of bench/NAME, sets `program` to its path and goes to the folder.
+# begin NAME [PROGRAM]: builds the program of bench/NAME, unless one that build.sh made is handed in, sets `program` to its path and
+# goes to the folder.
 begin() {
-    program=$("$bench/build.sh" "$1" "$folder/build")
+    if [ -n "${2:-}" ]; then
+        program=$(realpath -e "$2")
+    else
+        program=$("$bench/build.sh" "$1" "$folder/build")
+    fi
     cd "$folder" || exit 2
 }
 

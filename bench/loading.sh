@@ -4,10 +4,12 @@
 # memory of the whole program with its tables and routes: of the proved program, three times, and of a plain Rust program of the
 # same rules, bench/loading.rs, where there is a rustc to build it. Both must print the same arrivals and entries. The proved
 # program makes the grid of 60 itself, by grid_maker; all other tables come from bench/grid.sh.
+# `bench/loading.sh PROGRAM` measures a program that is built already, in place of building one: the one whose path
+# `bench/build.sh loading FOLDER` prints, here or at an older commit.
 set -e
 bench=$(dirname "$(readlink -f "$0")")
 . "$bench/begin.sh"
-begin loading
+begin loading "${1:-}"
 begin_plain loading
 
 # Makes the tables of a grid in a folder of its own, and goes there.
