@@ -1,4 +1,4 @@
-# Read by edge.sh, examples.sh and refusals.sh, whose one argument is a built program, and which have set `checks` to this folder.
+# Read by edge.sh, examples.sh and cases.sh, where the one argument is a built program.
 # Sets `program` to its path, and goes to a folder that is gone at the end.
 # shellcheck shell=sh disable=SC2034
 [ $# -eq 1 ] || { echo "usage: $(basename "$0") PROGRAM" >&2; exit 2; }
@@ -10,7 +10,7 @@ failures=0
 
 # fails NAME: tells of a check that failed.
 fails() {
-    echo "FAILED: $1"
+    printf 'FAILED: %s\n' "$1"
     failures=$((failures + 1))
 }
 
