@@ -1,11 +1,9 @@
 // Worked cases: whole runs that end with status 0, with all that they put. What is wanted is worked
 // out by hand from the definitions (docs/MODEL.md).
 use crate::NoGate;
-use crate::run::run;
 use crate::status::Status;
-use crate::tests::desk_of;
+use crate::tests::{desk_of, has_taken, status_of, words_in};
 use desk_io::{MemDesk, Output};
-use dta_words::Words;
 use std::alloc::Global;
 use std::sync::Wait;
 use std::test::Fail;
@@ -520,15 +518,6 @@ static NINE: [Case; 2] = [
     },
 ];
 
-// The words of a line.
-fn words_in(alloc: Global, line: &str) -> Result<Words, Fail> {
-    let mut words = Words::new(alloc);
-    for word in line.split(' ') {
-        words.push(word)?;
-    }
-    Ok(words)
-}
-
 // A desk with the tables of a case.
 fn desk_with(alloc: Global, case: &Case) -> Result<MemDesk, Fail> {
     desk_of(
@@ -547,38 +536,30 @@ fn is_done<R: AllocGlobal + Threads + Wait + Sync>(
     desk: &mut MemDesk,
 ) -> Result<bool, Fail> {
     let words = words_in(rt.alloc(), case.words)?;
-    Ok(run(rt, &words, desk, &mut NoGate) == Status::Done)
+    Ok(status_of(rt, &words, desk, &mut NoGate) == Status::Done)
 }
 
-// The first output that took something else than what is wanted.
-fn another_text(case: &Case, desk: &MemDesk) -> Option<Output> {
-    for (output, wanted) in [
-        (Output::Agent, case.agent),
-        (Output::LinkTime, case.link_time),
-        (Output::Gap, case.gap),
-        (Output::Report, case.report),
-        (Output::Watch, case.watch),
-    ] {
-        if desk.taken(output) != wanted.as_bytes() {
-            return Some(output);
-        }
-    }
-    None
+// Whether a run of a case ends with status 0, and each output took what is wanted.
+fn is_as_wanted<R: AllocGlobal + Threads + Wait + Sync>(rt: &R, case: &Case) -> Result<bool, Fail> {
+    let mut desk = desk_with(rt.alloc(), case)?;
+    Ok(
+        is_done(rt, case, &mut desk)?
+            && has_taken(&desk, Output::Agent, case.agent.as_bytes())
+            && has_taken(&desk, Output::LinkTime, case.link_time.as_bytes())
+            && has_taken(&desk, Output::Gap, case.gap.as_bytes())
+            && has_taken(&desk, Output::Report, case.report.as_bytes())
+            && has_taken(&desk, Output::Watch, case.watch.as_bytes()),
+    )
 }
 
-// The name of the first case that doesn't end with status 0, or that puts something else than what
-// is wanted, with the first such output.
+// The name of the first case that isn't as it is wanted.
 fn first_failure<R: AllocGlobal + Threads + Wait + Sync>(
     rt: &R,
     cases: &[Case],
-) -> Result<Option<(&'static str, Option<Output>)>, Fail> {
+) -> Result<Option<&'static str>, Fail> {
     for case in cases {
-        let mut desk = desk_with(rt.alloc(), case)?;
-        if !is_done(rt, case, &mut desk)? {
-            return Ok(Some((case.name, None)));
-        }
-        if let Some(output) = another_text(case, &desk) {
-            return Ok(Some((case.name, Some(output))));
+        if !is_as_wanted(rt, case)? {
+            return Ok(Some(case.name));
         }
     }
     Ok(None)

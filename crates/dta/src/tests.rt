@@ -1,4 +1,8 @@
 // Runs over desks in memory and over files, for what no clause says.
+//
+// What a test knows of a run and of a desk stands in the proof of the test, which gets long where it
+// is much, and longer where a desk lives in a loop that may be left. So `status_of` and `has_taken`
+// tell nothing, and what is done in a turn of a loop is a function of its own.
 mod faults;
 mod held;
 mod refusals;
@@ -8,10 +12,10 @@ mod whole_runs;
 mod windows_waves_and_starts;
 mod workers;
 
-use crate::NoGate;
 use crate::run::run;
 use crate::status::Status;
-use desk_io::{Desk, MemDesk};
+use crate::{Gate, NoGate};
+use desk_io::{Desk, MemDesk, Output};
 use dta_words::Words;
 use std::alloc::Global;
 use std::sync::Wait;
@@ -90,6 +94,25 @@ fn words_by(alloc: Global, workers: &str) -> Result<Words, Fail> {
     Ok(words)
 }
 
+// The words of a line.
+pub(crate) fn words_in(alloc: Global, line: &str) -> Result<Words, Fail> {
+    let mut words = Words::new(alloc);
+    for word in line.split(' ') {
+        words.push(word)?;
+    }
+    Ok(words)
+}
+
+// The status of a run with these words over a desk.
+pub(crate) fn status_of<R: AllocGlobal + Threads + Wait + Sync, D: Desk + Send, G: Gate + Sync>(
+    rt: &R,
+    words: &Words,
+    desk: &mut D,
+    gate: &mut G,
+) -> Status {
+    run(rt, words, desk, gate)
+}
+
 // The status of a run over a desk.
 fn run_over<R: AllocGlobal + Threads + Wait + Sync, D: Desk + Send>(
     rt: &R,
@@ -97,5 +120,10 @@ fn run_over<R: AllocGlobal + Threads + Wait + Sync, D: Desk + Send>(
     desk: &mut D,
 ) -> Result<Status, Fail> {
     let words = words_of(rt.alloc(), given)?;
-    Ok(run(rt, &words, desk, &mut NoGate))
+    Ok(status_of(rt, &words, desk, &mut NoGate))
+}
+
+// Whether an output has taken this text.
+pub(crate) fn has_taken(desk: &MemDesk, output: Output, text: &[u8]) -> bool {
+    desk.taken(output) == text
 }

@@ -1,8 +1,7 @@
 // Reads and puts that fail.
 use crate::NoGate;
-use crate::run::run;
 use crate::status::Status;
-use crate::tests::{AGENTS, ASSIGN, GAPS, LINK_TIMES, SUMMARY, two_links, words_of};
+use crate::tests::{AGENTS, ASSIGN, GAPS, LINK_TIMES, SUMMARY, status_of, two_links, words_of};
 use desk_io::Output;
 use std::test::Fail;
 
@@ -15,7 +14,7 @@ fn failing_reads(rt: HostRuntime) -> Result<(), Fail> {
             let mut desk = two_links(rt.alloc())?;
             desk.set_most(16);
             desk.fail_read(call)?;
-            let status = run(&rt, &words, &mut desk, &mut NoGate);
+            let status = status_of(&rt, &words, &mut desk, &mut NoGate);
             if status == Status::Done {
                 assert!(rt; call > tables && desk.read_faults() == 0);
                 done = true;
@@ -41,7 +40,7 @@ fn failing_puts(rt: HostRuntime) -> Result<(), Fail> {
         let mut desk = two_links(rt.alloc())?;
         desk.set_most(16);
         desk.fail_put(call)?;
-        let status = run(&rt, &words, &mut desk, &mut NoGate);
+        let status = status_of(&rt, &words, &mut desk, &mut NoGate);
         let agents = desk.taken(Output::Agent);
         let lines = desk.taken(Output::LinkTime);
         let gaps = desk.taken(Output::Gap);

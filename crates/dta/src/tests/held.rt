@@ -1,8 +1,7 @@
 // A worker that is held while another one goes on.
 use crate::Gate;
-use crate::run::run;
 use crate::status::Status;
-use crate::tests::{AGENTS, GAPS, LINK_TIMES, SUMMARY, two_links, words_by};
+use crate::tests::{AGENTS, GAPS, LINK_TIMES, SUMMARY, has_taken, status_of, two_links, words_by};
 use desk_io::Output;
 use phase_claims::Receipt;
 use std::hint;
@@ -70,9 +69,9 @@ fn a_held_worker(rt: HostRuntime) -> Result<(), Fail> {
         held: AtomicBool::new(false),
     };
     let mut desk = two_links(rt.alloc())?;
-    assert!(rt; run(&rt, &words, &mut desk, &mut gate) == Status::Done);
-    assert!(rt; desk.taken(Output::Agent) == AGENTS && desk.taken(Output::Gap) == GAPS);
-    assert!(rt; desk.taken(Output::LinkTime) == LINK_TIMES);
-    assert!(rt; desk.taken(Output::Report) == SUMMARY);
+    assert!(rt; status_of(&rt, &words, &mut desk, &mut gate) == Status::Done);
+    assert!(rt; has_taken(&desk, Output::Agent, AGENTS) && has_taken(&desk, Output::Gap, GAPS));
+    assert!(rt; has_taken(&desk, Output::LinkTime, LINK_TIMES));
+    assert!(rt; has_taken(&desk, Output::Report, SUMMARY));
     Ok(())
 }

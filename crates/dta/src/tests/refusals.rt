@@ -1,14 +1,14 @@
 // Runs that are refused, and the first faults of tables.
-use crate::NoGate;
-use crate::run::run;
 use crate::sizes::sizes;
 use crate::status::Status;
 use crate::tests::{
-    ASSIGN, DEMAND, LENIENT_LINKS, LENIENT_NODES, LINKS, NODES, desk_of, run_over, two_links,
-    words_of,
+    ASSIGN, DEMAND, LENIENT_LINKS, LENIENT_NODES, LINKS, NODES, desk_of, has_taken, run_over,
+    two_links,
 };
-use desk_io::Output;
+use desk_io::{MemDesk, Output};
+use std::sync::Wait;
 use std::test::Fail;
+use std::thread::Threads;
 
 // Words that aren't in the grammar.
 const REFUSED_WORDS: [&[&str]; 5] = [
@@ -159,14 +159,28 @@ const BAD_TABLES: [(&[u8], &[u8], &[u8]); 22] = [
     ),
 ];
 
+// Whether a run is refused with this status and this report, and puts nothing else.
+fn is_refused<R: AllocGlobal + Threads + Wait + Sync>(
+    rt: &R,
+    given: &[&str],
+    mut desk: MemDesk,
+    status: Status,
+    report: &[u8],
+) -> Result<bool, Fail> {
+    Ok(
+        run_over(rt, given, &mut desk)? == status
+            && has_taken(&desk, Output::Report, report)
+            && has_taken(&desk, Output::Agent, b"")
+            && has_taken(&desk, Output::LinkTime, b""),
+    )
+}
+
 #[test]
 fn refused_words(rt: HostRuntime) -> Result<(), Fail> {
+    let report = b"usage: dta COMMAND [options]\n";
     for given in REFUSED_WORDS {
-        let words = words_of(rt.alloc(), given)?;
-        let mut desk = two_links(rt.alloc())?;
-        assert!(rt; run(&rt, &words, &mut desk, &mut NoGate) == Status::Usage);
-        assert!(rt; desk.taken(Output::Report) == b"usage: dta COMMAND [options]\n".as_slice());
-        assert!(rt; desk.taken(Output::LinkTime).is_empty());
+        let desk = two_links(rt.alloc())?;
+        assert!(rt; is_refused(&rt, given, desk, Status::Usage, report)?);
     }
     Ok(())
 }
@@ -174,49 +188,45 @@ fn refused_words(rt: HostRuntime) -> Result<(), Fail> {
 #[test]
 fn refused_tables(rt: HostRuntime) -> Result<(), Fail> {
     for (movement, demand, given, wanted, report) in REFUSED_TABLES {
-        let words = words_of(rt.alloc(), given)?;
-        let mut desk = desk_of(rt.alloc(), NODES, LINKS, movement, demand)?;
-        assert!(rt; run(&rt, &words, &mut desk, &mut NoGate) == wanted);
-        assert!(rt; desk.taken(Output::Report) == report);
-        assert!(rt; desk.taken(Output::Agent).is_empty());
+        let desk = desk_of(rt.alloc(), NODES, LINKS, movement, demand)?;
+        assert!(rt; is_refused(&rt, given, desk, wanted, report)?);
     }
     Ok(())
 }
 
 #[test]
 fn bad_tables(rt: HostRuntime) -> Result<(), Fail> {
-    let words = words_of(rt.alloc(), &["freeflow"])?;
     for (node, link, report) in BAD_TABLES {
-        let mut desk = desk_of(rt.alloc(), node, link, b"", b"")?;
-        assert!(rt; run(&rt, &words, &mut desk, &mut NoGate) == Status::Table);
-        assert!(rt; desk.taken(Output::Report) == report);
-        assert!(rt; desk.taken(Output::LinkTime).is_empty());
+        let desk = desk_of(rt.alloc(), node, link, b"", b"")?;
+        assert!(rt; is_refused(&rt, &["freeflow"], desk, Status::Table, report)?);
     }
     Ok(())
 }
 
+// Whether two runs over a link table end alike, done or refused.
+fn ends_twice_alike<R: AllocGlobal + Threads + Wait + Sync>(
+    rt: &R,
+    link: &[u8],
+) -> Result<bool, Fail> {
+    let mut first = desk_of(rt.alloc(), LENIENT_NODES, link, b"", b"")?;
+    let mut second = desk_of(rt.alloc(), LENIENT_NODES, link, b"", b"")?;
+    let status = run_over(rt, &["freeflow"], &mut first)?;
+    let again = run_over(rt, &["freeflow"], &mut second)?;
+    Ok(
+        (status == Status::Done || status == Status::Table)
+            && again == status
+            && has_taken(&first, Output::LinkTime, second.taken(Output::LinkTime))
+            && has_taken(&first, Output::Report, second.taken(Output::Report)),
+    )
+}
+
 #[test]
 fn a_link_table_cut_short(rt: HostRuntime) -> Result<(), Fail> {
-    let words = words_of(rt.alloc(), &["freeflow"])?;
     for count in 0..LENIENT_LINKS.len() {
-        let link = &LENIENT_LINKS[..count];
-        let mut first = desk_of(rt.alloc(), LENIENT_NODES, link, b"", b"")?;
-        let mut second = desk_of(rt.alloc(), LENIENT_NODES, link, b"", b"")?;
-        let status = run(&rt, &words, &mut first, &mut NoGate);
         assert!(rt;
-            status == Status::Done || status == Status::Table,
+            ends_twice_alike(&rt, &LENIENT_LINKS[..count])?,
             "cut after {count}"
         );
-        assert!(rt;
-            run(&rt, &words, &mut second, &mut NoGate) == status,
-            "cut after {count}"
-        );
-        for output in [Output::LinkTime, Output::Report] {
-            assert!(rt;
-                first.taken(output) == second.taken(output),
-                "cut after {count}"
-            );
-        }
     }
     Ok(())
 }
@@ -243,6 +253,6 @@ fn a_table_too_long(rt: HostRuntime) -> Result<(), Fail> {
     let mut desk = desk_of(rt.alloc(), node.as_slice(), LINKS, b"", b"")?;
     let status = run_over(&rt, &["freeflow"], &mut desk)?;
     assert!(rt; status == Status::Size);
-    assert!(rt; desk.taken(Output::Report) == b"size: table node limit 268435456\n".as_slice());
+    assert!(rt; has_taken(&desk, Output::Report, b"size: table node limit 268435456\n"));
     Ok(())
 }

@@ -1,7 +1,7 @@
 // Runs of `skim` and `counts`.
 use crate::status::Status;
-use crate::tests::{DEMAND, LINK_TIMES, LINKS, NODES, SUMMARY, desk_of, run_over};
-use desk_io::{MemDesk, Output};
+use crate::tests::{DEMAND, LINK_TIMES, LINKS, NODES, SUMMARY, desk_of, has_taken, run_over};
+use desk_io::Output;
 use std::alloc::Global;
 use std::sync::Wait;
 use std::test::Fail;
@@ -58,19 +58,28 @@ static SKIMS: [SkimCase; 4] = [
     },
 ];
 
-// The first case whose run ends in another way than is wanted.
+// Whether a run of a case ends as it is wanted.
+fn is_skimmed<R: AllocGlobal + Threads + Wait + Sync>(
+    rt: &R,
+    case: &SkimCase,
+) -> Result<bool, Fail> {
+    let mut desk = desk_of(rt.alloc(), NODES, LINKS, b"", b"")?;
+    desk.set_times(Vec::from_slice(rt.alloc(), case.times)?);
+    let status = run_over(rt, case.words, &mut desk)?;
+    Ok(
+        status == case.status
+            && has_taken(&desk, Output::Skim, case.skim)
+            && has_taken(&desk, Output::Report, case.report),
+    )
+}
+
+// The first case whose run ends in another way.
 fn first_failure<R: AllocGlobal + Threads + Wait + Sync>(
     rt: &R,
     cases: &[SkimCase],
 ) -> Result<Option<usize>, Fail> {
     for (place, case) in cases.iter().enumerate() {
-        let mut desk = desk_of(rt.alloc(), NODES, LINKS, b"", b"")?;
-        desk.set_times(Vec::from_slice(rt.alloc(), case.times)?);
-        let status = run_over(rt, case.words, &mut desk)?;
-        if status != case.status
-            || desk.taken(Output::Skim) != case.skim
-            || desk.taken(Output::Report) != case.report
-        {
+        if !is_skimmed(rt, case)? {
             return Ok(Some(place));
         }
     }
@@ -103,7 +112,13 @@ fn a_skim_too_large(rt: HostRuntime) -> Result<(), Fail> {
 0;0;0;0;0;0;0;0;0;0;0;0;0;0;0;0;0;0;0;0;0;0;0;0;0;0;0;0;0;0;0;0";
     let status = run_over(&rt, &["skim", "--horizon", "60", "--at", starts], &mut desk)?;
     assert!(rt; status == Status::Size);
-    assert!(rt; desk.taken(Output::Report) == b"size: skim 16809984 limit 16777216\n".as_slice());
+    assert!(rt;
+        has_taken(
+            &desk,
+            Output::Report,
+            b"size: skim 16809984 limit 16777216\n"
+        )
+    );
     Ok(())
 }
 
@@ -183,18 +198,27 @@ turn,10,20,0,20,1\nturn,10,20,20,40,2\n",
     },
 ];
 
-// The first case whose run doesn't end with status 0, or that puts something else than is wanted.
+// Whether a run of a case ends with status 0 and puts what is wanted.
+fn is_counted<R: AllocGlobal + Threads + Wait + Sync>(
+    rt: &R,
+    case: &CountCase,
+) -> Result<bool, Fail> {
+    let mut desk = desk_of(rt.alloc(), case.node, case.link, b"", case.demand)?;
+    let status = run_over(rt, case.words, &mut desk)?;
+    Ok(
+        status == Status::Done
+            && has_taken(&desk, Output::Counts, case.counts)
+            && has_taken(&desk, Output::Agent, b""),
+    )
+}
+
+// The first case whose run doesn't.
 fn first_other_counts<R: AllocGlobal + Threads + Wait + Sync>(
     rt: &R,
     cases: &[CountCase],
 ) -> Result<Option<usize>, Fail> {
     for (place, case) in cases.iter().enumerate() {
-        let mut desk = desk_of(rt.alloc(), case.node, case.link, b"", case.demand)?;
-        let status = run_over(rt, case.words, &mut desk)?;
-        if status != Status::Done
-            || desk.taken(Output::Counts) != case.counts
-            || !desk.taken(Output::Agent).is_empty()
-        {
+        if !is_counted(rt, case)? {
             return Ok(Some(place));
         }
     }

@@ -1,7 +1,7 @@
 // Runs of `sweep` and `audit` over two links in a line.
 use crate::status::Status;
-use crate::tests::{AGENTS, DEMAND, LINK_TIMES, LINKS, NODES, desk_of, run_over};
-use desk_io::{MemDesk, Output};
+use crate::tests::{AGENTS, DEMAND, LINK_TIMES, LINKS, NODES, desk_of, has_taken, run_over};
+use desk_io::Output;
 use std::sync::Wait;
 use std::test::Fail;
 use std::thread::Threads;
@@ -98,18 +98,27 @@ static SWEEPS: [SweepCase; 3] = [
     },
 ];
 
-// The first case whose run ends in another way than is wanted.
+// Whether a run of a case ends as it is wanted.
+fn is_swept<R: AllocGlobal + Threads + Wait + Sync>(
+    rt: &R,
+    case: &SweepCase,
+) -> Result<bool, Fail> {
+    let mut desk = desk_of(rt.alloc(), NODES, LINKS, b"", case.demand)?;
+    let status = run_over(rt, case.words, &mut desk)?;
+    Ok(
+        status == case.status
+            && has_taken(&desk, Output::Sweep, case.sweep)
+            && has_taken(&desk, Output::Report, case.report),
+    )
+}
+
+// The first case whose run ends in another way.
 fn first_failure<R: AllocGlobal + Threads + Wait + Sync>(
     rt: &R,
     cases: &[SweepCase],
 ) -> Result<Option<usize>, Fail> {
     for (place, case) in cases.iter().enumerate() {
-        let mut desk = desk_of(rt.alloc(), NODES, LINKS, b"", case.demand)?;
-        let status = run_over(rt, case.words, &mut desk)?;
-        if status != case.status
-            || desk.taken(Output::Sweep) != case.sweep
-            || desk.taken(Output::Report) != case.report
-        {
+        if !is_swept(rt, case)? {
             return Ok(Some(place));
         }
     }
@@ -207,17 +216,25 @@ static AUDITS: [AuditCase; 5] = [
     },
 ];
 
-// The first case whose run ends in another way than is wanted.
+// Whether a run of a case ends as it is wanted.
+fn is_audited<R: AllocGlobal + Threads + Wait + Sync>(
+    rt: &R,
+    case: &AuditCase,
+) -> Result<bool, Fail> {
+    let mut desk = desk_of(rt.alloc(), NODES, LINKS, b"", DEMAND)?;
+    desk.set_start(Vec::from_slice(rt.alloc(), case.agents)?);
+    desk.set_times(Vec::from_slice(rt.alloc(), case.times)?);
+    let status = run_over(rt, AUDIT, &mut desk)?;
+    Ok(status == case.status && has_taken(&desk, Output::Report, case.report))
+}
+
+// The first case whose run ends in another way.
 fn first_other_verdict<R: AllocGlobal + Threads + Wait + Sync>(
     rt: &R,
     cases: &[AuditCase],
 ) -> Result<Option<usize>, Fail> {
     for (place, case) in cases.iter().enumerate() {
-        let mut desk = desk_of(rt.alloc(), NODES, LINKS, b"", DEMAND)?;
-        desk.set_start(Vec::from_slice(rt.alloc(), case.agents)?);
-        desk.set_times(Vec::from_slice(rt.alloc(), case.times)?);
-        let status = run_over(rt, AUDIT, &mut desk)?;
-        if status != case.status || desk.taken(Output::Report) != case.report {
+        if !is_audited(rt, case)? {
             return Ok(Some(place));
         }
     }

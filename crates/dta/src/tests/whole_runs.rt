@@ -1,10 +1,9 @@
 // Runs that end with status 0, in memory and over files, and demonstrations.
 use crate::NoGate;
-use crate::run::run;
 use crate::status::Status;
 use crate::tests::{
     AGENTS, ASSIGN, DEMAND, GAPS, LENIENT_LINKS, LENIENT_NODES, LINK_TIMES, LINKS, NODES, desk_of,
-    run_over, two_links, words_of,
+    has_taken, run_over, status_of, two_links, words_of,
 };
 use desk_io::{FileDesk, Output, TallyDesk};
 use std::alloc::Global;
@@ -23,9 +22,9 @@ fn two_links_in_memory(rt: HostRuntime) -> Result<(), Fail> {
         desk.set_most(most);
         let status = run_over(&rt, &["freeflow"], &mut desk)?;
         assert!(rt; status == Status::Done);
-        assert!(rt; desk.taken(Output::LinkTime) == LINES);
-        assert!(rt; desk.taken(Output::Report) == REPORT);
-        assert!(rt; desk.taken(Output::Agent).is_empty());
+        assert!(rt; has_taken(&desk, Output::LinkTime, LINES));
+        assert!(rt; has_taken(&desk, Output::Report, REPORT));
+        assert!(rt; has_taken(&desk, Output::Agent, b""));
         let status = run_over(&rt, &["freeflow"], &mut desk)?;
         assert!(rt; status == Status::Table);
     }
@@ -53,11 +52,9 @@ fn lenient_tables(rt: HostRuntime) -> Result<(), Fail> {
     let mut desk = desk_of(rt.alloc(), LENIENT_NODES, LENIENT_LINKS, b"", b"")?;
     let status = run_over(&rt, &["freeflow"], &mut desk)?;
     assert!(rt; status == Status::Done);
-    assert!(rt;
-        desk.taken(Output::LinkTime)
-            == b"link_id,free_steps,storage\n0,11,125\n1,10,125\n".as_slice()
-    );
-    assert!(rt; desk.taken(Output::Report) == REPORT);
+    let lines = b"link_id,free_steps,storage\n0,11,125\n1,10,125\n";
+    assert!(rt; has_taken(&desk, Output::LinkTime, lines));
+    assert!(rt; has_taken(&desk, Output::Report, REPORT));
     Ok(())
 }
 
@@ -76,15 +73,15 @@ fn a_demonstration(rt: HostRuntime) -> Result<(), Fail> {
     let words = words_of(rt.alloc(), &["demo", "12"])?;
     let mut first = desk_of(rt.alloc(), b"", b"", b"", b"")?;
     let mut second = desk_of(rt.alloc(), b"", b"", b"", b"")?;
-    assert!(rt; run(&rt, &words, &mut first, &mut NoGate) == Status::Done);
-    assert!(rt; run(&rt, &words, &mut second, &mut NoGate) == Status::Done);
+    assert!(rt; status_of(&rt, &words, &mut first, &mut NoGate) == Status::Done);
+    assert!(rt; status_of(&rt, &words, &mut second, &mut NoGate) == Status::Done);
     let report = first.taken(Output::Report);
     assert!(rt; report.starts_with(b"nodes 144\nlinks 528\nvehicles 3600\nunrouted 0\n"));
-    assert!(rt; second.taken(Output::Report) == report);
-    assert!(rt; first.taken(Output::Agent).is_empty());
+    assert!(rt; has_taken(&second, Output::Report, report));
+    assert!(rt; has_taken(&first, Output::Agent, b""));
     for _ in 0..2 {
         let mut desk = tally(rt.alloc());
-        assert!(rt; run(&rt, &words, &mut desk, &mut NoGate) == Status::Done);
+        assert!(rt; status_of(&rt, &words, &mut desk, &mut NoGate) == Status::Done);
         assert!(rt; desk.count(Output::Report) == report.len() as u64);
         assert!(rt; desk.count(Output::Agent) == 0);
     }
@@ -100,7 +97,7 @@ fn a_small_demonstration(rt: HostRuntime) -> Result<(), Fail> {
     let report = b"nodes 4\nlinks 8\nvehicles 600\nunrouted 0\niterations 1\narrived 0\nrunning 8\n\
 waiting 592\nroute_steps 3100\nleast_steps 3100\ngap_steps 0\ngap_ppm 0\n";
     let mut desk = desk_of(rt.alloc(), b"", b"", b"", b"")?;
-    assert!(rt; run(&rt, &words, &mut desk, &mut NoGate) == Status::Done);
-    assert!(rt; desk.taken(Output::Report) == report.as_slice());
+    assert!(rt; status_of(&rt, &words, &mut desk, &mut NoGate) == Status::Done);
+    assert!(rt; has_taken(&desk, Output::Report, report));
     Ok(())
 }

@@ -2,11 +2,9 @@
 // an earlier agent table. What is wanted is worked out by hand from the definitions
 // (docs/MODEL.md).
 use crate::NoGate;
-use crate::run::run;
 use crate::status::Status;
-use crate::tests::desk_of;
+use crate::tests::{desk_of, has_taken, status_of, words_in};
 use desk_io::{MemDesk, Output};
-use dta_words::Words;
 use std::alloc::Global;
 use std::sync::Wait;
 use std::test::Fail;
@@ -221,15 +219,6 @@ entry_steps,route_iteration\n\
     },
 ];
 
-// The words of a line.
-fn words_in(alloc: Global, line: &str) -> Result<Words, Fail> {
-    let mut words = Words::new(alloc);
-    for word in line.split(' ') {
-        words.push(word)?;
-    }
-    Ok(words)
-}
-
 // A desk with the tables of a case.
 fn desk_with(alloc: Global, case: &Case) -> Result<MemDesk, Fail> {
     let mut desk = desk_of(
@@ -244,9 +233,9 @@ fn desk_with(alloc: Global, case: &Case) -> Result<MemDesk, Fail> {
 }
 
 // Whether an output took what is wanted, where it is looked at.
-fn has_taken(desk: &MemDesk, output: Output, wanted: Option<&str>) -> bool {
+fn is_taken(desk: &MemDesk, output: Output, wanted: Option<&str>) -> bool {
     match wanted {
-        Some(text) => desk.taken(output) == text.as_bytes(),
+        Some(text) => has_taken(desk, output, text.as_bytes()),
         None => true,
     }
 }
@@ -255,12 +244,12 @@ fn has_taken(desk: &MemDesk, output: Output, wanted: Option<&str>) -> bool {
 fn is_as_wanted<R: AllocGlobal + Threads + Wait + Sync>(rt: &R, case: &Case) -> Result<bool, Fail> {
     let words = words_in(rt.alloc(), case.words)?;
     let mut desk = desk_with(rt.alloc(), case)?;
-    let status = run(rt, &words, &mut desk, &mut NoGate);
+    let status = status_of(rt, &words, &mut desk, &mut NoGate);
     Ok(
         status == case.status
-            && has_taken(&desk, Output::Agent, Some(case.agent))
-            && has_taken(&desk, Output::Gap, case.gap)
-            && has_taken(&desk, Output::Report, case.report),
+            && is_taken(&desk, Output::Agent, Some(case.agent))
+            && is_taken(&desk, Output::Gap, case.gap)
+            && is_taken(&desk, Output::Report, case.report),
     )
 }
 

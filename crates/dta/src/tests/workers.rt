@@ -1,7 +1,8 @@
 // Runs by workers: their receipts and watch lines, a grid, and that they work side by side.
-use crate::run::run;
 use crate::status::Status;
-use crate::tests::{NODES, desk_of, run_over, two_links, words_by, words_of};
+use crate::tests::{
+    NODES, desk_of, has_taken, run_over, status_of, two_links, words_by, words_in, words_of,
+};
 use crate::{CountGate, Gate, NoGate};
 use desk_io::{MemDesk, Output};
 use grid_maker::grid;
@@ -20,62 +21,46 @@ const FOUR_VEHICLES: &[u8] = b"o_zone_id,d_zone_id,volume\n1,3,4\n";
 // Whether a run is done, with these numbers in its gate.
 fn gives<R: AllocGlobal + Threads + Wait + Sync>(
     rt: &R,
-    given: &[&str],
-    desk: &mut MemDesk,
+    line: &str,
+    mut desk: MemDesk,
     wanted: CountGate,
 ) -> Result<bool, Fail> {
-    let words = words_of(rt.alloc(), given)?;
+    let words = words_in(rt.alloc(), line)?;
     let mut gate = CountGate::new();
-    Ok(run(rt, &words, desk, &mut gate) == Status::Done && gate == wanted)
+    Ok(status_of(rt, &words, &mut desk, &mut gate) == Status::Done && gate == wanted)
 }
 
 #[test]
 fn four_workers_give_a_receipt(rt: HostRuntime) -> Result<(), Fail> {
-    let words = [
-        "assign",
-        "--period",
-        "30",
-        "--horizon",
-        "60",
-        "--workers",
-        "4",
-    ];
+    let words = "assign --period 30 --horizon 60 --workers 4";
     let receipt = CountGate {
         closes: 1,
         units: 420,
         passes: 4,
         vehicles: 3,
     };
-    assert!(rt; gives(&rt, &words, &mut two_links(rt.alloc())?, receipt)?);
+    assert!(rt; gives(&rt, words, two_links(rt.alloc())?, receipt)?);
     Ok(())
 }
 
 #[test]
 fn the_plain_loader_gives_none(rt: HostRuntime) -> Result<(), Fail> {
-    let words = ["assign", "--period", "30", "--horizon", "60", "--plain"];
-    assert!(rt; gives(&rt, &words, &mut two_links(rt.alloc())?, CountGate::new())?);
+    let words = "assign --period 30 --horizon 60 --plain";
+    assert!(rt; gives(&rt, words, two_links(rt.alloc())?, CountGate::new())?);
     Ok(())
 }
 
 #[test]
 fn two_iterations_give_two_receipts(rt: HostRuntime) -> Result<(), Fail> {
-    let words = [
-        "assign",
-        "--period",
-        "1",
-        "--horizon",
-        "60",
-        "--iterations",
-        "2",
-    ];
+    let words = "assign --period 1 --horizon 60 --iterations 2";
     let receipt = CountGate {
         closes: 2,
         units: 420,
         passes: 4,
         vehicles: 4,
     };
-    let mut desk = desk_of(rt.alloc(), NODES, A_WAY_ROUND, b"", FOUR_VEHICLES)?;
-    assert!(rt; gives(&rt, &words, &mut desk, receipt)?);
+    let desk = desk_of(rt.alloc(), NODES, A_WAY_ROUND, b"", FOUR_VEHICLES)?;
+    assert!(rt; gives(&rt, words, desk, receipt)?);
     Ok(())
 }
 
@@ -129,7 +114,7 @@ fn steps_in(line: &str) -> Option<u32> {
 #[test]
 fn one_worker_puts_all_watch_lines(rt: HostRuntime) -> Result<(), Fail> {
     let desk = watched(&rt, "1")?;
-    assert!(rt; desk.taken(Output::Watch) == LINES);
+    assert!(rt; has_taken(&desk, Output::Watch, LINES));
     Ok(())
 }
 
@@ -148,10 +133,10 @@ fn the_steps_of_watch_lines_rise(rt: HostRuntime) -> Result<(), Fail> {
 
 // Whether two runs put the same but for their watch lines.
 fn have_same_tables(left: &MemDesk, right: &MemDesk) -> bool {
-    left.taken(Output::Agent) == right.taken(Output::Agent)
-        && left.taken(Output::LinkTime) == right.taken(Output::LinkTime)
-        && left.taken(Output::Gap) == right.taken(Output::Gap)
-        && left.taken(Output::Report) == right.taken(Output::Report)
+    has_taken(left, Output::Agent, right.taken(Output::Agent))
+        && has_taken(left, Output::LinkTime, right.taken(Output::LinkTime))
+        && has_taken(left, Output::Gap, right.taken(Output::Gap))
+        && has_taken(left, Output::Report, right.taken(Output::Report))
 }
 
 // A grid of six by six nodes, with spatial queues, by the loader that a word names.
@@ -176,7 +161,7 @@ fn on_a_grid<R: AllocGlobal + Threads + Wait + Sync>(
     for word in ["--queue", "spatial"].iter().chain(loader) {
         words.push(word)?;
     }
-    match run(rt, &words, &mut desk, &mut NoGate) {
+    match status_of(rt, &words, &mut desk, &mut NoGate) {
         Status::Done => Ok(desk),
         _ => Err(Fail::new("a run isn't done")),
     }
@@ -248,7 +233,7 @@ fn two_hold_units(rt: HostRuntime) -> Result<(), Fail> {
         in_vain: AtomicBool::new(false),
     };
     let mut desk = two_links(rt.alloc())?;
-    assert!(rt; run(&rt, &words, &mut desk, &mut gate) == Status::Done);
+    assert!(rt; status_of(&rt, &words, &mut desk, &mut gate) == Status::Done);
     assert!(rt; !gate.in_vain.load(Ordering::SeqCst));
     assert!(rt; gate.been[0].load(Ordering::SeqCst) && gate.been[1].load(Ordering::SeqCst));
     Ok(())
