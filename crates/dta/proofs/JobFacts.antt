@@ -225,6 +225,7 @@ abbrev pub IsAtDesk : Command → Type 0
 IsAtDesk (command.Demo n) = ⊥
 IsAtDesk c = ⊤
 
+-- what it reads, from where, and what it leaves
 abbrev ReadsDesk : Command → Type 0
 ReadsDesk c = ((start : Bool) → read_tables c start ≡ tables_of c start) × ((left : Left) → source c left ≡ left) × ((rest before : Left) → LeavesOf c rest before rest)
 
