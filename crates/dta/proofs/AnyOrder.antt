@@ -1,5 +1,5 @@
 -- The nodes of a step may be taken in any order: the texts of an assignment are the same.
-use Rattle.std.proofs.Common.{◌≡◌, ℕ, ◌+◌, List, [], ◌∷◌, refl, sym, ap, subst, ◌∙◌}
+use Rattle.std.proofs.Common.{◌≡◌, ℕ, zero, suc, ◌+◌, true, List, [], ◌∷◌, ◌++◌, map, refl, sym, ap, subst, ◌∙◌}
 use Rattle.dta_model.specs.LinkTimes.{TimeTable, time_at}
 use Rattle.dta_model.specs.Loading.{journeys_of}
 use Rattle.dta_model.specs.State.{eight_after}
@@ -20,9 +20,9 @@ use Rattle.dta.specs.Assignment.{AreIterations, AreIterationsBy, end_of, times_o
 use Rattle.dta.specs.Jobs.{JobRows, plan_of, traffic_of}
 use Rattle.dta.specs.Laws.{TextsInAnyOrder}
 use Rattle.dta.specs.Orders.{AreNodeOrders, NodeOrders, counts_by, end_by, journeys_by, summary_by}
-use Rattle.dta.specs.Orders.{texts_by, times_by, trace_by}
-use Rattle.dta.specs.Outputs.{asked_link, but_watch, counts_out, last_texts, summary_of, text_to}
-use Rattle.dta.specs.Outputs.{through_asked}
+use Rattle.dta.specs.Orders.{texts_by, times_by, trace_by, watched_by}
+use Rattle.dta.specs.Outputs.{AreToldSteps, AreWatchLines, AreWatchTexts, OutText, asked_link, but_watch, counts_out}
+use Rattle.dta.specs.Outputs.{end_lines, is_watch, last_texts, summary_of, text_to, through_asked, watch_text}
 use Rattle.counts.specs.Text.{counts_text}
 use Rattle.counts.specs.Through.{through_counts, through_counts_in}
 use Rattle.counts.specs.Turns.{turn_counts}
@@ -30,9 +30,10 @@ use Rattle.counts.specs.declared.through_counts.ThroughCount.{ThroughCount}
 use Rattle.counts.specs.declared.turn_counts.TurnCount.{TurnCount}
 use Rattle.counts.proofs.AnyOrder.{same_through_counts, same_turn_counts}
 use Rattle.net_core.specs.declared.rows.LinkNo.{LinkNo}
-use Rattle.std.specs.Prelude.{Option, None, Some}
+use Rattle.std.specs.Prelude.{Option, None, Some, not}
+use Rattle.std.proofs.lemmas.List.Elements.{filter-append}
 use Rattle.sweep.proofs.Determined.{RouteLaws, same-lines, same-routes}
-use Rattle.dta.proofs.Determined.{but-watch-assigned, lasts-by, same-since}
+use Rattle.dta.proofs.Determined.{but-watch-assigned, but-watch-is, lasts-by, plain-by, same-since}
 
 -- iterations over equal tables of link times
 by-times : (job : JobRows) (times other : VehicleRoutes → TimeTable)
@@ -48,6 +49,17 @@ by-times job times other same routes lines it = record {
       subst (λ (t : TimeTable). IsGapLine (time_at t) job.net job.trips r line) (same r)
       (it.gaps i r line e f);
 }
+
+-- the line of a last state is for Watch
+no-end-left : (every number : ℕ) (end : Eight) → but_watch (end_lines every number end) ≡ []
+no-end-left zero number end = refl
+no-end-left (suc every) number end = refl
+
+-- where the loader is plain an iteration tells its last state alone
+ended : (s : Settings) (job : JobRows) (number every : ℕ) (r : VehicleRoutes) (steps : List ℕ) → AreToldSteps every true s.horizon steps
+    → map (watch_text s job number r) steps ≡ end_lines every number (end_of s job r)
+ended s job number zero r steps told = rw told refl
+ended s job number (suc every) r steps told = rw told refl
 
 module _ (s : Settings) (job : JobRows) (order : NodeOrders) (all : AreNodeOrders s job order) where
   times-same : (r : VehicleRoutes) → times_by s job order r ≡ times_of s job r
@@ -84,7 +96,7 @@ module _ (s : Settings) (job : JobRows) (order : NodeOrders) (all : AreNodeOrder
       (through-same last (asked_link job.net s.link))
 
   texts-same : (c : Command) (last : VehicleRoutes) (since : Option (List ℕ)) (lines : List GapLine) (line : GapLine)
-      → texts_by c s job order last since lines line ≡ but_watch (last_texts c s job last since lines line)
+      → texts_by c s job order last since lines line ≡ last_texts c s job last since lines line
   texts-same command.Assign last since lines line =
       ap (λ (j : List Journey). text_to output.Agent (agent_text_by job.net job.trips last j since)
       ∷ text_to output.LinkTime (link_time_text job.net (times_by s job order last))
@@ -114,6 +126,27 @@ module _ (s : Settings) (job : JobRows) (order : NodeOrders) (all : AreNodeOrder
       ∙ ap (λ x. counts_out s job (turn_counts (plan_of s job last) s.bucket) (through_counts (plan_of s job last))
       ∷ text_to output.Report (report_text x) ∷ []) (summary-same last line)
 
+  none-left-by : (number : ℕ) (routes : List VehicleRoutes) → but_watch (watched_by s job order number routes) ≡ []
+  none-left-by number [] = refl
+  none-left-by number (r ∷ routes) =
+      let others = watched_by s job order (number + 1) routes in
+      filter-append (λ t. not (is_watch t.to)) (end_lines s.watch number (end_by s job order r)) others
+      ∙ ap (λ (xs : List OutText). xs ++ but_watch others) (no-end-left s.watch number (end_by s job order r))
+      ∙ none-left-by (number + 1) routes
+
+  lines-by : (number : ℕ) (r : VehicleRoutes) (lines : List OutText) → s.plain ≡ true → AreWatchLines s job number r lines
+      → end_lines s.watch number (end_by s job order r) ≡ lines
+  lines-by number r lines plain told =
+      ap (end_lines s.watch number) (end-same r)
+      ∙ sym (told.lines_are ∙ ended s job number s.watch r told.steps (plain-by s job told.steps plain told.by_rule))
+
+  watched-same-by : (number : ℕ) (routes : List VehicleRoutes) (texts : List OutText) → s.plain ≡ true
+      → AreWatchTexts s job number routes texts → watched_by s job order number routes ≡ texts
+  watched-same-by number [] texts plain told = sym told
+  watched-same-by number (r ∷ routes) texts plain told =
+      ap (λ (x : List OutText). x ++ watched_by s job order (number + 1) routes) (lines-by number r told.0 plain told.2)
+      ∙ ap (λ (x : List OutText). told.0 ++ x) (watched-same-by (number + 1) routes told.1 plain told.3) ∙ sym told.4
+
 pub texts_in_any_order : RouteLaws → TextsInAnyOrder
 texts_in_any_order laws s job order all xs ys a b =
     let it : AreIterations s job a.routes a.lines = by-times job (times_by s job order) (times_of s job)
@@ -123,7 +156,18 @@ texts_in_any_order laws s job order all xs ys a b =
     let lines : a.lines ≡ b.lines = same-lines laws (times_of s job) (traffic_of job) a.routes b.routes a.lines b.lines it b.iterations
     routes (a.with_gaps ∙ sym a.as_many) (a.with_gaps ∙ sym b.with_gaps) in
     let since : a.since ≡ b.since = same-since laws s job s.start a.since b.since a.since_told b.since_told in
-    a.texts_are ∙ texts-same s job order all s.command a.last a.since a.lines a.line
-    ∙ ap but_watch (lasts-by s job a.routes b.routes a.lines b.lines a.last b.last a.line b.line a.since b.since routes
-    lines since a.last_routes b.last_routes a.last_line b.last_line)
-    ∙ sym (but-watch-assigned s job ys b)
+    let last : texts_by s.command s job order a.last a.since a.lines a.line ≡ last_texts s.command s job b.last b.since b.lines b.line =
+    texts-same s job order all s.command a.last a.since a.lines a.line
+    ∙ lasts-by s job a.routes b.routes a.lines b.lines a.last b.last a.line b.line a.since b.since routes
+    lines since a.last_routes b.last_routes a.last_line b.last_line in
+    record {
+      but_watch_lines =
+          but-watch-is xs (watched_by s job order 1 a.routes) (texts_by s.command s job order a.last a.since a.lines a.line) a.texts_are
+          (none-left-by s job order all 1 a.routes)
+          ∙ ap but_watch last ∙ sym (but-watch-assigned s job ys b);
+      plain = λ plain.
+          let watched : watched_by s job order 1 a.routes ≡ b.watched =
+          ap (watched_by s job order 1) routes ∙ watched-same-by s job order all 1 b.routes b.watched plain b.watch_lines in
+          a.texts_are ∙ ap (λ (w : List OutText). w ++ texts_by s.command s job order a.last a.since a.lines a.line) watched
+          ∙ ap (λ (l : List OutText). b.watched ++ l) last ∙ sym b.texts_are;
+    }

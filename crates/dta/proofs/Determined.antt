@@ -61,7 +61,7 @@ module _ (s : Settings) (job : JobRows) where
   same-steps zero horizon xs ys a b = a ∙ sym b
   same-steps (suc every) horizon xs ys a b = a ∙ sym b
 
-  plain-by : (steps : List ℕ) → s.plain ≡ true → AreToldSteps s.watch s.plain s.horizon steps
+  pub plain-by : (steps : List ℕ) → s.plain ≡ true → AreToldSteps s.watch s.plain s.horizon steps
       → AreToldSteps s.watch true s.horizon steps
   plain-by steps plain by = subst (λ (b : Bool). AreToldSteps s.watch b s.horizon steps) plain by
 
@@ -100,7 +100,7 @@ lasts-by s job ra rb la lb last_a last_b line_a line_b since_a since_b routes li
     ∙ ap (λ (l : GapLine). last_texts s.command s job last_b since_b lb l) line
 
 -- the texts of an assignment but for Watch are those after its last iteration
-but-watch-is : (texts watched last : List OutText) → texts ≡ watched ++ last
+pub but-watch-is : (texts watched last : List OutText) → texts ≡ watched ++ last
     → but_watch watched ≡ [] → but_watch texts ≡ but_watch last
 but-watch-is texts watched last are none =
     ap but_watch are ∙ filter-append (λ t. not (is_watch t.to)) watched last

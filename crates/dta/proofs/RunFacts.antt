@@ -32,7 +32,7 @@ use Rattle.dta_model.specs.LinkTimes.{time_at}
 use Rattle.route_flows.specs.Starts.{AreStartRows}
 use Rattle.dta.specs.Jobs.{IsAcceptedJob, JobRows, Assigns}
 use Rattle.dta.specs.Outcome.{DeskState, IsCause, IsDifferent, IsRefused, Means, ReportsLine, Works}
-use Rattle.dta.specs.Outputs.{AreAssigned, AreAudited, AreSkimmed, AreSwept, AreTexts, AreTextsSoFar, AreWatched, IsAudited, IsCutOff, OutText}
+use Rattle.dta.specs.Outputs.{AreAssigned, AreAudited, AreSkimmed, AreSwept, AreTexts, AreTextsSoFar, AreWatched, AreWatchedSoFar, IsAudited, IsCutOff, OutText}
 use Rattle.dta.specs.Outputs.{audit_texts, free_texts, grown_by, last_texts, skim_texts, sweep_texts}
 use Rattle.dta.specs.Progress.{IsAssigned}
 use Rattle.dta.specs.Status.{refusal_status}
@@ -66,15 +66,6 @@ so-far-assigned command.Skim s job texts loads a = absurd loads
 so-far-assigned command.Counts s job texts loads a = inl a
 so-far-assigned command.Sweep s job texts loads a = absurd loads
 so-far-assigned command.Audit s job texts loads a = absurd loads
-
-so-far-watched : (c : Command) (s : Settings) (job : JobRows) (texts : List OutText) → Assigns c → AreWatched s job texts → AreTextsSoFar c s job texts
-so-far-watched command.Freeflow s job texts loads a = absurd loads
-so-far-watched command.Assign s job texts loads a = inr a
-so-far-watched (command.Demo n) s job texts loads a = inr a
-so-far-watched command.Skim s job texts loads a = absurd loads
-so-far-watched command.Counts s job texts loads a = inr a
-so-far-watched command.Sweep s job texts loads a = absurd loads
-so-far-watched command.Audit s job texts loads a = absurd loads
 
 module _ (s : Settings) (job : JobRows) (loads : Assigns s.command) where
   -- all texts of an assignment whose iterations are done
@@ -220,9 +211,18 @@ nothing-watched s job rows = record {
   watch_lines = refl;
 }
 
+nothing-so-far : (c : Command) (s : Settings) (job : JobRows) → AreStartRows job.start → AreWatchedSoFar c s job []
+nothing-so-far command.Freeflow s job rows = refl
+nothing-so-far command.Assign s job rows = nothing-watched s job rows
+nothing-so-far (command.Demo n) s job rows = nothing-watched s job rows
+nothing-so-far command.Skim s job rows = refl
+nothing-so-far command.Counts s job rows = nothing-watched s job rows
+nothing-so-far command.Sweep s job rows = refl
+nothing-so-far command.Audit s job rows = refl
+
 -- nothing was put
 pub nothing-put : (s : Settings) (job : JobRows) (taken : Taken) → AreStartRows job.start → Works s job status.Memory taken taken
-nothing-put s job taken rows = ([], nothing-watched s job rows, refl)
+nothing-put s job taken rows = ([], nothing-so-far s.command s job rows, refl)
 
 -- ---- the answer
 

@@ -11,12 +11,13 @@ use Rattle.dta.specs.Jobs.{JobRows}
 use Rattle.dta.specs.Orders.{AreAssignedBy, AreNodeOrders, NodeOrders}
 use Rattle.dta.specs.Outputs.{AreAssigned, AreTexts, IsAudited, OutText, but_watch, text_to}
 
--- settings and a job have one list of texts but for Watch, and where the loader is plain one list
--- of all texts
+-- two lists of texts of a job are the same but for Watch, and where the loader is plain altogether
 pub record AreDetermined (s : Settings) (job : JobRows) (a b : List OutText) : Type 0 where
   pub but_watch_lines : but_watch a ≡ but_watch b
   pub plain : s.plain ≡ true → a ≡ b
 
+-- settings and a job have one list of texts but for Watch, and where the loader is plain one list
+-- of all texts
 abbrev pub TextsAreDetermined : Type 0
 TextsAreDetermined =
     (s : Settings) (job : JobRows) (a b : List OutText) → AreTexts s.command s job a
@@ -65,8 +66,10 @@ abbrev pub AuditsAreDetermined : Type 0
 AuditsAreDetermined =
     (s : Settings) (job : JobRows) (v w : Verdict) → IsAudited s job v → IsAudited s job w → v ≡ w
 
--- the nodes of a step may be taken in any order: the texts but for Watch are those of the job
+-- the nodes of a step may be taken in any order: the texts but for Watch are those of the job, and
+-- where the loader is plain all texts are
 abbrev pub TextsInAnyOrder : Type 0
 TextsInAnyOrder =
     (s : Settings) (job : JobRows) (order : NodeOrders) → AreNodeOrders s job order
-    → (a b : List OutText) → AreAssignedBy s job order a → AreAssigned s job b → a ≡ but_watch b
+    → (a b : List OutText) → AreAssignedBy s job order a → AreAssigned s job b
+    → AreDetermined s job a b

@@ -1,5 +1,5 @@
 -- Assignments whose loadings take the nodes of a step in another order.
-use Rattle.std.specs.Prelude.{ℕ, ◌≡◌, ◌-◌, List, [], ◌∷◌, length, Option, Some, slice_get}
+use Rattle.std.specs.Prelude.{ℕ, ◌≡◌, ◌+◌, ◌-◌, List, [], ◌∷◌, ◌++◌, length, Option, Some, slice_get}
 use Rattle.desk_io.specs.declared.desk.Output.TheVariants as output
 use Rattle.dta_model.specs.LinkTimes.{TimeTable, table_in}
 use Rattle.dta_model.specs.Loading.{journeys_in}
@@ -19,7 +19,7 @@ use Rattle.dta.specs.Assignment.{AreIterationsBy}
 use Rattle.dta.specs.Jobs.{JobRows, plan_of}
 use Rattle.counts.specs.Through.{through_counts_in}
 use Rattle.counts.specs.Turns.{turn_counts_in}
-use Rattle.dta.specs.Outputs.{AreSinceTold, OutText, counts_out, summary_of, text_to}
+use Rattle.dta.specs.Outputs.{AreSinceTold, OutText, counts_out, end_lines, summary_of, text_to}
 
 -- for the loading over each routes an order of the nodes, for each of its steps
 abbrev pub NodeOrders : Type 0
@@ -76,7 +76,16 @@ texts_by command.Counts s job order last since lines line =
 texts_by c s job order last since lines line =
     text_to output.Report (report_text (summary_by s job order last line)) ∷ []
 
--- the texts but for Watch of a whole assignment by such loadings
+-- the watch lines of iterations, the first of which has this number, as the plain loader tells
+-- them: where there is a watch, that of each last state
+abbrev pub watched_by :
+    Settings → JobRows → NodeOrders → (number : ℕ) → List VehicleRoutes → List OutText
+watched_by s job order number [] = []
+watched_by s job order number (routes ∷ others) =
+    end_lines s.watch number (end_by s job order routes)
+    ++ watched_by s job order (number + 1) others
+
+-- the texts of a whole assignment by such loadings, with the watch lines of the plain loader
 pub record AreAssignedBy (s : Settings) (job : JobRows) (order : NodeOrders) (texts : List OutText)
     : Type 0 where
   pub routes : List VehicleRoutes
@@ -90,4 +99,5 @@ pub record AreAssignedBy (s : Settings) (job : JobRows) (order : NodeOrders) (te
   pub last_line : slice_get lines (s.iterations - 1) ≡ Some line
   pub since : Option (List ℕ)
   pub since_told : AreSinceTold s.start s job since
-  pub texts_are : texts ≡ texts_by s.command s job order last since lines line
+  pub texts_are : texts
+      ≡ watched_by s job order 1 routes ++ texts_by s.command s job order last since lines line

@@ -26,8 +26,8 @@ use Rattle.dta.specs.declared.status.Status.TheVariants as status
 use Rattle.reports.specs.declared.refusal.TheConstants.{MOST_SKIM_ENTRIES, MOST_SWEEP_LINK_STEPS}
 use Rattle.dta.specs.Jobs.{HasRoom, HasSweepRoom, IsAcceptedJob, JobRows, Reading, read_tables}
 use Rattle.dta.specs.Jobs.{skim_entries, tables_of}
-use Rattle.dta.specs.Outputs.{AreTexts, AreTextsSoFar, AreWatched, IsAudited, IsCutOff, OutText}
-use Rattle.dta.specs.Outputs.{grown_by}
+use Rattle.dta.specs.Outputs.{AreTexts, AreTextsSoFar, AreWatchedSoFar, IsAudited, IsCutOff}
+use Rattle.dta.specs.Outputs.{OutText, grown_by}
 use Rattle.dta.specs.Status.{refusal_status}
 use Rattle.dta.specs.Tables.{AreAccepted, ReachedAmong, IsFaulty, TableRows, no_rows}
 use Rattle.dta.specs.Verdict.{Verdict, Refused, Accepted}
@@ -137,7 +137,7 @@ Works s job status.Done before after =
 Works s job status.WriteFault before after =
     (texts : List OutText) × AreTextsSoFar s.command s job texts × IsCutOff texts before after
 Works s job status.Memory before after =
-    (texts : List OutText) × AreWatched s job texts × (after ≡ grown_by texts before)
+    (texts : List OutText) × AreWatchedSoFar s.command s job texts × (after ≡ grown_by texts before)
 Works s job status.Differs before after = ⊤
 Works s job _ before after = ⊥
 
@@ -181,12 +181,13 @@ IsCutIn s before after =
 abbrev pub IsCutShort : Settings → Left → Left → Type 0
 IsCutShort s before after = Reading s.command (IsCutIn s) before after
 
--- memory was wanting in the work: of all outputs only Watch grew, by whole lines of iterations
+-- memory was wanting in the work: of all outputs only Watch grew, by whole lines of iterations, and
+-- none where the command does no assignment
 pub record IsStopped (s : Settings) (before after : DeskState) : Type 0 where
   pub job : JobRows
   pub accepted : IsAcceptedJob s job before.left after.left
   pub texts : List OutText
-  pub watched : AreWatched s job texts
+  pub watched : AreWatchedSoFar s.command s job texts
   pub out : after.taken ≡ grown_by texts before.taken
 
 -- memory was wanting: for the words, before the work, or in it. No output was put but Watch

@@ -239,6 +239,15 @@ pub record AreWatched (s : Settings) (job : JobRows) (texts : List OutText) : Ty
   pub few : length routes ≤ s.iterations
   pub watch_lines : AreWatchTexts s job 1 routes texts
 
+-- what a run's work has put before its outputs: the watch lines of an assignment as far as it came,
+-- and nothing where the command does none
+abbrev pub AreWatchedSoFar : Command → Settings → JobRows → List OutText → Type 0
+AreWatchedSoFar command.Freeflow s job texts = texts ≡ []
+AreWatchedSoFar command.Skim s job texts = texts ≡ []
+AreWatchedSoFar command.Sweep s job texts = texts ≡ []
+AreWatchedSoFar command.Audit s job texts = texts ≡ []
+AreWatchedSoFar c s job texts = AreWatched s job texts
+
 -- the texts of a run's whole work
 abbrev pub AreTexts : Command → Settings → JobRows → List OutText → Type 0
 AreTexts command.Freeflow s job texts = texts ≡ free_texts job.net

@@ -17,7 +17,7 @@ pub(crate) fn texts_are_determined()
 }
 
 /// The nodes of a step may be taken in any order, another one in each step and loading: the texts
-/// but for Watch are the same.
+/// but for Watch are the same, and with the plain loader all texts.
 pub(crate) fn texts_in_any_order()
     ensures { TextsInAnyOrder }
 {
