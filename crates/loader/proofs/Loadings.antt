@@ -4,10 +4,14 @@ use Rattle.std.specs.Prelude.{map, false, Option, Result, Ok, Err}
 use Rattle.desk_io.specs.Desk.{Taken}
 use Rattle.desk_io.specs.State.{DeskState}
 use Rattle.desk_io.specs.Transfers.{OnlyPuts}
+use Rattle.dta_model.specs.Laws.{EndInOrder}
 use Rattle.dta_model.specs.Loading.{journeys_of}
 use Rattle.dta_model.specs.declared.eight.Eight.{Eight}
 use Rattle.dta_model.specs.declared.loaded.Journey.{Journey}
 use Rattle.dta_model.specs.declared.plan.Plan.{Plan}
+use Rattle.dta_model.proofs.Ends.{journeys_end_in_order}
+use Rattle.dta_model.proofs.InOrder.{left_in_order}
+use Rattle.dta_model.proofs.Onward.{vehicles_are_conserved}
 use Rattle.phase_claims.specs.PlacesEnd.{IsClosed}
 use Rattle.phase_claims.specs.PlacesHome.{posted_in}
 use Rattle.phase_claims.specs.declared.receipt.Receipt.{Receipt}
@@ -35,6 +39,9 @@ module _ (p : Plan) (workers : ℕ) (w : Watch) where
   pub load-memory : (state : DeskState) (gate : GateState) → Loads p workers w state state gate gate (Err fault.Memory)
   load-memory state gate = record {
     loaded = tt;
+    conserved = tt;
+    left_in_order = tt;
+    ordered = tt;
     watched = tt;
     cut = λ is. absurd (cc is);
     every = λ is. absurd (cc is);
@@ -52,6 +59,9 @@ module _ (p : Plan) (workers : ℕ) (w : Watch) where
       → gate_now ≡ taking (numbers_by p workers) gate → Loads p workers w before after gate gate_now (Ok journeys)
   load-done x before after gate gate_now journeys is puts took = record {
     loaded = is;
+    conserved = vehicles_are_conserved p;
+    left_in_order = left_in_order p;
+    ordered = subst (EndInOrder p) (sym is) (journeys_end_in_order p);
     watched = puts.whole;
     cut = λ is. absurd (cc is);
     every = λ is. absurd (cc is);
@@ -69,6 +79,9 @@ module _ (p : Plan) (workers : ℕ) (w : Watch) where
       → gate_now ≡ taking (numbers_by p workers) gate → Loads p workers w before after gate gate_now (Err fault.WatchFault)
   load-cut x before after gate gate_now puts took = record {
     loaded = tt;
+    conserved = tt;
+    left_in_order = tt;
+    ordered = tt;
     watched = tt;
     cut = λ _. puts.refused;
     every = λ _. every-is p w before.taken after.taken puts.refused w.every refl;

@@ -2,6 +2,7 @@
 use Rattle.std.specs.Prelude.{◌≡◌, ◌≢◌, ℕ, ◌<◌, ◌≤◌, List, Result, Err, IfOk, OnOk}
 use Rattle.desk_io.specs.Faults.{Rose}
 use Rattle.desk_io.specs.State.{DeskState}
+use Rattle.dta_model.specs.Laws.{EndInOrder, LinksAreLeftInOrder, StaysConserved}
 use Rattle.dta_model.specs.Loading.{journeys_of}
 use Rattle.dta_model.specs.declared.loaded.Journey.{Journey}
 use Rattle.dta_model.specs.declared.plan.Plan.{Plan}
@@ -15,6 +16,11 @@ pub record Loads (p : Plan) (workers : ℕ) (watch : Watch) (before after : Desk
     (gate gate_now : GateState) (result : Result (List Journey) LoadFault) : Type 0 where
   -- the journeys are those of the plain simulator
   pub loaded : IfOk result (λ journeys. journeys ≡ journeys_of p)
+  -- after every step each due vehicle waits, is on one link or has arrived, and links are left in
+  -- the order of entry: in the trace, and so in the journeys
+  pub conserved : IfOk result (λ _. StaysConserved p)
+  pub left_in_order : IfOk result (λ _. LinksAreLeftInOrder p)
+  pub ordered : IfOk result (EndInOrder p)
   -- the watch lines of the loading went out. Where one couldn't be put, those before it did and a
   -- first part of it, and the count of failed puts rose. Without enough memory nothing went out
   pub watched : OnOk result (IsWatched p watch before.taken after.taken)
