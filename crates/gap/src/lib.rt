@@ -5,7 +5,7 @@
 //! (specs/Gap.antt). [`gap_line`] is the same where the least times are told already;
 //! [`gap_by_shares`] and [`gap_line_by_shares`] work in threads.
 //!
-//! In a thread the labels of up to four destinations are there at once; beside them it takes 40
+//! In a thread the labels of up to eight destinations are there at once; beside them it takes 40
 //! bytes for each vehicle.
 #![tactic(auto)]
 

@@ -13,8 +13,8 @@
 //! [`walk_named`] tells the walk that such identifiers name.
 //!
 //! Destinations are worked in shares side by side, at most four and at most as many as there are
-//! workers, in threads where they can be made. In a share they are worked up to four at once, and
-//! the labels of four take the place of those before. A destination to which no selected vehicle
+//! workers, in threads where they can be made. In a share they are worked up to eight at once, and
+//! the labels of a group take the place of those before. A destination to which no selected vehicle
 //! goes has none.
 #![tactic(auto)]
 

@@ -9,6 +9,7 @@ ghost use Rattle.sweep.specs.Scales.{AreAllWithin, IsFirstTooMany, scaled, trips
 ghost use Rattle.sweep.specs.Scenarios.{AreScenarios, IsScenario};
 ghost use Rattle.sweep.specs.Traffic.{IsTraffic, traffic_over};
 ghost use Rattle.sweep.specs.declared.fault.SweepFault.TheVariants as fault;
+ghost use Rattle.sweep.specs.declared.rounds.TheConstants.{MOST_AT_ONCE};
 ghost use Rattle.vehicle_release.specs.Limits.{IsWithin};
 
 use crate::assignment::assign;
@@ -111,6 +112,15 @@ fn keep(kept: &mut Vec<Scenario>, round: Vec<Result<Scenario, Memory>>) -> Resul
     Ok(())
 }
 
+// How many scenarios are worked at once: at most four, and at most as many as there are workers.
+fn scenarios_at_once(workers: u32) -> usize
+    requires { 1 ≤ workers }
+    ensures some { 1 ≤ result }
+    ensures few { (result ≤ workers) × (result ≤ MOST_AT_ONCE) }
+{
+    workers.min(MOST_AT_ONCE) as usize
+}
+
 // The scenarios of all scales, a round of consecutive ones after another.
 fn all_scenarios<R: AllocGlobal + Threads + Sync>(
     rt: &R,
@@ -128,7 +138,7 @@ fn all_scenarios<R: AllocGlobal + Threads + Sync>(
     ensures { IfOk result (λ all.
         AreScenarios settings.now net.now cells.now scales.now all.items) }
 {
-    let at_once = workers.min(MOST_AT_ONCE) as usize;
+    let at_once = scenarios_at_once(workers);
     let mut kept = Vec::new(rt.alloc());
     let mut from = 0;
     'round: while from < scales.len() {

@@ -1,5 +1,6 @@
 // How many shares of the zones are worked side by side, and how many zones each of them has.
 ghost use Rattle.std.specs.Prelude.{◌≡◌, ◌<◌, ◌≤◌, ◌^◌, length, IfOk};
+ghost use Rattle.time_routes.specs.declared.reading.shares.TheConstants.{MOST_SHARES};
 
 use crate::filling::no_walk::NARROW_FAR;
 use crate::reading::group_labels::MOST_GROUP;
@@ -43,7 +44,8 @@ pub(crate) fn share_count(
 ) -> Result<u64, Memory>
     requires table { length times.now.free ≡ length net.now.links }
     requires workers { 1 ≤ workers }
-    ensures { IfOk result (λ shares. 1 ≤ shares) }
+    ensures some { IfOk result (λ shares. 1 ≤ shares) }
+    ensures few { IfOk result (λ shares. (shares ≤ workers) × (shares ≤ MOST_SHARES)) }
 {
     let links = net.link_count();
     let router = router_of(alloc, net)?;

@@ -148,7 +148,7 @@ fn tell_shares<R: AllocGlobal + Threads + Sync>(
 }
 
 /// Tells the least times and the chosen walks of vehicles, started at their departures, of which
-/// it is asked. The labels of up to four destinations serve all their vehicles; a zone to which
+/// it is asked. The labels of up to eight destinations serve all their vehicles; a zone to which
 /// no vehicle goes that is asked of has none.
 pub fn tell(
     alloc: Global,
