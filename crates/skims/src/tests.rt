@@ -145,104 +145,110 @@ fn one_zone(alloc: Global) -> Result<Net, Memory> {
     )
 }
 
+// Whether a skim of two links in a line has these entries.
+fn line_gives(
+    alloc: Global,
+    travels: &[u32],
+    starts: &[u32],
+    wanted: &[SkimEntry],
+) -> Result<bool, Memory> {
+    let net = worked_cases::two_links(alloc)?;
+    let skim = skim_of(alloc, &net, travels, starts)?;
+    Ok(skim.as_slice() == wanted)
+}
+
 #[test]
 fn two_links_in_a_line(rt: HostRuntime) -> Result<(), Fail> {
-    let alloc = rt.alloc();
-    let net = worked_cases::two_links(alloc)?;
-    let skim = skim_of(alloc, &net, &[10, 10, 10, 10], &[0, 55])?;
-    assert_eq!(rt;
-        skim.as_slice(),
-        [
-            entry!(1 => 3, 0, Some(20)),
-            entry!(1 => 3, 55, Some(20)),
-            entry!(3 => 1, 0, None),
-            entry!(3 => 1, 55, None),
-        ]
-        .as_slice()
-    );
+    let wanted = [
+        entry!(1 => 3, 0, Some(20)),
+        entry!(1 => 3, 55, Some(20)),
+        entry!(3 => 1, 0, None),
+        entry!(3 => 1, 55, None),
+    ];
+    assert!(rt; line_gives(rt.alloc(), &[10, 10, 10, 10], &[0, 55], &wanted)?);
     Ok(())
 }
 
 #[test]
 fn a_link_without_capacity(rt: HostRuntime) -> Result<(), Fail> {
-    let alloc = rt.alloc();
-    let net = worked_cases::two_links(alloc)?;
-    let skim = skim_of(alloc, &net, &[45, 10, 10, 10], &[0])?;
-    assert_eq!(rt;
-        skim.into_vec().as_slice(),
-        [entry!(1 => 3, 0, Some(55)), entry!(3 => 1, 0, None)].as_slice()
-    );
+    let wanted = [entry!(1 => 3, 0, Some(55)), entry!(3 => 1, 0, None)];
+    assert!(rt; line_gives(rt.alloc(), &[45, 10, 10, 10], &[0], &wanted)?);
     Ok(())
 }
 
 // A start that is given twice is told twice.
 #[test]
 fn a_start_given_twice(rt: HostRuntime) -> Result<(), Fail> {
-    let alloc = rt.alloc();
-    let net = worked_cases::two_links(alloc)?;
-    let skim = skim_of(alloc, &net, &[45, 10, 10, 10], &[50, 0, 50])?;
-    assert_eq!(rt;
-        skim.as_slice(),
-        [
-            entry!(1 => 3, 50, Some(20)),
-            entry!(1 => 3, 0, Some(55)),
-            entry!(1 => 3, 50, Some(20)),
-            entry!(3 => 1, 50, None),
-            entry!(3 => 1, 0, None),
-            entry!(3 => 1, 50, None),
-        ]
-        .as_slice()
-    );
+    let wanted = [
+        entry!(1 => 3, 50, Some(20)),
+        entry!(1 => 3, 0, Some(55)),
+        entry!(1 => 3, 50, Some(20)),
+        entry!(3 => 1, 50, None),
+        entry!(3 => 1, 0, None),
+        entry!(3 => 1, 50, None),
+    ];
+    assert!(rt; line_gives(rt.alloc(), &[45, 10, 10, 10], &[50, 0, 50], &wanted)?);
     Ok(())
+}
+
+// How many entries the skim of one zone has.
+fn count_alone(alloc: Global) -> Result<usize, Memory> {
+    let net = one_zone(alloc)?;
+    let skim = skim_of(alloc, &net, &[10, 10], &[0, 55])?;
+    Ok(skim.into_vec().len())
 }
 
 #[test]
 fn one_zone_alone(rt: HostRuntime) -> Result<(), Fail> {
-    let alloc = rt.alloc();
-    let net = one_zone(alloc)?;
-    let skim = skim_of(alloc, &net, &[10, 10], &[0, 55])?;
-    assert_eq!(rt; skim.as_slice().len(), 0);
+    assert_eq!(rt; count_alone(rt.alloc())?, 0);
     Ok(())
+}
+
+// The least times from and to zone 1, in the order of the entries.
+fn leasts_of_zone_1(alloc: Global, entries: &[SkimEntry]) -> Result<Vec<Option<u64>>, Memory> {
+    let mut told = Vec::new(alloc);
+    for entry in entries {
+        if entry.origin == 1 || entry.destination == 1 {
+            told.push(entry.least)?;
+        }
+    }
+    Ok(told)
+}
+
+// Whether the skim of a ring of nine zones has these.
+fn ring_gives(alloc: Global, travels: &[u32], leasts: &[Option<u64>]) -> Result<bool, Memory> {
+    let net = a_ring_of_nine_zones(alloc)?;
+    let skim = skim_of(alloc, &net, travels, &[0])?;
+    let told = leasts_of_zone_1(alloc, skim.as_slice())?;
+    Ok(told.as_slice() == leasts)
 }
 
 // From zone 1 to the others over one to eight links, and to zone 1 over eight to one; links of the
 // second bucket take twice as long.
 #[test]
 fn nine_zones(rt: HostRuntime) -> Result<(), Fail> {
-    let alloc = rt.alloc();
-    let net = a_ring_of_nine_zones(alloc)?;
     let travels = [
         10, 20, 10, 20, 10, 20, 10, 20, 10, 20, 10, 20, 10, 20, 10, 20, 10, 20,
     ];
-    let skim = skim_of(alloc, &net, &travels, &[0])?;
-    let mut told = Vec::new(alloc);
-    for entry in skim.as_slice() {
-        if entry.origin == 1 || entry.destination == 1 {
-            told.push(entry.least)?;
-        }
-    }
-    assert_eq!(rt;
-        told.as_slice(),
-        [
-            Some(10),
-            Some(20),
-            Some(30),
-            Some(40),
-            Some(50),
-            Some(70),
-            Some(80),
-            Some(90),
-            Some(90),
-            Some(80),
-            Some(70),
-            Some(50),
-            Some(40),
-            Some(30),
-            Some(20),
-            Some(10),
-        ]
-        .as_slice()
-    );
+    let leasts = [
+        Some(10),
+        Some(20),
+        Some(30),
+        Some(40),
+        Some(50),
+        Some(70),
+        Some(80),
+        Some(90),
+        Some(90),
+        Some(80),
+        Some(70),
+        Some(50),
+        Some(40),
+        Some(30),
+        Some(20),
+        Some(10),
+    ];
+    assert!(rt; ring_gives(rt.alloc(), &travels, &leasts)?);
     Ok(())
 }
 
@@ -255,29 +261,60 @@ fn table(alloc: Global, lines: &[&str]) -> Result<String, Memory> {
     Ok(text)
 }
 
-#[test]
-fn a_times_table(rt: HostRuntime) -> Result<(), Fail> {
-    let alloc = rt.alloc();
+// The rows of a table over two links in a line, and the skim over them for step 55.
+fn read_and_skim(alloc: Global) -> Result<Option<(Vec<TimeRow>, Skim)>, Memory> {
     let net = worked_cases::two_links(alloc)?;
     let text = table(alloc, &[FIRST, SECOND])?;
-    let rows = read_times(alloc, &net, text.as_bytes(), 50, 60).expect(&rt, "rows");
-    assert_eq!(rt;
-        rows.as_slice(),
-        [row!(3, 10), row!(0, 10), row!(3, 10), row!(0, 10)].as_slice()
-    );
+    let Ok(rows) = read_times(alloc, &net, text.as_bytes(), 50, 60) else {
+        return Ok(None);
+    };
     let times = times_of(alloc, &net, &rows, 50, 60)?;
-    assert_eq!(rt;
-        skim(alloc, &net, &times, &[55])?.as_slice(),
-        [entry!(1 => 3, 55, Some(20)), entry!(3 => 1, 55, None)].as_slice()
-    );
+    let skim = skim(alloc, &net, &times, &[55])?;
+    Ok(Some((rows.into_vec(), skim)))
+}
+
+// Whether that gives these rows and entries.
+fn table_gives(alloc: Global, rows: &[TimeRow], entries: &[SkimEntry]) -> Result<bool, Memory> {
+    Ok(match read_and_skim(alloc)? {
+        Some((read, skim)) => read.as_slice() == rows && skim.as_slice() == entries,
+        None => false,
+    })
+}
+
+#[test]
+fn a_times_table(rt: HostRuntime) -> Result<(), Fail> {
+    let rows = [row!(3, 10), row!(0, 10), row!(3, 10), row!(0, 10)];
+    let entries = [entry!(1 => 3, 55, Some(20)), entry!(3 => 1, 55, None)];
+    assert!(rt; table_gives(rt.alloc(), &rows, &entries)?);
     Ok(())
 }
 
-// The first fault of times tables over two links in a line, with buckets of 50 steps.
+// Whether this is the first fault of a times table over two links in a line, with buckets of 50
+// steps up to a horizon.
+fn tells(
+    alloc: Global,
+    horizon: u32,
+    lines: &[&str],
+    line: u64,
+    code: Code,
+    column: Column,
+) -> Result<bool, Memory>
+    requires { 1 ≤ horizon }
+{
+    let net = worked_cases::two_links(alloc)?;
+    let text = table(alloc, lines)?;
+    let fault = TableFault {
+        table: Table::Times,
+        line,
+        code,
+        column,
+    };
+    let answer = read_times(alloc, &net, text.as_bytes(), 50, horizon);
+    Ok(answer.err() == Some(TableRefusal::Fault(fault)))
+}
+
 #[test]
 fn first_faults(rt: HostRuntime) -> Result<(), Fail> {
-    let alloc = rt.alloc();
-    let net = worked_cases::two_links(alloc)?;
     let cases: [(u32, &[&str], u64, Code, Column); 11] = [
         // Columns are checked from the first on.
         (60, &["30,1,50,3,0,1\n"], 2, Code::E8, Column::LinkId),
@@ -314,18 +351,8 @@ fn first_faults(rt: HostRuntime) -> Result<(), Fail> {
     ];
     for (horizon, lines, line, code, column) in cases {
         assert!(rt; horizon >= 1);
-        let text = table(alloc, lines)?;
-        let answer = read_times(alloc, &net, text.as_bytes(), 50, horizon);
-        let fault = TableFault {
-            table: Table::Times,
-            line,
-            code,
-            column,
-        };
-        assert!(rt;
-            answer.err() == Some(TableRefusal::Fault(fault)),
-            "line {line}"
-        );
+        let told = tells(rt.alloc(), horizon, lines, line, code, column)?;
+        assert!(rt; told, "line {line}");
     }
     Ok(())
 }
@@ -348,33 +375,53 @@ fn two_entries(alloc: Global) -> Result<Skim, Memory> {
     Ok(Skim::of(entries))
 }
 
-#[test]
-fn both_texts_of_a_skim(rt: HostRuntime) -> Result<(), Fail> {
-    let alloc = rt.alloc();
+// What Skim and Report take of it, where a put of 20 bytes at most fails, and whether that is told.
+fn put_failing(alloc: Global, call: u64) -> Result<(bool, MemDesk), Memory> {
     let net = worked_cases::two_links(alloc)?;
     let skim = two_entries(alloc)?;
     let mut desk = empty_desk(alloc);
-    assert!(rt; put_skim(&mut desk, &net, &skim) == Ok(()));
-    assert!(rt; desk.taken(Output::Skim) == SKIM);
-    assert!(rt; desk.taken(Output::Report) == REPORT);
+    desk.set_most(20);
+    desk.fail_put(call)?;
+    let is_refused = put_skim(&mut desk, &net, &skim) == Err(Failed);
+    Ok((is_refused, desk))
+}
+
+// Whether so many first bytes of both went out where a put fails.
+fn leaves(alloc: Global, call: u64, of_skim: usize, of_report: usize) -> Result<bool, Memory> {
+    let (is_refused, desk) = put_failing(alloc, call)?;
+    Ok(
+        is_refused
+            && desk.put_faults() == 1
+            && is_first_part(desk.taken(Output::Skim), SKIM, of_skim)
+            && is_first_part(desk.taken(Output::Report), REPORT, of_report),
+    )
+}
+
+// Whether these are the first bytes of a text, so many.
+fn is_first_part(bytes: &[u8], text: &[u8], count: usize) -> bool {
+    count <= text.len() && bytes == &text[..count]
+}
+
+// Whether both texts go out whole.
+fn puts_whole(alloc: Global) -> Result<bool, Memory> {
+    let net = worked_cases::two_links(alloc)?;
+    let skim = two_entries(alloc)?;
+    let mut desk = empty_desk(alloc);
+    let is_done = put_skim(&mut desk, &net, &skim) == Ok(());
+    Ok(is_done && desk.taken(Output::Skim) == SKIM && desk.taken(Output::Report) == REPORT)
+}
+
+#[test]
+fn both_texts_of_a_skim(rt: HostRuntime) -> Result<(), Fail> {
+    assert!(rt; puts_whole(rt.alloc())?);
     Ok(())
 }
 
 // Puts that fail leave first parts: of Report only where Skim is whole.
 #[test]
 fn a_put_that_fails(rt: HostRuntime) -> Result<(), Fail> {
-    let alloc = rt.alloc();
-    let net = worked_cases::two_links(alloc)?;
-    let skim = two_entries(alloc)?;
-    for (call, skim_count, report_count) in [(1, 0, 0), (3, 40, 0), (4, 59, 0), (5, 59, 20)] {
-        let mut desk = empty_desk(alloc);
-        desk.set_most(20);
-        desk.fail_put(call)?;
-        assert!(rt; put_skim(&mut desk, &net, &skim) == Err(Failed));
-        assert!(rt; desk.put_faults() == 1);
-        assert!(rt; skim_count <= SKIM.len() && report_count <= REPORT.len());
-        assert!(rt; desk.taken(Output::Skim) == &SKIM[..skim_count]);
-        assert!(rt; desk.taken(Output::Report) == &REPORT[..report_count]);
+    for (call, of_skim, of_report) in [(1, 0, 0), (3, 40, 0), (4, 59, 0), (5, 59, 20)] {
+        assert!(rt; leaves(rt.alloc(), call, of_skim, of_report)?, "put {call}");
     }
     Ok(())
 }
