@@ -6,7 +6,7 @@ use Rattle.std.proofs.lemmas.List.Elements.{All-head, All-tail, All-weaker}
 use Rattle.capacity_credits.proofs.Skips.{same_parts}
 use Rattle.capacity_credits.specs.Grants.{IsRateFor}
 use Rattle.capacity_credits.specs.Meter.{later, nearer}
-use Rattle.capacity_credits.specs.Ranges.{IsInRange}
+use Rattle.capacity_credits.specs.Outlooks.{IsInRange}
 use Rattle.dta_model.specs.Allowance.{parts}
 use Rattle.net_core.proofs.Orders.{is_le}
 use Rattle.net_core.specs.Rates.{AreRates, last_begun, rate_in}

@@ -1,9 +1,10 @@
 -- Steps that go by at once.
 use Rattle.std.proofs.Common.{◌≡◌, ℕ, zero, suc, ◌+◌, ◌-◌, ◌*◌, ◌/◌, ◌%◌, refl, arith, add-one}
+use Rattle.std.specs.Prelude.{Option}
 use Rattle.std.proofs.lemmas.Nat.{mul-mod_first}
 use Rattle.dta_model.specs.Allowance.{allowance, credited, parts}
 use Rattle.capacity_credits.specs.Grants.{IsRateFor}
-use Rattle.net_core.specs.Rates.{rate_in}
+use Rattle.net_core.specs.Rates.{last_begun, rate_in, steady}
 use Rattle.net_core.specs.declared.rates.Rates.{Rates}
 
 -- the parts of one step may be taken of whole vehicles before they are multiplied
@@ -62,3 +63,12 @@ pub skip_after : (rates : Rates) (delta grants rate steps : ℕ) → IsRateFor r
 skip_after rates delta grants rate steps h =
     rw (same_parts rates delta grants rate steps h)
     (mod_more _ (parts rates delta grants) (steps * (rate * delta)) refl)
+
+-- one rate in all steps
+pub steady_parts : (rate : Option ℕ) (delta steps : ℕ)
+    → parts (steady rate) delta steps ≡ steps * (credited rate * delta)
+unfolding last_begun parts
+steady_parts rate delta steps =
+    let all = same_parts (steady rate) delta 0 (credited rate) steps (λ k b. refl) in
+    let from_zero : 0 + steps ≡ steps = omega arith in
+    rw (← from_zero) (omega (arith, all))

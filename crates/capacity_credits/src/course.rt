@@ -1,10 +1,14 @@
 // Rates that change with the steps to come.
-ghost use Rattle.std.specs.Prelude.{◌≡◌, ◌<◌, ◌≤◌, ◌+◌, ℕ, All, drop, length, take};
+ghost use Rattle.std.specs.Prelude.{◌≡◌, ◌<◌, ◌≤◌, ◌+◌, ◌%◌, ℕ, All, drop, length, take};
 ghost use Rattle.capacity_credits.specs.Course.{AreBegun};
 ghost use Rattle.capacity_credits.specs.Meter.{later};
-ghost use Rattle.capacity_credits.specs.Ranges.{IsInRange};
+ghost use Rattle.capacity_credits.specs.Outlooks.{IsInRange};
+ghost use Rattle.dta_model.specs.Allowance.{credited, parts};
+ghost use Rattle.dta_model.specs.declared.credit.TheConstants.{PARTS_OF_A_VEHICLE};
 ghost use Rattle.net_core.specs.Rates.{AreRates, last_begun, rate_in};
 
+use crate::Credit;
+use fixed_units::MOST_STEP;
 use net_core::{MOST_WINDOW_STEP, Rates, Window};
 use std::marker::Model;
 
@@ -29,11 +33,11 @@ impl Model for Course {
     ghost invariant = { λ c. IsCourse c.rates c.step c.begun };
 }
 
-/// A rate, and for how many steps it holds.
+// A rate, and for how many steps it holds.
 #[derive(Drop)]
-pub(crate) struct Spell {
-    pub(crate) rate: Option<u64>,
-    pub(crate) steps: u32,
+struct Spell {
+    rate: Option<u64>,
+    steps: u32,
 }
 
 impl Course {
@@ -50,8 +54,38 @@ impl Course {
         }
     }
 
-    /// The rate of the next step, and for how many steps it holds, which is told up to a number.
-    pub(crate) fn spell(&self, most: u32) -> Spell
+    /// The rate of the next step, which goes by.
+    #[cold]
+    pub(crate) fn next(&mut self) -> Option<u64>
+        ensures rate { result ≡ rate_in self.old 0 }
+        ensures range { IsInRange result }
+        ensures rest { self.new ≡ later 1 self.old }
+    {
+        let rate = self.spell(1).rate;
+        self.go_on(1);
+        rate
+    }
+
+    /// So many steps go by whose vehicles nobody uses.
+    #[cold]
+    pub(crate) fn rest(&mut self, credit: &mut Credit, delta: u32, steps: u32)
+        requires step { delta ≤ MOST_STEP }
+        requires few { credit.old < PARTS_OF_A_VEHICLE }
+        ensures rates { self.new ≡ later steps self.old }
+        ensures carried { credit.new
+            ≡ (credit.old + parts self.old delta steps) % PARTS_OF_A_VEHICLE }
+    {
+        let mut over = 0;
+        while over < steps {
+            let spell = self.spell(steps - over);
+            credit.skip(credited_of(spell.rate), delta, spell.steps);
+            self.go_on(spell.steps);
+            over += spell.steps;
+        }
+    }
+
+    // The rate of the next step, and for how many steps it holds, which is told up to a number.
+    fn spell(&self, most: u32) -> Spell
         requires { 1 ≤ most }
         ensures some { 1 ≤ result.steps }
         ensures most { result.steps ≤ most }
@@ -67,13 +101,23 @@ impl Course {
         )
     }
 
-    /// So many steps go by.
-    pub(crate) fn go_on(&mut self, steps: u32)
+    // So many steps go by.
+    fn go_on(&mut self, steps: u32)
         ensures { self.new ≡ later steps self.old }
     {
         let step = self.step.saturating_add(steps).min(MOST_WINDOW_STEP);
         self.begun = begun_by(self.rates.windows.as_slice(), step, self.begun);
         self.step = step;
+    }
+}
+
+/// What is credited at a rate: nothing where there is no limit.
+pub(crate) fn credited_of(rate: Option<u64>) -> u64
+    ensures { result ≡ credited rate }
+{
+    match rate {
+        Some(rate) => rate,
+        None => 0,
     }
 }
 

@@ -12,7 +12,7 @@ use std::marker::Model;
 /// The parts of a vehicle that are carried to the next step, fewer than one vehicle has.
 #[derive(Drop)]
 pub struct Credit {
-    carried: u64,
+    carried: u32,
 }
 
 impl Model for Credit {
@@ -49,8 +49,8 @@ impl Credit {
             → StandsAfter grants rates delta self.old
             → StandsAfter (grants + 1) rates delta self.new }
     {
-        let parts = self.carried + rate * delta as u64;
-        self.carried = parts % PARTS_OF_A_VEHICLE;
+        let parts = self.carried as u64 + rate * delta as u64;
+        self.carried = (parts % PARTS_OF_A_VEHICLE) as u32;
         parts / PARTS_OF_A_VEHICLE
     }
 
@@ -65,6 +65,7 @@ impl Credit {
             → StandsAfter (grants + steps) rates delta self.new }
     {
         let parts = rate * delta as u64 % PARTS_OF_A_VEHICLE;
-        self.carried = (self.carried + parts * steps as u64) % PARTS_OF_A_VEHICLE;
+        let all = self.carried as u64 + parts * steps as u64;
+        self.carried = (all % PARTS_OF_A_VEHICLE) as u32;
     }
 }

@@ -9,10 +9,10 @@
 //! memory, where rates change in windows.
 #![tactic(auto)]
 
-mod ahead;
 mod course;
 mod credit;
 mod meter;
+mod outlook;
 
 pub use credit::Credit;
 pub use meter::Meter;

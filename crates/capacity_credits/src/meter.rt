@@ -2,41 +2,40 @@
 ghost use Rattle.std.specs.Prelude.{◌≡◌, ℕ, ◌+◌, ◌-◌, ◌<◌, ◌≤◌, IfOk};
 ghost use Rattle.capacity_credits.specs.Meter.{MeterState, capped, closed, granted, passed_one};
 ghost use Rattle.capacity_credits.specs.Meter.{skipped, unused};
-ghost use Rattle.dta_model.specs.Allowance.{credited};
 ghost use Rattle.net_core.specs.Rates.{AreRates};
 
 use crate::Credit;
-use crate::ahead::Ahead;
+use crate::course::credited_of;
+use crate::outlook::Outlook;
 use fixed_units::MOST_STEP;
 use net_core::{Memory, Rates};
 use std::alloc::Global;
 use std::marker::Model;
 
-/// Rates with their credit, what is left of the step's allowance, and whether the step has no
-/// limit.
+/// Rates with their credit, and what is left of the step's allowance.
 #[derive(Drop)]
 pub struct Meter {
-    ahead: Ahead,
+    outlook: Outlook,
+    left: u32,
     credit: Credit,
-    left: u64,
-    unlimited: bool,
 }
 
 impl Model for Meter {
     ghost use Rattle.capacity_credits.specs.Meter.{MeterState};
+    ghost use Rattle.capacity_credits.specs.Outlooks.{IsOutlook, rates_of, unlimited_of};
     ghost use Rattle.dta_model.specs.declared.credit.TheConstants.{PARTS_OF_A_VEHICLE};
     ghost use Rattle.std.specs.Prelude.{◌<◌};
 
     ghost Value = { MeterState };
 
     ghost view = { λ m. record {
-      rates = m.ahead;
+      rates = rates_of m.outlook;
       carried = m.credit;
       left = m.left;
-      unlimited = m.unlimited;
+      unlimited = unlimited_of m.outlook;
     } };
 
-    ghost invariant = { λ m. m.credit < PARTS_OF_A_VEHICLE };
+    ghost invariant = { λ m. IsOutlook m.outlook × (m.credit < PARTS_OF_A_VEHICLE) };
 }
 
 impl Meter {
@@ -47,10 +46,9 @@ impl Meter {
         ensures { IfOk result (λ meter. meter ≡ unused rates) }
     {
         Ok(Meter {
-            ahead: Ahead::of(alloc, rates)?,
-            credit: Credit::new(),
+            outlook: Outlook::of(alloc, rates)?,
             left: 0,
-            unlimited: false,
+            credit: Credit::new(),
         })
     }
 
@@ -58,25 +56,24 @@ impl Meter {
     pub fn left(&self) -> u64
         ensures { result ≡ self.now.left }
     {
-        self.left
+        self.left as u64
     }
 
     /// Whether the step has no limit.
     pub fn is_unlimited(&self) -> bool
         ensures { result ≡ self.now.unlimited }
     {
-        self.unlimited
+        self.outlook.is_unlimited()
     }
 
     /// Grants the allowance of the next step. Where that has no limit nothing is credited.
+    #[inline]
     pub fn open(&mut self, delta: u32)
         requires { delta ≤ MOST_STEP }
         ensures { self.new ≡ granted delta self.old }
     {
-        let rate = self.ahead.spell(1).rate;
-        self.left = self.credit.grant(credited_of(rate), delta);
-        self.unlimited = rate.is_none();
-        self.ahead.go_on(1);
+        let rate = self.outlook.next();
+        self.left = self.credit.grant(credited_of(rate), delta) as u32;
     }
 
     /// One vehicle passes.
@@ -91,39 +88,23 @@ impl Meter {
         ensures { self.new ≡ closed self.old }
     {
         self.left = 0;
-        self.unlimited = false;
+        self.outlook.close();
     }
 
     /// Allows no more than the room.
     pub fn cap(&mut self, room: u64)
         ensures { self.new ≡ capped room self.old }
     {
-        self.left = self.left.min(room);
+        self.left = room.min(self.left as u64) as u32;
     }
 
     /// Lets so many steps go by whose allowances nobody uses.
+    #[inline]
     pub fn rest(&mut self, delta: u32, steps: u32)
         requires { delta ≤ MOST_STEP }
         ensures { self.new ≡ skipped delta steps self.old }
     {
-        let mut over = 0;
-        while over < steps {
-            let spell = self.ahead.spell(steps - over);
-            self.credit
-                .skip(credited_of(spell.rate), delta, spell.steps);
-            self.ahead.go_on(spell.steps);
-            over += spell.steps;
-        }
+        self.outlook.rest(&mut self.credit, delta, steps);
         self.close();
-    }
-}
-
-// What is credited at a rate: nothing where there is no limit.
-fn credited_of(rate: Option<u64>) -> u64
-    ensures { result ≡ credited rate }
-{
-    match rate {
-        Some(rate) => rate,
-        None => 0,
     }
 }

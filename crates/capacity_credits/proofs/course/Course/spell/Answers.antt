@@ -1,5 +1,5 @@
 use Rattle.std.proofs.Common.{◌+◌, ◌∙◌, ℕ, subst, arith, Option}
-use Rattle.capacity_credits.specs.Ranges.{IsInRange}
+use Rattle.capacity_credits.specs.Outlooks.{IsInRange}
 use Rattle.capacity_credits.proofs.Courses.{later_rate, rate_range}
 use Rattle.capacity_credits.proofs.course.Course.spell.Goals as goal
 

@@ -1,0 +1,28 @@
+-- Rates in range, and rates of the steps to come.
+use Rattle.capacity_credits.specs.declared.outlook.Outlook.{Outlook}
+use Rattle.fixed_units.specs.declared.link.TheConstants.{MOST_RATE}
+use Rattle.net_core.specs.Rates.{steady}
+use Rattle.net_core.specs.declared.rates.Rates.{Rates}
+use Rattle.std.specs.Prelude.{ℕ, ◌≤◌, ⊤, Bool, IfSome, None, Option, Some, false}
+
+-- a rate that a link or a turn may have
+abbrev pub IsInRange : Option ℕ → Type 0
+IsInRange rate = IfSome rate (λ r. r ≤ MOST_RATE)
+
+-- the rates of an outlook: its limit in all steps, or none, or those of its course
+abbrev pub rates_of : Outlook → Rates
+rates_of (Outlook.Limit rate) = steady (Some rate)
+rates_of (Outlook.NoLimit unlimited) = steady None
+rates_of (Outlook.Course unlimited course) = course.value
+
+-- whether the step that is open has no limit
+abbrev pub unlimited_of : Outlook → Bool
+unlimited_of (Outlook.Limit rate) = false
+unlimited_of (Outlook.NoLimit unlimited) = unlimited
+unlimited_of (Outlook.Course unlimited course) = unlimited
+
+-- an outlook whose limit a link or a turn may have
+abbrev pub IsOutlook : Outlook → Type 0
+IsOutlook (Outlook.Limit rate) = rate ≤ MOST_RATE
+IsOutlook (Outlook.NoLimit unlimited) = ⊤
+IsOutlook (Outlook.Course unlimited course) = ⊤
