@@ -127,6 +127,7 @@ impl NodeCell {
 
     /// Lets so many steps go by in which nobody moves: their allowances are granted, and lost, and
     /// those who left before are forgotten step by step.
+    #[inline(always)]
     pub fn rest(&mut self, steps: u32)
         ensures { self.new ≡ rested steps self.old }
     {

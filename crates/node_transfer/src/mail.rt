@@ -4,20 +4,22 @@ ghost use Rattle.std.specs.Prelude.{◌≡◌, ◌<◌, length, slice_get, Some,
 
 use cell_stages::{InLink, Mail, OutLink};
 
-/// Puts a mail into the place of an out-link.
+/// Puts a mail into the place of an out-link, from which the mail is away: it has nothing to drop.
 pub fn put_out_mail(outs: &mut [OutLink], place: usize, mail: Mail)
-    requires { place < length outs.old }
+    requires there { place < length outs.old }
+    requires away { option_map mail_of_out (slice_get outs.old place) ≡ Some Mail.Away }
     ensures { outs.new ≡ out_mailed place mail outs.old }
 {
-    outs[place].mail = mail;
+    std::mem::forget(std::mem::replace(&mut outs[place].mail, mail));
 }
 
-/// Puts a mail into the place of an in-link.
+/// Puts a mail into the place of an in-link, from which the mail is away: it has nothing to drop.
 pub fn put_in_mail(ins: &mut [InLink], place: usize, mail: Mail)
-    requires { place < length ins.old }
+    requires there { place < length ins.old }
+    requires away { option_map mail_of_in (slice_get ins.old place) ≡ Some Mail.Away }
     ensures { ins.new ≡ in_mailed place mail ins.old }
 {
-    ins[place].mail = mail;
+    std::mem::forget(std::mem::replace(&mut ins[place].mail, mail));
 }
 
 /// Takes the mail out of the place of an out-link.

@@ -67,6 +67,7 @@ fn rest_in(link: &mut InLink, delta: u32, steps: u32)
 }
 
 // Lets so many steps go by in which nobody leaves the in-links.
+#[inline(never)]
 fn rest_ins(ins: &mut [InLink], delta: u32, steps: u32)
     requires { delta ≤ MOST_STEP }
     ensures { ins.new ≡ map (skipped_in delta steps) ins.old }
@@ -77,6 +78,7 @@ fn rest_ins(ins: &mut [InLink], delta: u32, steps: u32)
 }
 
 // Lets so many steps go by in which nobody enters the out-links.
+#[inline(never)]
 fn rest_outs(outs: &mut [OutLink], delta: u32, steps: u32)
     requires { delta ≤ MOST_STEP }
     ensures { outs.new ≡ map (skipped_out delta steps) outs.old }
@@ -88,6 +90,7 @@ fn rest_outs(outs: &mut [OutLink], delta: u32, steps: u32)
 
 /// Lets so many steps go by in which nobody moves. It looks at each limit once, and at each link
 /// until those who left it are forgotten, however many steps there are.
+#[inline(always)]
 pub fn rest_links(ins: &mut [InLink], outs: &mut [OutLink], delta: u32, steps: u32)
     requires { delta ≤ MOST_STEP }
     ensures { (arrived : List RiderState)

@@ -23,7 +23,7 @@ use Rattle.dta_model.specs.Room.{wave_of}
 use Rattle.dta_model.specs.Riders.{RiderState, rider_at, riders}
 use Rattle.dta_model.specs.Sound.{IsSound}
 use Rattle.cell_stages.specs.Stages.{arrived_before, line_before, waiting_before, waiting_for}
-use Rattle.dta_model.specs.Trace.{has_moved, last_moves, moves_of, queue_of}
+use Rattle.dta_model.specs.Trace.{has_moved, moves_of}
 use Rattle.dta_model.specs.declared.plan.Plan.{Plan}
 use Rattle.dta_model.specs.declared.trip.TheConstants.{MOST_TRIPS}
 use Rattle.dta_model.specs.declared.trip.Trip.{Trip}

@@ -31,8 +31,7 @@ use Rattle.dta_model.specs.Trace.{queue_of, last_moves}
 use Rattle.cell_stages.specs.CellState.{CellState}
 use Rattle.dta_model.specs.Sound.{IsSound}
 use Rattle.dta_model.proofs.Steady.{all_at}
-use Rattle.std.specs.Prelude.{nat_lt, position, sum, ◌&&◌, ◌||◌}
-use Rattle.std.proofs.Common.{rules}
+use Rattle.std.specs.Prelude.{nat_lt, sum, ◌&&◌, ◌||◌}
 use Rattle.std.proofs.lemmas.List.{map-append}
 use Rattle.std.proofs.lemmas.List.Elements.{filter-append, All-head, All-tail, All-nil, All-cons, All-weaker, All-filter}
 use Rattle.cell_stages.specs.Contents.{is_kept, room_of}

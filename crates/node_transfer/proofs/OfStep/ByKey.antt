@@ -1,5 +1,5 @@
 -- Look-ups and changes in a list that is made of numbers.
-use Rattle.std.proofs.Common.{◌≡◌, ℕ, suc, ◌+◌, Bool, true, false, cond, ◌&&◌, ◌||◌, not, List, [], ◌∷◌, map, refl, ap, sym, subst, Option, Some, None, add-one, ◌⊎◌, inl, inr}
+use Rattle.std.proofs.Common.{◌≡◌, ℕ, suc, ◌+◌, Bool, true, false, cond, ◌||◌, not, List, [], ◌∷◌, map, refl, ap, sym, subst, Option, Some, None, add-one, ◌⊎◌, inl, inr}
 use Rattle.std.specs.Prelude.{slice_get, find, filter, nat_eq, option_map, ◌≢◌}
 use Rattle.std.specs.List.{list_any}
 use Rattle.std.proofs.lemmas.Bool.{eqb-true, eqb-false}

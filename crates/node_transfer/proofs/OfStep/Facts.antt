@@ -5,26 +5,25 @@ use Rattle.net_core.specs.declared.rows.LinkNo.{LinkNo}
 use Rattle.net_core.specs.declared.rows.Turn.{Turn}
 use Rattle.std.specs.List.{range_with_len, last_or}
 use Rattle.std.specs.Prelude.{filter, find, slice_get, ◌≢◌, nat_eq, IsSome, option_map}
-use Rattle.std.proofs.Common.{◌≡◌, ℕ, zero, suc, ◌+◌, ◌<◌, ◌≤◌, Bool, true, false, cond, List, [], ◌∷◌, ◌++◌, length, map, refl, ap, sym, ◌∙◌, subst, arith, append_assoc, append-nil, Option, Some, None, ◌⊎◌, inl, inr}
-use Rattle.std.proofs.lemmas.Bool.{eqb-true}
+use Rattle.std.proofs.Common.{◌≡◌, ℕ, zero, suc, ◌+◌, ◌<◌, ◌≤◌, Bool, true, false, cond, List, [], ◌∷◌, length, map, refl, ap, sym, ◌∙◌, subst, arith, Option, Some, None, ◌⊎◌, inl, inr}
 use Rattle.std.proofs.lemmas.Bool.Decides.{eqb_tells}
 use Rattle.std.proofs.lemmas.List.{length-map}
 use Rattle.std.proofs.lemmas.Option.{slice_get-get_or, slice_get_within}
 use Rattle.std.proofs.Math.Dec.{eqb}
 use Rattle.dta_model.proofs.Onward.{onto_one}
-use Rattle.dta_model.specs.Loading.{trace_after, is_entry, entries_of}
+use Rattle.dta_model.specs.Loading.{is_entry, entries_of}
 use Rattle.dta_model.specs.Plans.{link_at, outs, turn, route_of, route_in, link_numbers}
 use Rattle.dta_model.specs.Riders.{rider_at}
 use Rattle.dta_model.specs.Sound.{IsSound}
 use Rattle.dta_model.specs.State.{leads_onto}
-use Rattle.dta_model.specs.Trace.{Move, Target, Onto, Arrived, moves_of, last_move, leads_to, is_link, next_target, target_at, queue_of, stands_on, has_moved}
+use Rattle.dta_model.specs.Trace.{Move, Onto, moves_of, last_move, leads_to, next_target, target_at, queue_of, stands_on, has_moved}
 use Rattle.cell_stages.specs.Transfers.{OnlyEnters}
 use Rattle.dta_model.specs.declared.plan.Plan.{Plan}
 use Rattle.dta_model.specs.declared.trip.Trip.{Trip}
 use Rattle.dta_model.proofs.Journeys.{routes_are_followed}
 use Rattle.dta_model.proofs.Conserved.{link_onto}
 use Rattle.dta_model.proofs.Fuel.{has_moved-if}
-use Rattle.dta_model.proofs.Riders.{Enters, enters_push, nothing_enters, last_move_is}
+use Rattle.dta_model.proofs.Riders.{last_move_is}
 use Rattle.cell_stages.proofs.Riders.{riders_tell}
 use Rattle.dta_model.proofs.Riders.{enters}
 use Rattle.dta_model.proofs.Standing.{in-queue}

@@ -1,11 +1,11 @@
 -- The gather of a step leads from the content of a cell after its transfer to that before the next one.
 use Rattle.std.specs.Prelude.{All}
-use Rattle.std.proofs.Common.{◌≡◌, ℕ, suc, ◌-◌, ◌<◌, ◌≤◌, List, [], ◌∷◌, ◌++◌, length, length-append, map, refl, ap, sym, ◌∙◌, arith, Some, add-one}
+use Rattle.std.proofs.Common.{◌≡◌, ℕ, suc, ◌<◌, ◌≤◌, List, [], ◌∷◌, ◌++◌, length, length-append, map, refl, ap, sym, ◌∙◌, arith, add-one}
 use Rattle.std.proofs.lemmas.List.{length-map}
 use Rattle.std.proofs.lemmas.List.Elements.{All-cons, All-nil}
 use Rattle.dta_model.specs.Loading.{trace_after}
 use Rattle.dta_model.specs.Plans.{ins, link_at, outs}
-use Rattle.dta_model.specs.Riders.{RiderState, rider_at, riders}
+use Rattle.dta_model.specs.Riders.{RiderState, rider_at}
 use Rattle.dta_model.specs.Sound.{IsSound}
 use Rattle.cell_stages.specs.Stages.{batch_mail, line_after, line_before, waiting_after, waiting_before}
 use Rattle.dta_model.specs.Trace.{queue_of}

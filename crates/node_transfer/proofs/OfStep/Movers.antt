@@ -1,7 +1,7 @@
 -- What one more move of a node changes of riders, lines, batches and waiting lines.
-use Rattle.std.specs.List.{list_any, range_with_len}
+use Rattle.std.specs.List.{list_any}
 use Rattle.std.specs.Prelude.{filter, find, slice_get, ◌≢◌, nat_le}
-use Rattle.std.proofs.Common.{◌≡◌, ℕ, zero, suc, ◌+◌, ◌<◌, Bool, true, false, cond, ◌&&◌, ◌||◌, not, List, [], ◌∷◌, ◌++◌, refl, ap, sym, ◌∙◌, subst, arith, append_assoc, append-nil, Some, drop, ◌⊎◌, inl, inr}
+use Rattle.std.proofs.Common.{◌≡◌, ℕ, zero, suc, Bool, true, false, cond, ◌&&◌, ◌||◌, not, List, [], ◌∷◌, ◌++◌, refl, ap, sym, ◌∙◌, subst, arith, append_assoc, append-nil, Some, drop, ◌⊎◌, inl, inr}
 use Rattle.std.proofs.lemmas.Bool.{eq-eqb, ne_eqb}
 use Rattle.std.proofs.lemmas.Bool.Decides.{eqb_tells, nat_tests}
 use Rattle.std.proofs.lemmas.List.{map-append}
@@ -15,7 +15,7 @@ use Rattle.cell_stages.specs.Stages.{staying, arriving, waiting_for, batch_by, a
 use Rattle.dta_model.specs.Trace.{Move, has_moved, is_of, leads_to, moves_of, next_target}
 use Rattle.cell_stages.specs.Transfers.{OnlyEnters}
 use Rattle.dta_model.specs.declared.plan.Plan.{Plan}
-use Rattle.dta_model.proofs.Queues.{vehicles, absent, distinct, without, without-absent}
+use Rattle.dta_model.proofs.Queues.{vehicles, distinct}
 use Rattle.dta_model.proofs.Pushes.{has_moved-append, moves_of-append}
 use Rattle.node_transfer.proofs.OfStep.ByKey.{both_true}
 use Rattle.cell_stages.proofs.Gathering.{kept_at, map_like, rider-like}

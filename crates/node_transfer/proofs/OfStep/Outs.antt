@@ -1,8 +1,6 @@
 -- Steps of a release and of an admission.
-use Rattle.std.proofs.Common.{◌≡◌, ℕ, ◌<◌, ◌≤◌, true, false, List, [], ◌∷◌, ◌++◌, length, refl, ap, sym, subst, arith, Some, None, drop}
+use Rattle.std.proofs.Common.{◌≡◌, ℕ, ◌<◌, ◌≤◌, List, [], ◌∷◌, ◌++◌, length, refl, ap, sym, subst, arith, Some, None, drop}
 use Rattle.std.specs.Prelude.{slice_get}
-use Rattle.std.specs.Prelude.{nat_le, nat_lt}
-use Rattle.std.proofs.lemmas.Bool.Decides.{nat_tests}
 pub use Rattle.net_core.proofs.Orders.{is_le, is_lt, not_le}
 use Rattle.dta_model.specs.Riders.{RiderState, moved}
 use Rattle.capacity_credits.specs.Meter.{MeterState, passed_one}

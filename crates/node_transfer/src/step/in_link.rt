@@ -13,6 +13,7 @@ use fixed_units::MOST_STEP;
 use link_queues::{Leavings, Line, MOST_RIDERS};
 
 /// Moves the heads of an in-link that may move in the step, and notes how many left it.
+#[inline(always)]
 pub fn pass_link(link: &mut InLink, outs: &mut [OutLink], arrived: &mut Line, delta: u32, step: u32)
     requires delta { delta ≤ MOST_STEP }
     requires can { CanPass link.old.line outs.old arrived.old }
@@ -89,10 +90,12 @@ pub fn gather_link(link: &mut InLink, step: u32)
         link.line.append(line);
     }
     let room = room_left(&link.line, &link.left, link.storage);
-    link.mail = Mail::Room {
+    let told = Mail::Room {
         step: step + 1,
         room,
     };
+    // The riders of the batch are in the line now, so that it has nothing to drop.
+    std::mem::forget(std::mem::replace(&mut link.mail, told));
 }
 
 /// The room that a storage leaves beside those on the link and those who left it lately; none is

@@ -77,27 +77,20 @@ pub fn judge(rider: &Rider, exit: &Exit, outs: &[OutLink], step: u32) -> HeadAct
         Some(entry) => entry as u64 + exit.free as u64,
         None => return HeadAction::Stays,
     };
-    if exit.outflow.left() > 0 {
-        match rider.next_link() {
-            None => {
-                if ready <= step as u64 {
-                    HeadAction::Arrives
-                } else {
-                    HeadAction::Stays
-                }
-            }
-            Some(link) => {
-                let place = place_to(outs, link);
-                let turn = place_of_turn(&exit.turns, link);
-                if may_enter(&exit.turns, outs, ready, step, place, turn) {
-                    HeadAction::Enters(place, turn)
-                } else {
-                    HeadAction::Stays
-                }
+    if ready > step as u64 || exit.outflow.left() == 0 {
+        return HeadAction::Stays;
+    }
+    match rider.next_link() {
+        None => HeadAction::Arrives,
+        Some(link) => {
+            let place = place_to(outs, link);
+            let turn = place_of_turn(&exit.turns, link);
+            if may_enter(&exit.turns, outs, ready, step, place, turn) {
+                HeadAction::Enters(place, turn)
+            } else {
+                HeadAction::Stays
             }
         }
-    } else {
-        HeadAction::Stays
     }
 }
 

@@ -1,4 +1,4 @@
-use Rattle.std.proofs.Common.{◌∙◌, Some, None, sym}
+use Rattle.std.proofs.Common.{◌∙◌, sym}
 use Rattle.dta_model.specs.Lent.{plan_of}
 use Rattle.dta_model.specs.Plans.{link_numbers}
 use Rattle.node_transfer.proofs.OfStart.Starts.{free_turns, no_turn_found, turn_found}
