@@ -59,13 +59,16 @@ pub(crate) fn share_count(
     Ok(groups.clamp(1, MOST_SHARES.min(workers) as u64))
 }
 
-/// How many zones each of some shares has, in whole groups. The last share may have fewer, and
-/// where there are few groups there are fewer shares.
+/// How many zones each of some shares has. Zones are dealt out evenly over as many shares as whole
+/// groups would need, so that no share has more groups, and each walks to about as many zones. The
+/// last share may have fewer zones, and where there are few groups there are fewer shares.
 pub(crate) fn share_size(zones: usize, shares: u64) -> usize
     requires zones { zones < 2 ^ 63 }
     requires shares { 1 ≤ shares }
     ensures { 0 < result }
 {
     let groups = zones.div_ceil(MOST_GROUP);
-    groups.div_ceil(shares as usize).max(1) * MOST_GROUP
+    let rounds = groups.div_ceil(shares as usize).max(1);
+    let used = groups.div_ceil(rounds).max(1);
+    zones.div_ceil(used).max(1)
 }
