@@ -10,6 +10,7 @@ ghost use Rattle.phase_claims.specs.Passes.{IsOf, unit_at};
 
 use crate::gate::Gate;
 use crate::pauses::Pauses;
+use crate::shifts::{Shift, stand_by};
 use crate::watch::Watcher;
 use desk_io::Desk;
 use dta_model::Stage;
@@ -77,17 +78,22 @@ fn work_on<R: Wait, G: Gate>(
     }
 }
 
-// Works until no unit is left.
+// Works until no unit is left, for a shift after another. Between them it stands by while the
+// others get on fast without it.
 fn work<R: Wait, G: Gate>(rt: &R, floor: &Floor, gate: &G, pass: &mut Pass, worker: u32)
     requires { IsReady floor.now 1 pass.old }
     ensures { HasEnded floor.now 1 pass.new }
 {
+    let mut shift = Shift::first();
     for _ in rt.forever() {
         wait_for_unit(rt, floor);
         let Some(unit) = floor.claim(pass) else {
             break;
         };
         work_on(rt, floor, gate, pass, worker, unit);
+        if shift.ends() {
+            shift = shift.after(stand_by(rt, floor));
+        }
     }
 }
 

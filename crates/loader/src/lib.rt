@@ -2,15 +2,17 @@
 //!
 //! [`load`] lends one floor to a crew of workers. A worker claims units until none is left, waits
 //! with each until all earlier phases are finished, and performs it. The calling thread is worker
-//! 0, and puts the watch lines. The promise is that of the plain simulator: whatever the threads
-//! do, and however many they are, the journeys are those of the definition. A [`Gate`] is passed by
-//! the workers before each unit, and takes a receipt of the floor that was finished.
+//! 0, and puts the watch lines. The others stand by while all gets on fast without them. The
+//! promise is that of the plain simulator: whatever the threads do, and however many they are, the
+//! journeys are those of the definition. A [`Gate`] is passed by the workers before each unit, and
+//! takes a receipt of the floor that was finished.
 #![tactic(auto)]
 
 mod crew;
 mod gate;
 mod loading;
 mod pauses;
+mod shifts;
 mod watch;
 
 pub use gate::{CountGate, Gate, NoGate};

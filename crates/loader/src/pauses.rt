@@ -46,7 +46,11 @@ impl Pauses {
     // Sleeps, after so many sleeps.
     fn sleep<R: Wait>(&self, rt: &R, slept: u32) {
         let wanted = slept.saturating_add(1).saturating_mul(FIRST_SLEEP);
-        let microseconds = wanted.min(self.longest);
-        Parker::new().park_timeout(rt, Duration::from_micros(u64::from(microseconds)));
+        sleep(rt, wanted.min(self.longest));
     }
+}
+
+/// Sleeps for so many microseconds, or about as many.
+pub fn sleep<R: Wait>(rt: &R, microseconds: u32) {
+    Parker::new().park_timeout(rt, Duration::from_micros(u64::from(microseconds)));
 }

@@ -4,6 +4,7 @@ ghost use Rattle.loader.specs.declared.loading.TheConstants.{MOST_WORKERS};
 
 mod late_monitor;
 
+use crate::shifts::Shift;
 use crate::{CountGate, Gate, LoadFault, NoGate, Watch, load};
 use desk_io::{MemDesk, Output};
 use std::alloc::Global;
@@ -120,4 +121,29 @@ fn a_line_that_cannot_be_put(rt: HostRuntime) -> Result<(), Fail> {
     assert!(rt; gate.closes == 1 && desk.put_faults() == 1);
     assert!(rt; desk.taken(Output::Watch) == b"1,10,0,1,0,1,0,0,0\n".as_slice());
     Ok(())
+}
+
+// How many units a shift has, or 0 where they are very many.
+fn units_in(shift: Shift) -> u32 {
+    let mut shift = shift;
+    for units in 1..100_000 {
+        if shift.ends() {
+            return units;
+        }
+    }
+    0
+}
+
+#[test]
+fn shifts_grow_while_the_others_are_slow(rt: HostRuntime) {
+    let first = Shift::first();
+    let second = first.after(false);
+    assert!(rt; units_in(first) == 256 && units_in(second) == 512);
+    assert!(rt; units_in(second.after(false)) == 1024);
+    assert!(rt; units_in(second.after(true)) == 256);
+    let mut long = first;
+    for _ in 0..20 {
+        long = long.after(false);
+    }
+    assert!(rt; units_in(long) == 32_768);
 }

@@ -143,6 +143,12 @@ impl<'a> Floor<'a> {
         self.count() <= next || self.units.phase_start(next) <= self.table.shared.peek(2)
     }
 
+    /// How many numbers have been drawn. It only looks, and other passes may draw at any time, so
+    /// nothing is promised.
+    pub fn drawn(&self) -> u64 {
+        self.table.shared.peek(1)
+    }
+
     /// Draws the next number. The pass holds the unit of that number then. Where there is none it
     /// has ended.
     pub fn claim(&self, pass: &mut Pass) -> Option<Unit>
