@@ -5,9 +5,6 @@
 # last iteration, which is the same for every number of workers, and the seconds that passed, those of all processors, and the peak
 # memory. `bench/iteration.sh SIDE ZONES VEHICLES` measures on another grid. Where more workers run than there are processors free,
 # the seconds that passed say nothing.
-#
-# All this is done twice: as the C library is, which gives the memory of each table of labels back to the system and asks for it
-# anew in the next iteration; and with the settings by which the GNU C library keeps the memory that is freed.
 # `ITERATION=PROGRAM bench/iteration.sh` measures a program that bench/build.sh made already.
 # `PEER=PROGRAM bench/iteration.sh` also runs another program of the same words, whole, by one and by four threads.
 set -e
@@ -15,20 +12,10 @@ bench=$(dirname "$(readlink -f "$0")")
 . "$bench/begin.sh"
 begin iteration "${ITERATION:-}"
 "$bench/grid.sh" "${1:-100}" "${2:-100}" "${3:-20000}"
-keep=glibc.malloc.mmap_max=0:glibc.malloc.arena_max=1:glibc.malloc.trim_threshold=100000000000:glibc.malloc.hugetlb=1
-
-# Three iterations by each number of workers.
-measure() {
-    for workers in 1 2 4; do
-        echo "$workers workers, $1:"
-        /usr/bin/time -f 'in all %e seconds, of processors %U + %S, peak %M KB' "$program" "$workers"
-    done
-}
-
-measure 'the C library as it is'
-export GLIBC_TUNABLES="$keep"
-measure 'memory that is freed is kept'
-unset GLIBC_TUNABLES
+for workers in 1 2 4; do
+    echo "$workers workers:"
+    /usr/bin/time -f 'in all %e seconds, of processors %U + %S, peak %M KB' "$program" "$workers"
+done
 
 if [ -n "${PEER:-}" ]; then
     for threads in 1 4; do

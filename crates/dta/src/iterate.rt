@@ -30,6 +30,7 @@ use route_flows::{gap_and_next_routes, route_iterations, started_routes};
 use std::alloc::Global;
 use std::sync::Wait;
 use std::thread::Threads;
+use time_routes::TablePool;
 
 /// What the last iteration of an assignment gives, the gaps of all, the iterations in which the
 /// vehicles took their routes where there is a start table, and the counts over the last one's
@@ -76,6 +77,7 @@ fn leave<R: AllocGlobal + Threads + Sync>(
     routes: &mut Routes,
     times: &LinkTimes,
     iteration: u32,
+    pool: &TablePool,
 ) -> Result<GapLine, Halt>
     requires settings { AreSettings settings.now }
     requires job { IsJob settings.now job.now }
@@ -101,6 +103,7 @@ fn leave<R: AllocGlobal + Threads + Sync>(
         old,
         iteration,
         settings.workers,
+        pool,
     )?;
     *routes = next;
     Ok(line)
@@ -114,6 +117,7 @@ fn gap_of<R: AllocGlobal + Threads + Sync>(
     job: &Job,
     routes: &Routes,
     times: &LinkTimes,
+    pool: &TablePool,
 ) -> Result<GapLine, Halt>
     requires settings { AreSettings settings.now }
     requires job { IsJob settings.now job.now }
@@ -125,7 +129,8 @@ fn gap_of<R: AllocGlobal + Threads + Sync>(
     ensures memory { IfErr result (λ why. why ≡ halt.Memory) }
 {
     let trips = job.trips.as_slice();
-    Ok(gap_by_shares(rt, &job.net, times, trips, routes, settings.workers)?)
+    let workers = settings.workers;
+    Ok(gap_by_shares(rt, &job.net, times, trips, routes, workers, pool)?)
 }
 
 // The iterations in which the vehicles took their last routes, where there is a start table.
@@ -151,6 +156,7 @@ fn advance<R: AllocGlobal + Threads + Wait + Sync, D: Desk + Send, G: Gate + Syn
     routes: &mut Routes,
     lines: &mut Vec<GapLine>,
     iteration: u32,
+    pool: &TablePool,
     gate: &mut G,
     desk: &mut D,
 ) -> Result<(), Halt>
@@ -169,7 +175,7 @@ fn advance<R: AllocGlobal + Threads + Wait + Sync, D: Desk + Send, G: Gate + Syn
         (shown gate.old) (shown gate.new) result }
 {
     let round = load_round(rt, settings, job, routes, iteration, gate, desk)?;
-    let line = leave(rt, settings, job, routes, &round.times, iteration)?;
+    let line = leave(rt, settings, job, routes, &round.times, iteration, pool)?;
     lines.push(line)?;
     Ok(())
 }
@@ -182,6 +188,7 @@ fn finish<R: AllocGlobal + Threads + Wait + Sync, D: Desk + Send, G: Gate + Sync
     job: &Job,
     routes: Routes,
     lines: Vec<GapLine>,
+    pool: &TablePool,
     gate: &mut G,
     desk: &mut D,
 ) -> Result<Assigned, Halt>
@@ -197,7 +204,7 @@ fn finish<R: AllocGlobal + Threads + Wait + Sync, D: Desk + Send, G: Gate + Sync
         (shown gate.old) (shown gate.new) result }
 {
     let round = load_round(rt, settings, job, &routes, settings.iterations, gate, desk)?;
-    let line = gap_of(rt, settings, job, &routes, &round.times)?;
+    let line = gap_of(rt, settings, job, &routes, &round.times, pool)?;
     let since = since(rt.alloc(), settings, job)?;
     let counts = counts_over(rt.alloc(), settings, job, &routes, &round.loaded)?;
     let mut lines = lines;
@@ -216,7 +223,8 @@ fn finish<R: AllocGlobal + Threads + Wait + Sync, D: Desk + Send, G: Gate + Sync
 }
 
 /// Does all iterations of an assignment: the routes of each, its loading, its link times and its
-/// gap. Where there is a watch, each puts its lines, the last one once it is loaded.
+/// gap. Where there is a watch, each puts its lines, the last one once it is loaded. The labels of
+/// an iteration are filled in the memory of those before.
 pub(crate) fn iterate<R: AllocGlobal + Threads + Wait + Sync, D: Desk + Send, G: Gate + Sync>(
     rt: &R,
     settings: &Settings,
@@ -235,6 +243,7 @@ pub(crate) fn iterate<R: AllocGlobal + Threads + Wait + Sync, D: Desk + Send, G:
 {
     let mut routes = begin(rt, settings, job)?;
     let mut lines = Vec::new(rt.alloc());
+    let pool = TablePool::new(rt.alloc());
     for iteration in 1..settings.iterations {
         advance(
             rt,
@@ -243,9 +252,10 @@ pub(crate) fn iterate<R: AllocGlobal + Threads + Wait + Sync, D: Desk + Send, G:
             &mut routes,
             &mut lines,
             iteration,
+            &pool,
             gate,
             desk,
         )?;
     }
-    finish(rt, settings, job, routes, lines, gate, desk)
+    finish(rt, settings, job, routes, lines, &pool, gate, desk)
 }

@@ -19,7 +19,7 @@ use link_times::LinkTimes;
 use net_core::{Memory, Net};
 use std::alloc::Global;
 use std::thread::Threads;
-use time_routes::{Ask, tell, tell_by_shares};
+use time_routes::{Ask, TablePool, tell, tell_by_shares};
 
 // Parts per million are of so many.
 const PER_MILLION: u128 = 1_000_000;
@@ -200,7 +200,7 @@ pub fn gap(
 }
 
 /// The same as [`gap`], by shares of the destinations side by side, at most as many as there are
-/// workers.
+/// workers. Labels are filled in the pool's memory.
 pub fn gap_by_shares<R: AllocGlobal + Threads + Sync>(
     rt: &R,
     net: &Net,
@@ -208,6 +208,7 @@ pub fn gap_by_shares<R: AllocGlobal + Threads + Sync>(
     trips: &[Trip],
     routes: &Routes,
     workers: u32,
+    pool: &TablePool,
 ) -> Result<GapLine, Memory>
     requires table { length times.now.free ≡ length net.now.links }
     requires short { IsShort times.now }
@@ -218,7 +219,7 @@ pub fn gap_by_shares<R: AllocGlobal + Threads + Sync>(
     ensures { IfOk result (IsGapLine (time_at times.now) net.now trips.now routes.now) }
 {
     let asks = asks_of(rt.alloc(), routes.as_slice())?;
-    let told = tell_by_shares(rt, net, times, trips, &asks, workers)?;
+    let told = tell_by_shares(rt, net, times, trips, &asks, workers, pool)?;
     let line = gap_line_by_shares(rt, net, times, trips, routes, &told.leasts, workers)?;
     Ok(line)
 }

@@ -19,7 +19,7 @@ use gap::{GapLine, gap_line_by_shares};
 use link_times::LinkTimes;
 use net_core::{Memory, Net};
 use std::thread::Threads;
-use time_routes::{Told, tell_by_shares};
+use time_routes::{TablePool, Told, tell_by_shares};
 
 /// The most workers.
 pub const MOST_WORKERS: u32 = 16;
@@ -49,7 +49,15 @@ pub fn first_routes<R: AllocGlobal + Threads + Sync>(
     // Free-flow steps stand still, so that a table of one step serves.
     let times = LinkTimes::free(alloc, net, 1, 1)?;
     let asks = all_walks(alloc, trips.len())?;
-    let told = tell_by_shares(rt, net, &times, trips, &asks, workers)?;
+    let told = tell_by_shares(
+        rt,
+        net,
+        &times,
+        trips,
+        &asks,
+        workers,
+        &TablePool::new(alloc),
+    )?;
     Ok(Routes::of(told.walks))
 }
 
@@ -83,7 +91,15 @@ pub fn started_routes<R: AllocGlobal + Threads + Sync>(
     let Told {
         leasts: _,
         mut walks,
-    } = tell_by_shares(rt, net, &times, trips, &asks, workers)?;
+    } = tell_by_shares(
+        rt,
+        net,
+        &times,
+        trips,
+        &asks,
+        workers,
+        &TablePool::new(alloc),
+    )?;
     fill_in(&mut walks, &mut routes);
     Ok(Routes::of(routes))
 }
@@ -116,14 +132,23 @@ pub fn next_routes<R: AllocGlobal + Threads + Sync>(
     let Told {
         leasts: _,
         mut walks,
-    } = tell_by_shares(rt, net, times, trips, &asks, workers)?;
+    } = tell_by_shares(
+        rt,
+        net,
+        times,
+        trips,
+        &asks,
+        workers,
+        &TablePool::new(alloc),
+    )?;
     let mut next = copies(alloc, old)?;
     renew_selected(&mut walks, k, &mut next);
     Ok(Routes::of(next))
 }
 
 /// The gap of iteration k and the routes of the next one, in one pass over the destinations: what
-/// `gap` and [`next_routes`] give. Routes that are kept are moved, and none is copied.
+/// `gap` and [`next_routes`] give. Routes that are kept are moved, and none is copied. Labels
+/// are filled in the pool's memory.
 pub fn gap_and_next_routes<R: AllocGlobal + Threads + Sync>(
     rt: &R,
     net: &Net,
@@ -132,6 +157,7 @@ pub fn gap_and_next_routes<R: AllocGlobal + Threads + Sync>(
     routes: Routes,
     k: u32,
     workers: u32,
+    pool: &TablePool,
 ) -> Result<(GapLine, Routes), Memory>
     requires table { length times.now.free ≡ length net.now.links }
     requires short { IsShort times.now }
@@ -148,7 +174,7 @@ pub fn gap_and_next_routes<R: AllocGlobal + Threads + Sync>(
     ensures walks { IfOk result (λ r. AreWalks net.now trips.now r.1) }
 {
     let asks = asks_of(rt.alloc(), routes.as_slice(), true, k)?;
-    let Told { leasts, mut walks } = tell_by_shares(rt, net, times, trips, &asks, workers)?;
+    let Told { leasts, mut walks } = tell_by_shares(rt, net, times, trips, &asks, workers, pool)?;
     let line = gap_line_by_shares(rt, net, times, trips, &routes, &leasts, workers)?;
     let mut next = routes.into_vec();
     renew_selected(&mut walks, k, &mut next);

@@ -20,6 +20,7 @@ use serial_loader::load_plain;
 use std::alloc::Global;
 use std::test::Fail;
 use std::thread::Threads;
+use time_routes::TablePool;
 use worked_cases::{Case, Way, Written};
 
 // The link times of the plain loading, by buckets of 50 steps.
@@ -88,7 +89,8 @@ fn shows<R: AllocGlobal + Threads + Sync>(
         },
     )?;
     let same = next_routes(rt, net, trips, &times, &first, 1, 1)?;
-    let (line, second) = gap_and_next_routes(rt, net, trips, &times, first, 1, 4)?;
+    let pool = TablePool::new(alloc);
+    let (line, second) = gap_and_next_routes(rt, net, trips, &times, first, 1, 4, &pool)?;
     let again = times_of(
         alloc,
         &Loading {

@@ -17,6 +17,7 @@ use route_flows::{first_routes, gap_and_next_routes};
 use serial_loader::load_plain;
 use std::alloc::Global;
 use std::thread::Threads;
+use time_routes::TablePool;
 
 /// The workers of an assignment: it is worked in its own thread.
 const WORKERS: u32 = 1;
@@ -93,6 +94,7 @@ fn advance<R: AllocGlobal + Threads + Sync>(
     routes: &mut Routes,
     lines: &mut Vec<GapLine>,
     iteration: u32,
+    pool: &TablePool,
 ) -> Result<(), Memory>
     requires settings { AreSettings settings.now }
     requires traffic { IsTraffic settings.now.horizon (traffic_over net.now trips.now) }
@@ -106,7 +108,7 @@ fn advance<R: AllocGlobal + Threads + Sync>(
     let round = round_of(alloc, settings, net, trips, routes)?;
     let old = std::mem::replace(routes, Routes::of(Vec::new(alloc)));
     let times = &round.times;
-    let (line, next) = gap_and_next_routes(rt, net, trips, times, old, iteration, WORKERS)?;
+    let (line, next) = gap_and_next_routes(rt, net, trips, times, old, iteration, WORKERS, pool)?;
     *routes = next;
     lines.push(line)?;
     Ok(())
@@ -120,6 +122,7 @@ fn finish<R: AllocGlobal + Threads + Sync>(
     trips: &[Trip],
     routes: Routes,
     lines: Vec<GapLine>,
+    pool: &TablePool,
 ) -> Result<Assigned, Memory>
     requires settings { AreSettings settings.now }
     requires traffic { IsTraffic settings.now.horizon (traffic_over net.now trips.now) }
@@ -128,7 +131,7 @@ fn finish<R: AllocGlobal + Threads + Sync>(
     ensures { IfOk result (IsAssigned settings.now (traffic_over net.now trips.now)) }
 {
     let Round { loaded, times, end } = round_of(rt.alloc(), settings, net, trips, &routes)?;
-    let line = gap_by_shares(rt, net, &times, trips, &routes, WORKERS)?;
+    let line = gap_by_shares(rt, net, &times, trips, &routes, WORKERS, pool)?;
     let mut lines = lines;
     lines.push(line)?;
     Ok(Assigned {
@@ -155,8 +158,18 @@ pub(crate) fn assign<R: AllocGlobal + Threads + Sync>(
 {
     let mut routes = first_routes(rt, net, trips, settings.horizon, WORKERS)?;
     let mut lines = Vec::new(rt.alloc());
+    let pool = TablePool::new(rt.alloc());
     for iteration in 1..settings.iterations {
-        advance(rt, settings, net, trips, &mut routes, &mut lines, iteration)?;
+        advance(
+            rt,
+            settings,
+            net,
+            trips,
+            &mut routes,
+            &mut lines,
+            iteration,
+            &pool,
+        )?;
     }
-    finish(rt, settings, net, trips, routes, lines)
+    finish(rt, settings, net, trips, routes, lines, &pool)
 }

@@ -1,5 +1,6 @@
 -- What labels tell: least times and chosen walks.
 pub mod Answers
+pub mod Dealt
 pub mod FirstLinks
 pub mod Follows
 pub mod GroupsTo

@@ -11,6 +11,7 @@ pub(crate) mod slot_rows;
 pub(crate) mod slots;
 pub(crate) mod spare;
 pub(crate) mod table_forms;
+pub(crate) mod table_pool;
 pub(crate) mod tails;
 pub(crate) mod ways_back;
 pub(crate) mod wide_fill;

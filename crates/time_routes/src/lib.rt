@@ -21,6 +21,7 @@ mod filling;
 mod reading;
 mod states;
 
+pub use filling::table_pool::TablePool;
 pub use reading::group_labels::{GroupLabels, MOST_GROUP};
 pub use reading::labels::Labels;
 pub use reading::shares::MOST_SHARES;

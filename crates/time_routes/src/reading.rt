@@ -1,5 +1,6 @@
 // What tables of labels tell: least times and chosen walks.
 pub(crate) mod answers;
+pub(crate) mod dealt;
 pub(crate) mod group_labels;
 pub(crate) mod labels;
 pub(crate) mod least;

@@ -116,6 +116,7 @@ pub(crate) fn table_of(
             count,
         });
     }
+    drop(spare);
     let table = wide_table(alloc, router, times, links, first)?;
     Ok(Filled { table, count })
 }

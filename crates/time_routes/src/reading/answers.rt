@@ -206,7 +206,8 @@ fn answer_group(
 }
 
 /// What is answered of the vehicles that go to some zones, a group after another. The labels of a
-/// group take the place of those before, and all walks are gathered in one list.
+/// group take the place of those before, those of the first the memory that is given and, once they
+/// are read no more, those of the last are given back. All walks are gathered in one list.
 pub(crate) fn answers_to(
     alloc: Global,
     net: &Net,
@@ -215,7 +216,8 @@ pub(crate) fn answers_to(
     asks: &[Ask],
     lists: &ByZone,
     zones: &[ZoneNo],
-) -> Result<Vec<Answer>, Memory>
+    spare: Spare,
+) -> Result<(Vec<Answer>, Spare), Memory>
     requires table { length times.now.free ≡ length net.now.links }
     requires apart { All (λ trip. trip.origin ≢ trip.destination) trips.now }
     requires asks { length asks.now ≡ length trips.now }
@@ -223,12 +225,12 @@ pub(crate) fn answers_to(
         (wanted_zone net.now trips.now asks.now) (numbers_below (length trips.now)) }
     requires numbers { length (zones_of net.now.nodes) ≤ NO_ZONE }
     requires zones { All (λ zone. zone.0 < length (zones_of net.now.nodes)) zones.now }
-    ensures { IfOk result (λ answers. AreAnswers (time_at times.now) net.now trips.now asks.now
-        (LeadsToFirst net.now trips.now asks.now zones.now (length zones.now)) answers.items) }
+    ensures { IfOk result (λ r. AreAnswers (time_at times.now) net.now trips.now asks.now
+        (LeadsToFirst net.now trips.now asks.now zones.now (length zones.now)) r.0.items) }
 {
     let mut answers = Vec::new(alloc);
     let mut links = Vec::new(alloc);
-    let mut spare = Spare::none(alloc);
+    let mut spare = spare;
     let mut first = 0;
     while first < zones.len() {
         let labels = GroupLabels::to_first(alloc, net, times, &zones[first..], spare)?;
@@ -247,5 +249,5 @@ pub(crate) fn answers_to(
         spare = labels.into_spare(alloc);
         first = next;
     }
-    Ok(answers)
+    Ok((answers, spare))
 }

@@ -1,9 +1,8 @@
-// How many shares of the zones are worked side by side, and how many zones each of them has.
-ghost use Rattle.std.specs.Prelude.{◌≡◌, ◌<◌, ◌≤◌, ◌^◌, length, IfOk};
+// How many shares of the zones are worked side by side.
+ghost use Rattle.std.specs.Prelude.{◌≡◌, ◌≤◌, length, IfOk};
 ghost use Rattle.time_routes.specs.declared.reading.shares.TheConstants.{MOST_SHARES};
 
 use crate::filling::no_walk::NARROW_FAR;
-use crate::reading::group_labels::MOST_GROUP;
 use crate::states::longest_way::{most_free, most_time, most_wait};
 use crate::states::network_router::router_of;
 use crate::states::router::Router;
@@ -57,18 +56,4 @@ pub(crate) fn share_count(
     let states = router.state_count() as u64;
     let groups = MOST_TABLES * links as u64 / tables.saturating_mul(states).max(1);
     Ok(groups.clamp(1, MOST_SHARES.min(workers) as u64))
-}
-
-/// How many zones each of some shares has. Zones are dealt out evenly over as many shares as whole
-/// groups would need, so that no share has more groups, and each walks to about as many zones. The
-/// last share may have fewer zones, and where there are few groups there are fewer shares.
-pub(crate) fn share_size(zones: usize, shares: u64) -> usize
-    requires zones { zones < 2 ^ 63 }
-    requires shares { 1 ≤ shares }
-    ensures { 0 < result }
-{
-    let groups = zones.div_ceil(MOST_GROUP);
-    let rounds = groups.div_ceil(shares as usize).max(1);
-    let used = groups.div_ceil(rounds).max(1);
-    zones.div_ceil(used).max(1)
 }

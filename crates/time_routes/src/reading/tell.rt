@@ -7,20 +7,28 @@ ghost use Rattle.dta_model.specs.LinkTimes.{time_at};
 ghost use Rattle.dta_model.specs.Sound.{AreTrips};
 ghost use Rattle.time_routes.specs.Destinations.{asks_least, asks_walk, AreTold, LeastOf};
 ghost use Rattle.time_routes.specs.Destinations.{UnaskedAreNone, WalkOf};
-ghost use Rattle.time_routes.specs.Reading.Answers.{AreAnswers, IsSearch};
+ghost use Rattle.time_routes.specs.Reading.Answers.{IsSearch};
+ghost use Rattle.time_routes.specs.Reading.Dealt.{IsOfGroup};
 ghost use Rattle.time_routes.specs.Reading.Tell.{AreAsMany, LeadsToFirst, noted, Stands, Tells};
 ghost use Rattle.time_routes.specs.Reading.Tell.{wanted, wanted_zone};
 ghost use Rattle.time_routes.specs.ToZone.{zone_numbers};
+ghost use Rattle.time_routes.specs.declared.reading.shares.TheConstants.{MOST_SHARES};
 
-use crate::reading::answers::{Answer, answers_to};
+use crate::filling::spare::Spare;
+use crate::filling::table_pool::TablePool;
+use crate::reading::answers::answers_to;
+use crate::reading::dealt::{
+    GroupAnswers, answers_of_group, answers_of_share, found_in, group_count,
+};
 use crate::reading::put_answers::put_answers;
-use crate::reading::shares::{share_count, share_size};
+use crate::reading::shares::{MOST_SHARES, share_count};
 use crate::states::by_zone::ByZone;
 use crate::states::zone_numbers::{NO_ZONE, or_none};
 use dta_model::{MOST_TRIPS, Route, Trip};
 use link_times::LinkTimes;
 use net_core::{Memory, Net, ZoneNo};
 use std::alloc::Global;
+use std::sync::atomic::AtomicUsize;
 use std::thread;
 use std::thread::Threads;
 
@@ -107,9 +115,10 @@ fn destinations(alloc: Global, lists: &ByZone, zones: u32) -> Result<Vec<ZoneNo>
     Ok(found)
 }
 
-// Tells what is asked of the vehicles that go to some zones, each share of so many zones in a
-// thread of its own where one can be made. The answers of all shares are then put in the order of
-// vehicles.
+// Tells what is asked of the vehicles that go to some zones, by so many shares, each in a thread of
+// its own where one can be made. A share takes the next group of zones as soon as it has answered
+// one, so that none waits for a slower one while there are groups. The answers are then put in the
+// order of vehicles.
 fn tell_shares<R: AllocGlobal + Threads + Sync>(
     rt: &R,
     net: &Net,
@@ -118,31 +127,41 @@ fn tell_shares<R: AllocGlobal + Threads + Sync>(
     asks: &[Ask],
     lists: &ByZone,
     zones: &[ZoneNo],
-    size: usize,
+    shares: usize,
+    pool: &TablePool,
     told: &mut Told,
 ) -> Result<(), Memory>
-    requires table { length times.now.free ≡ length net.now.links }
-    requires apart { All (λ trip. trip.origin ≢ trip.destination) trips.now }
-    requires asks { length asks.now ≡ length trips.now }
-    requires lists { Grouped lists.now (length (zones_of net.now.nodes))
-        (wanted_zone net.now trips.now asks.now) (numbers_below (length trips.now)) }
-    requires numbers { length (zones_of net.now.nodes) ≤ NO_ZONE }
+    requires search { IsSearch net.now times.now trips.now asks.now lists.now }
     requires zones { All (λ zone. zone.0 < length (zones_of net.now.nodes)) zones.now }
-    requires size { 0 < size }
+    requires shares { shares ≤ MOST_SHARES }
     requires told { AreAsMany told.old (length trips.now) }
     ensures { OnOk result (Tells (time_at times.now) net.now trips.now asks.now
         (LeadsToFirst net.now trips.now asks.now zones.now (length zones.now)) told.old told.new) }
 {
     let alloc = rt.alloc();
-    let answer = |_: usize, share: &[ZoneNo]| -> Result<Vec<Answer>, Memory>
+    let groups = group_count(zones);
+    let next = AtomicUsize::new(0);
+    let work = |share: usize| -> Result<Vec<GroupAnswers>, Memory>
         requires { IsSearch net.now times.now trips.now asks.now lists.now
-            × All (λ zone. zone.0 < length (zones_of net.now.nodes)) share.now }
-        ensures { IfOk result (λ answers. AreAnswers (time_at times.entry.now) net.entry.now
-            trips.entry.now asks.entry.now (LeadsToFirst net.entry.now trips.entry.now
-            asks.entry.now share.entry.now (length share.entry.now)) answers.items) }
-    { answers_to(alloc, net, times, trips, asks, lists, share) };
-    for answers in thread::map_chunks(rt, alloc, zones, size, &answer)? {
-        put_answers(asks, answers?, told);
+            × All (λ zone. zone.0 < length (zones_of net.now.nodes)) zones.now
+            × (share < MOST_SHARES) }
+        ensures { IfOk result (λ taken. All (IsOfGroup (time_at times.entry.now) net.entry.now
+            trips.entry.now asks.entry.now zones.entry.now) taken.items) }
+    {
+        let spare = pool.take(share);
+        let (taken, spare) = answers_of_share(
+            alloc, net, times, trips, asks, lists, zones, &next, spare,
+        )?;
+        pool.keep(share, spare);
+        Ok(taken)
+    };
+    let worked = thread::map_indices(rt, alloc, shares.min(groups), &work)?;
+    let mut found = found_in(alloc, groups, worked)?;
+    for group in 0..groups {
+        let answers = answers_of_group(
+            alloc, net, times, trips, asks, lists, zones, &mut found, group,
+        )?;
+        put_answers(asks, answers, told);
     }
     Ok(())
 }
@@ -171,7 +190,8 @@ pub fn tell(
 {
     let lists = by_destination(alloc, net, trips, asks)?;
     let zones = destinations(alloc, &lists, net.zone_count())?;
-    let answers = answers_to(alloc, net, times, trips, asks, &lists, &zones)?;
+    let spare = Spare::none(alloc);
+    let (answers, _) = answers_to(alloc, net, times, trips, asks, &lists, &zones, spare)?;
     let mut told = Told::none(alloc, trips.len())?;
     put_answers(asks, answers, &mut told);
     Ok(told)
@@ -188,6 +208,7 @@ pub fn tell_by_shares<R: AllocGlobal + Threads + Sync>(
     trips: &[Trip],
     asks: &[Ask],
     workers: u32,
+    pool: &TablePool,
 ) -> Result<Told, Memory>
     requires table { length times.now.free ≡ length net.now.links }
     requires trips { AreTrips trips.now }
@@ -205,9 +226,11 @@ pub fn tell_by_shares<R: AllocGlobal + Threads + Sync>(
     let alloc = rt.alloc();
     let lists = by_destination(alloc, net, trips, asks)?;
     let zones = destinations(alloc, &lists, net.zone_count())?;
-    let shares = share_count(alloc, net, times, workers)?;
-    let size = share_size(zones.len(), shares);
+    let shares = share_count(alloc, net, times, workers)? as usize;
+    pool.shrink(shares);
     let mut told = Told::none(alloc, trips.len())?;
-    tell_shares(rt, net, times, trips, asks, &lists, &zones, size, &mut told)?;
+    tell_shares(
+        rt, net, times, trips, asks, &lists, &zones, shares, pool, &mut told,
+    )?;
     Ok(told)
 }
