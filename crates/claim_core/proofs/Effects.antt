@@ -1,5 +1,5 @@
 -- What the three events make, by what their worker has.
-use Rattle.std.specs.Prelude.{nat_le, nat_lt, slice_get, slice_index_or, slice_set}
+use Rattle.std.specs.Prelude.{slice_get, slice_index_or, slice_set}
 use Rattle.std.proofs.Common.{◌≡◌, ℕ, suc, ◌+◌, ◌<◌, ◌≤◌, Bool, true, false, cond, List, length, refl, ap, sym, ◌∙◌, subst, arith, lt_of_not-le, Option, Some, None, inl, inr, add-one}
 use Rattle.std.proofs.lemmas.Bool.Decides.{nat_tests}
 use Rattle.std.proofs.lemmas.Option.{slice_get-get_or}

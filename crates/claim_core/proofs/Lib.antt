@@ -15,3 +15,4 @@ pub mod Ended
 pub mod Inside
 pub mod AtStart
 pub mod Places
+pub mod InPhase

@@ -6,7 +6,11 @@ use Rattle.std.proofs.lemmas.Nat.{div-add-mod', mod-mul-add}
 use Rattle.std.proofs.Math.Nat.{mod-lt, div-eq_of_lt-le}
 use mathlib.Core.Logic.{dite}
 use native.Mathlib.Decide.{dec_le}
-use Rattle.dta_model.specs.Units.{Transfer, Gather, Posting, phase_begins, phase_ends, phase_start, phase_end, task_of}
+use Rattle.dta_model.specs.Units.{Transfer, Gather, Posting, phase_begins, phase_ends, phase_start, phase_end, step_of, task_of}
+use Rattle.claim_core.specs.Phases.{IsPhase, phase_kind, phase_of}
+use Rattle.claim_core.specs.declared.phase.Phase.{Phase}
+use Rattle.claim_core.specs.declared.phase.PhaseKind.{PhaseKind}
+use Rattle.claim_core.specs.declared.phase.PhaseKind.TheVariants as does
 
 -- the same by the place in the step
 abbrev pub starts : ℕ → ℕ → ℕ → ℕ
@@ -14,6 +18,15 @@ starts n b r = cond (nat_lt r n) b (cond (nat_lt r (n + n)) (b + n) (b + (n + n)
 
 abbrev pub stops : ℕ → ℕ → ℕ → ℕ
 stops n b r = cond (nat_lt r n) (b + n) (cond (nat_lt r (n + n)) (b + (n + n)) (b + (n + n + 1)))
+
+-- what the units of its phase do
+abbrev pub kinds : ℕ → ℕ → PhaseKind
+kinds n r = cond (nat_lt r n) does.Transfers (cond (nat_lt r (n + n)) does.Gathers does.Posting)
+
+kind_by_place : (x y : ℕ) (c d : Bool) → phase_kind (cond c (Transfer x) (cond d (Gather y) Posting)) ≡ cond c does.Transfers (cond d does.Gathers does.Posting)
+kind_by_place x y true d = refl
+kind_by_place x y false true = refl
+kind_by_place x y false false = refl
 
 begins_by : (n b x y : ℕ) (c d : Bool) → b + phase_begins n (cond c (Transfer x) (cond d (Gather y) Posting)) ≡ cond c b (cond d (b + n) (b + (n + n)))
 begins_by n b x y true d = omega arith
@@ -42,6 +55,13 @@ alike k b r j hr hj lo hi = grind (arith, nat_tests)
 
 alike_stop : (k b r j : ℕ) → r < k + k + 1 → j < k + k + 1 → starts k b r ≤ b + j → b + j < stops k b r → stops k b j ≡ stops k b r
 alike_stop k b r j hr hj lo hi = grind (arith, nat_tests)
+
+alike_kind : (k b r j : ℕ) → r < k + k + 1 → j < k + k + 1 → starts k b r ≤ b + j → b + j < stops k b r → kinds k j ≡ kinds k r
+alike_kind k b r j hr hj lo hi = grind (arith, nat_tests)
+
+-- a phase by its facts
+abbrev pub made : ℕ → ℕ → ℕ → PhaseKind → Phase
+made a b c d = record { first = a; end = b; step = c; kind = d }
 
 further : (k b r j : ℕ) → r < k + k + 1 → j < k + k + 1 → stops k b r ≤ b + j → stops k b r ≤ starts k b j
 further k b r j hr hj hi = grind (arith, nat_tests)
@@ -85,6 +105,23 @@ module _ (k : ℕ) where
   same_stop c n lo hi = let q = same_step c n lo hi in let b : ℕ = c / W * W in let r : ℕ = c % W in let j : ℕ = n % W in let s : b + j ≡ n = rest_of n (c / W) q in
       let lo' : starts k b r ≤ n = omega (arith, lo, start_is c) in let hi' : n < stops k b r = omega (arith, hi, stop_is c) in
       stop_is n ∙ subst (λ (x : ℕ). stops k (x * W) j ≡ stops k b r) (sym q) (alike_stop k b r j (in_step c) (in_step n) (omega arith) (omega arith)) ∙ sym (stop_is c)
+
+  pub kind_is : (u : ℕ) → phase_kind (task_of k u) ≡ kinds k (u % W)
+  unfolding task_of
+  kind_is u = kind_by_place (u % W) (u % W - k) (nat_lt (u % W) k) (nat_lt (u % W) (k + k))
+
+  same_kind : (c n : ℕ) → phase_start k c ≤ n → n < phase_end k c → phase_kind (task_of k n) ≡ phase_kind (task_of k c)
+  same_kind c n lo hi = let q = same_step c n lo hi in let b : ℕ = c / W * W in let r : ℕ = c % W in let j : ℕ = n % W in let s : b + j ≡ n = rest_of n (c / W) q in
+      let lo' : starts k b r ≤ n = omega (arith, lo, start_is c) in let hi' : n < stops k b r = omega (arith, hi, stop_is c) in
+      kind_is n ∙ alike_kind k b r j (in_step c) (in_step n) (omega arith) (omega arith) ∙ sym (kind_is c)
+
+  -- a phase is that of each of its units
+  pub is_phase : (c : ℕ) → IsPhase k (phase_of k c)
+  is_phase c n lo hi =
+      ap (λ x. made x (phase_end k c) (step_of k c) (phase_kind (task_of k c))) (sym (same_start c n lo hi))
+      ∙ ap (λ x. made (phase_start k n) x (step_of k c) (phase_kind (task_of k c))) (sym (same_stop c n lo hi))
+      ∙ ap (λ x. made (phase_start k n) (phase_end k n) x (phase_kind (task_of k c))) (sym (same_step c n lo hi))
+      ∙ ap (λ x. made (phase_start k n) (phase_end k n) (step_of k n) x) (sym (same_kind c n lo hi))
 
   -- past a phase, the phase is at or past its stop
   next_by : (c n : ℕ) → stops k (c / W * W) (c % W) ≤ n → stops k (c / W * W) (c % W) ≤ starts k (n / W * W) (n % W)

@@ -3,5 +3,6 @@ pub mod Claimed
 pub mod Machine
 pub mod Parts
 pub mod Kinds
+pub mod Phases
 pub mod Laws
 pub mod Work

@@ -10,6 +10,7 @@
 mod claims;
 mod laws;
 mod machine;
+mod phase;
 mod units;
 mod work;
 
@@ -20,6 +21,7 @@ pub use laws::{
     units_of_a_phase_share_no_place,
 };
 pub use machine::Machine;
+pub use phase::{Phase, PhaseKind};
 pub use units::{UnitKind, Units};
 
 #[cfg(test)]

@@ -1,11 +1,13 @@
 // The units of a loading, by their numbers.
 ghost use Rattle.claim_core.specs.Kinds.{kind_by};
+ghost use Rattle.claim_core.specs.Phases.{IsPhase, phase_of};
 ghost use Rattle.dta_model.specs.Lent.{plan_of};
 ghost use Rattle.dta_model.specs.Units.{phase_start as start_of, step_of as step_at};
 ghost use Rattle.dta_model.specs.Units.{step_units, task_of};
 ghost use Rattle.dta_model.specs.declared.loading.TheConstants.{MOST_HORIZON};
 ghost use Rattle.std.specs.Prelude.{◌≡◌, ◌≤◌, ◌<◌, ◌*◌, ◌^◌, length};
 
+use crate::phase::{Phase, PhaseKind};
 use dta_model::Loading;
 use net_core::NodeNo;
 
@@ -91,6 +93,65 @@ impl Units {
             step_start + nodes
         } else {
             step_start + nodes + nodes
+        }
+    }
+
+    /// The phase of a unit.
+    pub fn phase_of(self, number: u64) -> Phase
+        requires small { self.horizon ≤ MOST_HORIZON }
+        requires number { number < self.horizon * step_units self.nodes }
+        ensures { result ≡ phase_of self.nodes number }
+    {
+        let first = self.phase_start(number);
+        let step = self.step_of(number);
+        let nodes = self.nodes as u64;
+        match self.kind_of(number) {
+            UnitKind::Transfer(_) => Phase {
+                first,
+                end: first + nodes,
+                step,
+                kind: PhaseKind::Transfers,
+            },
+            UnitKind::Gather(_) => Phase {
+                first,
+                end: first + nodes,
+                step,
+                kind: PhaseKind::Gathers,
+            },
+            UnitKind::Posting => Phase {
+                first,
+                end: first + 1,
+                step,
+                kind: PhaseKind::Posting,
+            },
+        }
+    }
+
+    /// The phase of a unit, which is the known one where that has the unit. So no division is needed
+    /// for a unit that comes after another one of its phase.
+    pub fn phase_from(self, known: Phase, number: u64) -> Phase
+        requires known { IsPhase self.nodes known }
+        requires small { self.horizon ≤ MOST_HORIZON }
+        requires number { number < self.horizon * step_units self.nodes }
+        ensures { result ≡ phase_of self.nodes number }
+    {
+        if known.first <= number && number < known.end {
+            known
+        } else {
+            self.phase_of(number)
+        }
+    }
+
+    /// What a unit of a phase does.
+    pub fn kind_in(self, phase: Phase, number: u64) -> UnitKind
+        requires { phase ≡ phase_of self.nodes number }
+        ensures { result ≡ kind_by (task_of self.nodes number) }
+    {
+        let node = NodeNo((number - phase.first) as u32);
+        match phase.kind {
+            PhaseKind::Transfers => UnitKind::Transfer(node),
+            PhaseKind::Gathers => UnitKind::Gather(node),
+            PhaseKind::Posting => UnitKind::Posting,
         }
     }
 }

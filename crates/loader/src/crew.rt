@@ -27,10 +27,10 @@ const SLEEP_WITHOUT: u32 = 2000;
 
 // Waits until the next unit could be opened at once. So a worker seldom holds a unit while it waits,
 // and the others can do without it.
-fn wait_for_unit<R: Wait>(rt: &R, floor: &Floor) {
+fn wait_for_unit<R: Wait>(rt: &R, floor: &Floor, pass: &Pass) {
     let mut pauses = Pauses::up_to(SLEEP_WITHOUT);
     for _ in rt.forever() {
-        if floor.can_open_next() {
+        if floor.can_open_next(pass) {
             break;
         }
         pauses.take(rt);
@@ -86,7 +86,7 @@ fn work<R: Wait, G: Gate>(rt: &R, floor: &Floor, gate: &G, pass: &mut Pass, work
 {
     let mut shift = Shift::first();
     for _ in rt.forever() {
-        wait_for_unit(rt, floor);
+        wait_for_unit(rt, floor, pass);
         let Some(unit) = floor.claim(pass) else {
             break;
         };
@@ -161,7 +161,7 @@ fn lead<R: Wait, G: Gate, D: Desk>(
 {
     for _ in rt.forever() {
         if 1 < workers {
-            wait_for_unit(rt, floor);
+            wait_for_unit(rt, floor, pass);
         }
         let Some(unit) = floor.claim(pass) else {
             break;

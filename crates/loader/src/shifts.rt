@@ -9,10 +9,10 @@ const SHORTEST: u32 = 256;
 const LONGEST: u32 = 32_768;
 
 // The microseconds between two looks of a worker that stands by, and the units that the others claim
-// meanwhile where they get on fast: two in a microsecond.
+// meanwhile where they get on fast: four in a microsecond.
 const BETWEEN_LOOKS: u32 = 2000;
 
-const FAST: u64 = 4000;
+const FAST: u64 = 8000;
 
 /// The units that a worker claims before it looks whether the others need it. Where units take
 /// little work, what they cost are their claims, which get dearer by each worker that claims too.

@@ -1,10 +1,9 @@
 -- What each step of a floor's table owes.
-use Rattle.std.proofs.Common.{◌≡◌, ℕ, suc, ◌+◌, ◌-◌, ◌*◌, ◌%◌, ◌^◌, ◌<◌, ◌≤◌, true, List, [], ◌∷◌, length, append-nil, set, get_or, refl, sym, ap, ◌∙◌, subst, lt_of_not-le, mul-le-mul_right, arith}
-use mathlib.Core.Option.{Option, some, none}
+use Rattle.std.proofs.Common.{◌≡◌, ℕ, suc, ◌+◌, ◌-◌, ◌*◌, ◌%◌, ◌^◌, ◌<◌, ◌≤◌, List, [], ◌∷◌, length, append-nil, set, get_or, refl, sym, ap, ◌∙◌, subst, lt_of_not-le, mul-le-mul_right, arith}
+use mathlib.Core.Option.{Option, none}
 use mathlib.Core.Logic.{dite}
 use native.Mathlib.Decide.{dec_le}
-use lib.ListN.{get_elem?}
-use Rattle.atomic_table.specs.Table.{Allows, Joins, Me, Splits, State, Valid, carried_after, homes_after, keeps, step}
+use Rattle.atomic_table.specs.Table.{Allows, Joins, Me, Splits, Valid, carried_after, homes_after, keeps, step}
 use Rattle.atomic_table.proofs.Lists.{set_again}
 use Rattle.dta_model.specs.Sound.{IsSound}
 use Rattle.dta_model.specs.Units.{node_count, phase_start, step_units, unit_count}

@@ -1,12 +1,12 @@
 -- Which slots are at home, and with what, told by the views alone. A unit holds its places while it is open; when it is done, those that it moves are at their next stage.
-use Rattle.std.proofs.Common.{◌≡◌, ◌≢◌, ℕ, zero, suc, ◌+◌, ◌*◌, ◌<◌, ◌≤◌, List, [], ◌∷◌, map, length, set, eqb, cond, refl, sym, ap, ◌∙◌, subst, lt_of_not-le, arith}
+use Rattle.std.proofs.Common.{◌≡◌, ℕ, zero, suc, ◌+◌, ◌*◌, ◌<◌, ◌≤◌, List, [], ◌∷◌, length, set, refl, sym, ap, ◌∙◌, subst, lt_of_not-le, arith}
 use Rattle.std.proofs.lemmas.Bool.Decides.{nat_tests}
 use mathlib.Core.Option.{Option, some, none}
 use mathlib.Core.Logic.{dite}
 use native.Mathlib.Decide.{dec_le}
 use lib.ListN.{get_elem?}
 use Rattle.atomic_table.specs.Table.{homes_after}
-use Rattle.claim_core.specs.Sums.{below, is_at, times, total}
+use Rattle.claim_core.specs.Sums.{is_at, times, total}
 use Rattle.claim_core.proofs.Sums.{total_set}
 use Rattle.claim_core.proofs.Cuts.{below_same}
 use Rattle.claim_core.proofs.Stages.{stage_by, stage_more}

@@ -9,7 +9,7 @@ use mathlib.Core.Option.{some, some-injective}
 use lib.ListN.{get_elem?}
 use Rattle.net_core.specs.Network.{numbers_below}
 use Rattle.dta_model.specs.Loading.{journeys_of}
-use Rattle.dta_model.specs.Plans.{all_nodes, vehicle_count}
+use Rattle.dta_model.specs.Plans.{vehicle_count}
 use Rattle.dta_model.specs.Sound.{IsSound}
 use Rattle.dta_model.specs.Units.{node_count}
 use Rattle.dta_model.specs.declared.loaded.Journey.{Journey}

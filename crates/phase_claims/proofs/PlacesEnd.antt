@@ -1,22 +1,21 @@
 -- The last state of a floor, where all passes were joined into one that holds no unit.
-use Rattle.std.proofs.Common.{◌≡◌, ◌≢◌, ℕ, zero, suc, ◌+◌, ◌-◌, ◌*◌, ◌<◌, ◌≤◌, true, false, min, List, [], ◌∷◌, length, set, refl, sym, ap, ◌∙◌, subst, arith}
+use Rattle.std.proofs.Common.{◌≡◌, ◌≢◌, ℕ, zero, suc, ◌-◌, ◌*◌, ◌<◌, ◌≤◌, true, false, min, List, length, set, refl, sym, ap, ◌∙◌, subst, arith}
 use Rattle.std.proofs.lemmas.Bool.Decides.{nat_tests}
 use mathlib.Core.Option.{some, some-injective}
 use lib.ListN.{get_elem?}
 use Rattle.atomic_table.specs.Table.{State}
 use Rattle.atomic_table.proofs.Lists.{set_else}
-use Rattle.dta_model.specs.Units.{mail_part, node_count, posting_part, step_units, unit_count}
+use Rattle.dta_model.specs.Units.{node_count, posting_part, step_units, unit_count}
 use Rattle.dta_model.specs.declared.machine.Stage.{Stage}
 use Rattle.dta_model.specs.declared.machine.Stage.TheVariants as stage
 use Rattle.dta_model.specs.declared.plan.Plan.{Plan}
 use Rattle.cell_stages.specs.Contents.{away, cell_at, cell_before}
 use Rattle.cell_stages.proofs.TwoStages.{steps_have_two_stages}
 use Rattle.claim_core.specs.Parts.{moves, stage_of}
-use Rattle.claim_core.specs.Sums.{below, is_at, once_below, total}
-use Rattle.claim_core.proofs.Claimed.{finished_le}
+use Rattle.claim_core.specs.Sums.{below, once_below, total}
 use Rattle.claim_core.proofs.Cuts.{below_same}
 use Rattle.claim_core.proofs.Parts.{at_place, of_whole_steps, step_cell, step_posting}
-use Rattle.claim_core.proofs.Sums.{full, total_at, total_only, total_set}
+use Rattle.claim_core.proofs.Sums.{total_at, total_only, total_set}
 use Rattle.phase_claims.specs.declared.part.Part.{Part}
 use Rattle.phase_claims.specs.declared.part.Part.TheVariants.{Cell, Writer}
 use Rattle.phase_claims.specs.declared.view.Scope.{Scope}
@@ -30,7 +29,7 @@ use Rattle.phase_claims.specs.PlacesEnd.{IsClosed, IsEarly}
 use Rattle.phase_claims.specs.PlacesHome.{has_slot, home_of, part_at, posted_in}
 use Rattle.phase_claims.specs.Running.{FitsPast, Holds, Running}
 use Rattle.phase_claims.specs.Views.{held_by, holds, nobody, performed_by, performed_count, performs, rights}
-use Rattle.phase_claims.proofs.Counts.{holds_none, once_here}
+use Rattle.phase_claims.proofs.Counts.{holds_none}
 use Rattle.phase_claims.proofs.PlacesUnit.{part_cell, part_writer}
 
 once_in : (x g : ℕ) → x < g → once_below x g ≡ 1

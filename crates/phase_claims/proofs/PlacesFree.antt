@@ -1,17 +1,16 @@
 -- Which slots are free for a unit: those of its places that no other open unit has.
-use Rattle.std.proofs.Common.{◌≡◌, ◌≢◌, ℕ, zero, suc, ◌+◌, ◌*◌, ◌<◌, ◌≤◌, min, List, [], ◌∷◌, length, set, refl, sym, ap, ◌∙◌, subst, lt_of_not-le, arith}
+use Rattle.std.proofs.Common.{◌≡◌, ◌≢◌, ℕ, suc, ◌<◌, ◌≤◌, min, List, [], ◌∷◌, set, refl, sym, ap, ◌∙◌, lt_of_not-le, arith}
 use Rattle.std.proofs.lemmas.Bool.Decides.{nat_tests}
 use mathlib.Core.Option.{some}
 use mathlib.Core.Logic.{dite}
 use native.Mathlib.Decide.{dec_le}
 use lib.ListN.{get_elem?}
 use Rattle.atomic_table.proofs.Lists.{set_else}
-use Rattle.dta_model.specs.Machine.{holds_unit}
 use Rattle.dta_model.specs.Units.{node_count, phase_end, phase_start, places, posting_part, unit_count}
 use Rattle.dta_model.specs.declared.machine.Stage.{Stage}
 use Rattle.dta_model.specs.declared.machine.Stage.TheVariants as stage
 use Rattle.claim_core.specs.Parts.{moves, stage_before, stage_of}
-use Rattle.claim_core.specs.Sums.{is_at, once_below, one_if, times, total}
+use Rattle.claim_core.specs.Sums.{is_at, times, total}
 use Rattle.claim_core.proofs.Phases.{same_start, same_stop}
 use Rattle.claim_core.proofs.Places.{Rises, moved_is_placed, none_lower, one_has_it, places_in_order}
 use Rattle.claim_core.proofs.Stages.{stage_held}

@@ -20,7 +20,7 @@ use Rattle.monitors.specs.Posted.{IsLater, Known}
 use Rattle.net_core.proofs.Numbers.{numbers_grow}
 use Rattle.phase_claims.specs.declared.part.Part.{Part}
 use Rattle.phase_claims.specs.declared.part.Part.TheVariants.{Cell, Out, Writer}
-use Rattle.phase_claims.specs.PlacesCounted.{cell_place, counted_in, first_on, firsts_on, posting_places, writer_place}
+use Rattle.phase_claims.specs.PlacesCounted.{cell_place, counted_in, first_on, posting_places, writer_place}
 use Rattle.phase_claims.specs.PlacesHeld.{HoldsCell, HoldsWriter}
 use Rattle.phase_claims.specs.PlacesHome.{posted_in}
 use Rattle.phase_claims.proofs.PlacesSums.{all_counted}

@@ -1,20 +1,18 @@
 -- What a pass has with it for a posting, and what it brings home.
 use Rattle.std.specs.List.{range_with_len}
-use Rattle.std.proofs.Common.{◌≡◌, ℕ, zero, suc, ◌+◌, ◌*◌, ◌/◌, ◌<◌, ◌≤◌, List, [], ◌∷◌, ◌++◌, length, map, refl, sym, ap, ◌∙◌, subst, arith}
+use Rattle.std.proofs.Common.{◌≡◌, ℕ, zero, suc, ◌+◌, ◌*◌, ◌/◌, ◌<◌, ◌≤◌, List, [], ◌∷◌, ◌++◌, map, refl, sym, ap, ◌∙◌, subst, arith}
 use Rattle.std.proofs.lemmas.Bool.Decides.{nat_tests}
-use Rattle.net_core.specs.Network.{numbers_below}
 use Rattle.dta_model.specs.Plans.{all_nodes}
 use Rattle.dta_model.specs.Sound.{IsSound}
-use Rattle.dta_model.specs.Units.{Posting, Task, node_count, phase_begins, places, places_in, posting_part, step_of, step_units, task_of, unit_count}
+use Rattle.dta_model.specs.Units.{Posting, node_count, phase_begins, places, places_in, posting_part, step_of, step_units, task_of, unit_count}
 use Rattle.dta_model.specs.declared.machine.Stage.TheVariants as stage
 use Rattle.dta_model.specs.declared.plan.Plan.{Plan}
 use Rattle.atomic_table.specs.Seated.{TableId}
-use Rattle.cell_stages.specs.Contents.{away, cell_at, cell_before}
+use Rattle.cell_stages.specs.Contents.{cell_at}
 use Rattle.cell_stages.proofs.TwoStages.{steps_have_two_stages}
 use Rattle.claim_core.specs.Kinds.{kind_by}
 use Rattle.claim_core.specs.Parts.{moves, stage_before}
 use Rattle.claim_core.specs.Sums.{below, is_at}
-use Rattle.claim_core.specs.declared.units.UnitKind.{UnitKind}
 use Rattle.claim_core.specs.declared.units.UnitKind.TheVariants as kind
 use Rattle.claim_core.proofs.Apart.{before_is}
 use Rattle.claim_core.proofs.Parts.{at_place, in_task, step_cell, step_posting}
@@ -23,7 +21,7 @@ use Rattle.claim_core.proofs.Working.{in_time, moves_by, posting_kind}
 use Rattle.phase_claims.specs.declared.part.Part.{Part}
 use Rattle.phase_claims.specs.declared.part.Part.TheVariants.{Cell, Writer}
 use Rattle.phase_claims.specs.declared.view.Scope.{Scope}
-use Rattle.phase_claims.specs.PlacesCounted.{cell_place, posting_places, writer_place}
+use Rattle.phase_claims.specs.PlacesCounted.{cell_place, posting_places}
 use Rattle.phase_claims.specs.PlacesHome.{brought, carried, part_at, parts_of, posted_in}
 use Rattle.phase_claims.proofs.PlacesUnit.{part_cell, part_writer}
 

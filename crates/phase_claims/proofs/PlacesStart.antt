@@ -2,7 +2,7 @@
 use Rattle.std.specs.List.{range_with_len}
 use Rattle.std.proofs.Common.{◌≡◌, ℕ, zero, suc, ◌+◌, ◌-◌, ◌*◌, ◌<◌, ◌≤◌, List, [], ◌∷◌, ◌++◌, length, map, refl, sym, ap, ◌∙◌, append_assoc, length-append, lt_of_not-le, arith}
 use Rattle.std.proofs.lemmas.List.{length-map}
-use mathlib.Core.Option.{Option, some, none}
+use mathlib.Core.Option.{some}
 use mathlib.Core.Logic.{dite}
 use native.Mathlib.Decide.{dec_le}
 use lib.ListN.{get_elem?}
@@ -18,13 +18,11 @@ use Rattle.cell_stages.specs.declared.mail.Mail as mail
 use Rattle.cell_stages.proofs.TwoStages.{steps_have_two_stages}
 use Rattle.monitors.specs.Posted.{Known}
 use Rattle.claim_core.specs.Parts.{moves, stage_of}
-use Rattle.claim_core.specs.Sums.{total}
 use Rattle.claim_core.proofs.Cuts.{below_none}
 use Rattle.phase_claims.specs.declared.part.Part.{Part}
 use Rattle.phase_claims.specs.declared.part.Part.TheVariants.{Cell, Mail, Writer}
 use Rattle.phase_claims.specs.declared.view.Scope.{Scope}
-use Rattle.phase_claims.specs.declared.view.View.{View}
-use Rattle.phase_claims.specs.PlacesHome.{AreHome, has_slot, home_of, part_at}
+use Rattle.phase_claims.specs.PlacesHome.{AreHome, part_at}
 use Rattle.phase_claims.specs.Views.{beginning, performed_by}
 use Rattle.phase_claims.proofs.PlacesUnit.{part_cell, part_mail, part_writer}
 

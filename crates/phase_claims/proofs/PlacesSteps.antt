@@ -1,16 +1,14 @@
 -- What each step does to the slots.
-use Rattle.std.proofs.Common.{◌≡◌, ◌≢◌, ℕ, zero, suc, ◌+◌, ◌*◌, ◌<◌, ◌≤◌, min, true, List, [], ◌∷◌, ◌++◌, length, set, refl, sym, ap, ◌∙◌, subst, append-nil, arith}
-use mathlib.Core.Option.{Option, some, none}
-use mathlib.Core.Logic.{dite}
-use native.Mathlib.Decide.{dec_le}
+use Rattle.std.proofs.Common.{◌≡◌, ℕ, suc, ◌+◌, ◌*◌, ◌<◌, ◌≤◌, min, List, [], ◌∷◌, ◌++◌, length, set, refl, sym, ap, ◌∙◌, subst, arith}
+use mathlib.Core.Option.{Option, some}
 use lib.ListN.{get_elem?}
-use Rattle.atomic_table.specs.Table.{Valid, carried_after, homes_after}
+use Rattle.atomic_table.specs.Table.{Valid, homes_after}
 use Rattle.dta_model.specs.Units.{node_count, phase_end, phase_start, places, posting_part, unit_count}
 use Rattle.dta_model.specs.declared.machine.Stage.{Stage}
 use Rattle.dta_model.specs.declared.machine.Stage.TheVariants as stage
 use Rattle.claim_core.specs.Parts.{moves, stage_before, stage_of}
-use Rattle.claim_core.specs.Sums.{below, is_at, times, total}
-use Rattle.claim_core.proofs.Claimed.{finished_le, open_now}
+use Rattle.claim_core.specs.Sums.{is_at, times, total}
+use Rattle.claim_core.proofs.Claimed.{open_now}
 use Rattle.claim_core.proofs.Cuts.{below_same}
 use Rattle.claim_core.proofs.Places.{moved_is_placed}
 use Rattle.claim_core.proofs.Sums.{at_self, total-append, total_at, total_set, total_snoc}
@@ -24,7 +22,7 @@ use Rattle.phase_claims.specs.Views.{beginning, both_stages, held_by, holds, joi
 use Rattle.phase_claims.proofs.Counts.{holds_held, holds_open, none_both, once_in}
 use Rattle.phase_claims.proofs.Homes.{all_home, apart_of, finishes_homes, opens_homes}
 use Rattle.phase_claims.proofs.PlacesFree.{one_place, only_own, places_once, stage_is}
-use Rattle.phase_claims.proofs.Turning.{gives_all, in_order, takes_all, valid_takes}
+use Rattle.phase_claims.proofs.Turning.{gives_all, takes_all, valid_takes}
 
 -- slots that are at the same stages
 parts_same : {S : Type 0} (part : ℕ → ℕ → S) (ks : List ℕ) (m m' : ℕ → ℕ) → ((slot : ℕ) → 1 ≤ times slot ks → m slot ≡ m' slot) → parts_of part ks m ≡ parts_of part ks m'

@@ -1,16 +1,14 @@
 -- The state of a loading, counted node by node.
-use Rattle.std.specs.Prelude.{count_by, min, nat_eq, nat_lt, slice_get, slice_set}
+use Rattle.std.specs.Prelude.{min, nat_eq, nat_lt, slice_get, slice_set}
 use Rattle.std.specs.List.{range_with_len, sum_by}
-use Rattle.std.proofs.Common.{◌≡◌, ◌≢◌, ℕ, zero, suc, ◌+◌, ◌-◌, ◌*◌, ◌<◌, ◌≤◌, ◌^◌, Bool, true, false, ◌&&◌, ◌||◌, cond, List, [], ◌∷◌, ◌++◌, length, map, take, get_or, refl, sym, ap, ◌∙◌, subst, add-one, lt_of_not-le, arith, Some}
+use Rattle.std.proofs.Common.{◌≡◌, ℕ, zero, suc, ◌+◌, ◌<◌, ◌≤◌, ◌^◌, Bool, true, false, ◌&&◌, ◌||◌, cond, List, [], ◌∷◌, ◌++◌, length, take, get_or, refl, sym, ap, ◌∙◌, add-one, lt_of_not-le, arith, Some}
 use Rattle.std.proofs.lemmas.Bool.Decides.{nat_tests}
 use Rattle.std.proofs.lemmas.List.Sums.{count_by-le-length, sum_by-append}
-use Rattle.std.proofs.lemmas.Option.{slice_get_within}
 use mathlib.Core.Logic.{dite}
 use native.Mathlib.Decide.{dec_le}
-use Rattle.net_core.specs.Network.{as_links, numbers_below}
-use Rattle.net_core.specs.declared.rows.LinkNo.{LinkNo}
+use Rattle.net_core.specs.Network.{numbers_below}
 use Rattle.dta_model.specs.Loading.{trace_after}
-use Rattle.dta_model.specs.Plans.{all_nodes, ins, link_at, vehicles_of}
+use Rattle.dta_model.specs.Plans.{ins, link_at, vehicles_of}
 use Rattle.dta_model.specs.Sound.{IsSound}
 use Rattle.dta_model.specs.State.{arrived_in, count_on, eight_after, eight_in, has_arrived, is_due, running_in, runs, waiting_in, waits}
 use Rattle.dta_model.specs.Units.{node_count}
@@ -21,10 +19,7 @@ use Rattle.node_transfer.specs.Counts.{counts_at}
 use Rattle.node_transfer.specs.Exchange.{is_among}
 use Rattle.node_transfer.proofs.OfCounts.AddUp.{counts_add_up}
 use Rattle.node_transfer.proofs.OfMail.Finished.{to-below}
-use Rattle.node_transfer.proofs.OfMail.Lending.{link_of}
-use Rattle.node_transfer.proofs.OfMail.ListPlaces.{link-here}
 use Rattle.node_transfer.proofs.OfMail.Parts.{ins-among, ins-member}
-use Rattle.claim_core.specs.Sums.{below}
 use Rattle.net_core.proofs.Numbers.{numbers_grow}
 use Rattle.claim_core.proofs.Places.{Rises, ins_rise}
 use Rattle.phase_claims.specs.PlacesCounted.{counted_in, first_on, firsts_on}

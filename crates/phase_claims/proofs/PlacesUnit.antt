@@ -1,10 +1,10 @@
 -- What a pass has with it for a transfer and for a gather, and what it brings home.
 use Rattle.std.specs.Prelude.{nat_lt}
-use Rattle.std.proofs.Common.{◌≡◌, ℕ, zero, suc, ◌+◌, ◌-◌, ◌*◌, ◌<◌, ◌≤◌, Bool, true, false, cond, List, [], ◌∷◌, length, map, refl, sym, ap, ◌∙◌, subst, lt_of_not-le, arith}
+use Rattle.std.proofs.Common.{◌≡◌, ℕ, suc, ◌+◌, ◌-◌, ◌*◌, ◌<◌, ◌≤◌, Bool, true, false, cond, List, [], ◌∷◌, length, map, refl, sym, ap, ◌∙◌, subst, lt_of_not-le, arith}
 use Rattle.std.proofs.lemmas.Bool.Decides.{nat_tests}
 use mathlib.Core.Logic.{dite}
 use native.Mathlib.Decide.{dec_le}
-use Rattle.dta_model.specs.Plans.{ins, link_at, outs}
+use Rattle.dta_model.specs.Plans.{ins, outs}
 use Rattle.dta_model.specs.Sound.{IsSound}
 use Rattle.dta_model.specs.Units.{Gather, Task, Transfer, mail_part, node_count, places, places_in, posting_part, step_of, task_of, unit_count}
 use Rattle.dta_model.specs.declared.machine.Stage.TheVariants as stage
@@ -18,8 +18,8 @@ use Rattle.claim_core.specs.Kinds.{kind_by}
 use Rattle.claim_core.specs.declared.units.UnitKind.{UnitKind}
 use Rattle.claim_core.specs.declared.units.UnitKind.TheVariants as kind
 use Rattle.claim_core.specs.Parts.{moves, stage_before}
-use Rattle.claim_core.specs.Sums.{is_at, one_if, times}
-use Rattle.claim_core.proofs.Parts.{cell_of, ins_past, mail_of, outs_past}
+use Rattle.claim_core.specs.Sums.{one_if, times}
+use Rattle.claim_core.proofs.Parts.{ins_past, mail_of, outs_past}
 use Rattle.claim_core.proofs.Sums.{at_self}
 use Rattle.claim_core.proofs.Working.{IsOfNode, gather_kind, gather_of, gather_step, moves_by, transfer_kind, transfer_of, transfer_step}
 use Rattle.phase_claims.specs.declared.part.Part.{Part}

@@ -7,6 +7,8 @@ use Rattle.dta_model.specs.declared.machine.Stage.{Stage}
 use Rattle.dta_model.specs.declared.machine.Stage.TheVariants as stage
 use Rattle.dta_model.specs.declared.plan.Plan.{Plan}
 use Rattle.claim_core.specs.Kinds.{kind_by}
+use Rattle.claim_core.specs.Phases.{IsPhase}
+use Rattle.claim_core.specs.declared.phase.Phase.{Phase}
 use Rattle.claim_core.specs.declared.units.UnitKind.{UnitKind}
 use Rattle.phase_claims.specs.declared.part.Part.{Part}
 use Rattle.phase_claims.specs.declared.unit.Open.{Open}
@@ -99,10 +101,11 @@ IsInside p (stage.Open c) = c < unit_count p
 IsInside p stage.Ended = Unit {0}
 
 -- what a pass keeps: it has the places of the unit that it has open, and no others; its fields say
--- what it knows
-pub record IsPass (me : Me Part View) (left : ℕ) (has : Stage) : Type 0 where
+-- what it knows, and which units are in the phase that it saw last
+pub record IsPass (me : Me Part View) (left : ℕ) (has : Stage) (last : Phase) : Type 0 where
   pub slots : me.1 ≡ carried me.0.scope me.0.stage
   pub inside : IsInside me.0.scope.plan me.0.stage
   pub weight : 1 ≤ me.0.weight
   pub spare : left ≡ me.0.spare
   pub stage : has ≡ me.0.stage
+  pub phase : IsPhase (node_count me.0.scope.plan) last

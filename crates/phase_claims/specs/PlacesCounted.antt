@@ -1,5 +1,5 @@
 -- The state of a loading, counted node by node.
-use Rattle.std.specs.Prelude.{ℕ, suc, ◌&&◌, cond, nat_lt, List, [], ◌∷◌, ◌++◌, length, map}
+use Rattle.std.specs.Prelude.{ℕ, ◌&&◌, cond, nat_lt, List, [], ◌∷◌, ◌++◌, length, map}
 use Rattle.std.specs.List.{sum_by}
 use Rattle.atomic_table.specs.Seated.{TableId}
 use Rattle.net_core.specs.Network.{numbers_below}

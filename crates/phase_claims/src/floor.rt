@@ -1,8 +1,9 @@
 // The floor and its calls.
 ghost use Rattle.std.specs.Prelude.{◌≡◌, ◌≢◌, ◌<◌, ◌≤◌, ◌-◌, [], IfErr, IfOk, IsOk};
+ghost use Rattle.claim_core.specs.Phases.{IsPhase, phase_of};
 ghost use Rattle.dta_model.specs.Lent.{plan_of};
 ghost use Rattle.dta_model.specs.Sound.{IsSound};
-ghost use Rattle.dta_model.specs.Units.{unit_count};
+ghost use Rattle.dta_model.specs.Units.{node_count, unit_count};
 ghost use Rattle.phase_claims.specs.Passes.{Claims, HoldsNoUnit, IsHeld, IsOf, IsOpen, Opens};
 ghost use Rattle.phase_claims.specs.Passes.{kind_at, kind_in, unit_at};
 ghost use Rattle.phase_claims.specs.PlacesEnd.{IsClosed, IsEarly};
@@ -11,7 +12,7 @@ ghost use Rattle.phase_claims.specs.PlacesHome.{brought, carried};
 ghost use Rattle.phase_claims.specs.Views.{beginning, done_with, joined, less_spare, rights};
 ghost use Rattle.phase_claims.specs.Views.{unit_in};
 
-use crate::pass::Pass;
+use crate::pass::{Last, Pass};
 use crate::receipt::{Early, Receipt};
 use crate::rule::{Bound, Cut, Draw, Finish, Glue, Key, Look, PassSeat, Words};
 use crate::start::parts_at_start;
@@ -20,7 +21,7 @@ use crate::work_close::{drop_parts, take_parts};
 use crate::work_posting::post_held;
 use crate::work_unit::{gather_held, transfer_held};
 use atomic_table::Table;
-use claim_core::{UnitKind, Units};
+use claim_core::{Phase, UnitKind, Units};
 use dta_model::{Loaded, Loading, Stage};
 use monitors::{Board, WriterPass};
 use net_core::Memory;
@@ -31,6 +32,10 @@ use std::sync::Wait;
 
 /// The most passes that a floor can have.
 pub const MOST_PASSES: u32 = 64;
+
+// More units of a phase than all passes draw while one of them performs a unit, unless that waits
+// for a processor.
+const MANY_UNITS: u64 = 64;
 
 /// The units of a loading, with the words that count how many are claimed and finished. To a
 /// contract it is its table, and what it is for.
@@ -111,6 +116,7 @@ impl<'a> Floor<'a> {
             seat,
             spare: passes - 1,
             stage: Stage::Idle,
+            last: Last::none(),
         };
         Ok((floor, pass))
     }
@@ -123,22 +129,36 @@ impl<'a> Floor<'a> {
         self.units.count()
     }
 
-    // The unit of a number.
+    // The phase of a number, which in most cases is that of a pass's last one.
     #[tactic(auto, unfolding(dta_model::specs::Units::unit_count))]
-    fn unit(&self, number: u64) -> Unit
-        requires { number < unit_count self.now.scope.plan }
+    fn phase(&self, last: Phase, number: u64) -> Phase
+        requires last { IsPhase (node_count self.now.scope.plan) last }
+        requires number { number < unit_count self.now.scope.plan }
+        ensures { result ≡ phase_of (node_count self.now.scope.plan) number }
+    {
+        self.units.phase_from(last, number)
+    }
+
+    // The unit of a number, in its phase.
+    fn unit(&self, phase: Phase, number: u64) -> Unit
+        requires { phase ≡ phase_of (node_count self.now.scope.plan) number }
         ensures { result ≡ unit_at self.now.scope.plan number }
     {
         Unit {
             number,
-            step: self.units.step_of(number),
-            kind: self.units.kind_of(number),
+            step: phase.step,
+            kind: self.units.kind_in(phase, number),
         }
     }
 
     /// Whether the unit of the next number could be opened at once, or there is none. It only looks,
-    /// and other passes may change that at any time, so nothing is promised.
-    pub fn can_open_next(&self) -> bool {
+    /// and other passes may change that at any time, so nothing is promised. Where many units of its
+    /// phase were left when the pass drew its last one it needn't even look: to look at a word that
+    /// others change takes as long as to change it.
+    pub fn can_open_next(&self, pass: &Pass) -> bool {
+        if pass.last.left > MANY_UNITS {
+            return true;
+        }
         let next = self.table.shared.peek(1);
         self.count() <= next || self.units.phase_start(next) <= self.table.shared.peek(2)
     }
@@ -159,8 +179,11 @@ impl<'a> Floor<'a> {
     {
         let number = self.table.shared.fetch_add::<Draw>(&mut pass.seat, 1, 1);
         if number < self.count() {
+            let phase = self.phase(pass.last.phase, number);
+            let left = phase.end.saturating_sub(number);
             pass.stage = Stage::Held(number);
-            Some(self.unit(number))
+            pass.last = Last { phase, left };
+            Some(self.unit(phase, number))
         } else {
             pass.stage = Stage::Ended;
             None
@@ -178,7 +201,7 @@ impl<'a> Floor<'a> {
         let Stage::Held(number) = pass.stage else {
             unreachable!()
         };
-        let first = self.units.phase_start(number);
+        let first = self.phase(pass.last.phase, number).first;
         let finished = self.table.shared.load::<Look>(&mut pass.seat, 2);
         if first <= finished {
             pass.stage = Stage::Open(number);
@@ -190,21 +213,21 @@ impl<'a> Floor<'a> {
 
     // Does the work of a transfer or a gather, on the places that a seat has for it.
     #[tactic(auto, unfolding(dta_model::specs::Units::unit_count))]
-    fn do_work(&self, seat: &mut PassSeat, number: u64)
+    fn do_work(&self, seat: &mut PassSeat, phase: Phase, number: u64)
         requires table { seat.old.table_id ≡ self.now.table }
         requires number { number < unit_count self.now.scope.plan }
+        requires phase { phase ≡ phase_of (node_count self.now.scope.plan) number }
         requires kind { kind_at self.now.scope.plan number ≢ UnitKind.Posting }
         requires held { seat.old.me.1 ≡ carried self.now.scope (Stage.Open number) }
         ensures seat { IsSameSeat seat.old seat.new }
         ensures done { seat.new.me.1 ≡ brought self.now.scope number }
     {
         let shared = &self.table.shared;
-        let step = self.units.step_of(number);
-        match self.units.kind_of(number) {
+        match self.units.kind_in(phase, number) {
             UnitKind::Transfer(node) => {
-                transfer_held(self.alloc, shared, seat, &self.loading, node, step)
+                transfer_held(self.alloc, shared, seat, &self.loading, node, phase.step)
             }
-            UnitKind::Gather(node) => gather_held(shared, seat, &self.loading, node, step),
+            UnitKind::Gather(node) => gather_held(shared, seat, &self.loading, node, phase.step),
             UnitKind::Posting => unreachable!(),
         }
     }
@@ -255,7 +278,8 @@ impl<'a> Floor<'a> {
         let Stage::Open(number) = pass.stage else {
             unreachable!()
         };
-        self.do_work(&mut pass.seat, number);
+        let phase = self.phase(pass.last.phase, number);
+        self.do_work(&mut pass.seat, phase, number);
         self.finish(&mut pass.seat);
         pass.stage = Stage::Idle;
     }
@@ -291,17 +315,20 @@ impl<'a> Floor<'a> {
             mut seat,
             spare,
             stage,
+            last,
         } = pass;
         let other = self.table.shared.split_seat::<Cut>(&mut seat);
         let first = Pass {
             seat,
             spare: spare - 1,
             stage,
+            last,
         };
         let second = Pass {
             seat: other,
             spare: 0,
             stage: Stage::Idle,
+            last: Last::none(),
         };
         (first, second)
     }
@@ -319,11 +346,13 @@ impl<'a> Floor<'a> {
             mut seat,
             spare,
             stage,
+            last,
         } = a;
         let Pass {
             seat: other,
             spare: more,
             stage: second,
+            last: _,
         } = b;
         self.table.shared.join_seat::<Glue>(&mut seat, other);
         self.table.shared.load::<Bound>(&mut seat, 0);
@@ -335,6 +364,7 @@ impl<'a> Floor<'a> {
             seat,
             spare: spare + more,
             stage,
+            last,
         }
     }
 
@@ -362,6 +392,7 @@ impl<'a> Floor<'a> {
             seat,
             spare,
             stage: _,
+            last: _,
         } = pass;
         let closed = table.close_with(seat);
         let finished = closed.word(2);

@@ -1,7 +1,9 @@
 // The passes of a floor.
-ghost use Rattle.std.specs.Prelude.{◌≡◌};
+ghost use Rattle.claim_core.specs.Phases.{IsPhase};
+ghost use Rattle.std.specs.Prelude.{◌≡◌, ℕ};
 
 use crate::rule::PassSeat;
+use claim_core::Phase;
 use dta_model::Stage;
 use std::marker::Model;
 
@@ -12,6 +14,26 @@ pub struct Pass {
     pub(crate) seat: PassSeat,
     pub(crate) spare: u32,
     pub(crate) stage: Stage,
+    pub(crate) last: Last,
+}
+
+// The phase of the last unit that a pass drew, and how many units that phase had from it on.
+#[derive(Clone, Copy, Drop)]
+pub struct Last {
+    pub phase: Phase,
+    pub left: u64,
+}
+
+impl Last {
+    // Of a pass that has drawn none yet.
+    pub(crate) fn none() -> Self
+        ensures { (nodes : ℕ) → IsPhase nodes result.phase }
+    {
+        Last {
+            phase: Phase::empty(),
+            left: 0,
+        }
+    }
 }
 
 impl Model for Pass {
@@ -21,7 +43,7 @@ impl Model for Pass {
 
     ghost view = { λ p. record { table = p.seat.table_id; view = p.seat.me.0 } };
 
-    ghost invariant = { λ p. IsPass p.seat.me p.spare p.stage };
+    ghost invariant = { λ p. IsPass p.seat.me p.spare p.stage p.last.phase };
 }
 
 impl Pass {

@@ -49,6 +49,7 @@ pub(crate) fn give_mail<V, K, P: TableRule<Part, V, K>>(
 
 /// Brings mail into the first place that the seat holds in place of the mail there, which is
 /// dropped, and turns to the next one.
+#[inline(always)]
 pub(crate) fn swap_mail<V, K, P: TableRule<Part, V, K>>(
     shared: &Shared<Part, V, K, P>,
     seat: &mut Seat<Part, V>,
@@ -60,9 +61,10 @@ pub(crate) fn swap_mail<V, K, P: TableRule<Part, V, K>>(
     ensures seat { IsSameSeat seat.old seat.new }
     ensures held { seat.new.me.1 ≡ turned ((slot, Part.Mail mail) ∷ rest seat.old.me.1) }
 {
-    let Part::Mail(_) = shared.exchange(seat, slot, Part::Mail(mail)) else {
+    let Part::Mail(there) = seat.slot_mut(shared, slot) else {
         unreachable!()
     };
+    *there = mail;
     seat.turn();
 }
 
@@ -80,13 +82,10 @@ pub(crate) fn is_without_anybody<V, K, P: TableRule<Part, V, K>>(
         → result ≡ true → mail_line mail ≡ [] }
     ensures held { seat.new.me.1 ≡ turned seat.old.me.1 }
 {
-    let Part::Mail(mail) = shared.exchange(seat, slot, Part::Out) else {
+    let Part::Mail(mail) = seat.slot_mut(shared, slot) else {
         unreachable!()
     };
-    let nobody = has_nobody(&mail);
-    let Part::Out = shared.exchange(seat, slot, Part::Mail(mail)) else {
-        unreachable!()
-    };
+    let nobody = has_nobody(mail);
     seat.turn();
     nobody
 }

@@ -1,6 +1,5 @@
-use Rattle.std.proofs.Common.{◌≡◌, ◌<◌, refl, sym, ap, ◌∙◌, subst, arith}
+use Rattle.std.proofs.Common.{◌<◌, refl, sym, ◌∙◌, subst, arith}
 use Rattle.std.specs.Mem.Slots.{slots_filled, slots_items, slots_len}
-use lib.ListN.{get_elem?}
 use Rattle.dta_model.specs.Lent.{plan_of}
 use Rattle.dta_model.specs.Units.{node_count}
 use Rattle.phase_claims.specs.PlacesClosed.{AreLast}
