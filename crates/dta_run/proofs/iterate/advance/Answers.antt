@@ -1,0 +1,60 @@
+use Rattle.std.proofs.Common.{arith, refl}
+use Rattle.std.proofs.lemmas.Result.{err_from_is_err_and}
+use Rattle.dta_run.specs.declared.halt.Halt.TheVariants as halt
+use Rattle.dta_run.proofs.IterateFacts.{ahead, halts-after, halts-in, not-watch}
+use Rattle.dta_run.proofs.iterate.advance.Goals as goal
+
+pub returns-in_err-round-clause-watches : goal.returns-in_err-round-clause-watches
+returns-in_err-round-clause-watches g c =
+    let p = err_from_is_err_and c.from_residual.result c.from_residual.ensures.1 in
+    let w = c.in_err-round.ensures.watches in
+    rw (p.1, p.2) (record {
+      done = tt;
+      halts = λ start before. halts-in c.args.settings.now c.args.job.now c.in_err-round.field-0.0 c.args.iteration c.args.routes.now c.args.lines.now.items start
+          (g.D.Desk.taken c.args.desk.now) (g.D.Desk.taken c.load_round.new.desk) before (omega arith) w.halts;
+      failed = w.failed;
+      later = w.later;
+      left = w.left;
+      reads = w.reads;
+    })
+
+pub returns-in_err-line-clause-watches : goal.returns-in_err-line-clause-watches
+returns-in_err-line-clause-watches g c =
+    let p = err_from_is_err_and c.from_residual-in_err-line.result c.from_residual-in_err-line.ensures.1 in
+    let w = c.in_ok-round.ensures.watches in
+    rw (p.1, p.2) (record {
+      done = tt;
+      halts = λ start before. halts-after c.args.settings.now c.args.job.now c.in_err-line.field-0.0 c.args.iteration c.args.routes.now c.args.lines.now.items start
+          (g.D.Desk.taken c.args.desk.now) (g.D.Desk.taken c.load_round.new.desk) before (omega arith) w.done c.in_err-line.ensures.memory;
+      failed = not-watch c.in_err-line.field-0.0 _ c.in_err-line.ensures.memory;
+      later = w.later;
+      left = w.left;
+      reads = w.reads;
+    })
+
+pub returns-in_err-push-clause-watches : goal.returns-in_err-push-clause-watches
+returns-in_err-push-clause-watches g c =
+    let p = err_from_is_err_and c.from_residual-in_err-push.result c.from_residual-in_err-push.ensures.1 in
+    let w = c.in_ok-round.ensures.watches in
+    rw (p.1, p.2) (record {
+      done = tt;
+      halts = λ start before. halts-after c.args.settings.now c.args.job.now halt.Memory c.args.iteration c.args.routes.now c.args.lines.now.items start
+          (g.D.Desk.taken c.args.desk.now) (g.D.Desk.taken c.load_round.new.desk) before (omega arith) w.done refl;
+      failed = not-watch halt.Memory _ refl;
+      later = w.later;
+      left = w.left;
+      reads = w.reads;
+    })
+
+pub returns-clause-watches : goal.returns-clause-watches
+returns-clause-watches g c =
+    let w = c.in_ok-round.ensures.watches in
+    record {
+      done = λ start before. ahead c.args.settings.now c.args.job.now c.args.iteration c.args.routes.now c.leave.new.routes c.args.lines.now.items _ c.in_ok-line.line start
+          (g.D.Desk.taken c.args.desk.now) (g.D.Desk.taken c.load_round.new.desk) before w.done c.in_ok-push.ensures.items c.in_ok-line.ensures.gap c.in_ok-line.ensures.next;
+      halts = tt;
+      failed = tt;
+      later = w.later;
+      left = w.left;
+      reads = w.reads;
+    }

@@ -1,0 +1,65 @@
+use Rattle.std.proofs.Common.{◌≡◌, ℕ, List, ap, arith, refl, subst, sym, ◌∙◌}
+use Rattle.std.specs.Prelude.{Err}
+use Rattle.sweep.specs.Scales.{AreAllWithin}
+use Rattle.sweep.specs.declared.fault.SweepFault.TheVariants as sweep
+use Rattle.dta_model.specs.declared.trip.DemandCell.{DemandCell}
+use Rattle.sweep.specs.Scenarios.{AreScenarios}
+use Rattle.dta_run.specs.Jobs.{JobRows}
+use Rattle.dta_run.specs.declared.status.Status.TheVariants as status
+use Rattle.dta_run.proofs.RunFacts.{none-too-many, nothing-put, sweep-cut, sweep-done}
+use Rattle.dta_run.proofs.swept.put_scenarios.Goals as goal
+
+pub returns-in-Ok-put_sweep : goal.returns-in-Ok-put_sweep
+returns-in-Ok-put_sweep g c =
+    let o = c.in-Ok-put_sweep.ensures in
+    let s = c.args.settings.now in
+    let scenarios = subst (λ (j : JobRows). AreScenarios s j.net j.demand_cells s.scales c.in-Ok.sweep) c.job.view_is
+    (subst (λ (xs : List ℕ). AreScenarios s c.job.inside.net c.job.inside.demand_cells.items xs c.in-Ok.sweep) c.as_slice-scales.ensures
+    (subst (λ (cells : List DemandCell). AreScenarios s c.job.inside.net cells c.as_slice-scales.result.now c.in-Ok.sweep) c.deref.ensures.value
+    c.in-Ok.ensures.scenarios)) in
+    record {
+      work = sweep-done s c.args.job.now c.requires.command c.in-Ok.sweep scenarios (g.D.Desk.taken c.args.desk.now) (g.D.Desk.taken c.put_sweep.new.desk) o.whole;
+      failed = λ (k : status.Done ≡ status.WriteFault). absurd cc;
+      differs = λ (k : status.Done ≡ status.Differs). absurd cc;
+      later = o.cause.later;
+      left = o.left;
+      reads = o.reads;
+    }
+
+pub returns-in-Ok : goal.returns-in-Ok
+returns-in-Ok g c =
+    let o = c.in-Err.ensures in
+    let s = c.args.settings.now in
+    let scenarios = subst (λ (j : JobRows). AreScenarios s j.net j.demand_cells s.scales c.in-Ok.sweep) c.job.view_is
+    (subst (λ (xs : List ℕ). AreScenarios s c.job.inside.net c.job.inside.demand_cells.items xs c.in-Ok.sweep) c.as_slice-scales.ensures
+    (subst (λ (cells : List DemandCell). AreScenarios s c.job.inside.net cells c.as_slice-scales.result.now c.in-Ok.sweep) c.deref.ensures.value
+    c.in-Ok.ensures.scenarios)) in
+    record {
+      work = sweep-cut s c.args.job.now c.requires.command c.in-Ok.sweep scenarios (g.D.Desk.taken c.args.desk.now) (g.D.Desk.taken c.put_sweep.new.desk) o.refused;
+      failed = λ _. o.cause.failed;
+      differs = λ (k : status.WriteFault ≡ status.Differs). absurd cc;
+      later = o.cause.later;
+      left = o.left;
+      reads = o.reads;
+    }
+
+pub unreachable-requires : goal.unreachable-requires
+unreachable-requires g c =
+    let t = c.in-Err-TooMany in
+    let s = c.args.settings.now in
+    let is : c.sweep.result ≡ Err (sweep.TooMany t.field-0-0 t.field-0-1 t.field-0-2) = t.is ∙ ap Err t.field-0-is in
+    let in_job = subst (λ (j : JobRows). AreAllWithin j.demand_cells s.scales) (sym c.job.view_is) (c.requires.job.sweep c.requires.command).within in
+    let of_cells = subst (λ (cells : List DemandCell). AreAllWithin cells s.scales) (sym c.deref.ensures.value) in_job in
+    let within = subst (λ (xs : List ℕ). AreAllWithin c.deref.result.now xs) (sym c.as_slice-scales.ensures) of_cells in
+    none-too-many c.deref.result.now c.as_slice-scales.result.now t.field-0-0 t.field-0-1 t.field-0-2 within
+    ((c.sweep.ensures.too_many t.field-0-0 t.field-0-1 t.field-0-2).0 is)
+
+pub returns : goal.returns
+returns g c = record {
+  work = nothing-put c.args.settings.now c.args.job.now _ c.requires.job.start;
+  failed = λ (k : status.Memory ≡ status.WriteFault). absurd cc;
+  differs = λ (k : status.Memory ≡ status.Differs). absurd cc;
+  later = omega arith;
+  left = refl;
+  reads = refl;
+}

@@ -1,0 +1,30 @@
+//! The public call `run`, which is the whole work of the program `dta`.
+//!
+//! `run` carries the promise of the repository: over any desk, it answers Done only where every
+//! table that its command reads is accepted and the outputs grew by exactly the texts of the
+//! definitions, which depend on the words and the tables alone. Every other answer has its cause
+//! in its contract. `run_arguments` hands it the words of a command line.
+#![tactic(auto)]
+
+mod arguments;
+mod audited;
+mod counted;
+mod halt;
+mod iterate;
+mod job;
+mod laws;
+mod limits;
+mod load;
+mod outputs;
+mod skimmed;
+mod status;
+mod stop;
+mod swept;
+mod tables;
+mod top_call;
+
+pub use arguments::run_arguments;
+pub use limits::{TooBig, sizes};
+pub use loader::{CountGate, Gate, NoGate};
+pub use status::Status;
+pub use top_call::run;

@@ -1,0 +1,57 @@
+// The work of `skim`: least times between all zones, and their texts.
+ghost use Rattle.std.specs.Prelude.{◌≡◌, IfOk};
+ghost use Rattle.desk_io.specs.State.{state_of};
+ghost use Rattle.dta_model.specs.LinkTimes.{time_at};
+ghost use Rattle.dta_words.specs.Ranges.{AreSettings};
+ghost use Rattle.dta_words.specs.declared.command.Command.TheVariants as command;
+ghost use Rattle.skims.specs.GivenTimes.{table_given};
+ghost use Rattle.skims.specs.Skim.{IsSkim};
+ghost use Rattle.dta_run.specs.Calls.{DoesWork};
+ghost use Rattle.dta_run.specs.Jobs.{IsJob};
+
+use crate::job::Job;
+use crate::status::Status;
+use desk_io::{Desk, Failed, Memory};
+use dta_words::Settings;
+use skims::{Skim, put_skim, skim, times_of};
+use std::alloc::Global;
+
+// The least times between all zones, by the job's link times.
+fn least_times(alloc: Global, settings: &Settings, job: &Job) -> Result<Skim, Memory>
+    requires settings { AreSettings settings.now }
+    requires job { IsJob settings.now job.now }
+    requires command { settings.now.command ≡ command.Skim }
+    ensures { IfOk result (IsSkim (time_at (table_given job.now.net settings.now.bucket
+        settings.now.horizon job.now.times)) job.now.net settings.now.starts) }
+{
+    let times = times_of(
+        alloc,
+        &job.net,
+        &job.times,
+        settings.bucket,
+        settings.horizon,
+    )?;
+    skim(alloc, &job.net, &times, settings.starts.as_slice())
+}
+
+/// Does the work of `skim` over an accepted job. No memory is taken after the first byte of Skim.
+pub(crate) fn put_least_times<D: Desk>(
+    alloc: Global,
+    settings: &Settings,
+    job: &Job,
+    desk: &mut D,
+) -> Status
+    requires settings { AreSettings settings.now }
+    requires job { IsJob settings.now job.now }
+    requires command { settings.now.command ≡ command.Skim }
+    ensures { let state = state_of D.left D.taken D.read_faults D.put_faults in
+        DoesWork settings.now job.now (state desk.old) (state desk.new) result }
+{
+    match least_times(alloc, settings, job) {
+        Ok(skim) => match put_skim(desk, &job.net, &skim) {
+            Ok(()) => Status::Done,
+            Err(Failed) => Status::WriteFault,
+        },
+        Err(_) => Status::Memory,
+    }
+}

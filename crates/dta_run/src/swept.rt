@@ -1,0 +1,45 @@
+// The work of `sweep`: the assignments for multiples of the demand, and their texts.
+ghost use Rattle.std.specs.Prelude.{◌≡◌};
+ghost use Rattle.desk_io.specs.State.{state_of};
+ghost use Rattle.dta_words.specs.Ranges.{AreSettings};
+ghost use Rattle.dta_words.specs.declared.command.Command.TheVariants as command;
+ghost use Rattle.dta_run.specs.Calls.{DoesWork};
+ghost use Rattle.dta_run.specs.Jobs.{IsJob};
+
+use crate::job::Job;
+use crate::status::Status;
+use desk_io::{Desk, Failed};
+use dta_words::Settings;
+use std::thread::Threads;
+use sweep::{SweepFault, put_sweep, sweep};
+
+/// Does the work of `sweep` over an accepted job. No memory is taken after the first byte of Sweep.
+pub(crate) fn put_scenarios<R: AllocGlobal + Threads + Sync, D: Desk>(
+    rt: &R,
+    settings: &Settings,
+    job: &Job,
+    desk: &mut D,
+) -> Status
+    requires settings { AreSettings settings.now }
+    requires job { IsJob settings.now job.now }
+    requires command { settings.now.command ≡ command.Sweep }
+    ensures { let state = state_of D.left D.taken D.read_faults D.put_faults in
+        DoesWork settings.now job.now (state desk.old) (state desk.new) result }
+{
+    let scales = settings.scales.as_slice();
+    match sweep(
+        rt,
+        &job.net,
+        &job.demand_cells,
+        settings,
+        scales,
+        settings.workers,
+    ) {
+        Ok(sweep) => match put_sweep(desk, &sweep) {
+            Ok(()) => Status::Done,
+            Err(Failed) => Status::WriteFault,
+        },
+        Err(SweepFault::TooMany { .. }) => unreachable!(),
+        Err(SweepFault::Memory) => Status::Memory,
+    }
+}

@@ -1,0 +1,249 @@
+// The public call.
+ghost use Rattle.std.specs.Prelude.{◌≡◌, ◌≢◌, ◌≤◌, ℕ, List, None, Some};
+ghost use Rattle.dta_words.specs.Ranges.{AreSettings};
+ghost use Rattle.dta_run.specs.Jobs.{IsJob, Assigns};
+ghost use Rattle.desk_io.specs.declared.desk.Table.{Table};
+ghost use Rattle.dta_model.specs.Laws.{JourneysEndInOrder, LeftInOrder, VehiclesAreConserved};
+ghost use Rattle.dta_words.specs.Grammar.{settings_of};
+ghost use Rattle.loader.specs.Gates.{gate_of};
+ghost use Rattle.dta_run.specs.Status.{refusal_status as status_of_refusal};
+ghost use Rattle.dta_run.specs.declared.status.Status.TheVariants as status;
+ghost use Rattle.dta_run.specs.Laws.{AuditsAreDetermined, ScenariosAreAlone};
+ghost use Rattle.dta_run.specs.Laws.{TextsAreDetermined, TextsInAnyOrder};
+ghost use Rattle.dta_run.specs.Calls.{DoesWork, Refuses};
+ghost use Rattle.dta_run.specs.Outcome.{state_of, Means, Answers};
+ghost use Rattle.dta_run.specs.Receipts.{RunGives, ToldGives, WorkGives};
+ghost use Rattle.dta_run.specs.Verdict.{verdict, AreToldBy};
+
+use crate::audited::put_verdict;
+use crate::halt::Halt;
+use crate::iterate::iterate;
+use crate::job::{Job, accept};
+use crate::laws::{
+    audits_are_determined, scenarios_are_alone, texts_are_determined, texts_in_any_order,
+};
+use crate::outputs::put_assigned;
+use crate::skimmed::put_least_times;
+use crate::status::Status;
+use crate::stop::Stop;
+use crate::swept::put_scenarios;
+use desk_io::{Desk, Failed};
+use dta_model::{journeys_end_in_order, links_are_left_in_order, vehicles_are_conserved};
+use dta_words::{Command, Settings, Words, WordsRefusal, settings};
+use loader::Gate;
+use reports::{Refusal, put_free, put_refusal};
+use std::sync::Wait;
+use std::thread::Threads;
+
+// The status of a run that is refused.
+fn refusal_status(refusal: Refusal) -> Status
+    ensures { result ≡ status_of_refusal refusal }
+{
+    match refusal {
+        Refusal::Usage => Status::Usage,
+        Refusal::Table(_) => Status::Table,
+        Refusal::Read(_) => Status::ReadFault,
+        Refusal::LongTable(_)
+        | Refusal::Cells { .. }
+        | Refusal::Vehicles { .. }
+        | Refusal::SkimPairs { .. }
+        | Refusal::SweepCells { .. } => Status::Size,
+    }
+}
+
+// Puts the line of a refusal to Report, and answers the refusal's status, also where the put fails.
+// It takes no memory.
+fn refuse<D: Desk>(desk: &mut D, refusal: Refusal) -> Status
+    ensures { let state = state_of D.left D.taken D.read_faults D.put_faults in
+        Refuses refusal (state desk.old) (state desk.new) result }
+{
+    let _ = put_refusal(desk, &refusal);
+    refusal_status(refusal)
+}
+
+// Does the iterations of an assignment and puts its outputs.
+fn assign<R: AllocGlobal + Threads + Wait + Sync, D: Desk + Send, G: Gate + Sync>(
+    rt: &R,
+    settings: &Settings,
+    job: &Job,
+    gate: &mut G,
+    desk: &mut D,
+) -> Status
+    requires settings { AreSettings settings.now }
+    requires job { IsJob settings.now job.now }
+    requires command { Assigns settings.now.command }
+    ensures works { let state = state_of D.left D.taken D.read_faults D.put_faults in
+        DoesWork settings.now job.now (state desk.old) (state desk.new) result }
+    ensures receipts { let shown = gate_of G.closes G.last in
+        WorkGives settings.now job.now result (shown gate.old) (shown gate.new) }
+{
+    match iterate(rt, settings, job, gate, desk) {
+        Ok(assigned) => match put_assigned(desk, settings, job, &assigned) {
+            Ok(()) => Status::Done,
+            Err(Failed) => Status::WriteFault,
+        },
+        Err(Halt::Watch) => Status::WriteFault,
+        Err(Halt::Memory) => Status::Memory,
+    }
+}
+
+// Does the work over an accepted job.
+fn work<R: AllocGlobal + Threads + Wait + Sync, D: Desk + Send, G: Gate + Sync>(
+    rt: &R,
+    settings: &Settings,
+    job: &Job,
+    gate: &mut G,
+    desk: &mut D,
+) -> Status
+    requires settings { AreSettings settings.now }
+    requires job { IsJob settings.now job.now }
+    ensures works { let state = state_of D.left D.taken D.read_faults D.put_faults in
+        DoesWork settings.now job.now (state desk.old) (state desk.new) result }
+    ensures receipts { let shown = gate_of G.closes G.last in
+        WorkGives settings.now job.now result (shown gate.old) (shown gate.new) }
+{
+    match settings.command {
+        Command::Freeflow => match put_free(desk, &job.net) {
+            Ok(()) => Status::Done,
+            Err(Failed) => Status::WriteFault,
+        },
+        Command::Skim => put_least_times(rt.alloc(), settings, job, desk),
+        Command::Sweep => put_scenarios(rt, settings, job, desk),
+        Command::Audit => put_verdict(rt.alloc(), settings, job, desk),
+        Command::Assign | Command::Demo(_) | Command::Counts => {
+            assign(rt, settings, job, gate, desk)
+        }
+    }
+}
+
+// Checks the tables, and does the work.
+fn accept_and_work<R: AllocGlobal + Threads + Wait + Sync, D: Desk + Send, G: Gate + Sync>(
+    rt: &R,
+    settings: &Settings,
+    gate: &mut G,
+    desk: &mut D,
+) -> Status
+    requires settings { AreSettings settings.now }
+    ensures means { let state = state_of D.left D.taken D.read_faults D.put_faults in
+        (words : List (List ℕ)) → settings_of words ≡ Some settings.now
+        → Means words result (state desk.old) (state desk.new) }
+    ensures receipts { let shown = gate_of G.closes G.last in
+        (words : List (List ℕ)) → settings_of words ≡ Some settings.now
+        → RunGives words result (D.left desk.old) (D.left desk.new)
+        (shown gate.old) (shown gate.new) }
+    ensures reads { D.read_faults desk.old ≤ D.read_faults desk.new }
+    ensures puts { D.put_faults desk.old ≤ D.put_faults desk.new }
+{
+    match accept(rt.alloc(), desk, settings) {
+        Ok(job) => work(rt, settings, &job, gate, desk),
+        Err(Stop::Refused(refusal)) => refuse(desk, refusal),
+        Err(Stop::Memory) => Status::Memory,
+    }
+}
+
+// Checks the words and the tables, and does the work.
+fn answer<R: AllocGlobal + Threads + Wait + Sync, D: Desk + Send, G: Gate + Sync>(
+    rt: &R,
+    words: &Words,
+    gate: &mut G,
+    desk: &mut D,
+) -> Status
+    ensures means { let state = state_of D.left D.taken D.read_faults D.put_faults in
+        Means words.now result (state desk.old) (state desk.new) }
+    ensures receipts { let shown = gate_of G.closes G.last in
+        RunGives words.now result (D.left desk.old) (D.left desk.new)
+        (shown gate.old) (shown gate.new) }
+    ensures reads { D.read_faults desk.old ≤ D.read_faults desk.new }
+    ensures puts { D.put_faults desk.old ≤ D.put_faults desk.new }
+{
+    match settings(rt.alloc(), words) {
+        Ok(settings) => accept_and_work(rt, &settings, gate, desk),
+        Err(WordsRefusal::Usage) => refuse(desk, Refusal::Usage),
+        Err(WordsRefusal::Memory) => Status::Memory,
+    }
+}
+
+/// Does what the words ask for. `words` are those after the program's name.
+///
+/// - `freeflow` reads the node and the link table of the desk, and puts each link's free-flow steps
+///   and storage to LinkTime, and the numbers of nodes and links to Report.
+/// - `assign` reads the node, link, movement and demand table, iterates routes, loadings, link
+///   times and gaps (successive averages over a queue-based simulator, Zhou and Taylor 2014), and
+///   puts Agent, LinkTime, Gap and Report, in this order. With `--start` it reads an earlier agent
+///   table too, whose routes come first where they fit, and tells in Agent since which iteration
+///   each vehicle has its route.
+/// - `demo` does the same over a made grid, and puts Report in place of the four.
+/// - `skim` reads a network and a table of link times, and puts the least times between all zones
+///   to Skim, and Report.
+/// - `counts` does the work of `assign`, and puts the counts of turns over the last loading, and
+///   through a link, to Counts, and Report.
+/// - `sweep` puts the texts of an assignment for each multiple of the demand to Sweep, and Report.
+/// - `audit` reads an agent table and a table of link times beside the tables of an assignment, and
+///   reports whether they are what the plain loading over the agents' routes gives, or the first
+///   place that differs, and then answers Differs.
+///
+/// With a watch, each iteration puts states of its loading to Watch, the last one once it is
+/// loaded. Loadings are by workers, who pass the gate, unless the words ask for the plain loader.
+///
+/// A table is checked before the next is read. No memory is taken after the first byte of the first
+/// output but Watch.
+#[tactic(auto, using(crate::proofs::ReceiptFacts::answers))]
+pub fn run<R: AllocGlobal + Threads + Wait + Sync, D: Desk + Send, G: Gate + Sync>(
+    rt: &R,
+    words: &Words,
+    desk: &mut D,
+    gate: &mut G,
+) -> Status
+    // What the answer says of the desk.
+    ensures means { let state = state_of D.left D.taken D.read_faults D.put_faults in
+        Means words.now result (state desk.old) (state desk.new) }
+
+    // Where the bytes of the tables are told that the command reads, the answer is that of the
+    // verdict over words and bytes.
+    ensures told { let state = state_of D.left D.taken D.read_faults D.put_faults in
+        (texts : Table → List ℕ) → AreToldBy (settings_of words.now) (D.left desk.old) texts
+        → Answers (settings_of words.now) (verdict words.now texts) result
+        (state desk.old) (state desk.new) }
+    ensures usage { result ≡ status.Usage → settings_of words.now ≡ None }
+
+    // After every step each due vehicle with a route waits, is on one link or has arrived, and
+    // links are left in the order of entry: in the trace, and so in the journeys.
+    ensures conserved { VehiclesAreConserved }
+    ensures left_in_order { LeftInOrder }
+    ensures ordered { JourneysEndInOrder }
+
+    // Settings and a job, which are made of words and tables alone, have one list of texts but for
+    // Watch, and where the loader is plain one list of all texts.
+    ensures determined { TextsAreDetermined }
+
+    // They are the same where loadings take the nodes of a step in any order.
+    ensures any_order { TextsInAnyOrder }
+
+    // A scenario of a sweep has the texts of the assignment over the demand times its scale.
+    ensures swept_alone { ScenariosAreAlone }
+
+    // An audit has one verdict, so that its status is Differs exactly where some check fails.
+    ensures audited { AuditsAreDetermined }
+
+    // The gate took one receipt for each iteration that was loaded by workers, and none otherwise;
+    // where the work wasn't done at most as many.
+    ensures receipts { let shown = gate_of G.closes G.last in
+        RunGives words.now result (D.left desk.old) (D.left desk.new)
+        (shown gate.old) (shown gate.new) }
+
+    // Where the bytes of the tables are told, their numbers are those of the verdict's job.
+    ensures told_receipts { let shown = gate_of G.closes G.last in
+        (texts : Table → List ℕ) → AreToldBy (settings_of words.now) (D.left desk.old) texts
+        → ToldGives (verdict words.now texts) result (shown gate.old) (shown gate.new) }
+    ensures reads { D.read_faults desk.old ≤ D.read_faults desk.new }
+    ensures puts { D.put_faults desk.old ≤ D.put_faults desk.new }
+{
+    vehicles_are_conserved();
+    links_are_left_in_order();
+    journeys_end_in_order();
+    texts_are_determined();
+    texts_in_any_order();
+    scenarios_are_alone();
+    audits_are_determined();
+    answer(rt, words, gate, desk)
+}
