@@ -1,1 +1,4 @@
+pub mod NetChecked
 pub mod SoundChecked
+pub mod OfTables
+pub mod Posts

@@ -1,14 +1,12 @@
 -- Loadings that pass the test of soundness are sound.
 use Rattle.std.specs.List.{list_all, range_with_len}
 use Rattle.std.specs.List.Sorted.{IsNonDecreasingBy}
-use Rattle.std.specs.Prelude.{All, IfSome, IsSome, is_some, nat_eq, nat_le, nat_lt, slice_get, ◌≢◌}
+use Rattle.std.specs.Prelude.{IfSome, IsSome, is_some, nat_eq, nat_le, nat_lt, slice_get, ◌≢◌}
 use Rattle.std.proofs.Common.{◌≡◌, ℕ, zero, suc, ◌<◌, ◌≤◌, Bool, true, false, ◌&&◌, not, List, [], ◌∷◌, length, map, refl, ◌+◌, ◌∙◌, ap, subst, arith, Option, Some, None}
 use Rattle.std.proofs.lemmas.Bool.{and_parts, eq-eqb, not-true}
 use Rattle.std.proofs.lemmas.Bool.Decides.{nat_tests}
-use Rattle.std.proofs.lemmas.List.Elements.{All-nil}
 use Rattle.std.proofs.lemmas.Option.{same_Some}
 use Rattle.fixed_units.specs.declared.link.TheConstants.{MOST_STEP}
-use Rattle.net_core.proofs.Checked.{all-checked, is_net, net-checked}
 use Rattle.net_core.proofs.Orders.{le_holds, lt_holds}
 use Rattle.net_core.specs.Network.{turn}
 use Rattle.net_core.specs.declared.rows.LinkNo.{LinkNo}
@@ -24,6 +22,8 @@ use Rattle.dta_model.specs.declared.queue.TheConstants.{MOST_WAVE}
 use Rattle.dta_model.specs.declared.trip.Trip.{Trip}
 use Rattle.dta_model.specs.declared.trip.TheConstants.{MOST_TRIPS}
 use Rattle.dta_model.proofs.Rising.{rising-cons}
+use Rattle.worked_cases.proofs.NetChecked.{all-checked, net-checked}
+use Rattle.worked_cases.specs.CheckedNet.{is_net}
 use Rattle.worked_cases.specs.Checked.{apart, are_numbered, are_walks, begins_there, ends_once, is_queue, is_sound, is_walk, rises, turns_on}
 
 turns-checked : (net : NetRows) (walk : List ℕ) → turns_on net walk ≡ true → (i a b : ℕ) → slice_get walk i ≡ Some a → slice_get walk (suc i) ≡ Some b → IsSome (turn net a b)

@@ -3,7 +3,7 @@ use Rattle.std.specs.List.{list_all}
 use Rattle.std.specs.Prelude.{ℕ, ◌+◌, Bool, true, false, ◌&&◌, not, List, [], ◌∷◌, length}
 use Rattle.std.specs.Prelude.{Option, None, Some, is_some, nat_eq, nat_le, nat_lt}
 use Rattle.fixed_units.specs.declared.link.TheConstants.{MOST_STEP}
-use Rattle.net_core.proofs.Checked.{is_net}
+use Rattle.worked_cases.specs.CheckedNet.{is_net}
 use Rattle.net_core.specs.Network.{turn}
 use Rattle.net_core.specs.declared.rows.LinkNo.{LinkNo}
 use Rattle.net_core.specs.declared.rows.NetRows.{NetRows}

@@ -1,7 +1,8 @@
 pub mod CaseInside
 pub mod Checked
+pub mod CheckedNet
 pub mod Networks
 pub mod OnLiterals
-pub mod Plans
 pub mod Seen
+pub mod Worked
 pub mod Written

@@ -1,6 +1,6 @@
 -- The networks of the worked cases. A link has ten free-flow steps, room for 125 vehicles, and
 -- takes one vehicle in a step of six seconds.
-use Rattle.std.specs.Prelude.{ℕ, List, [], ◌∷◌, Option, None, Some}
+use Rattle.std.specs.Prelude.{List, [], ◌∷◌, None, Some}
 use Rattle.net_core.specs.declared.rows.NetRows.{NetRows}
 use Rattle.net_core.specs.declared.rows.NodeRow.{NodeRow}
 use Rattle.net_core.specs.Examples.{link, node}
@@ -27,20 +27,4 @@ a_loop_that_pays = record {
   turns = [];
   link_windows = [];
   turn_windows = [];
-}
-
--- a further link over the second half, listed before the other
-abbrev pub a_second_way : NetRows
-a_second_way = record {
-  nodes = by_a_node;
-  links = link 10 0 1 ∷ link 21 1 2 ∷ link 20 1 2 ∷ [];
-  turns = [];
-  link_windows = [];
-  turn_windows = [];
-}
-
--- the turn onto the link that is listed last is the only one
-abbrev pub one_turn_is_allowed : NetRows
-one_turn_is_allowed = record a_second_way {
-  turns = record { a = record { 0 = 0 }; b = record { 0 = 2 }; penalty = 0; rate = None } ∷ [];
 }

@@ -1,10 +1,7 @@
 -- What is written out, as data.
 use Rattle.std.specs.Prelude.{List, [], ◌∷◌, Option, None, Some, map}
-use Rattle.net_core.specs.declared.rates.Window.{Window}
 use Rattle.net_core.specs.declared.rows.LinkNo.{LinkNo}
-use Rattle.net_core.specs.declared.rows.NetRows.{NetRows}
 use Rattle.dta_model.specs.declared.plan.Plan.{Plan}
-use Rattle.worked_cases.specs.declared.written.RowWindows.{RowWindows}
 use Rattle.worked_cases.specs.declared.written.Way.{Way}
 use Rattle.worked_cases.specs.declared.written.Way.TheVariants as way
 use Rattle.worked_cases.specs.declared.written.Written.{Written}
@@ -15,31 +12,19 @@ way_links way.None = None
 way_links (way.Over link) = Some (record { 0 = link } ∷ [])
 way_links (way.OverTwo first second) = Some (record { 0 = first } ∷ record { 0 = second } ∷ [])
 
--- the windows of a row
-abbrev pub row_windows : RowWindows → List Window
-row_windows row = row.windows.now
-
--- the rows that are written out, and the windows of the first links and turns
-abbrev pub net_written : Written → List RowWindows → List RowWindows → NetRows
-net_written w link_windows turn_windows = record {
-  nodes = w.nodes.now;
-  links = w.links.now;
-  turns = w.turns.now;
-  link_windows = map row_windows link_windows;
-  turn_windows = map row_windows turn_windows;
-}
-
 -- what is written out, in steps of six seconds
-abbrev pub plan_with_windows : Written → List RowWindows → List RowWindows → Plan
-plan_with_windows w link_windows turn_windows = record {
-  net = net_written w link_windows turn_windows;
+abbrev pub plan_written : Written → Plan
+plan_written w = record {
+  net = record {
+    nodes = w.nodes.now;
+    links = w.links.now;
+    turns = w.turns.now;
+    link_windows = [];
+    turn_windows = [];
+  };
   queue = w.queue;
   delta = 6;
   horizon = w.horizon;
   trips = w.trips.now;
   routes = map way_links w.ways.now;
 }
-
--- the same without windows
-abbrev pub plan_written : Written → Plan
-plan_written w = plan_with_windows w [] []

@@ -3,9 +3,9 @@ ghost use Rattle.dta_model.specs.Lent.{plan_of};
 ghost use Rattle.dta_model.specs.Sound.{IsSound};
 ghost use Rattle.std.specs.Prelude.{◌≡◌, IfOk, true};
 ghost use Rattle.worked_cases.specs.Checked.{is_sound};
-ghost use Rattle.worked_cases.specs.Written.{plan_with_windows, plan_written};
+ghost use Rattle.worked_cases.specs.Written.{plan_written};
 
-use crate::written::{RowWindows, Written, network_with_windows, routes};
+use crate::written::{Written, network, routes};
 use dta_model::{Loading, Queue, Routes, Trip};
 use net_core::{Memory, Net};
 use std::alloc::Global;
@@ -38,22 +38,7 @@ impl Case {
         requires { is_sound (plan_written written.now) ≡ true }
         ensures { IfOk result (λ case. case ≡ plan_written written.now) }
     {
-        Case::with_windows(alloc, written, &[], &[])
-    }
-
-    /// The case that is written out, with the windows of the first links and of the first turns.
-    pub fn with_windows(
-        alloc: Global,
-        written: &Written,
-        link_windows: &[RowWindows],
-        turn_windows: &[RowWindows],
-    ) -> Result<Self, Memory>
-        requires { is_sound (plan_with_windows written.now link_windows.now turn_windows.now)
-            ≡ true }
-        ensures { IfOk result (λ case.
-            case ≡ plan_with_windows written.now link_windows.now turn_windows.now) }
-    {
-        let net = network_with_windows(alloc, written, link_windows, turn_windows)?;
+        let net = network(alloc, written.nodes, written.links, written.turns)?;
         let trips = Vec::from_slice(alloc, written.trips)?;
         let routes = routes(alloc, written.ways)?;
         Ok(Case {

@@ -4,9 +4,9 @@
 ghost use Rattle.std.specs.Prelude.{◌≡◌, IfOk};
 ghost use Rattle.worked_cases.specs.Networks as rows;
 
-use crate::rows::{link, node, turn};
+use crate::rows::{link, node};
 use crate::written::network;
-use net_core::{LinkNo, LinkRow, Memory, Net, NodeNo, NodeRow, TurnRow};
+use net_core::{LinkRow, Memory, Net, NodeNo, NodeRow};
 use std::alloc::Global;
 
 /// A link after another, between two zones.
@@ -30,29 +30,5 @@ pub fn a_loop_that_pays(alloc: Global) -> Result<Net, Memory>
         &[node!(1, Some(1)), node!(2, None), node!(3, Some(3))],
         &[link!(10, 0 => 1), link!(20, 1 => 2), link!(30, 1 => 1)],
         &[],
-    )
-}
-
-/// Two links in a line, with a further link over the second half, listed before the other.
-pub fn a_second_way(alloc: Global) -> Result<Net, Memory>
-    ensures { IfOk result (λ net. net ≡ rows.a_second_way) }
-{
-    network(
-        alloc,
-        &[node!(1, Some(1)), node!(2, None), node!(3, Some(3))],
-        &[link!(10, 0 => 1), link!(21, 1 => 2), link!(20, 1 => 2)],
-        &[],
-    )
-}
-
-/// The same, where the turn onto the link that is listed last is the only one.
-pub fn one_turn_is_allowed(alloc: Global) -> Result<Net, Memory>
-    ensures { IfOk result (λ net. net ≡ rows.one_turn_is_allowed) }
-{
-    network(
-        alloc,
-        &[node!(1, Some(1)), node!(2, None), node!(3, Some(3))],
-        &[link!(10, 0 => 1), link!(21, 1 => 2), link!(20, 1 => 2)],
-        &[turn!(0 => 2, 0)],
     )
 }

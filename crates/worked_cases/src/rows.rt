@@ -32,28 +32,6 @@ macro_rules! link {
     };
 }
 
-// A rate from a step on.
-macro_rules! window {
-    ($from:expr, $rate:expr) => {
-        Window {
-            from: $from,
-            rate: $rate,
-        }
-    };
-}
-
-// A turn that has no limit, with its penalty in steps.
-macro_rules! turn {
-    ($a:expr => $b:expr, $penalty:expr) => {
-        TurnRow {
-            a: LinkNo($a),
-            b: LinkNo($b),
-            penalty: $penalty,
-            rate: None,
-        }
-    };
-}
-
 // Number, zones, and step of departure.
 macro_rules! trip {
     ($number:expr, $departure:expr) => {
@@ -72,5 +50,3 @@ macro_rules! trip {
 pub(crate) use link;
 pub(crate) use node;
 pub(crate) use trip;
-pub(crate) use turn;
-pub(crate) use window;

@@ -1,10 +1,10 @@
 // What a network and a loading are made of, as it is written out.
-ghost use Rattle.net_core.proofs.Checked.{is_net};
+ghost use Rattle.worked_cases.specs.CheckedNet.{is_net};
 ghost use Rattle.std.specs.Prelude.{◌≡◌, [], IfOk, map, true};
-ghost use Rattle.worked_cases.specs.Written.{net_written, row_windows, way_links};
+ghost use Rattle.worked_cases.specs.Written.{way_links};
 
 use dta_model::{Queue, Route, Routes, Trip};
-use net_core::{LinkNo, LinkRow, Memory, Net, NodeRow, TurnRow, Window, Windows};
+use net_core::{LinkNo, LinkRow, Memory, Net, NodeRow, TurnRow};
 use std::alloc::Global;
 
 /// The links that a vehicle takes.
@@ -26,12 +26,6 @@ pub struct Written<'a> {
     pub horizon: u32,
     pub trips: &'a [Trip],
     pub ways: &'a [Way],
-}
-
-/// The windows of a row.
-#[derive(Clone, Copy, Drop)]
-pub struct RowWindows<'a> {
-    pub windows: &'a [Window],
 }
 
 /// The network of rows that are written out.
@@ -60,36 +54,6 @@ pub fn network(
     let links = Vec::from_slice(alloc, links)?;
     let turns = Vec::from_slice(alloc, turns)?;
     Net::of(alloc, nodes, links, turns)
-}
-
-// The network of these rows with windows.
-pub(crate) fn network_with_windows(
-    alloc: Global,
-    written: &Written,
-    link_windows: &[RowWindows],
-    turn_windows: &[RowWindows],
-) -> Result<Net, Memory>
-    requires { is_net (net_written written.now link_windows.now turn_windows.now) ≡ true }
-    ensures { IfOk result
-        (λ net. net ≡ net_written written.now link_windows.now turn_windows.now) }
-{
-    let nodes = Vec::from_slice(alloc, written.nodes)?;
-    let links = Vec::from_slice(alloc, written.links)?;
-    let turns = Vec::from_slice(alloc, written.turns)?;
-    let link_windows = windows(alloc, link_windows)?;
-    let turn_windows = windows(alloc, turn_windows)?;
-    Net::with_windows(alloc, nodes, links, turns, link_windows, turn_windows)
-}
-
-// The windows of each row.
-fn windows(alloc: Global, rows: &[RowWindows]) -> Result<Vec<Windows>, Memory>
-    ensures { IfOk result (λ windows. windows.items ≡ map row_windows rows.now) }
-{
-    let mut windows = Vec::new(alloc);
-    for i in 0..rows.len() {
-        windows.push(Windows::of(Vec::from_slice(alloc, rows[i].windows)?))?;
-    }
-    Ok(windows)
 }
 
 /// The routes over these links.

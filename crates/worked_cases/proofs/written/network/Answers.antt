@@ -1,4 +1,4 @@
-use Rattle.net_core.proofs.Checked.{net-checked}
+use Rattle.worked_cases.proofs.NetChecked.{net-checked}
 use Rattle.worked_cases.proofs.written.network.Goals as goal
 
 pub of-requires : goal.of-requires

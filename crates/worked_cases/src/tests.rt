@@ -1,0 +1,10 @@
+// What no whole run shows.
+mod boards;
+mod cases;
+mod files;
+mod floors;
+mod labels;
+mod machines;
+mod puts;
+mod routes;
+mod tables;
