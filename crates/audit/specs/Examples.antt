@@ -11,7 +11,8 @@ use Rattle.row_reader.specs.declared.faults.Column.TheVariants as column
 use Rattle.row_reader.specs.declared.faults.TableFault.{TableFault}
 use Rattle.dta_model.specs.declared.loaded.Journey.{Journey}
 use Rattle.dta_model.specs.declared.trip.Trip.{Trip}
-use Rattle.worked_cases.specs.Networks.{two_links}
+use Rattle.net_core.specs.Examples.{link, node}
+use Rattle.net_core.specs.declared.rows.NetRows.{NetRows}
 use Rattle.audit.specs.Agents.{agents_verdict}
 use Rattle.audit.specs.Audit.{journey_checks, missing_checks, number_checks, of_agent, route_named}
 use Rattle.audit.specs.Checks.{IsVerdict, never}
@@ -89,7 +90,16 @@ one_missing : missing_checks (trip ∷ trip ∷ []) (arrived ∷ [])
     ≡ of_agent 1 column.NoColumn never ∷ []
 one_missing = refl
 
--- the links of a route by their identifiers
+-- the links of a route by their identifiers, of two links in a line
+abbrev two_links : NetRows
+two_links = record {
+  nodes = node 1 (Some 1) ∷ node 2 None ∷ node 3 (Some 3) ∷ [];
+  links = link 10 0 1 ∷ link 20 1 2 ∷ [];
+  turns = [];
+  link_windows = [];
+  turn_windows = [];
+}
+
 over_both : route_named two_links (10 ∷ 20 ∷ []) ≡ Some (record { 0 = 0 } ∷ record { 0 = 1 } ∷ [])
 over_both = refl
 

@@ -16,6 +16,3 @@ mod outlook;
 
 pub use credit::Credit;
 pub use meter::Meter;
-
-#[cfg(test)]
-mod tests;

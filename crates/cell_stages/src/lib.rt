@@ -25,6 +25,3 @@ pub use laws::{
 pub use mail::Mail;
 pub use out_link::{OutLink, Waiting};
 pub use turn::{LimitedTurn, LimitedTurns};
-
-#[cfg(test)]
-mod tests;

@@ -23,6 +23,3 @@ pub use laws::{
 pub use machine::Machine;
 pub use phase::{Phase, PhaseKind};
 pub use units::{UnitKind, Units};
-
-#[cfg(test)]
-mod tests;

@@ -24,6 +24,3 @@ pub use through::count_through;
 pub use through_counts::{ThroughCount, ThroughCounts};
 pub use turn_counts::{TurnCount, TurnCounts};
 pub use turns::count_turns;
-
-#[cfg(test)]
-mod tests;

@@ -11,6 +11,3 @@ mod demand_table;
 
 pub use demand_rows::MOST_DEMAND_CELLS;
 pub use demand_table::read_demand;
-
-#[cfg(test)]
-mod tests;

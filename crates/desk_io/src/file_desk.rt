@@ -36,8 +36,8 @@ pub struct FileDesk<R, W> {
     skim: Option<File>,
     counts: Option<File>,
     sweep: Option<File>,
-    pub(crate) report: R,
-    pub(crate) watch: W,
+    report: R,
+    watch: W,
     read_faults: u64,
     put_faults: u64,
 }
@@ -54,7 +54,7 @@ impl FileDesk<Stdout, Stderr> {
 
 impl<R, W> FileDesk<R, W> {
     /// A desk over the current folder and two streams.
-    pub(crate) fn over(rt: HostRuntime, report: R, watch: W) -> Self
+    pub fn over(rt: HostRuntime, report: R, watch: W) -> Self
         ensures { (result.read_faults ≡ 0) × (result.put_faults ≡ 0) }
     {
         FileDesk {

@@ -11,8 +11,6 @@ mod file_desk;
 mod mem_desk;
 mod source;
 mod tally_desk;
-#[cfg(test)]
-mod tests;
 mod text;
 mod transfers;
 

@@ -11,6 +11,7 @@ use crate::source::Source;
 use crate::{Desk, Failed, Memory, Output, Table};
 use std::alloc::Global;
 use std::marker::Model;
+use std::mem;
 
 /// A desk in memory: six texts to read and eight outputs that grow. It tells all, and calls can be
 /// listed to fail.
@@ -125,20 +126,21 @@ impl MemDesk {
         }
     }
 
-    /// What an output has taken, in place of the desk.
-    pub fn into_taken(self, output: Output) -> Vec<u8>
+    /// What an output has taken, in place of the desk. It takes no memory.
+    pub fn into_taken(mut self, alloc: Global, output: Output) -> Vec<u8>
         ensures { taken_of output self.taken ≡ Some result.items }
     {
-        match output {
-            Output::Agent => self.agent,
-            Output::LinkTime => self.link_time,
-            Output::Gap => self.gap,
-            Output::Report => self.report,
-            Output::Watch => self.watch,
-            Output::Skim => self.skim,
-            Output::Counts => self.counts,
-            Output::Sweep => self.sweep,
-        }
+        let taken = match output {
+            Output::Agent => &mut self.agent,
+            Output::LinkTime => &mut self.link_time,
+            Output::Gap => &mut self.gap,
+            Output::Report => &mut self.report,
+            Output::Watch => &mut self.watch,
+            Output::Skim => &mut self.skim,
+            Output::Counts => &mut self.counts,
+            Output::Sweep => &mut self.sweep,
+        };
+        mem::replace(taken, Vec::new(alloc))
     }
 
     /// How many reads failed.

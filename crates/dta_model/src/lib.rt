@@ -34,6 +34,3 @@ pub use queue::{MOST_WAVE, Queue};
 pub use routes::{Route, Routes};
 pub use steps::Steps;
 pub use trip::{DemandCell, MOST_TRIPS, Trip, VOLUME_OF_A_VEHICLE};
-
-#[cfg(test)]
-mod tests;

@@ -27,6 +27,3 @@ pub use options::GREATEST_SCALE;
 pub use refusal::WordsRefusal;
 pub use scales::Scales;
 pub use words::Words;
-
-#[cfg(test)]
-mod tests;

@@ -31,30 +31,3 @@ fn is_minus_one(text: &[u8]) -> bool
         _ => false,
     }
 }
-
-#[cfg(test)]
-mod tests {
-    use super::*;
-
-    #[test]
-    fn reads_zones(rt: HostRuntime) {
-        let cases: [(&[u8], Result<Option<u64>, NumberFault>); 13] = [
-            (b"", Ok(None)),
-            (b"0", Ok(None)),
-            (b"0.0", Ok(None)),
-            (b"-1", Ok(None)),
-            (b"-1.0", Ok(None)),
-            (b"-01", Ok(None)),
-            (b"3", Ok(Some(3))),
-            (b"3.0", Ok(Some(3))),
-            (b"-0", Err(NumberFault::OutOfRange)),
-            (b"-2", Err(NumberFault::OutOfRange)),
-            (b"--1", Err(NumberFault::NotNumber)),
-            (b"- 1", Err(NumberFault::NotNumber)),
-            (b"1.5", Err(NumberFault::NotNumber)),
-        ];
-        for (text, expected) in cases {
-            assert_eq!(rt; zone(text), expected, "{text:?}");
-        }
-    }
-}

@@ -1,5 +1,4 @@
 pub mod Shorts
 pub mod Sums
 pub mod Parts
-pub mod OfLoadings
 pub mod Determined

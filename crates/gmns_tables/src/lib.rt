@@ -28,6 +28,3 @@ pub use node_table::read_nodes;
 pub use nodes::NodeRows;
 pub use turns::TurnRows;
 pub use with_windows::WithWindows;
-
-#[cfg(test)]
-mod tests;

@@ -12,8 +12,6 @@ mod links;
 mod maker;
 mod node_table;
 mod places;
-#[cfg(test)]
-mod tests;
 
 pub use desk_io::Text;
 pub use maker::{GridFault, LEAST_SIDE, MOST_SIDE, Texts, grid};

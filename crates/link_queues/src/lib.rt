@@ -16,6 +16,3 @@ mod ring;
 pub use leavings::Leavings;
 pub use line::{Line, MOST_RIDERS, PushRefused};
 pub use rider::Rider;
-
-#[cfg(test)]
-mod tests;

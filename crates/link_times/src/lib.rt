@@ -19,6 +19,3 @@ mod visit;
 
 pub use laws::link_times_in_any_order;
 pub use table::LinkTimes;
-
-#[cfg(test)]
-mod tests;

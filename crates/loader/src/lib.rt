@@ -18,6 +18,3 @@ mod watch;
 pub use gate::{CountGate, Gate, NoGate};
 pub use loading::{LoadFault, MOST_WORKERS, load};
 pub use watch::Watch;
-
-#[cfg(test)]
-mod tests;

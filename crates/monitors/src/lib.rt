@@ -19,6 +19,3 @@ pub use board::Board;
 pub use monitor_pass::MonitorPass;
 pub use note::Note;
 pub use writer_pass::WriterPass;
-
-#[cfg(test)]
-mod tests;

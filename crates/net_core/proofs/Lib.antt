@@ -1,6 +1,5 @@
 pub mod GroupsFacts
 pub mod ByNodeFacts
-pub mod Checked
 pub mod FindFacts
 pub mod GroupedFacts
 pub mod IdsFacts

@@ -24,6 +24,3 @@ pub use rows::{
     LinkNo, LinkRow, MOST_LINKS, MOST_NODES, MOST_TURNS, NetRows, NodeNo, NodeRow, Turn, TurnRow,
     ZoneNo,
 };
-
-#[cfg(test)]
-mod tests;

@@ -7,4 +7,3 @@ pub mod Counted
 pub mod Skip
 pub mod StartLines
 pub mod StartCells
-pub mod Driven

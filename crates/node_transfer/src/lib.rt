@@ -31,8 +31,3 @@ pub use laws::{
 pub use lists::{Cells, Mails, Opening};
 pub use rest::NO_STEP;
 pub use start::opening::opening;
-
-#[cfg(test)]
-mod driven;
-#[cfg(test)]
-mod tests;

@@ -11,6 +11,3 @@
 mod pending;
 
 pub use pending::{DIGITS, PIECE, Pending, WIDE_DIGITS};
-
-#[cfg(test)]
-mod tests;

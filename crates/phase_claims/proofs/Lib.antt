@@ -19,4 +19,3 @@ pub mod PlacesPosting
 pub mod Machines
 pub mod PlacesClosed
 pub mod PlacesEnd
-pub mod Grid

@@ -10,8 +10,6 @@ pub mod Resting
 pub mod PlacesHeld
 pub mod PlacesHome
 pub mod PlacesCounted
-pub mod Tried
-pub mod Grid
 pub mod Examples
 pub mod PlacesClosed
 pub mod PlacesEnd

@@ -35,6 +35,3 @@ pub use laws::{
 pub use pass::Pass;
 pub use receipt::{Early, Receipt};
 pub use unit::{Open, Unit};
-
-#[cfg(test)]
-mod tests;

@@ -29,6 +29,3 @@ pub use status::status_text;
 pub use summary::{Summary, put_summary};
 pub use times::put_link_times;
 pub use watch::put_watch;
-
-#[cfg(test)]
-mod tests;

@@ -36,6 +36,3 @@ pub use since::route_iterations;
 pub use start_rows::{Ids, MOST_START_ROWS, StartRow, StartRows};
 pub use start_table::{ids_in, read_start};
 pub use starts::{link_index, walk_named};
-
-#[cfg(test)]
-mod tests;

@@ -25,6 +25,3 @@ pub use fields::{
 };
 pub use laws::{accepted_rows_are_those_of_all_records, the_fault_is_that_of_the_least_line};
 pub use rows::{Row, RowFault, Rows};
-
-#[cfg(test)]
-mod tests;

@@ -15,6 +15,3 @@ mod phases;
 mod plain;
 
 pub use plain::load_plain;
-
-#[cfg(test)]
-mod tests;

@@ -33,6 +33,3 @@ pub use skim_entry::{Skim, SkimEntry};
 pub use texts::put_skim;
 pub use time_rows::{TimeRow, TimeRows};
 pub use times_table::{MOST_TIME_ROWS, MOST_TRAVEL_STEPS, read_times};
-
-#[cfg(test)]
-mod tests;

@@ -27,6 +27,3 @@ pub use limits::check_scales;
 pub use rounds::{MOST_AT_ONCE, sweep};
 pub use scenario::{Scenario, Sweep};
 pub use texts::put_sweep;
-
-#[cfg(test)]
-mod tests;

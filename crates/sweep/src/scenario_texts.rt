@@ -34,12 +34,17 @@ fn empty_desk(alloc: Global) -> MemDesk
 }
 
 // What a desk in memory has taken by a put. It fails only where memory is wanting.
-fn taken_by(put: Result<(), Failed>, desk: MemDesk, output: Output) -> Result<Text, Memory>
+fn taken_by(
+    alloc: Global,
+    put: Result<(), Failed>,
+    desk: MemDesk,
+    output: Output,
+) -> Result<Text, Memory>
     ensures put { IfOk result (λ text. put ≡ Ok tt) }
     ensures taken { IfOk result (λ text. taken_of output desk.taken ≡ Some text) }
 {
     match put {
-        Ok(()) => Ok(Text::of(desk.into_taken(output))),
+        Ok(()) => Ok(Text::of(desk.into_taken(alloc, output))),
         Err(_) => Err(AllocError),
     }
 }
@@ -61,7 +66,7 @@ fn agent(
 {
     let mut desk = empty_desk(alloc);
     let put = put_agents(&mut desk, net, trips, &assigned.routes, &assigned.loaded);
-    taken_by(put, desk, Output::Agent)
+    taken_by(alloc, put, desk, Output::Agent)
 }
 
 // The text of the link times.
@@ -79,7 +84,7 @@ fn link_time(
 {
     let mut desk = empty_desk(alloc);
     let put = put_link_times(&mut desk, net, &assigned.times);
-    taken_by(put, desk, Output::LinkTime)
+    taken_by(alloc, put, desk, Output::LinkTime)
 }
 
 // The text of the gaps.
@@ -88,7 +93,7 @@ fn gap(alloc: Global, assigned: &Assigned) -> Result<Text, Memory>
 {
     let mut desk = empty_desk(alloc);
     let put = put_gaps(&mut desk, &assigned.lines);
-    taken_by(put, desk, Output::Gap)
+    taken_by(alloc, put, desk, Output::Gap)
 }
 
 // The numbers of the report.
@@ -130,7 +135,7 @@ fn report(
 {
     let mut desk = empty_desk(alloc);
     let put = put_summary(&mut desk, &summary_of(settings, net, trips, assigned));
-    taken_by(put, desk, Output::Report)
+    taken_by(alloc, put, desk, Output::Report)
 }
 
 /// The scenario of a scale, whose assignment this is.

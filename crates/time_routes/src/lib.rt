@@ -26,6 +26,3 @@ pub use reading::group_labels::{GroupLabels, MOST_GROUP};
 pub use reading::labels::Labels;
 pub use reading::shares::MOST_SHARES;
 pub use reading::tell::{Ask, Told, tell, tell_by_shares};
-
-#[cfg(test)]
-mod tests;

@@ -11,6 +11,3 @@ mod trips;
 pub use fault::ReleaseFault;
 pub use sums::with_row;
 pub use trips::release;
-
-#[cfg(test)]
-mod tests;

@@ -5,7 +5,7 @@ use Rattle.std.proofs.Common.{◌≡◌, List, [], ◌∷◌, ◌++◌, length, 
 use Rattle.std.proofs.lemmas.List.Elements.{All-append, All-nil}
 use Rattle.std.proofs.lemmas.List.FromFn.{length-map-range_with_len}
 use Rattle.dta_model.specs.Loading.{journeys_of}
-use Rattle.dta_model.specs.Plans.{vehicle_count}
+use Rattle.dta_model.specs.Plans.{all_nodes, vehicle_count}
 use Rattle.dta_model.specs.Riders.{RiderState}
 use Rattle.dta_model.specs.Sound.{IsSound}
 use Rattle.dta_model.specs.declared.plan.Plan.{Plan}
@@ -15,7 +15,6 @@ use Rattle.node_transfer.specs.Hand.{Within, handed, riders_in}
 use Rattle.node_transfer.proofs.OfHandOver.Hands.{all_split}
 use Rattle.cell_stages.specs.Contents.{away, cell_before}
 use Rattle.node_transfer.proofs.OfHandOver.HandOver.{cells_hand_over, handed-length}
-use Rattle.node_transfer.specs.Inside.Driven.{cells_before}
 use Rattle.node_transfer.specs.Start.{cells_at_start, no_journey, no_journeys}
 use Rattle.node_transfer.proofs.OfMail.Numbers.{cell-count}
 
@@ -67,6 +66,10 @@ flat-range N cell zero a h = All-nil (Within N)
 flat-range N cell (suc n) a h =
     All-append (Within N) (riders_in (cell a)) (flat_map riders_in (map cell (range_with_len (a + 1) n)))
     (h a (omega arith) (omega arith)) (flat-range N cell n (a + 1) (λ i low high. h i (omega (arith, low)) (omega (arith, high))))
+
+-- the cells of all nodes before step t
+abbrev pub cells_before : Plan → ℕ → List CellState
+cells_before p t = map (λ n. cell_before p n t away away) (all_nodes p)
 
 pub all-within : (p : Plan) → IsSound p → (t : ℕ) → All (Within (vehicle_count p)) (flat_map riders_in (cells_before p t))
 all-within p sound t =

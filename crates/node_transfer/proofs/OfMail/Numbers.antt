@@ -1,6 +1,6 @@
 -- Lists that are made of the numbers of a range.
 use Rattle.std.specs.List.{list_any, range_with_len}
-use Rattle.std.specs.Prelude.{filter, nat_eq, nat_lt, slice_get, slice_set, ◌≢◌}
+use Rattle.std.specs.Prelude.{filter, nat_eq, nat_lt, slice_get, ◌≢◌}
 use Rattle.std.proofs.Common.{◌≡◌, ℕ, zero, suc, ◌+◌, ◌<◌, ◌≤◌, Bool, true, false, cond, ◌&&◌, ◌||◌, ◌∷◌, length, map, refl, ap, sym, ◌∙◌, arith, Some, get_or}
 use Rattle.std.proofs.lemmas.Bool.{eqb-true, eq-eqb}
 use Rattle.std.proofs.lemmas.Bool.Decides.{nat_tests}
@@ -12,40 +12,6 @@ use Rattle.net_core.specs.Network.{numbers_below}
 use Rattle.dta_model.specs.Plans.{all_nodes}
 use Rattle.dta_model.specs.declared.plan.Plan.{Plan}
 use Rattle.cell_stages.specs.CellState.{CellState}
-use Rattle.cell_stages.specs.declared.mail.Mail.{Mail}
-
--- two rules that agree on the numbers make the same list
-same-range : {X : Type 0} (f g : ℕ → X) (n a : ℕ) → ((i : ℕ) → a ≤ i → i < a + n → f i ≡ g i) → map f (range_with_len a n) ≡ map g (range_with_len a n)
-same-range f g zero a h = refl
-same-range f g (suc n) a h =
-    ap (λ y. y ∷ map f (range_with_len (a + 1) n)) (h a (omega arith) (omega arith))
-    ∙ ap (λ ys. g a ∷ ys) (same-range f g n (a + 1) (λ i low high. h i (omega (arith, low)) (omega (arith, high))))
-
-pub same-below : {X : Type 0} (f g : ℕ → X) (n : ℕ) → ((i : ℕ) → i < n → f i ≡ g i) → map f (numbers_below n) ≡ map g (numbers_below n)
-same-below f g n h = same-range f g n 0 (λ i low high. h i (omega (arith, high)))
-
--- one of the list is set
-set-range : {X : Type 0} (f g : ℕ → X) (n a j : ℕ) (x : X) → j < n → x ≡ g (a + j) → ((i : ℕ) → i ≢ a + j → f i ≡ g i)
-    → slice_set (map f (range_with_len a n)) j x ≡ map g (range_with_len a n)
-set-range f g zero a j x h e other = absurd (omega (arith, h))
-set-range f g (suc n) a zero x h e other =
-    ap (λ y. y ∷ map f (range_with_len (a + 1) n)) (e ∙ ap g (plus_zero a))
-    ∙ ap (λ ys. g a ∷ ys) (same-range f g n (a + 1) (λ i low high. other i (λ q. absurd (omega (arith, low, q)))))
-  where
-    plus_zero : (a : ℕ) → a + 0 ≡ a
-    plus_zero a = omega arith
-set-range f g (suc n) a (suc j) x h e other =
-    ap (λ y. y ∷ slice_set (map f (range_with_len (a + 1) n)) j x) (other a (λ q. absurd (omega (arith, q))))
-    ∙ ap (λ ys. g a ∷ ys) (set-range f g n (a + 1) j x (omega (arith, h)) (e ∙ ap g (shifted a j)) (λ i ne. other i (λ q. ne (q ∙ shifted a j))))
-  where
-    shifted : (a j : ℕ) → a + suc j ≡ a + 1 + j
-    shifted a j = omega arith
-
-pub set-below : {X : Type 0} (f g : ℕ → X) (n j : ℕ) (x : X) → j < n → x ≡ g j → ((i : ℕ) → i ≢ j → f i ≡ g i) → slice_set (map f (numbers_below n)) j x ≡ map g (numbers_below n)
-set-below f g n j x h e other = set-range f g n 0 j x h (e ∙ ap g (zero_plus j)) (λ i ne. other i (λ q. ne (q ∙ zero_plus j)))
-  where
-    zero_plus : (j : ℕ) → j ≡ 0 + j
-    zero_plus j = omega arith
 
 -- what stands at a place
 pub get-below : {X : Type 0} (f : ℕ → X) (n j : ℕ) (d : X) → j < n → get_or (map f (numbers_below n)) j d ≡ f j
@@ -112,22 +78,10 @@ kept-range q (suc n) a j b e = by_test (q a) j e (λ i f. kept-range q n (a + 1)
 pub kept-below : (q : ℕ → Bool) (n j b : ℕ) → slice_get (filter q (numbers_below n)) j ≡ Some b → b < n
 kept-below q n j b e = let high = kept-range q n 0 j b e in omega (arith, high)
 
--- the numbers below the next bound
-pub below-next : (x n : ℕ) → nat_lt x (suc n) ≡ (nat_eq x n || nat_lt x n)
-below-next x n = grind (arith, nat_tests)
-
-pub below-none : (x : ℕ) → nat_lt x 0 ≡ false
-below-none x = grind (arith, nat_tests)
-
+-- a number below a bound
 pub below-all : (x n : ℕ) → x < n → nat_lt x n ≡ true
 below-all x n h = grind (arith, nat_tests)
 
-pub not-below : (x n : ℕ) → n ≤ x → nat_lt x n ≡ false
-not-below x n h = grind (arith, nat_tests)
-
--- there is mail for each link, and a cell for each node
-pub mail-count : (p : Plan) (mail : ℕ → Mail) → length (map mail (numbers_below (length p.net.links))) ≡ length p.net.links
-mail-count p mail = length-map-range_with_len mail 0 (length p.net.links)
-
+-- there is a cell for each node
 pub cell-count : (p : Plan) (cell : ℕ → CellState) → length (map cell (all_nodes p)) ≡ length p.net.nodes
 cell-count p cell = length-map-range_with_len cell 0 (length p.net.nodes)

@@ -1,17 +1,13 @@
 -- The mail of a node's links, put one link after another.
-use Rattle.std.specs.Prelude.{cond, nat_eq, slice_get, slice_set, ◌≢◌}
-use Rattle.std.proofs.Common.{◌≡◌, ℕ, zero, suc, ◌+◌, ◌<◌, ◌≤◌, Bool, true, false, ◌||◌, List, [], ◌∷◌, length, map, refl, ap, sym, ◌∙◌, subst, arith, Some, take, add-one, ◌⊎◌, inl, inr}
+use Rattle.std.specs.Prelude.{nat_eq, slice_get, slice_set, ◌≢◌}
+use Rattle.std.proofs.Common.{◌≡◌, ℕ, zero, suc, ◌+◌, ◌<◌, ◌≤◌, Bool, true, false, ◌||◌, List, [], ◌∷◌, length, refl, ap, sym, ◌∙◌, subst, Some, take, add-one, ◌⊎◌, inl, inr}
 use Rattle.std.proofs.lemmas.Bool.{eq-eqb, ne_eqb}
 use Rattle.std.proofs.lemmas.Bool.Decides.{eqb_tells}
-use Rattle.std.proofs.lemmas.List.FromFn.{length-map-range_with_len}
-use Rattle.std.proofs.lemmas.Option.{slice_get_within}
 use Rattle.std.proofs.Math.Dec.{eqb}
-use Rattle.net_core.specs.Network.{numbers_below}
 use Rattle.node_transfer.specs.Exchange.{ArePut, ChangesOnly, is_among}
 use Rattle.cell_stages.specs.declared.mail.Mail.{Mail}
 use Rattle.node_transfer.proofs.OfMail.ListPlaces.{among-next, take-all}
-use Rattle.node_transfer.proofs.OfMail.Numbers.{found-below}
-use Rattle.node_transfer.proofs.OfMail.Sets.{count-set, same-elements, set-here, set-other}
+use Rattle.node_transfer.proofs.OfMail.Sets.{count-set, set-here, set-other}
 
 -- a link among those up to a place
 pub among-here : (links : List ℕ) (j b : ℕ) → slice_get links j ≡ Some b → is_among (take (suc j) links) b ≡ true
@@ -74,23 +70,3 @@ module _ (rule : ℕ → Mail) (links : List ℕ) where
 
   pub put-again : (first : ℕ → Mail) (old mid new : List Mail) → ArePut first links old mid → ArePut rule links mid new → ArePut rule links old new
   put-again first old mid new f g = record { own = g.own; others = changed-again links old mid new f.others g.others }
-
-  -- the mail of a whole table, by one rule and then by another
-  pub put-below : (before after : ℕ → Mail) (count : ℕ) (new : List Mail) → ArePut rule links (map before (numbers_below count)) new
-      → ((l : ℕ) → l < count → cond (is_among links l) (rule l) (before l) ≡ after l) → new ≡ map after (numbers_below count)
-  put-below before after count new f same =
-      same-elements new (map after (numbers_below count)) (f.others.count ∙ length-map-range_with_len before 0 count ∙ sym (length-map-range_with_len after 0 count))
-      (λ l x y got there. some_mail x y (sym got ∙ at l (below l y there) (is_among links l) refl ∙ sym (found-below after count l (below l y there)) ∙ there))
-    where
-      some_mail : (x y : Mail) → Some x ≡ Some y → x ≡ y
-      some_mail x y h = cc
-
-      below : (l : ℕ) (y : Mail) → slice_get (map after (numbers_below count)) l ≡ Some y → l < count
-      below l y there =
-          let inside = slice_get_within (map after (numbers_below count)) l y there in
-          let many = length-map-range_with_len after 0 count in
-          omega (arith, inside, many)
-
-      at : (l : ℕ) → l < count → (c : Bool) → is_among links l ≡ c → slice_get new l ≡ Some (after l)
-      at l low true e = f.own l e ∙ ap (λ x. Some x) (sym (ap (λ c. cond c (rule l) (before l)) e) ∙ same l low)
-      at l low false e = f.others.others l e ∙ found-below before count l low ∙ ap (λ x. Some x) (sym (ap (λ c. cond c (rule l) (before l)) e) ∙ same l low)

@@ -2,9 +2,6 @@
 use Rattle.std.proofs.Common.{◌≡◌, ◌⊎◌, inl, inr, ℕ, ◌+◌, ◌-◌, ◌*◌, ◌<◌, ◌≤◌, Bool, cond, List, length, refl, arith, get_or, ap, sym, ◌∙◌, mul-le-mul_right}
 use Rattle.std.specs.Prelude.{All}
 use Rattle.std.proofs.lemmas.Bool.{cases_lt}
-use Rattle.std.proofs.lemmas.List.{length-map}
-use Rattle.net_core.specs.declared.rows.NetRows.{NetRows}
-use Rattle.dta_model.specs.LinkTimes.{TimeTable, free_table}
 use Rattle.time_routes.specs.Filling.Labels.{rest_in, value}
 use Rattle.time_routes.specs.Filling.Rests.{span, least_over}
 use Rattle.time_routes.specs.Filling.Rows.{IsRowTo, AreRows}
@@ -67,8 +64,3 @@ pub place_inside : (n wide back k : ℕ) → back ≤ n → k < wide → back * 
 place_inside n wide back k h inside =
     let rows : (back + 1) * wide ≤ (n + 1) * wide = mul-le-mul_right wide (omega arith) in
     omega arith
-
--- the free-flow table has the steps of each link
-pub free_many : (t : TimeTable) (net : NetRows) (bucket horizon : ℕ) → t ≡ free_table net bucket horizon → length t.free ≡ length net.links
-unfolding free_table
-free_many t net bucket horizon is = ap (λ x. length x.free) is ∙ length-map net.links (λ link. link.free)

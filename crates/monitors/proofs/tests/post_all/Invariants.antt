@@ -1,8 +1,0 @@
-use Rattle.std.proofs.Common.{◌≡◌, ◌+◌}
-use Rattle.monitors.specs.Examples.{running_after}
-use Rattle.monitors.specs.Posted.{IsLater}
-use Rattle.monitors.proofs.tests.post_all.Given as goal
-
-abbrev pub invariant-loop-done : goal.invariant-loop-done
-invariant-loop-done g l =
-    (l.writer.board ≡ l.board) × IsLater (running_after (l.done + 1)) l.writer.list

@@ -1,5 +1,0 @@
-use Rattle.phase_claims.specs.Crews.{IsReady}
-use Rattle.phase_claims.proofs.tests.drive.work_turns.Given as goal
-
-abbrev pub invariant-loop : goal.invariant-loop
-invariant-loop g l = IsReady l.floor 1 l.pass

@@ -1,7 +1,0 @@
-use Rattle.std.proofs.Common.{◌≡◌, map}
-use Rattle.net_core.specs.Network.{numbers_below}
-use Rattle.phase_claims.specs.Grid.{trip_of}
-use Rattle.phase_claims.proofs.tests.grid.trips.Given as goal
-
-abbrev pub invariant-loop-v : goal.invariant-loop-v
-invariant-loop-v l = l.trips.items ≡ map trip_of (numbers_below l.v)
