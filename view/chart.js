@@ -3,7 +3,7 @@
 // that is shown.
 const Chart = (() => {
     const ink = '#28323a', faint = '#dfe4e8', pale = '#5a6670';
-    const left = 58, right = 12, top = 30, bottom = 40;
+    const left = 58, right = 18, top = 30, bottom = 40;
 
     // A chart: { title, xName, yName, series: [{ name, colour, dash, points: [[x, y]], isStepped
     // }], bars, xMost, yMost }.
@@ -143,28 +143,6 @@ const Chart = (() => {
         return found;
     }
 
-    // Marks of a time axis in seconds: whole minutes or hours.
-    function timeMarks(least, most, count) {
-        const raw = Math.max(most - least, 1) / count;
-        const sizes = [
-            1, 2, 5, 10, 15, 30, 60, 120, 300, 600, 900, 1800, 3600, 7200, 14400, 21600, 43200,
-            86400
-        ];
-        const size = sizes.find((step) => step >= raw) || Math.ceil(raw / 86400) * 86400;
-        const found = [];
-        for (let value = Math.ceil(least / size) * size; value <= most; value += size)
-            found.push(value);
-        return found;
-    }
-
-    function clock(seconds) {
-        const whole = Math.round(seconds);
-        const two = (value) => String(value).padStart(2, '0');
-        const rest = whole % 60;
-        return `${Math.floor(whole / 3600)}:${two(Math.floor(whole / 60) % 60)}`
-            + (rest === 0 ? '' : `:${two(rest)}`);
-    }
-
     function short(value) {
         if (Math.abs(value) >= 1e6) return `${Number((value / 1e6).toPrecision(3))} M`;
         if (Math.abs(value) >= 1e4) return `${Number((value / 1e3).toPrecision(3))} k`;
@@ -181,5 +159,5 @@ const Chart = (() => {
             || 12 * power;
     }
 
-    return {draw, marks, timeMarks, clock, short, roundAbove};
+    return {draw, marks, short, roundAbove};
 })();

@@ -32,69 +32,71 @@ const Curves = (() => {
         {id: 'gap', title: 'Gap by iteration', has: (run) => run.gap !== null, make: gap},
     ];
 
-    function overTime(runs, settings) {
+    function overTime(runs) {
         return {
             xLeast: 0,
-            xMost: Math.max(...runs.map((run) => run.horizon)) * settings.stepSeconds,
-            xName: 'hours and minutes from the start',
-            xMarks: Chart.timeMarks,
-            xFormat: Chart.clock,
+            xMost: Math.max(...runs.map((run) => run.horizon * run.units.stepSeconds)),
+            xName: 'time, hours:minutes',
+            xMarks: Clock.marks,
+            xFormat: Clock.words,
         };
     }
 
     // A point about every four hundredth of the run is enough for the eye.
-    function sampled(list, settings) {
+    function sampled(list, {units}) {
         const stride = Math.max(Math.floor(list.length / 400), 1), points = [[0, 0]];
         for (let step = stride - 1; step < list.length; step += stride) {
-            points.push([(step + 1) * settings.stepSeconds, list[step]]);
+            points.push([(step + 1) * units.stepSeconds, list[step]]);
         }
         if (list.length > 0)
-            points.push([list.length * settings.stepSeconds, list[list.length - 1]]);
+            points.push([list.length * units.stepSeconds, list[list.length - 1]]);
         return points;
     }
 
-    function states(run, runs, settings) {
+    function states(run, runs) {
         return {
-            ...overTime(runs, settings),
+            ...overTime(runs),
             yName: 'vehicles',
             series: [
                 {
                     name: 'waiting',
                     colour: colours.second,
                     dash: [2, 3],
-                    points: sampled(run.states.waiting, settings)
+                    points: sampled(run.states.waiting, run)
                 },
                 {
                     name: 'running',
                     colour: colours.first,
-                    points: sampled(run.states.running, settings)
+                    points: sampled(run.states.running, run)
                 },
                 {
                     name: 'arrived',
                     colour: colours.third,
                     dash: [8, 4],
-                    points: sampled(run.states.arrived, settings)
+                    points: sampled(run.states.arrived, run)
                 },
             ]
         };
     }
 
-    function byBucket(run, settings, value) {
-        const {from, to} = run.buckets(), points = [];
+    function byBucket(run, value) {
+        const {from, to} = run.buckets(), {stepSeconds} = run.units, points = [];
         from.forEach(
             (first, bucket) =>
-                points.push([first * settings.stepSeconds, value(first, to[bucket], bucket)]));
+                points.push([first * stepSeconds, value(first, to[bucket], bucket)]));
         if (points.length > 0)
-            points.push([to[to.length - 1] * settings.stepSeconds, points[points.length - 1][1]]);
+            points.push([to[to.length - 1] * stepSeconds, points[points.length - 1][1]]);
         return points;
     }
 
-    function flows(run, runs, settings) {
-        const inBucket = (list) =>
-            byBucket(run, settings, (from, to) => list[to - 1] - (from > 0 ? list[from - 1] : 0));
+    function flows(run, runs) {
+        const inBucket = (list) => byBucket(
+            run,
+            (from, to) =>
+                (list[to - 1] - (from > 0 ? list[from - 1] : 0)) / run.hours(to - from));
         return {
-            ...overTime(runs, settings),
-            yName: 'vehicles in a bucket',
+            ...overTime(runs),
+            yName: 'vehicles an hour',
             series: [
                 {
                     name: 'departures',
@@ -113,34 +115,33 @@ const Curves = (() => {
         };
     }
 
-    function lost(run, runs, settings) {
-        const points = byBucket(run, settings, (from, to, bucket) => {
+    function lost(run, runs) {
+        const points = byBucket(run, (from, to, bucket) => {
             let sum = 0;
             for (let link = 0; link < run.links.count; link += 1) sum += run.lost(link, bucket);
-            return sum * settings.stepSeconds / 3600;
+            return run.hours(sum);
         });
         return {
-            ...overTime(runs, settings),
-            yName: 'vehicle-hours, by the bucket of entry',
+            ...overTime(runs),
+            yName: 'vehicle-hours in a bucket',
             series: [
                 {colour: colours.second, isStepped: true, points},
             ]
         };
     }
 
-    function trips(run, runs, settings) {
-        const minutes = settings.stepSeconds / 60;
-        const longest = Math.max(1, ...runs.map((other) => {
+    function trips(run, runs) {
+        const longest = Math.max(...runs.map((other) => {
             const steps = Totals.tripSteps(other);
-            return steps.length > 0 ? steps[steps.length - 1] : 1;
-        })) * minutes;
+            return other.minutes(steps.length > 0 ? steps[steps.length - 1] : 1);
+        }));
         const [, wide] = Chart.marks(0, longest, 40);
         const edges = [0];
         while (edges[edges.length - 1] <= longest) edges.push(edges.length * wide);
         const values = new Array(edges.length - 1).fill(0);
         for (const steps of Totals.tripSteps(run)) {
-            values[Math.min(Math.floor(steps * minutes / wide + 1e-9), values.length - 1)] +=
-                1;
+            const place = Math.floor(run.minutes(steps) / wide + 1e-9);
+            values[Math.min(place, values.length - 1)] += 1;
         }
         return {
             xLeast: 0,
@@ -178,27 +179,28 @@ const Curves = (() => {
     function rowsOf(chart) {
         if (chart.bars !== undefined) {
             const {edges, values} = chart.bars;
+            const unit = chart.xFormat === Clock.words ? 'seconds' : 'minutes';
             return {
-                head: ['from_minutes', 'to_minutes', 'vehicles'],
+                head: [`from_${unit}`, `to_${unit}`, 'vehicles'],
                 rows: values.map((value, place) => [edges[place], edges[place + 1], value])
             };
         }
         const names = chart.series.map((line) => line.name || chart.yName.split(',')[0]);
         return {
-            head: [chart.xName.startsWith('hours') ? 'seconds' : chart.xName, ...names],
+            head: [chart.xFormat === Clock.words ? 'seconds' : chart.xName, ...names],
             rows: chart.series[0].points.map(
                 (point,
                  place) => [point[0], ...chart.series.map((line) => line.points[place][1])])
         };
     }
 
-    function show(box, runs, settings) {
+    function show(box, runs) {
         box.replaceChildren();
         const waiting = [];
         for (const kind of kinds) {
             const having = runs.filter((run) => kind.has(run));
             if (having.length === 0) continue;
-            const charts = having.map((run) => kind.make(run, having, settings));
+            const charts = having.map((run) => kind.make(run, having));
             const yMost = Chart.roundAbove(Math.max(...charts.map(greatest)));
             const card = Elements.make(
                 'section', {className: 'card'}, Elements.make('h3', {}, kind.title));
@@ -227,7 +229,7 @@ const Curves = (() => {
         const run = runs[place], name = `${kind.id}_${run.name}`;
         const {head, rows} = rowsOf(chart);
         const mark =
-            chart.xFormat === Chart.clock ? [Elements.make('div', {className: 'mark'})] : [];
+            chart.xFormat === Clock.words ? [Elements.make('div', {className: 'mark'})] : [];
         return Elements.make(
             'figure', {}, canvas, ...mark,
             Elements.make(
@@ -237,6 +239,16 @@ const Curves = (() => {
                 ' ', Elements.button('CSV', () => Elements.saveRows(name, head, rows), {
                     title: 'Save as a table'
                 })));
+    }
+
+    // One chart by itself, to be drawn once it stands on the page.
+    function figure(kind, run, chart) {
+        const canvas = chartCanvas(kind, run);
+        return {
+            figure: figureOf(kind, chart, [run], 0, canvas),
+            draw: () =>
+                Chart.draw(canvas, {...chart, yMost: Chart.roundAbove(greatest(chart))}),
+        };
     }
 
     // Moves the upright line of each chart over time to the step that is shown.
@@ -249,5 +261,5 @@ const Curves = (() => {
         }
     }
 
-    return {show, colours, byBucket, markTime};
+    return {show, figure, colours, overTime, byBucket, markTime};
 })();

@@ -15,7 +15,8 @@ class Legend {
             return;
         }
         const parts = [];
-        for (let place = 0; place <= scale.bounds.length + 1; place += 1) {
+        const classes = scale.bounds.length + 2 + (scale.hasBlocked ? 1 : 0);
+        for (let place = 0; place < classes; place += 1) {
             const swatch = Elements.make('span', {className: 'swatch'});
             swatch.style.background = Measures.colours[place];
             swatch.style.height = `${2 + 4 * Measures.widths[place]}px`;

@@ -1,9 +1,9 @@
 'use strict';
 // What is known of the picked link: its numbers, its curve over time, the vehicles on it.
 class LinkPanel {
-    constructor(box, pick) {
+    constructor(box, actions) {
         this.box = box;
-        this.pick = pick;
+        this.actions = actions;
         this.shown = '';
         this.parts = [];
     }
@@ -18,15 +18,17 @@ class LinkPanel {
             return;
         }
         const key = [
-            view.selected, ...having.map((run) => run.name), JSON.stringify(view.settings)
+            view.selected, Clock.start,
+            ...having.flatMap((run) => [run.name, JSON.stringify(run.units)])
         ].join('|');
         if (key !== this.shown) this.make(view, having);
         this.shown = key;
-        for (const part of this.parts) this.update(part, view);
+        for (const part of this.parts) this.update(part);
     }
 
     make(view, runs) {
-        const close = Elements.button('Close', () => this.pick(null), {title: 'Close (Escape)'});
+        const close = Elements.button(
+            'Close', () => this.actions.pick(null), {title: 'Close (Escape)'});
         this.box.replaceChildren(Elements.make('h2', {}, `Link ${view.selected}`), close);
         const row = Elements.make('div', {className: 'charts'});
         this.parts = runs.map((run) => this.part(run, view, runs.length > 1));
@@ -48,10 +50,13 @@ class LinkPanel {
             role: 'img',
             'aria-label': `Travel time of link ${view.selected} over time`
         });
-        const chart = run.hasLoading ? this.curve(run, link, view.settings) : null;
+        const chart = run.hasLoading ? this.curve(run, link) : null;
         canvas.hidden = chart === null;
+        const use = Elements.button(
+            'Who uses it', () => this.actions.use(run, link),
+            {className: 'use', hidden: run.visits === null});
         const box = Elements.make(
-            'figure', {}, isNamed ? Elements.make('h3', {}, run.name) : '', numbers,
+            'figure', {}, isNamed ? Elements.make('h3', {}, run.name) : '', numbers, use,
             Elements.make(
                 'div', {className: 'curve'}, canvas, Elements.make('div', {className: 'mark'})),
             vehicles);
@@ -60,14 +65,9 @@ class LinkPanel {
         return {box, run, link, numbers, canvas, chart, vehicles, most};
     }
 
-    curve(run, link, settings) {
-        const minutes = settings.stepSeconds / 60;
+    curve(run, link) {
         return {
-            xLeast: 0,
-            xMost: run.horizon * settings.stepSeconds,
-            xName: 'hours and minutes from the start',
-            xMarks: Chart.timeMarks,
-            xFormat: Chart.clock,
+            ...Curves.overTime([run]),
             yName: 'minutes on the link',
             series: [
                 {
@@ -75,52 +75,70 @@ class LinkPanel {
                     colour: Curves.colours.second,
                     isStepped: true,
                     points: Curves.byBucket(
-                        run, settings, (from, to, bucket) => run.travel(link, bucket) * minutes)
+                        run, (from, to, bucket) => run.minutes(run.travel(link, bucket)))
                 },
                 {
                     name: 'free flow',
                     colour: Curves.colours.first,
                     dash: [5, 4],
                     isStepped: true,
-                    points: Curves.byBucket(run, settings, () => run.times.free[link] * minutes)
+                    points: Curves.byBucket(run, () => run.minutes(run.times.free[link]))
                 },
             ],
         };
     }
 
-    update(part, view) {
-        const facts = LinkPanel.facts(part.run, part.link, view);
+    update(part) {
+        const facts = LinkPanel.facts(part.run, part.link);
         part.numbers.replaceChildren(...facts.flatMap(
             ([name, value]) => [Elements.make('dt', {}, name), Elements.make('dd', {}, value)]));
-        if (part.run.occupancy !== null) this.updateVehicles(part, view);
+        if (part.run.occupancy !== null) this.updateVehicles(part);
     }
 
-    // The numbers of a link at a step, as pairs of a name and a text. Hovering shows the same.
-    static facts(run, link, view) {
+    // The numbers of a link at the run's step, as pairs of a name and a text. Hovering shows the
+    // same.
+    static facts(run, link) {
         const {links} = run, lanes = links.lanes[link];
+        const capacity = run.capacity(link, run.bucketAt(run.step));
         return [
             ['way', run.linkTitle(link)],
+            ...(links.titles === null || links.titles[link] === '' ? [] :
+                                                                   [['name', links.titles[link]]]),
             [
                 'length',
-                `${Totals.format(links.length[link])} ${view.settings.unit}, ` +
+                `${Totals.format(links.length[link])} ${run.units.unit}, ` +
                     `${lanes} ${lanes === 1 ? 'lane' : 'lanes'}`,
             ],
-            ['capacity', `${Totals.format(links.capacity[link] * lanes)} vehicles an hour`],
-            ...LinkPanel.timeFacts(run, link, view.step),
+            ['capacity', `${Totals.format(capacity)} vehicles an hour`],
+            ...LinkPanel.timeFacts(run, link),
             ...LinkPanel.vehicleFacts(run, link),
-            ...LinkPanel.turns(run, link, view),
+            ...LinkPanel.turns(run, link),
         ];
     }
 
-    static timeFacts(run, link, step) {
+    static timeFacts(run, link) {
         if (run.times === null) return [];
-        const free = run.times.free[link];
-        if (run.isFreeflow) return [['free flow', `${free} steps`]];
-        const bucket = run.bucketAt(step), ratio = run.ratio(link, bucket).toFixed(2);
-        const steps = `steps ${run.times.from[bucket]} to ${run.times.to[bucket]}`;
+        const words = (steps) =>
+            `${run.minutes(steps).toFixed(1)} min (${steps} ${steps === 1 ? 'step' : 'steps'})`;
+        const free = ['free flow', words(run.times.free[link])];
+        if (run.isFreeflow) return [free];
+        const bucket = run.bucketAt(run.step), entered = run.entered(link, bucket);
+        const interval = run.bucketWords(bucket);
+        if (entered === 0) return [free, ['entered', `nobody from ${interval}`]];
+        const flow = run.flow(link, bucket);
+        const share = Math.round(100 * flow / run.capacity(link, bucket));
         return [
-            ['time', `${run.travel(link, bucket)} steps, free flow ${free}: ×${ratio}`],
-            ['entered', `${Totals.format(run.entered(link, bucket))} in ${steps}`],
+            free,
+            [
+                'time',
+                `${words(run.travel(link, bucket))}: ×${run.ratio(link, bucket).toFixed(2)}`
+            ],
+            ['speed', `${run.speed(link, bucket).toFixed(1)} km/h`],
+            ['entered', `${Totals.format(entered)} vehicles from ${interval}`],
+            [
+                'flow',
+                `${Totals.format(Math.round(flow))} vehicles an hour (${share} % of capacity)`
+            ],
         ];
     }
 
@@ -129,31 +147,40 @@ class LinkPanel {
         if (run.occupancy === null) return [['stores', `${Totals.format(storage)} vehicles`]];
         const count = run.occupancy.vehiclesOn(link), share = Math.round(100 * count / storage);
         const places = `${Totals.format(storage)} that it stores (${share} %)`;
+        const waiting = Totals.format(run.occupancy.waiting[link]);
+        const stood = run.stoodOn(link);
+        const words = `for ${run.minutes(stood).toFixed(1)} min its first vehicle has stood`;
         return [
-            ['waiting for it', `${Totals.format(run.occupancy.waiting[link])} at origins`],
-            ['on it', `${Totals.format(count)} of ${places}`],
+            ...(stood < 0 ? [] : [['blocked', words]]),
+            ['waiting', `${waiting} vehicles at origins for it`],
+            ['on it', `${Totals.format(count)} vehicles of ${places}`],
         ];
     }
 
-    static turns(run, link, view) {
+    // A count is of its own interval, which may be longer than the bucket that is shown.
+    static turns(run, link) {
         if (run.counts === null) return [];
         const name = run.links.names[link];
         const turns = run.counts.filter(
-            (count) => count.kind === 'turn' && count.first === name && count.from <= view.step
-                && view.step < count.to);
+            (count) => count.kind === 'turn' && count.first === name && count.from <= run.step
+                && run.step < count.to);
         return turns.slice(0, 6).map(
-            (count) => [`turn to ${count.second}`, `${Totals.format(count.vehicles)} vehicles`]);
+            ({second, from, to, vehicles}) =>
+                [`turn to ${second}`,
+                 `${Totals.format(vehicles)} vehicles from ${run.clock(from)} to ` +
+                     `${run.clock(to)}: ` +
+                     `${Totals.format(Math.round(vehicles / run.hours(to - from)))} an hour`]);
     }
 
-    updateVehicles(part, view) {
+    updateVehicles(part) {
         const {run, link} = part, most = 12;
         const [first, behind] = run.occupancy.rangeOn(link);
         const rows = [];
         for (let visit = first; visit < Math.min(behind, first + most); visit += 1) {
             const agent = run.visits.agent[visit];
             rows.push([
-                run.agentName(agent), run.tripTitle(agent), String(run.visits.enter[visit]),
-                String(view.step - run.visits.enter[visit])
+                run.agentName(agent), run.tripTitle(agent), run.clock(run.visits.enter[visit]),
+                run.minutes(run.step - run.visits.enter[visit]).toFixed(1)
             ]);
         }
         if (rows.length === 0) {
@@ -162,7 +189,7 @@ class LinkPanel {
         }
         const rest = behind - first - rows.length;
         part.vehicles.replaceChildren(
-            Elements.table(['Vehicle', 'Zones', 'Entered at step', 'Steps on it'], rows, 2),
+            Elements.table(['Vehicle', 'Zones', 'Entered at', 'Minutes on it'], rows, 2),
             rest > 0 ? `and ${Totals.format(rest)} more behind these.` : '');
     }
 }

@@ -6,11 +6,14 @@ class MapGeometry {
         const {nodes, links} = run;
         this.run = run;
         this.count = links.count;
+        this.bends = links.bends;
+        this.bendScreen = new Float32Array(links.bends === null ? 0 : links.bends.x.length * 2);
         this.side = MapGeometry.sidesOf(links);
         this.screen = new Float32Array(links.count * 4);
         this.isVisible = new Uint8Array(links.count);
         this.bounds = MapGeometry.boundsOf(nodes);
-        this.middleLength = MapGeometry.middleLengthOf(run);
+        this.middleLength = this.middleOfLengths();
+        this.rank = MapGeometry.ranksOf(links);
     }
 
     // Links between the same two nodes stand beside each other: the first at side 0, the next one
@@ -27,6 +30,15 @@ class MapGeometry {
         return sides;
     }
 
+    // How important links are, by their capacity over all lanes beside that of the middle one: 0
+    // for a street, 1 as most, 2 for an arterial.
+    static ranksOf({lanes, capacity}) {
+        const sizes = capacity.map((value, link) => value * lanes[link]);
+        const middle = sizes.slice().sort()[sizes.length >> 1];
+        return Uint8Array.from(
+            sizes, (size) => (size < 0.75 * middle ? 0 : size > 1.5 * middle ? 2 : 1));
+    }
+
     static boundsOf({x, y}) {
         const bounds = {left: Infinity, right: -Infinity, bottom: Infinity, top: -Infinity};
         for (let node = 0; node < x.length; node += 1) {
@@ -38,14 +50,39 @@ class MapGeometry {
         return x.length > 0 ? bounds : {left: 0, right: 1, bottom: 0, top: 1};
     }
 
-    static middleLengthOf({nodes, links}) {
-        const lengths = Float64Array.from(
-            links.from,
-            (from, link) => Math.hypot(
-                nodes.x[links.to[link]] - nodes.x[from],
-                nodes.y[links.to[link]] - nodes.y[from]));
+    middleOfLengths() {
+        const lengths = new Float64Array(this.count);
+        for (let link = 0; link < this.count; link += 1) lengths[link] = this.lengthOf(link);
         lengths.sort();
         return lengths.length > 0 ? lengths[lengths.length >> 1] : 0;
+    }
+
+    // A link's length in the network's own coordinates.
+    lengthOf(link) {
+        const {nodes: {x, y}, links: {from, to}} = this.run;
+        if (this.bendStart(link) === this.bendStart(link + 1))
+            return Math.hypot(x[to[link]] - x[from[link]], y[to[link]] - y[from[link]]);
+        const points = this.pointsOf(link);
+        let length = 0;
+        for (let at = 1; at < points.length; at += 1) {
+            length += Math.hypot(
+                points[at][0] - points[at - 1][0], points[at][1] - points[at - 1][1]);
+        }
+        return length;
+    }
+
+    // A link's ends and bends in the network's own coordinates.
+    pointsOf(link) {
+        const {nodes: {x, y}, links: {from, to}} = this.run, points = [];
+        points.push([x[from[link]], y[from[link]]]);
+        for (let bend = this.bendStart(link); bend < this.bendStart(link + 1); bend += 1)
+            points.push([this.bends.x[bend], this.bends.y[bend]]);
+        points.push([x[to[link]], y[to[link]]]);
+        return points;
+    }
+
+    bendStart(link) {
+        return this.bends === null ? 0 : this.bends.start[link];
     }
 
     // A camera that shows all nodes.
@@ -65,11 +102,13 @@ class MapGeometry {
         const middle = this.middleLength * camera.scale;
         this.middle = middle;
         // Near by, links grow more slowly than the distances between nodes.
-        this.unit = middle < 150 ? Math.max(middle * 0.03, 0.8) :
+        this.isDense = middle < 12;
+        this.unit = middle < 150 ? Math.max(middle * 0.03, 1) :
                                    Math.min(4.5 + (middle - 150) * 0.01, 9);
         this.offset = this.unit * 1.25 + 0.5;
         this.nodeRadius = middle > 60 ? 10 : middle > 24 ? 3 : 0;
         this.placeLinks(camera, width, height);
+        if (this.bends !== null) this.placeBends(camera, width, height);
     }
 
     screenX(node, camera, width) {
@@ -109,6 +148,70 @@ class MapGeometry {
         }
     }
 
+    // Links with bends: each point is moved to the right of the direction there.
+    placeBends(camera, width, height) {
+        const {screen} = this;
+        for (let link = 0; link < this.count; link += 1) {
+            const first = this.bendStart(link), last = this.bendStart(link + 1);
+            if (first === last) continue;
+            const aside = this.offset * (1 + 2 * this.side[link]);
+            const points = this.pointsOf(link).map(([x, y]) => [
+                (x - camera.x) * camera.scale + width / 2,
+                height / 2 - (y - camera.y) * camera.scale
+            ]);
+            points.forEach(([x, y], at) => {
+                const before = points[Math.max(at - 1, 0)];
+                const behind = points[Math.min(at + 1, points.length - 1)];
+                const acrossX = behind[0] - before[0], acrossY = behind[1] - before[1];
+                const length = Math.hypot(acrossX, acrossY) || 1;
+                const place = at === 0 ? link * 4 : at > last - first ? link * 4 + 2 : -1;
+                const into = place < 0 ? this.bendScreen : screen;
+                const to = place < 0 ? (first + at - 1) * 2 : place;
+                into[to] = x - acrossY / length * aside;
+                into[to + 1] = y + acrossX / length * aside;
+                if (x > 0 && x < width && y > 0 && y < height) this.isVisible[link] = 1;
+            });
+        }
+    }
+
+    // Calls `take` with the ends of each straight piece of a link on the screen.
+    eachPiece(link, take) {
+        const {screen, bendScreen} = this, behind = this.bendStart(link + 1);
+        let x = screen[link * 4], y = screen[link * 4 + 1];
+        for (let bend = this.bendStart(link); bend < behind; bend += 1) {
+            take(x, y, bendScreen[bend * 2], bendScreen[bend * 2 + 1]);
+            x = bendScreen[bend * 2];
+            y = bendScreen[bend * 2 + 1];
+        }
+        take(x, y, screen[link * 4 + 2], screen[link * 4 + 3]);
+    }
+
+    lengthOnScreen(link) {
+        let length = 0;
+        this.eachPiece(link, (x1, y1, x2, y2) => {
+            length += Math.hypot(x2 - x1, y2 - y1);
+        });
+        return length;
+    }
+
+    // The point at a share of a link's length on the screen, and the direction there.
+    pointAt(link, share) {
+        let left = this.lengthOnScreen(link) * share, point = null;
+        this.eachPiece(link, (x1, y1, x2, y2) => {
+            const length = Math.hypot(x2 - x1, y2 - y1) || 1e-9;
+            if (point !== null && left < 0) return;
+            const part = Math.min(left / length, 1);
+            point = {
+                x: x1 + (x2 - x1) * part,
+                y: y1 + (y2 - y1) * part,
+                alongX: (x2 - x1) / length,
+                alongY: (y2 - y1) / length,
+            };
+            left -= length;
+        });
+        return point;
+    }
+
     isLoop(link) {
         return this.run.links.from[link] === this.run.links.to[link];
     }
@@ -139,10 +242,15 @@ class MapGeometry {
     }
 
     toLine(link, x, y) {
-        const x1 = this.screen[link * 4], y1 = this.screen[link * 4 + 1];
-        const alongX = this.screen[link * 4 + 2] - x1, alongY = this.screen[link * 4 + 3] - y1;
-        const square = alongX * alongX + alongY * alongY || 1;
-        const share = Math.min(Math.max(((x - x1) * alongX + (y - y1) * alongY) / square, 0), 1);
-        return (x - x1 - share * alongX) ** 2 + (y - y1 - share * alongY) ** 2;
+        let least = Infinity;
+        this.eachPiece(link, (x1, y1, x2, y2) => {
+            const alongX = x2 - x1, alongY = y2 - y1;
+            const square = alongX * alongX + alongY * alongY || 1;
+            const share =
+                Math.min(Math.max(((x - x1) * alongX + (y - y1) * alongY) / square, 0), 1);
+            least = Math.min(
+                least, (x - x1 - share * alongX) ** 2 + (y - y1 - share * alongY) ** 2);
+        });
+        return least;
     }
 }

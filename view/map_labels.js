@@ -3,6 +3,7 @@
 class MapLabels {
     constructor(map) {
         this.map = map;
+        this.words = [];
         this.boxes = map.geometry.nodeRadius >= 10 ? MapLabels.nodeBoxes(map) : [];
     }
 
@@ -20,7 +21,8 @@ class MapLabels {
     }
 
     draw(view) {
-        const {pen, run, worst} = this.map, selected = run.linkPlaces.get(view.selected);
+        const {pen, run} = this.map, selected = run.linkPlaces.get(view.selected);
+        const worst = this.map.traceOf(view) === null ? this.map.worst : [];
         const isNamed = selected === undefined || worst.includes(selected);
         pen.font = '600 12px system-ui, sans-serif';
         pen.textAlign = 'left';
@@ -28,34 +30,28 @@ class MapLabels {
         for (const link of isNamed ? worst : [selected, ...worst]) this.place(view, link);
     }
 
-    // The visible links of the greatest values, the greatest first.
+    // The visible links of the greatest values, the greatest first. Of delays and what is like
+    // them these are the links that lose most: a stub of one step has the greatest delay soon.
     static worst({values, geometry, run}, measure, most) {
-        if (!measure.has(run)) return [];
-        const found = [];
-        for (let link = 0; link < run.links.count; link += 1) {
-            if (values[link] <= measure.least || !geometry.isVisible[link]) continue;
-            if (found.length === most && values[link] <= values[found[most - 1]]) continue;
-            let place = found.length;
-            while (place > 0 && values[found[place - 1]] < values[link]) place -= 1;
-            found.splice(place, 0, link);
-            if (found.length > most) found.pop();
-        }
-        return found;
+        if (!measure.has(run) || measure.isUnnamed) return [];
+        const bucket = run.bucketAt(run.step);
+        const rank = measure.hasBlocked ? (link) => run.lost(link, bucket) :
+                                          (link) => values[link];
+        return Totals.ten(
+            run.links.count, (link) => (geometry.isVisible[link] ? rank(link) : 0), 0, most);
     }
 
     // To the right of the link's direction, or where that is taken to the left, or nowhere.
     place(view, link) {
-        const {pen, geometry, values, run, width, height} = this.map, {measure} = view.scale;
-        const words = measure.has(run) ?
-            `link ${run.links.names[link]}  ${measure.format(values[link])}` :
-            `link ${run.links.names[link]}`;
-        const screen = geometry.screen, at = link * 4;
-        const middleX = (screen[at] + screen[at + 2]) / 2,
-              middleY = (screen[at + 1] + screen[at + 3]) / 2;
-        const length =
-            Math.hypot(screen[at + 2] - screen[at], screen[at + 3] - screen[at + 1]) || 1;
-        const sideX = -(screen[at + 3] - screen[at + 1]) / length;
-        const sideY = (screen[at + 2] - screen[at]) / length;
+        const {pen, geometry, values, classes, run, width, height} = this.map;
+        const {measure} = view.scale;
+        const shown = measure.has(run) ?
+            Measures.wordsOf(view.scale, run, link, values[link], classes[link]) :
+            '';
+        const words = `link ${run.links.names[link]}  ${shown}`.trim();
+        this.words.push(words);
+        const {x: middleX, y: middleY, alongX, alongY} = geometry.pointAt(link, 0.5);
+        const sideX = -alongY, sideY = alongX;
         const box = {width: pen.measureText(words).width + 12, height: 20};
         for (const side of [1, -1, 2, -2, 3, -3, 4, -4]) {
             const away = Math.sign(side)

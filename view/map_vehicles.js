@@ -10,7 +10,7 @@ class MapVehicles {
 
     draw(view) {
         const {run, geometry, pen} = this.map;
-        if (run.occupancy === null || !view.settings.showVehicles) return;
+        if (run.occupancy === null || !view.showVehicles) return;
         if (geometry.middle < 24) {
             this.words = 'Zoom in to see vehicles.';
             return;
@@ -22,11 +22,11 @@ class MapVehicles {
             const count = run.occupancy.vehiclesOn(link);
             if (count === 0) continue;
             const rows = this.rowsOf(link);
-            if (this.lengthOnScreen(link) * rows < 3 * count) {
+            if (geometry.lengthOnScreen(link) * rows < 3 * count) {
                 crowded += 1;
                 continue;
             }
-            this.traceLink(link, view.step, count, rows);
+            this.traceLink(link, run.step, count, rows);
             dots += count;
             if (dots > 20000) break;
         }
@@ -45,33 +45,24 @@ class MapVehicles {
         return [...shown, ...rest].join('; ');
     }
 
-    lengthOnScreen(link) {
-        const screen = this.map.geometry.screen, at = link * 4;
-        return Math.hypot(screen[at + 2] - screen[at], screen[at + 3] - screen[at + 1]);
-    }
-
     // As many rows of dots as the link has lanes and its line has room for.
     rowsOf(link) {
-        const room = Math.floor(this.map.widthOf(this.map.classes[link]) / 4);
+        const room = Math.floor(this.map.widthOfLink(link) / 4);
         return Math.max(Math.min(Math.floor(this.map.run.links.lanes[link]), room), 1);
     }
 
     traceLink(link, step, count, rows) {
         const {run, geometry, pen} = this.map, {visits} = run;
-        const screen = geometry.screen, at = link * 4;
-        const acrossX = screen[at + 2] - screen[at], acrossY = screen[at + 3] - screen[at + 1];
         const free = run.times === null ? 1 : run.times.free[link];
         const room = 1 / Math.max(count, run.storage[link]);
         const radius = rows > 1 ? 1.6 : Math.min(Math.max(geometry.unit * 0.6, 1.4), 3);
-        const length = this.lengthOnScreen(link) || 1;
-        const asideX = -acrossY / length * 4, asideY = acrossX / length * 4;
         const [first, behind] = run.occupancy.rangeOn(link);
         for (let visit = first; visit < behind; visit += 1) {
             const driven = (step - visits.enter[visit]) / free;
             const share = Math.max(Math.min(driven, 1 - (visit - first) * room), 0);
             const row = run.visits.agent[visit] % rows - (rows - 1) / 2;
-            const x = screen[at] + acrossX * share + asideX * row;
-            const y = screen[at + 1] + acrossY * share + asideY * row;
+            const point = geometry.pointAt(link, share);
+            const x = point.x - point.alongY * 4 * row, y = point.y + point.alongX * 4 * row;
             pen.moveTo(x + radius, y);
             pen.arc(x, y, radius, 0, 2 * Math.PI);
         }

@@ -23,12 +23,12 @@ class MapView {
         this.run = run;
         this.camera = camera;
         this.geometry = new MapGeometry(run);
-        this.values = new Float32Array(run.links.count);
+        this.values = new Float64Array(run.links.count);
         this.classes = new Uint8Array(run.links.count);
         this.order = new Int32Array(run.links.count);
         this.classCounts = new Int32Array(Measures.colours.length);
         this.placed = '';
-        this.content = '';
+        this.look = '';
     }
 
     // Takes over the canvas's size on the page, in the screen's own pixels.
@@ -54,6 +54,28 @@ class MapView {
         this.camera.isMoved = false;
     }
 
+    // Moves the map so that some nodes are in sight, and zooms in where they are too near each
+    // other to be told apart.
+    bringIntoSight(nodes) {
+        if (nodes.length === 0 || this.width === 0) return;
+        const {camera, width, height, run, geometry} = this;
+        const [x, y] = [run.nodes.x, run.nodes.y].map((list) => nodes.map((node) => list[node]));
+        const {left, right, bottom, top} = MapGeometry.boundsOf({x, y});
+        const size =
+            Math.max(Math.hypot(right - left, top - bottom), geometry.middleLength / 4, 1e-9);
+        const least = 24 / size, most = Math.min(width, height) * 0.6 / size;
+        const isIn = nodes.every((node) => {
+            const across = geometry.screenX(node, camera, width);
+            const down = geometry.screenY(node, camera, height);
+            return across > 0 && across < width && down > 0 && down < height;
+        });
+        if (isIn && camera.scale >= least) return;
+        camera.isMoved = true;
+        camera.scale = Math.min(Math.max(camera.scale, least), most);
+        camera.x = (left + right) / 2;
+        camera.y = (bottom + top) / 2;
+    }
+
     draw(view) {
         if (this.run === null) return;
         this.resize();
@@ -66,17 +88,52 @@ class MapView {
         const vehicles = new MapVehicles(this);
         vehicles.draw(view);
         this.drawNodes();
-        new MapLabels(this).draw(view);
-        this.told.drawn(this, vehicles.words);
+        this.drawFound(view);
+        ScaleBar.draw(this);
+        const labels = new MapLabels(this);
+        labels.draw(view);
+        this.told.drawn(this, [this.thinnedWords(), vehicles.words], labels.words);
+    }
+
+    thinnedWords() {
+        if (this.thinned === 0) return '';
+        return `${Totals.format(this.thinned)} streets without delay are left out: zoom in.`;
     }
 
     drawLayer(view) {
         this.pen = this.layerPen;
         this.pen.fillStyle = '#ffffff';
         this.pen.fillRect(0, 0, this.width, this.height);
-        this.drawSelected(view);
+        const trace = this.traceOf(view);
+        if (trace === null) {
+            this.drawSelected(view);
+            this.drawLinks();
+            this.drawArrows();
+            return;
+        }
+        this.pen.globalAlpha = 0.2;
         this.drawLinks();
-        this.drawArrows();
+        this.pen.globalAlpha = 1;
+        this.drawSelected(view);
+        this.drawTrace(trace);
+    }
+
+    traceOf({trace}) {
+        return trace !== null && trace.run === this.run ? trace : null;
+    }
+
+    // The trips that are chosen, over links that are pale meanwhile.
+    drawTrace({parts}) {
+        const {pen, geometry} = this;
+        pen.lineCap = 'round';
+        for (const {link, colour, share} of parts) {
+            if (!geometry.isVisible[link]) continue;
+            pen.beginPath();
+            this.tracePath(link);
+            pen.strokeStyle = colour;
+            pen.lineWidth = Math.max(geometry.unit, 1.2) * (1 + 2 * share);
+            pen.stroke();
+        }
     }
 
     placeIfMoved() {
@@ -84,63 +141,108 @@ class MapView {
         const place = [x, y, scale, this.width, this.height].join(' ');
         if (place === this.placed) return;
         this.placed = place;
-        this.content = '';
         this.geometry.place(this.camera, this.width, this.height);
     }
 
-    // What the link table tells changes with the bucket alone, so most pictures of a playing run
+    // What the link table tells changes with the bucket alone, so many pictures of a playing run
     // keep the links. Answers whether they are to be drawn anew.
-    fillIfChanged({scale, step, settings, selected}) {
-        const bucket = scale.measure.isLive ? step : this.run.bucketAt(step);
-        const content = [
-            this.placed, bucket, scale.measure.id, scale.bounds, JSON.stringify(settings),
-            selected, this.hovered
+    fillIfChanged({scale, selected, trace}) {
+        const {run} = this, {measure} = scale;
+        const time = Measures.isLive(measure, run) ? run.step : run.bucketAt(run.step);
+        const look = [
+            this.placed, measure.id, scale.bounds, JSON.stringify(run.units), selected,
+            this.hovered
         ].join(' ');
-        if (content === this.content) return false;
-        this.content = content;
-        Measures.fill(scale, this.run, step, settings, this.values, this.classes);
+        if (look === this.look && time === this.time && trace === this.trace) return false;
+        const isOther = Measures.fill(scale, run, this.values, this.classes);
+        this.worst = MapLabels.worst(this, measure, 3);
+        const isSame = look === this.look && trace === this.trace && !isOther;
+        this.look = look;
+        this.time = time;
+        this.trace = trace;
+        if (isSame) return false;
         this.sortByClass();
-        this.worst = MapLabels.worst(this, scale.measure, 3);
         return true;
     }
 
-    // Visible links by class, so that each class is one stroke and the worst are drawn last.
+    // Visible links by class and, within it, by importance, so that each of these is one stroke
+    // and the worst are drawn last. Where links are dense, streets without anything to tell are
+    // left out.
     sortByClass() {
-        const starts = new Int32Array(Measures.colours.length + 1);
+        const {geometry, classes} = this, {ranks} = MapView;
+        const starts = new Int32Array(Measures.colours.length * ranks + 1);
         this.classCounts.fill(0);
+        this.thinned = 0;
+        const isDrawn = (link) => geometry.isVisible[link] && !this.isThinned(link);
         for (let link = 0; link < this.run.links.count; link += 1) {
-            this.classCounts[this.classes[link]] += 1;
-            if (this.geometry.isVisible[link]) starts[this.classes[link] + 1] += 1;
+            this.classCounts[classes[link]] += 1;
+            if (geometry.isVisible[link] && this.isThinned(link)) this.thinned += 1;
+            if (isDrawn(link)) starts[classes[link] * ranks + geometry.rank[link] + 1] += 1;
         }
-        for (let place = 0; place < Measures.colours.length; place += 1)
-            starts[place + 1] += starts[place];
+        for (let place = 1; place < starts.length; place += 1) starts[place] += starts[place - 1];
         this.classStarts = starts.slice();
         for (let link = 0; link < this.run.links.count; link += 1) {
-            if (this.geometry.isVisible[link]) this.order[starts[this.classes[link]]++] = link;
+            if (isDrawn(link))
+                this.order[starts[classes[link] * ranks + geometry.rank[link]]++] = link;
         }
     }
 
-    widthOf(place) {
-        return this.geometry.unit * Measures.widths[place];
+    isThinned(link) {
+        return this.geometry.isDense && this.geometry.rank[link] === 0 && this.classes[link] <= 1;
+    }
+
+    widthOf(place, rank) {
+        return this.geometry.unit * Measures.widths[place] * MapView.widthsOfRanks[rank];
+    }
+
+    widthOfLink(link) {
+        return this.widthOf(this.classes[link], this.geometry.rank[link]);
+    }
+
+    // Calls `take` for each class and importance that is drawn.
+    eachGroup(take) {
+        for (let place = 0; place < Measures.colours.length; place += 1) {
+            for (let rank = 0; rank < MapView.ranks; rank += 1) take(place, rank);
+        }
     }
 
     drawLinks() {
         const {pen, geometry} = this;
         pen.lineCap = geometry.middle > 24 ? 'round' : 'butt';
-        for (let place = 0; place < Measures.colours.length; place += 1) {
+        this.eachGroup((place, rank) => {
             pen.strokeStyle = Measures.colours[place];
-            pen.lineWidth = this.widthOf(place);
-            const behind = this.classStarts[place + 1];
-            for (let first = this.classStarts[place]; first < behind;
-                 first += MapView.linksOfStroke) {
-                pen.beginPath();
-                for (let at = first; at < Math.min(first + MapView.linksOfStroke, behind);
-                     at += 1) {
-                    this.tracePath(this.order[at]);
-                }
-                pen.stroke();
-            }
+            pen.lineWidth = this.widthOf(place, rank);
+            this.strokeGroup(place, rank);
+        });
+        for (let rank = 0; rank < MapView.ranks; rank += 1) this.dashBlocked(rank);
+    }
+
+    // The places in the order of those of one class and importance.
+    groupOf(place, rank) {
+        const group = place * MapView.ranks + rank;
+        return [this.classStarts[group], this.classStarts[group + 1]];
+    }
+
+    strokeGroup(place, rank) {
+        const {pen} = this, [start, behind] = this.groupOf(place, rank);
+        for (let first = start; first < behind; first += MapView.linksOfStroke) {
+            pen.beginPath();
+            for (let at = first; at < Math.min(first + MapView.linksOfStroke, behind); at += 1)
+                this.tracePath(this.order[at]);
+            pen.stroke();
         }
+    }
+
+    // Where there is room for it blocked links have white dashes, as a barrier has.
+    dashBlocked(rank) {
+        const {pen} = this, width = this.widthOf(Measures.blocked, rank);
+        if (width < 4) return;
+        pen.lineCap = 'butt';
+        pen.strokeStyle = '#ffffff';
+        pen.lineWidth = width * 0.4;
+        pen.setLineDash([width, width]);
+        this.strokeGroup(Measures.blocked, rank);
+        pen.setLineDash([]);
     }
 
     tracePath(link) {
@@ -152,32 +254,35 @@ class MapView {
             return;
         }
         pen.moveTo(screen[at], screen[at + 1]);
+        const behind = geometry.bendStart(link + 1);
+        for (let bend = geometry.bendStart(link); bend < behind; bend += 1)
+            pen.lineTo(geometry.bendScreen[bend * 2], geometry.bendScreen[bend * 2 + 1]);
         pen.lineTo(screen[at + 2], screen[at + 3]);
     }
 
     // Small arrows where links are long enough to show their direction.
     drawArrows() {
-        const {pen, geometry} = this, screen = geometry.screen;
-        if (geometry.middle < 24) return;
-        for (let place = 0; place < Measures.colours.length; place += 1) {
-            const size = this.widthOf(place) * 0.8 + 3.2;
+        const {pen} = this;
+        if (this.geometry.middle < 24) return;
+        this.eachGroup((place, rank) => {
+            const size = this.widthOf(place, rank) * 0.8 + 3.2;
+            const [first, behind] = this.groupOf(place, rank);
             pen.beginPath();
-            for (let at = this.classStarts[place]; at < this.classStarts[place + 1]; at += 1) {
-                const link = this.order[at];
-                const x1 = screen[link * 4], y1 = screen[link * 4 + 1];
-                const acrossX = screen[link * 4 + 2] - x1, acrossY = screen[link * 4 + 3] - y1;
-                const length = Math.hypot(acrossX, acrossY);
-                if (length < 5 * size || geometry.isLoop(link)) continue;
-                const alongX = acrossX / length * size, alongY = acrossY / length * size;
-                const x = x1 + acrossX * 0.62, y = y1 + acrossY * 0.62;
-                pen.moveTo(x + alongX, y + alongY);
-                pen.lineTo(x - alongX * 0.6 - alongY, y - alongY * 0.6 + alongX);
-                pen.lineTo(x - alongX * 0.6 + alongY, y - alongY * 0.6 - alongX);
-                pen.closePath();
-            }
+            for (let at = first; at < behind; at += 1) this.traceArrow(this.order[at], size);
             pen.fillStyle = Measures.colours[place];
             pen.fill();
-        }
+        });
+    }
+
+    traceArrow(link, size) {
+        const {pen, geometry} = this;
+        if (geometry.lengthOnScreen(link) < 5 * size || geometry.isLoop(link)) return;
+        const point = geometry.pointAt(link, 0.62);
+        const {x, y} = point, alongX = point.alongX * size, alongY = point.alongY * size;
+        pen.moveTo(x + alongX, y + alongY);
+        pen.lineTo(x - alongX * 0.6 - alongY, y - alongY * 0.6 + alongX);
+        pen.lineTo(x - alongX * 0.6 + alongY, y - alongY * 0.6 - alongX);
+        pen.closePath();
     }
 
     drawSelected(view) {
@@ -189,7 +294,22 @@ class MapView {
             this.tracePath(link);
             pen.lineCap = 'round';
             pen.strokeStyle = colour;
-            pen.lineWidth = this.widthOf(this.classes[link]) + 7;
+            pen.lineWidth = this.widthOfLink(link) + 7;
+            pen.stroke();
+        }
+    }
+
+    // A ring around each node that was looked for.
+    drawFound({found}) {
+        const {pen, geometry, camera} = this;
+        pen.strokeStyle = '#0b6fc2';
+        pen.lineWidth = 3;
+        for (const node of found.get(this.run) || []) {
+            pen.beginPath();
+            pen.arc(
+                geometry.screenX(node, camera, this.width),
+                geometry.screenY(node, camera, this.height), geometry.nodeRadius + 6, 0,
+                2 * Math.PI);
             pen.stroke();
         }
     }
@@ -221,3 +341,5 @@ class MapView {
 
 // A browser draws many short paths faster than one of tens of thousands of links.
 MapView.linksOfStroke = 2000;
+MapView.ranks = 3;
+MapView.widthsOfRanks = [0.8, 1, 1.5];

@@ -1,5 +1,5 @@
 'use strict';
-// The tables of a network: node.csv and link.csv, as GMNS names their columns.
+// The tables that a run reads: node.csv and link.csv, as GMNS names their columns, demand.csv.
 function networkTables(csv) {
     async function readNodes(file, tell) {
         const names = new csv.Names();
@@ -17,7 +17,7 @@ function networkTables(csv) {
             addNew(names, columns.identifier(places, id), 'node', places);
             xs.push(coordinate(places, x));
             ys.push(coordinate(places, y));
-            zones.push(zoneText(places.text(zone)));
+            zones.push(zoneOf(places, zone));
         }, tell);
         return {names, xs, ys, zones};
     }
@@ -30,9 +30,30 @@ function networkTables(csv) {
         return Number.isFinite(value) ? value : NaN;
     }
 
-    function zoneText(text) {
-        const whole = text.replace(/\.0+$/, '');
-        return whole === '0' || whole === '-1' ? '' : whole;
+    // 0 and -1 mean no zone, and so does what is no identifier.
+    function zoneOf(places, column) {
+        if (places.isEmpty(column)) return '';
+        const key = csv.identifier(places.bytes, places.starts[column], places.ends[column]);
+        return key === key && key !== 0 ? String(key) : '';
+    }
+
+    // Of the demand: its zones, its rows, and how many of them are of less than two vehicles.
+    async function readDemand(file, tell) {
+        const zones = new csv.Names();
+        let columns = null, at = null, rows = 0, small = 0;
+        await csv.readRecords(file, (places) => {
+            if (columns === null) {
+                columns = new csv.Columns(places);
+                at = ['o_zone_id', 'd_zone_id', 'volume'].map(
+                    (name) => columns.required(name, places));
+                return;
+            }
+            columns.check(places);
+            for (const zone of at.slice(0, 2)) zones.findOrAdd(columns.identifier(places, zone));
+            rows += 1;
+            if (columns.quantity(places, at[2]) < 2) small += 1;
+        }, tell);
+        return {zones: zones.texts(), rows, small};
     }
 
     function addNew(names, key, noun, places) {
@@ -46,7 +67,8 @@ function networkTables(csv) {
     async function readLinks(file, nodes, tell) {
         const names = new csv.Names();
         const from = new csv.Numbers(), to = new csv.Numbers();
-        const length = [], lanes = [], capacity = [], speed = [];
+        const length = [], lanes = [], capacity = [], windows = new Map();
+        const titles = [], shapes = [];
         let columns = null, at = null;
         const nodeOf = (places, column) => {
             const key = columns.identifier(places, column);
@@ -67,7 +89,10 @@ function networkTables(csv) {
             length.push(columns.quantity(places, at.length));
             lanes.push(columns.quantity(places, at.lanes, 1));
             capacity.push(columns.quantity(places, at.capacity, 1800));
-            speed.push(columns.quantity(places, at.speed, NaN));
+            if (!places.isEmpty(at.windows))
+                windows.set(capacity.length - 1, windowsOf(places, at.windows));
+            if (at.title >= 0) titles.push(places.text(at.title));
+            if (at.shape >= 0) shapes.push(places.text(at.shape));
         }, tell);
         return {
             names,
@@ -76,8 +101,17 @@ function networkTables(csv) {
             length: Float64Array.from(length),
             lanes: Float64Array.from(lanes),
             capacity: Float64Array.from(capacity),
-            speed: Float64Array.from(speed),
+            windows,
+            titles: titles.length > 0 ? titles : null,
+            shapes: shapes.length > 0 ? shapes : null,
         };
+    }
+
+    // Windows of capacity, such as 0:1800;20:0, as pairs of a first step and a capacity.
+    function windowsOf(places, column) {
+        const parts = places.text(column).split(';').map((part) => part.split(':').map(Number));
+        if (parts.every((part) => part.length === 2 && part.every(Number.isFinite))) return parts;
+        throw places.fault(`capacity_by_step "${places.text(column)}" isn't steps and numbers.`);
     }
 
     function linkColumns(columns, places) {
@@ -88,9 +122,11 @@ function networkTables(csv) {
             length: columns.required('length', places),
             lanes: columns.optional('lanes'),
             capacity: columns.optional('capacity'),
-            speed: columns.optional('free_speed'),
+            windows: columns.optional('capacity_by_step'),
+            title: columns.optional('name'),
+            shape: columns.optional('geometry'),
         };
     }
 
-    return {readNodes, readLinks};
+    return {readNodes, readLinks, readDemand};
 }

@@ -3,6 +3,7 @@
 // the page makes up.
 function nodePlaces() {
     const mostInSprings = 400, rounds = 300;
+    const unreal = {squeeze: 1, isDegrees: false, isMadeUp: true};
 
     // Answers the places, and a sentence where they aren't those of node.csv.
     function placesOf(nodes, links) {
@@ -18,11 +19,10 @@ function nodePlaces() {
                 known += 1;
         }
         if (known < 2 && count > 1 || isOnePoint(x, y)) return madeUp(count, links);
-        if (known === count) return {x: flattened(x, y), y, words: ''};
+        if (known === count) return {...flattened(x, y), words: ''};
         putBetween(x, y, links);
         return {
-            x: flattened(x, y),
-            y,
+            ...flattened(x, y),
             words: `${count - known} nodes without coordinates in node.csv ` +
                 'stand between their neighbours.'
         };
@@ -36,13 +36,13 @@ function nodePlaces() {
     }
 
     // Degrees of longitude are shorter than those of latitude, so that a map of them would be too
-    // wide.
+    // wide: they are squeezed.
     function flattened(x, y) {
-        const isDegrees = x.every((value) => Math.abs(value) <= 180)
+        const isDegrees = x.length > 0 && x.every((value) => Math.abs(value) <= 180)
             && y.every((value) => Math.abs(value) <= 90);
-        if (!isDegrees || x.length === 0) return x;
         const middle = (smallest(y) + largest(y)) / 2;
-        return x.map((value) => value * Math.cos(middle * Math.PI / 180));
+        const squeeze = isDegrees ? Math.cos(middle * Math.PI / 180) : 1;
+        return {x: isDegrees ? x.map((value) => value * squeeze) : x, y, squeeze, isDegrees};
     }
 
     function smallest(values) {
@@ -92,12 +92,14 @@ function nodePlaces() {
         if (count <= mostInSprings) {
             return {
                 ...springs(count, links),
+                ...unreal,
                 words: 'node.csv has no coordinates: the page has drawn the nodes so that ' +
                     'neighbours stand near each other. Places and distances mean nothing.',
             };
         }
         return {
             ...grid(count),
+            ...unreal,
             words: 'node.csv has no coordinates: the nodes stand on a grid in the order ' +
                 'of the table. Places and distances mean nothing.'
         };

@@ -11,7 +11,7 @@ class Occupancy {
         this.left = new Int32Array(run.links.count);
         this.waiting = new Int32Array(run.links.count);
         this.step = -1;
-        this.mosts = null;
+        this.most = null;
     }
 
     moveTo(step) {
@@ -49,31 +49,18 @@ class Occupancy {
         return [start + this.left[link], start + this.entered[link]];
     }
 
-    // The most vehicles that are on any link, and that wait for any link, at once in the whole
-    // run.
-    most() {
-        if (this.mosts !== null) return this.mosts;
-        const walker = new Occupancy({
-            visits: this.visits,
-            waits: this.waits,
-            horizon: this.horizon,
-            links: {count: this.entered.length}
-        });
-        this.mosts = {on: 0, waiting: 0};
-        for (let step = 0; step < this.horizon; step += 1) {
-            walker.moveTo(step);
-            this.note(walker, 'on', this.visits.enterLinks, this.visits.enterStarts, step);
-            this.note(walker, 'waiting', this.waits.beginLinks, this.waits.beginStarts, step);
+    // The most vehicles that wait for any link at once in the whole run. A count can only be
+    // greatest in a step in which it has grown.
+    mostWaiting() {
+        if (this.most !== null) return this.most;
+        const {waits, horizon} = this, waiting = new Int32Array(this.waiting.length);
+        this.most = 0;
+        for (let step = 0; step < horizon; step += 1) {
+            Occupancy.add(waiting, waits.beginLinks, waits.beginStarts, step, 1);
+            Occupancy.add(waiting, waits.endLinks, waits.endStarts, step, -1);
+            for (let at = waits.beginStarts[step]; at < waits.beginStarts[step + 1]; at += 1)
+                this.most = Math.max(this.most, waiting[waits.beginLinks[at]]);
         }
-        return this.mosts;
-    }
-
-    // A count can only be greatest in a step in which it has grown.
-    note(walker, what, links, starts, step) {
-        for (let at = starts[step]; at < starts[step + 1]; at += 1) {
-            const count =
-                what === 'on' ? walker.vehiclesOn(links[at]) : walker.waiting[links[at]];
-            if (count > this.mosts[what]) this.mosts[what] = count;
-        }
+        return this.most;
     }
 }

@@ -2,20 +2,38 @@
 // The page: what is chosen, and who is told when it changes.
 const Page = (() => {
     const find = (name) => document.getElementById(name);
-    const settings = {stepSeconds: 6, unit: 'm', jam: 125, showVehicles: true};
     let runs = [], maps = [], measure = Measures.list[0], scale = null, selected = null;
-    let isDrawAsked = false, pictures = 0;
+    let isDrawAsked = false, pictures = 0, tick = 6, checking = 0;
+    let foundNodes = new Map();
 
     const player = new Player(
         {slider: find('slider'), play: find('play'), speed: find('speed')}, {moved: askDraw});
     const legend = new Legend(find('legend'));
-    const panel = new LinkPanel(find('link'), pick);
+    const trips = new TripsPanel(find('trips'), {traced: askDraw});
+    const checks = new ChecksCards(find('checks'), {show: showAtTop});
+    const use = (run, link) => trips.showLink(run, link);
+    const panel = new LinkPanel(find('link'), {pick, use});
     const rankings =
         new Rankings({totals: find('totals'), tables: find('tables')}, {pick: pickAt});
     const told = {drawn: mapDrawn, picked: mapPicked, hovered: mapHovered, moved: askDraw};
 
     function view() {
-        return {scale, step: player.step, settings, selected};
+        return {
+            scale,
+            selected,
+            trace: trips.trace,
+            found: foundNodes,
+            showVehicles: find('vehicles').checked
+        };
+    }
+
+    // The slider goes by the shortest steps of the runs, so that all runs show one time.
+    function seconds() {
+        return player.step * tick;
+    }
+
+    function goTo(run, step) {
+        player.goTo(Math.ceil(step * run.units.stepSeconds / tick));
     }
 
     // Draws once in the screen's next picture, however often it is asked.
@@ -29,25 +47,25 @@ const Page = (() => {
     }
 
     function draw() {
-        for (const run of runs) run.moveTo(player.step);
+        for (const run of runs) run.moveTo(seconds());
         for (const map of maps) map.draw(view());
         legend.update(maps);
         panel.show(view(), runs);
-        rankings.update(runs, view());
-        Curves.markTime(player.step * settings.stepSeconds);
+        rankings.update(runs);
+        Curves.markTime(seconds());
         find('time').textContent = timeWords();
         pictures += 1;
         document.body.dataset.pictures = pictures;
     }
 
     function timeWords() {
+        const now = Clock.words(seconds());
+        const isOneStep = runs.every((run) => run.units.stepSeconds === tick);
+        const step = isOneStep ? `step ${player.step}` :
+                                 runs.map((run) => `${run.name} step ${run.step}`).join(', ');
         const first = runs.find((run) => run.hasLoading);
-        const clock = (step) => Chart.clock(step * settings.stepSeconds);
-        const now = `step ${player.step}, ${clock(player.step)}`;
-        if (first === undefined) return now;
-        const bucket = first.bucketAt(player.step);
-        const from = first.times.from[bucket], to = first.times.to[bucket];
-        return `${now} (bucket of steps ${from} to ${to}, ${clock(from)} to ${clock(to)})`;
+        if (first === undefined) return `${now} (${step})`;
+        return `${now} (${step}, bucket ${first.bucketWords(first.bucketAt(first.step))})`;
     }
 
     function runsChanged(newRuns) {
@@ -58,10 +76,11 @@ const Page = (() => {
         document.body.classList.toggle('two', runs.length > 1);
         if (runs.length === 0) return;
         if (!runs.some((run) => run.linkPlaces.has(selected))) selected = null;
-        for (const run of runs) run.setStorage(settings.unit, settings.jam);
         makeMaps();
         setTimes();
+        showUnits();
         offerMeasures();
+        trips.show(runs);
         showAll();
     }
 
@@ -82,7 +101,8 @@ const Page = (() => {
                 'figure', {className: 'map'},
                 Elements.make(
                     'figcaption', {}, Elements.make('strong', {}, run.name), words,
-                    Elements.button('PNG', save, {title: 'Save this map as a picture'})),
+                    Elements.button('PNG', save, {title: 'Save this map as a picture'}),
+                    ...Out.buttons(map)),
                 canvas));
             map.words = words;
             map.show(run, camera);
@@ -96,9 +116,35 @@ const Page = (() => {
     }
 
     function setTimes() {
-        const buckets = runs.map((run) => run.buckets().from);
+        const before = seconds();
+        tick = Math.min(...runs.map((run) => run.units.stepSeconds));
+        const ticks = (run) => (step) => Math.ceil(step * run.units.stepSeconds / tick);
+        const buckets = runs.map((run) => run.buckets().from.map(ticks(run)));
         const most = buckets.reduce((one, other) => (other.length > one.length ? other : one));
-        player.setTimes(Math.max(...runs.map((run) => run.horizon)), most);
+        player.setTimes(Math.max(...runs.map((run) => ticks(run)(run.horizon))), most);
+        player.goTo(before / tick);
+    }
+
+    function showUnits() {
+        find('units').replaceChildren(...runs.map((run) => Units.fields(run, unitsChanged)));
+        find('units-words').textContent =
+            runs.map((run) => (runs.length > 1 ? `${run.name}: ` : '') + Units.wordsOf(run.units))
+                .join('; ');
+    }
+
+    function unitsChanged(run, units) {
+        run.setUnits(units);
+        setTimes();
+        showUnits();
+        showAll();
+    }
+
+    function clockChanged() {
+        const start = Clock.read(find('clock').value);
+        find('clock').classList.toggle('wrong', start === null);
+        if (start === null || start === Clock.start) return;
+        Clock.start = start;
+        if (runs.length > 0) showAll();
     }
 
     function offerMeasures() {
@@ -113,13 +159,16 @@ const Page = (() => {
 
     function showAll() {
         showScale();
-        rankings.show(runs, view());
-        Curves.show(find('curves'), runs, settings);
+        rankings.show(runs);
+        Curves.show(find('curves'), runs);
         askDraw();
+        // What takes longer comes once the map is there.
+        clearTimeout(checking);
+        checking = setTimeout(() => checks.show(runs), 200);
     }
 
     function showScale() {
-        scale = Measures.scaleOf(measure, runs, settings);
+        scale = Measures.scaleOf(measure, runs);
         legend.show(scale, runs);
         askDraw();
     }
@@ -137,14 +186,29 @@ const Page = (() => {
         askDraw();
     }
 
-    function pickAt(name, step) {
-        player.goTo(step);
-        pick(name);
+    function pickAt(run, name, step) {
+        goTo(run, step);
+        showAtTop(name);
+    }
+
+    function showAtTop(name) {
+        show(name);
         find('bar').scrollIntoView({block: 'start'});
     }
 
-    function mapDrawn(map, words) {
-        map.words.textContent = words;
+    // Picks a link and moves the maps so that it is in sight.
+    function show(name) {
+        pick(name);
+        for (const map of maps) {
+            const found = Finder.find(map.run, `link ${name}`);
+            if (found !== null) map.bringIntoSight(found.nodes);
+        }
+    }
+
+    // Who doesn't see the map is told its labels.
+    function mapDrawn(map, words, labels) {
+        map.words.textContent = words.filter(Boolean).join(' ');
+        map.canvas.setAttribute('aria-description', labels.join('; '));
     }
 
     function mapPicked(map, link) {
@@ -155,7 +219,7 @@ const Page = (() => {
         const hint = find('hint');
         hint.hidden = link < 0;
         if (link < 0) return;
-        const facts = LinkPanel.facts(map.run, link, view());
+        const facts = [...LinkPanel.facts(map.run, link), ...tracedFacts(map, link)];
         hint.replaceChildren(
             Elements.make('strong', {}, `Link ${map.run.links.names[link]}`),
             ...facts.map(([name, value]) => Elements.make('div', {}, `${name}: ${value}`)));
@@ -166,9 +230,15 @@ const Page = (() => {
             `${y + hint.offsetHeight > innerHeight ? y - hint.offsetHeight - 32 : y}px`;
     }
 
+    function tracedFacts(map, link) {
+        const trace = map.traceOf(view());
+        if (trace === null) return [];
+        return trace.parts.filter((part) => part.link === link).map(({words}) => ['trips', words]);
+    }
+
     function worstTime() {
         const run = runs.find((one) => one.hasLoading);
-        if (run !== undefined) player.goTo(run.times.from[run.worstTime()]);
+        if (run !== undefined) goTo(run, run.times.from[run.worstTime()]);
     }
 
     function worstLink() {
@@ -176,7 +246,7 @@ const Page = (() => {
         if (run === undefined) return;
         const [link] = Totals.rankings.lost.links(run);
         if (link !== undefined)
-            pickAt(run.links.names[link], run.times.from[run.worstBucket(link)]);
+            pickAt(run, run.links.names[link], run.times.from[run.costliestBucket(link)]);
     }
 
     function showWhole() {
@@ -214,7 +284,7 @@ const Page = (() => {
             '+': () => zoomAll(1.5),
             '=': () => zoomAll(1.5),
             '-': () => zoomAll(1 / 1.5),
-            Escape: () => pick(null)
+            Escape: () => pick(null),
         };
         const chosen = Measures.list[Number(event.key) - 1];
         if (actions[event.key] !== undefined)
@@ -226,23 +296,22 @@ const Page = (() => {
         event.preventDefault();
     }
 
-    function settingsChanged() {
-        const within = (name, least, most, before) => {
-            const value = Math.round(Number(find(name).value));
-            return value >= least && value <= most ? value : before;
-        };
-        settings.stepSeconds = within('step-seconds', 1, 60, settings.stepSeconds);
-        settings.jam = within('jam', 1, 1000, settings.jam);
-        settings.unit = find('unit').value;
-        for (const run of runs) run.setStorage(settings.unit, settings.jam);
-        if (runs.length > 0) showAll();
-    }
-
-    function findLink() {
-        const name = find('find').value.trim();
-        const isThere = runs.some((run) => run.linkPlaces.has(name));
-        find('find').classList.toggle('wrong', name !== '' && !isThere);
-        if (isThere) pick(name);
+    // Goes to what the field names, on each map that has it.
+    function findIt() {
+        const text = find('find').value.trim();
+        const all = maps.map((map) => (text === '' ? null : Finder.find(map.run, text)));
+        const first = all.find((one) => one !== null), place = all.indexOf(first);
+        find('find').classList.toggle('wrong', text !== '' && first === undefined);
+        find('found').textContent = first === undefined ? '' : first.words;
+        foundNodes = new Map();
+        maps.forEach((map, at) => {
+            if (all[at] === null) return;
+            map.bringIntoSight(all[at].nodes);
+            if (all[at].links.length === 0) foundNodes.set(map.run, all[at].nodes);
+        });
+        if (first !== undefined && first.links.length > 0)
+            pick(maps[place].run.links.names[first.links[0]]);
+        askDraw();
     }
 
     function start() {
@@ -253,13 +322,9 @@ const Page = (() => {
         find('nearer').addEventListener('click', () => zoomAll(1.5));
         find('farther').addEventListener('click', () => zoomAll(1 / 1.5));
         find('all').addEventListener('click', showWhole);
-        find('find').addEventListener('input', findLink);
-        find('vehicles').addEventListener('change', () => {
-            settings.showVehicles = find('vehicles').checked;
-            askDraw();
-        });
-        for (const name of ['step-seconds', 'unit', 'jam'])
-            find(name).addEventListener('change', settingsChanged);
+        find('find').addEventListener('input', findIt);
+        find('vehicles').addEventListener('change', askDraw);
+        find('clock').addEventListener('change', clockChanged);
         document.addEventListener('keydown', key, true);
         window.addEventListener('error', (event) => {
             find('messages').append(Elements.make(
@@ -274,12 +339,36 @@ const Page = (() => {
         });
     }
 
-    // The middle of a link on the first map, which the test points at.
+    // What the test asks of the first map: the middle of a link and its points, what is known of
+    // it, the words and the length of the scale bar, the width of a link's line, and the trips
+    // that are drawn.
     function placeOf(name) {
-        const {run, geometry: {screen}} = maps[0], at = run.linkPlaces.get(name) * 4;
-        return [(screen[at] + screen[at + 2]) / 2, (screen[at + 1] + screen[at + 3]) / 2];
+        const {run, geometry} = maps[0];
+        const {x, y} = geometry.pointAt(run.linkPlaces.get(name), 0.5);
+        return [x, y];
+    }
+
+    function bends(name) {
+        const {run, geometry} = maps[0], points = [];
+        const link = run.linkPlaces.get(name);
+        geometry.eachPiece(link, (x, y) => points.push([x, y]));
+        return [...points, [geometry.screen[link * 4 + 2], geometry.screen[link * 4 + 3]]];
+    }
+
+    function widthOf(name) {
+        return maps[0].widthOfLink(maps[0].run.linkPlaces.get(name));
+    }
+
+    function factsOf(name) {
+        const {run} = maps[0];
+        return LinkPanel.facts(run, run.linkPlaces.get(name));
+    }
+
+    function traced() {
+        const {run, parts} = trips.trace;
+        return parts.map(({link, words}) => `${run.links.names[link]}: ${words}`);
     }
 
     start();
-    return {placeOf};
+    return {placeOf, bends, scale: () => maps[0].scaleBar, widthOf, factsOf, traced};
 })();

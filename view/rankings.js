@@ -9,14 +9,14 @@ class Rankings {
         this.bucketShown = '';
     }
 
-    show(runs, view) {
-        this.showTotals(runs, view.settings);
-        this.showTables(runs, view);
+    show(runs) {
+        this.showTotals(runs);
+        this.showTables(runs);
     }
 
-    showTotals(runs, settings) {
-        const columns = runs.map(
-            (run) => new Map(Totals.rowsOf(run, settings).map((row) => [row.name, row])));
+    showTotals(runs) {
+        const columns =
+            runs.map((run) => new Map(Totals.rowsOf(run).map((row) => [row.name, row])));
         const names = [...new Set(columns.flatMap((column) => [...column.keys()]))];
         const head = ['Totals', ...runs.map((run) => run.name)];
         const table = (cell) => names.map(
@@ -33,23 +33,23 @@ class Rankings {
     }
 
     // Called at every picture: makes the tables anew only where what they show has changed.
-    update(runs, view) {
+    update(runs) {
         if (this.ranking !== 'now') return;
-        const shown = runs.map((run) => run.bucketAt(view.step)).join(' ');
-        if (shown !== this.bucketShown) this.showTables(runs, view);
+        const shown = runs.map((run) => run.bucketAt(run.step)).join(' ');
+        if (shown !== this.bucketShown) this.showTables(runs);
     }
 
-    showTables(runs, view) {
-        this.bucketShown = runs.map((run) => run.bucketAt(view.step)).join(' ');
+    showTables(runs) {
+        this.bucketShown = runs.map((run) => run.bucketAt(run.step)).join(' ');
         const cards = [];
         for (const run of runs) {
             const title = (words) => (runs.length > 1 ? `${words}: ${run.name}` : words);
             if (run.hasLoading)
-                cards.push(this.linksCard(title('Ten most delayed links'), run, runs, view));
+                cards.push(this.linksCard(title('Ten most delayed links'), run, runs));
             if (run.agents !== null)
-                cards.push(this.tripsCard(title('Ten longest trips'), run, view));
+                cards.push(this.tripsCard(title('Ten longest trips'), run));
             if (run.skim !== null)
-                cards.push(this.skimCard(title('Ten longest least times'), run, view));
+                cards.push(this.skimCard(title('Ten longest least times'), run));
             if (run.counts !== null) cards.push(...this.countCards(title, run));
         }
         this.boxes.tables.replaceChildren(...cards);
@@ -65,23 +65,13 @@ class Rankings {
                 'CSV', () => Elements.saveRows(name, head, rows), {title: 'Save as a table'}));
     }
 
-    linksCard(title, run, runs, view) {
-        const links = Totals.rankings[this.ranking].links(run, view.step);
-        const hours = view.settings.stepSeconds / 3600;
-        const rows = links.map((link) => {
-            const bucket = run.worstBucket(link);
-            return [
-                run.links.names[link], run.linkTitle(link),
-                (run.sumOverBuckets(link, run.lost) * hours).toFixed(1),
-                run.waits === null ? '' : (run.waits.steps[link] * hours).toFixed(1),
-                bucket < 0 ? '' : run.ratio(link, bucket).toFixed(2),
-                bucket < 0 ? '' : Chart.clock(run.times.from[bucket] * view.settings.stepSeconds)
-            ];
-        });
+    linksCard(title, run, runs) {
+        const links = Totals.rankings[this.ranking].links(run);
+        const rows = links.map((link) => Rankings.linkRow(run, link));
         const shown = rows.map(([name, ...rest], place) => {
-            const bucket = run.worstBucket(links[place]);
+            const step = run.times.from[run.costliestBucket(links[place])];
             const pick = Elements.button(
-                name, () => this.actions.pick(name, run.times.from[Math.max(bucket, 0)]),
+                name, () => this.actions.pick(run, name, step),
                 {className: 'pick', title: 'Show this link at its worst time'});
             return [pick, ...rest];
         });
@@ -93,22 +83,42 @@ class Rankings {
                         'option', {value: id, selected: id === this.ranking}, `by ${name}`)));
         choice.onchange = () => {
             this.ranking = choice.value;
-            this.showTables(runs, view);
+            this.showTables(runs);
         };
-        const head =
-            ['Link', 'Way', 'Vehicle-hours lost', 'and waiting for it', 'Greatest delay', 'from'];
+        const head = [
+            'Link', 'Way', 'Vehicle-hours lost', 'and waiting for it', 'Greatest delay',
+            'Minutes', 'from', 'Minutes blocked', 'stood at most'
+        ];
         return this.card(title, `links_${run.name}`, head, rows, choice, shown, 2);
     }
 
-    tripsCard(title, run, view) {
-        const {agents} = run, minutes = view.settings.stepSeconds / 60;
+    static linkRow(run, link) {
+        const bucket = run.worstBucket(link);
+        const hours = (steps) => run.hours(steps).toFixed(1);
+        const minutes = (steps) => run.minutes(steps).toFixed(1);
+        const blocked = run.stands === null ? null : run.stands.of(link);
+        return [
+            run.links.names[link],
+            run.linkTitle(link),
+            hours(run.sumOverBuckets(link, run.lost)),
+            run.waits === null ? '' : hours(run.waits.steps[link]),
+            ...(bucket < 0 ? ['', '', ''] : [
+                `×${run.ratio(link, bucket).toFixed(2)}`, minutes(run.travel(link, bucket)),
+                run.clock(run.times.from[bucket])
+            ]),
+            ...(blocked === null ? ['', ''] : [minutes(blocked.steps), minutes(blocked.longest)]),
+        ];
+    }
+
+    tripsCard(title, run) {
+        const {agents} = run;
         const words = ['arrived', 'running', 'waiting', 'unrouted'];
         const rows = Totals.longestTrips(run).map((agent) => {
             const links = agents.linkStart[agent + 1] - agents.linkStart[agent];
             return [
                 run.agentName(agent), run.tripTitle(agent), words[agents.status[agent]],
-                Totals.format(run.tripSteps(agent) * minutes),
-                Chart.clock(agents.departure[agent] * view.settings.stepSeconds), String(links)
+                Totals.format(run.minutes(run.tripSteps(agent)), 1),
+                run.clock(agents.departure[agent]), String(links)
             ];
         });
         const head = ['Vehicle', 'Zones', 'Status', 'Minutes', 'Departs', 'Links'];
@@ -117,19 +127,18 @@ class Rankings {
             'A trip that hasn’t ended is counted up to the end of the run.', rows, 3);
     }
 
-    skimCard(title, run, view) {
-        const minutes = view.settings.stepSeconds / 60;
+    skimCard(title, run) {
         const without = run.skim.filter((entry) => entry.least < 0).length;
         const rows =
             Totals.ten(run.skim.length, (place) => run.skim[place].least, -1).map((place) => {
                 const {origin, destination, start, least} = run.skim[place];
                 return [
-                    `${origin} → ${destination}`, String(start), String(least),
-                    Totals.format(least * minutes)
+                    `${origin} → ${destination}`, run.clock(start), String(least),
+                    Totals.format(run.minutes(least), 1)
                 ];
             });
         return this.card(
-            title, `skim_${run.name}`, ['Zones', 'Start step', 'Least steps', 'Minutes'], rows,
+            title, `skim_${run.name}`, ['Zones', 'Start', 'Least steps', 'Minutes'], rows,
             `${Totals.format(run.skim.length)} entries, ` +
                 `${Totals.format(without)} of them without a way.`);
     }
@@ -141,10 +150,13 @@ class Rankings {
             const rows =
                 Totals.ten(counts.length, (place) => counts[place].vehicles, 0).map((place) => {
                     const {first, second, from, to, vehicles} = counts[place];
-                    return [first, second, `${from} to ${to}`, vehicles.toLocaleString('en')];
+                    return [
+                        first, second, `${run.clock(from)} to ${run.clock(to)}`,
+                        vehicles.toLocaleString('en')
+                    ];
                 });
             return [this.card(
-                title(words), `${kind}_${run.name}`, [firstName, secondName, 'Steps', 'Vehicles'],
+                title(words), `${kind}_${run.name}`, [firstName, secondName, 'Time', 'Vehicles'],
                 rows, '', rows, 3)];
         };
         return [

@@ -3,14 +3,17 @@
 // page may not load a worker from a file; so the worker is made of the text of the reading
 // functions.
 const ReaderThread = (() => {
-    const parts =
-        [csvReader, networkTables, resultTables, agentTable, visitIndex, nodePlaces, runReader];
+    const parts = [
+        csvReader, networkTables, resultTables, agentTable, visitIndex, nodePlaces, linkShapes,
+        runReader
+    ];
 
     function makeReader() {
         const csv = csvReader();
         const results = resultTables(csv);
         const agents = agentTable(csv, results.mostSteps);
-        return runReader(csv, networkTables(csv), results, agents, visitIndex(), nodePlaces());
+        return runReader(
+            csv, networkTables(csv), results, agents, visitIndex(), nodePlaces(), linkShapes());
     }
 
     function answerMessages() {

@@ -88,6 +88,7 @@ class RunBoxes {
         box.files =
             isAdded ? [...box.files.filter((file) => !taken.has(file.name)), ...files] : files;
         if (!isAdded) box.name = name === '' ? 'chosen files' : name;
+        box.units = isAdded && box.run && box.run.units.isSaid ? box.run.units : null;
         this.read(box);
     }
 
@@ -101,11 +102,13 @@ class RunBoxes {
         if (attempt !== box.reading) return;
         this.progress(box, '', null);
         box.answer = answer;
-        box.run = answer.run === null ?
-            null :
-            new ShownRun(this.ownName(box), answer.run, answer.notes, answer.faults);
+        box.run = answer.run === null ? null : this.shownRun(box, answer.run);
         if (answer.run === null) box.files = [];
         this.update();
+    }
+
+    shownRun(box, run) {
+        return new ShownRun(this.ownName(box), run, box.units || Units.ofWords(run.words));
     }
 
     // Two folders of one name are told apart.

@@ -1,10 +1,19 @@
 'use strict';
 // Reads the files of one run, checks that they belong together, and makes of them what the page
 // shows.
-function runReader(csv, network, results, agentRows, visitTools, places) {
-    const kinds = ['node', 'link', 'link_performance', 'agent', 'gap', 'skim', 'counts'];
+function runReader(csv, network, results, agentRows, visitTools, places, shapes) {
+    const kinds =
+        ['node', 'link', 'demand', 'link_performance', 'agent', 'gap', 'skim', 'counts'];
     // Tables of a run that the page has no use for.
-    const others = ['movement', 'demand', 'start', 'times'];
+    const others = ['movement', 'start', 'times'];
+
+    const wordsName = 'words.txt';
+
+    // The words by which the run was made, where the folder has them.
+    async function wordsOf(files) {
+        const file = files.find(({name}) => name === wordsName);
+        return file === undefined ? [] : (await file.text()).split(/\s+/).filter(Boolean);
+    }
 
     // A file is known by its name or, where a browser or a person has changed that, by its
     // columns.
@@ -17,7 +26,8 @@ function runReader(csv, network, results, agentRows, visitTools, places) {
             head.split(/[\r\n]/)[0].replace(/^\uFEFF/, '').replace(/["\s]/g, '').split(',');
         const has = (name) => columns.includes(name);
         if (has('entry_steps')) return 'agent';
-        if (has('ib_link_id') || has('volume')) return 'other';
+        if (has('ib_link_id')) return 'other';
+        if (has('volume')) return 'demand';
         if (has('from_node_id') && has('link_id')) return 'link';
         if (has('free_steps')) return 'link_performance';
         if (has('gap_steps')) return 'gap';
@@ -65,12 +75,13 @@ function runReader(csv, network, results, agentRows, visitTools, places) {
     // is no run.
     async function readRun(files, tell) {
         const notes = [], faults = [];
-        const chosen = await sorted(files, notes);
+        const words = await wordsOf(files);
+        const chosen = await sorted(files.filter((file) => file.name !== wordsName), notes);
         if (!chosen.has('link')) return {run: null, notes, faults: [withoutLinks(chosen)]};
         const withProgress = teller(chosen, tell);
         try {
             const tables = await readNetwork(chosen, withProgress);
-            const run = networkOf(tables, notes);
+            const run = {...networkOf(tables, notes), words};
             await readResults(run, tables.links, chosen, withProgress, faults);
             tell('Sorting the vehicles', 1);
             finish(run, notes, faults);
@@ -105,13 +116,23 @@ function runReader(csv, network, results, agentRows, visitTools, places) {
     }
 
     function networkOf({nodes, links}, notes) {
-        const {x, y, words} = places.placesOf(nodes, links);
+        const where = places.placesOf(nodes, links);
+        const {x, y, squeeze, isDegrees, isMadeUp = false, words} = where;
         if (words !== '') notes.push(words);
         if (!nodes.isRead)
             notes.push('There is no node.csv: the nodes are those that link.csv names.');
         if (links.from.length === 0) notes.push('link.csv has no links.');
         return {
-            nodes: {count: x.length, names: nodes.names.texts(), zones: nodes.zones, x, y},
+            nodes: {
+                count: x.length,
+                names: nodes.names.texts(),
+                zones: nodes.zones,
+                x,
+                y,
+                squeeze,
+                isDegrees,
+                isMadeUp,
+            },
             links: {
                 count: links.from.length,
                 names: links.names.texts(),
@@ -119,14 +140,19 @@ function runReader(csv, network, results, agentRows, visitTools, places) {
                 to: links.to,
                 length: links.length,
                 lanes: links.lanes,
-                capacity: links.capacity
+                capacity: links.capacity,
+                windows: links.windows,
+                titles: links.titles,
+                bends: shapes.bendsOf(links.shapes, links, where),
             },
             times: null,
             agents: null,
             visits: null,
+            lostSteps: null,
             waits: null,
             states: null,
             sums: null,
+            demand: null,
             gap: null,
             skim: null,
             counts: null,
@@ -137,6 +163,7 @@ function runReader(csv, network, results, agentRows, visitTools, places) {
     async function readResults(run, links, chosen, withProgress, faults) {
         const readers = {
             times: ['link_performance', (file, tell) => results.readTimes(file, links, tell)],
+            demand: ['demand', network.readDemand],
             gap: ['gap', results.readGap],
             skim: ['skim', results.readSkim],
             counts: ['counts', (file, tell) => results.readCounts(file, links, tell)],
@@ -196,8 +223,8 @@ function runReader(csv, network, results, agentRows, visitTools, places) {
         run.visits = visitTools.indexOf(visits, run.links.count, run.horizon);
         run.waits = visitTools.waitsOf(run.agents, run.links.count, run.horizon);
         run.states = visitTools.statesOf(run.agents, run.horizon);
-        const free = run.times === null ? null : run.times.free;
-        run.sums = visitTools.sumsOf(run.agents, visits, run.links, free, run.horizon);
+        run.sums = visitTools.sumsOf(run.agents, visits, run.links, run.horizon);
+        if (hasBuckets) run.lostSteps = visitTools.lostSteps(run.visits, run.times);
     }
 
     return {readRun};

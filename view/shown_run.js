@@ -1,17 +1,30 @@
 'use strict';
-// A run that is shown, with what the page knows of it at a step. What depends on the fields of
-// the page (seconds of a step, unit of length, jam density) is computed here from the tables.
+// A run that is shown, with what the page knows of it at a step. What depends on its units
+// (seconds of a step, unit of length, jam density) is computed here from the tables.
 class ShownRun {
-    constructor(name, run, notes, faults) {
+    constructor(name, run, units) {
         Object.assign(this, run);
         this.name = name;
-        this.notes = notes;
-        this.faults = faults;
+        this.step = 0;
         this.hasLoading = run.times !== null && run.times.kind === 'loading';
         this.isFreeflow = run.times !== null && run.times.kind === 'freeflow';
         this.occupancy = run.visits === null ? null : new Occupancy(run);
+        this.stands = this.hasLoading && run.visits !== null ? new Stands(this) : null;
         this.linkPlaces = new Map(run.links.names.map((linkName, link) => [linkName, link]));
-        this.storage = null;
+        this.setUnits(units);
+    }
+
+    setUnits(units) {
+        this.units = units;
+        this.setStorage(units);
+        this.storageBinds = this.visits !== null && this.isStorageKept();
+    }
+
+    // With a point queue a link may hold more than it stores. Where no words of the run tell the
+    // queue, it is one by which some link does.
+    isStorageKept() {
+        if (this.units.queue !== '') return this.units.queue !== 'point';
+        return this.visits.mostOn.every((count, link) => count <= this.storage[link]);
     }
 
     // The buckets of the link times or, without these, ones of 50 steps for the curves.
@@ -31,8 +44,27 @@ class ShownRun {
         return from.findIndex((first, bucket) => first <= step && step < to[bucket]);
     }
 
-    moveTo(step) {
-        if (this.occupancy !== null) this.occupancy.moveTo(step);
+    // Goes to the step that is done so many seconds from the start, or to the last one.
+    moveTo(seconds) {
+        const step = Math.floor(seconds / this.units.stepSeconds + 1e-9);
+        this.step = Math.max(Math.min(step, this.horizon - 1), 0);
+        if (this.occupancy !== null) this.occupancy.moveTo(this.step);
+    }
+
+    minutes(steps) {
+        return steps * this.units.stepSeconds / 60;
+    }
+
+    hours(steps) {
+        return steps * this.units.stepSeconds / 3600;
+    }
+
+    clock(step) {
+        return Clock.words(step * this.units.stepSeconds);
+    }
+
+    kilometres(link) {
+        return this.links.length[link] * Units.metres[this.units.unit] / 1000;
     }
 
     travel(link, bucket) {
@@ -43,10 +75,55 @@ class ShownRun {
         return this.times.entered[link * this.times.buckets + bucket];
     }
 
-    // Vehicle-steps that a link costs more than its free-flow time, from the link table: entered
-    // times delay.
+    // Vehicle-steps above the free-flow time that vehicles spend on a link in a bucket, whenever
+    // they entered it. Without an agent table it is what those who enter then will lose.
     lost(link, bucket) {
+        if (this.lostSteps !== null) return this.lostSteps[link * this.times.buckets + bucket];
         return this.entered(link, bucket) * (this.travel(link, bucket) - this.times.free[link]);
+    }
+
+    // How many steps the first vehicle of a link has stood where it is blocked now, else -1.
+    stoodOn(link) {
+        if (this.stands === null) return -1;
+        return this.stands.at(link, this.occupancy.rangeOn(link), this.step);
+    }
+
+    // How many links are blocked once a step is done.
+    blockedAt(step) {
+        let count = 0;
+        for (let link = 0; link < this.links.count; link += 1)
+            if (this.stands.at(link, this.stands.range(link, step), step) >= 0) count += 1;
+        return count;
+    }
+
+    // Vehicles an hour that entered a link in a bucket, and how many its capacity lets in.
+    flow(link, bucket) {
+        return this.entered(link, bucket) / this.hours(this.bucketSteps(bucket));
+    }
+
+    capacity(link, bucket) {
+        const {lanes, capacity, windows} = this.links;
+        const parts = windows.get(link);
+        if (parts === undefined || bucket < 0) return capacity[link] * lanes[link];
+        const from = this.times.from[bucket], to = this.times.to[bucket];
+        const sum = parts.reduce((before, [first, value], place) => {
+            const behind = place + 1 < parts.length ? parts[place + 1][0] : Infinity;
+            return before + value * Math.max(Math.min(to, behind) - Math.max(from, first), 0);
+        }, 0);
+        return sum / (to - from) * lanes[link];
+    }
+
+    bucketSteps(bucket) {
+        return this.times.to[bucket] - this.times.from[bucket];
+    }
+
+    // Kilometres an hour of those who entered in a bucket.
+    speed(link, bucket) {
+        return this.kilometres(link) / this.hours(this.travel(link, bucket));
+    }
+
+    bucketWords(bucket) {
+        return `${this.clock(this.times.from[bucket])} to ${this.clock(this.times.to[bucket])}`;
     }
 
     ratio(link, bucket) {
@@ -71,6 +148,14 @@ class ShownRun {
         return worst;
     }
 
+    // The bucket in which most is lost on a link.
+    costliestBucket(link) {
+        let most = 0;
+        for (let bucket = 1; bucket < this.times.buckets; bucket += 1)
+            if (this.lost(link, bucket) > this.lost(link, most)) most = bucket;
+        return most;
+    }
+
     // The bucket in which the whole network loses most.
     worstTime() {
         const sums = new Float64Array(this.times.buckets);
@@ -83,7 +168,7 @@ class ShownRun {
 
     // floor(length x lanes x jam density), at least 1 and at most 4,000,000, over whole numbers
     // as the program does it. Where `dta freeflow` wrote storage, that is taken.
-    setStorage(unit, jam) {
+    setStorage({unit, jam}) {
         if (this.isFreeflow) {
             this.storage = this.times.storage;
             return;

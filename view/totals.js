@@ -2,13 +2,10 @@
 // Totals of a run as numbers, and its worst links and trips. They are sums over the tables, for a
 // reader's eyes: the program proves none of them.
 const Totals = (() => {
-    const kilometres = {m: 0.001, km: 1, mi: 1.609344};
-
     // Names with their values: counts as whole numbers, everything else to a tenth.
-    function rowsOf(run, settings) {
+    function rowsOf(run) {
         const rows = [count('Links', run.links.count), count('Nodes', run.nodes.count)];
-        if (run.agents !== null)
-            rows.push(...vehicleRows(run, settings), ...tripRows(run, settings));
+        if (run.agents !== null) rows.push(...vehicleRows(run), ...tripRows(run));
         if (run.gap !== null && run.gap.length > 0) {
             const last = run.gap[run.gap.length - 1];
             rows.push(count('Iterations', last.iteration));
@@ -25,33 +22,37 @@ const Totals = (() => {
         return {name, value, digits: 1};
     }
 
-    function vehicleRows(run, settings) {
-        const {statuses, onLinks, waited, lost, length} = run.sums;
-        const hours = (steps) => steps * settings.stepSeconds / 3600;
+    function vehicleRows(run) {
+        const {statuses, onLinks, waited, length} = run.sums;
         const rows = [
             count('Vehicles', run.agents.count),
             count('arrived', statuses[0]),
             count('running at the end', statuses[1]),
             count('waiting at the end', statuses[2]),
             count('without a route', statuses[3]),
-            tenth('Vehicle-hours on links', hours(onLinks)),
+            tenth('Vehicle-hours on links', run.hours(onLinks)),
         ];
-        if (run.times !== null) rows.push(tenth('Vehicle-hours lost on links', hours(lost)));
-        rows.push(tenth('Vehicle-hours waiting at origins', hours(waited)));
+        if (run.stands !== null) {
+            const lost = run.lostSteps.reduce((before, steps) => before + steps, 0);
+            rows.push(tenth('Vehicle-hours lost on links', run.hours(lost)));
+            rows.push(count('Links that are blocked at the end', run.blockedAt(run.horizon - 1)));
+        }
+        rows.push(tenth('Vehicle-hours waiting at origins', run.hours(waited)));
         rows.push(tenth(
-            'Vehicle-kilometres, of links that were left', length * kilometres[settings.unit]));
+            'Vehicle-kilometres, of links that were left',
+            length * Units.metres[run.units.unit] / 1000));
         return rows;
     }
 
-    function tripRows(run, settings) {
-        const trips = tripSteps(run), minutes = settings.stepSeconds / 60;
+    function tripRows(run) {
+        const trips = tripSteps(run);
         if (trips.length === 0) return [];
         const sum = trips.reduce((before, steps) => before + steps, 0);
         return [
-            tenth('Minutes of a trip: mean', sum / trips.length * minutes),
+            tenth('Minutes of a trip: mean', run.minutes(sum / trips.length)),
             tenth(
                 'Minutes of a trip: 95 in 100 take at most',
-                trips[lastOf(trips.length)] * minutes),
+                run.minutes(trips[lastOf(trips.length)])),
         ];
     }
 
@@ -71,50 +72,54 @@ const Totals = (() => {
         return run.sortedTrips;
     }
 
-    // The ten items of the greatest value above `least`, the greatest first.
-    function ten(count, value, least) {
+    // The ten items, or so many, of the greatest value above `least`, the greatest first.
+    function ten(count, value, least, most = 10) {
         const found = [];
         for (let item = 0; item < count; item += 1) {
             const size = value(item);
-            if (!(size > least) || found.length === 10 && size <= found[9].size) continue;
+            if (!(size > least) || found.length === most && size <= found[most - 1].size)
+                continue;
             let place = found.length;
             while (place > 0 && found[place - 1].size < size) place -= 1;
             found.splice(place, 0, {item, size});
-            if (found.length > 10) found.pop();
+            if (found.length > most) found.pop();
         }
         return found.map(({item}) => item);
+    }
+
+    // Steps above the free-flow time of those who entered a link in a bucket: so a stub of one
+    // step isn't the worst link for a few steps.
+    function delay(run, link, bucket) {
+        if (bucket < 0 || run.entered(link, bucket) === 0) return 0;
+        return run.travel(link, bucket) - run.times.free[link];
+    }
+
+    function tenLinks(run, value) {
+        return ten(run.links.count, value, 0);
     }
 
     const rankings = {
         lost: {
             name: 'vehicle-hours lost in the whole run',
-            links: (run) => ten(run.links.count, (link) => run.sumOverBuckets(link, run.lost), 0),
+            links: (run) => tenLinks(run, (link) => run.sumOverBuckets(link, run.lost)),
+        },
+        blocked: {
+            name: 'minutes in which it is blocked',
+            links: (run) =>
+                (run.stands === null ? [] : tenLinks(run, (link) => run.stands.of(link).steps)),
         },
         waiting: {
             name: 'vehicle-hours of waiting for it at origins',
             links: (run) =>
-                (run.waits === null ? [] :
-                                      ten(run.links.count, (link) => run.waits.steps[link], 0)),
+                (run.waits === null ? [] : tenLinks(run, (link) => run.waits.steps[link])),
         },
         worst: {
             name: 'greatest delay in any bucket',
-            links: (run) =>
-                ten(run.links.count,
-                    (link) => {
-                        const bucket = run.worstBucket(link);
-                        return bucket < 0 ? 0 : run.ratio(link, bucket);
-                    },
-                    1),
+            links: (run) => tenLinks(run, (link) => delay(run, link, run.worstBucket(link))),
         },
         now: {
-            name: 'delay in the bucket that is shown',
-            links: (run, step) =>
-                ten(run.links.count,
-                    (link) => {
-                        const bucket = run.bucketAt(step);
-                        return run.entered(link, bucket) === 0 ? 0 : run.ratio(link, bucket);
-                    },
-                    1),
+            name: 'vehicle-hours lost in the bucket that is shown',
+            links: (run) => tenLinks(run, (link) => run.lost(link, run.bucketAt(run.step))),
         },
     };
 

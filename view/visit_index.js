@@ -82,7 +82,48 @@ function visitIndex() {
             enter,
             leave,
             agent,
+            mostOn: mostOnLinks(linkStarts, enter, leave),
         };
+    }
+
+    // The most vehicles that are on each link at once.
+    function mostOnLinks(linkStarts, enter, leave) {
+        const most = new Int32Array(linkStarts.length - 1);
+        for (let link = 0; link < most.length; link += 1) {
+            let first = linkStarts[link];
+            for (let visit = first; visit < linkStarts[link + 1]; visit += 1) {
+                while (leave[first] <= enter[visit]) first += 1;
+                most[link] = Math.max(most[link], visit + 1 - first);
+            }
+        }
+        return most;
+    }
+
+    // The steps above the free-flow time that vehicles spend on each link in each bucket: a
+    // visit's are its last ones.
+    function lostSteps({linkStarts, enter, leave}, times) {
+        const {buckets, free} = times, lost = new Int32Array(times.entered.length);
+        const bucketOf = bucketsOfSteps(times);
+        for (let link = 0; link + 1 < linkStarts.length; link += 1) {
+            for (let visit = linkStarts[link]; visit < linkStarts[link + 1]; visit += 1) {
+                let from = enter[visit] + free[link];
+                while (from < leave[visit]) {
+                    const bucket = bucketOf[from];
+                    const to = Math.min(leave[visit], times.to[bucket]);
+                    lost[link * buckets + bucket] += to - from;
+                    from = to;
+                }
+            }
+        }
+        return lost;
+    }
+
+    function bucketsOfSteps(times) {
+        const bucketOf = new Int32Array(times.to[times.buckets - 1]);
+        for (let bucket = 0; bucket < times.buckets; bucket += 1) {
+            bucketOf.fill(bucket, times.from[bucket], times.to[bucket]);
+        }
+        return bucketOf;
     }
 
     // Who waits at an origin waits for the first link of the route: from the departure to the
@@ -140,13 +181,11 @@ function visitIndex() {
     }
 
     // Sums over all vehicles, in steps and in the length unit of the link table.
-    function sumsOf(agents, visits, links, free, horizon) {
-        const sums = {onLinks: 0, lost: 0, waited: 0, length: 0, statuses: [0, 0, 0, 0]};
+    function sumsOf(agents, visits, links, horizon) {
+        const sums = {onLinks: 0, waited: 0, length: 0, statuses: [0, 0, 0, 0]};
         for (let visit = 0; visit < visits.count; visit += 1) {
-            const link = visits.link[visit], steps = visits.leave[visit] - visits.enter[visit];
-            sums.onLinks += steps;
-            if (free !== null && steps > free[link]) sums.lost += steps - free[link];
-            if (visits.leave[visit] < horizon) sums.length += links.length[link];
+            sums.onLinks += visits.leave[visit] - visits.enter[visit];
+            if (visits.leave[visit] < horizon) sums.length += links.length[visits.link[visit]];
         }
         for (let agent = 0; agent < agents.count; agent += 1) {
             sums.statuses[agents.status[agent]] += 1;
@@ -161,10 +200,7 @@ function visitIndex() {
     // The first link and bucket of which the two tables tell different entries, or null.
     function disagreement(visits, times) {
         const entered = new Int32Array(times.entered.length);
-        const bucketOf = new Int32Array(times.to[times.buckets - 1]);
-        for (let bucket = 0; bucket < times.buckets; bucket += 1) {
-            bucketOf.fill(bucket, times.from[bucket], times.to[bucket]);
-        }
+        const bucketOf = bucketsOfSteps(times);
         for (let visit = 0; visit < visits.count; visit += 1) {
             entered[visits.link[visit] * times.buckets + bucketOf[visits.enter[visit]]] += 1;
         }
@@ -178,5 +214,5 @@ function visitIndex() {
         };
     }
 
-    return {visitsOf, indexOf, waitsOf, statesOf, sumsOf, disagreement};
+    return {visitsOf, indexOf, lostSteps, waitsOf, statesOf, sumsOf, disagreement};
 }

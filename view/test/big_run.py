@@ -10,6 +10,8 @@ import random
 ROWS, COLUMNS, VEHICLES, HORIZON, BUCKET = 101, 100, 200_000, 1200, 50
 FREE = 6
 WORST_LINK = 12_345
+# Lanes and capacities: streets, roads and arterials.
+KINDS = ((1, 900), (1, 1800), (1, 900), (1, 1800), (2, 1800))
 
 
 def node(row, column):
@@ -60,7 +62,8 @@ def write_network(folder, ends):
     with open(os.path.join(folder, 'link.csv'), 'w') as out:
         out.write('link_id,from_node_id,to_node_id,length,lanes,free_speed,capacity\n')
         for number, (first, second) in enumerate(ends, 1):
-            out.write(f'{number},{first},{second},500,1,50,1800\n')
+            lanes, capacity = KINDS[number % len(KINDS)]
+            out.write(f'{number},{first},{second},500,{lanes},50,{capacity}\n')
 
 
 def elsewhere(source, place, places):
@@ -128,6 +131,19 @@ def write_times(folder, links, entered, spent):
                 )
 
 
+def write_demand(folder):
+    """A row for each vehicle, and one of a zone that no node has."""
+    with open(os.path.join(folder, 'agent.csv')) as agents, open(
+        os.path.join(folder, 'demand.csv'), 'w'
+    ) as out:
+        out.write('o_zone_id,d_zone_id,volume\n')
+        next(agents)
+        for line in agents:
+            _, origin, destination, _ = line.split(',', 3)
+            out.write(f'{origin},{destination},1\n')
+        out.write('1,999999,0.4\n')
+
+
 def make(folder):
     os.makedirs(folder, exist_ok=True)
     ends = make_links()
@@ -136,6 +152,7 @@ def make(folder):
     write_network(folder, ends)
     write_agents(folder, ends, entered, spent)
     write_times(folder, len(ends), entered, spent)
+    write_demand(folder)
     with open(os.path.join(folder, 'gap.csv'), 'w') as out:
         out.write('iteration,route_steps,least_steps,gap_steps,gap_ppm\n1,1100,1000,100,100000\n')
 

@@ -50,6 +50,12 @@ class Page:
     def close(self):
         self.driver.quit()
 
+    def settle(self):
+        """Waits until the page has drawn what was asked of it."""
+        self.driver.execute_async_script(
+            'requestAnimationFrame(() => requestAnimationFrame(arguments[0]))'
+        )
+
     def find(self, selector):
         return self.driver.find_element('css selector', selector)
 
@@ -73,7 +79,8 @@ class Page:
             'Emulation.setDeviceMetricsOverride',
             {'width': width, 'height': height, 'deviceScaleFactor': 1, 'mobile': False},
         )
-        time.sleep(0.6)
+        time.sleep(0.2)
+        self.settle()
 
     def drop(self, paths, selector=None):
         """Drops files or folders as the system's file manager does."""
@@ -95,7 +102,7 @@ class Page:
                 'Input.dispatchDragEvent', {'type': kind, 'x': x, 'y': y, 'data': data}
             )
 
-    def wait(self, condition, words, seconds=30):
+    def wait(self, condition, words, seconds=90):
         until = time.time() + seconds
         while time.time() < until:
             if condition():
@@ -103,7 +110,7 @@ class Page:
             time.sleep(0.05)
         raise AssertionError(f'waited {seconds} s in vain: {words}')
 
-    def wait_for_runs(self, names, seconds=30):
+    def wait_for_runs(self, names, seconds=90):
         def shown():
             maps = (
                 'return [...document.querySelectorAll(".map strong")].map((box) => box.innerText)'
@@ -111,11 +118,11 @@ class Page:
             return self.run(maps) == names
 
         self.wait(shown, f'the maps of {names}; the page says: {self.text("#messages")}', seconds)
-        time.sleep(0.3)
+        self.settle()
 
     def keys(self, *keys):
         ActionChains(self.driver).send_keys(*keys).perform()
-        time.sleep(0.3)
+        self.settle()
 
     def keys_fast(self, *keys):
         ActionChains(self.driver, duration=0).send_keys(*keys).perform()
@@ -127,11 +134,11 @@ class Page:
             selector,
             value,
         )
-        time.sleep(0.3)
+        self.settle()
 
     def click(self, selector):
         self.run('document.querySelector(arguments[0]).click()', selector)
-        time.sleep(0.3)
+        self.settle()
 
     def rows(self, selector):
         """The texts of a table's body."""

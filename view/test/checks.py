@@ -1,8 +1,6 @@
 """What the page shows, compared with what the tables of the run tell."""
 from selenium.webdriver.common.keys import Keys
 
-STEP_SECONDS = 6
-
 
 def check(is_true, words):
     if not is_true:
@@ -14,7 +12,7 @@ def equal(shown, told, words):
 
 
 def number(text):
-    return float(text.replace(',', ''))
+    return float(text.replace(',', '').strip('×'))
 
 
 def near(shown, told, words):
@@ -27,7 +25,7 @@ def near(shown, told, words):
 
 def check_totals(page, told, column=1):
     shown = {row[0]: row[column] for row in page.rows('#totals')}
-    hours = STEP_SECONDS / 3600
+    hours = told.seconds / 3600
     for name, value in (
         ('Links', len(told.links)),
         ('Nodes', told.nodes),
@@ -50,20 +48,71 @@ def check_totals(page, told, column=1):
     )
 
 
+def facts(page):
+    """What the panel of the picked link tells, by its names."""
+    return dict(
+        page.run(
+            'return [...document.querySelectorAll("#link dt")].map((name) =>'
+            ' [name.textContent, name.nextSibling.textContent])'
+        )
+    )
+
+
+def facts_of(page, links):
+    """What the panel would tell of some links."""
+    told = page.run('return arguments[0].map((link) => Page.factsOf(link))', list(links))
+    return dict(zip(links, map(dict, told)))
+
+
+def classes(page):
+    """The words of the legend's classes and how many links each has."""
+    return page.run(
+        'return [...document.querySelectorAll("#legend .class")].map((one) =>'
+        ' [one.querySelector(".bound").textContent,'
+        '  Number(one.querySelector(".count").textContent.replaceAll(",", ""))])'
+    )
+
+
+def check_classes(page, told, measure):
+    """How many links the legend counts in each class, at the step that is shown."""
+    page.choose('#measure', measure)
+    step, shown = page.step(), classes(page)
+    bounds = [number(words.split()[1].strip('×')) for words, _ in shown if words[:3] == 'to ']
+    bounds = [1, *bounds] if measure == 'delay' else sorted(bounds)
+    counts = [0] * 9
+    for link in told.links:
+        value = told.value(measure, link, step)
+        place = 0 if not value else 1 + sum(value > bound for bound in bounds)
+        if measure == 'speed' and place > 0:
+            place = len(bounds) + 2 - place
+        is_timed = measure in ('delay', 'speed', 'minutes')
+        counts[8 if is_timed and told.stood(link, step) is not None else place] += 1
+    equal([count for _, count in shown], counts[: len(shown)], f'links by {measure} at {step}')
+
+
+def labels(page):
+    """What the map's labels say, as a link and words."""
+    words = page.find('.map canvas').get_attribute('aria-description')
+    return [label.removeprefix('link ').split('  ') for label in words.split('; ') if label]
+
+
 def check_rankings(page, told):
     worst = told.most_delayed()
     first = page.rows('[data-table=links]')[0]
     equal(first[0], worst, 'the most delayed link')
-    near(first[2], told.lost[worst] * STEP_SECONDS / 3600, 'what it loses')
-    near(first[3], told.waits.get(worst, 0) * STEP_SECONDS / 3600, 'the waiting for it')
+    near(first[2], told.lost[worst] * told.seconds / 3600, 'what it loses')
+    near(first[3], told.waits.get(worst, 0) * told.seconds / 3600, 'the waiting for it')
     near(first[4], told.worst[worst][0] / told.free[worst], 'its greatest delay')
+    near(first[5], told.worst[worst][0] * told.seconds / 60, 'its greatest minutes')
+    equal(first[6], told.clock(told.worst[worst][1]), 'when these begin')
+    near(first[7], told.blocked_steps(worst) * told.seconds / 60, 'the minutes of blocking')
     page.choose('[data-table=links] select', 'waiting')
     longest = max(told.waits, key=lambda link: told.waits[link])
     equal(page.rows('[data-table=links]')[0][0], longest, 'the link that is waited for most')
     page.choose('[data-table=links] select', 'lost')
     near(
         page.rows('[data-table=trips]')[0][3],
-        told.longest * STEP_SECONDS / 60,
+        told.longest * told.seconds / 60,
         'the longest trip',
     )
 
@@ -75,7 +124,7 @@ def check_worst(page, told):
     page.click('#worst-link')
     worst = told.most_delayed()
     equal(page.text('#link h2'), f'Link {worst}', 'the picked link')
-    equal(page.step(), told.worst[worst][1], 'its worst time')
+    equal(page.step(), told.costliest_time(worst), 'its worst time')
     on_it = page.text('#link dl').split('on it')[1].split()[0]
     equal(int(number(on_it)), told.on_link(worst, page.step()), 'the vehicles on it')
     page.keys(Keys.ESCAPE)

@@ -26,6 +26,35 @@ ODD_NETWORK = {
     'link_performance.csv': None,
 }
 
+# A run that has all that the checks look for, and what they must say.
+TO_CHECK = {
+    'link.csv': 'link_id,from_node_id,to_node_id,length,capacity\n'
+    '20,1,2,1000,1800\n30,2,3,1000,0\n40,2,3,10,1800\n',
+    'link_performance.csv': 'link_id,from_step,to_step,entered,travel_steps,free_steps\n'
+    '20,0,60,12,40,10\n30,0,60,0,10,10\n40,0,60,1,1,1\n',
+    'agent.csv': AGENTS.split('\n')[0]
+    + '\n0,1,3,0,11,arrived,20;40,0;10\n'
+    + ''.join(f'{number},1,3,5,,running,20;30,5\n' for number in range(1, 12))
+    + '12,1,3,6,,waiting,20;40,\n13,3,99,7,,unrouted,,\n14,3,1,7,,unrouted,,\n',
+    'demand.csv': 'o_zone_id,d_zone_id,volume\n1,3,13\n3,99,1\n3,1,1.9\n',
+}
+CHECKS = {
+    'zones': 'look: 1 zones of demand.csv have no node: 99. Their vehicles have no way.',
+    'ways': 'look: 2 pairs of zones have no way, with 2 vehicles: 3 → 99, 3 → 1.',
+    'closed': 'look: 1 of 3 (33.3 %) links have a capacity of 0, and routes may lead there all '
+    'the same.',
+    'short': 'look: 1 of 3 (33.3 %) links take one step at free flow: their times are rounded up '
+    'most.',
+    'small': 'look: 1 of 3 (33.3 %) links store fewer than three vehicles: with a spatial queue '
+    'they let little through.',
+    'departures': 'look: Most vehicles leave in step 5, at 00:00:30: 11 of 15 (73.3 %). 2 of 3 '
+    '(66.7 %) rows of demand.csv are of less than two vehicles, and these all leave in the '
+    'middle of the period.',
+    'unfinished': 'look: 12 of 13 (92.3 %) trips are unfinished at the horizon: 11 on links, 1 at '
+    'their origins.',
+    'jam': 'look: Links are blocked from 00:02:36 on. The jam begins at 1 of them: 20 (00:02:36).',
+}
+
 # Name, the files that differ from a good run (None: not there), and what must be said.
 CASES = [
     (

@@ -3,6 +3,8 @@ import os
 import shutil
 import subprocess
 
+import made_network
+
 TOP = os.path.dirname(os.path.dirname(os.path.dirname(os.path.abspath(__file__))))
 
 
@@ -47,10 +49,38 @@ def make_all(program, folder):
         path = os.path.join(folder, name)
         return path, run(program, words, os.path.join(TOP, 'examples', example), path, change)
 
+    def made_by_words(name, example, text=None):
+        """By the words of words.txt of the folder, which are these where some are given."""
+        folder = os.path.join(TOP, 'examples', example)
+        if text is None:
+            with open(os.path.join(folder, 'words.txt'), encoding='utf-8') as words:
+                text = words.read()
+
+        def write(path):
+            with open(os.path.join(path, 'words.txt'), 'w', encoding='utf-8') as words:
+                words.write(text)
+
+        return made(name, text.split(), example, write)
+
+    def made_by(make, name):
+        """Of a made network, by its own words."""
+        tables, path = os.path.join(folder, f'tables_of_{name}'), os.path.join(folder, name)
+        make(tables)
+        with open(os.path.join(tables, 'words.txt'), encoding='utf-8') as words:
+            return path, run(program, words.read().split(), tables, path)
+
     short = ['assign', '--period', '1', '--horizon', '60', '--iterations', '2']
     long = ['assign', '--iterations', '20']
     return {
         'two_routes': made('two_routes', short, 'two_routes'),
         'sioux_falls': made('sioux_falls', long, 'sioux_falls'),
         'half_of_link_48': made('half_of_link_48', long, 'sioux_falls', halve_capacity('48')),
+        'town': made_by(made_network.town, 'town'),
+        'country': made_by(made_network.country, 'country'),
+        'busy': made_by_words('busy', 'many_scenarios/scenarios/busy'),
+        'steps_of_10': made_by_words(
+            'steps_of_10',
+            'sioux_falls',
+            'assign --step 10 --period=360 --horizon 720 --iterations 5',
+        ),
     }

@@ -1,5 +1,7 @@
 """What the tables of a run tell, read by Python's own csv reader: what the page must show."""
+import array
 import csv
+import math
 import os
 
 
@@ -15,30 +17,35 @@ def steps(text):
 class Told:
     """Sums over the tables of one run of `assign`, in steps and metres."""
 
-    def __init__(self, folder):
-        self.folder = folder
+    def __init__(self, folder, jam=125, storage_binds=False, seconds=6):
+        self.folder, self.jam, self.storage_binds = folder, jam, storage_binds
+        self.seconds = seconds
         self.links = {row['link_id']: row for row in rows(folder, 'link.csv')}
         self.nodes = sum(1 for _ in rows(folder, 'node.csv'))
         self.read_times()
         self.read_agents()
 
     def read_times(self):
-        self.free, self.lost, self.worst, self.by_bucket, self.horizon = {}, {}, {}, {}, 0
+        self.free, self.worst, self.entered, self.travel, self.horizon = {}, {}, {}, {}, 0
+        self.buckets = {}
         for row in rows(self.folder, 'link_performance.csv'):
             link, start = row['link_id'], int(row['from_step'])
             entered, travel, free = (
                 int(row[name]) for name in ('entered', 'travel_steps', 'free_steps')
             )
             self.free[link] = free
-            self.lost[link] = self.lost.get(link, 0) + entered * (travel - free)
-            self.by_bucket[start] = self.by_bucket.get(start, 0) + entered * (travel - free)
+            self.entered[link, start], self.travel[link, start] = entered, travel
+            self.buckets[start] = int(row['to_step'])
             self.horizon = max(self.horizon, int(row['to_step']))
             if entered > 0 and travel > self.worst.get(link, (0, 0))[0]:
                 self.worst[link] = (travel, start)
+        self.bucket_of = [
+            start for start, end in self.buckets.items() for _ in range(start, end)
+        ]
 
     def read_agents(self):
         self.statuses = {'arrived': 0, 'running': 0, 'waiting': 0, 'unrouted': 0}
-        self.waits = {}
+        self.waits, self.lost, self.by_bucket, self.visits, self.waiters = {}, {}, {}, {}, {}
         self.on_links = (
             self.waited
         ) = self.lost_by_visits = self.metres = self.vehicles = self.longest = 0
@@ -55,29 +62,174 @@ class Told:
         self.waited += waited
         first = row['link_ids'].split(';')[0]
         self.waits[first] = self.waits.get(first, 0) + waited
+        self.waiters.setdefault(first, []).append((departure, departure + waited))
         self.longest = max(self.longest, arrival - departure)
         ends = entries[1:] + [arrival]
         for link, entry, end in zip(row['link_ids'].split(';'), entries, ends):
             self.on_links += end - entry
-            self.lost_by_visits += max(end - entry - self.free[link], 0)
+            self.visits.setdefault(link, array.array('q')).append(entry * 100000 + end)
             if end < self.horizon:
                 self.metres += float(self.links[link]['length'])
+            if end > entry + self.free[link]:
+                self.add_lost(link, entry + self.free[link], end)
+
+    def add_lost(self, link, begin, end):
+        """A vehicle loses the steps of a link behind its free-flow time, each in its bucket."""
+        self.lost_by_visits += end - begin
+        self.lost[link] = self.lost.get(link, 0) + end - begin
+        while begin < end:
+            start = self.bucket_of[begin]
+            until = min(end, self.buckets[start])
+            for place in (start, (link, start)):
+                self.by_bucket[place] = self.by_bucket.get(place, 0) + until - begin
+            begin = until
+
+    def storage(self, link):
+        """Lengths in metres."""
+        row = self.links[link]
+        length, lanes = float(row['length']), float(row.get('lanes') or 1)
+        return max(math.floor(length / 1000 * lanes * self.jam + 1e-9), 1)
+
+    def visits_of(self, link):
+        """Pairs of entry and end, in the order in which vehicles stand on the link."""
+        return [divmod(visit, 100000) for visit in sorted(self.visits.get(link, []))]
 
     def most_delayed(self):
         """The link that loses most in the whole run, the first of equal ones."""
-        return max(self.lost, key=lambda link: self.lost[link])
+        return max(self.links, key=lambda link: self.lost.get(link, 0))
 
     def worst_time(self):
-        return max(self.by_bucket, key=lambda start: self.by_bucket[start])
+        return max(self.buckets, key=lambda start: self.by_bucket.get(start, 0))
+
+    def costliest_time(self, link):
+        return max(self.buckets, key=lambda start: self.by_bucket.get((link, start), 0))
 
     def on_link(self, link, step):
         """Vehicles on a link once a step is done."""
-        count = 0
+        return sum(entry <= step < end for entry, end in self.visits_of(link))
+
+    def stood(self, link, step):
+        """How many steps the first vehicle has stood where the link is blocked, else None."""
+        visits = self.visits_of(link)
+        on_it = [entry for entry, end in visits if entry <= step < end]
+        if not on_it:
+            return None
+        left = [end for entry, end in visits if end <= step]
+        stood = step - max([on_it[0] + self.free[link], *left[-1:]])
+        is_full = self.storage_binds and len(on_it) >= self.storage(link)
+        return stood if stood > self.free[link] or is_full and stood >= 0 else None
+
+    def is_plain(self, link, step):
+        """Whether the map of delays has nothing to tell of a link."""
+        return self.value('delay', link, step) <= 1 and self.stood(link, step) is None
+
+    def blocked_steps(self, link):
+        return sum(self.stood(link, step) is not None for step in range(self.horizon))
+
+    def minutes(self, count):
+        return count * self.seconds / 60
+
+    def hours(self, count):
+        return count * self.seconds / 3600
+
+    def clock(self, step, start=0):
+        """The time of day of a step in a run that starts so many seconds after midnight."""
+        minutes, seconds = divmod(start + step * self.seconds, 60)
+        return f'{minutes // 60:02}:{minutes % 60:02}' + (f':{seconds:02}' if seconds else '')
+
+    def flow(self, link, start):
+        return self.entered[link, start] / self.hours(self.buckets[start] - start)
+
+    def lanes(self, link):
+        return float(self.links[link].get('lanes') or 1)
+
+    def capacity(self, link):
+        return float(self.links[link].get('capacity') or 1800) * self.lanes(link)
+
+    def speed(self, link, start):
+        return float(self.links[link]['length']) / 1000 / self.hours(self.travel[link, start])
+
+    def waiting(self, link, step):
+        return sum(begin <= step < end for begin, end in self.waiters.get(link, []))
+
+    def value(self, measure, link, step):
+        """What a measure tells of a link at a step; 0 where there is nothing to tell."""
+        start = self.bucket_of[step]
+        is_entered = self.entered[link, start] > 0
+        return {
+            'delay': lambda: is_entered and self.travel[link, start] / self.free[link],
+            'lost': lambda: self.hours(self.by_bucket.get((link, start), 0)),
+            'on': lambda: self.on_link(link, step),
+            'flow': lambda: self.flow(link, start),
+            'load': lambda: 100 * self.flow(link, start) / self.capacity(link),
+            'speed': lambda: is_entered and self.speed(link, start),
+            'minutes': lambda: is_entered and self.minutes(self.travel[link, start]),
+            'waiting': lambda: self.waiting(link, step),
+            'storage': lambda: 100 * self.on_link(link, step) / self.storage(link),
+            'free': lambda: self.minutes(self.free[link]),
+        }[measure]()
+
+    def agents(self):
+        """The rows of vehicles, with their links and the steps in which each is entered."""
         for row in rows(self.folder, 'agent.csv'):
-            entries = steps(row['entry_steps'])
+            links = [link for link in row['link_ids'].split(';') if link != '']
+            yield row, links, steps(row['entry_steps'])
+
+    def over(self, link):
+        """How many vehicles between which zones entered a link, and how many entries they made
+        into other links before and behind it."""
+        pairs, before, behind = {}, {}, {}
+        for row, links, entries in self.agents():
+            entered = links[: len(entries)]
+            if link not in entered:
+                continue
+            key = row['o_zone_id'], row['d_zone_id']
+            pairs[key] = pairs.get(key, 0) + 1
+            place = entered.index(link)
+            for counts, part in ((before, entered[:place]), (behind, entered[place + 1 :])):
+                for other in part:
+                    if other != link:
+                        counts[other] = counts.get(other, 0) + 1
+        return pairs, before, behind
+
+    def routes(self, origin, destination):
+        """Each route's vehicles, and the steps of those that arrived."""
+        found = {}
+        for row, links, _ in self.agents():
+            if (row['o_zone_id'], row['d_zone_id'], bool(links)) == (origin, destination, True):
+                found.setdefault(';'.join(links), []).append(
+                    int(row['arrival_step']) - int(row['departure_step'])
+                    if row['arrival_step'] != ''
+                    else None
+                )
+        return found
+
+    def departures(self):
+        counts = {}
+        for row, _, _ in self.agents():
+            step = int(row['departure_step'])
+            counts[step] = counts.get(step, 0) + 1
+        return counts
+
+    def first_blocked(self, link):
+        """The first step in which a link is blocked, or None."""
+        blocked = (at for at in range(self.horizon) if self.stood(link, at) is not None)
+        return next(blocked, None)
+
+    def jam_starts(self):
+        """Links that don't wait for a blocked link when they are blocked for the first time."""
+        first = {link: self.first_blocked(link) for link in self.links}
+        heads = {}
+        for row, links, entries in self.agents():
             arrival = int(row['arrival_step']) if row['arrival_step'] != '' else self.horizon
-            for name, entry, end in zip(
-                row['link_ids'].split(';'), entries, entries[1:] + [arrival]
-            ):
-                count += name == link and entry <= step < end
-        return count
+            ends = entries[1:] + [arrival]
+            for place, (link, entry, end) in enumerate(zip(links, entries, ends)):
+                step = first[link]
+                if step is not None and entry <= step < end:
+                    one = entry, end, int(row['agent_id']), links[place + 1 :][:1]
+                    heads[link] = min(heads.get(link, one), one)
+        return {
+            link: first[link]
+            for link, (_, _, _, next_link) in heads.items()
+            if next_link == [] or self.stood(next_link[0], first[link]) is None
+        }

@@ -1,5 +1,5 @@
 #!/usr/bin/python3
-"""test_view.py [--program PATH] [--pictures FOLDER] [--only TEST] [--without-large]
+"""test_view.py [--program PATH] [--pictures FOLDER] [--only TESTS] [--without-large]
 
 Tries the page view/index.html in a browser. It runs the examples by the program (this
 repository's script `dta`, or PATH), makes the tables of a large run, drops the folders on the page
@@ -9,7 +9,7 @@ has an error.
 
 It needs Debian's packages, and Debian's own python3, which has selenium by them:
 
-    apt-get update && apt-get install -y chromium chromium-driver python3-selenium
+    apt-get update && apt-get install -y chromium chromium-driver python3-selenium gdal-bin
     view/test/test_view.py
 """
 import argparse
@@ -26,11 +26,21 @@ import big_run
 import faults
 import run_examples
 from browser import Page
-from checks import check, check_rankings, check_totals, check_worst, equal, number
+from checks import (
+    check,
+    check_classes,
+    check_rankings,
+    check_totals,
+    check_worst,
+    equal,
+    facts,
+    number,
+)
+from planner_tests import PlannerTests
 from tables import Told
 
 
-class Test:
+class Test(PlannerTests):
     def __init__(self, page, program, runs, folder, pictures):
         self.page, self.program, self.runs = page, program, runs
         self.folder, self.pictures = folder, pictures
@@ -134,7 +144,7 @@ class Test:
         page = self.page
         page.run('document.activeElement.blur(); scrollTo(0, 0)')
         reached = set()
-        for _ in range(60):
+        for _ in range(100):
             page.keys_fast(Keys.TAB)
             reached.add(
                 page.run('const one = document.activeElement; return one.id || one.className')
@@ -257,8 +267,8 @@ class Test:
         page.wait_for_runs(['alone'])
         page.drop([path])
         page.wait_for_runs(['alone', 'free'])
-        page.choose('#unit', unit)
-        page.choose('#jam', jam)
+        page.choose('[data-run=alone] .unit', unit)
+        page.choose('[data-run=alone] .jam', jam)
         for link in ('1', '2', '3', '4'):
             page.choose('#find', link)
             told = page.run(
@@ -283,9 +293,12 @@ class Test:
             ]
         )
         page.wait_for_runs(['skims_and_counts'])
-        equal(page.rows('[data-table=skim]'), [['1 → 3', '0', '20', '2']], 'the skim')
-        equal(page.rows('[data-table=turn]'), [['20', '30', '0 to 50', '7']], 'the turns')
-        equal(page.rows('[data-table=through]'), [['1', '3', '0 to 60', '7']], 'the pairs')
+        equal(page.rows('[data-table=skim]'), [['1 → 3', '00:00', '20', '2.0']], 'the skim')
+        equal(page.rows('[data-table=turn]'), [['20', '30', '00:00 to 00:05', '7']], 'the turns')
+        equal(page.rows('[data-table=through]'), [['1', '3', '00:00 to 00:06', '7']], 'the pairs')
+        page.choose('#find', '20')
+        turn = '7 vehicles from 00:00 to 00:05: 84 an hour'
+        equal(facts(page)['turn to 30'], turn, 'the turn in the panel')
 
     def a_large_run_is_fast(self):
         page, folder = self.page, os.path.join(self.folder, 'large')
@@ -310,6 +323,9 @@ class Test:
         check_rankings(page, told)
         equal(told.most_delayed(), str(big_run.WORST_LINK), 'the worst link that was made')
         check_worst(page, told)
+        page.choose('#slider', 612)
+        for measure in ('delay', 'flow', 'load', 'speed', 'minutes'):
+            check_classes(page, told, measure)
 
     def speed_of(self, measure):
         page = self.page
@@ -337,6 +353,17 @@ TESTS = [
     'faults_are_told',
     'storage_is_the_program_s',
     'skims_and_counts_are_shown',
+    'blocked_links_are_seen',
+    'labels_name_what_loses_most',
+    'finding_moves_the_map',
+    'each_run_has_its_own_units',
+    'measures_have_units',
+    'trips_over_a_link',
+    'routes_and_one_vehicle',
+    'checks_are_told',
+    'things_are_found',
+    'links_go_out',
+    'widths_tell_importance',
     'a_large_run_is_fast',
 ]
 
@@ -359,7 +386,8 @@ def main():
     failed = 0
     for name in TESTS:
         if (
-            chosen.only not in (None, name)
+            chosen.only is not None
+            and name not in chosen.only.split(',')
             or chosen.without_large
             and name == 'a_large_run_is_fast'
         ):

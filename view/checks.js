@@ -1,0 +1,184 @@
+'use strict';
+// What a planner should look at before trusting a run, from its tables alone.
+const Checks = (() => {
+    // Sentences with what they are of: a list of { id, isFine, words, links }.
+    function ofRun(run) {
+        return [
+            zones(run), ways(run), closed(run), short(run), small(run), departures(run),
+            unfinished(run), jam(run)
+        ].filter((found) => found !== null);
+    }
+
+    function check(id, isFine, words, links = []) {
+        return {id, isFine, words, links};
+    }
+
+    // A list of names, of which the first ones are said.
+    function named(names) {
+        const most = 8, rest = names.length - most;
+        return names.slice(0, most).join(', ') +
+            (rest > 0 ? ` and ${Totals.format(rest)} more` : '');
+    }
+
+    function share(count, all) {
+        const percent = all === 0 ? 0 : 100 * count / all;
+        return `${Totals.format(count)} of ${Totals.format(all)} (${percent.toFixed(1)} %)`;
+    }
+
+    function zones(run) {
+        if (run.demand === null) return null;
+        const known = new Set(run.nodes.zones);
+        const missing = run.demand.zones.filter((zone) => !known.has(zone));
+        if (missing.length === 0)
+            return check('zones', true, 'All zones of demand.csv have a node.');
+        return check(
+            'zones', false,
+            `${Totals.format(missing.length)} zones of demand.csv have no node: ` +
+                `${named(missing)}. Their vehicles have no way.`);
+    }
+
+    // By the vehicles without a route or, before a run, by the least times of a skim.
+    function ways(run) {
+        if (run.agents === null && run.skim === null) return null;
+        const pairs = run.agents === null ?
+            run.skim.filter(({least}) => least < 0) :
+            Trips.pairs(run, agentsWith(run, 3)).map(({from, to, count}) => (
+                {origin: from, destination: to, count}));
+        const words = [...new Set(pairs.map((pair) => `${pair.origin} → ${pair.destination}`))];
+        if (words.length === 0) return check('ways', true, 'All pairs of zones have a way.');
+        const vehicles = run.agents === null ?
+            '' :
+            `, with ${Totals.format(run.sums.statuses[3])} vehicles`;
+        return check(
+            'ways', false,
+            `${Totals.format(words.length)} pairs of zones have no way${vehicles}: ` +
+                `${named(words)}.`);
+    }
+
+    function agentsWith(run, status) {
+        const found = [];
+        run.agents.status.forEach((one, agent) => {
+            if (one === status) found.push(agent);
+        });
+        return found;
+    }
+
+    function linksWith(run, is) {
+        const found = [];
+        for (let link = 0; link < run.links.count; link += 1)
+            if (is(link)) found.push(link);
+        return found;
+    }
+
+    function closed(run) {
+        const {lanes, capacity, windows} = run.links;
+        const links = linksWith(run, (link) => {
+            const parts = windows.get(link) || [[0, capacity[link]]];
+            return parts.every(([, value]) => value * lanes[link] === 0);
+        });
+        if (links.length === 0) return check('closed', true, 'All links have a capacity.');
+        return check(
+            'closed', false,
+            `${share(links.length, run.links.count)} links have a capacity of 0, and routes ` +
+                'may lead there all the same.',
+            links);
+    }
+
+    function short(run) {
+        if (run.times === null) return null;
+        const links = linksWith(run, (link) => run.times.free[link] === 1);
+        return check(
+            'short', links.length === 0,
+            `${share(links.length, run.links.count)} links take one step at free flow: ` +
+                'their times are rounded up most.',
+            links);
+    }
+
+    function small(run) {
+        const links = linksWith(run, (link) => run.storage[link] < 3);
+        return check(
+            'small', links.length === 0,
+            `${share(links.length, run.links.count)} links store fewer than three vehicles: ` +
+                'with a spatial queue they let little through.',
+            links);
+    }
+
+    // The step in which most vehicles depart, and how many.
+    function busiest(run) {
+        const counts = departed(run);
+        const step = counts.reduce((most, count, at) => (count > counts[most] ? at : most), 0);
+        return {step, count: counts[step]};
+    }
+
+    function departed(run) {
+        const counts = new Int32Array(run.horizon);
+        for (const step of run.agents.departure) counts[step] += 1;
+        return counts;
+    }
+
+    function departures(run) {
+        if (run.agents === null || run.agents.count === 0) return null;
+        const {step, count} = busiest(run), all = run.agents.count;
+        const rows = run.demand === null || run.demand.small === 0 ?
+            '' :
+            ` ${share(run.demand.small, run.demand.rows)} rows of demand.csv are of less than ` +
+                'two vehicles, and these all leave in the middle of the period.';
+        return check(
+            'departures', count < 10 || count < all / 20,
+            `Most vehicles leave in step ${step}, at ${run.clock(step)}: ` +
+                `${share(count, all)}.${rows}`);
+    }
+
+    function unfinished(run) {
+        if (run.agents === null) return null;
+        const [arrived, running, waiting] = run.sums.statuses;
+        if (running + waiting === 0)
+            return check('unfinished', true, 'All vehicles that have a way arrive.');
+        return check(
+            'unfinished', false,
+            `${share(running + waiting, arrived + running + waiting)} trips are unfinished at ` +
+                `the horizon: ${Totals.format(running)} on links, ${Totals.format(waiting)} ` +
+                'at their origins.');
+    }
+
+    // The link on which a visit goes on, or -1 where it is the route's last one.
+    function nextLink(run, link, visit) {
+        const way = Trips.way(run, run.visits.agent[visit]);
+        const place = way.findIndex(
+            (part) => part.link === link && part.enter === run.visits.enter[visit]);
+        return place + 1 < way.length ? way[place + 1].link : -1;
+    }
+
+    // Where jams begin: links whose first vehicle, when they are blocked for the first time,
+    // doesn't wait for a link that is blocked too.
+    function jamStarts(run) {
+        const {stands} = run, found = [];
+        for (let link = 0; link < run.links.count; link += 1) {
+            const {visit} = stands.of(link);
+            if (visit < 0) continue;
+            const step = stands.blockedFrom(link, visit), next = nextLink(run, link, visit);
+            const isHeld = next >= 0 && stands.at(next, stands.range(next, step), step) >= 0;
+            found.push({link, step, isHeld});
+        }
+        const free = found.filter(({isHeld}) => !isHeld);
+        return (free.length > 0 ? free : found).sort((one, other) => one.step - other.step);
+    }
+
+    function jam(run) {
+        if (run.stands === null) return null;
+        const starts = jamStarts(run);
+        if (starts.length === 0)
+            return check('jam', true, 'No link is blocked; queues move wherever there are any.');
+        const isRing = starts[0].isHeld;
+        return check(
+            'jam', false,
+            `Links are blocked from ${run.clock(starts[0].step)} on. ` +
+                (isRing ? 'They wait for each other: ' :
+                          `The jam begins at ${Totals.format(starts.length)} of them: `) +
+                `${named(starts.map(({link, step}) =>
+                    `${run.links.names[link]} (${run.clock(step)})`))}.`,
+            starts.map(({link}) => link));
+    }
+
+    return {ofRun, departed, busiest, jamStarts};
+})();
