@@ -17,9 +17,11 @@ use Rattle.phase_claims.specs.declared.view.View.{View}
 use Rattle.phase_claims.specs.Passes.{IsHeld, IsOpen, HoldsNoUnit}
 use Rattle.phase_claims.specs.PlacesHome.{AreHome, brought, carried, has_slot}
 use Rattle.phase_claims.specs.Plays.{Draws, Finishes, IsBounded, Looks, LooksAt}
-use Rattle.phase_claims.specs.Running.{Holds, Running}
-use Rattle.phase_claims.specs.Views.{beginning, done_with, ended, having_open, holding, joined, less_spare, nobody, rights, seeing, unit_in}
-use Rattle.phase_claims.proofs.Steps.{alone, begins, draws_none, draws_unit, drawn_most, finished_most, finishes, joins, opens, own, splits, waits}
+use Rattle.phase_claims.specs.Running.{EarlierAreFinished, Holds, Running, StandsIn}
+use Rattle.phase_claims.specs.Views.{beginning, done_with, ended, first_of_phase, having_open, holding, joined, less_spare, nobody, rights, seeing, unit_in}
+use Rattle.phase_claims.proofs.Counts.{holds_held}
+use Rattle.phase_claims.proofs.Machines.{earlier}
+use Rattle.phase_claims.proofs.Steps.{alone, begins, draws_none, draws_unit, drawn_most, finished_most, finishes, held_in, joins, opens, own, splits, waits}
 use Rattle.phase_claims.proofs.PlacesSteps.{finishes_places, homes_join, homes_set, homes_split, opens_places, opens_valid}
 use Rattle.phase_claims.proofs.Turning.{gives_all, in_order, none_left, takes_all, valid_gives}
 
@@ -70,6 +72,10 @@ module _ (k : Scope) where
       let mine = own k w n s.views r id m.0 at in
       let whole : rights m.0 ≡ m.0.scope.passes → phase_start (node_count k.plan) c ≤ n = λ all. alone k w n s.views r id c m.0 at is (all ∙ sym passes) in
       let told : (v : View) → LooksAt m.0 n v → LooksAt m.0 (get_or s.words 2 0) v = λ v t. subst (λ (x : ℕ). LooksAt m.0 x v) found t in
+      let moved : (h' : Holds m.0.scope s) × (h'.finished ≡ n) = subst (λ (j : Scope). (h' : Holds j s) × (h'.finished ≡ n)) scope (h, refl) in
+      let stands : StandsIn m.0 n = record { state = s; rule = moved.0; by = id; here = at; word = moved.1 } in
+      let held_once = held_in k w n s.views r id c m.0 at (λ x. holds_held m.0.stage c x is) in
+      let before : first_of_phase m.0 ≤ n → EarlierAreFinished m.0 s.views = λ le x lt. earlier k w n s.views r c x held_once.0 (omega (arith, le, first)) (omega (arith, lt, first)) in
       dite (dec_le (phase_start (node_count k.plan) c) n)
       (λ le. (
         having_open m.0 n,
@@ -77,7 +83,7 @@ module _ (k : Scope) where
         subst (λ xs. Valid s.homes xs (takes_all (carried k (stage.Open c)))) (sym none) (opens_valid k w n s.views r s.homes h.homes id c m.0 at is le),
         kept w n (set s.views id (having_open m.0 n)) h.few h.small (opens k w n s.views r id c m.0 at is has le) _ words (homes_after s.homes m.1 (takes_all (carried k (stage.Open c))))
             (subst (λ xs. AreHome k (homes_after s.homes xs (takes_all (carried k (stage.Open c)))) (set s.views id (having_open m.0 n))) (sym none) (opens_places k w n s.views r s.homes h.homes id c m.0 at is le n)),
-        (ap (λ xs. carried_after xs (takes_all (carried k (stage.Open c)))) none ∙ in_order [] (carried k (stage.Open c)) ∙ append-nil (carried k (stage.Open c)) ∙ ap (λ (j : Scope). carried j (stage.Open c)) scope, told (having_open m.0 n) record { seen = f.seen; own = mine; alone = λ all. omega (arith, whole all, first); opens = λ _. refl; waits = λ lt. absurd (omega (arith, lt, first)) }),
+        (ap (λ xs. carried_after xs (takes_all (carried k (stage.Open c)))) none ∙ in_order [] (carried k (stage.Open c)) ∙ append-nil (carried k (stage.Open c)) ∙ ap (λ (j : Scope). carried j (stage.Open c)) scope, told (having_open m.0 n) record { stands = stands; earlier = before; seen = f.seen; own = mine; alone = λ all. omega (arith, whole all, first); opens = λ _. refl; waits = λ lt. absurd (omega (arith, lt, first)) }),
       ))
       (λ late. (
         seeing m.0 n,
@@ -85,7 +91,7 @@ module _ (k : Scope) where
         tt,
         kept w n (set s.views id (seeing m.0 n)) h.few h.small (waits k w n s.views r id m.0 at has) _ words s.homes
             (homes_set k s.homes s.views id m.0 (seeing m.0 n) at (λ slot. refl) (λ x. refl) h.homes),
-        (held, told (seeing m.0 n) record { seen = f.seen; own = mine; alone = λ all. omega (arith, whole all, first); opens = λ le. absurd (late (omega (arith, le, first))); waits = λ _. refl }),
+        (held, told (seeing m.0 n) record { stands = stands; earlier = before; seen = f.seen; own = mine; alone = λ all. omega (arith, whole all, first); opens = λ le. absurd (late (omega (arith, le, first))); waits = λ _. refl }),
       ))
 
   pub finishes_allowed : (slots id : ℕ) (m : Me Part View) → IsOpen m.0.stage → 1 ≤ m.0.weight → m.1 ≡ brought m.0.scope (unit_in m.0.stage) → Allows (Holds k) slots id m 2 (λ n. (n + 1) % 2 ^ 64) (Finishes (step slots 2 1 0 none) m)

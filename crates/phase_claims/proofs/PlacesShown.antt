@@ -35,12 +35,12 @@ start : (p : Plan) → eight_after p 0 ≡ zeros
 unfolding no_vehicles
 start p = nothing_at_the_start p
 
-pub states_are_shown : (p : Plan) (list : List Eight) → IsPrefix list (posted_in p p.horizon)
-    → (t : ℕ) × (t ≤ p.horizon) × (last_of list ≡ eight_after p t)
-states_are_shown p list h = at_end (shown (λ t. eight_after p (suc t)) list p.horizon 0 h)
+pub states_are_shown : (p : Plan) (steps : ℕ) (list : List Eight) → IsPrefix list (posted_in p steps)
+    → (t : ℕ) × (t ≤ steps) × (last_of list ≡ eight_after p t)
+states_are_shown p steps list h = at_end (shown (λ t. eight_after p (suc t)) list steps 0 h)
   where
-    at_end : (list ≡ []) ⊎ ((t : ℕ) × (t < p.horizon) × (last_of list ≡ eight_after p (suc (0 + t))))
-        → (t : ℕ) × (t ≤ p.horizon) × (last_of list ≡ eight_after p t)
+    at_end : (list ≡ []) ⊎ ((t : ℕ) × (t < steps) × (last_of list ≡ eight_after p (suc (0 + t))))
+        → (t : ℕ) × (t ≤ steps) × (last_of list ≡ eight_after p t)
     at_end (inl e) = (0, omega arith, ap last_of e ∙ sym (start p))
     at_end (inr (t, less, e)) =
         let next : suc (0 + t) ≡ suc t = omega arith in

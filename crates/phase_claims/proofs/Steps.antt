@@ -34,7 +34,7 @@ module _ (k : Scope) (w n : ℕ) (views : List View) (r : Running k w n views) w
   g = min w Q
 
   -- a unit that a pass holds was drawn, and is held
-  held_in : (by c : ℕ) (v : View) → get_elem? views by ≡ some v → ((x : ℕ) → holds x v ≡ is_at x c) → (1 ≤ held_by views c) × (c < g)
+  pub held_in : (by c : ℕ) (v : View) → get_elem? views by ≡ some v → ((x : ℕ) → holds x v ≡ is_at x c) → (1 ≤ held_by views c) × (c < g)
   held_in by c v e h =
       let most = total_at (holds c) views by v e in
       let one : 1 ≤ held_by views c = omega (arith, h c, at_self c, most) in

@@ -1,53 +1,66 @@
--- What the running rule says: the words and the views are a state of the claim machine.
-use Rattle.std.specs.Prelude.{◌≡◌, ℕ, ◌+◌, ◌<◌, ◌≤◌, List, map}
-use Rattle.dta_model.specs.Machine.{Claims, finished}
+-- What the running rule of a floor says, between any two steps, whatever the threads do.
+use Rattle.std.specs.Prelude.{◌≡◌, ◌≢◌, ℕ, ◌+◌, ◌<◌, ◌≤◌, true, false, List, map}
+use mathlib.Core.Option.{some}
+use lib.ListN.{get_elem?}
+use Rattle.atomic_table.specs.Table.{State}
+use Rattle.dta_model.specs.Machine.{Claims, finished, holds_unit}
 use Rattle.dta_model.specs.State.{eight_after}
-use Rattle.dta_model.specs.Units.{node_count, phase_start}
+use Rattle.dta_model.specs.Units.{node_count, phase_start, posting_part}
 use Rattle.dta_model.specs.declared.eight.Eight.{Eight}
+use Rattle.dta_model.specs.declared.machine.Stage.TheVariants as stage
 use Rattle.dta_model.specs.declared.plan.Plan.{Plan}
-use Rattle.claim_core.specs.Parts.{done_in}
+use Rattle.claim_core.specs.Parts.{done_in, stage_of}
+use Rattle.claim_core.specs.Sums.{total}
+use Rattle.phase_claims.specs.declared.part.Part.{Part}
+use Rattle.phase_claims.specs.declared.part.Part.TheVariants.{Writer}
 use Rattle.phase_claims.specs.declared.view.Scope.{Scope}
 use Rattle.phase_claims.specs.declared.view.View.{View}
 use Rattle.monitors.specs.Posted.{IsPrefix, last_of}
-use Rattle.phase_claims.specs.PlacesHome.{posted_in}
-use Rattle.phase_claims.specs.Running.{Running}
+use Rattle.phase_claims.specs.PlacesHome.{has_slot, posted_in}
+use Rattle.phase_claims.specs.Running.{Holds}
 use Rattle.phase_claims.specs.Views.{held_by, performed_by}
-
--- it holds of the words and the views of a floor between any two steps
-abbrev pub AlwaysHolds : (Scope → ℕ → ℕ → List View → Type 0) → Type 0
-AlwaysHolds Fact =
-    (k : Scope) (drawn finished : ℕ) (views : List View)
-    → Running k drawn finished views → Fact k drawn finished views
 
 -- the claims that the words and the views are: those of a worker for each pass
 abbrev pub claims_of : ℕ → List View → Claims
 claims_of drawn views = record { drawn = drawn; stages = map (λ v. v.stage) views }
 
--- no unit is held or performed by two passes, or twice by one
-abbrev pub AreApart : Scope → ℕ → ℕ → List View → Type 0
-AreApart k drawn count views = (x : ℕ) → performed_by views x + held_by views x ≤ 1
+-- two passes hold no number both, and where both have a unit open the two are of one phase
+pub record AreApart (n : ℕ) (v u : View) : Type 0 where
+  pub numbers : (c : ℕ) → holds_unit c v.stage ≡ true → holds_unit c u.stage ≡ false
+  pub phases : (c d : ℕ) → v.stage ≡ stage.Open c → u.stage ≡ stage.Open d
+      → phase_start n c ≡ phase_start n d
 
--- a unit is finished by these claims exactly where a pass has performed it
-abbrev pub FinishedArePerformed : Scope → ℕ → ℕ → List View → Type 0
-FinishedArePerformed k drawn count views =
-    (x : ℕ) → done_in k.plan (claims_of drawn views) x ≡ performed_by views x
+-- what holds of a floor's words, of the views of its passes and of its places by its rule
+pub record AreClaims (k : Scope) (s : State Part View) (h : Holds k s) : Type 0 where
+  -- the words and the views are claims of the claim machine: it has finished a unit exactly where a
+  -- pass has performed it, and as many units as the third word says
+  pub performed :
+      (x : ℕ) → done_in k.plan (claims_of h.drawn s.views) x ≡ performed_by s.views x
+  pub counted : finished k.plan (claims_of h.drawn s.views) ≡ h.finished
+  -- no unit is held or performed by two passes, or twice by one
+  pub once : (x : ℕ) → performed_by s.views x + held_by s.views x ≤ 1
+  pub apart : (i j : ℕ) (v u : View) → i ≢ j → get_elem? s.views i ≡ some v
+      → get_elem? s.views j ≡ some u → AreApart (node_count k.plan) v u
+  -- where as many units are finished as come before the phase of a unit that a pass holds, it is
+  -- those that are
+  pub earlier : (c x : ℕ) → 1 ≤ held_by s.views c → phase_start (node_count k.plan) c ≤ h.finished
+      → x < phase_start (node_count k.plan) c → performed_by s.views x ≡ 1
+  -- while no posting is open the writer's pass is at home: a pass of the floor's board that has
+  -- posted the states of the postings performed, in order, and nothing else
+  pub writer : total (λ v. has_slot k.plan (posting_part k.plan) v.stage) s.views ≡ 0
+      → get_elem? s.homes (posting_part k.plan)
+      ≡ some (some (Writer (record {
+        board = k.board;
+        list = posted_in k.plan (stage_of k.plan (performed_by s.views) (posting_part k.plan));
+      })))
 
--- and as many are as the word of finished units says
-abbrev pub FinishedAreCounted : Scope → ℕ → ℕ → List View → Type 0
-FinishedAreCounted k drawn count views =
-    finished k.plan (claims_of drawn views) ≡ count
+abbrev pub FloorsAreClaims : Type 0
+FloorsAreClaims = (k : Scope) (s : State Part View) (h : Holds k s) → AreClaims k s h
 
--- where a pass that holds a unit sees that as many are finished as come before the unit's phase,
--- it is those that are
-abbrev pub EarlierArePerformed : Scope → ℕ → ℕ → List View → Type 0
-EarlierArePerformed k drawn count views =
-    (c x : ℕ) → 1 ≤ held_by views c → phase_start (node_count k.plan) c ≤ count
-    → x < phase_start (node_count k.plan) c → performed_by views x ≡ 1
-
--- a list with which the states that a closed floor has posted begin: what it shows is the state
--- after some step, or before the first. Each list that a monitor of the board has known is such one
--- once the monitor is settled with the writer that a close gives back
+-- a list with which the states of the first steps begin: what it shows is the state after one of
+-- these steps, or before the first. So it is of each list that a monitor of a floor's board has
+-- known: it is the beginning of what the writer's pass has posted
 abbrev pub StatesAreShown : Type 0
 StatesAreShown =
-    (p : Plan) (list : List Eight) → IsPrefix list (posted_in p p.horizon)
-    → (t : ℕ) × (t ≤ p.horizon) × (last_of list ≡ eight_after p t)
+    (p : Plan) (steps : ℕ) (list : List Eight) → IsPrefix list (posted_in p steps)
+    → (t : ℕ) × (t ≤ steps) × (last_of list ≡ eight_after p t)

@@ -1,5 +1,5 @@
 -- What a floor and a pass are to a contract, and what the calls answer.
-use Rattle.std.specs.Prelude.{◌≡◌, ℕ, ◌<◌, ◌≤◌, Bool, true, false, Option, Some, None}
+use Rattle.std.specs.Prelude.{◌≡◌, ℕ, ◌<◌, ◌≤◌, Bool, true, false, List, Option, Some, None}
 use Rattle.atomic_table.specs.Seated.{TableId}
 use Rattle.atomic_table.specs.Table.{Me}
 use Rattle.dta_model.specs.Units.{node_count, step_of, task_of, unit_count}
@@ -17,6 +17,7 @@ use Rattle.phase_claims.specs.declared.unit.Unit.{Unit as LoadingUnit}
 use Rattle.phase_claims.specs.declared.view.Scope.{Scope}
 use Rattle.phase_claims.specs.declared.view.View.{View}
 use Rattle.phase_claims.specs.PlacesHome.{carried}
+use Rattle.phase_claims.specs.Running.{EarlierAreFinished, StandsIn}
 use Rattle.phase_claims.specs.Views.{ended, first_of_phase, having_open, holding}
 use Rattle.phase_claims.specs.Views.{performed_count, seeing, unit_in}
 
@@ -77,21 +78,24 @@ pub record Claims (p : Plan) (old : View) (result : Option LoadingUnit) (new : V
   pub number : ℕ
   pub answer : AnswersClaim p old number result new
 
--- the answer of an open that read so many finished units: Yes exactly where they are at least those
--- before the unit's phase, and else how many they are
-abbrev pub AnswersOpen : View → ℕ → Open → View → Type 0
-AnswersOpen old finished answer.Yes new =
-    (first_of_phase old ≤ finished) × (new ≡ having_open old finished)
-AnswersOpen old finished (answer.NotYet told) new =
+-- the answer of an open that read so many finished units, where these are the views of all passes:
+-- Yes exactly where they are at least those before the unit's phase, and then all units of earlier
+-- phases are finished; else how many they are
+abbrev pub AnswersOpen : View → ℕ → List View → Open → View → Type 0
+AnswersOpen old finished views answer.Yes new =
+    (first_of_phase old ≤ finished) × EarlierAreFinished old views
+    × (new ≡ having_open old finished)
+AnswersOpen old finished views (answer.NotYet told) new =
     (finished < first_of_phase old) × (told ≡ finished) × (new ≡ seeing old finished)
 
--- what an open does: it reads how many units are finished, no fewer than the pass has seen before
--- and than it has performed itself
+-- what an open does: it reads how many units are finished in a state of the floor, no fewer than the
+-- pass has seen before and than it has performed itself
 pub record Opens (old : View) (result : Open) (new : View) : Type 0 where
   pub finished : ℕ
+  pub stands : StandsIn old finished
   pub seen : old.seen ≤ finished
   pub own : performed_count old ≤ finished
-  pub answer : AnswersOpen old finished result new
+  pub answer : AnswersOpen old finished stands.state.views result new
 
 -- the unit that a pass holds is one of the plan
 abbrev pub IsInside : Plan → Stage → Type 0

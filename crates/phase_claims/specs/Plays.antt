@@ -7,6 +7,7 @@ use Rattle.phase_claims.specs.declared.floor.TheConstants.{MOST_PASSES}
 use Rattle.phase_claims.specs.declared.part.Part.{Part}
 use Rattle.phase_claims.specs.declared.view.View.{View}
 use Rattle.phase_claims.specs.PlacesHome.{carried}
+use Rattle.phase_claims.specs.Running.{EarlierAreFinished, StandsIn}
 use Rattle.phase_claims.specs.Views.{done_with, ended, first_of_phase, having_open, holding}
 use Rattle.phase_claims.specs.Views.{performed_count, rights, seeing}
 
@@ -21,6 +22,8 @@ Draws st m number m' = (m'.1 ≡ m.1) × DrawsNumber m.0 number m'.0
 -- a look, of a pass that holds a unit, at how many units are finished: no fewer than it has seen
 -- before, and than it has performed itself. Where its unit is open it has the unit's places
 pub record LooksAt (old : View) (finished : ℕ) (new : View) : Type 0 where
+  pub stands : StandsIn old finished
+  pub earlier : first_of_phase old ≤ finished → EarlierAreFinished old stands.state.views
   pub seen : old.seen ≤ finished
   pub own : performed_count old ≤ finished
   -- with all passes in it, those before its phase are

@@ -14,7 +14,8 @@ use Rattle.phase_claims.specs.declared.part.Part.{Part}
 use Rattle.phase_claims.specs.declared.view.Scope.{Scope}
 use Rattle.phase_claims.specs.declared.view.View.{View}
 use Rattle.phase_claims.specs.PlacesHome.{AreHome}
-use Rattle.phase_claims.specs.Views.{held_by, nobody, performed_by, performed_count, rights}
+use Rattle.phase_claims.specs.Views.{first_of_phase, held_by, nobody, performed_by}
+use Rattle.phase_claims.specs.Views.{performed_count, rights}
 
 -- a pass that has ended drew a number of no unit, and one that hasn't drew none
 abbrev pub FitsPast : Stage → ℕ → Type 0
@@ -63,3 +64,15 @@ pub record Holds (k : Scope) (s : State Part View) : Type 0 where
   pub words : s.words ≡ 0 ∷ drawn ∷ finished ∷ []
   pub running : Running k drawn finished s.views
   pub homes : AreHome k s.homes s.views
+
+-- a view is that of a pass in a state in which the rule holds, and so many units are finished
+pub record StandsIn (v : View) (finished : ℕ) : Type 0 where
+  pub state : State Part View
+  pub rule : Holds v.scope state
+  pub by : ℕ
+  pub here : get_elem? state.views by ≡ some v
+  pub word : rule.finished ≡ finished
+
+-- all units of the phases before that of the unit in a view are finished: passes have performed them
+abbrev pub EarlierAreFinished : View → List View → Type 0
+EarlierAreFinished v views = (x : ℕ) → x < first_of_phase v → performed_by views x ≡ 1

@@ -1,4 +1,5 @@
 // The floor and its calls.
+ghost use Rattle.atomic_table.specs.Table.{State};
 ghost use Rattle.std.specs.Prelude.{◌≡◌, ◌≢◌, ◌<◌, ◌≤◌, ◌-◌, [], IfErr, IfOk, IsOk};
 ghost use Rattle.claim_core.specs.Phases.{IsPhase, phase_of};
 ghost use Rattle.dta_model.specs.Lent.{plan_of};
@@ -9,18 +10,21 @@ ghost use Rattle.phase_claims.specs.Passes.{kind_at, kind_in, unit_at};
 ghost use Rattle.phase_claims.specs.PlacesEnd.{IsClosed, IsEarly};
 ghost use Rattle.phase_claims.specs.PlacesHeld.{IsSameSeat};
 ghost use Rattle.phase_claims.specs.PlacesHome.{brought, carried};
+ghost use Rattle.phase_claims.specs.Running.{Holds};
 ghost use Rattle.phase_claims.specs.Views.{beginning, done_with, joined, less_spare, rights};
 ghost use Rattle.phase_claims.specs.Views.{unit_in};
 
+use crate::part::Part;
 use crate::pass::{Last, Pass};
 use crate::receipt::{Early, Receipt};
-use crate::rule::{Bound, Cut, Draw, Finish, Glue, Key, Look, PassSeat, Words};
+use crate::rule::{Bound, Claiming, Cut, Draw, Finish, Glue, Key, Look, PassSeat, Words};
 use crate::start::parts_at_start;
 use crate::unit::{Open, Unit};
+use crate::view::View;
 use crate::work_close::{drop_parts, take_parts};
 use crate::work_posting::post_held;
 use crate::work_unit::{gather_held, transfer_held};
-use atomic_table::Table;
+use atomic_table::{Table, TableRule};
 use claim_core::{Phase, UnitKind, Units};
 use dta_model::{Loaded, Loading, Stage};
 use monitors::{Board, WriterPass};
@@ -119,6 +123,17 @@ impl<'a> Floor<'a> {
             last: Last::none(),
         };
         Ok((floor, pass))
+    }
+
+    /// The table of its words, its places and the views of its passes. Its rule, which holds between
+    /// any two steps whatever the threads do, is the running rule of the floor.
+    pub fn table(&self) -> &Words<'a>
+        ensures own { result.now.shared.table_id ≡ self.now.table }
+        ensures rule { (s : State Part View)
+            → ⟦<Claiming as TableRule<Part, View, Key<'a>>>⟧.holds result.now.shared.key s
+            → Holds self.now.scope s }
+    {
+        &self.table
     }
 
     // How many units there are.

@@ -1,27 +1,11 @@
 // Laws of the running rule. Each is the contract of a function that does nothing.
-ghost use Rattle.phase_claims.specs.Laws.{AlwaysHolds, AreApart, EarlierArePerformed};
-ghost use Rattle.phase_claims.specs.Laws.{FinishedAreCounted, FinishedArePerformed};
-ghost use Rattle.phase_claims.specs.Laws.{StatesAreShown};
+ghost use Rattle.phase_claims.specs.Laws.{FloorsAreClaims, StatesAreShown};
 
-/// No unit is held or performed by two passes.
-pub fn passes_are_apart()
-    ensures { AlwaysHolds AreApart }
-{}
-
-/// The units that passes have performed are those that are finished by the claim machine, which has
-/// a worker for each pass, with as many numbers drawn.
-pub fn finished_units_are_performed()
-    ensures { AlwaysHolds FinishedArePerformed }
-{}
-
-/// So many are finished by the claim machine as the floor counts.
-pub fn finished_units_are_counted()
-    ensures { AlwaysHolds FinishedAreCounted }
-{}
-
-/// Where a unit may be opened, all units of earlier phases are performed.
-pub fn earlier_units_are_performed()
-    ensures { AlwaysHolds EarlierArePerformed }
+/// The words and the views of a floor are claims of the claim machine: no unit is held or performed
+/// by two passes, no phase begins before the earlier ones are finished, and the writer's pass has
+/// posted the states of the postings performed.
+pub fn floors_are_claims()
+    ensures { FloorsAreClaims }
 {}
 
 /// What a monitor of a floor's board was shown is the state after some step, or before the first.

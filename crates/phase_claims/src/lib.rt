@@ -4,9 +4,10 @@
 //! [`Pass`] claims the next unit, opens it as soon as all units of earlier phases are finished, and
 //! performs it. Claims and finishes are single additions and an open is one load, so no pass ever
 //! waits for another. The promise is that of the claim machine, whatever the threads do between two
-//! steps: each unit is held or performed by one pass at most, and no phase begins before the
-//! earlier ones are finished. specs/Running.antt is the rule that each step keeps. [`Floor::new`]
-//! alone takes memory.
+//! steps: each unit is held or performed by one pass at most, no phase begins before the earlier
+//! ones are finished, and a place that no open unit uses has what the performed units left there.
+//! specs/Running.antt is the rule that each step keeps: [`Floor::table`] says that it is the rule
+//! of the floor's table. [`Floor::new`] alone takes memory.
 #![tactic(auto)]
 
 mod floor;
@@ -28,10 +29,10 @@ mod work_unit;
 
 pub use claim_core::UnitKind;
 pub use floor::{Floor, MOST_PASSES};
-pub use laws::{
-    earlier_units_are_performed, finished_units_are_counted, finished_units_are_performed,
-    passes_are_apart, states_are_shown,
-};
+pub use laws::{floors_are_claims, states_are_shown};
+pub use part::Part;
 pub use pass::Pass;
 pub use receipt::{Early, Receipt};
+pub use rule::{Claiming, Key, Words};
 pub use unit::{Open, Unit};
+pub use view::{Scope, View};

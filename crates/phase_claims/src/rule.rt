@@ -6,7 +6,7 @@ use dta_model::Loading;
 use monitors::Board;
 use std::alloc::Global;
 
-// What a floor's table is told when it is made.
+/// What a floor's table is told when it is made.
 #[derive(Clone, Copy, Drop)]
 pub struct Key<'a> {
     pub loading: Loading<'a>,
@@ -14,7 +14,7 @@ pub struct Key<'a> {
     pub passes: u32,
 }
 
-// The rule: the words and the views are a state of the claim machine.
+/// The rule of a floor's table, between any two steps, whatever the threads do: specs/Running.antt.
 pub struct Claiming;
 
 impl<'a> TableRule<Part, View, Key<'a>> for Claiming {
@@ -86,6 +86,7 @@ impl Join<View> for Glue {
     ghost spent = { nobody };
 }
 
+/// The words of a floor, its places and the views of its passes.
 pub type Words<'a> = Table<Part, View, Key<'a>, Claiming, Global>;
 
 pub type PassSeat = Seat<Part, View>;
