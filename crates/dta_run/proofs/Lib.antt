@@ -5,6 +5,7 @@ pub mod VerdictFacts
 pub mod OutputFacts
 pub mod IterateFacts
 pub mod RunFacts
+pub mod SoundFacts
 pub mod WatchFacts
 pub mod ReceiptFacts
 pub mod LoadFacts

@@ -31,7 +31,7 @@ use Rattle.skims.specs.declared.skim_entry.SkimEntry.{SkimEntry}
 use Rattle.dta_model.specs.LinkTimes.{time_at}
 use Rattle.route_flows.specs.Starts.{AreStartRows}
 use Rattle.dta_run.specs.Jobs.{IsAcceptedJob, JobRows, Assigns}
-use Rattle.dta_run.specs.Outcome.{DeskState, IsCause, IsDifferent, IsRefused, Means, ReportsLine, Works}
+use Rattle.dta_run.specs.Outcome.{DeskState, IsCause, IsDifferent, IsRefused, LoadsSoundly, Means, ReportsLine, Works}
 use Rattle.dta_run.specs.Outputs.{AreAssigned, AreAudited, AreSkimmed, AreSwept, AreTexts, AreTextsSoFar, AreWatched, AreWatchedSoFar, IsAudited, IsCutOff, OutText}
 use Rattle.dta_run.specs.Outputs.{audit_texts, free_texts, grown_by, last_texts, skim_texts, sweep_texts}
 use Rattle.dta_run.specs.Progress.{IsAssigned}
@@ -147,7 +147,7 @@ module _ (s : Settings) (job : JobRows) (asks : s.command ≡ command.Sweep) (sc
       (sweep_texts scenarios, subst (λ (c : Command). AreTextsSoFar c s job (sweep_texts scenarios)) (sym asks) swept, inr (inl part))
 
 -- what is so of all is so at a place
-all-at : {A : Type 0} (P : A → Type 0) (xs : List A) (i : ℕ) (x : A) → All P xs → slice_get xs i ≡ Some x → P x
+pub all-at : {A : Type 0} (P : A → Type 0) (xs : List A) (i : ℕ) (x : A) → All P xs → slice_get xs i ≡ Some x → P x
 all-at P [] i x h e = absurd cc
 all-at P (y ∷ ys) zero x h e = let e : Some y ≡ Some x = e in let same : y ≡ x = cc in subst P same (All-head P y ys h)
 all-at P (y ∷ ys) (suc i) x h e = all-at P ys i x (All-tail P y ys h) e
@@ -231,8 +231,8 @@ pub works-means : (words : List (List ℕ)) (s : Settings) (job : JobRows) (answ
     → settings_of words ≡ Some s → IsAcceptedJob s job before.left between.left → between.taken ≡ before.taken → before.put_faults ≡ between.put_faults
     → after.left ≡ between.left → Works s job answer between.taken after.taken
     → (answer ≡ status.WriteFault → Rose between.put_faults after.put_faults) → (answer ≡ status.Differs → IsDifferent s job between after)
-    → Means words answer before after
-works-means words s job status.Done before between after told accepted taken puts left works failed differs = record {
+    → LoadsSoundly s.command s job → Means words answer before after
+works-means words s job status.Done before between after told accepted taken puts left works failed differs sound = record {
   settings = s;
   told = told;
   job = job;
@@ -240,12 +240,13 @@ works-means words s job status.Done before between after told accepted taken put
   texts = works.0;
   work = works.1;
   out = works.2 ∙ ap (grown_by works.0) taken;
+  loadings = sound;
 }
-works-means words s job status.Usage before between after told accepted taken puts left works failed differs = absurd works
-works-means words s job status.Table before between after told accepted taken puts left works failed differs = absurd works
-works-means words s job status.ReadFault before between after told accepted taken puts left works failed differs = absurd works
-works-means words s job status.Size before between after told accepted taken puts left works failed differs = absurd works
-works-means words s job status.WriteFault before between after told accepted taken puts left works failed differs = record {
+works-means words s job status.Usage before between after told accepted taken puts left works failed differs sound = absurd works
+works-means words s job status.Table before between after told accepted taken puts left works failed differs sound = absurd works
+works-means words s job status.ReadFault before between after told accepted taken puts left works failed differs sound = absurd works
+works-means words s job status.Size before between after told accepted taken puts left works failed differs sound = absurd works
+works-means words s job status.WriteFault before between after told accepted taken puts left works failed differs sound = record {
   settings = s;
   told = told;
   job = job;
@@ -254,8 +255,9 @@ works-means words s job status.WriteFault before between after told accepted tak
   work = works.1;
   out = subst (λ t. IsCutOff works.0 t after.taken) taken works.2;
   failed = subst (λ f. Rose f after.put_faults) (sym puts) (failed refl);
+  loadings = sound;
 }
-works-means words s job status.Memory before between after told accepted taken puts left works failed differs =
+works-means words s job status.Memory before between after told accepted taken puts left works failed differs sound =
     inr (
       s,
       told,
@@ -265,9 +267,10 @@ works-means words s job status.Memory before between after told accepted taken p
         texts = works.0;
         watched = works.1;
         out = works.2 ∙ ap (grown_by works.0) taken;
+        loadings = sound;
       }),
     )
-works-means words s job status.Differs before between after told accepted taken puts left works failed differs =
+works-means words s job status.Differs before between after told accepted taken puts left works failed differs sound =
     let d = differs refl in
     record {
       settings = s;
@@ -306,8 +309,3 @@ module _ (words : List (List ℕ)) (s : Settings) (before between after : DeskSt
   refused-means (refusal.Vehicles line-no total) cause fault line = inr (inr (inl (line-no, total, refused (refusal.Vehicles line-no total) cause line)))
   refused-means (refusal.SkimPairs number) cause fault line = inr (inr (inr (inl (number, refused (refusal.SkimPairs number) cause line))))
   refused-means (refusal.SweepCells links steps) cause fault line = inr (inr (inr (inr (links, steps, refused (refusal.SweepCells links steps) cause line))))
-
--- Usage is the answer to words that aren't in the grammar
-pub usage_means : (words : List (List ℕ)) (answer : Status) (before after : DeskState) → Means words answer before after → answer ≡ status.Usage
-    → settings_of words ≡ None
-usage_means words answer before after means same = (subst (λ (a : Status). Means words a before after) same means).told

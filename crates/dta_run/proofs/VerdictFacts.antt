@@ -492,11 +492,11 @@ told words texts status.Usage before after m t = answers-by words texts None (Re
 told words texts status.Done before after m t =
     answers-by words texts (Some m.settings) (Accepted m.settings m.job) status.Done before after m.told
     (verdict-job m.settings m.job texts before.left after.left (all-told words m.settings before.left texts m.told t) m.accepted)
-    (inl (inl (refl, (m.texts, m.work, m.out))))
+    (inl (inl (refl, m.loadings, (m.texts, m.work, m.out))))
 told words texts status.WriteFault before after m t =
     answers-by words texts (Some m.settings) (Accepted m.settings m.job) status.WriteFault before after m.told
     (verdict-job m.settings m.job texts before.left after.left (all-told words m.settings before.left texts m.told t) m.accepted)
-    (inl (inr (inl (refl, (m.texts, m.work, m.out), m.failed))))
+    (inl (inr (inl (refl, m.loadings, (m.texts, m.work, m.out), m.failed))))
 told words texts status.Differs before after m t =
     answers-by words texts (Some m.settings) (Accepted m.settings m.job) status.Differs before after m.told
     (verdict-job m.settings m.job texts before.left after.left (all-told words m.settings before.left texts m.told t) m.accepted)

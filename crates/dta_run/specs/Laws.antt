@@ -73,3 +73,10 @@ TextsInAnyOrder =
     (s : Settings) (job : JobRows) (order : NodeOrders) → AreNodeOrders s job order
     → (a b : List OutText) → AreAssignedBy s job order a → AreAssigned s job b
     → AreDetermined s job a b
+
+-- settings and a job have one list of texts, one verdict of an audit, and scenarios that stand alone
+pub record OneListOfTexts : Type 0 where
+  pub determined : TextsAreDetermined
+  pub any_order : TextsInAnyOrder
+  pub swept_alone : ScenariosAreAlone
+  pub audited : AuditsAreDetermined

@@ -12,3 +12,4 @@ pub mod Calls
 pub mod Receipts
 pub mod Examples
 pub mod Laws
+pub mod Headline

@@ -1,6 +1,6 @@
 -- What a run's answer says of its desk, from before the run to after it.
 use Rattle.std.specs.Prelude.{ℕ, ◌≡◌, ◌<◌, ◌*◌, ◌⊎◌, ⊤}
-use Rattle.std.specs.Prelude.{List, Contains, length, Option, None, Some}
+use Rattle.std.specs.Prelude.{List, Contains, length, Option, None, Some, slice_get}
 use Rattle.desk_io.specs.declared.desk.Table.{Table}
 use Rattle.desk_io.specs.declared.desk.Output.TheVariants as output
 use Rattle.desk_io.specs.Desk.{Left, Taken}
@@ -9,8 +9,10 @@ pub use Rattle.desk_io.specs.State.{DeskState, state_of}
 use Rattle.desk_io.specs.Transfers.{IsBegun, IsLong, IsOut}
 use Rattle.row_reader.specs.declared.faults.TableFault.{TableFault}
 use Rattle.vehicle_release.specs.Limits.{IsFirstAbove}
+use Rattle.audit.specs.Audit.{loading_of}
 use Rattle.audit.specs.declared.verdict.Verdict.TheVariants as verdict
 use Rattle.sweep.specs.Scales.{IsFirstTooMany}
+use Rattle.sweep.specs.Scenarios.{traffic_at}
 use Rattle.reports.specs.Texts.{differs_line, refusal_line}
 use Rattle.reports.specs.declared.audited.Place.{Place}
 use Rattle.reports.specs.declared.refusal.Refusal.{Refusal}
@@ -24,10 +26,11 @@ use Rattle.dta_words.specs.declared.command.Settings.{Settings}
 use Rattle.dta_run.specs.declared.status.Status.{Status}
 use Rattle.dta_run.specs.declared.status.Status.TheVariants as status
 use Rattle.reports.specs.declared.refusal.TheConstants.{MOST_SKIM_ENTRIES, MOST_SWEEP_LINK_STEPS}
+use Rattle.dta_run.specs.Assignment.{AreSoundIterations, IsSoundLoading}
 use Rattle.dta_run.specs.Jobs.{HasRoom, HasSweepRoom, IsAcceptedJob, JobRows, Reading, read_tables}
-use Rattle.dta_run.specs.Jobs.{skim_entries, tables_of}
+use Rattle.dta_run.specs.Jobs.{skim_entries, tables_of, traffic_of}
 use Rattle.dta_run.specs.Outputs.{AreTexts, AreTextsSoFar, AreWatchedSoFar, IsAudited, IsCutOff}
-use Rattle.dta_run.specs.Outputs.{OutText, grown_by}
+use Rattle.dta_run.specs.Outputs.{OutText, audit_plan, grown_by}
 use Rattle.dta_run.specs.Status.{refusal_status}
 use Rattle.dta_run.specs.Tables.{AreAccepted, ReachedAmong, IsFaulty, TableRows, no_rows}
 use Rattle.dta_run.specs.Verdict.{Verdict, Refused, Accepted}
@@ -141,7 +144,22 @@ Works s job status.Memory before after =
 Works s job status.Differs before after = ⊤
 Works s job _ before after = ⊥
 
--- all tables were accepted, and all texts of the work went out whole, in their order
+-- each loading of a command over a job is sound: in an assignment that of each iteration, in a sweep
+-- that of each iteration for each scale, and in an audit that over the routes of the agent table,
+-- where no check fails
+abbrev pub LoadsSoundly : Command → Settings → JobRows → Type 0
+LoadsSoundly command.Freeflow s job = ⊤
+LoadsSoundly command.Skim s job = ⊤
+LoadsSoundly command.Sweep s job =
+    (place scale : ℕ) → slice_get s.scales place ≡ Some scale
+    → AreSoundIterations s (traffic_at s job.net job.demand_cells scale)
+LoadsSoundly command.Audit s job =
+    IsAudited s job verdict.Yes
+    → IsSoundLoading (loading_of job.net job.trips job.agents (audit_plan s))
+LoadsSoundly c s job = AreSoundIterations s (traffic_of job)
+
+-- all tables were accepted, all texts of the work went out whole, in their order, and each loading
+-- was sound
 pub record IsDone (words : List (List ℕ)) (before after : DeskState) : Type 0 where
   pub settings : Settings
   pub told : settings_of words ≡ Some settings
@@ -150,6 +168,7 @@ pub record IsDone (words : List (List ℕ)) (before after : DeskState) : Type 0 
   pub texts : List OutText
   pub work : AreTexts settings.command settings job texts
   pub out : after.taken ≡ grown_by texts before.taken
+  pub loadings : LoadsSoundly settings.command settings job
 
 -- all tables were accepted, puts failed, and of the texts of the work some went out whole, in their
 -- order, and then a first part of the next
@@ -162,6 +181,7 @@ pub record IsUnfinished (words : List (List ℕ)) (before after : DeskState) : T
   pub work : AreTextsSoFar settings.command settings job texts
   pub out : IsCutOff texts before.taken after.taken
   pub failed : PutsFailed before after
+  pub loadings : LoadsSoundly settings.command settings job
 
 -- all tables were accepted, and the audit found a difference
 pub record DiffersAt (words : List (List ℕ)) (before after : DeskState) : Type 0 where
@@ -189,6 +209,7 @@ pub record IsStopped (s : Settings) (before after : DeskState) : Type 0 where
   pub texts : List OutText
   pub watched : AreWatchedSoFar s.command s job texts
   pub out : after.taken ≡ grown_by texts before.taken
+  pub loadings : LoadsSoundly s.command s job
 
 -- memory was wanting: for the words, before the work, or in it. No output was put but Watch
 abbrev pub IsStarved : List (List ℕ) → DeskState → DeskState → Type 0
@@ -236,10 +257,10 @@ IsHindered settings answer before after =
 -- difference
 abbrev pub IsPut : Settings → JobRows → Status → DeskState → DeskState → Type 0
 IsPut s job answer before after =
-    ((answer ≡ status.Done)
+    ((answer ≡ status.Done) × LoadsSoundly s.command s job
     × ((texts : List OutText) × AreTexts s.command s job texts
     × (after.taken ≡ grown_by texts before.taken)))
-    ⊎ (((answer ≡ status.WriteFault)
+    ⊎ (((answer ≡ status.WriteFault) × LoadsSoundly s.command s job
     × ((texts : List OutText) × AreTextsSoFar s.command s job texts
     × IsCutOff texts before.taken after.taken)
     × PutsFailed before after)

@@ -1,9 +1,11 @@
 // From the arguments of the program to the status with which it ends.
 ghost use Rattle.std.specs.Prelude.{drop, map, string_bytes};
 ghost use Rattle.std.specs.Vec.Iter.{into_iter_items};
-ghost use Rattle.dta_run.specs.Outcome.{state_of, Means};
+ghost use Rattle.dta_run.specs.Headline.{Headline, silent};
+ghost use Rattle.dta_run.specs.Outcome.{state_of};
 
 use crate::NoGate;
+use crate::laws::texts_are_one;
 use crate::status::Status;
 use crate::top_call::run;
 use desk_io::Desk;
@@ -13,16 +15,17 @@ use std::sync::Wait;
 use std::thread::Threads;
 
 /// Does what the arguments ask for, of which the first is the program's name and the others are the
-/// words.
+/// words, with a gate that tells nothing.
 pub fn run_arguments<R: AllocGlobal + Threads + Wait + Sync, D: Desk + Send>(
     rt: &R,
     arguments: Args,
     desk: &mut D,
 ) -> Status
-    ensures means { let state = state_of D.left D.taken D.read_faults D.put_faults in
-        Means (drop 1 (map string_bytes (into_iter_items arguments)))
-        result (state desk.old) (state desk.new) }
+    ensures headline { let state = state_of D.left D.taken D.read_faults D.put_faults in
+        Headline (drop 1 (map string_bytes (into_iter_items arguments)))
+        result (state desk.old) (state desk.new) silent silent }
 {
+    texts_are_one();
     match Words::after_name(rt.alloc(), arguments) {
         Ok(words) => run(rt, &words, desk, &mut NoGate),
         Err(_) => Status::Memory,

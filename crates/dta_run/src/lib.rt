@@ -1,9 +1,10 @@
 //! The public call `run`, which is the whole work of the program `dta`.
 //!
-//! `run` carries the promise of the repository: over any desk, it answers Done only where every
-//! table that its command reads is accepted and the outputs grew by exactly the texts of the
-//! definitions, which depend on the words and the tables alone. Every other answer has its cause
-//! in its contract. `run_arguments` hands it the words of a command line.
+//! `run` carries the promise of the repository, one record, which is read first (specs/Headline).
+//! Over any desk it answers Done only where every table that its command reads is accepted and the
+//! outputs grew by exactly the texts of the definitions, and it says what holds of each iteration.
+//! Every other answer but Memory has its cause in the contract. `run_arguments` hands it the words
+//! of a command line.
 #![tactic(auto)]
 
 mod arguments;

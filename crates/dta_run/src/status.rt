@@ -2,7 +2,7 @@
 ghost use Rattle.std.specs.Prelude.{◌≡◌};
 ghost use Rattle.dta_run.specs.Status.{number_of};
 
-/// How a run ended.
+/// How a run ended. Report's line is whole unless puts fail.
 #[derive(Clone, Copy, Debug, PartialEq, Eq)]
 pub enum Status {
     /// The work is done and every output was put whole.
@@ -15,7 +15,7 @@ pub enum Status {
     ReadFault,
     /// An output couldn't be put.
     WriteFault,
-    /// There was no memory.
+    /// Memory was wanting.
     Memory,
     /// A table is too long, or the work is too large. Report has the limit.
     Size,

@@ -1,34 +1,26 @@
 // The public call.
-ghost use Rattle.std.specs.Prelude.{◌≡◌, ◌≢◌, ◌≤◌, ℕ, List, None, Some};
+ghost use Rattle.std.specs.Prelude.{◌≡◌, ◌≢◌, ◌≤◌, ℕ, List, Some};
 ghost use Rattle.dta_words.specs.Ranges.{AreSettings};
 ghost use Rattle.dta_run.specs.Jobs.{IsJob, Assigns};
-ghost use Rattle.desk_io.specs.declared.desk.Table.{Table};
-ghost use Rattle.dta_model.specs.Laws.{JourneysEndInOrder, LeftInOrder, VehiclesAreConserved};
 ghost use Rattle.dta_words.specs.Grammar.{settings_of};
 ghost use Rattle.loader.specs.Gates.{gate_of};
 ghost use Rattle.dta_run.specs.Status.{refusal_status as status_of_refusal};
-ghost use Rattle.dta_run.specs.declared.status.Status.TheVariants as status;
-ghost use Rattle.dta_run.specs.Laws.{AuditsAreDetermined, ScenariosAreAlone};
-ghost use Rattle.dta_run.specs.Laws.{TextsAreDetermined, TextsInAnyOrder};
 ghost use Rattle.dta_run.specs.Calls.{DoesWork, Refuses};
-ghost use Rattle.dta_run.specs.Outcome.{state_of, Means, Answers};
-ghost use Rattle.dta_run.specs.Receipts.{RunGives, ToldGives, WorkGives};
-ghost use Rattle.dta_run.specs.Verdict.{verdict, AreToldBy};
+ghost use Rattle.dta_run.specs.Headline.{Headline};
+ghost use Rattle.dta_run.specs.Outcome.{state_of, Means};
+ghost use Rattle.dta_run.specs.Receipts.{RunGives, WorkGives};
 
 use crate::audited::put_verdict;
 use crate::halt::Halt;
 use crate::iterate::iterate;
 use crate::job::{Job, accept};
-use crate::laws::{
-    audits_are_determined, scenarios_are_alone, texts_are_determined, texts_in_any_order,
-};
+use crate::laws::texts_are_one;
 use crate::outputs::put_assigned;
 use crate::skimmed::put_least_times;
 use crate::status::Status;
 use crate::stop::Stop;
 use crate::swept::put_scenarios;
 use desk_io::{Desk, Failed};
-use dta_model::{journeys_end_in_order, links_are_left_in_order, vehicles_are_conserved};
 use dta_words::{Command, Settings, Words, WordsRefusal, settings};
 use loader::Gate;
 use reports::{Refusal, put_free, put_refusal};
@@ -183,67 +175,22 @@ fn answer<R: AllocGlobal + Threads + Wait + Sync, D: Desk + Send, G: Gate + Sync
 ///   place that differs, and then answers Differs.
 ///
 /// With a watch, each iteration puts states of its loading to Watch, the last one once it is
-/// loaded. Loadings are by workers, who pass the gate, unless the words ask for the plain loader.
+/// loaded. These loadings are by workers, who pass the gate, unless the words ask for the plain
+/// loader.
 ///
-/// A table is checked before the next is read. No memory is taken after the first byte of the first
-/// output but Watch.
-#[tactic(auto, using(crate::proofs::ReceiptFacts::answers))]
+/// A table is checked before the next is read. The calls that put outputs but Watch take no
+/// allocator, so that no memory is taken once the first of them has begun.
 pub fn run<R: AllocGlobal + Threads + Wait + Sync, D: Desk + Send, G: Gate + Sync>(
     rt: &R,
     words: &Words,
     desk: &mut D,
     gate: &mut G,
 ) -> Status
-    // What the answer says of the desk.
-    ensures means { let state = state_of D.left D.taken D.read_faults D.put_faults in
-        Means words.now result (state desk.old) (state desk.new) }
-
-    // Where the bytes of the tables are told that the command reads, the answer is that of the
-    // verdict over words and bytes.
-    ensures told { let state = state_of D.left D.taken D.read_faults D.put_faults in
-        (texts : Table → List ℕ) → AreToldBy (settings_of words.now) (D.left desk.old) texts
-        → Answers (settings_of words.now) (verdict words.now texts) result
-        (state desk.old) (state desk.new) }
-    ensures usage { result ≡ status.Usage → settings_of words.now ≡ None }
-
-    // After every step each due vehicle with a route waits, is on one link or has arrived, and
-    // links are left in the order of entry: in the trace, and so in the journeys.
-    ensures conserved { VehiclesAreConserved }
-    ensures left_in_order { LeftInOrder }
-    ensures ordered { JourneysEndInOrder }
-
-    // Settings and a job, which are made of words and tables alone, have one list of texts but for
-    // Watch, and where the loader is plain one list of all texts.
-    ensures determined { TextsAreDetermined }
-
-    // They are the same where loadings take the nodes of a step in any order.
-    ensures any_order { TextsInAnyOrder }
-
-    // A scenario of a sweep has the texts of the assignment over the demand times its scale.
-    ensures swept_alone { ScenariosAreAlone }
-
-    // An audit has one verdict, so that its status is Differs exactly where some check fails.
-    ensures audited { AuditsAreDetermined }
-
-    // The gate took one receipt for each iteration that was loaded by workers, and none otherwise;
-    // where the work wasn't done at most as many.
-    ensures receipts { let shown = gate_of G.closes G.last in
-        RunGives words.now result (D.left desk.old) (D.left desk.new)
+    ensures headline { let state = state_of D.left D.taken D.read_faults D.put_faults in
+        let shown = gate_of G.closes G.last in
+        Headline words.now result (state desk.old) (state desk.new)
         (shown gate.old) (shown gate.new) }
-
-    // Where the bytes of the tables are told, their numbers are those of the verdict's job.
-    ensures told_receipts { let shown = gate_of G.closes G.last in
-        (texts : Table → List ℕ) → AreToldBy (settings_of words.now) (D.left desk.old) texts
-        → ToldGives (verdict words.now texts) result (shown gate.old) (shown gate.new) }
-    ensures reads { D.read_faults desk.old ≤ D.read_faults desk.new }
-    ensures puts { D.put_faults desk.old ≤ D.put_faults desk.new }
 {
-    vehicles_are_conserved();
-    links_are_left_in_order();
-    journeys_end_in_order();
-    texts_are_determined();
-    texts_in_any_order();
-    scenarios_are_alone();
-    audits_are_determined();
+    texts_are_one();
     answer(rt, words, gate, desk)
 }

@@ -1,4 +1,4 @@
-use Rattle.std.proofs.Common.{subst, sym}
+use Rattle.std.proofs.Common.{refl, subst, sym}
 use Rattle.loader.specs.Gates.{gate_of}
 use Rattle.desk_io.specs.Desk.{Left}
 use Rattle.dta_run.specs.Jobs.{IsAcceptedJob}
@@ -7,6 +7,7 @@ use Rattle.dta_run.specs.Stops.{Stops}
 use Rattle.dta_run.specs.declared.stop.Stop.{Stop}
 use Rattle.dta_run.proofs.ReceiptFacts.{refused-gives, work-gives}
 use Rattle.dta_run.proofs.RunFacts.{refused-means, works-means}
+use Rattle.dta_run.proofs.SoundFacts.{loads-soundly}
 use Rattle.dta_run.proofs.top_call.accept_and_work.Goals as goal
 
 pub returns-in-Ok-clause-means : goal.returns-in-Ok-clause-means
@@ -14,6 +15,7 @@ returns-in-Ok-clause-means g c = λ words told.
     let state = state_of g.D.Desk.left g.D.Desk.taken g.D.Desk.read_faults g.D.Desk.put_faults in
     works-means words c.args.settings.now _ c.work.result (state c.args.desk.now) (state c.accept.new.desk) (state c.work.new.desk) told
     c.in-Ok.ensures.reads.done c.in-Ok.ensures.reads.taken (sym c.in-Ok.ensures.reads.puts) c.work.ensures.works.left c.work.ensures.works.work c.work.ensures.works.failed c.work.ensures.works.differs
+    (loads-soundly c.args.settings.now.command c.args.settings.now c.in-Ok.job refl c.requires.settings c.in-Ok.ensures.sound)
 
 pub returns-in-Err-Refused-clause-means : goal.returns-in-Err-Refused-clause-means
 returns-in-Err-Refused-clause-means g c = λ words told.
