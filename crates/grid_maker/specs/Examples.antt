@@ -1,10 +1,15 @@
 -- The grid of 2 rows and 2 columns, computed.
 use Rattle.std.specs.Prelude.{◌≡◌, refl, codes, map, [], ◌∷◌, ◌++◌, None, Some, length}
 use Rattle.std.specs.Fmt.{digits}
+use Rattle.fixed_units.specs.declared.measure.LengthUnit.TheVariants.{Metre}
+use Rattle.fixed_units.specs.declared.measure.SpeedUnit.TheVariants.{Kmh}
+use Rattle.grid_maker.specs.declared.links.Direction.TheVariants.{Down}
+use Rattle.grid_maker.specs.declared.links.GridLink.{GridLink}
 use Rattle.grid_maker.specs.declared.maker.TheConstants.{LEAST_SIDE, MOST_SIDE}
 use Rattle.grid_maker.specs.Places.{places, zone_id}
 use Rattle.grid_maker.specs.Links.{links}
 use Rattle.grid_maker.specs.Grid.{node_text, node_header, node_line, link_text, link_header}
+use Rattle.grid_maker.specs.GridsAreAccepted.{steps_in}
 use Rattle.grid_maker.specs.Grid.{link_lines, link_line, demand_text, demand_header, demand_line}
 
 -- the limits
@@ -41,3 +46,17 @@ nine-nodes = refl
 two-for-a-pair : length (links 3) ≡ 24
 unfolding links places
 two-for-a-pair = refl
+
+-- one of the longest links, which has 280 metres, takes 26 steps of one second at 40 kilometres an
+-- hour
+longest : GridLink
+longest = record {
+  from = record { row = 1; column = 0 };
+  direction = Down;
+  to = record { row = 2; column = 0 };
+}
+
+steps_of_the_longest :
+    steps_in (record { delta = 1; jam = 125; length = Metre; speed = Kmh }) longest ≡ 26
+unfolding longest
+steps_of_the_longest = refl
