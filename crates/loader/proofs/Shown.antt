@@ -75,7 +75,7 @@ module _ (p : Plan) where
   -- a state that was shown is that after its steps
   pub is-after : (e : Eight) → IsShown (posted_in p p.horizon) e → IsAfter p.horizon e
   is-after e s =
-      let at = states_are_shown p s.front s.begins in
+      let at = states_are_shown p p.horizon s.front s.begins in
       let is : e ≡ eight_after p at.0 = s.last ∙ at.2 in
       let steps : e.steps ≡ at.0 = ap (λ (x : Eight). x.steps) is ∙ steps-after at.0 in
       let within : at.0 ≤ p.horizon = at.1 in
