@@ -1,4 +1,4 @@
--- How many receipts a gate took, and the whole of what a run promises.
+-- How many receipts a gate took.
 use Rattle.std.proofs.Common.{◌≡◌, ◌≢◌, ℕ, zero, suc, ◌+◌, ◌≤◌, Bool, true, false, List, refl, sym, ap, subst, ◌∙◌, arith, inl, inr}
 use Rattle.std.specs.Prelude.{Option, Some, Result, Ok, Err}
 use Rattle.desk_io.specs.declared.desk.Table.{Table}
@@ -15,7 +15,7 @@ use Rattle.sweep.specs.Assignment.{VehicleRoutes}
 use Rattle.dta_run.specs.Headline.{Headline}
 use Rattle.dta_run.specs.Jobs.{IsAcceptedJob, JobRows, Assigns, plan_of}
 use Rattle.dta_run.specs.Laws.{OneListOfTexts}
-use Rattle.dta_run.specs.Outcome.{DeskState, Means, Works}
+use Rattle.dta_run.specs.Outcome.{DeskState, Works}
 use Rattle.dta_run.specs.Receipts.{Gives, HasWorked, RunGives, ToldGives, TookAtMost, WorkGives, numbers_in, receipts_in, receipts_of, taking_all}
 use Rattle.dta_run.specs.Status.{refusal_status}
 use Rattle.dta_run.specs.Verdict.{Verdict, Accepted, Refused, AreToldBy, verdict, verdict_by}
@@ -185,7 +185,7 @@ worked-told words texts answer left rest gate now h told =
     ∙ verdict-job h.settings h.job texts left rest (all-told words h.settings left texts h.told told) h.accepted))
     h.receipts
 
-told_gives : (words : List (List ℕ)) (texts : Table → List ℕ) (answer : Status) (left rest : Left) (gate now : GateState)
+pub told_gives : (words : List (List ℕ)) (texts : Table → List ℕ) (answer : Status) (left rest : Left) (gate now : GateState)
     → RunGives words answer left rest gate now → AreToldBy (settings_of words) left texts
     → ToldGives (verdict words texts) answer gate now
 told_gives words texts status.Done left rest gate now h told = worked-told words texts status.Done left rest gate now h told
@@ -198,19 +198,16 @@ told_gives words texts status.ReadFault left rest gate now h told = none-told (v
 told_gives words texts status.Size left rest gate now h told = none-told (verdict words texts) status.Size gate now (λ e. absurd cc) h
 told_gives words texts status.Differs left rest gate now h told = none-told (verdict words texts) status.Differs gate now (λ e. absurd cc) h
 
--- ---- the headline
+pub ruleset answers = (told, told_gives)
 
--- the rest follows from what the answer says of the desk and of the gate
-pub headline : (words : List (List ℕ)) (answer : Status) (before after : DeskState) (gate now : GateState)
-    → Means words answer before after → RunGives words answer before.left after.left gate now
-    → before.read_faults ≤ after.read_faults → before.put_faults ≤ after.put_faults → OneListOfTexts
-    → Headline words answer before after gate now
-headline words answer before after gate now means gives reads puts laws = record {
-  means = means;
-  told = λ texts t. told words texts answer before after means t;
-  receipts = gives;
-  told_receipts = λ texts t. told_gives words texts answer before.left after.left gate now gives t;
-  reads = reads;
-  puts = puts;
+-- memory was wanting for the words: nothing was done
+pub starved : (words : List (List ℕ)) (desk : DeskState) (gate : GateState) → OneListOfTexts → Headline words status.Memory desk desk gate gate
+starved words desk gate laws = record {
+  means = inl (refl, refl);
+  told = λ texts t. told words texts status.Memory desk desk (inl (refl, refl)) t;
+  receipts = inl refl;
+  told_receipts = λ texts t. told_gives words texts status.Memory desk.left desk.left gate gate (inl refl) t;
+  reads = omega arith;
+  puts = omega arith;
   one_list = laws;
 }

@@ -144,9 +144,9 @@ Works s job status.Memory before after =
 Works s job status.Differs before after = ⊤
 Works s job _ before after = ⊥
 
--- each loading of a command over a job is sound: in an assignment that of each iteration, in a sweep
--- that of each iteration for each scale, and in an audit that over the routes of the agent table,
--- where no check fails
+-- each loading of a command over a job is sound. In an assignment that is each of its iterations,
+-- whose routes and gaps the texts are of (`AreAssigned`), and in a sweep each for each scale
+-- (`IsIteration`); in an audit where no check fails it is the loading over the agent table's routes
 abbrev pub LoadsSoundly : Command → Settings → JobRows → Type 0
 LoadsSoundly command.Freeflow s job = ⊤
 LoadsSoundly command.Skim s job = ⊤

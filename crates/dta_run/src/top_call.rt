@@ -180,6 +180,7 @@ fn answer<R: AllocGlobal + Threads + Wait + Sync, D: Desk + Send, G: Gate + Sync
 ///
 /// A table is checked before the next is read. The calls that put outputs but Watch take no
 /// allocator, so that no memory is taken once the first of them has begun.
+#[tactic(auto, using(crate::proofs::ReceiptFacts::answers))]
 pub fn run<R: AllocGlobal + Threads + Wait + Sync, D: Desk + Send, G: Gate + Sync>(
     rt: &R,
     words: &Words,
