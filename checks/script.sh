@@ -1,7 +1,8 @@
 #!/bin/sh
 # script.sh DTA: tries the script `dta` of the repository, which is built: what it says on standard
-# error, and that standard output, files and statuses are those of the program. Prints each case
-# that isn't as wanted, and how many are; ends with 0 where all are. It takes less than a minute.
+# error, what it refuses to run, and that standard output, files and statuses are those of the
+# program. Prints each case that isn't as wanted, and how many are; ends with 0 where all are. It
+# takes less than a minute.
 checks=$(dirname "$(readlink -f "$0")")
 . "$checks/begin.sh"
 top=$(dirname "$checks")
@@ -121,8 +122,42 @@ refused_tables() {
     ends 7 'Choose a shorter --horizon' demo 60 --horizon 86400
 }
 
+# Two runs of one folder, and files under two names.
+refused_runs() {
+    flock -F . sleep 9 &
+    sleep 0.2
+    ends 9 'Another run is at work in this folder' freeflow
+    ends 0 '' demo 2 --horizon 1
+    kill $!
+    "$script" assign --horizon 86400 --iterations 1000 >/dev/null 2>&1 &
+    sleep 0.5
+    run freeflow
+    text='of '$(id -un)': dta assign --horizon 86400 --iterations 1000' wanted=9
+    case_of "who has the folder: $(cat "$folder/said")" is_said
+    kill "$(sed -n 's/.*It is process \([0-9]*\) .*/\1/p' "$folder/said")"
+    wait
+    new_folder
+    ln -s demand.csv link_performance.csv
+    ends 9 'link_performance.csv and demand.csv are one file' freeflow
+    ln -s demand.csv agent.csv; ends 9 'agent.csv and demand.csv are one file' assign
+    ln link.csv gap.csv; ends 9 'gap.csv and link.csv are one file' assign
+    ln -s gap.csv agent.csv; ends 9 'gap.csv and agent.csv are one file' assign
+    ln -s link_performance.csv times.csv; ends 0 '' assign
+    "$shell" "$script" assign >>demand.csv 2>"$folder/said"; status=$?
+    text='Standard output goes to demand.csv' wanted=9
+    case_of 'standard output to a table' is_said
+    case_of 'a table that is appended to' [ "$(wc -l <demand.csv)" = 2 ]
+    "$shell" "$script" assign >gap.csv 2>"$folder/said"; status=$?
+    text='Standard output goes to gap.csv'
+    case_of 'standard output to an output' is_said
+    new_folder
+}
+
 # What is said before a run that is done.
 told_before() {
+    ln -s "$folder/elsewhere" agent.csv; ends 0 "the run writes to $folder/elsewhere" assign
+    "$script" assign >/dev/null 2>&1
+    ln gap.csv other; ends 0 'gap.csv has further names (hard links)' assign
     "$script" assign >/dev/null 2>&1
     ends 0 'link_performance.csv is here already, from assign; freeflow writes over it' freeflow
     "$script" freeflow >/dev/null 2>&1; ends 0 'from freeflow; assign writes over it' assign
@@ -135,7 +170,12 @@ unwritten_outputs() {
     mkdir gap.csv; ends 5 'Written whole before it: agent.csv link_performance.csv.' assign
     ln -s /dev/full gap.csv; ends 5 "gap.csv couldn't be written" assign
     ln -s no/folder gap.csv; ends 5 'it is a link that leads nowhere' assign
-    wanted=5
+    printf 'o_zone_id,d_zone_id,volume\n1,3,300\n' >demand.csv
+    (ulimit -f 1; exec "$shell" "$script" assign >"$folder/report" 2>said)
+    status=$?
+    mv said "$folder/said"
+    text="agent.csv couldn't be written: the limit of file sizes" wanted=5
+    case_of "ulimit -f: status $status" is_said
     for stream in '>/dev/full' '>&-'; do
         new_folder
         eval "\"$shell\" \"$script\" assign $stream" 2>"$folder/said"
@@ -212,6 +252,7 @@ for shell in dash bash; do
     new_folder
     refused_words
     refused_tables
+    refused_runs
     told_before
     unwritten_outputs
     told_on_a_terminal

@@ -4,7 +4,10 @@
 #   docs      the folder with the documents
 # run_command WORDS.. runs the program with these words, and says in sentences on standard error
 # what a planner should know of the run. Standard output has the program's bytes and nothing else.
-# shellcheck shell=sh disable=SC2154,SC2086,SC2003,SC2010
+# shellcheck shell=sh disable=SC2154,SC2086,SC2003,SC2010,SC3013
+
+# The status with which nothing was run: the folder is in use, or two files are one.
+in_the_way=9
 
 say() {
     printf 'dta: %s\n' "$*" >&2
@@ -46,19 +49,61 @@ value_of() {
     printf '%s\n' "$value"
 }
 
-# Sets `outputs` to the files that the command writes.
+# Sets `tables` to the tables of the folder that a run must not write over, and `outputs` to the
+# files that it writes. Where times.csv or start.csv isn't read it may be a link to an output.
 name_files() {
+    tables='node.csv link.csv movement.csv demand.csv'
     outputs=
     case ${1:-} in
         freeflow) outputs=link_performance.csv ;;
-        assign) outputs='agent.csv link_performance.csv gap.csv' ;;
-        skim) outputs=skim.csv ;;
+        assign)
+            outputs='agent.csv link_performance.csv gap.csv'
+            ! is_given start "$@" || tables="$tables start.csv"
+            ;;
+        skim) tables="$tables times.csv" outputs=skim.csv ;;
         counts) outputs=counts.csv ;;
         sweep) outputs=sweep.txt ;;
+        audit | demo) ;;
+        *) tables= ;;
     esac
 }
 
 # ---- before the run
+
+# is_one FILE FILE: whether two names lead to one file, also to one that isn't there yet.
+is_one() {
+    if [ -e "$1" ]; then
+        [ -f "$1" ] && [ "$1" -ef "$2" ]
+    else
+        [ "$(readlink -m "$1")" = "$(readlink -m "$2")" ]
+    fi
+}
+
+# Ends where an output would be written over a table or over another output.
+check_files() {
+    others=$tables
+    for output in $outputs; do
+        for other in $others; do
+            ! is_one "$output" "$other" || {
+                say "$output and $other are one file, by a link, and the run would write over it."
+                say 'Nothing was run. Remove the link, or put a copy in its place.'
+                exit $in_the_way
+            }
+        done
+        others="$others $output"
+    done
+    [ -n "$tables" ] || return
+    for other in node.csv link.csv movement.csv demand.csv start.csv times.csv $outputs; do
+        ! is_one /dev/fd/1 "$other" || refuse_stream 'Standard output' '>report.txt'
+        ! is_one /dev/fd/2 "$other" || refuse_stream 'Standard error' '2>watch.txt'
+    done
+}
+
+refuse_stream() {
+    say "$1 goes to $other, a table or an output, and the shell may have emptied it already."
+    say "Nothing was run. Send it to another file, as with $2."
+    exit $in_the_way
+}
 
 # maker_of FILE: the command that writes a file with this first line.
 maker_of() {
@@ -74,14 +119,40 @@ maker_of() {
     esac
 }
 
-# tell_outputs COMMAND: says which outputs are there from another command.
+# tell_outputs COMMAND: says which outputs lead elsewhere, and which are there from another command.
 tell_outputs() {
     for output in $outputs; do
+        [ ! -h "$output" ] || say "$output is a link: the run writes to $(readlink -m "$output")."
         [ -f "$output" ] || continue
+        [ "$(stat -c %h "$output")" = 1 ] ||
+            say "$output has further names (hard links): the run writes over the file of them all."
         maker=$(maker_of "$output")
         [ "$maker" = "$1" ] || [ "$maker" = nothing ] ||
             say "$output is here already, from $maker; $1 writes over it once all is accepted."
     done
+}
+
+# Sets `lock` to what runs a program alone among the runs that write to this folder.
+take_lock() {
+    lock=
+    [ -n "$outputs" ] || return
+    flock -n -E $in_the_way . true 2>/dev/null
+    case $? in
+        0) lock="flock -n -F -E $in_the_way ." ;;
+        "$in_the_way") tell_holder; exit $in_the_way ;;
+    esac
+}
+
+# Says who has the lock: the program itself, under its process id.
+tell_holder() {
+    process=$(awk -v end=":$(stat -c %i .)" '
+        $2 == "FLOCK" && substr($6, length($6) - length(end) + 1) == end { print $5; exit }
+        ' /proc/locks 2>/dev/null)
+    say 'Another run is at work in this folder, and two at once would mix their files.'
+    say 'Nothing was run. Wait until it ends, or run in a copy of the folder.'
+    [ -z "$process" ] || [ ! -r "/proc/$process/cmdline" ] ||
+        say "It is process $process of $(stat -c %U "/proc/$process"): dta$(
+            tail -z -n +2 "/proc/$process/cmdline" | tr '\0' ' ' | sed 's/^/ /; s/ $//')"
 }
 
 # ---- the run
@@ -99,10 +170,10 @@ is_told() {
 run_program() {
     if is_told "$@"; then
         set -- "$@" --watch "$((horizon / 10 + 1))"
-        { { "$program" "$@" 2>&3 3>&- 4>&-; printf '=%s' $?; } 3>&1 >&4 |
+        { { $lock "$program" "$@" 2>&3 3>&- 4>&-; printf '=%s' $?; } 3>&1 >&4 |
             tell_progress >&2 4>&-; } 4>&1
     else
-        "$program" "$@"
+        $lock "$program" "$@"
         printf '=%s' $?
     fi
 }
@@ -165,7 +236,8 @@ why_not_made() {
 }
 
 why_not_whole() {
-    if [ "$(df --output=avail . | sed 1d | tr -d ' ')" = 0 ]; then echo 'the disk is full'
+    if [ "$(ulimit -f)" != unlimited ]; then echo 'the limit of file sizes, ulimit -f, cut it off'
+    elif [ "$(df --output=avail . | sed 1d | tr -d ' ')" = 0 ]; then echo 'the disk is full'
     else echo 'the disk or your share of it may be full'
     fi
 }
@@ -216,6 +288,7 @@ tell_status() {
             say 'There was not enough memory. No output was begun.'
             say 'A shorter --horizon, a longer --step or fewer --workers take less.'
             ;;
+        "$in_the_way") tell_holder ;;
         137) say 'The program was killed. The system does so where memory runs out.' ;;
     esac
 }
@@ -244,7 +317,11 @@ tell_words() {
 
 run_command() {
     name_files "$@"
+    check_files
+    take_lock
     tell_outputs "${1:-}"
+    # So that a file that grows past ulimit -f ends the run with status 5, and not by a signal.
+    trap '' XFSZ
     before=$(marks "$outputs")
     said=$(run_program "$@")
     status=${said##*=}
