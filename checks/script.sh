@@ -1,13 +1,14 @@
 #!/bin/sh
-# script.sh DTA: tries the script `dta` of the repository, which is built: what it says on standard
-# error, what it refuses to run, and that standard output, files and statuses are those of the
-# program. Prints each case that isn't as wanted, and how many are; ends with 0 where all are. It
-# takes less than a minute.
+# script.sh DTA: tries the script `dta` of the repository, which is built, or the installed command:
+# what it says on standard error, what it refuses to run, that standard output, files and statuses
+# are those of the program, and what `package` makes. Prints each case that isn't as wanted, and how
+# many are; ends with 0 where all are. It takes less than a minute.
 checks=$(dirname "$(readlink -f "$0")")
 . "$checks/begin.sh"
 top=$(dirname "$checks")
 script=$program
 program=$(dirname "$script")/crates/dta/out/dta
+[ -x "$program" ] || program=$(dirname "$(dirname "$script")")/lib/dta/dta
 cases=0
 
 # case_of TEXT COMMAND..: a case, which the command says is as wanted.
@@ -198,7 +199,7 @@ told_on_a_terminal() {
     set -- assign --iterations "$iterations" --horizon 01200
     "$program" "$@" >"$folder/report"
     cd terminal || exit 2
-    script -qec "$shell $script $* >report" /dev/null >"$folder/said"
+    script -qec "$shell '$script' $* >report" /dev/null >"$folder/said"
     case_of 'a line of a long run' grep -Eq \
         "dta: iteration [0-9]+ of $iterations, [0-9]+ % arrived, less than a minute left" \
         "$folder/said"
@@ -208,7 +209,7 @@ told_on_a_terminal() {
     done
     case_of 'the report of a told run' cmp -s report "$folder/report"
     case_of 'no other file' [ "$(ls | wc -l)" = 7 ]
-    script -qec "$shell $script assign --watch 1200 --iterations 2 --plain" /dev/null \
+    script -qec "$shell '$script' assign --watch 1200 --iterations 2 --plain" /dev/null \
         >"$folder/said"
     case_of 'watch lines that were asked for' grep -q '^2,1200,' "$folder/said"
     new_folder
@@ -247,6 +248,45 @@ BOTH
     case_of "the grammar differs: $(cat "$folder/differs")" [ ! -s "$folder/differs" ]
 }
 
+# completed WORDS..: what bash completes of the words.
+completed() {
+    bash -c '. tree/share/bash-completion/completions/dta
+        COMP_WORDS=("$@")
+        COMP_CWORD=$(($# - 1))
+        _dta
+        echo "${COMPREPLY[*]}"' - "$@"
+}
+
+packages() {
+    mkdir "$folder/packages" && cd "$folder/packages" || exit 2
+    file=$("$top/package" --tar)
+    case_of 'a tarball' [ -f "$file" ]
+    cp "$file" first && "$top/package" --tar >/dev/null
+    case_of 'the same tarball twice' cmp -s "$file" first
+    mkdir tree && tar -xzf "$file" -C tree --strip-components=1
+    cp -r tree/share/dta/examples/two_routes . && cd two_routes || exit 2
+    ../tree/bin/dta assign --period 1 --horizon 60 --iterations 2 >/dev/null 2>"$folder/said"
+    case_of 'an example by the tree' grep -qx 2,84,84,0,0 gap.csv
+    ../tree/bin/dta skim --at x 2>"$folder/said" >&2
+    case_of 'a sentence by the tree' grep -q "can't be 'x'" "$folder/said"
+    cd .. || exit 2
+    case_of 'help by the tree' [ "$(tree/bin/dta help | head -c 4)" = 'dta ' ]
+    case_of 'the page of the manual' gzip -t tree/share/man/man1/dta.1.gz
+    zcat tree/share/man/man1/dta.1.gz | sed 's/\\-/-/g' >manual
+    for option in $(sed -n 's/^  \(--[a-z-]*\) .*/\1/p' "$top/docs/options.txt"); do
+        case_of "$option in the manual" grep -q -- "^.B $option" manual
+    done
+    case_of 'commands completed' [ "$(completed dta s)" = 'skim sweep' ]
+    case_of 'options completed' [ "$(completed dta assign --w)" = '--workers --wave --watch' ]
+    case_of 'values completed' [ "$(completed dta assign --queue = n)" = newell ]
+    command -v dpkg-deb >/dev/null || { echo 'not tried: there is no dpkg-deb'; return; }
+    file=$("$top/package" 2>/dev/null)
+    dpkg-deb -x "$file" debian
+    case_of 'one tree in both' diff -r --no-dereference debian/usr tree \
+        --exclude=lintian --exclude=copyright --exclude=changelog.gz
+    case_of 'the needs of the package' sh -c "dpkg-deb -f '$file' Depends | grep -q libc6"
+}
+
 for shell in dash bash; do
     command -v $shell >/dev/null || { echo "not tried: there is no $shell"; continue; }
     new_folder
@@ -259,5 +299,6 @@ for shell in dash bash; do
     help_of
 done
 same_grammar
+[ ! -x "$top/package" ] || packages
 echo "$((cases - failures)) of $cases cases are as wanted"
 exit "$((failures > 0))"

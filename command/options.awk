@@ -1,4 +1,4 @@
-# Read behind texts.awk and before words.awk: reads docs/options.txt,
+# Read behind texts.awk and before words.awk, man.awk or completion.awk: reads docs/options.txt,
 # which has the commands and options once for all of them.
 #
 # read_options(FILE) sets: title; commands, command[k] and letters[k], and by a command's name
