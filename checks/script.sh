@@ -1,0 +1,304 @@
+#!/bin/sh
+# script.sh DTA: tries the script `dta` of the repository, which is built, or the installed command:
+# what it says on standard error, what it refuses to run, that standard output, files and statuses
+# are those of the program, and what `package` makes. Prints each case that isn't as wanted, and how
+# many are; ends with 0 where all are. It takes less than a minute.
+checks=$(dirname "$(readlink -f "$0")")
+. "$checks/begin.sh"
+top=$(dirname "$checks")
+script=$program
+program=$(dirname "$script")/crates/dta/out/dta
+[ -x "$program" ] || program=$(dirname "$(dirname "$script")")/lib/dta/dta
+cases=0
+
+# case_of TEXT COMMAND..: a case, which the command says is as wanted.
+case_of() {
+    case_name=$1
+    shift
+    cases=$((cases + 1))
+    "$@" || fails "$case_name"
+}
+
+# Three nodes, two links in a line, three vehicles.
+new_folder() {
+    cd "$folder" && rm -rf case && mkdir case && cd case || exit 2
+    printf 'node_id,zone_id\n1,1\n2,\n3,3\n' >node.csv
+    printf 'link_id,from_node_id,to_node_id,length,lanes,free_speed,capacity\n' >link.csv
+    printf '%s,1000,1,60,600\n' 10,1,2 20,2,3 >>link.csv
+    printf 'o_zone_id,d_zone_id,volume\n1,3,3\n' >demand.csv
+}
+
+# Runs the script by the shell of the round; its sentences go to `said`.
+run() {
+    "$shell" "$script" "$@" >"$folder/report" 2>"$folder/said"
+    status=$?
+}
+
+# ends STATUS TEXT WORDS..: a run ends so, and the text is in what is said; where it is empty
+# nothing is said. Then a new folder begins.
+ends() {
+    wanted=$1
+    text=$2
+    shift 2
+    run "$@"
+    case_of "$shell dta $*: wanted $wanted, $text; got $status, $(cat "$folder/said")" is_said
+    new_folder
+}
+
+is_said() {
+    [ "$status" = "$wanted" ] || return 1
+    if [ -n "$text" ]; then grep -Fq -- "$text" "$folder/said"; else [ ! -s "$folder/said" ]; fi
+}
+
+refused_words() {
+    ends 2 'a command has to come first: freeflow, assign,'
+    ends 2 "'assig' is not a command" assig
+    ends 2 "'--step' stands before the command" --step 6 assign
+    ends 2 "'--steps' is not an option; is --step meant?" assign --steps 6
+    ends 2 "'-s6' is not an option; they begin with two dashes" assign -s6
+    ends 2 "'--' is not an option" assign -- --step 6
+    ends 2 "'yes' belongs to no option" assign --plain yes
+    ends 2 '--plain takes no value' assign --plain=yes
+    ends 2 '--step is given twice' assign --step 6 --horizon 60 --step=7
+    ends 2 '--step needs a value: 1 to 60 seconds' assign --step --plain
+    ends 2 '--link is not an option of assign, but of counts' assign --link 10
+    ends 2 "--length-unit can't be 'ft': it takes m, km, mi" freeflow --length-unit ft
+    ends 2 "--step can't be '61': it takes 1 to 60 seconds" freeflow --step 61 --jam 0
+    ends 2 "--period can't be '61'" assign --period 61 --horizon 60
+    ends 2 "--at can't be '0; 1'" skim --at '0; 1'
+    ends 2 'sweep needs --scales' sweep
+    ends 2 'demo needs a number, from 2 to 60' demo
+    ends 2 "demo can't have the number '61': it goes from 2 to 60" demo 61
+    ends 2 "'3' is a second number; demo takes one" demo 2 3
+    ends 2 'dta help shows the commands and options' demo
+}
+
+# refused STATUS TEXT FILE BYTES [WORDS..]: how a run ends over a table that has these bytes.
+refused() {
+    printf '%b' "$4" >"$3"
+    wanted=$1
+    text=$2
+    shift 4
+    [ $# -gt 0 ] || set -- freeflow
+    ends "$wanted" "$text" "$@"
+}
+
+refused_tables() {
+    links='link_id,from_node_id,to_node_id,length,lanes,free_speed,capacity\n10,1,2,'
+    refused 3 'not separated by commas' node.csv 'node_id;zone_id\n1;1\n'
+    refused 3 "column 'Node ID' meant?" node.csv 'Node ID,zone_id\n1,1\n'
+    refused 3 'node.csv is UTF-16 text' node.csv '\0377\0376n\0000o\0000'
+    refused 3 "a letter that isn't UTF-8" node.csv 'node_id,name\n1,M\0374nchen\n'
+    refused 3 'Line 3 of node.csv has 3 fields, and the header has 2' node.csv \
+        'node_id,name\n1,a\n2,b, c\n'
+    refused 3 'makes two fields of one: write 0.5' link.csv "${links}0,5,1,60,600\n"
+    refused 3 'the 1 others like it' node.csv 'node_id,zone_id\n1,1\n,\n,\n'
+    refused 3 'is line 4 in an editor' node.csv 'node_id,zone_id\n\n1,1\nx,\n'
+    refused 3 'goes over the lines 2 to 3 of the file' node.csv \
+        'node_id,zone_id\n1,"1\n2,\n'
+    refused 3 "has '1,5' as its length" link.csv "$links\"1,5\",1,60,600\n"
+    refused 3 'write 1.500, or no comma where it parts thousands' link.csv \
+        "$links\"1,500\",1,60,600\n"
+    refused 3 'No unit stands in a field' link.csv "${links}500 m,1,60,600\n"
+    refused 3 'write 1200.5, not 1 200.5' link.csv "${links}1 200,1,60,600\n"
+    refused 3 'the format of whole numbers' node.csv 'node_id\n1E+05\n'
+    refused 3 'it goes from 0 to 100' link.csv "${links}500,101,60,600\n"
+    refused 3 'has the same node_id as line 2: 1.0' node.csv 'node_id\n1\n1.0\n'
+    refused 3 "names node 9 (to_node_id), which isn't in node.csv" link.csv \
+        "${links}500,1,60,600\n11,1,9,5,,,\n"
+    refused 3 'write a link for each direction' link.csv \
+        'link_id,from_node_id,to_node_id,length,directed\n10,1,2,500,0\n'
+    refused 3 'try --length-unit m' link.csv "${links}1000.5,1,60,600\n" freeflow --length-unit km
+    refused 3 "link 20 doesn't end at node 2" movement.csv \
+        'node_id,ib_link_id,ob_link_id\n2,20,20\n' assign
+    refused 3 'of an assign with another --horizon' times.csv \
+        'link_id,from_step,to_step,entered,travel_steps,free_steps\n10,0,60,1,10,10\n' skim
+    rm node.csv; ends 4 'There is no node.csv in this folder' freeflow
+    mv demand.csv Demand.csv; ends 4 'Is Demand.csv this table?' assign
+    rm link.csv; mkdir link.csv; ends 4 'link.csv is a folder' freeflow
+    ends 4 'copy that to times.csv' skim
+    ends 4 'copy that to start.csv' assign --start
+    truncate -s 268435457 node.csv; ends 7 'node.csv has more than 268435456 bytes' freeflow
+    refused 7 'more than 2000000' demand.csv 'o_zone_id,d_zone_id,volume\n1,3,2000001\n' assign
+    ends 7 'Choose a shorter --horizon' demo 60 --horizon 86400
+}
+
+# Two runs of one folder, and files under two names.
+refused_runs() {
+    flock -F . sleep 9 &
+    sleep 0.2
+    ends 9 'Another run is at work in this folder' freeflow
+    ends 0 '' demo 2 --horizon 1
+    kill $!
+    "$script" assign --horizon 86400 --iterations 1000 >/dev/null 2>&1 &
+    sleep 0.5
+    run freeflow
+    text='of '$(id -un)': dta assign --horizon 86400 --iterations 1000' wanted=9
+    case_of "who has the folder: $(cat "$folder/said")" is_said
+    kill "$(sed -n 's/.*It is process \([0-9]*\) .*/\1/p' "$folder/said")"
+    wait
+    new_folder
+    ln -s demand.csv link_performance.csv
+    ends 9 'link_performance.csv and demand.csv are one file' freeflow
+    ln -s demand.csv agent.csv; ends 9 'agent.csv and demand.csv are one file' assign
+    ln link.csv gap.csv; ends 9 'gap.csv and link.csv are one file' assign
+    ln -s gap.csv agent.csv; ends 9 'gap.csv and agent.csv are one file' assign
+    ln -s link_performance.csv times.csv; ends 0 '' assign
+    "$shell" "$script" assign >>demand.csv 2>"$folder/said"; status=$?
+    text='Standard output goes to demand.csv' wanted=9
+    case_of 'standard output to a table' is_said
+    case_of 'a table that is appended to' [ "$(wc -l <demand.csv)" = 2 ]
+    "$shell" "$script" assign >gap.csv 2>"$folder/said"; status=$?
+    text='Standard output goes to gap.csv'
+    case_of 'standard output to an output' is_said
+    new_folder
+}
+
+# What is said before a run that is done.
+told_before() {
+    ln -s "$folder/elsewhere" agent.csv; ends 0 "the run writes to $folder/elsewhere" assign
+    "$script" assign >/dev/null 2>&1
+    ln gap.csv other; ends 0 'gap.csv has further names (hard links)' assign
+    "$script" assign >/dev/null 2>&1
+    ends 0 'link_performance.csv is here already, from assign; freeflow writes over it' freeflow
+    "$script" freeflow >/dev/null 2>&1; ends 0 'from freeflow; assign writes over it' assign
+    echo link,count >counts.csv; ends 0 'counts.csv is here already, from something else' counts
+    "$script" assign >/dev/null 2>&1; ends 0 '' assign
+}
+
+unwritten_outputs() {
+    mkdir agent.csv; ends 5 "agent.csv couldn't be written: a folder has its name" assign
+    mkdir gap.csv; ends 5 'Written whole before it: agent.csv link_performance.csv.' assign
+    ln -s /dev/full gap.csv; ends 5 "gap.csv couldn't be written" assign
+    ln -s no/folder gap.csv; ends 5 'it is a link that leads nowhere' assign
+    printf 'o_zone_id,d_zone_id,volume\n1,3,300\n' >demand.csv
+    (ulimit -f 1; exec "$shell" "$script" assign >"$folder/report" 2>said)
+    status=$?
+    mv said "$folder/said"
+    text="agent.csv couldn't be written: the limit of file sizes" wanted=5
+    case_of "ulimit -f: status $status" is_said
+    for stream in '>/dev/full' '>&-'; do
+        new_folder
+        eval "\"$shell\" \"$script\" assign $stream" 2>"$folder/said"
+        status=$?
+        text="The report couldn't be written to standard output."
+        case_of "a report that goes to $stream: status $status" is_said
+    done
+    new_folder
+}
+
+# Sentences of a run on a terminal, which takes two seconds; the files are those of a run without
+# one.
+told_on_a_terminal() {
+    printf 'o_zone_id,d_zone_id,volume\n1,3,3000\n' >demand.csv
+    mkdir terminal && cp ./*.csv terminal || exit 2
+    began=$(date +%s%N)
+    "$program" assign --iterations 50 --horizon 01200 >"$folder/report"
+    iterations=$((50 * 2000000000 / ($(date +%s%N) - began)))
+    [ "$iterations" -lt 1000 ] || iterations=1000
+    set -- assign --iterations "$iterations" --horizon 01200
+    "$program" "$@" >"$folder/report"
+    cd terminal || exit 2
+    script -qec "$shell '$script' $* >report" /dev/null >"$folder/said"
+    case_of 'a line of a long run' grep -Eq \
+        "dta: iteration [0-9]+ of $iterations, [0-9]+ % arrived, less than a minute left" \
+        "$folder/said"
+    case_of 'nothing but sentences' [ -z "$(grep -v '^dta: iteration' "$folder/said")" ]
+    for file in agent.csv link_performance.csv gap.csv; do
+        case_of "$file of a told run" cmp -s "$file" "../$file"
+    done
+    case_of 'the report of a told run' cmp -s report "$folder/report"
+    case_of 'no other file' [ "$(ls | wc -l)" = 7 ]
+    script -qec "$shell '$script' assign --watch 1200 --iterations 2 --plain" /dev/null \
+        >"$folder/said"
+    case_of 'watch lines that were asked for' grep -q '^2,1200,' "$folder/said"
+    new_folder
+}
+
+help_of() {
+    run help
+    version=$(sed -n 's/^## \([0-9.]*\),.*/\1/p' "$top/CHANGELOG.md" | sed 1q)
+    case_of 'the version in help' grep -q "^dta $version: " "$folder/report"
+    case_of 'the commands in help' grep -q '^  dta assign \[options\]' "$folder/report"
+    docs=$(sed -n 's/^The documents are in \(.*\); examples.*/\1/p' "$folder/report")
+    for file in $(grep -o '[A-Z]*[.]md' "$folder/report"); do
+        case_of "$file, which help names" [ -f "$docs/$file" ]
+    done
+    run --help
+    case_of '--help' grep -q "^dta $version: " "$folder/report"
+}
+
+# Every list of words of words.sh is refused by the program where words.awk finds a fault, and
+# otherwise not.
+same_grammar() {
+    cat >"$folder/both" <<BOTH
+#!/bin/sh
+"$program" "\$@"
+status=\$?
+fault=\$(cd "$top/command" && LC_ALL=C awk -f texts.awk -f options.awk -f words.awk -- \\
+    ../docs/options.txt "\$@")
+case "\$status\$fault" in
+    2 | [!2]?*) printf '%s\n' "\$*: \$status, \$fault" >>"$folder/differs" ;;
+esac
+exit \$status
+BOTH
+    chmod +x "$folder/both"
+    : >"$folder/differs"
+    case_of 'words.sh' "$checks/words.sh" "$folder/both" >/dev/null
+    case_of "the grammar differs: $(cat "$folder/differs")" [ ! -s "$folder/differs" ]
+}
+
+# completed WORDS..: what bash completes of the words.
+completed() {
+    bash -c '. tree/share/bash-completion/completions/dta
+        COMP_WORDS=("$@")
+        COMP_CWORD=$(($# - 1))
+        _dta
+        echo "${COMPREPLY[*]}"' - "$@"
+}
+
+packages() {
+    mkdir "$folder/packages" && cd "$folder/packages" || exit 2
+    file=$("$top/package" --tar)
+    case_of 'a tarball' [ -f "$file" ]
+    cp "$file" first && "$top/package" --tar >/dev/null
+    case_of 'the same tarball twice' cmp -s "$file" first
+    mkdir tree && tar -xzf "$file" -C tree --strip-components=1
+    cp -r tree/share/dta/examples/two_routes . && cd two_routes || exit 2
+    ../tree/bin/dta assign --period 1 --horizon 60 --iterations 2 >/dev/null 2>"$folder/said"
+    case_of 'an example by the tree' grep -qx 2,84,84,0,0 gap.csv
+    ../tree/bin/dta skim --at x 2>"$folder/said" >&2
+    case_of 'a sentence by the tree' grep -q "can't be 'x'" "$folder/said"
+    cd .. || exit 2
+    case_of 'help by the tree' [ "$(tree/bin/dta help | head -c 4)" = 'dta ' ]
+    case_of 'the page of the manual' gzip -t tree/share/man/man1/dta.1.gz
+    zcat tree/share/man/man1/dta.1.gz | sed 's/\\-/-/g' >manual
+    for option in $(sed -n 's/^  \(--[a-z-]*\) .*/\1/p' "$top/docs/options.txt"); do
+        case_of "$option in the manual" grep -q -- "^.B $option" manual
+    done
+    case_of 'commands completed' [ "$(completed dta s)" = 'skim sweep' ]
+    case_of 'options completed' [ "$(completed dta assign --w)" = '--workers --wave --watch' ]
+    case_of 'values completed' [ "$(completed dta assign --queue = n)" = newell ]
+    command -v dpkg-deb >/dev/null || { echo 'not tried: there is no dpkg-deb'; return; }
+    file=$("$top/package" 2>/dev/null)
+    dpkg-deb -x "$file" debian
+    case_of 'one tree in both' diff -r --no-dereference debian/usr tree \
+        --exclude=lintian --exclude=copyright --exclude=changelog.gz
+    case_of 'the needs of the package' sh -c "dpkg-deb -f '$file' Depends | grep -q libc6"
+}
+
+for shell in dash bash; do
+    command -v $shell >/dev/null || { echo "not tried: there is no $shell"; continue; }
+    new_folder
+    refused_words
+    refused_tables
+    refused_runs
+    told_before
+    unwritten_outputs
+    told_on_a_terminal
+    help_of
+done
+same_grammar
+[ ! -x "$top/package" ] || packages
+echo "$((cases - failures)) of $cases cases are as wanted"
+exit "$((failures > 0))"

@@ -1,0 +1,337 @@
+# Read by the script `dta` of the repository and by the installed command, which have set
+#   program   the built program
+#   share     the folder with command/, docs/options.txt and CHANGELOG.md
+#   docs      the folder with the documents
+# run_command WORDS.. runs the program with these words, and says in sentences on standard error
+# what a planner should know of the run. Standard output has the program's bytes and nothing else.
+# shellcheck shell=sh disable=SC2154,SC2086,SC2003,SC2010,SC3013
+
+# The status with which nothing was run: the folder is in use, or two files are one.
+in_the_way=9
+
+say() {
+    printf 'dta: %s\n' "$*" >&2
+}
+
+# answer_help WORDS..: prints docs/options.txt and ends, where the words ask for it.
+answer_help() {
+    case "$#:${1:-}" in 1:help | 1:--help) ;; *) return ;; esac
+    version=$(sed -n 's/^## \([0-9.]*\),.*/\1/p' "$share/CHANGELOG.md" | sed 1q)
+    sed "1s/^dta:/dta $version:/" "$share/docs/options.txt"
+    echo "The documents are in $docs; examples/ and view/ are in $share."
+    exit
+}
+
+# ---- the words
+
+# is_given NAME WORDS..: whether the words give the option.
+is_given() {
+    name=--$1
+    shift
+    for word in "$@"; do
+        case $word in "$name" | "$name="*) return 0 ;; esac
+    done
+    return 1
+}
+
+# value_of NAME DEFAULT WORDS..: the value that the words give the option.
+value_of() {
+    name=--$1
+    value=$2
+    shift 2
+    while [ $# -gt 0 ]; do
+        case $1 in
+            "$name") value=${2:-} ;;
+            "$name="*) value=${1#*=} ;;
+        esac
+        shift
+    done
+    printf '%s\n' "$value"
+}
+
+# Sets `tables` to the tables of the folder that a run must not write over, and `outputs` to the
+# files that it writes. Where times.csv or start.csv isn't read it may be a link to an output.
+name_files() {
+    tables='node.csv link.csv movement.csv demand.csv'
+    outputs=
+    case ${1:-} in
+        freeflow) outputs=link_performance.csv ;;
+        assign)
+            outputs='agent.csv link_performance.csv gap.csv'
+            ! is_given start "$@" || tables="$tables start.csv"
+            ;;
+        skim) tables="$tables times.csv" outputs=skim.csv ;;
+        counts) outputs=counts.csv ;;
+        sweep) outputs=sweep.txt ;;
+        audit | demo) ;;
+        *) tables= ;;
+    esac
+}
+
+# ---- before the run
+
+# is_one FILE FILE: whether two names lead to one file, also to one that isn't there yet.
+is_one() {
+    if [ -e "$1" ]; then
+        [ -f "$1" ] && [ "$1" -ef "$2" ]
+    else
+        [ "$(readlink -m "$1")" = "$(readlink -m "$2")" ]
+    fi
+}
+
+# Ends where an output would be written over a table or over another output.
+check_files() {
+    others=$tables
+    for output in $outputs; do
+        for other in $others; do
+            ! is_one "$output" "$other" || {
+                say "$output and $other are one file, by a link, and the run would write over it."
+                say 'Nothing was run. Remove the link, or put a copy in its place.'
+                exit $in_the_way
+            }
+        done
+        others="$others $output"
+    done
+    [ -n "$tables" ] || return
+    for other in node.csv link.csv movement.csv demand.csv start.csv times.csv $outputs; do
+        ! is_one /dev/fd/1 "$other" || refuse_stream 'Standard output' '>report.txt'
+        ! is_one /dev/fd/2 "$other" || refuse_stream 'Standard error' '2>watch.txt'
+    done
+}
+
+refuse_stream() {
+    say "$1 goes to $other, a table or an output, and the shell may have emptied it already."
+    say "Nothing was run. Send it to another file, as with $2."
+    exit $in_the_way
+}
+
+# maker_of FILE: the command that writes a file with this first line.
+maker_of() {
+    case $(head -c 99 "$1" | tr -d '\0' | sed 1q) in
+        '') echo nothing ;;
+        agent_id,o_zone_id,d_zone_id,departure_step,* | link_id,from_step,* | \
+            iteration,route_steps,*) echo assign ;;
+        link_id,free_steps,storage) echo freeflow ;;
+        o_zone_id,d_zone_id,start_step,*) echo skim ;;
+        kind,first,second,from_step,*) echo counts ;;
+        'scenario 0 scale '*) echo sweep ;;
+        *) echo 'something else' ;;
+    esac
+}
+
+# tell_outputs COMMAND: says which outputs lead elsewhere, and which are there from another command.
+tell_outputs() {
+    for output in $outputs; do
+        [ ! -h "$output" ] || say "$output is a link: the run writes to $(readlink -m "$output")."
+        [ -f "$output" ] || continue
+        [ "$(stat -c %h "$output")" = 1 ] ||
+            say "$output has further names (hard links): the run writes over the file of them all."
+        maker=$(maker_of "$output")
+        [ "$maker" = "$1" ] || [ "$maker" = nothing ] ||
+            say "$output is here already, from $maker; $1 writes over it once all is accepted."
+    done
+}
+
+# Sets `lock` to what runs a program alone among the runs that write to this folder.
+take_lock() {
+    lock=
+    [ -n "$outputs" ] || return
+    flock -n -E $in_the_way . true 2>/dev/null
+    case $? in
+        0) lock="flock -n -F -E $in_the_way ." ;;
+        "$in_the_way") tell_holder; exit $in_the_way ;;
+    esac
+}
+
+# Says who has the lock: the program itself, under its process id.
+tell_holder() {
+    process=$(awk -v end=":$(stat -c %i .)" '
+        $2 == "FLOCK" && substr($6, length($6) - length(end) + 1) == end { print $5; exit }
+        ' /proc/locks 2>/dev/null)
+    say 'Another run is at work in this folder, and two at once would mix their files.'
+    say 'Nothing was run. Wait until it ends, or run in a copy of the folder.'
+    [ -z "$process" ] || [ ! -r "/proc/$process/cmdline" ] ||
+        say "It is process $process of $(stat -c %U "/proc/$process"): dta$(
+            tail -z -n +2 "/proc/$process/cmdline" | tr '\0' ' ' | sed 's/^/ /; s/ $//')"
+}
+
+# ---- the run
+
+# Whether the script asks for watch lines itself, to make sentences of them.
+is_told() {
+    [ -t 2 ] && [ -r /proc/uptime ] || return 1
+    case ${1:-} in assign | demo) ;; *) return 1 ;; esac
+    ! is_given watch "$@" || return 1
+    horizon=$(expr "$(value_of horizon 1200 "$@")" + 0 2>/dev/null) &&
+        iterations=$(expr "$(value_of iterations 1 "$@")" + 0 2>/dev/null)
+}
+
+# Runs the program. Prints what it puts to standard output, and then `=` and its status.
+run_program() {
+    if is_told "$@"; then
+        set -- "$@" --watch "$((horizon / 10 + 1))"
+        { { $lock "$program" "$@" 2>&3 3>&- 4>&-; printf '=%s' $?; } 3>&1 >&4 |
+            tell_progress >&2 4>&-; } 4>&1
+    else
+        $lock "$program" "$@"
+        printf '=%s' $?
+    fi
+}
+
+# Makes sentences of watch lines; other lines are passed on.
+tell_progress() {
+    IFS=,
+    began=$(seconds)
+    told=$began
+    while read -r line; do
+        case $line in
+            *[!0-9,]* | '') printf '%s\n' "$line" ;;
+            *) tell_state $line ;;
+        esac
+    done
+}
+
+# The seconds since the machine was started.
+seconds() {
+    read -r now </proc/uptime
+    echo "${now%%.*}"
+}
+
+# tell_state ITERATION STEPS WAITING RUNNING ARRIVED ..: says so at the end of an iteration, and
+# each ten seconds within it, but once a second at most.
+tell_state() {
+    now=$(seconds)
+    pause=1
+    text="iteration $1 of $iterations"
+    [ "$2" -eq "$horizon" ] || { pause=10 text="$text, step $2 of $horizon"; }
+    [ $((now - told)) -ge $pause ] || return
+    told=$now
+    count=$(($3 + $4 + $5))
+    [ $count -eq 0 ] || text="$text, $((100 * $5 / count)) % arrived"
+    steps=$((($1 - 1) * horizon + $2))
+    left=$(((now - began) * (iterations * horizon - steps) / steps))
+    case $(((left + 30) / 60)) in
+        0) [ $left -eq 0 ] || text="$text, less than a minute left" ;;
+        1) text="$text, about a minute left" ;;
+        *) text="$text, about $(((left + 30) / 60)) minutes left" ;;
+    esac
+    say "$text"
+}
+
+# ---- after the run
+
+# What tells of each output whether the run began it.
+marks() {
+    [ -z "$1" ] || stat -L -c '%n %i %s %.9Z' $1 2>/dev/null
+}
+
+# Why an output couldn't be made, where that is seen.
+why_not_made() {
+    if [ -d "$1" ]; then echo 'a folder has its name'
+    elif [ -e "$1" ] && [ ! -w "$1" ]; then echo 'it may not be written over'
+    elif [ -e "$1" ] && [ ! -f "$1" ]; then echo 'it is a device or a pipe, which may be full'
+    elif [ -h "$1" ] && [ ! -e "$1" ]; then echo 'it is a link that leads nowhere'
+    elif [ ! -e "$1" ] && [ ! -w . ]; then echo 'the folder may not be written to'
+    fi
+}
+
+why_not_whole() {
+    if [ "$(ulimit -f)" != unlimited ]; then echo 'the limit of file sizes, ulimit -f, cut it off'
+    elif [ "$(df --output=avail . | sed 1d | tr -d ' ')" = 0 ]; then echo 'the disk is full'
+    else echo 'the disk or your share of it may be full'
+    fi
+}
+
+# tell_unwritten BEFORE WORDS..: says which output couldn't be written, by the marks before the run.
+tell_unwritten() {
+    before=$1
+    begun=
+    whole=
+    next=
+    shift
+    for output in $outputs; do
+        mark=$(marks "$output")
+        case "$before" in
+            *"$mark"*) next=$output; break ;;
+        esac
+        whole="$whole${begun:+ $begun}"
+        begun=$output
+    done
+    why=${next:+$(why_not_made "$next")}
+    if [ -n "$why" ]; then whole="$whole${begun:+ $begun}" begun=$next
+    elif [ -n "$begun" ]; then
+        why=$(why_not_whole)
+        # On a full disk the next one may have found no room to begin.
+        case $why in *disk*) [ -e "${next:-.}" ] || begun="$begun or $next" ;; esac
+    elif is_given watch "$@"; then begun='standard error' why='nobody reads it, or it is full'
+    else begun=$next why=$(why_not_whole)
+    fi
+    say "$begun couldn't be written: $why."
+    [ -z "$whole" ] || say "Written whole before it:$whole."
+}
+
+# tell_status LINE BEFORE WORDS..: says what the status and the first line of Report mean.
+tell_status() {
+    line=$1
+    before=$2
+    shift 2
+    case $status in
+        2) tell_words "$@" ;;
+        4) tell_read_fault "${line##* }" ;;
+        3 | 7 | 8)
+            LC_ALL=C awk -f "$share/command/texts.awk" -f "$share/command/refusals.awk" -- \
+                "$line" "$(value_of length-unit m "$@")" "$(value_of speed-unit kmh "$@")" \
+                "$(value_of step 6 "$@")" >&2
+            ;;
+        5) tell_unwritten "$before" "$@" ;;
+        6)
+            say 'There was not enough memory. No output was begun.'
+            say 'A shorter --horizon, a longer --step or fewer --workers take less.'
+            ;;
+        "$in_the_way") tell_holder ;;
+        137) say 'The program was killed. The system does so where memory runs out.' ;;
+    esac
+}
+
+# tell_read_fault TABLE: says why a table couldn't be read.
+tell_read_fault() {
+    if [ -d "$1.csv" ]; then say "$1.csv is a folder."
+    elif [ -e "$1.csv" ]; then say "$1.csv can't be read: look at who may read it."
+    else
+        say "There is no $1.csv in this folder, $(pwd)."
+        other=$(ls | grep -i "^$1.*[.]\(csv\|txt\)" | head -n 1)
+        [ -z "$other" ] || say "Is $other this table? Its name has to be $1.csv."
+    fi
+    case $1 in
+        times) say 'It is the link_performance.csv of an assign: copy that to times.csv.' ;;
+        start) say 'It is the agent.csv of an earlier assign: copy that to start.csv.' ;;
+    esac
+}
+
+# tell_words WORDS..: names the first of refused words that isn't in the grammar.
+tell_words() {
+    LC_ALL=C awk -f "$share/command/texts.awk" -f "$share/command/options.awk" \
+        -f "$share/command/words.awk" -- "$share/docs/options.txt" "$@" >&2
+    say 'dta help shows the commands and options.'
+}
+
+run_command() {
+    name_files "$@"
+    check_files
+    take_lock
+    tell_outputs "${1:-}"
+    # So that a file that grows past ulimit -f ends the run with status 5, and not by a signal.
+    trap '' XFSZ
+    before=$(marks "$outputs")
+    said=$(run_program "$@")
+    status=${said##*=}
+    report=${said%=*}
+    if (trap '' PIPE; printf '%s' "$report") 2>/dev/null || [ "$status" -ne 0 ]; then
+        tell_status "$(printf '%s' "$report" | sed 1q)" "$before" "$@"
+    else
+        status=5
+        say "The report couldn't be written to standard output."
+        [ -z "$outputs" ] || say "Written whole before it: $outputs."
+    fi
+    exit "$status"
+}
