@@ -123,6 +123,15 @@ refused_tables() {
     ends 7 'Choose a shorter --horizon' demo 60 --horizon 86400
 }
 
+# Whether a process ends within two seconds.
+is_gone() {
+    for _ in 1 2 3 4 5 6 7 8 9 10; do
+        [ -e "/proc/$1/cmdline" ] || return 0
+        sleep 0.2
+    done
+    return 1
+}
+
 # Two runs of one folder, and files under two names.
 refused_runs() {
     flock -F . sleep 9 &
@@ -135,8 +144,10 @@ refused_runs() {
     run freeflow
     text='of '$(id -un)': dta assign --horizon 86400 --iterations 1000' wanted=9
     case_of "who has the folder: $(cat "$folder/said")" is_said
-    kill "$(sed -n 's/.*It is process \([0-9]*\) .*/\1/p' "$folder/said")"
+    kill $!
     wait
+    process=$(sed -n 's/.*It is process \([0-9]*\) .*/\1/p' "$folder/said")
+    case_of 'the program ends with the script' is_gone "$process"
     new_folder
     ln -s demand.csv link_performance.csv
     ends 9 'link_performance.csv and demand.csv are one file' freeflow

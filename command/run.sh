@@ -132,13 +132,15 @@ tell_outputs() {
     done
 }
 
-# Sets `lock` to what runs a program alone among the runs that write to this folder.
-take_lock() {
-    lock=
+# Sets `start` to what starts the program so that it ends where this script is ended, and so that
+# it is alone among the runs that write to this folder.
+prepare_start() {
+    start='setpriv --pdeathsig TERM'
+    $start true 2>/dev/null || start=
     [ -n "$outputs" ] || return
     flock -n -E $in_the_way . true 2>/dev/null
     case $? in
-        0) lock="flock -n -F -E $in_the_way ." ;;
+        0) start="$start flock -n -F -E $in_the_way ." ;;
         "$in_the_way") tell_holder; exit $in_the_way ;;
     esac
 }
@@ -166,16 +168,26 @@ is_told() {
         iterations=$(expr "$(value_of iterations 1 "$@")" + 0 2>/dev/null)
 }
 
-# Runs the program. Prints what it puts to standard output, and then `=` and its status.
+# Runs the program. Sets `report` to what it puts to standard output, and `status`.
 run_program() {
     if is_told "$@"; then
-        set -- "$@" --watch "$((horizon / 10 + 1))"
-        { { $lock "$program" "$@" 2>&3 3>&- 4>&-; printf '=%s' $?; } 3>&1 >&4 |
-            tell_progress >&2 4>&-; } 4>&1
+        report=$(run_told "$@" --watch "$((horizon / 10 + 1))")
+        status=${report##*=}
+        report=${report%=*}
     else
-        $lock "$program" "$@"
-        printf '=%s' $?
+        # The program takes the place of the inner shell, so this script is its parent.
+        report=$(exec $start "$program" "$@")
+        status=$?
+        report=$report${report:+"
+"}
     fi
+}
+
+# Runs the program, and makes sentences of its watch lines. Prints what it puts to standard output,
+# and then `=` and its status.
+run_told() {
+    { { $start "$program" "$@" 2>&3 3>&- 4>&-; printf '=%s' $?; } 3>&1 >&4 |
+        tell_progress >&2 4>&-; } 4>&1
 }
 
 # Makes sentences of watch lines; other lines are passed on.
@@ -318,14 +330,12 @@ tell_words() {
 run_command() {
     name_files "$@"
     check_files
-    take_lock
+    prepare_start
     tell_outputs "${1:-}"
     # So that a file that grows past ulimit -f ends the run with status 5, and not by a signal.
     trap '' XFSZ
     before=$(marks "$outputs")
-    said=$(run_program "$@")
-    status=${said##*=}
-    report=${said%=*}
+    run_program "$@"
     if (trap '' PIPE; printf '%s' "$report") 2>/dev/null || [ "$status" -ne 0 ]; then
         tell_status "$(printf '%s' "$report" | sed 1q)" "$before" "$@"
     else
