@@ -103,7 +103,9 @@ class MapGeometry {
         this.middle = middle;
         // Near by, links grow more slowly than the distances between nodes.
         this.isDense = middle < 12;
-        this.unit = middle < 150 ? Math.max(middle * 0.03, 1) :
+        // A browser draws lines below a pixel fastest, which tens of thousands of links need.
+        const least = this.count > 10000 ? 0.8 : 1;
+        this.unit = middle < 150 ? Math.max(middle * 0.03, least) :
                                    Math.min(4.5 + (middle - 150) * 0.01, 9);
         this.offset = this.unit * 1.25 + 0.5;
         this.nodeRadius = middle > 60 ? 10 : middle > 24 ? 3 : 0;
