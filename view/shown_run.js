@@ -114,6 +114,11 @@ class ShownRun {
         return sum / (to - from) * lanes[link];
     }
 
+    // Flow over capacity, in percent.
+    load(link, bucket) {
+        return 100 * this.flow(link, bucket) / this.capacity(link, bucket);
+    }
+
     bucketSteps(bucket) {
         return this.times.to[bucket] - this.times.from[bucket];
     }
