@@ -446,6 +446,7 @@ class PlannerTests:
 
     def check_thinned(self, told):
         """Streets without delay are left out at full view; here each of them is short."""
+        self.page.click('#all')
         step, capacities = self.page.step(), {link: told.capacity(link) for link in told.links}
         middle = statistics.median_high(capacities.values())
         hidden = sum(
