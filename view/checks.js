@@ -122,7 +122,7 @@ const Checks = (() => {
         const rows = run.demand === null || run.demand.small === 0 ?
             '' :
             ` ${share(run.demand.small, run.demand.rows)} rows of demand.csv are of less than ` +
-                'two vehicles, and these all leave in the middle of the period.';
+                'two vehicles: a row’s only vehicle leaves in the middle of the period.';
         return check(
             'departures', count < 10 || count < all / 20,
             `Most vehicles leave in step ${step}, at ${run.clock(step)}: ` +

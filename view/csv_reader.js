@@ -61,7 +61,12 @@ function csvReader() {
 
         text(column) {
             if (column < 0) return '';
-            return decoder.decode(this.bytes.subarray(this.starts[column], this.ends[column]));
+            const {bytes} = this, start = this.starts[column], end = this.ends[column];
+            // A short plain field costs less than a call of the decoder.
+            let text = '', at = start;
+            while (at < end && bytes[at] < 128 && at - start < 16)
+                text += String.fromCharCode(bytes[at++]);
+            return at === end ? text : decoder.decode(bytes.subarray(start, end));
         }
 
         fault(words) {
@@ -300,5 +305,5 @@ function csvReader() {
         }
     }
 
-    return {TableFault, Columns, Names, Numbers, readRecords, identifier, semicolon};
+    return {TableFault, Columns, Names, Numbers, readRecords, identifier, semicolon, zero};
 }

@@ -126,7 +126,7 @@ class LinkPanel {
         const interval = run.bucketWords(bucket);
         if (entered === 0) return [free, ['entered', `nobody from ${interval}`]];
         const flow = run.flow(link, bucket);
-        const share = Math.round(100 * flow / run.capacity(link, bucket));
+        const share = Math.round(run.load(link, bucket));
         return [
             free,
             [

@@ -102,8 +102,10 @@ class MapGeometry {
         const middle = this.middleLength * camera.scale;
         this.middle = middle;
         // Near by, links grow more slowly than the distances between nodes.
-        this.isDense = middle < 12;
-        this.unit = middle < 150 ? Math.max(middle * 0.03, 1) :
+        this.isDense = middle < MapGeometry.short;
+        // A browser draws lines below a pixel fastest, which tens of thousands of links need.
+        const least = this.count > 10000 ? 0.8 : 1.4;
+        this.unit = middle < 150 ? Math.max(middle * 0.03, least) :
                                    Math.min(4.5 + (middle - 150) * 0.01, 9);
         this.offset = this.unit * 1.25 + 0.5;
         this.nodeRadius = middle > 60 ? 10 : middle > 24 ? 3 : 0;
@@ -186,6 +188,11 @@ class MapGeometry {
         take(x, y, screen[link * 4 + 2], screen[link * 4 + 3]);
     }
 
+    isShort(link) {
+        const [x1, y1, x2, y2] = this.screen.subarray(link * 4, link * 4 + 4);
+        return Math.hypot(x2 - x1, y2 - y1) < MapGeometry.short;
+    }
+
     lengthOnScreen(link) {
         let length = 0;
         this.eachPiece(link, (x1, y1, x2, y2) => {
@@ -254,3 +261,6 @@ class MapGeometry {
         return least;
     }
 }
+
+// Pixels below which links are too near each other to be told apart.
+MapGeometry.short = 12;

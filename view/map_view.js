@@ -166,8 +166,8 @@ class MapView {
     }
 
     // Visible links by class and, within it, by importance, so that each of these is one stroke
-    // and the worst are drawn last. Where links are dense, streets without anything to tell are
-    // left out.
+    // and the worst are drawn last. Where links are dense, short streets without anything to tell
+    // are left out.
     sortByClass() {
         const {geometry, classes} = this, {ranks} = MapView;
         const starts = new Int32Array(Measures.colours.length * ranks + 1);
@@ -188,7 +188,9 @@ class MapView {
     }
 
     isThinned(link) {
-        return this.geometry.isDense && this.geometry.rank[link] === 0 && this.classes[link] <= 1;
+        const {geometry} = this;
+        return geometry.isDense && geometry.rank[link] === 0 && this.classes[link] <= 1
+            && geometry.isShort(link);
     }
 
     widthOf(place, rank) {

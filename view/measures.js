@@ -59,13 +59,10 @@ const Measures = (() => {
         },
         {
             id: 'load',
-            column: 'flow_over_capacity',
+            column: 'flow_over_capacity_percent',
             name: 'Flow over capacity',
             has: (run) => run.hasLoading,
-            value: (run, link, bucket) =>
-                (run.entered(link, bucket) === 0 ?
-                     0 :
-                     100 * run.flow(link, bucket) / run.capacity(link, bucket)),
+            value: ofThoseWhoEntered((run, link, bucket) => run.load(link, bucket)),
             bounds: () => [25, 50, 70, 80, 90, 100],
             unit: '%',
             none: 'nobody entered',

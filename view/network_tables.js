@@ -49,7 +49,8 @@ function networkTables(csv) {
                 return;
             }
             columns.check(places);
-            for (const zone of at.slice(0, 2)) zones.findOrAdd(columns.identifier(places, zone));
+            zones.findOrAdd(columns.identifier(places, at[0]));
+            zones.findOrAdd(columns.identifier(places, at[1]));
             rows += 1;
             if (columns.quantity(places, at[2]) < 2) small += 1;
         }, tell);

@@ -42,10 +42,6 @@ const Out = (() => {
         ];
     }
 
-    function load(link, bucket) {
-        return 100 * this.flow(link, bucket) / this.capacity(link, bucket);
-    }
-
     // Sums and extremes of each link over the whole run.
     function columnsOfRun(run) {
         const most = (what) => (link) => overEntered(run, link, what, Math.max);
@@ -61,7 +57,7 @@ const Out = (() => {
                 ['greatest_minutes_on_link',
                  most((link, bucket) => run.minutes(run.travel(link, bucket)))],
                 ['greatest_flow_vehicles_per_hour', most(run.flow)],
-                ['greatest_flow_over_capacity_percent', most(load)],
+                ['greatest_flow_over_capacity_percent', most(run.load)],
                 ['least_speed_kmh', least(run.speed)]);
         }
         if (run.visits !== null) {

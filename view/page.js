@@ -11,7 +11,10 @@ const Page = (() => {
     const legend = new Legend(find('legend'));
     const trips = new TripsPanel(find('trips'), {traced: askDraw});
     const checks = new ChecksCards(find('checks'), {show: showAtTop});
-    const use = (run, link) => trips.showLink(run, link);
+    const use = (run, link) => {
+        trips.showLink(run, link);
+        find('trips').scrollIntoView({block: 'nearest'});
+    };
     const panel = new LinkPanel(find('link'), {pick, use});
     const rankings =
         new Rankings({totals: find('totals'), tables: find('tables')}, {pick: pickAt});

@@ -10,7 +10,8 @@ class ShownRun {
         this.isFreeflow = run.times !== null && run.times.kind === 'freeflow';
         this.occupancy = run.visits === null ? null : new Occupancy(run);
         this.stands = this.hasLoading && run.visits !== null ? new Stands(this) : null;
-        this.linkPlaces = new Map(run.links.names.map((linkName, link) => [linkName, link]));
+        this.linkPlaces = new Map();
+        run.links.names.forEach((linkName, link) => this.linkPlaces.set(linkName, link));
         this.setUnits(units);
     }
 
@@ -113,6 +114,11 @@ class ShownRun {
         return sum / (to - from) * lanes[link];
     }
 
+    // Flow over capacity, in percent.
+    load(link, bucket) {
+        return 100 * this.flow(link, bucket) / this.capacity(link, bucket);
+    }
+
     bucketSteps(bucket) {
         return this.times.to[bucket] - this.times.from[bucket];
     }
@@ -174,7 +180,11 @@ class ShownRun {
             return;
         }
         const micrometres = {m: 1000n, km: 1000000n, mi: 1609344n}[unit];
-        const thousandths = (value) => BigInt(Math.floor(Number((value * 1000).toPrecision(15))));
+        // A product that is a whole number but for the last bits is meant as one.
+        const thousandths = (value) => {
+            const size = value * 1000, whole = Math.round(size);
+            return BigInt(Math.abs(size - whole) < size * 1e-15 ? whole : Math.floor(size));
+        };
         const whole = 10n ** 12n;
         this.storage = Int32Array.from(this.links.length, (length, link) => {
             const vehicles = thousandths(length) * micrometres

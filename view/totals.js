@@ -2,6 +2,11 @@
 // Totals of a run as numbers, and its worst links and trips. They are sums over the tables, for a
 // reader's eyes: the program proves none of them.
 const Totals = (() => {
+    // Numbers with so many digits. To make a format costs more than to use it.
+    const formats = [0, 1].map(
+        (digits) => new Intl.NumberFormat(
+            'en', {minimumFractionDigits: digits, maximumFractionDigits: digits}));
+
     // Names with their values: counts as whole numbers, everything else to a tenth.
     function rowsOf(run) {
         const rows = [count('Links', run.links.count), count('Nodes', run.nodes.count)];
@@ -128,8 +133,7 @@ const Totals = (() => {
     }
 
     function format(value, digits = Number.isInteger(value) ? 0 : 1) {
-        return value.toLocaleString(
-            'en', {minimumFractionDigits: digits, maximumFractionDigits: digits});
+        return formats[digits].format(value);
     }
 
     return {rowsOf, tripSteps, ten, rankings, longestTrips, format};

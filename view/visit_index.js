@@ -93,7 +93,7 @@ function visitIndex() {
             let first = linkStarts[link];
             for (let visit = first; visit < linkStarts[link + 1]; visit += 1) {
                 while (leave[first] <= enter[visit]) first += 1;
-                most[link] = Math.max(most[link], visit + 1 - first);
+                if (visit + 1 - first > most[link]) most[link] = visit + 1 - first;
             }
         }
         return most;

@@ -48,8 +48,8 @@ CHECKS = {
     'small': 'look: 1 of 3 (33.3 %) links store fewer than three vehicles: with a spatial queue '
     'they let little through.',
     'departures': 'look: Most vehicles leave in step 5, at 00:00:30: 11 of 15 (73.3 %). 2 of 3 '
-    '(66.7 %) rows of demand.csv are of less than two vehicles, and these all leave in the '
-    'middle of the period.',
+    '(66.7 %) rows of demand.csv are of less than two vehicles: a row’s only vehicle leaves in '
+    'the middle of the period.',
     'unfinished': 'look: 12 of 13 (92.3 %) trips are unfinished at the horizon: 11 on links, 1 at '
     'their origins.',
     'jam': 'look: Links are blocked from 00:02:36 on. The jam begins at 1 of them: 20 (00:02:36).',

@@ -46,6 +46,7 @@ class Network:
 
 
 STREET, ARTERIAL, MOTORWAY = (1, 40, 900), (2, 50, 1200), (2, 110, 2000)
+ROADWORKS = (1, 60, 600)
 
 
 def town(folder):
@@ -98,7 +99,7 @@ def country(folder):
         for end, x2, y2 in zones:
             if start != end:
                 away = math.hypot((x2 - x1) * 0.64, y2 - y1)
-                demand.append((start, end, 1 + 80 * math.exp(-3 * away) * source.random()))
+                demand.append((start, end, 4 + 200 * math.exp(-3 * away) * source.random()))
     made.write(folder, demand, COUNTRY_WORDS)
 
 
@@ -126,7 +127,7 @@ def country_town(made, source, place, side):
 
 
 def motorway(made, source, first, last, name):
-    """Six pieces with bends between two towns."""
+    """Six pieces with bends between two towns, of which one has roadworks."""
     (x1, y1, _), (x2, y2, _) = made.nodes[first - 1], made.nodes[last - 1]
     bow, pieces, before = source.uniform(-0.2, 0.2), 6, first
 
@@ -142,5 +143,6 @@ def motorway(made, source, first, last, name):
             111320 * math.hypot((b[0] - a[0]) * math.cos(math.radians(50.7)), b[1] - a[1])
             for a, b in zip(points, points[1:])
         )
-        made.road(before, number, metres, MOTORWAY, name, points[1:-1])
+        kind = ROADWORKS if piece == 4 else MOTORWAY
+        made.road(before, number, metres, kind, name, points[1:-1])
         before = number

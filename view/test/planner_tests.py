@@ -53,7 +53,7 @@ class PlannerTests:
         equal(page.step(), told.worst_time(), 'the worst time of a gridlock')
         page.resize(1280, 3000)
         page.choose('#find', '12')
-        self.picture(['#bar', '#stage'], 'gridlock.png')
+        self.picture(['#bar', '.map', '#link'], 'gridlock.png')
 
     def labels_name_what_loses_most(self):
         """And say what the panel says."""
@@ -409,7 +409,7 @@ class PlannerTests:
             'lost_vehicle_hours': 'lost',
             'vehicles_on_link': 'on',
             'flow_vehicles_per_hour': 'flow',
-            'flow_over_capacity': 'load',
+            'flow_over_capacity_percent': 'load',
             'speed_kmh': 'speed',
             'minutes_on_link': 'minutes',
             'vehicles_waiting_at_origins': 'waiting',
@@ -427,7 +427,7 @@ class PlannerTests:
             equal(shown, None if stood is None else told.minutes(stood), f'blocked of {link}')
 
     def widths_tell_importance(self):
-        """A motorway is wider than a street; at full view streets without delay are left out."""
+        """A motorway is wider than a street, and its pieces are drawn where links are dense."""
         page, told = self.page, Told(self.path('country'), storage_binds=True, seconds=15)
         self.open_run('country')
         page.click('#worst-time')
@@ -435,14 +435,23 @@ class PlannerTests:
         middle = statistics.median_high(capacities.values())
         streets = [link for link, size in capacities.items() if size < 0.75 * middle]
         roads = [link for link, size in capacities.items() if size > 1.5 * middle]
-        step = page.step()
-        hidden = sum(told.is_plain(link, step) for link in streets)
-        words = page.text('.map .words')
-        if hidden > 0:
-            check(f'{hidden:,} streets without delay are left out' in words, f'{words}: {hidden}')
-        page.choose('#measure', 'free')
-        of_road, of_plain = (
-            page.run('return Page.widthOf(arguments[0])', link)
-            for link in (roads[0], next(one for one in told.links if one not in roads))
+        check(any(told.is_plain(link, page.step()) for link in streets), 'no plain piece')
+        check('left out' not in page.text('.map .words'), 'pieces of motorways are left out')
+        page.choose('#measure', 'on')
+        page.choose('#slider', 0)
+        of_road, of_street = (
+            page.run('return Page.widthOf(arguments[0])', link) for link in (roads[0], streets[0])
         )
-        check(of_road > 0 and of_plain > 0, 'the widths of links')
+        near(str(of_road / of_street), 1.5 / 0.8, 'the widths of a road and a street')
+
+    def check_thinned(self, told):
+        """Streets without delay are left out at full view; here each of them is short."""
+        self.page.click('#all')
+        step, capacities = self.page.step(), {link: told.capacity(link) for link in told.links}
+        middle = statistics.median_high(capacities.values())
+        hidden = sum(
+            size < 0.75 * middle and told.is_plain(link, step)
+            for link, size in capacities.items()
+        )
+        words = self.page.text('.map .words')
+        check(f'{hidden:,} streets without delay are left out' in words, f'{words}: {hidden}')

@@ -51,7 +51,7 @@ class Test(PlannerTests):
     def picture(self, selectors, name):
         path = os.path.join(self.pictures, name)
         self.page.picture_of(selectors, path)
-        check(os.path.getsize(path) < 300_000, f'{name} has more than 300 kB')
+        check(os.path.getsize(path) < 200_000, f'{name} has more than 200 kB')
 
     def open_run(self, name):
         self.page.open()
@@ -89,6 +89,14 @@ class Test(PlannerTests):
         self.picture(['#curves'], 'curves.png')
         page.choose('#measure', 'waiting')
         self.picture(['#bar', '#stage'], 'waiting_at_origins.png')
+        for name, measure in (('town', 'speed'), ('country', 'lost')):
+            self.open_run(name)
+            page.resize(900, 900)
+            page.choose('#clock', '7:00')
+            page.click('#worst-time')
+            page.choose('#measure', measure)
+            self.picture(['#bar', '.map', '#legend'], f'{name}.png')
+            page.choose('#clock', '0:00')
 
     def two_runs_are_compared(self):
         page, names = self.page, ['sioux_falls', 'half_of_link_48']
@@ -316,16 +324,17 @@ class Test(PlannerTests):
             + ', '.join(f'{speed:.0f} by {measure}' for measure, speed in speeds.items()),
             flush=True,
         )
-        check(opened < 15, 'it takes more than 15 s to open')
-        check(min(speeds.values()) >= 15, 'it plays fewer than 15 pictures a second')
         told = Told(folder)
         check_totals(page, told)
         check_rankings(page, told)
         equal(told.most_delayed(), str(big_run.WORST_LINK), 'the worst link that was made')
         check_worst(page, told)
         page.choose('#slider', 612)
-        for measure in ('delay', 'flow', 'load', 'speed', 'minutes'):
+        for measure in ('flow', 'load', 'speed', 'minutes', 'delay'):
             check_classes(page, told, measure)
+        self.check_thinned(told)
+        check(opened < 15, 'it takes more than 15 s to open')
+        check(min(speeds.values()) >= 15, 'it plays fewer than 15 pictures a second')
 
     def speed_of(self, measure):
         page = self.page
