@@ -17,7 +17,7 @@ use Rattle.phase_claims.specs.declared.view.View.{View}
 use Rattle.phase_claims.specs.Passes.{IsHeld, IsOpen, HoldsNoUnit}
 use Rattle.phase_claims.specs.PlacesHome.{AreHome, brought, carried, has_slot}
 use Rattle.phase_claims.specs.Plays.{Draws, Finishes, IsBounded, Looks, LooksAt}
-use Rattle.phase_claims.specs.Running.{EarlierAreFinished, Holds, Running, StandsIn}
+use Rattle.phase_claims.specs.Running.{EarlierArePerformed, Holds, Running, StandsIn}
 use Rattle.phase_claims.specs.Views.{beginning, done_with, ended, first_of_phase, having_open, holding, joined, less_spare, nobody, rights, seeing, unit_in}
 use Rattle.phase_claims.proofs.Counts.{holds_held}
 use Rattle.phase_claims.proofs.Machines.{earlier}
@@ -75,7 +75,7 @@ module _ (k : Scope) where
       let moved : (h' : Holds m.0.scope s) × (h'.finished ≡ n) = subst (λ (j : Scope). (h' : Holds j s) × (h'.finished ≡ n)) scope (h, refl) in
       let stands : StandsIn m.0 n = record { state = s; rule = moved.0; by = id; here = at; word = moved.1 } in
       let held_once = held_in k w n s.views r id c m.0 at (λ x. holds_held m.0.stage c x is) in
-      let before : first_of_phase m.0 ≤ n → EarlierAreFinished m.0 s.views = λ le x lt. earlier k w n s.views r c x held_once.0 (omega (arith, le, first)) (omega (arith, lt, first)) in
+      let before : first_of_phase m.0 ≤ n → EarlierArePerformed (node_count m.0.scope.plan) c s.views = λ le x lt. earlier k w n s.views r c held_once.0 (omega (arith, le, first)) x (omega (arith, lt, first)) in
       dite (dec_le (phase_start (node_count k.plan) c) n)
       (λ le. (
         having_open m.0 n,

@@ -20,7 +20,7 @@ use Rattle.phase_claims.specs.declared.view.Scope.{Scope}
 use Rattle.phase_claims.specs.declared.view.View.{View}
 use Rattle.phase_claims.specs.Laws.{AreApart, AreClaims, claims_of}
 use Rattle.phase_claims.specs.PlacesHome.{has_slot, home_of, part_at}
-use Rattle.phase_claims.specs.Running.{Holds, Running}
+use Rattle.phase_claims.specs.Running.{EarlierArePerformed, Holds, Running}
 use Rattle.phase_claims.specs.Views.{held_by, holds, nobody, performed_by}
 use Rattle.phase_claims.proofs.Counts.{once_le}
 use Rattle.phase_claims.proofs.PlacesUnit.{part_writer}
@@ -57,8 +57,8 @@ module _ (k : Scope) (w n : ℕ) (views : List View) (r : Running k w n views) w
   count_of : finished k.plan s ≡ n
   count_of = sum_of k.plan s ∙ below_same (done_in k.plan s) (performed_by views) (drawn_in k.plan s) (λ x _. performed_is x) ∙ sym r.claimed.sum
 
-  pub earlier : (c x : ℕ) → 1 ≤ held_by views c → phase_start (node_count k.plan) c ≤ n → x < phase_start (node_count k.plan) c → performed_by views x ≡ 1
-  earlier c x held le lt =
+  pub earlier : (c : ℕ) → 1 ≤ held_by views c → phase_start (node_count k.plan) c ≤ n → EarlierArePerformed (node_count k.plan) c views
+  earlier c held le x lt =
       let N : ℕ = node_count k.plan in
       let now = open_now N (min w (unit_count k.plan)) n (performed_by views) (held_by views) r.claimed c held le in
       let same : phase_start N c ≡ phase_start N n = same_start N n c now.0 now.1 in

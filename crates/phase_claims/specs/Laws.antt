@@ -17,7 +17,7 @@ use Rattle.phase_claims.specs.declared.view.Scope.{Scope}
 use Rattle.phase_claims.specs.declared.view.View.{View}
 use Rattle.monitors.specs.Posted.{IsPrefix, last_of}
 use Rattle.phase_claims.specs.PlacesHome.{has_slot, posted_in}
-use Rattle.phase_claims.specs.Running.{Holds}
+use Rattle.phase_claims.specs.Running.{EarlierArePerformed, Holds}
 use Rattle.phase_claims.specs.Views.{held_by, performed_by}
 
 -- the claims that the words and the views are: those of a worker for each pass
@@ -43,8 +43,8 @@ pub record AreClaims (k : Scope) (s : State Part View) (h : Holds k s) : Type 0 
       → get_elem? s.views j ≡ some u → AreApart (node_count k.plan) v u
   -- where as many units are finished as come before the phase of a unit that a pass holds, it is
   -- those that are
-  pub earlier : (c x : ℕ) → 1 ≤ held_by s.views c → phase_start (node_count k.plan) c ≤ h.finished
-      → x < phase_start (node_count k.plan) c → performed_by s.views x ≡ 1
+  pub earlier : (c : ℕ) → 1 ≤ held_by s.views c → phase_start (node_count k.plan) c ≤ h.finished
+      → EarlierArePerformed (node_count k.plan) c s.views
   -- while no posting is open the writer's pass is at home: a pass of the floor's board that has
   -- posted the states of the postings performed, in order, and nothing else
   pub writer : total (λ v. has_slot k.plan (posting_part k.plan) v.stage) s.views ≡ 0

@@ -17,7 +17,7 @@ use Rattle.phase_claims.specs.declared.unit.Unit.{Unit as LoadingUnit}
 use Rattle.phase_claims.specs.declared.view.Scope.{Scope}
 use Rattle.phase_claims.specs.declared.view.View.{View}
 use Rattle.phase_claims.specs.PlacesHome.{carried}
-use Rattle.phase_claims.specs.Running.{EarlierAreFinished, StandsIn}
+use Rattle.phase_claims.specs.Running.{EarlierArePerformed, StandsIn}
 use Rattle.phase_claims.specs.Views.{ended, first_of_phase, having_open, holding}
 use Rattle.phase_claims.specs.Views.{performed_count, seeing, unit_in}
 
@@ -80,10 +80,11 @@ pub record Claims (p : Plan) (old : View) (result : Option LoadingUnit) (new : V
 
 -- the answer of an open that read so many finished units, where these are the views of all passes:
 -- Yes exactly where they are at least those before the unit's phase, and then all units of earlier
--- phases are finished; else how many they are
+-- phases are performed; else how many they are
 abbrev pub AnswersOpen : View → ℕ → List View → Open → View → Type 0
 AnswersOpen old finished views answer.Yes new =
-    (first_of_phase old ≤ finished) × EarlierAreFinished old views
+    (first_of_phase old ≤ finished)
+    × EarlierArePerformed (node_count old.scope.plan) (unit_in old.stage) views
     × (new ≡ having_open old finished)
 AnswersOpen old finished views (answer.NotYet told) new =
     (finished < first_of_phase old) × (told ≡ finished) × (new ≡ seeing old finished)

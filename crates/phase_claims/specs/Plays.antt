@@ -2,14 +2,14 @@
 -- found, and what it is after.
 use Rattle.std.specs.Prelude.{◌≡◌, ℕ, ◌<◌, ◌≤◌, []}
 use Rattle.atomic_table.specs.Table.{Me, Step}
-use Rattle.dta_model.specs.Units.{unit_count}
+use Rattle.dta_model.specs.Units.{node_count, unit_count}
 use Rattle.phase_claims.specs.declared.floor.TheConstants.{MOST_PASSES}
 use Rattle.phase_claims.specs.declared.part.Part.{Part}
 use Rattle.phase_claims.specs.declared.view.View.{View}
 use Rattle.phase_claims.specs.PlacesHome.{carried}
-use Rattle.phase_claims.specs.Running.{EarlierAreFinished, StandsIn}
+use Rattle.phase_claims.specs.Running.{EarlierArePerformed, StandsIn}
 use Rattle.phase_claims.specs.Views.{done_with, ended, first_of_phase, having_open, holding}
-use Rattle.phase_claims.specs.Views.{performed_count, rights, seeing}
+use Rattle.phase_claims.specs.Views.{performed_count, rights, seeing, unit_in}
 
 -- a draw: the pass holds the unit of that number or, where there is none, has ended
 pub record DrawsNumber (old : View) (number : ℕ) (new : View) : Type 0 where
@@ -23,7 +23,8 @@ Draws st m number m' = (m'.1 ≡ m.1) × DrawsNumber m.0 number m'.0
 -- before, and than it has performed itself. Where its unit is open it has the unit's places
 pub record LooksAt (old : View) (finished : ℕ) (new : View) : Type 0 where
   pub stands : StandsIn old finished
-  pub earlier : first_of_phase old ≤ finished → EarlierAreFinished old stands.state.views
+  pub earlier : first_of_phase old ≤ finished
+      → EarlierArePerformed (node_count old.scope.plan) (unit_in old.stage) stands.state.views
   pub seen : old.seen ≤ finished
   pub own : performed_count old ≤ finished
   -- with all passes in it, those before its phase are

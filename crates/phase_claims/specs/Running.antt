@@ -14,7 +14,7 @@ use Rattle.phase_claims.specs.declared.part.Part.{Part}
 use Rattle.phase_claims.specs.declared.view.Scope.{Scope}
 use Rattle.phase_claims.specs.declared.view.View.{View}
 use Rattle.phase_claims.specs.PlacesHome.{AreHome}
-use Rattle.phase_claims.specs.Views.{first_of_phase, held_by, nobody, performed_by}
+use Rattle.phase_claims.specs.Views.{held_by, nobody, performed_by}
 use Rattle.phase_claims.specs.Views.{performed_count, rights}
 
 -- a pass that has ended drew a number of no unit, and one that hasn't drew none
@@ -73,6 +73,6 @@ pub record StandsIn (v : View) (finished : ℕ) : Type 0 where
   pub here : get_elem? state.views by ≡ some v
   pub word : rule.finished ≡ finished
 
--- all units of the phases before that of the unit in a view are finished: passes have performed them
-abbrev pub EarlierAreFinished : View → List View → Type 0
-EarlierAreFinished v views = (x : ℕ) → x < first_of_phase v → performed_by views x ≡ 1
+-- all units of the phases before that of unit c are performed, where there are so many nodes
+abbrev pub EarlierArePerformed : ℕ → ℕ → List View → Type 0
+EarlierArePerformed nodes c views = (x : ℕ) → x < phase_start nodes c → performed_by views x ≡ 1

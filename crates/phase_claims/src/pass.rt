@@ -1,6 +1,7 @@
 // The passes of a floor.
 ghost use Rattle.claim_core.specs.Phases.{IsPhase};
 ghost use Rattle.std.specs.Prelude.{◌≡◌, ℕ};
+ghost use Rattle.phase_claims.specs.PlacesHome.{carried};
 
 use crate::rule::PassSeat;
 use claim_core::Phase;
@@ -47,6 +48,16 @@ impl Model for Pass {
 }
 
 impl Pass {
+    /// Its seat at the floor's table. What the pass knows is the seat's view there, and the places
+    /// of the unit that it has open are with the seat: so the table's rule speaks of this pass.
+    pub fn seat(&self) -> &PassSeat
+        ensures table { result.now.table_id ≡ self.now.table }
+        ensures view { result.now.me.0 ≡ self.now.view }
+        ensures places { result.now.me.1 ≡ carried self.now.view.scope self.now.view.stage }
+    {
+        &self.seat
+    }
+
     /// How many passes may still be split off from it.
     pub fn spare(&self) -> u32
         ensures { result ≡ self.now.view.spare }

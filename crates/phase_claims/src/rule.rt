@@ -89,4 +89,5 @@ impl Join<View> for Glue {
 /// The words of a floor, its places and the views of its passes.
 pub type Words<'a> = Table<Part, View, Key<'a>, Claiming, Global>;
 
+/// The place of a pass at a floor's table.
 pub type PassSeat = Seat<Part, View>;
