@@ -175,8 +175,8 @@ fn answer<R: AllocGlobal + Threads + Wait + Sync, D: Desk + Send, G: Gate + Sync
 ///   place that differs, and then answers Differs.
 ///
 /// With a watch, each iteration puts states of its loading to Watch, the last one once it is
-/// loaded. These loadings are by workers, who pass the gate, unless the words ask for the plain
-/// loader.
+/// loaded. The loadings of iterations are by workers, who pass the gate, unless the words ask for
+/// the plain loader; those of a sweep and an audit are plain.
 ///
 /// A table is checked before the next is read. The calls that put outputs but Watch take no
 /// allocator, so that no memory is taken once the first of them has begun.
