@@ -1,0 +1,15 @@
+mod Among
+mod Bests
+mod Erased
+mod Runs
+pub mod Searched
+pub mod LoadedTimes
+pub mod IsWalks
+pub mod StartFacts
+pub mod GapFacts
+pub mod Iterated
+pub mod AssignedFacts
+pub mod SkimFacts
+pub mod SweepFacts
+pub mod AuditFacts
+pub mod TextsFacts

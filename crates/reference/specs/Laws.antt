@@ -1,0 +1,30 @@
+-- Each accepted job has its texts, and they are those of the reference.
+use Rattle.std.specs.Prelude.{◌≡◌, List}
+use Rattle.audit.specs.declared.verdict.Verdict.TheVariants as verdict
+use Rattle.dta_words.specs.Ranges.{AreSettings}
+use Rattle.dta_words.specs.declared.command.Command.TheVariants as command
+use Rattle.dta_words.specs.declared.command.Settings.{Settings}
+use Rattle.dta_run.specs.Jobs.{IsJob, JobRows}
+use Rattle.dta_run.specs.Laws.{AreDetermined}
+use Rattle.dta_run.specs.Outputs.{AreTexts, IsAudited, OutText}
+use Rattle.reference.specs.Audits.{verdict_of}
+use Rattle.reference.specs.Texts.{texts_of}
+
+-- settings are in range and a job is one of tables that were accepted
+pub record IsAccepted (s : Settings) (job : JobRows) : Type 0 where
+  pub in_range : AreSettings s
+  pub sound : IsJob s job
+
+-- where a job is audited, no check fails
+abbrev pub Passes : Settings → JobRows → Type 0
+Passes s job = s.command ≡ command.Audit → verdict_of s job ≡ verdict.Yes
+
+pub record EachJobHasItsTexts : Type 0 where
+  -- the texts of the reference are texts of the job
+  pub has : (s : Settings) (job : JobRows) → IsAccepted s job → Passes s job
+      → AreTexts s.command s job (texts_of s.command s job)
+  -- and others are the same but for Watch, and where the loader is plain altogether
+  pub no_others : (s : Settings) (job : JobRows) (texts : List OutText) → IsAccepted s job
+      → AreTexts s.command s job texts → AreDetermined s job texts (texts_of s.command s job)
+  -- the verdict of an audit is that of the reference
+  pub audited : (s : Settings) (job : JobRows) → IsAudited s job (verdict_of s job)

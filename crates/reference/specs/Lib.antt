@@ -1,0 +1,11 @@
+pub mod Search
+pub mod Routes
+pub mod Gaps
+pub mod Reference
+pub mod Skims
+pub mod Sweeps
+pub mod Audits
+pub mod Texts
+pub mod Laws
+pub mod OnLiterals
+pub mod Examples

@@ -1,0 +1,62 @@
+-- The iterations of an assignment, and its texts, from settings and a job.
+use Rattle.std.specs.Prelude.{ℕ, zero, suc, ◌+◌, ◌-◌, Bool, true, false, List, [], ◌∷◌, ◌++◌, map}
+use Rattle.std.specs.Prelude.{Option, None, Some}
+use Rattle.net_core.specs.Network.{numbers_below}
+use Rattle.dta_model.specs.LinkTimes.{time_at}
+use Rattle.gap.specs.declared.line.GapLine.{GapLine}
+use Rattle.dta_words.specs.declared.command.Settings.{Settings}
+use Rattle.sweep.specs.Assignment.{Traffic, VehicleRoutes, times_of}
+use Rattle.dta_run.specs.Assignment.{end_of}
+use Rattle.dta_run.specs.Jobs.{JobRows, traffic_of}
+use Rattle.dta_run.specs.Outputs.{OutText, end_lines, last_texts}
+use Rattle.reference.specs.Gaps.{gap_of}
+use Rattle.reference.specs.Routes.{all_since, first_routes, next_routes}
+
+-- ---- iterations
+
+-- the routes after the iteration of this number, by the link times of its loading
+abbrev pub routes_after : Settings → Traffic → (number : ℕ) → VehicleRoutes → VehicleRoutes
+routes_after s traffic number routes =
+    next_routes (time_at (times_of s traffic routes)) traffic.net traffic.trips number routes
+
+-- the routes of the iteration at a place, from 0
+unfoldable pub routes_at : Settings → Traffic → (place : ℕ) → VehicleRoutes
+routes_at s traffic zero = first_routes traffic.net traffic.start traffic.trips
+routes_at s traffic (suc i) = routes_after s traffic (i + 1) (routes_at s traffic i)
+
+-- the gap of these routes, by the link times of their loading
+abbrev pub gap_by : Settings → Traffic → VehicleRoutes → GapLine
+gap_by s traffic routes =
+    gap_of (time_at (times_of s traffic routes)) traffic.net traffic.trips routes
+
+abbrev pub gap_at : Settings → Traffic → (place : ℕ) → GapLine
+gap_at s traffic place = gap_by s traffic (routes_at s traffic place)
+
+-- the routes of all iterations, and their gaps
+abbrev pub all_routes : Settings → Traffic → List VehicleRoutes
+all_routes s traffic = map (routes_at s traffic) (numbers_below s.iterations)
+
+abbrev pub all_gaps : Settings → Traffic → List GapLine
+all_gaps s traffic = map (gap_at s traffic) (numbers_below s.iterations)
+
+-- ---- texts
+
+-- the watch lines of iterations, the first of which has this number: one for the state after the
+-- last step, where there is a watch
+unfoldable pub watch_texts : Settings → JobRows → (number : ℕ) → List VehicleRoutes → List OutText
+watch_texts s job number [] = []
+watch_texts s job number (routes ∷ others) =
+    end_lines s.watch number (end_of s job routes) ++ watch_texts s job (number + 1) others
+
+-- since which iterations the vehicles have their routes, where it is told
+abbrev pub since_told : (start : Bool) → Settings → JobRows → Option (List ℕ)
+since_told false s job = None
+since_told true s job = Some (all_since job.net job.start job.trips s.iterations)
+
+-- the texts of an assignment
+unfoldable pub assigned_texts : Settings → JobRows → List OutText
+assigned_texts s job =
+    watch_texts s job 1 (all_routes s (traffic_of job))
+    ++ last_texts s.command s job (routes_at s (traffic_of job) (s.iterations - 1))
+    (since_told s.start s job) (all_gaps s (traffic_of job))
+    (gap_at s (traffic_of job) (s.iterations - 1))

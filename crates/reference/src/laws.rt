@@ -1,0 +1,16 @@
+// Laws of the reference. Each is the contract of a function that does nothing.
+ghost use Rattle.reference.specs.Laws.{EachJobHasItsTexts};
+ghost use Rattle.reference.specs.Search.{WalksAreFound};
+
+/// The search finds the chosen walk between two zones, from every start and over every table of
+/// link times, exactly where there is a walk.
+pub fn walks_are_found()
+    ensures { WalksAreFound }
+{}
+
+/// Settings and a job of accepted tables have a list of texts, that of the reference; each other
+/// one is the same but for watch lines. An audit has the verdict of the reference, and texts where
+/// that is yes.
+pub fn each_job_has_its_texts()
+    ensures { EachJobHasItsTexts }
+{}

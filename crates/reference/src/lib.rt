@@ -1,0 +1,15 @@
+//! The reference: from settings and rows of tables to the texts of a run, by functions alone.
+//!
+//! specs/Search finds the chosen walk between two zones among the walks of a bounded number of
+//! links. specs/Routes and specs/Gaps are the routes of vehicles and the gap by these walks, and
+//! specs/Reference is the plain simulator from top to bottom: the iterations of an assignment and
+//! its texts, in the words of the definitions that `run` cites. Skims, Sweeps and Audits are the
+//! other commands, and Texts the texts of each. specs/Examples computes worked cases.
+//!
+//! The laws say that the relation of `run` holds of each accepted job and these texts, and of no
+//! others but for watch lines. No program calls this crate.
+#![tactic(auto)]
+
+mod laws;
+
+pub use laws::{each_job_has_its_texts, walks_are_found};
