@@ -13,3 +13,9 @@ pub mod SkimFacts
 pub mod SweepFacts
 pub mod AuditFacts
 pub mod TextsFacts
+pub mod SettingsInRange
+pub mod Kept
+pub mod FieldsInRange
+pub mod NetTables
+pub mod OtherTables
+pub mod AcceptedFacts

@@ -2,13 +2,14 @@
 use Rattle.std.proofs.Common.{ℕ, ◌-◌, ◌<◌, List, [], ◌∷◌, length, map, refl, arith}
 use Rattle.std.proofs.lemmas.List.Elements.{All-head, All-tail, All-weaker}
 use Rattle.std.proofs.lemmas.List.FromFn.{length-map-range_with_len}
-use Rattle.dta_model.specs.Release.{vehicles_before}
+use Rattle.dta_model.specs.Release.{trips_of, vehicles_before}
+use Rattle.dta_model.specs.declared.trip.DemandCell.{DemandCell}
 use Rattle.dta_model.specs.declared.trip.Trip.{Trip}
 use Rattle.vehicle_release.specs.Limits.{IsWithin}
 use Rattle.vehicle_release.proofs.WholeFacts.{all_within, are_early, are_rising, are_trips}
 use Rattle.dta_words.specs.Ranges.{AreSettings}
 use Rattle.dta_words.specs.declared.command.Settings.{Settings}
-use Rattle.sweep.specs.Scales.{AreAllWithin, scaled, trips_at}
+use Rattle.sweep.specs.Scales.{AreAllWithin, scaled}
 use Rattle.sweep.specs.Scenarios.{AreScenarios, IsScenario, traffic_at}
 use Rattle.sweep.specs.Traffic.{AreTripsBelow}
 use Rattle.dta_run.specs.Jobs.{IsJob, IsSweepJob, JobRows}
@@ -19,19 +20,19 @@ use Rattle.reference.specs.Sweeps.{scenario_over, scenarios_of}
 use Rattle.reference.proofs.AssignedFacts.{before-last}
 use Rattle.reference.proofs.Iterated.{iterated, place-of}
 
-module _ (s : Settings) (job : JobRows) (settings : AreSettings s) (good : IsJob s job) where
-  trips-below : (scale : ℕ) → IsWithin (scaled scale job.demand_cells) → AreTripsBelow s.horizon (trips_at scale job.demand_cells s.period)
-  trips-below scale within =
-      let demand = scaled scale job.demand_cells in
-      let trips = trips_at scale job.demand_cells s.period in
-      let lasts = settings.period.0 in
-      let most = settings.period.1 in record {
-        in_order = are_trips demand s.period (vehicles_before demand (length demand)) trips lasts refl (all_within demand within) refl;
-        rising = are_rising demand s.period trips lasts refl;
-        early = All-weaker (λ (trip : Trip). trip.departure < s.period) (λ (trip : Trip). trip.departure < s.horizon) (λ trip h. omega (arith, h, most)) trips
-            (are_early demand s.period trips lasts refl);
-      }
+-- the trips of a demand that is within the limit
+pub trips-below : (s : Settings) → AreSettings s → (cells : List DemandCell) → IsWithin cells → AreTripsBelow s.horizon (trips_of cells s.period)
+trips-below s settings cells within =
+    let trips = trips_of cells s.period in
+    let lasts = settings.period.0 in
+    let most = settings.period.1 in record {
+      in_order = are_trips cells s.period (vehicles_before cells (length cells)) trips lasts refl (all_within cells within) refl;
+      rising = are_rising cells s.period trips lasts refl;
+      early = All-weaker (λ (trip : Trip). trip.departure < s.period) (λ (trip : Trip). trip.departure < s.horizon) (λ trip h. omega (arith, h, most)) trips
+          (are_early cells s.period trips lasts refl);
+    }
 
+module _ (s : Settings) (job : JobRows) (settings : AreSettings s) (good : IsJob s job) where
   scenario-is : (scale : ℕ) → IsWithin (scaled scale job.demand_cells)
       → IsScenario s job.net job.demand_cells scale (scenario_over s scale (traffic_at s job.net job.demand_cells scale))
   scenario-is scale within =
@@ -43,7 +44,7 @@ module _ (s : Settings) (job : JobRows) (settings : AreSettings s) (good : IsJob
           lines = all_gaps s traffic;
           last = routes_at s traffic last;
           line = gap_at s traffic last;
-          iterations = iterated s traffic settings good.net (trips-below scale within) no-start-rows;
+          iterations = iterated s traffic settings good.net (trips-below s settings (scaled scale job.demand_cells) within) no-start-rows;
           as_many = length-map-range_with_len (routes_at s traffic) 0 s.iterations;
           with_gaps = length-map-range_with_len (gap_at s traffic) 0 s.iterations;
           last_routes = place-of (routes_at s traffic) s.iterations last (before-last s.iterations settings.iterations.0);

@@ -16,6 +16,7 @@ use Rattle.dta_run.proofs.Determined.{texts_are_determined}
 use Rattle.reference.specs.Audits.{verdict_of}
 use Rattle.reference.specs.Laws.{EachJobHasItsTexts, IsAccepted, Passes}
 use Rattle.reference.specs.Texts.{texts_of}
+use Rattle.reference.proofs.AcceptedFacts.{accepted_are_sound}
 use Rattle.reference.proofs.AssignedFacts.{assigned}
 use Rattle.reference.proofs.AuditFacts.{audited}
 use Rattle.reference.proofs.SkimFacts.{skimmed}
@@ -46,6 +47,7 @@ laws = record { started = started_are_determined; next = next_are_determined; si
 
 pub each_job_has_its_texts : EachJobHasItsTexts
 each_job_has_its_texts = record {
+  accepted = accepted_are_sound;
   has = λ s job good passes. has-by s.command s job refl good passes;
   no_others = λ s job texts good are.
       texts_are_determined laws (scenarios_stand_alone laws) s job texts (texts_of s.command s job) are

@@ -1,5 +1,6 @@
 -- Each accepted job has its texts, and they are those of the reference.
-use Rattle.std.specs.Prelude.{◌≡◌, List}
+use Rattle.std.specs.Prelude.{◌≡◌, ℕ, List}
+use Rattle.desk_io.specs.declared.desk.Table.{Table}
 use Rattle.audit.specs.declared.verdict.Verdict.TheVariants as verdict
 use Rattle.dta_words.specs.Ranges.{AreSettings}
 use Rattle.dta_words.specs.declared.command.Command.TheVariants as command
@@ -7,6 +8,7 @@ use Rattle.dta_words.specs.declared.command.Settings.{Settings}
 use Rattle.dta_run.specs.Jobs.{IsJob, JobRows}
 use Rattle.dta_run.specs.Laws.{AreDetermined}
 use Rattle.dta_run.specs.Outputs.{AreTexts, IsAudited, OutText}
+use Rattle.dta_run.specs.Verdict.{Accepted, verdict as comes_to}
 use Rattle.reference.specs.Audits.{verdict_of}
 use Rattle.reference.specs.Texts.{texts_of}
 
@@ -20,6 +22,9 @@ abbrev pub Passes : Settings → JobRows → Type 0
 Passes s job = s.command ≡ command.Audit → verdict_of s job ≡ verdict.Yes
 
 pub record EachJobHasItsTexts : Type 0 where
+  -- what words and tables come to, where nothing is refused, is accepted settings and their job
+  pub accepted : (words : List (List ℕ)) (tables : Table → List ℕ) (s : Settings) (job : JobRows)
+      → comes_to words tables ≡ Accepted s job → IsAccepted s job
   -- the texts of the reference are texts of the job
   pub has : (s : Settings) (job : JobRows) → IsAccepted s job → Passes s job
       → AreTexts s.command s job (texts_of s.command s job)

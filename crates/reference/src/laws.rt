@@ -8,9 +8,9 @@ pub fn walks_are_found()
     ensures { WalksAreFound }
 {}
 
-/// Settings and a job of accepted tables have a list of texts, that of the reference; each other
-/// one is the same but for watch lines. An audit has the verdict of the reference, and texts where
-/// that is yes.
+/// Words and tables that come to no refusal have settings and a job that are accepted. These have
+/// a list of texts, that of the reference; each other one is the same but for watch lines. An
+/// audit has the verdict of the reference, and texts where that is yes.
 pub fn each_job_has_its_texts()
     ensures { EachJobHasItsTexts }
 {}

@@ -6,8 +6,9 @@
 //! its texts, in the words of the definitions that `run` cites. Skims, Sweeps and Audits are the
 //! other commands, and Texts the texts of each. specs/Examples computes worked cases.
 //!
-//! The laws say that the relation of `run` holds of each accepted job and these texts, and of no
-//! others but for watch lines. No program calls this crate.
+//! The laws say that words and tables that aren't refused come to an accepted job, and that the
+//! relation of `run` holds of each accepted job and these texts, and of no others but for watch
+//! lines. No program calls this crate.
 #![tactic(auto)]
 
 mod laws;

@@ -1,0 +1,329 @@
+-- An accepted verdict has settings in range and a job of accepted tables.
+use Rattle.std.proofs.Common.{◌≡◌, ◌≤◌, ◌<◌, ◌+◌, ◌∙◌, ℕ, zero, suc, Bool, true, false, cond, List, [], ◌∷◌, length, refl, ap, sym, subst, arith, rules}
+use Rattle.std.specs.Prelude.{All, Option, None, Some, Result, Ok, Err, find, nat_le, nat_lt}
+use Rattle.std.specs.List.{range_with_len}
+use Rattle.std.proofs.lemmas.Bool.{leb-true, ltb-false}
+use Rattle.std.proofs.lemmas.List.{length-map}
+use Rattle.std.proofs.lemmas.List.Elements.{All-cons, All-nil}
+use Rattle.desk_io.specs.declared.desk.Table.{Table}
+use Rattle.desk_io.specs.declared.desk.Table.TheVariants as table
+use Rattle.desk_io.specs.declared.transfers.TheConstants.{MOST_TABLE_BYTES}
+use Rattle.row_reader.specs.FirstFault.{then_with}
+use Rattle.row_reader.specs.Records.{records}
+use Rattle.row_reader.specs.declared.faults.TableFault.{TableFault}
+use Rattle.reports.specs.declared.refusal.Refusal.{Refusal}
+use Rattle.net_core.specs.Network.{IsNet}
+use Rattle.net_core.specs.Rows.{IsTurning}
+use Rattle.net_core.specs.declared.rows.LinkRow.{LinkRow}
+use Rattle.net_core.specs.declared.rows.NodeRow.{NodeRow}
+use Rattle.net_core.specs.declared.rows.TurnRow.{TurnRow}
+use Rattle.dta_model.specs.Release.{vehicles_before}
+use Rattle.dta_model.specs.declared.trip.DemandCell.{DemandCell}
+use Rattle.dta_model.specs.declared.trip.TheConstants.{MOST_TRIPS}
+use Rattle.gmns_tables.specs.Links.{link_verdict}
+use Rattle.gmns_tables.specs.Nodes.{node_verdict}
+use Rattle.gmns_tables.specs.RowsWithWindows.{AreTurnRows, rows_of}
+use Rattle.gmns_tables.specs.declared.with_windows.WithWindows.{WithWindows}
+use Rattle.gmns_tables.proofs.NetFacts.{no-turns}
+use Rattle.demand.specs.DemandRows.{AreDemandCells, demand_verdict}
+use Rattle.vehicle_release.specs.Limits.{IsWithin}
+use Rattle.route_flows.specs.Starts.{AreStartRows}
+use Rattle.route_flows.specs.StartTable.{start_verdict}
+use Rattle.audit.specs.Agents.{agents_verdict}
+use Rattle.skims.specs.GivenTimes.{AreRowsOf}
+use Rattle.skims.specs.TimesTable.{times_verdict}
+use Rattle.skims.specs.declared.time_rows.TimeRow.{TimeRow}
+use Rattle.sweep.specs.Scales.{AreAllWithin, scaled}
+use Rattle.dta_words.specs.Grammar.{settings_of}
+use Rattle.dta_words.specs.Ranges.{AreSettings}
+use Rattle.dta_words.specs.declared.command.Command.{Command}
+use Rattle.dta_words.specs.declared.command.Command.TheVariants as command
+use Rattle.dta_words.specs.declared.command.Settings.{Settings}
+use Rattle.dta_run.specs.Jobs.{IsJob, IsSweepJob, JobRows, TakesTimes, job_of, released_cells, swept_cells, tables_of}
+use Rattle.dta_run.specs.Tables.{TableRows, loading_tables, net_of, no_rows, road_rows, start_tables, turns_of, with_agents, with_table}
+use Rattle.dta_run.specs.Verdict.{Accepted, Refused, Verdict, after_table, first_above, texts_of, verdict, verdict_by, verdict_on, verdict_on_rows}
+use Rattle.dta_run.specs.Verdict.{verdict_on_scales, verdict_on_scenario, verdict_on_sizes, verdict_on_trips}
+use Rattle.dta_run.proofs.JobFacts.{no-start-rows}
+use Rattle.dta_run.proofs.TableFacts.{joined-net}
+use Rattle.reference.specs.Laws.{IsAccepted}
+use Rattle.reference.proofs.Kept.{next_ok, same_Ok}
+use Rattle.reference.proofs.NetTables.{are-between, are-links, are-nodes, are-turning, are-turns}
+use Rattle.reference.proofs.OtherTables.{are-cells, are-starts, are-times}
+use Rattle.reference.proofs.SettingsInRange.{settings-in-range}
+use Rattle.reference.proofs.SweepFacts.{trips-below}
+
+-- ---- the vehicles of a demand
+
+-- where no number of a range is found, none passes
+find-none : (p : ℕ → Bool) (a n : ℕ) → find p (range_with_len a n) ≡ None → (i : ℕ) → a ≤ i → i < a + n → p i ≡ false
+find-none p a zero e i low high = absurd (omega arith)
+find-none p a (suc n) e i low high = elim (p a) as (λ b. p a ≡ b → p i ≡ false) [
+  | true ↦ λ here. absurd (let k = rw here at e in cc)
+  | false ↦ λ here. elim (nat_le i a) as (λ b. nat_le i a ≡ b → p i ≡ false) [
+    | true ↦ λ first. let is = leb-true i a first in let same : a ≡ i = omega arith in subst (λ k. p k ≡ false) same here
+    | false ↦ λ later. let past : a < i = search (rules, later) in find-none p (a + 1) n (rw here at e) i (omega arith) (omega arith)
+  ] refl
+] refl
+
+-- where no row is the first with which the vehicles are too many, they are within the limit
+within : (cells : List DemandCell) → first_above cells ≡ None → IsWithin cells
+within cells e row below =
+    ltb-false MOST_TRIPS (vehicles_before cells (row + 1))
+    (find-none (λ row. nat_lt MOST_TRIPS (vehicles_before cells (row + 1))) 0 (length cells) e row (omega arith) (omega arith))
+
+-- no rows make no vehicles
+none-within : IsWithin []
+none-within row below = absurd (omega arith)
+
+-- ---- verdicts that accept
+
+module _ (given : Settings) (job : JobRows) where
+  abbrev Accepts : Verdict → Type 0
+  Accepts v = v ≡ Accepted given job
+
+  -- of two verdicts of which the second refuses, the first was made
+  passed : (b : Bool) (v : Verdict) (r : Refusal) → Accepts (cond b v (Refused r)) → (b ≡ true) × Accepts v
+  passed true v r e = (refl, e)
+  passed false v r e = absurd cc
+
+  -- a table was accepted, and then what is next accepts
+  after : {P : Type 0} (r : Result TableRows TableFault) (next : TableRows → Verdict) → Accepts (after_table r next)
+      → ((more : TableRows) → r ≡ Ok more → Accepts (next more) → P) → P
+  after (Ok rows) next e then = then rows refl e
+  after (Err fault) next e then = absurd cc
+
+  on-trips : (s : Settings) (rows : TableRows) (o : Option ℕ) → Accepts (verdict_on_trips s rows o) → (o ≡ None) × Accepts (Accepted s (job_of s rows))
+  on-trips s rows None e = (refl, e)
+  on-trips s rows (Some row) e = absurd cc
+
+  on-sizes : (s : Settings) (rows : TableRows) → Accepts (verdict_on_sizes s rows) → IsWithin rows.demand_cells × Accepts (Accepted s (job_of s rows))
+  on-sizes s rows e =
+      let is = on-trips s rows (first_above rows.demand_cells) (passed _ _ _ e).1 in
+      (within rows.demand_cells is.0, is.1)
+
+  on-scenario : (cells : List DemandCell) (o : Option ℕ) (next : Verdict) → Accepts (verdict_on_scenario cells o next) → (o ≡ None) × Accepts next
+  on-scenario cells None next e = (refl, e)
+  on-scenario cells (Some row) next e = absurd cc
+
+  on-scales : (cells : List DemandCell) (scales : List ℕ) (next : Verdict) → Accepts (verdict_on_scales cells scales next) → AreAllWithin cells scales × Accepts next
+  on-scales cells [] next e = (All-nil (λ scale. IsWithin (scaled scale cells)), e)
+  on-scales cells (scale ∷ scales) next e =
+      let here = on-scenario (scaled scale cells) (first_above (scaled scale cells)) (verdict_on_scales cells scales next) e in
+      let there = on-scales cells scales next here.1 in
+      (All-cons (λ scale. IsWithin (scaled scale cells)) scale scales (within (scaled scale cells) here.0) there.0, there.1)
+
+-- ---- the job of accepted tables
+
+module _ (s : Settings) (in_range : AreSettings s) (given : Settings) (job : JobRows) (c : Command) (asks : s.command ≡ c) where
+  -- what is true of the rows of all tables
+  record AreSound (rows : TableRows) : Type 0 where
+    net : IsNet (net_of rows)
+    few : IsWithin (released_cells c rows.demand_cells)
+    start : AreStartRows rows.start
+    times : TakesTimes c → AreRowsOf (net_of rows) s.bucket s.horizon rows.times
+    sweep : c ≡ command.Sweep → IsSweepJob s (job_of s rows)
+
+  accepted : (rows : TableRows) → AreSound rows → Accepts given job (Accepted s (job_of s rows)) → IsAccepted given job
+  accepted rows sound e =
+      let same : s ≡ given = cc in
+      let made : job_of s rows ≡ job = cc in
+      let is : IsJob s (job_of s rows) = record {
+        net = sound.net;
+        trips = trips-below s in_range (released_cells s.command rows.demand_cells) (subst (λ (k : Command). IsWithin (released_cells k rows.demand_cells)) (sym asks) sound.few);
+        start = sound.start;
+        times = subst (λ (k : Command). TakesTimes k → AreRowsOf (net_of rows) s.bucket s.horizon rows.times) (sym asks) sound.times;
+        sweep = λ k. sound.sweep (sym asks ∙ k);
+      } in
+      subst (λ (g : Settings). IsAccepted g job) same (record { in_range = in_range; sound = subst (IsJob s) made is })
+
+  module _ (texts : Table → List ℕ) (next : TableRows → Verdict) where
+    abbrev Says : List Table → TableRows → Type 0
+    Says tables rows = Accepts given job (verdict_on s tables texts rows next)
+
+    -- one table, and then what is next
+    one-table : {X P : Type 0} (t : Table) (others : List Table) (rows : TableRows) (told : Result X TableFault) (with : X → TableRows)
+        → with_table s rows t (texts t) ≡ then_with told (λ x. Ok (with x)) → Says (t ∷ others) rows
+        → ((x : X) → told ≡ Ok x → Says others (with x) → P) → P
+    one-table t others rows told with is e then =
+        after given job (with_table s rows t (texts t)) (λ more. verdict_on s others texts more next) (passed given job (nat_le (length (texts t)) MOST_TABLE_BYTES) _ _ e).1
+        (λ more accepted e1.
+        next_ok told (λ x. Ok (with x)) more (sym is ∙ accepted) (λ x x-is same.
+        then x x-is (subst (λ (r : TableRows). Says others r) (sym (same_Ok _ _ same)) e1)))
+
+    -- nodes and links
+    roads : {P : Type 0} (others : List Table) → Says (table.Node ∷ table.Link ∷ others) no_rows
+        → ((nodes : List NodeRow) (links : List (WithWindows LinkRow)) → IsNet (net_of (road_rows nodes links)) → Says others (road_rows nodes links) → P) → P
+    roads others e then =
+        one-table table.Node (table.Link ∷ others) no_rows (node_verdict (records (texts table.Node))) (λ nodes. road_rows nodes []) refl e (λ nodes nodes-are e1.
+        one-table table.Link others (road_rows nodes []) (link_verdict nodes s.units (records (texts table.Link))) (λ links. road_rows nodes links) refl e1 (λ links links-are e2.
+        then nodes links
+        (joined-net nodes links [] (are-nodes _ nodes nodes-are) (are-links nodes s.units _ links links-are) (are-between nodes s.units _ links links-are) no-turns (All-nil _))
+        e2))
+
+    turns-are : (rows : TableRows) (bytes : List ℕ) (turns : List (WithWindows TurnRow)) → turns_of s rows bytes ≡ Ok turns
+        → AreTurnRows turns × All (IsTurning (rows_of rows.links)) (rows_of turns)
+    turns-are rows [] turns e = subst (λ (ts : List (WithWindows TurnRow)). AreTurnRows ts × All (IsTurning (rows_of rows.links)) (rows_of ts)) (same_Ok _ _ e) (no-turns, All-nil _)
+    turns-are rows (b ∷ bytes) turns e =
+        let some = in_range.step.0 in
+        (are-turns rows.nodes (rows_of rows.links) s.units some _ turns e, are-turning rows.nodes (rows_of rows.links) s.units some _ turns e)
+
+    with-turns : {P : Type 0} (others : List Table) (rows : TableRows) → IsNet (net_of rows) → Says (table.Movement ∷ others) rows
+        → ((turns : List (WithWindows TurnRow)) → IsNet (net_of (record rows { turns = turns })) → Says others (record rows { turns = turns }) → P) → P
+    with-turns others rows net e then =
+        one-table table.Movement others rows (turns_of s rows (texts table.Movement)) (λ turns. record rows { turns = turns }) refl e (λ turns is e1.
+        let are = turns-are rows (texts table.Movement) turns is in
+        then turns (record {
+          nodes = net.nodes;
+          links = net.links;
+          between = net.between;
+          turns = are.0.rows;
+          turning = are.1;
+          link_windows = net.link_windows;
+          turn_windows = are.0.windows;
+          of_links = net.of_links;
+          of_turns = (let a = length-map turns (λ (turn : WithWindows TurnRow). turn.windows) in let b = length-map turns (λ (turn : WithWindows TurnRow). turn.row) in omega (arith, a, b));
+        }) e1)
+
+    with-cells : {P : Type 0} (others : List Table) (rows : TableRows) → Says (table.Demand ∷ others) rows
+        → ((cells : List DemandCell) → AreDemandCells cells → Says others (record rows { demand_cells = cells }) → P) → P
+    with-cells others rows e then =
+        one-table table.Demand others rows (demand_verdict (records (texts table.Demand))) (λ cells. record rows { demand_cells = cells }) refl e (λ cells is e1.
+        then cells (are-cells _ cells is) e1)
+
+    with-times : {P : Type 0} (others : List Table) (rows : TableRows) → Says (table.Times ∷ others) rows
+        → ((times : List TimeRow) → AreRowsOf (net_of rows) s.bucket s.horizon times → Says others (record rows { times = times }) → P) → P
+    with-times others rows e then =
+        one-table table.Times others rows (times_verdict (net_of rows) s.bucket s.horizon (records (texts table.Times))) (λ times. record rows { times = times }) refl e (λ times is e1.
+        then times (are-times (net_of rows) s.bucket s.horizon _ times in_range.bucket.0 in_range.horizon.0 is) e1)
+
+-- ---- all commands
+
+module _ (s : Settings) (in_range : AreSettings s) (given : Settings) (job : JobRows) (texts : Table → List ℕ) where
+  -- what the tables of a command come to
+  abbrev Comes : Command → Type 0
+  Comes c = Accepts given job (verdict_on s (tables_of c s.start) texts no_rows (verdict_on_rows c s))
+
+  free : s.command ≡ command.Freeflow → Comes command.Freeflow → IsAccepted given job
+  free asks e =
+      roads s in_range given job command.Freeflow asks texts (verdict_on_rows command.Freeflow s) [] e (λ nodes links net e1.
+      accepted s in_range given job command.Freeflow asks (road_rows nodes links) (record {
+        net = net;
+        few = none-within;
+        start = no-start-rows;
+        times = λ k. absurd k;
+        sweep = λ k. absurd cc;
+      }) e1)
+
+  skim : s.command ≡ command.Skim → Comes command.Skim → IsAccepted given job
+  skim asks e =
+      let next = verdict_on_rows command.Skim s in
+      roads s in_range given job command.Skim asks texts next (table.Movement ∷ table.Times ∷ []) e (λ nodes links net e1.
+      with-turns s in_range given job command.Skim asks texts next (table.Times ∷ []) (road_rows nodes links) net e1 (λ turns whole e2.
+      with-times s in_range given job command.Skim asks texts next [] (record (road_rows nodes links) { turns = turns }) e2 (λ times are e3.
+      accepted s in_range given job command.Skim asks (record (road_rows nodes links) { turns = turns; times = times }) (record {
+        net = whole;
+        few = none-within;
+        start = no-start-rows;
+        times = λ k. are;
+        sweep = λ k. absurd cc;
+      }) (passed given job _ _ _ (passed given job _ _ _ e3).1).1)))
+
+  -- what makes the rows of a command that loads once
+  record Loads (c : Command) : Type 0 where
+    none_swept : c ≡ command.Sweep → ⊥
+    untimed : TakesTimes c → ⊥
+    all_released : (cells : List DemandCell) → released_cells c cells ≡ cells
+    starts : (rows : TableRows) (bytes : List ℕ) → with_agents c rows bytes ≡ then_with (start_verdict (records bytes)) (λ start. Ok (record rows { start = start }))
+
+  loading : (c : Command) → s.command ≡ c → Loads c → Accepts given job (verdict_on s (loading_tables s.start) texts no_rows (verdict_on_sizes s)) → IsAccepted given job
+  loading c asks loads e =
+      let next = verdict_on_sizes s in
+      roads s in_range given job c asks texts next (table.Movement ∷ table.Demand ∷ start_tables s.start) e (λ nodes links net e1.
+      with-turns s in_range given job c asks texts next (table.Demand ∷ start_tables s.start) (road_rows nodes links) net e1 (λ turns whole e2.
+      with-cells s in_range given job c asks texts next (start_tables s.start) (record (road_rows nodes links) { turns = turns }) e2 (λ cells cells-are e3.
+      rest nodes links turns cells whole s.start e3)))
+    where
+      finish : (rows : TableRows) → IsNet (net_of rows) → AreStartRows rows.start → Accepts given job (verdict_on_sizes s rows) → IsAccepted given job
+      finish rows net start e =
+          let sized = on-sizes given job s rows e in
+          accepted s in_range given job c asks rows (record {
+            net = net;
+            few = subst IsWithin (sym (loads.all_released rows.demand_cells)) sized.0;
+            start = start;
+            times = λ k. absurd (loads.untimed k);
+            sweep = λ k. absurd (loads.none_swept k);
+          }) sized.1
+
+      rest : (nodes : List NodeRow) (links : List (WithWindows LinkRow)) (turns : List (WithWindows TurnRow)) (cells : List DemandCell)
+          → IsNet (net_of (record (road_rows nodes links) { turns = turns })) → (start : Bool)
+          → Accepts given job (verdict_on s (start_tables start) texts (record (road_rows nodes links) { turns = turns; demand_cells = cells }) (verdict_on_sizes s)) → IsAccepted given job
+      rest nodes links turns cells whole false e = finish (record (road_rows nodes links) { turns = turns; demand_cells = cells }) whole no-start-rows e
+      rest nodes links turns cells whole true e =
+          let rows : TableRows = record (road_rows nodes links) { turns = turns; demand_cells = cells } in
+          one-table s in_range given job c asks texts (verdict_on_sizes s) table.Start [] rows (start_verdict (records (texts table.Start))) (λ start. record rows { start = start })
+          (ap (λ (k : Command). with_agents k rows (texts table.Start)) asks ∙ loads.starts rows (texts table.Start)) e (λ start is e1.
+          finish (record rows { start = start }) whole (are-starts _ start is) e1)
+
+  sweep : s.command ≡ command.Sweep → Comes command.Sweep → IsAccepted given job
+  sweep asks e =
+      let next = verdict_on_rows command.Sweep s in
+      roads s in_range given job command.Sweep asks texts next (table.Movement ∷ table.Demand ∷ []) e (λ nodes links net e1.
+      with-turns s in_range given job command.Sweep asks texts next (table.Demand ∷ []) (road_rows nodes links) net e1 (λ turns whole e2.
+      with-cells s in_range given job command.Sweep asks texts next [] (record (road_rows nodes links) { turns = turns }) e2 (λ cells cells-are e3.
+      let rows : TableRows = record (road_rows nodes links) { turns = turns; demand_cells = cells } in
+      let sized = passed given job _ _ _ e3 in
+      let scaled = on-scales given job cells s.scales (Accepted s (job_of s rows)) sized.1 in
+      let same : swept_cells s.command cells ≡ cells = ap (λ (k : Command). swept_cells k cells) asks in
+      accepted s in_range given job command.Sweep asks rows (record {
+        net = whole;
+        few = none-within;
+        start = no-start-rows;
+        times = λ k. absurd k;
+        sweep = λ k. record {
+          cells = subst AreDemandCells (sym same) cells-are;
+          few = rw (length-map links (λ (link : WithWindows LinkRow). link.row)) (leb-true _ _ sized.0);
+          within = subst (λ (cs : List DemandCell). AreAllWithin cs s.scales) (sym same) scaled.0;
+        };
+      }) scaled.1)))
+
+  audit : s.command ≡ command.Audit → Comes command.Audit → IsAccepted given job
+  audit asks e =
+      let next = verdict_on_rows command.Audit s in
+      roads s in_range given job command.Audit asks texts next (table.Movement ∷ table.Demand ∷ table.Start ∷ table.Times ∷ []) e (λ nodes links net e1.
+      with-turns s in_range given job command.Audit asks texts next (table.Demand ∷ table.Start ∷ table.Times ∷ []) (road_rows nodes links) net e1 (λ turns whole e2.
+      with-cells s in_range given job command.Audit asks texts next (table.Start ∷ table.Times ∷ []) (record (road_rows nodes links) { turns = turns }) e2 (λ cells cells-are e3.
+      let rows : TableRows = record (road_rows nodes links) { turns = turns; demand_cells = cells } in
+      one-table s in_range given job command.Audit asks texts next table.Start (table.Times ∷ []) rows (agents_verdict (records (texts table.Start))) (λ agents. record rows { agents = agents })
+      (ap (λ (k : Command). with_agents k rows (texts table.Start)) asks) e3 (λ agents _ e4.
+      with-times s in_range given job command.Audit asks texts next [] (record rows { agents = agents }) e4 (λ times are e5.
+      let all : TableRows = record rows { agents = agents; times = times } in
+      let sized = on-sizes given job s all e5 in
+      accepted s in_range given job command.Audit asks all (record {
+        net = whole;
+        few = sized.0;
+        start = no-start-rows;
+        times = λ k. are;
+        sweep = λ k. absurd cc;
+      }) sized.1)))))
+
+by-command : (c : Command) (s : Settings) → s.command ≡ c → AreSettings s → (texts : Table → List ℕ) (given : Settings) (job : JobRows)
+    → Accepts given job (verdict_on s (tables_of c s.start) (texts_of c texts) no_rows (verdict_on_rows c s)) → IsAccepted given job
+by-command command.Freeflow s asks in_range texts given job e = free s in_range given job texts asks e
+by-command command.Assign s asks in_range texts given job e =
+    loading s in_range given job texts command.Assign asks (record { none_swept = λ k. absurd cc; untimed = λ k. k; all_released = λ cells. refl; starts = λ rows bytes. refl }) e
+by-command (command.Demo n) s asks in_range texts given job e =
+    loading s in_range given job (texts_of (command.Demo n) texts) (command.Demo n) asks
+    (record { none_swept = λ k. absurd cc; untimed = λ k. k; all_released = λ cells. refl; starts = λ rows bytes. refl }) e
+by-command command.Skim s asks in_range texts given job e = skim s in_range given job texts asks e
+by-command command.Counts s asks in_range texts given job e =
+    loading s in_range given job texts command.Counts asks (record { none_swept = λ k. absurd cc; untimed = λ k. k; all_released = λ cells. refl; starts = λ rows bytes. refl }) e
+by-command command.Sweep s asks in_range texts given job e = sweep s in_range given job texts asks e
+by-command command.Audit s asks in_range texts given job e = audit s in_range given job texts asks e
+
+by-settings : (o : Option Settings) (texts : Table → List ℕ) (given : Settings) (job : JobRows) → ((s : Settings) → o ≡ Some s → AreSettings s)
+    → verdict_by o texts ≡ Accepted given job → IsAccepted given job
+by-settings None texts given job in_range e = absurd cc
+by-settings (Some s) texts given job in_range e = by-command s.command s refl (in_range s refl) texts given job e
+
+pub accepted_are_sound : (words : List (List ℕ)) (texts : Table → List ℕ) (s : Settings) (job : JobRows) → verdict words texts ≡ Accepted s job → IsAccepted s job
+accepted_are_sound words texts s job e = by-settings (settings_of words) texts s job (λ given is. settings-in-range words given is) e
