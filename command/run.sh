@@ -145,6 +145,14 @@ prepare_start() {
     esac
 }
 
+# Where memory is bounded all threads share one region of it. Else the C library gives each its own,
+# while there is room for them, and the labels of shortest paths may lack it. It slows runs down in
+# which threads make the routes of many vehicles, so it isn't done where memory isn't bounded.
+share_memory() {
+    [ "$(ulimit -v)" != unlimited ] || return
+    export MALLOC_ARENA_MAX="${MALLOC_ARENA_MAX-1}"
+}
+
 # Says who has the lock: the program itself, under its process id.
 tell_holder() {
     process=$(awk -v end=":$(stat -c %i .)" '
@@ -334,6 +342,7 @@ run_command() {
     tell_outputs "${1:-}"
     # So that a file that grows past ulimit -f ends the run with status 5, and not by a signal.
     trap '' XFSZ
+    share_memory
     before=$(marks "$outputs")
     run_program "$@"
     if (trap '' PIPE; printf '%s' "$report") 2>/dev/null || [ "$status" -ne 0 ]; then
