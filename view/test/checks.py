@@ -28,7 +28,7 @@ def check_totals(page, told, column=1):
     hours = told.seconds / 3600
     for name, value in (
         ('Links', len(told.links)),
-        ('Nodes', told.nodes),
+        ('Nodes', len(told.nodes)),
         ('Vehicles', told.vehicles),
         ('arrived', told.statuses['arrived']),
         ('running at the end', told.statuses['running']),
@@ -105,7 +105,7 @@ def check_rankings(page, told):
     near(first[4], told.worst[worst][0] / told.free[worst], 'its greatest delay')
     near(first[5], told.worst[worst][0] * told.seconds / 60, 'its greatest minutes')
     equal(first[6], told.clock(told.worst[worst][1]), 'when these begin')
-    near(first[7], told.blocked_steps(worst) * told.seconds / 60, 'the minutes of blocking')
+    near(first[7], told.minutes(len(told.blocked(worst))), 'the minutes of blocking')
     page.choose('[data-table=links] select', 'waiting')
     longest = max(told.waits, key=lambda link: told.waits[link])
     equal(page.rows('[data-table=links]')[0][0], longest, 'the link that is waited for most')
@@ -129,3 +129,65 @@ def check_worst(page, told):
     equal(int(number(on_it)), told.on_link(worst, page.step()), 'the vehicles on it')
     page.keys(Keys.ESCAPE)
     check(not page.find('#link').is_displayed(), 'Escape closes the link')
+
+
+def share(count, whole):
+    return f'{count:,} of {whole:,} ({100 * count / whole:.1f} %)'
+
+
+def named(names):
+    """The first eight, and how many more there are."""
+    more = f' and {len(names) - 8:,} more' if len(names) > 8 else ''
+    return ', '.join(names[:8]) + more
+
+
+def sentences(told):
+    """What the list of checks says: whether there is something to look at, and how it begins."""
+    links, statuses = len(told.links), told.statuses
+    homeless, volumes = told.homeless(), told.volumes()
+    pairs = [' → '.join(pair) for pair, _ in told.no_way.most_common()]
+    closed = sum(told.capacity(link) == 0 for link in told.links)
+    short = sum(steps == 1 for steps in told.free.values())
+    small = sum(told.storage(link) < 3 for link in told.links)
+    step, most = max(told.departures.items(), key=lambda one: (one[1], -one[0]))
+    tiny, left = sum(one < 2 for one in volumes), statuses['running'] + statuses['waiting']
+    return {
+        'zones': (homeless, (
+            f'{len(homeless):,} zones of demand.csv have no node: {named(homeless)}.'
+            if homeless else 'All zones of demand.csv have a node.'
+        )),
+        'ways': (pairs, (
+            f'{len(pairs):,} pairs of zones have no way, with {told.no_way.total():,} vehicles: '
+            f'{named(pairs)}.' if pairs else 'All pairs of zones have a way.'
+        )),
+        'closed': (closed, (
+            f'{share(closed, links)} links have a capacity of 0'
+            if closed else 'All links have a capacity.'
+        )),
+        'short': (short, f'{share(short, links)} links take one step at free flow'),
+        'small': (small, f'{share(small, links)} links store fewer than three vehicles'),
+        'departures': (most >= max(10, told.vehicles / 20), (
+            f'Most vehicles leave in step {step}, at {told.clock(step)}: '
+            f'{share(most, told.vehicles)}.'
+            + (f' {share(tiny, len(volumes))} rows of demand.csv are of less' if tiny else '')
+        )),
+        'unfinished': (left, (
+            f'{share(left, left + statuses["arrived"])} trips are unfinished at the horizon: '
+            f'{statuses["running"]:,} on links, {statuses["waiting"]:,} at their origins.'
+            if left else 'All vehicles that have a way arrive.'
+        )),
+        'jam': jam_sentence(told),
+    }
+
+
+def jam_sentence(told):
+    starts, blocked = told.jam_starts()
+    if not blocked:
+        return False, 'No link is blocked; queues move wherever there are any.'
+    first = sorted((starts or blocked).items(), key=lambda one: one[1])
+    return True, (
+        f'Links are blocked from {told.clock(min(blocked.values()))} on. '
+        + (f'The jam begins at {len(starts):,} of them: ' if starts else
+           'They wait for each other: ')
+        + f'{named([f"{link} ({told.clock(step)})" for link, step in first])}.'
+    )

@@ -6,6 +6,7 @@ import os
 import statistics
 import subprocess
 
+import faults
 from checks import (
     check,
     check_classes,
@@ -16,13 +17,18 @@ from checks import (
     facts_of,
     labels,
     near,
+    sentences,
 )
-import faults
-from tables import Told
+from tables import COLUMNS, Told, points_of
 
-MEASURES = (
-    'delay', 'lost', 'on', 'flow', 'load', 'speed', 'minutes', 'waiting', 'storage', 'free'
-)
+
+def exported(path):
+    """Each link of a file for QGIS: its values by column, and its points."""
+    with open(path, encoding='utf-8') as text:
+        if path.endswith('.csv'):
+            return [(row, points_of(row['geometry'])) for row in csv.DictReader(text)]
+        features = json.load(text)['features']
+    return [(one['properties'], one['geometry']['coordinates']) for one in features]
 
 
 class PlannerTests:
@@ -46,7 +52,7 @@ class PlannerTests:
         rows = {row[0]: row[1] for row in page.rows('#totals')}
         equal(rows['Links that are blocked at the end'], str(blocked), 'blocked at the end')
         page.choose('[data-table=links] select', 'blocked')
-        longest = max(told.blocked_steps(link) for link in told.links)
+        longest = max(len(told.blocked(link)) for link in told.links)
         near(page.rows('[data-table=links]')[0][7], told.minutes(longest), 'longest blocking')
         page.choose('[data-table=links] select', 'lost')
         page.click('#worst-time')
@@ -75,19 +81,25 @@ class PlannerTests:
         equal(facts(page)['entered'], 'nobody from 01:55 to 02:00', 'its panel')
 
     def finding_moves_the_map(self):
-        page = self.page
         self.open_run('sioux_falls')
-        for name in ('1', '76'):
+        self.check_moves('1', '76')
+
+    def check_moves(self, *links):
+        """The map goes to each link that is looked for, and to the worst one."""
+        page = self.page
+        for link in links:
             self.zoom_in()
-            page.choose('#find', name)
-            x, y = page.run('return Page.placeOf(arguments[0])', name)
-            size = page.find('.map canvas').size
-            check(0 < x < size['width'] and 0 < y < size['height'], f'link {name} is off the map')
+            page.choose('#find', link)
+            equal(page.text('#found'), f'link {link}', 'the link that is found')
+            self.check_in_sight(link)
         self.zoom_in()
         page.click('#worst-link')
-        worst = page.text('#link h2').removeprefix('Link ')
-        x, y = page.run('return Page.placeOf(arguments[0])', worst)
-        check(0 < x < size['width'] and 0 < y < size['height'], 'the worst link is off the map')
+        self.check_in_sight(page.text('#link h2').removeprefix('Link '))
+
+    def check_in_sight(self, link):
+        x, y = self.page.run('return Page.placeOf(arguments[0])', link)
+        size = self.page.find('.map canvas').size
+        check(0 < x < size['width'] and 0 < y < size['height'], f'link {link} is off the map')
 
     def zoom_in(self):
         self.page.run(
@@ -132,7 +144,7 @@ class PlannerTests:
             f'{told.clock(570, 25200)} (step 570, bucket 07:55 to 08:00)',
             'the time of day',
         )
-        for measure in MEASURES:
+        for measure in COLUMNS.values():
             check_classes(page, told, measure)
         page.choose('#find', '52')
         shown = facts(page)
@@ -155,11 +167,12 @@ class PlannerTests:
         pairs, before, behind = told.over(link)
         vehicles = sum(pairs.values())
         check(f'{vehicles:,} vehicles entered it' in page.text('#trips'), f'who uses {link}')
-        shown = {(row[0], row[1]): int(row[2]) for row in page.rows('#trips table')}
-        check(len(shown) == min(len(pairs), 10), f'the pairs over {link}')
-        for pair, count in shown.items():
-            equal(count, pairs[pair], f'the vehicles of {pair} over {link}')
-        equal(sorted(shown.values()), sorted(pairs.values())[-10:], f'the most over {link}')
+        shown = {(row[0], row[1]): row[2:] for row in page.rows('#trips table')}
+        for pair, (count, percent) in shown.items():
+            equal(int(count), pairs[pair], f'the vehicles of {pair} over {link}')
+            near(percent, 100 * pairs[pair] / vehicles, f'the share of {pair} over {link}')
+        counts = sorted(pairs.values(), reverse=True)[:10]
+        equal([int(count) for count, _ in shown.values()], counts, f'the most over {link}')
         drawn = page.run('return Page.traced()')
         for side, counts in (('before', before), ('behind', behind)):
             words = {
@@ -219,21 +232,22 @@ class PlannerTests:
             check(row[1:] in wanted, f'the route {row} is none of {wanted}')
 
     def routes_and_one_vehicle(self):
-        page = self.page
-        for name in ('sioux_falls', 'busy'):
+        for name, pair in (('sioux_falls', ('13', '7')), ('busy', ('1', '3'))):
             self.open_run(name)
             told = Told(self.path(name))
-            self.check_routes(told, *(('13', '7') if name == 'sioux_falls' else ('1', '3')))
-            row, links, entries = max(told.agents(), key=lambda one: len(one[1]))
-            self.check_vehicle(told, row, links, entries)
-            if name == 'busy':
-                row, links, entries = next(
-                    one for one in told.agents() if one[0]['status'] == 'running'
-                )
-                self.check_vehicle(told, row, links, entries)
-        page.run('document.querySelector("#from-zone").value = "77"')
-        page.click('#routes')
-        check('No vehicle has a route from zone 77' in page.text('#trips'), 'no such zone')
+            self.check_routes(told, *pair)
+            self.check_vehicles(told)
+        self.page.run('document.querySelector("#from-zone").value = "77"')
+        self.page.click('#routes')
+        said = self.page.text('#trips')
+        check('No vehicle has a route from zone 77' in said, 'no such zone')
+
+    def check_vehicles(self, told):
+        """The longest way, and one of a vehicle of each status."""
+        by_status = {one[0]['status']: one for one in told.agents()}
+        longest = max(told.agents(), key=lambda one: len(one[1]))
+        for one in (longest, *by_status.values()):
+            self.check_vehicle(told, *one)
 
     def check_vehicle(self, told, row, links, entries):
         page, name = self.page, row['agent_id']
@@ -260,45 +274,22 @@ class PlannerTests:
         )
 
     def check_the_checks(self, told, name):
-        """Those that follow from any tables of a run."""
+        """Each sentence of the list, and whether it is one to look at."""
         said = self.checks_of(name)
-        short = sum(steps == 1 for steps in told.free.values())
-        small = sum(told.storage(link) < 3 for link in told.links)
-        closed = sum(told.capacity(link) == 0 for link in told.links)
-        for key, count in (('short', short), ('small', small), ('closed', closed)):
-            if key == 'closed' and count == 0:
-                equal(said[key], 'fine: All links have a capacity.', key)
-                continue
-            words = f'{count:,} of {len(told.links):,} ({100 * count / len(told.links):.1f} %)'
-            check(words in said[key], f'{key}: "{said[key]}" lacks {words}')
-        counts = told.departures()
-        most = max(counts.values())
-        words = f'{most:,} of {told.vehicles:,} ({100 * most / told.vehicles:.1f} %)'
-        check(words in said['departures'], f'"{said["departures"]}" lacks {words}')
-        left = told.statuses['running'] + told.statuses['waiting']
-        if left > 0:
-            words = f'{left:,} of {left + told.statuses["arrived"]:,} '
-            check(words in said['unfinished'], f'"{said["unfinished"]}" lacks {words}')
-        else:
-            check(said['unfinished'].startswith('fine'), said['unfinished'])
+        for key, (is_found, words) in sentences(told).items():
+            words = f'{"look" if is_found else "fine"}: {words}'
+            check(said[key].startswith(words), f'{key}: "{said[key]}" isn\'t "{words}"')
         return said
 
     def checks_are_told(self):
-        self.open_run('sioux_falls')
-        self.check_the_checks(Told(self.path('sioux_falls')), 'sioux_falls')
-        self.open_run('busy')
-        told = Told(self.path('busy'), storage_binds=True)
-        said = self.check_the_checks(told, 'busy')
-        first = min(told.first_blocked(link) or told.horizon for link in told.links)
-        check(f'blocked from {told.clock(first)} on' in said['jam'], said['jam'])
-        equal(told.jam_starts(), {}, 'where the ring begins')
-        check('They wait for each other: 12 ' in said['jam'], said['jam'])
-        self.open_run('town')
-        told = Told(self.path('town'), storage_binds=True)
-        said, starts = self.check_the_checks(told, 'town'), told.jam_starts()
-        check(f'begins at {len(starts)} of them' in said['jam'], f'{said["jam"]}: {starts}')
-        for link, step in sorted(starts.items(), key=lambda one: one[1])[:1]:
-            check(f'{link} ({told.clock(step)})' in said['jam'], f'{said["jam"]}: {starts}')
+        for name, words in (
+            ('sioux_falls', ''),
+            ('busy', 'They wait for each other: 12 '),
+            ('town', 'The jam begins at '),
+        ):
+            self.open_run(name)
+            told = Told(self.path(name), storage_binds=name != 'sioux_falls')
+            check(words in self.check_the_checks(told, name)['jam'], f'the jam of {name}')
         self.page.open()
         self.page.drop([faults.make(self.folder, 'to_check', faults.TO_CHECK)])
         self.page.wait_for_runs(['to_check'])
@@ -308,58 +299,55 @@ class PlannerTests:
 
     def things_are_found(self):
         """By name, node and zone; the scale bar tells true distances."""
-        page, path = self.page, self.path('country')
         self.open_run('country')
-        with open(os.path.join(path, 'node.csv'), encoding='utf-8') as table:
-            nodes = {row['node_id']: row for row in csv.DictReader(table)}
-        with open(os.path.join(path, 'link.csv'), encoding='utf-8') as table:
-            links = {row['link_id']: row for row in csv.DictReader(table)}
-        name = next(row['name'] for row in links.values() if row['name'].startswith('A'))
-        named = [link for link, row in links.items() if name in row['name']]
-        page.choose('#find', f'name {name}')
-        equal(page.text('#found').split(', ')[1], f'{len(named)} links', f'the links of {name}')
-        equal(page.text('#link h2'), f'Link {named[0]}', 'the first of them')
-        equal(facts(page)['name'], links[named[0]]['name'], 'its name in the panel')
-        zone = next(row['zone_id'] for row in nodes.values() if row['zone_id'] != '')
+        told = Told(self.path('country'))
+        motorway = next(one for one, row in told.links.items() if row['name'].startswith('A'))
+        self.check_found(told, motorway)
+        self.check_scale(told, '1', '3456')
+
+    def check_found(self, told, link):
+        """A zone, the node where a link begins, the links of its name, and its bends."""
+        page, row = self.page, told.links[link]
+        zone = next(one['zone_id'] for one in reversed(told.nodes.values()) if one['zone_id'])
         page.choose('#find', f'zone {zone}')
         equal(page.text('#found'), f'zone {zone}, 1 node', 'the zone')
         check(self.pixels((11, 111, 194)) > 20, 'the zone has no ring')
-        page.choose('#find', 'node 1057')
-        check(page.text('#found').startswith('node 1057'), 'the node')
+        node = row['from_node_id']
+        its_zone = told.nodes[node]['zone_id']
+        page.choose('#find', f'node {node}')
+        words = f'node {node}' + (f' of zone {its_zone}' if its_zone else '')
+        equal(page.text('#found'), words, 'the node')
+        named_so = [one for one in told.links if row['name'] in told.links[one]['name']]
+        first = told.links[named_so[0]]['name']
+        page.choose('#find', f'name {row["name"]}')
+        equal(page.text('#found'), f'{first}, {len(named_so):,} links', 'the links of a name')
+        equal(page.text('#link h2'), f'Link {named_so[0]}', 'the first of them')
+        equal(facts(page)['name'], first, 'its name in the panel')
         page.choose('#find', 'no such thing')
         check('wrong' in page.find('#find').get_attribute('class'), 'what isn\'t there')
-        page.click('#all')
-        self.check_scale(nodes, links)
-        self.check_bends(links, named[0])
+        page.choose('#find', f'link {link}')
+        check(len(told.line(link)) > 2, f'link {link} has no bends')
+        drawn = page.run('return Page.bends(arguments[0])', link)
+        equal(len(drawn), len(told.line(link)), f'the points of link {link}')
 
-    def check_scale(self, nodes, links):
-        """The bar's kilometres by pixel, beside those of the ends of two links."""
-        page = self.page
-        degrees = [float(row['y_coord']) for row in nodes.values()]
-        squeeze = math.cos(math.radians((min(degrees) + max(degrees)) / 2))
-        middles = []
-        for link in ('1', '3456'):
-            ends = [nodes[links[link][end]] for end in ('from_node_id', 'to_node_id')]
-            x, y = (
-                sum(float(node[axis]) for node in ends) / 2 for axis in ('x_coord', 'y_coord')
+    def check_scale(self, told, *links):
+        """The bar's kilometres by pixel, beside those between two links far from each other."""
+        page, lines = self.page, {link: told.line(link) for link in told.links}
+        heights = [line[end][1] for line in lines.values() for end in (0, -1)]
+        squeeze, unit = math.cos(math.radians((min(heights) + max(heights)) / 2)), 111.32
+        if max(map(abs, heights)) > 90:
+            squeeze, unit = 1, statistics.median(
+                float(told.links[link]['length']) / 1000 / math.dist(line[0], line[-1])
+                for link, line in lines.items()
             )
-            middles.append((x * squeeze, y, page.run('return Page.placeOf(arguments[0])', link)))
-        (x1, y1, first), (x2, y2, second) = middles
-        apart = math.hypot(x2 - x1, y2 - y1) * 111.32 / math.dist(first, second)
+        page.click('#all')
+        shown = [page.run('return Page.placeOf(arguments[0])', link) for link in links]
+        (x1, y1), (x2, y2) = ([sum(ends) / 2 for ends in zip(*lines[link])] for link in links)
+        apart = math.hypot((x2 - x1) * squeeze, y2 - y1) * unit / math.dist(*shown)
         words, pixels = page.run('return Page.scale()')
-        told = float(words.split()[0]) / pixels
-        check(abs(told / apart - 1) < 0.02, f'the scale bar: {told} or {apart} km a pixel')
-
-    def check_bends(self, links, link):
-        """A motorway is drawn through the middle of its bends."""
-        points = [
-            tuple(map(float, point.split()))
-            for point in links[link]['geometry'].partition('(')[2].strip(')').split(', ')
-        ]
-        equal(len(points), 5, 'the points of a piece of motorway')
-        self.page.choose('#find', f'link {link}')
-        drawn = self.page.run('return Page.bends(arguments[0])', link)
-        equal(len(drawn), len(points), 'its points on the map')
+        size, noun = words.removeprefix('about ').split()
+        bar = float(size) / (1 if noun == 'km' else 1000) / pixels
+        check(abs(bar / apart - 1) < 0.02, f'the scale bar: {bar} or {apart} km a pixel')
 
     def links_go_out(self):
         """As GeoJSON and as CSV, which GDAL reads with all links and their numbers."""
@@ -375,56 +363,33 @@ class PlannerTests:
         page, step = self.page, self.page.step()
         for button in page.all('.out'):
             page.run('arguments[0].click()', button)
-        files = [
-            f'links_{part}_{name}.{end}' for part in (step, 'run') for end in ('geojson', 'csv')
-        ]
-        for file in files:
-            path = os.path.join(self.folder, file)
-            page.wait(lambda path=path: os.path.exists(path), f'the file {file}')
-            said = subprocess.run(
-                ['ogrinfo', '-so', '-al', '-oo', 'GEOM_POSSIBLE_NAMES=geometry', path],
-                capture_output=True,
-                text=True,
-                check=True,
-            ).stdout
-            check(f'Feature Count: {len(told.links)}' in said, f'{file}: {said[:400]}')
-            check('Geometry: Line String' in said or 'geometry: String' in said, said[:400])
-        self.check_features(files[0], told, step)
-        with open(os.path.join(self.folder, files[3]), encoding='utf-8') as table:
-            for row in csv.DictReader(table):
-                link = row['link_id']
-                near(row['lost_vehicle_hours'], told.hours(told.lost.get(link, 0)), 'lost')
-        blocked = {row: told.minutes(told.blocked_steps(row)) for row in list(told.links)[:5]}
-        with open(os.path.join(self.folder, files[2]), encoding='utf-8') as text:
-            for feature in json.load(text)['features'][:5]:
-                of_run = feature['properties']
-                near(str(of_run['blocked_minutes']), blocked[str(of_run['link_id'])], 'blocked')
+        for time, value in ((step, lambda link: told.at(link, step)), ('run', told.over_run)):
+            values = {link: value(link) for link in told.links}
+            for end in ('geojson', 'csv'):
+                self.check_file(f'links_{time}_{name}.{end}', told, values)
 
-    def check_features(self, file, told, step):
-        """All measures of the shown time, link by link."""
-        with open(os.path.join(self.folder, file), encoding='utf-8') as text:
-            features = json.load(text)['features']
-        columns = {
-            'delay_ratio': 'delay',
-            'lost_vehicle_hours': 'lost',
-            'vehicles_on_link': 'on',
-            'flow_vehicles_per_hour': 'flow',
-            'flow_over_capacity_percent': 'load',
-            'speed_kmh': 'speed',
-            'minutes_on_link': 'minutes',
-            'vehicles_waiting_at_origins': 'waiting',
-            'storage_used_percent': 'storage',
-            'free_flow_minutes': 'free',
-        }
-        for feature in features[:400]:
-            link = str(feature['properties']['link_id'])
-            for column, measure in columns.items():
-                shown = feature['properties'][column] or 0
-                value = told.value(measure, link, step) or 0
-                check(abs(shown - value) < 1e-9, f'{column} of {link}: {shown}, not {value}')
-            stood = told.stood(link, step)
-            shown = feature['properties']['blocked_minutes']
-            equal(shown, None if stood is None else told.minutes(stood), f'blocked of {link}')
+    def check_file(self, name, told, values):
+        """GDAL reads it, and each link has its numbers and points."""
+        path = os.path.join(self.folder, name)
+        self.page.wait(lambda: os.path.exists(path) and os.path.getsize(path) > 0, name)
+        said = subprocess.run(
+            ['ogrinfo', '-so', '-al', '-oo', 'GEOM_POSSIBLE_NAMES=geometry', path],
+            capture_output=True,
+            text=True,
+            check=True,
+        ).stdout
+        check(f'Feature Count: {len(told.links)}' in said, f'{name}: {said[:400]}')
+        check('Geometry: Line String' in said or 'geometry: String' in said, said[:400])
+        rows = exported(path)
+        equal([str(row['link_id']) for row, _ in rows], list(told.links), f'the links of {name}')
+        for (link, wanted), (row, points) in zip(values.items(), rows):
+            for column, value in wanted.items():
+                shown = row[column] not in ('', None) and float(row[column])
+                is_told = (shown is False) == (value is False) and abs(shown - value) < 1e-9
+                check(is_told, f'{name}: {column} of {link} is {shown}, not {value}')
+            line = told.line(link)
+            is_there = all(math.dist(*ends) < 1e-6 for ends in zip(points, line))
+            check(len(points) == len(line) and is_there, f'{name}: {link} is at {points}')
 
     def widths_tell_importance(self):
         """A motorway is wider than a street, and its pieces are drawn where links are dense."""

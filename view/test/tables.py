@@ -1,8 +1,11 @@
 """What the tables of a run tell, read by Python's own csv reader: what the page must show."""
 import array
 import csv
+import functools
+import itertools
 import math
 import os
+from collections import Counter
 
 
 def rows(folder, name):
@@ -14,6 +17,29 @@ def steps(text):
     return [int(step) for step in text.split(';')] if text != '' else []
 
 
+def points_of(text):
+    """Those of a text such as LINESTRING (0 0, 1 2)."""
+    return [
+        [float(one) for one in point.split()]
+        for point in text.partition('(')[2].strip(')').split(',')
+    ]
+
+
+# What one time tells of links: the columns of the files for QGIS, and the measures of the map.
+COLUMNS = {
+    'delay_ratio': 'delay',
+    'lost_vehicle_hours': 'lost',
+    'vehicles_on_link': 'on',
+    'flow_vehicles_per_hour': 'flow',
+    'flow_over_capacity_percent': 'load',
+    'speed_kmh': 'speed',
+    'minutes_on_link': 'minutes',
+    'vehicles_waiting_at_origins': 'waiting',
+    'storage_used_percent': 'storage',
+    'free_flow_minutes': 'free',
+}
+
+
 class Told:
     """Sums over the tables of one run of `assign`, in steps and metres."""
 
@@ -21,7 +47,10 @@ class Told:
         self.folder, self.jam, self.storage_binds = folder, jam, storage_binds
         self.seconds = seconds
         self.links = {row['link_id']: row for row in rows(folder, 'link.csv')}
-        self.nodes = sum(1 for _ in rows(folder, 'node.csv'))
+        self.nodes = {row['node_id']: row for row in rows(folder, 'node.csv')}
+        # Kept, since they are asked of one link many times.
+        self.visits_of = functools.lru_cache(maxsize=500)(self.visits_of)
+        self.blocked = functools.cache(self.blocked)
         self.read_times()
         self.read_agents()
 
@@ -46,14 +75,18 @@ class Told:
     def read_agents(self):
         self.statuses = {'arrived': 0, 'running': 0, 'waiting': 0, 'unrouted': 0}
         self.waits, self.lost, self.by_bucket, self.visits, self.waiters = {}, {}, {}, {}, {}
+        self.departures, self.no_way = Counter(), Counter()
         self.on_links = (
             self.waited
         ) = self.lost_by_visits = self.metres = self.vehicles = self.longest = 0
         for row in rows(self.folder, 'agent.csv'):
             self.vehicles += 1
             self.statuses[row['status']] += 1
+            self.departures[int(row['departure_step'])] += 1
             if row['status'] != 'unrouted':
                 self.add(row)
+            else:
+                self.no_way[row['o_zone_id'], row['d_zone_id']] += 1
 
     def add(self, row):
         departure, entries = int(row['departure_step']), steps(row['entry_steps'])
@@ -123,8 +156,13 @@ class Told:
         """Whether the map of delays has nothing to tell of a link."""
         return self.value('delay', link, step) <= 1 and self.stood(link, step) is None
 
-    def blocked_steps(self, link):
-        return sum(self.stood(link, step) is not None for step in range(self.horizon))
+    def blocked(self, link):
+        """The steps in which a link is blocked, among those in which a vehicle may stand."""
+        least = self.free[link] if self.storage_binds else 2 * self.free[link] + 1
+        stands = {
+            step for entry, end in self.visits_of(link) for step in range(entry + least, end)
+        }
+        return [step for step in sorted(stands) if self.stood(link, step) is not None]
 
     def minutes(self, count):
         return count * self.seconds / 60
@@ -153,21 +191,64 @@ class Told:
         return sum(begin <= step < end for begin, end in self.waiters.get(link, []))
 
     def value(self, measure, link, step):
-        """What a measure tells of a link at a step; 0 where there is nothing to tell."""
+        """What a measure tells of a link at a step; False where nobody entered it."""
         start = self.bucket_of[step]
         is_entered = self.entered[link, start] > 0
         return {
             'delay': lambda: is_entered and self.travel[link, start] / self.free[link],
             'lost': lambda: self.hours(self.by_bucket.get((link, start), 0)),
             'on': lambda: self.on_link(link, step),
-            'flow': lambda: self.flow(link, start),
-            'load': lambda: 100 * self.flow(link, start) / self.capacity(link),
+            'flow': lambda: is_entered and self.flow(link, start),
+            'load': lambda: is_entered and 100 * self.flow(link, start) / self.capacity(link),
             'speed': lambda: is_entered and self.speed(link, start),
             'minutes': lambda: is_entered and self.minutes(self.travel[link, start]),
             'waiting': lambda: self.waiting(link, step),
             'storage': lambda: 100 * self.on_link(link, step) / self.storage(link),
             'free': lambda: self.minutes(self.free[link]),
         }[measure]()
+
+    def at(self, link, step):
+        """What a step tells of a link, by columns; False where one is empty."""
+        stood = self.stood(link, step)
+        return {
+            **{column: self.value(measure, link, step) for column, measure in COLUMNS.items()},
+            'blocked_minutes': stood is not None and self.minutes(stood),
+        }
+
+    def over_run(self, link):
+        """What the whole run tells of a link, by columns."""
+        starts = [start for start in self.buckets if self.entered[link, start] > 0]
+        slowest = max(starts, key=lambda start: self.travel[link, start], default=0)
+        busiest = max(starts, key=lambda start: self.flow(link, start), default=0)
+        return {
+            'free_flow_minutes': self.minutes(self.free[link]),
+            'entered_vehicles': sum(self.entered[link, start] for start in starts),
+            'lost_vehicle_hours': self.hours(self.lost.get(link, 0)),
+            'greatest_delay_ratio': self.value('delay', link, slowest),
+            'greatest_minutes_on_link': self.value('minutes', link, slowest),
+            'greatest_flow_vehicles_per_hour': self.value('flow', link, busiest),
+            'greatest_flow_over_capacity_percent': self.value('load', link, busiest),
+            'least_speed_kmh': self.value('speed', link, slowest),
+            'most_vehicles_on_link': self.most_on(link),
+            'waiting_vehicle_hours': self.hours(self.waits.get(link, 0)),
+            'blocked_minutes': self.minutes(len(self.blocked(link))),
+        }
+
+    def most_on(self, link):
+        """The most vehicles that are on a link at once."""
+        changes = Counter()
+        for entry, end in self.visits_of(link):
+            changes[entry] += 1
+            changes[end] -= 1
+        return max(itertools.accumulate(changes[step] for step in sorted(changes)), default=0)
+
+    def line(self, link):
+        """A link's points, by its geometry or else by its nodes."""
+        row = self.links[link]
+        if row.get('geometry'):
+            return points_of(row['geometry'])
+        nodes = (self.nodes[row[end]] for end in ('from_node_id', 'to_node_id'))
+        return [[float(node['x_coord']), float(node['y_coord'])] for node in nodes]
 
     def agents(self):
         """The rows of vehicles, with their links and the steps in which each is entered."""
@@ -204,32 +285,31 @@ class Told:
                 )
         return found
 
-    def departures(self):
-        counts = {}
-        for row, _, _ in self.agents():
-            step = int(row['departure_step'])
-            counts[step] = counts.get(step, 0) + 1
-        return counts
+    def homeless(self):
+        """The zones of the demand that no node has, as they come."""
+        known = {row['zone_id'] for row in self.nodes.values()}
+        pairs = ((row['o_zone_id'], row['d_zone_id']) for row in rows(self.folder, 'demand.csv'))
+        zones = dict.fromkeys(zone for pair in pairs for zone in pair)
+        return [zone for zone in zones if zone not in known]
 
-    def first_blocked(self, link):
-        """The first step in which a link is blocked, or None."""
-        blocked = (at for at in range(self.horizon) if self.stood(link, at) is not None)
-        return next(blocked, None)
+    def volumes(self):
+        return [float(row['volume']) for row in rows(self.folder, 'demand.csv')]
 
     def jam_starts(self):
-        """Links that don't wait for a blocked link when they are blocked for the first time."""
-        first = {link: self.first_blocked(link) for link in self.links}
+        """Links with the step in which each is blocked for the first time: those that don't wait
+        for a blocked link then, and all of them."""
+        first = {link: self.blocked(link)[0] for link in self.links if self.blocked(link)}
         heads = {}
         for row, links, entries in self.agents():
             arrival = int(row['arrival_step']) if row['arrival_step'] != '' else self.horizon
             ends = entries[1:] + [arrival]
             for place, (link, entry, end) in enumerate(zip(links, entries, ends)):
-                step = first[link]
-                if step is not None and entry <= step < end:
+                if link in first and entry <= first[link] < end:
                     one = entry, end, int(row['agent_id']), links[place + 1 :][:1]
                     heads[link] = min(heads.get(link, one), one)
-        return {
-            link: first[link]
-            for link, (_, _, _, next_link) in heads.items()
-            if next_link == [] or self.stood(next_link[0], first[link]) is None
+        starts = {
+            link: step
+            for link, step in first.items()
+            if all(self.stood(one, step) is None for one in heads[link][3])
         }
+        return starts, first

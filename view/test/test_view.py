@@ -324,17 +324,29 @@ class Test(PlannerTests):
             + ', '.join(f'{speed:.0f} by {measure}' for measure, speed in speeds.items()),
             flush=True,
         )
-        told = Told(folder)
+        self.check_large(Told(folder))
+        check(opened < 15, 'it takes more than 15 s to open')
+        check(min(speeds.values()) >= 15, 'it plays fewer than 15 pictures a second')
+
+    def check_large(self, told):
+        """The numbers of all that a planner asks, on the large run."""
+        page, worst = self.page, str(big_run.WORST_LINK)
         check_totals(page, told)
         check_rankings(page, told)
-        equal(told.most_delayed(), str(big_run.WORST_LINK), 'the worst link that was made')
+        equal(told.most_delayed(), worst, 'the worst link that was made')
         check_worst(page, told)
         page.choose('#slider', 612)
         for measure in ('flow', 'load', 'speed', 'minutes', 'delay'):
             check_classes(page, told, measure)
         self.check_thinned(told)
-        check(opened < 15, 'it takes more than 15 s to open')
-        check(min(speeds.values()) >= 15, 'it plays fewer than 15 pictures a second')
+        self.check_found(told, worst)
+        self.check_scale(told, '1', '39998')
+        self.check_moves('1', '39998')
+        self.check_over(told, worst)
+        self.check_routes(told, *map(str, big_run.PAIR))
+        self.check_vehicles(told)
+        self.check_the_checks(told, 'large')
+        self.check_out('large', told)
 
     def speed_of(self, measure):
         page = self.page
