@@ -104,10 +104,10 @@ none_too_many net trips agents h = by (cases_lt (length trips) (length agents))
 none_missing : (trips : List Trip) (agents : List AgentRow) → IsVerdict (missing_checks trips agents) Yes → length trips ≤ length agents
 none_missing trips agents h = by (nat_lt (length agents) (length trips)) refl
   where
-    fails : (cs : List Check) (c : Check) → cs ≡ c ∷ [] → c.claim ≡ never → IsVerdict cs Yes → ⊥
+    fails : (cs : List Check) (c : Check) → cs ≡ c ∷ [] → c.statement ≡ never → IsVerdict cs Yes → ⊥
     fails cs c e n y = let k = rw e at y in last c n k
       where
-        last : (c : Check) → c.claim ≡ never → IsVerdict (c ∷ []) Yes → ⊥
+        last : (c : Check) → c.statement ≡ never → IsVerdict (c ∷ []) Yes → ⊥
         last c n (inl (holds, y)) = rw n at holds
         last c n (inr (f, y)) = cc
 

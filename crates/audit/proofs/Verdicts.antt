@@ -46,7 +46,7 @@ determined (c ∷ cs) v w (inl (h, a)) (inr (f, b)) = absurd (f h)
 determined (c ∷ cs) v w (inr (f, a)) (inl (h, b)) = absurd (f h)
 determined (c ∷ cs) v w (inr (f, a)) (inr (g, b)) = a ∙ sym b
 
-pub all_hold : (cs : List Check) → IsVerdict cs Yes → All (λ c. Holds c.claim) cs
+pub all_hold : (cs : List Check) → IsVerdict cs Yes → All (λ c. Holds c.statement) cs
 all_hold [] e i d h = absurd (omega (arith, h))
 all_hold (c ∷ cs) (inl (holds, rest)) zero d h = holds
 all_hold (c ∷ cs) (inl (holds, rest)) (suc i) d h = all_hold cs rest i d (omega (arith, h))

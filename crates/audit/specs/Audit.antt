@@ -20,7 +20,7 @@ use Rattle.dta_model.specs.declared.plan.Plan.{Plan as LoadingPlan}
 use Rattle.dta_model.specs.declared.trip.Trip.{Trip}
 use Rattle.reports.specs.Texts.{status_name, told_status}
 use Rattle.skims.specs.declared.time_rows.TimeRow.{TimeRow}
-use Rattle.audit.specs.Checks.{Check, Claim, IsVerdict, names_route, never, same_if_any}
+use Rattle.audit.specs.Checks.{Check, Statement, IsVerdict, names_route, never, same_if_any}
 use Rattle.audit.specs.Checks.{same_list, same_number}
 use Rattle.audit.specs.declared.agent_rows.AgentRow.{AgentRow}
 use Rattle.audit.specs.declared.plan.Plan.{Plan}
@@ -29,9 +29,9 @@ use Rattle.audit.specs.declared.verdict.Verdict.{Verdict}
 -- ---- the rows of the agent table
 
 -- a check of a column of row r, from 0; the header is line 1
-abbrev pub of_agent : ℕ → Column → Claim → Check
-of_agent r what claim =
-    record { claim = claim; table = table.Start; line = r + 2; column = what }
+abbrev pub of_agent : ℕ → Column → Statement → Check
+of_agent r what statement =
+    record { statement = statement; table = table.Start; line = r + 2; column = what }
 
 -- row r names vehicle r, and its zones and its departure are those of that vehicle's trip
 abbrev pub number_checks : ℕ → Trip → AgentRow → List Check
@@ -109,9 +109,9 @@ all_journey_checks agents journeys =
 -- ---- the rows of the table of link times
 
 -- a check of a column of row r, from 0
-abbrev pub of_time : ℕ → Column → Claim → Check
-of_time r what claim =
-    record { claim = claim; table = table.Times; line = r + 2; column = what }
+abbrev pub of_time : ℕ → Column → Statement → Check
+of_time r what statement =
+    record { statement = statement; table = table.Times; line = r + 2; column = what }
 
 -- row r has the visits and the time of its bucket of its link
 abbrev pub time_checks : TimeTable → ℕ × TimeRow → List Check

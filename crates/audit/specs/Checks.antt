@@ -10,17 +10,17 @@ use Rattle.audit.specs.declared.verdict.Verdict.{Verdict}
 use Rattle.audit.specs.declared.verdict.Verdict.TheVariants.{Yes, No}
 
 -- what a check looks at
-pub data Claim : Type 0 where
+pub data Statement : Type 0 where
   -- a number is another one
-  same_number : ℕ → ℕ → Claim
+  same_number : ℕ → ℕ → Statement
   -- a number is another one, or both are missing
-  same_if_any : Option ℕ → Option ℕ → Claim
+  same_if_any : Option ℕ → Option ℕ → Statement
   -- a text is another one, or a list of numbers is
-  same_list : List ℕ → List ℕ → Claim
+  same_list : List ℕ → List ℕ → Statement
   -- identifiers name a route for a trip, or there are none
-  names_route : NetRows → Trip → List ℕ → Claim
+  names_route : NetRows → Trip → List ℕ → Statement
   -- a row that is missing, or one too many
-  never : Claim
+  never : Statement
 
 -- identifiers of links name a walk between the zones of a trip
 abbrev pub NamesWalk : NetRows → Trip → List ℕ → Type 0
@@ -28,7 +28,7 @@ NamesWalk net trip ids =
     (walk : List LinkNo) × IsNamedWalk net trip.origin trip.destination ids walk
 
 -- and a check holds
-abbrev pub Holds : Claim → Type 0
+abbrev pub Holds : Statement → Type 0
 Holds (same_number a b) = a ≡ b
 Holds (same_if_any a b) = a ≡ b
 Holds (same_list a b) = a ≡ b
@@ -37,7 +37,7 @@ Holds never = ⊥
 
 -- a check of a field: its table, the line and the column
 pub record Check : Type 0 where
-  pub claim : Claim
+  pub statement : Statement
   pub table : Table
   pub line : ℕ
   pub column : Column
@@ -46,5 +46,5 @@ pub record Check : Type 0 where
 abbrev pub IsVerdict : List Check → Verdict → Type 0
 IsVerdict [] v = v ≡ Yes
 IsVerdict (c ∷ others) v =
-    (Holds c.claim × IsVerdict others v)
-    ⊎ ((Holds c.claim → ⊥) × (v ≡ No c.table c.line c.column))
+    (Holds c.statement × IsVerdict others v)
+    ⊎ ((Holds c.statement → ⊥) × (v ≡ No c.table c.line c.column))

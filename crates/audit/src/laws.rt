@@ -11,5 +11,5 @@ pub fn verdicts_are_determined()
 
 /// Where the verdict is yes, each check holds.
 pub fn a_yes_holds()
-    ensures { (cs : List Check) → IsVerdict cs Yes → All (λ c. Holds c.claim) cs }
+    ensures { (cs : List Check) → IsVerdict cs Yes → All (λ c. Holds c.statement) cs }
 {}

@@ -1,6 +1,6 @@
 // What an audit says.
 ghost use Rattle.std.specs.Prelude.{◌≡◌, ◌++◌, ◌∷◌, [], ◌↔◌, IsTrue, List};
-ghost use Rattle.audit.specs.Checks.{Check, Claim, Holds, IsVerdict};
+ghost use Rattle.audit.specs.Checks.{Check, Statement, Holds, IsVerdict};
 ghost use Rattle.audit.specs.declared.verdict.Verdict.TheVariants.{Yes};
 
 use desk_io::Table;
@@ -23,8 +23,8 @@ pub enum Verdict {
 impl Verdict {
     // The verdict of one check, that of a column in a line.
     pub(crate) fn of(holds: bool, table: Table, line: u64, column: Column) -> Self
-        ensures { (claim : Claim) → IsTrue holds ↔ Holds claim
-            → IsVerdict (record { claim = claim; table = table; line = line; column = column } ∷ [])
+        ensures { (statement : Statement) → IsTrue holds ↔ Holds statement
+            → IsVerdict (record { statement = s; table = table; line = line; column = column } ∷ [])
             result }
     {
         if holds {

@@ -6,7 +6,7 @@ use Rattle.desk_io.specs.Desk.{Left, Taken}
 use Rattle.desk_io.specs.Faults.{last_count}
 
 -- how many bytes each output has taken
-pub record Counts : Type 0 where
+pub record OutputSizes : Type 0 where
   pub agent : ℕ
   pub link_time : ℕ
   pub gap : ℕ
@@ -18,10 +18,10 @@ pub record Counts : Type 0 where
 
 pub record TallyView : Type 0 where
   pub left : Left
-  pub counts : Counts
+  pub counts : OutputSizes
 
 -- how many bytes one output has taken
-abbrev pub count_of : Output → Counts → ℕ
+abbrev pub count_of : Output → OutputSizes → ℕ
 count_of output.Agent c = c.agent
 count_of output.LinkTime c = c.link_time
 count_of output.Gap c = c.gap
@@ -36,7 +36,7 @@ abbrev pub count_after : ℕ → ℕ → ℕ
 count_after count more = min (count + more) last_count
 
 -- one output took so many bytes more: all other counts are the same
-abbrev pub counted : Output → ℕ → Counts → Counts
+abbrev pub counted : Output → ℕ → OutputSizes → OutputSizes
 counted output.Agent more c = record c { agent = count_after c.agent more }
 counted output.LinkTime more c = record c { link_time = count_after c.link_time more }
 counted output.Gap more c = record c { gap = count_after c.gap more }
@@ -47,7 +47,7 @@ counted output.Counts more c = record c { counts = count_after c.counts more }
 counted output.Sweep more c = record c { sweep = count_after c.sweep more }
 
 -- no output has taken anything
-abbrev pub no_counts : Counts
+abbrev pub no_counts : OutputSizes
 no_counts = record {
   agent = 0;
   link_time = 0;

@@ -9,14 +9,14 @@ use Rattle.desk_io.specs.Faults.{Rose}
 use Rattle.desk_io.specs.Transfers.{IsOut, IsPartOut, Puts}
 use Rattle.net_core.specs.declared.rows.NetRows.{NetRows}
 use Rattle.reports.specs.declared.audited.Place.{Place}
-use Rattle.reports.specs.Texts.{IsCutShort as IsFreeCut, IsFreeOut, audit_text, differs_line, refusal_line}
+use Rattle.reports.specs.Texts.{IsFreeCut, IsFreeOut, audit_text, differs_line, refusal_line}
 use Rattle.audit.specs.declared.verdict.Verdict.TheVariants as verdict
 use Rattle.dta_model.specs.Release.{vehicles_before}
 use Rattle.dta_model.specs.declared.trip.DemandCell.{DemandCell}
 use Rattle.vehicle_release.specs.Limits.{IsWithin}
 use Rattle.sweep.specs.Scales.{AreAllWithin, IsFirstTooMany, scaled}
 use Rattle.sweep.specs.Scenarios.{AreScenarios}
-use Rattle.sweep.specs.Texts.{IsCutShort as IsSweepCut, IsSweepOut}
+use Rattle.sweep.specs.Texts.{IsSweepCut, IsSweepOut}
 use Rattle.sweep.specs.declared.scenario.Scenario.{Scenario}
 use Rattle.reports.specs.declared.refusal.Refusal.{Refusal}
 use Rattle.reports.specs.declared.refusal.Refusal.TheVariants as refusal
@@ -26,7 +26,7 @@ use Rattle.dta_words.specs.declared.command.Command.TheVariants as command
 use Rattle.dta_words.specs.declared.command.Settings.{Settings}
 use Rattle.skims.specs.GivenTimes.{table_given}
 use Rattle.skims.specs.Skim.{IsSkim}
-use Rattle.skims.specs.Texts.{IsCutShort as IsSkimCut, IsSkimOut}
+use Rattle.skims.specs.Texts.{IsSkimCut, IsSkimOut}
 use Rattle.skims.specs.declared.skim_entry.SkimEntry.{SkimEntry}
 use Rattle.dta_model.specs.LinkTimes.{time_at}
 use Rattle.route_flows.specs.Starts.{AreStartRows}

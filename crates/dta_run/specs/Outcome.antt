@@ -198,8 +198,8 @@ IsCutIn s before after =
     ⊎ (((t : Table) × Reached s t (λ _. IsBegun t) before after)
     ⊎ AreCounted s (λ rows. ⊤) before after)
 
-abbrev pub IsCutShort : Settings → Left → Left → Type 0
-IsCutShort s before after = Reading s.command (IsCutIn s) before after
+abbrev pub EndsForMemory : Settings → Left → Left → Type 0
+EndsForMemory s before after = Reading s.command (IsCutIn s) before after
 
 -- memory was wanting in the work: of all outputs only Watch grew, by whole lines of iterations, and
 -- none where the command does no assignment
@@ -216,7 +216,7 @@ abbrev pub IsStarved : List (List ℕ) → DeskState → DeskState → Type 0
 IsStarved words before after =
     ((after.left ≡ before.left) × (after.taken ≡ before.taken))
     ⊎ ((s : Settings) × (settings_of words ≡ Some s)
-    × ((IsCutShort s before.left after.left × (after.taken ≡ before.taken))
+    × ((EndsForMemory s before.left after.left × (after.taken ≡ before.taken))
     ⊎ IsStopped s before after))
 
 -- what each status says

@@ -19,7 +19,7 @@ use Rattle.sweep.specs.Scales.{IsFirstTooMany}
 use Rattle.sweep.specs.declared.fault.SweepFault.{SweepFault}
 use Rattle.sweep.specs.declared.fault.SweepFault.TheVariants as sweep
 use Rattle.dta_run.specs.Jobs.{HasRoom, HasSweepRoom, skim_entries, tables_of}
-use Rattle.dta_run.specs.Outcome.{DeskState, ReadsFailed, IsCause, IsCauseAmong, IsCutIn, IsCutShort}
+use Rattle.dta_run.specs.Outcome.{DeskState, ReadsFailed, IsCause, IsCauseAmong, IsCutIn, EndsForMemory}
 use Rattle.dta_run.specs.Tables.{ReachedAmong, IsFaulty, TableRows}
 
 -- what a refused table stops
@@ -100,5 +100,5 @@ StopsIn s (Refused r) before after =
 
 -- a run of these settings ended in this stop
 abbrev pub Stops : Settings → Stop → DeskState → DeskState → Type 0
-Stops s Memory before after = IsCutShort s before.left after.left
+Stops s Memory before after = EndsForMemory s before.left after.left
 Stops s (Refused r) before after = IsCause s r before.left after.left × HasFault r before after

@@ -19,7 +19,7 @@ ghost use Rattle.dta_run.specs.declared.halt.Halt.TheVariants as halt;
 use crate::counted::{Counted, counts_over};
 use crate::halt::Halt;
 use crate::job::Job;
-use crate::load::{Round, load_round};
+use crate::load::{Measured, load_and_measure};
 use desk_io::Desk;
 use dta_model::{Eight, Loaded, Routes, Steps};
 use dta_words::Settings;
@@ -174,7 +174,7 @@ fn advance<R: AllocGlobal + Threads + Wait + Sync, D: Desk + Send, G: Gate + Syn
         Gives (receipts_of settings.now.plain 1) (numbers_in settings.now job.now)
         (shown gate.old) (shown gate.new) result }
 {
-    let round = load_round(rt, settings, job, routes, iteration, gate, desk)?;
+    let round = load_and_measure(rt, settings, job, routes, iteration, gate, desk)?;
     let line = leave(rt, settings, job, routes, &round.times, iteration, pool)?;
     lines.push(line)?;
     Ok(())
@@ -203,13 +203,13 @@ fn finish<R: AllocGlobal + Threads + Wait + Sync, D: Desk + Send, G: Gate + Sync
         Gives (receipts_of settings.now.plain 1) (numbers_in settings.now job.now)
         (shown gate.old) (shown gate.new) result }
 {
-    let round = load_round(rt, settings, job, &routes, settings.iterations, gate, desk)?;
+    let round = load_and_measure(rt, settings, job, &routes, settings.iterations, gate, desk)?;
     let line = gap_of(rt, settings, job, &routes, &round.times, pool)?;
     let since = since(rt.alloc(), settings, job)?;
     let counts = counts_over(rt.alloc(), settings, job, &routes, &round.loaded)?;
     let mut lines = lines;
     lines.push(line)?;
-    let Round { loaded, times, end } = round;
+    let Measured { loaded, times, end } = round;
     Ok(Assigned {
         routes,
         loaded,

@@ -29,7 +29,7 @@ use std::thread::Threads;
 
 /// The loading of an iteration, its link times, and the state after its last step.
 #[derive(Drop)]
-pub(crate) struct Round {
+pub(crate) struct Measured {
     pub(crate) loaded: Loaded,
     pub(crate) times: LinkTimes,
     pub(crate) end: Eight,
@@ -142,13 +142,13 @@ fn load_watched<R: AllocGlobal + Threads + Wait + Sync, D: Desk + Send, G: Gate 
 }
 
 // Makes the link times of a loading, and counts its last state.
-fn round_of(
+fn measured_of(
     alloc: Global,
     settings: &Settings,
     job: &Job,
     routes: &Routes,
     loaded: Loaded,
-) -> Result<Round, Halt>
+) -> Result<Measured, Halt>
     requires settings { AreSettings settings.now }
     requires job { IsJob settings.now job.now }
     requires routes { AreRoutesOf job.now routes.now }
@@ -161,11 +161,15 @@ fn round_of(
     let loading = job.loading(settings, routes);
     let times = LinkTimes::of(alloc, &loading, &loaded, settings.bucket)?;
     let end = final_state(&loading, &loaded);
-    Ok(Round { loaded, times, end })
+    Ok(Measured { loaded, times, end })
 }
 
 /// Loads an iteration and puts its watch lines, and makes its link times.
-pub(crate) fn load_round<R: AllocGlobal + Threads + Wait + Sync, D: Desk + Send, G: Gate + Sync>(
+pub(crate) fn load_and_measure<
+    R: AllocGlobal + Threads + Wait + Sync,
+    D: Desk + Send,
+    G: Gate + Sync,
+>(
     rt: &R,
     settings: &Settings,
     job: &Job,
@@ -173,7 +177,7 @@ pub(crate) fn load_round<R: AllocGlobal + Threads + Wait + Sync, D: Desk + Send,
     iteration: u32,
     gate: &mut G,
     desk: &mut D,
-) -> Result<Round, Halt>
+) -> Result<Measured, Halt>
     requires settings { AreSettings settings.now }
     requires job { IsJob settings.now job.now }
     requires routes { AreRoutesOf job.now routes.now }
@@ -189,6 +193,6 @@ pub(crate) fn load_round<R: AllocGlobal + Threads + Wait + Sync, D: Desk + Send,
         (shown gate.old) (shown gate.new) result }
 {
     let loaded = load_watched(rt, settings, job, routes, iteration, gate, desk)?;
-    let round = round_of(rt.alloc(), settings, job, routes, loaded)?;
+    let round = measured_of(rt.alloc(), settings, job, routes, loaded)?;
     Ok(round)
 }

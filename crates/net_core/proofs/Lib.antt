@@ -1,7 +1,7 @@
-pub mod GroupsFacts
+pub mod ListsFacts
 pub mod ByNodeFacts
 pub mod FindFacts
-pub mod GroupedFacts
+pub mod ListedFacts
 pub mod IdsFacts
 pub mod Numbers
 pub mod Orders

@@ -2,7 +2,7 @@ pub mod Ids
 pub mod Rows
 pub mod Rates
 pub mod Network
-pub mod Grouped
+pub mod AreListed
 pub mod ByNode
 pub mod Turns
 pub mod Zones

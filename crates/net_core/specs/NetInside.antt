@@ -1,7 +1,7 @@
 -- What a network keeps beside its rows: links by node, the nodes of turns, the
 -- places of turns, and zones.
 use Rattle.std.specs.Prelude.{◌≡◌, ◌≤◌, length}
-use Rattle.net_core.specs.Grouped.{Grouped}
+use Rattle.net_core.specs.AreListed.{AreListed}
 use Rattle.net_core.specs.ByNode.{AreNamed, all_links, end_of, start_of, node_of}
 use Rattle.net_core.specs.Network.{IsNet, zones}
 use Rattle.net_core.specs.Rows.{turn_pairs}
@@ -20,9 +20,9 @@ rows_of net = record {
 pub record IsIndexed (net : Inside) : Type 0 where
   pub rows : IsNet (rows_of net)
   pub ins :
-      Grouped net.ins (length net.nodes.items) (end_of net.links.items) (all_links net.links.items)
+      AreListed net.ins (length net.nodes.items) (end_of net.links.items) (all_links net.links.items)
   pub outs :
-      Grouped net.outs (length net.nodes.items) (start_of net.links.items)
+      AreListed net.outs (length net.nodes.items) (start_of net.links.items)
       (all_links net.links.items)
   pub named :
       AreNamed net.named.items (length net.nodes.items) (node_of net.links.items) net.turns.items

@@ -1,21 +1,21 @@
 // Links and turns by their nodes.
 ghost use Rattle.std.specs.Prelude.{◌≡◌, ◌<◌, ◌≤◌, length, All, IfOk};
-ghost use Rattle.net_core.specs.Grouped.{Grouped};
+ghost use Rattle.net_core.specs.AreListed.{AreListed};
 ghost use Rattle.std.specs.List.{IsDistinct};
 ghost use Rattle.net_core.specs.ByNode.{AreNamed, all_links, end_of, start_of, node_of};
 ghost use Rattle.net_core.specs.Ids.{pair_eq};
 ghost use Rattle.net_core.specs.Rows.{IsBetween, IsTurning, link_in, turn_pairs};
 
-use crate::groups::Groups;
 use crate::ids::Pairs;
+use crate::lists::ListsByNumber;
 use crate::rows::{LinkNo, LinkRow, MOST_LINKS, NodeRow, TurnRow};
 use std::alloc::{AllocError, Global};
 
 /// The links into and out of each node, in the order of their table.
 #[derive(Drop)]
 pub(crate) struct LinkLists {
-    pub(crate) ins: Groups<LinkNo>,
-    pub(crate) outs: Groups<LinkNo>,
+    pub(crate) ins: ListsByNumber<LinkNo>,
+    pub(crate) outs: ListsByNumber<LinkNo>,
 }
 
 /// The links by their nodes.
@@ -27,12 +27,12 @@ pub(crate) fn link_lists(
     requires few { length links.now ≤ MOST_LINKS }
     requires between { All (IsBetween nodes.now) links.now }
     ensures ins { IfOk result (λ lists.
-        Grouped lists.ins (length nodes.now) (end_of links.now) (all_links links.now)) }
+        AreListed lists.ins (length nodes.now) (end_of links.now) (all_links links.now)) }
     ensures outs { IfOk result (λ lists.
-        Grouped lists.outs (length nodes.now) (start_of links.now) (all_links links.now)) }
+        AreListed lists.outs (length nodes.now) (start_of links.now) (all_links links.now)) }
 {
-    let mut ins = Groups::new(alloc, nodes.len())?;
-    let mut outs = Groups::new(alloc, nodes.len())?;
+    let mut ins = ListsByNumber::new(alloc, nodes.len())?;
+    let mut outs = ListsByNumber::new(alloc, nodes.len())?;
     for place in 0..links.len() {
         let link = LinkNo(place as u32);
         let ends = row(links, link);

@@ -8,9 +8,9 @@
 #![tactic(auto)]
 
 mod by_node;
-mod groups;
 mod ids;
 mod laws;
+mod lists;
 mod net;
 mod rates;
 mod rows;

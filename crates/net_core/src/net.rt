@@ -15,8 +15,8 @@ ghost use Rattle.net_core.specs.Rates.{AreRates, rate_in};
 ghost use Rattle.net_core.specs.Turns.{IsAllowed};
 
 use crate::by_node::{link_lists, named_nodes, pairs_of, row};
-use crate::groups::Groups;
 use crate::ids::{Ids, Pairs};
+use crate::lists::ListsByNumber;
 use crate::rates::{Rates, Window, Windows, rate_at};
 use crate::rows::{LinkNo, LinkRow, NodeNo, NodeRow, Turn, TurnRow, ZoneNo};
 use crate::zones::zones_of;
@@ -38,8 +38,8 @@ pub struct Net {
     nodes: Vec<NodeRow>,
     links: Vec<LinkRow>,
     turns: Vec<TurnRow>,
-    ins: Groups<LinkNo>,
-    outs: Groups<LinkNo>,
+    ins: ListsByNumber<LinkNo>,
+    outs: ListsByNumber<LinkNo>,
     link_windows: Vec<Windows>,
     turn_windows: Vec<Windows>,
     named: Vec<bool>,

@@ -17,7 +17,7 @@ ghost use Rattle.phase_claims.specs.Views.{unit_in};
 use crate::part::Part;
 use crate::pass::{Last, Pass};
 use crate::receipt::{Early, Receipt};
-use crate::rule::{Bound, Claiming, Cut, Draw, Finish, Glue, Key, Look, PassSeat, Words};
+use crate::rule::{Bound, Claiming, Cut, Draw, Finish, Glue, Key, Look, PassSeat, SharedTable};
 use crate::start::parts_at_start;
 use crate::unit::{Open, Unit};
 use crate::view::View;
@@ -46,7 +46,7 @@ const MANY_UNITS: u64 = 64;
 #[derive(Drop)]
 pub struct Floor<'a> {
     alloc: Global,
-    table: Words<'a>,
+    table: SharedTable<'a>,
     loading: Loading<'a>,
     board: &'a Board,
     units: Units,
@@ -127,7 +127,7 @@ impl<'a> Floor<'a> {
 
     /// The table of its words, its places and the views of its passes. Its rule, which holds between
     /// any two steps whatever the threads do, is the running rule of the floor.
-    pub fn table(&self) -> &Words<'a>
+    pub fn table(&self) -> &SharedTable<'a>
         ensures own { result.now.shared.table_id ≡ self.now.table }
         ensures rule { (s : State Part View)
             → ⟦<Claiming as TableRule<Part, View, Key<'a>>>⟧.holds result.now.shared.key s

@@ -33,6 +33,6 @@ pub use laws::{floors_are_claims, states_are_shown};
 pub use part::Part;
 pub use pass::Pass;
 pub use receipt::{Early, Receipt};
-pub use rule::{Claiming, Key, PassSeat, Words};
+pub use rule::{Claiming, Key, PassSeat, SharedTable};
 pub use unit::{Open, Unit};
 pub use view::{Scope, View};

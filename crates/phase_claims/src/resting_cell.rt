@@ -19,7 +19,7 @@ use std::marker::Model;
 
 // What is kept beside a cell: its counts, and the rooms of its in-links.
 #[derive(Drop)]
-pub struct Notes {
+pub struct Remembered {
     pub counts: CellCounts,
     pub rooms: Vec<Option<u32>>,
 }
@@ -29,7 +29,7 @@ pub struct Notes {
 #[derive(Drop)]
 pub struct RestingCell {
     cell: NodeCell,
-    notes: Box<Notes>,
+    remembered: Box<Remembered>,
     missed: u32,
     wake: u32,
     known: bool,
@@ -44,8 +44,8 @@ impl Model for RestingCell {
 
     ghost view = { λ c. rested c.missed c.cell };
 
-    ghost invariant = { λ c. IsResting c.cell c.missed c.wake c.known c.notes.value.counts
-        c.notes.value.rooms.items };
+    ghost invariant = { λ c. IsResting c.cell c.missed c.wake c.known c.remembered.value.counts
+        c.remembered.value.rooms.items };
 }
 
 impl RestingCell {
@@ -59,17 +59,17 @@ impl RestingCell {
             arrived: 0,
         };
         let rooms = Vec::from_elem(alloc, None, places)?;
-        let notes = Box::new(alloc, Notes { counts, rooms })?;
-        Ok(RestingCell::awake(cell, notes))
+        let remembered = Box::new(alloc, Remembered { counts, rooms })?;
+        Ok(RestingCell::awake(cell, remembered))
     }
 
     /// A cell that has worked: nothing is known of it.
-    pub(crate) fn awake(cell: NodeCell, notes: Box<Notes>) -> Self
+    pub(crate) fn awake(cell: NodeCell, remembered: Box<Remembered>) -> Self
         ensures { result ≡ cell }
     {
         RestingCell {
             cell,
-            notes,
+            remembered,
             missed: 0,
             wake: 0,
             known: false,
@@ -78,20 +78,25 @@ impl RestingCell {
 
     /// A cell after so many steps: who of it is ready next is looked up, and it is counted. The
     /// rooms of its in-links are noted, if there are places for all.
-    pub(crate) fn looked_up(cell: NodeCell, notes: Box<Notes>, steps: u32, places: usize) -> Self
+    pub(crate) fn looked_up(
+        cell: NodeCell,
+        remembered: Box<Remembered>,
+        steps: u32,
+        places: usize,
+    ) -> Self
         requires cell { IsSomeCell steps cell }
         requires places { places ≡ length cell.ins }
-        requires rooms { length notes.value.rooms.items ≡ places
-            → notes.value.rooms.items ≡ rooms_of cell }
+        requires rooms { length remembered.value.rooms.items ≡ places
+            → remembered.value.rooms.items ≡ rooms_of cell }
         ensures { result ≡ cell }
     {
-        let mut notes = notes;
-        notes.counts = cell.counts(steps);
+        let mut remembered = remembered;
+        remembered.counts = cell.counts(steps);
         let wake = cell.next_step();
-        let known = are_all(&notes.rooms, places);
+        let known = are_all(&remembered.rooms, places);
         RestingCell {
             cell,
-            notes,
+            remembered,
             missed: 0,
             wake,
             known,
@@ -110,7 +115,7 @@ impl RestingCell {
         ensures { IfSome result (λ rooms. rooms.now ≡ rooms_of self.now) }
     {
         if self.known {
-            Some(&self.notes.rooms)
+            Some(&self.remembered.rooms)
         } else {
             None
         }
@@ -132,17 +137,17 @@ impl RestingCell {
     }
 
     /// The cell, brought up to date, and what was kept beside it.
-    pub(crate) fn into_cell(self) -> (NodeCell, Box<Notes>)
+    pub(crate) fn into_cell(self) -> (NodeCell, Box<Remembered>)
         ensures { result.0 ≡ self }
     {
         let RestingCell {
             mut cell,
-            notes,
+            remembered,
             missed,
             ..
         } = self;
         cell.rest(missed);
-        (cell, notes)
+        (cell, remembered)
     }
 
     /// Sets the journey of each rider of the cell; the other journeys stay.
@@ -160,7 +165,7 @@ impl RestingCell {
             → self.now ≡ cell_before p n steps away away → result ≡ counts_at p n steps }
     {
         if self.known {
-            return self.notes.counts;
+            return self.remembered.counts;
         }
         self.cell.counts(steps)
     }

@@ -87,7 +87,7 @@ impl Join<View> for Glue {
 }
 
 /// The words of a floor, its places and the views of its passes.
-pub type Words<'a> = Table<Part, View, Key<'a>, Claiming, Global>;
+pub type SharedTable<'a> = Table<Part, View, Key<'a>, Claiming, Global>;
 
 /// The place of a pass at a floor's table.
 pub type PassSeat = Seat<Part, View>;

@@ -9,7 +9,7 @@ use Rattle.dta_model.specs.declared.trip.Trip.{Trip}
 use Rattle.route_flows.specs.Starts.{TellsWalk}
 use Rattle.dta_words.specs.declared.command.Settings.{Settings}
 use Rattle.audit.specs.Audit.{checks_of}
-use Rattle.audit.specs.Checks.{Check, Claim, Holds, IsVerdict, names_route, never, same_if_any, same_list, same_number}
+use Rattle.audit.specs.Checks.{Check, Statement, Holds, IsVerdict, names_route, never, same_if_any, same_list, same_number}
 use Rattle.audit.specs.declared.verdict.Verdict.TheVariants.{No}
 use Rattle.dta_run.specs.Jobs.{JobRows}
 use Rattle.dta_run.specs.Outputs.{IsAudited, audit_plan}
@@ -56,7 +56,7 @@ other-if-any None (Some b) f same = cc
 other-if-any (Some a) None f same = cc
 other-if-any (Some a) (Some b) f same = other-number a b f (cc)
 
--- ---- claims
+-- ---- statements
 named : (net : NetRows) (trip : Trip) (ids : List ℕ) (o : Option (List LinkNo)) → TellsWalk net trip.origin trip.destination ids o → is_some o ≡ true → Holds (names_route net trip ids)
 named net trip ids None none e = cc
 named net trip ids (Some walk) is e = inr (walk, is)
@@ -67,7 +67,7 @@ not-named net trip id ids (Some walk) is f h = cc f
 not-named net trip id ids None none f (inl e) = cc e
 not-named net trip id ids None none f (inr (walk, is)) = none walk is
 
-hold : (c : Claim) → holds c ≡ true → Holds c
+hold : (c : Statement) → holds c ≡ true → Holds c
 unfolding holds
 hold (same_number a b) e = same-number a b e
 hold (same_if_any a b) e = same-if-any a b e
@@ -77,7 +77,7 @@ hold (names_route net trip (id ∷ ids)) e =
     named net trip (id ∷ ids) (walk_named net trip.origin trip.destination (id ∷ ids)) (tells-walk net trip.origin trip.destination (id ∷ ids)) e
 hold never e = cc
 
-fail : (c : Claim) → holds c ≡ false → Holds c → ⊥
+fail : (c : Statement) → holds c ≡ false → Holds c → ⊥
 unfolding holds
 fail (same_number a b) f h = other-number a b f h
 fail (same_if_any a b) f h = other-if-any a b f h
@@ -91,11 +91,11 @@ fail never f h = h
 pub verdict-is : (cs : List Check) → IsVerdict cs (verdict_on cs)
 unfolding verdict_on
 verdict-is [] = refl
-verdict-is (c ∷ others) = by (verdict-is others) (holds c.claim) refl
+verdict-is (c ∷ others) = by (verdict-is others) (holds c.statement) refl
   where
-    by : IsVerdict others (verdict_on others) → (b : Bool) → holds c.claim ≡ b → IsVerdict (c ∷ others) (cond b (verdict_on others) (No c.table c.line c.column))
-    by rest true e = inl (hold c.claim e, rest)
-    by rest false f = inr (fail c.claim f, refl)
+    by : IsVerdict others (verdict_on others) → (b : Bool) → holds c.statement ≡ b → IsVerdict (c ∷ others) (cond b (verdict_on others) (No c.table c.line c.column))
+    by rest true e = inl (hold c.statement e, rest)
+    by rest false f = inr (fail c.statement f, refl)
 
 pub audited : (s : Settings) (job : JobRows) → IsAudited s job (verdict_of s job)
 audited s job = verdict-is (checks_of job.net job.trips job.agents job.times (audit_plan s))

@@ -3,7 +3,7 @@ use Rattle.std.specs.Prelude.{ℕ, ◌&&◌, Bool, true, false, nat_eq, cond, Li
 use Rattle.std.specs.Prelude.{Some, is_some}
 use Rattle.dta_words.specs.declared.command.Settings.{Settings}
 use Rattle.audit.specs.Audit.{checks_of}
-use Rattle.audit.specs.Checks.{Check, Claim, names_route, never, same_if_any, same_list}
+use Rattle.audit.specs.Checks.{Check, Statement, names_route, never, same_if_any, same_list}
 use Rattle.audit.specs.Checks.{same_number}
 use Rattle.audit.specs.declared.verdict.Verdict.{Verdict}
 use Rattle.audit.specs.declared.verdict.Verdict.TheVariants.{No, Yes}
@@ -25,7 +25,7 @@ is_same_list (a ∷ as') [] = false
 is_same_list (a ∷ as') (b ∷ bs) = nat_eq a b && is_same_list as' bs
 
 -- whether a check holds
-unfoldable pub holds : Claim → Bool
+unfoldable pub holds : Statement → Bool
 holds (same_number a b) = nat_eq a b
 holds (same_if_any a b) = is_same_if_any a b
 holds (same_list a b) = is_same_list a b
@@ -37,7 +37,7 @@ holds never = false
 -- the verdict of checks
 unfoldable pub verdict_on : List Check → Verdict
 verdict_on [] = Yes
-verdict_on (c ∷ others) = cond (holds c.claim) (verdict_on others) (No c.table c.line c.column)
+verdict_on (c ∷ others) = cond (holds c.statement) (verdict_on others) (No c.table c.line c.column)
 
 -- the verdict of a job's audit
 abbrev pub verdict_of : Settings → JobRows → Verdict

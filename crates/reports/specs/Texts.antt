@@ -55,8 +55,8 @@ IsFreeOut net before after =
     (grown output.LinkTime (free_link_time_text net.links) before)
 
 -- a first part of LinkTime went out, or LinkTime whole and a first part of Report
-abbrev pub IsCutShort : NetRows → Taken → Taken → Type 0
-IsCutShort net before after =
+abbrev pub IsFreeCut : NetRows → Taken → Taken → Type 0
+IsFreeCut net before after =
     IsPartOut output.LinkTime (free_link_time_text net.links) before after
     ⊎ IsPartOut output.Report (free_report_text (length net.nodes) (length net.links))
     (grown output.LinkTime (free_link_time_text net.links) before) after

@@ -6,7 +6,7 @@ ghost use Rattle.desk_io.specs.Transfers.{OnlyPuts, Puts};
 ghost use Rattle.pending_text.specs.declared.pending.TheConstants.{PIECE};
 ghost use Rattle.pending_text.specs.Sending.{Adds};
 ghost use Rattle.reports.specs.Texts.{free_link_line, free_link_time_header, free_link_time_text};
-ghost use Rattle.reports.specs.Texts.{free_report_text, IsFreeOut, IsCutShort};
+ghost use Rattle.reports.specs.Texts.{free_report_text, IsFreeOut, IsFreeCut};
 
 use desk_io::{Desk, Failed, Output};
 use net_core::{LinkRow, Net};
@@ -82,7 +82,7 @@ fn report(nodes: u32, links: u32) -> Pending
 /// out, of Report only where LinkTime is whole. It takes no memory.
 pub fn put_free<D: Desk>(desk: &mut D, net: &Net) -> Result<(), Failed>
     ensures { let state = state_of D.left D.taken D.read_faults D.put_faults in
-        OnlyPuts (IsFreeOut net.now) (IsCutShort net.now)
+        OnlyPuts (IsFreeOut net.now) (IsFreeCut net.now)
         (state desk.old) (state desk.new) result }
 {
     put_links(desk, net.links())?;

@@ -46,8 +46,8 @@ IsSkimOut net entries before after =
     (grown output.Skim (skim_text entries) before)
 
 -- a first part of Skim went out, or Skim whole and a first part of Report
-abbrev pub IsCutShort : NetRows → List SkimEntry → Taken → Taken → Type 0
-IsCutShort net entries before after =
+abbrev pub IsSkimCut : NetRows → List SkimEntry → Taken → Taken → Type 0
+IsSkimCut net entries before after =
     IsPartOut output.Skim (skim_text entries) before after
     ⊎ IsPartOut output.Report (skim_report_text net entries)
     (grown output.Skim (skim_text entries) before) after

@@ -6,7 +6,7 @@ ghost use Rattle.desk_io.specs.Transfers.{OnlyPuts, Puts};
 ghost use Rattle.pending_text.specs.declared.pending.TheConstants.{DIGITS, PIECE};
 ghost use Rattle.pending_text.specs.Sending.{Adds};
 ghost use Rattle.skims.specs.Texts.{entry_line, least_or_nothing, skim_header, skim_text};
-ghost use Rattle.skims.specs.Texts.{skim_report_lines, IsCutShort, IsSkimOut};
+ghost use Rattle.skims.specs.Texts.{skim_report_lines, IsSkimCut, IsSkimOut};
 
 use crate::skim_entry::{Skim, SkimEntry};
 use desk_io::{Desk, Failed, Output};
@@ -101,7 +101,7 @@ fn report(nodes: u32, links: u32, zones: u32, entries: usize) -> Pending
 /// It takes no memory.
 pub fn put_skim<D: Desk>(desk: &mut D, net: &Net, skim: &Skim) -> Result<(), Failed>
     ensures { let state = state_of D.left D.taken D.read_faults D.put_faults in
-        OnlyPuts (IsSkimOut net.now skim.now) (IsCutShort net.now skim.now)
+        OnlyPuts (IsSkimOut net.now skim.now) (IsSkimCut net.now skim.now)
         (state desk.old) (state desk.new) result }
 {
     let entries = skim.as_slice();

@@ -38,8 +38,8 @@ IsSweepOut scenarios before after =
     (grown output.Sweep (sweep_text scenarios) before)
 
 -- a first part of Sweep went out, or Sweep whole and a first part of Report
-abbrev pub IsCutShort : List Scenario → Taken → Taken → Type 0
-IsCutShort scenarios before after =
+abbrev pub IsSweepCut : List Scenario → Taken → Taken → Type 0
+IsSweepCut scenarios before after =
     IsPartOut output.Sweep (sweep_text scenarios) before after
     ⊎ IsPartOut output.Report (sweep_report_line (length scenarios))
     (grown output.Sweep (sweep_text scenarios) before) after

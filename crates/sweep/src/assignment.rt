@@ -35,7 +35,7 @@ pub(crate) struct Assigned {
 
 // The loading of an iteration, its link times, and the state after its last step.
 #[derive(Drop)]
-struct Round {
+struct Measured {
     loaded: Loaded,
     times: LinkTimes,
     end: Eight,
@@ -62,13 +62,13 @@ fn loading_of<'a>(
 }
 
 // Loads an iteration, makes its link times, and counts its last state.
-fn round_of(
+fn measured_of(
     alloc: Global,
     settings: &Settings,
     net: &Net,
     trips: &[Trip],
     routes: &Routes,
-) -> Result<Round, Memory>
+) -> Result<Measured, Memory>
     requires settings { AreSettings settings.now }
     requires traffic { IsTraffic settings.now.horizon (traffic_over net.now trips.now) }
     requires routes { AreRoutesOf (traffic_over net.now trips.now) routes.now }
@@ -81,7 +81,7 @@ fn round_of(
     let loaded = load_plain(alloc, &loading)?;
     let times = LinkTimes::of(alloc, &loading, &loaded, settings.bucket)?;
     let end = final_state(&loading, &loaded);
-    Ok(Round { loaded, times, end })
+    Ok(Measured { loaded, times, end })
 }
 
 // Does an iteration that isn't the last: its loading, its gap, and the routes of the next in place
@@ -105,7 +105,7 @@ fn advance<R: AllocGlobal + Threads + Sync>(
         routes.new lines.new.items) }
 {
     let alloc = rt.alloc();
-    let round = round_of(alloc, settings, net, trips, routes)?;
+    let round = measured_of(alloc, settings, net, trips, routes)?;
     let old = std::mem::replace(routes, Routes::of(Vec::new(alloc)));
     let times = &round.times;
     let (line, next) = gap_and_next_routes(rt, net, trips, times, old, iteration, WORKERS, pool)?;
@@ -130,7 +130,7 @@ fn finish<R: AllocGlobal + Threads + Sync>(
         routes lines.items }
     ensures { IfOk result (IsAssigned settings.now (traffic_over net.now trips.now)) }
 {
-    let Round { loaded, times, end } = round_of(rt.alloc(), settings, net, trips, &routes)?;
+    let Measured { loaded, times, end } = measured_of(rt.alloc(), settings, net, trips, &routes)?;
     let line = gap_by_shares(rt, net, &times, trips, &routes, WORKERS, pool)?;
     let mut lines = lines;
     lines.push(line)?;

@@ -3,7 +3,7 @@ ghost use Rattle.std.specs.Prelude.{◌≡◌, ◌++◌, length};
 ghost use Rattle.desk_io.specs.declared.desk.Output.TheVariants as output;
 ghost use Rattle.desk_io.specs.State.{state_of};
 ghost use Rattle.desk_io.specs.Transfers.{OnlyPuts, Puts};
-ghost use Rattle.sweep.specs.Texts.{IsCutShort, IsSweepOut, scenario_line, scenario_text};
+ghost use Rattle.sweep.specs.Texts.{IsSweepCut, IsSweepOut, scenario_line, scenario_text};
 ghost use Rattle.sweep.specs.Texts.{sweep_report_line, sweep_text, tables_of};
 
 use crate::scenario::{Scenario, Sweep};
@@ -81,7 +81,7 @@ fn report(scenarios: usize) -> Pending
 /// It takes no memory.
 pub fn put_sweep<D: Desk>(desk: &mut D, sweep: &Sweep) -> Result<(), Failed>
     ensures { let state = state_of D.left D.taken D.read_faults D.put_faults in
-        OnlyPuts (IsSweepOut sweep.now) (IsCutShort sweep.now)
+        OnlyPuts (IsSweepOut sweep.now) (IsSweepCut sweep.now)
         (state desk.old) (state desk.new) result }
 {
     let scenarios = sweep.as_slice();

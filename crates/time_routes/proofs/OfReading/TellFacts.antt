@@ -6,7 +6,7 @@ use Rattle.std.proofs.lemmas.List.{length-set, length-replicate}
 use Rattle.std.proofs.lemmas.Option.{slice_get-get_or, slice_get_within, get_or_from_slice_get}
 use Rattle.std.proofs.lemmas.Bool.{cases_lt}
 use Rattle.std.proofs.lemmas.List.Elements.{All-push, All-weaker}
-use Rattle.net_core.specs.Grouped.{Grouped}
+use Rattle.net_core.specs.AreListed.{AreListed}
 use Rattle.net_core.specs.Network.{as_zone, link_at, numbers_below, zone_number, zones}
 use Rattle.net_core.specs.declared.rows.LinkNo.{LinkNo}
 use Rattle.net_core.specs.declared.rows.NetRows.{NetRows}
@@ -268,12 +268,12 @@ found_each lists found zone each z h some = by (cases_lt z zone)
         subst (λ n. Stands (zone_numbers (noted found (record { 0 = zone }) (get_or lists zone []))) n) (sym same) (last_noted found (record { 0 = zone }) (get_or lists zone []) there)
 
 -- ---- the vehicles of a zone
-module _ (net : NetRows) (trips : List Trip) (asks : List Ask) (lists : List (List ℕ)) (g : Grouped lists (length (zones net.nodes)) (wanted_zone net trips asks) (numbers_below (length trips))) (few : length (zones net.nodes) ≤ NO_ZONE) where
+module _ (net : NetRows) (trips : List Trip) (asks : List Ask) (lists : List (List ℕ)) (g : AreListed lists (length (zones net.nodes)) (wanted_zone net trips asks) (numbers_below (length trips))) (few : length (zones net.nodes) ≤ NO_ZONE) where
   abbrev goes : ℕ → ℕ → Bool
   goes z v = nat_eq (wanted_zone net trips asks v) z
 
   pub vehicles_lead : (z : ℕ) → z < length (zones net.nodes) → All (LeadsTo net trips asks z) (get_or lists z [])
-  vehicles_lead z small = subst (λ l. All (LeadsTo net trips asks z) l) (sym (g.grouped z small)) (λ k d h. one k d h)
+  vehicles_lead z small = subst (λ l. All (LeadsTo net trips asks z) l) (sym (g.listed z small)) (λ k d h. one k d h)
     where
       one : (k d : ℕ) → k < length (filter (goes z) (numbers_below (length trips))) → LeadsTo net trips asks z (get_or (filter (goes z) (numbers_below (length trips))) k d)
       one k d h =
@@ -285,7 +285,7 @@ module _ (net : NetRows) (trips : List Trip) (asks : List Ask) (lists : List (Li
   pub leading_stand : (z v : ℕ) → z < length (zones net.nodes) → LeadsTo net trips asks z v → Stands (get_or lists z []) v
   leading_stand z v small to =
       let r = of_filter (goes z) (numbers_below (length trips)) v v (number_stands (length trips) v to.within) (same_true (wanted_zone net trips asks v) z to.to) in
-      (r.0, ap (λ xs. slice_get xs (r.0)) (g.grouped z small) ∙ r.1)
+      (r.0, ap (λ xs. slice_get xs (r.0)) (g.listed z small) ∙ r.1)
 
   pub first_more : (named : List ZoneNo) (place : ℕ) (d : ZoneNo) (vehicles : List ℕ) → All (λ zone. zone.0 < length (zones net.nodes)) named → get_or lists (get_or named place d).0 [] ≡ vehicles
       → (v : ℕ) → LeadsToFirst net trips asks named (place + 1) v → LeadsToFirst net trips asks named place v ⊎ Stands vehicles v
@@ -367,7 +367,7 @@ one_of x zero v h = absurd (omega (arith, h))
 one_of x (suc n) zero h = refl
 one_of x (suc n) (suc v) h = one_of x n v (omega (arith, h))
 
-module _ (net : NetRows) (trips : List Trip) (asks : List Ask) (lists : List (List ℕ)) (g : Grouped lists (length (zones net.nodes)) (wanted_zone net trips asks) (numbers_below (length trips))) (few : length (zones net.nodes) ≤ NO_ZONE)
+module _ (net : NetRows) (trips : List Trip) (asks : List Ask) (lists : List (List ℕ)) (g : AreListed lists (length (zones net.nodes)) (wanted_zone net trips asks) (numbers_below (length trips))) (few : length (zones net.nodes) ≤ NO_ZONE)
     (found : List ZoneNo) (each : (z : ℕ) → z < length (zones net.nodes) → get_or lists z [] ≢ [] → Stands (zone_numbers found) z) where
   leads_there : (v z : ℕ) (trip : Trip) → AsksSome asks v → slice_get trips v ≡ Some trip → zone_number net trip.destination ≡ Some z → LeadsToFirst net trips asks found (length found) v
   leads_there v z trip a there to =

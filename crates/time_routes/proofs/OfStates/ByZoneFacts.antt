@@ -5,10 +5,10 @@ use Rattle.std.proofs.lemmas.List.{append-nil}
 use Rattle.std.proofs.lemmas.List.Elements.{filter-append}
 use Rattle.std.proofs.lemmas.Option.{slice_get-get_or}
 use Rattle.std.proofs.lemmas.Bool.{and_parts}
-use Rattle.net_core.specs.Grouped.{Grouped}
+use Rattle.net_core.specs.AreListed.{AreListed}
 use Rattle.net_core.specs.Network.{IsNet, link_at, numbers_below, zones}
 use Rattle.net_core.specs.declared.rows.NetRows.{NetRows}
-use Rattle.net_core.proofs.GroupedFacts.{grouped-more}
+use Rattle.net_core.proofs.ListedFacts.{listed-more}
 use Rattle.net_core.proofs.Numbers.{numbers_more}
 use Rattle.dta_model.specs.Walks.{begins_in, is_zone, zone_at}
 use Rattle.time_routes.specs.Reading.FirstLinks.{AreFirsts}
@@ -20,16 +20,16 @@ use Rattle.time_routes.proofs.OfStates.ZoneFacts.{zone_same}
 use Rattle.time_routes.proofs.Basics.{differs, is_below}
 
 -- an item of a list
-pub grouped_in : (lists : List (List ℕ)) (bound : ℕ) (number : ℕ → ℕ) (items : List ℕ) (item zone : ℕ) → number item ≡ zone → zone < bound → Grouped lists bound number items → Grouped (set lists zone (get_or lists zone [] ++ item ∷ [])) bound number (items ++ item ∷ [])
-grouped_in lists bound number items item zone is inside g =
-    subst (λ z. Grouped (set lists z (get_or lists z [] ++ item ∷ [])) bound number (items ++ item ∷ [])) is
-    (grouped-more lists bound number items item (omega (arith, is, inside)) g)
+pub listed_in : (lists : List (List ℕ)) (bound : ℕ) (number : ℕ → ℕ) (items : List ℕ) (item zone : ℕ) → number item ≡ zone → zone < bound → AreListed lists bound number items → AreListed (set lists zone (get_or lists zone [] ++ item ∷ [])) bound number (items ++ item ∷ [])
+listed_in lists bound number items item zone is inside g =
+    subst (λ z. AreListed (set lists z (get_or lists z [] ++ item ∷ [])) bound number (items ++ item ∷ [])) is
+    (listed-more lists bound number items item (omega (arith, is, inside)) g)
 
 -- an item that has no list
-pub grouped_out : (lists : List (List ℕ)) (bound : ℕ) (number : ℕ → ℕ) (items : List ℕ) (item zone : ℕ) → number item ≡ zone → bound < zone → Grouped lists bound number items → Grouped lists bound number (items ++ item ∷ [])
-grouped_out lists bound number items item zone is past g = record {
+pub listed_out : (lists : List (List ℕ)) (bound : ℕ) (number : ℕ → ℕ) (items : List ℕ) (item zone : ℕ) → number item ≡ zone → bound < zone → AreListed lists bound number items → AreListed lists bound number (items ++ item ∷ [])
+listed_out lists bound number items item zone is past g = record {
   bounded = g.bounded;
-  grouped = λ n h. g.grouped n h ∙ sym (same n h);
+  listed = λ n h. g.listed n h ∙ sym (same n h);
 }
   where
     same : (n : ℕ) → n < bound → filter (λ x. nat_eq (number x) n) (items ++ item ∷ []) ≡ filter (λ x. nat_eq (number x) n) items
@@ -39,20 +39,20 @@ grouped_out lists bound number items item zone is past g = record {
         filter-append (λ x. nat_eq (number x) n) items (item ∷ []) ∙ ap (λ l. filter (λ x. nat_eq (number x) n) items ++ l) none ∙ append-nil (filter (λ x. nat_eq (number x) n) items)
 
 -- one more link
-pub grouped_more : (old new : List (List ℕ)) (bound : ℕ) (number : ℕ → ℕ) (link zone : ℕ) → zone ≡ number link
-    → ((f : ℕ → ℕ) (items : List ℕ) → f link ≡ zone → Grouped old (length old) f items → Grouped new (length old) f (items ++ link ∷ []))
-    → Grouped old bound number (numbers_below link) → Grouped new bound number (numbers_below (link + 1))
-grouped_more old new bound number link zone is noted g =
+pub listed_more : (old new : List (List ℕ)) (bound : ℕ) (number : ℕ → ℕ) (link zone : ℕ) → zone ≡ number link
+    → ((f : ℕ → ℕ) (items : List ℕ) → f link ≡ zone → AreListed old (length old) f items → AreListed new (length old) f (items ++ link ∷ []))
+    → AreListed old bound number (numbers_below link) → AreListed new bound number (numbers_below (link + 1))
+listed_more old new bound number link zone is noted g =
     let many = g.bounded in
-    let n = noted number (numbers_below link) (sym is) (subst (λ b. Grouped old b number (numbers_below link)) (sym many) g) in
-    subst (λ l. Grouped new bound number l) (sym (numbers_more link)) (subst (λ b. Grouped new b number (numbers_below link ++ link ∷ [])) many n)
+    let n = noted number (numbers_below link) (sym is) (subst (λ b. AreListed old b number (numbers_below link)) (sym many) g) in
+    subst (λ l. AreListed new bound number l) (sym (numbers_more link)) (subst (λ b. AreListed new b number (numbers_below link ++ link ∷ [])) many n)
 
-module _ (net : NetRows) (sound : IsNet net) (origin : ℕ) (small : origin < length (zones net.nodes)) (firsts : List (List ℕ)) (g : Grouped firsts (length (zones net.nodes)) (begin_zone net) (numbers_below (length net.links))) where
+module _ (net : NetRows) (sound : IsNet net) (origin : ℕ) (small : origin < length (zones net.nodes)) (firsts : List (List ℕ)) (g : AreListed firsts (length (zones net.nodes)) (begin_zone net) (numbers_below (length net.links))) where
   abbrev starts : ℕ → Bool
   starts l = nat_eq (begin_zone net l) origin
 
   list_is : get_or firsts origin [] ≡ filter starts (numbers_below (length net.links))
-  list_is = g.grouped origin small
+  list_is = g.listed origin small
 
   pub firsts_rise : IsRising (get_or firsts origin [])
   firsts_rise = subst (λ l. IsRising l) (sym list_is) (rising_filter starts (numbers_below (length net.links)) (numbers_rise (length net.links)))

@@ -1,6 +1,6 @@
 -- What is answered of vehicles, each by itself.
 use Rattle.std.specs.Prelude.{◌≡◌, ◌≢◌, ℕ, ◌<◌, ◌≤◌, List, length, map, All}
-use Rattle.net_core.specs.Grouped.{Grouped}
+use Rattle.net_core.specs.AreListed.{AreListed}
 use Rattle.net_core.specs.Network.{numbers_below, zones}
 use Rattle.net_core.specs.declared.rows.NetRows.{NetRows}
 use Rattle.dta_model.specs.LinkTimes.{TimeTable}
@@ -41,6 +41,6 @@ pub record IsSearch (net : NetRows) (times : TimeTable) (trips : List Trip) (ask
   pub table : length times.free ≡ length net.links
   pub apart : All (λ trip. trip.origin ≢ trip.destination) trips
   pub each : length asks ≡ length trips
-  pub grouped : Grouped lists (length (zones net.nodes)) (wanted_zone net trips asks)
+  pub grouped : AreListed lists (length (zones net.nodes)) (wanted_zone net trips asks)
       (numbers_below (length trips))
   pub numbers : length (zones net.nodes) ≤ NO_ZONE

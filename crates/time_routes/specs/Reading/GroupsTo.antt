@@ -1,6 +1,6 @@
 -- What the labels of a group keep.
 use Rattle.std.specs.Prelude.{◌≡◌, ◌<◌, length, All}
-use Rattle.net_core.specs.Grouped.{Grouped}
+use Rattle.net_core.specs.AreListed.{AreListed}
 use Rattle.net_core.specs.Network.{IsNet, numbers_below, zones}
 use Rattle.dta_model.specs.LinkTimes.{time_at}
 use Rattle.link_times.specs.TimeTables.{IsTimeTable}
@@ -18,6 +18,6 @@ pub record AreFilled (l : Inside) : Type 0 where
   pub table : length l.times.now.free ≡ length l.net.now.links
   pub inside : All (λ z. z.0 < length (zones l.net.now.nodes)) l.zones.items
   pub router : IsRouter l.net.now l.router
-  pub firsts : Grouped l.firsts (length (zones l.net.now.nodes)) (begin_zone l.net.now)
+  pub firsts : AreListed l.firsts (length (zones l.net.now.nodes)) (begin_zone l.net.now)
       (numbers_below (length l.net.now.links))
   pub left : AreAllLeft (time_at l.times.now) l.router l.labels (zone_numbers l.zones.items)

@@ -1,6 +1,6 @@
 // What is answered of vehicles that go to some zones, a group of zones after another.
 ghost use Rattle.std.specs.Prelude.{◌≡◌, ◌≢◌, ◌<◌, ◌≤◌, length, slice_index, All, Some, IfOk, OnOk};
-ghost use Rattle.net_core.specs.Grouped.{Grouped};
+ghost use Rattle.net_core.specs.AreListed.{AreListed};
 ghost use Rattle.net_core.specs.Network.{numbers_below, zone_number, zones as zones_of};
 ghost use Rattle.dta_model.specs.LinkTimes.{time_at};
 ghost use Rattle.time_routes.specs.Destinations.{asks_least, asks_walk, IsRight, LeastOf, WalkOf};
@@ -188,7 +188,7 @@ fn answer_group(
     requires of { labels.now.zones ≡ zone_numbers zones.now }
     requires apart { All (λ trip. trip.origin ≢ trip.destination) trips.now }
     requires asks { length asks.now ≡ length trips.now }
-    requires lists { Grouped lists.now (length (zones_of net.now.nodes))
+    requires lists { AreListed lists.now (length (zones_of net.now.nodes))
         (wanted_zone net.now trips.now asks.now) (numbers_below (length trips.now)) }
     requires numbers { length (zones_of net.now.nodes) ≤ NO_ZONE }
     requires zones { All (λ zone. zone.0 < length (zones_of net.now.nodes)) zones.now }
@@ -221,7 +221,7 @@ pub(crate) fn answers_to(
     requires table { length times.now.free ≡ length net.now.links }
     requires apart { All (λ trip. trip.origin ≢ trip.destination) trips.now }
     requires asks { length asks.now ≡ length trips.now }
-    requires lists { Grouped lists.now (length (zones_of net.now.nodes))
+    requires lists { AreListed lists.now (length (zones_of net.now.nodes))
         (wanted_zone net.now trips.now asks.now) (numbers_below (length trips.now)) }
     requires numbers { length (zones_of net.now.nodes) ≤ NO_ZONE }
     requires zones { All (λ zone. zone.0 < length (zones_of net.now.nodes)) zones.now }

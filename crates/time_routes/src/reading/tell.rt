@@ -1,7 +1,7 @@
 // Vehicles by their destinations, and what is told of them: least times and chosen walks.
 ghost use Rattle.std.specs.Prelude.{◌≡◌, ◌≢◌, ◌<◌, ◌≤◌, ℕ, [], length, get_or, replicate, All};
 ghost use Rattle.std.specs.Prelude.{None, IfOk, OnOk};
-ghost use Rattle.net_core.specs.Grouped.{Grouped};
+ghost use Rattle.net_core.specs.AreListed.{AreListed};
 ghost use Rattle.net_core.specs.Network.{numbers_below, zones as zones_of};
 ghost use Rattle.dta_model.specs.LinkTimes.{time_at};
 ghost use Rattle.dta_model.specs.Sound.{AreTrips};
@@ -80,7 +80,7 @@ fn zone_wanted(net: &Net, trip: &Trip, ask: Ask) -> u32
 fn by_destination(alloc: Global, net: &Net, trips: &[Trip], asks: &[Ask]) -> Result<ByZone, Memory>
     requires few { length trips.now ≤ MOST_TRIPS }
     requires each { length asks.now ≡ length trips.now }
-    ensures { IfOk result (λ lists. Grouped lists (length (zones_of net.now.nodes))
+    ensures { IfOk result (λ lists. AreListed lists (length (zones_of net.now.nodes))
         (wanted_zone net.now trips.now asks.now) (numbers_below (length trips.now))) }
 {
     let _sound = net.node_count();

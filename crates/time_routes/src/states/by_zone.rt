@@ -1,7 +1,7 @@
 // Numbers listed by zones: links by where they begin, vehicles by where they go.
 ghost use Rattle.std.specs.Prelude.{◌≡◌, ◌≢◌, ◌+◌, ◌<◌, ◌++◌, ◌∷◌, ℕ, List, [], length, replicate};
 ghost use Rattle.std.specs.Prelude.{set, get_or, All, IfOk, OnOk};
-ghost use Rattle.net_core.specs.Grouped.{Grouped};
+ghost use Rattle.net_core.specs.AreListed.{AreListed};
 ghost use Rattle.net_core.specs.Network.{link_at, IsNet, numbers_below, zones};
 ghost use Rattle.time_routes.specs.States.Onwards.{begin_zone};
 
@@ -45,7 +45,7 @@ impl ByZone {
     }
 
     // Adds a number at the end of the list of a zone.
-    #[tactic(auto, using(net_core::proofs::GroupsFacts::pushed))]
+    #[tactic(auto, using(net_core::proofs::ListsFacts::pushed))]
     fn push(&mut self, zone: u32, link: u32) -> Result<(), Memory>
         requires { zone < length self.old }
         ensures { OnOk result (self.new ≡ set self.old zone
@@ -60,8 +60,8 @@ impl ByZone {
         requires zone { zone ≢ NO_ZONE → zone < length self.old }
         requires short { length self.old < NO_ZONE }
         ensures { OnOk result ((number : ℕ → ℕ) (items : List ℕ) → number link ≡ zone
-            → Grouped self.old (length self.old) number items
-            → Grouped self.new (length self.old) number (items ++ link ∷ [])) }
+            → AreListed self.old (length self.old) number items
+            → AreListed self.new (length self.old) number (items ++ link ∷ [])) }
     {
         if zone == NO_ZONE {
             Ok(())
@@ -94,9 +94,9 @@ fn zone_of_begin(net: &Net, link: LinkNo) -> u32
 }
 
 /// The links that begin in each zone of a network.
-#[tactic(auto, using(crate::proofs::OfStates::ByZoneFacts::grouped_more))]
+#[tactic(auto, using(crate::proofs::OfStates::ByZoneFacts::listed_more))]
 pub(crate) fn links_by_zone(alloc: Global, net: &Net) -> Result<ByZone, Memory>
-    ensures { IfOk result (λ firsts. Grouped firsts (length (zones net.now.nodes))
+    ensures { IfOk result (λ firsts. AreListed firsts (length (zones net.now.nodes))
         (begin_zone net.now) (numbers_below (length net.now.links))) }
 {
     let links = net.link_count();

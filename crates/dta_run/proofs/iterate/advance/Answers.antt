@@ -11,7 +11,7 @@ returns-in_err-round-clause-watches g c =
     rw (p.1, p.2) (record {
       done = tt;
       halts = λ start before. halts-in c.args.settings.now c.args.job.now c.in_err-round.field-0.0 c.args.iteration c.args.routes.now c.args.lines.now.items start
-          (g.D.Desk.taken c.args.desk.now) (g.D.Desk.taken c.load_round.new.desk) before (omega arith) w.halts;
+          (g.D.Desk.taken c.args.desk.now) (g.D.Desk.taken c.load_and_measure.new.desk) before (omega arith) w.halts;
       failed = w.failed;
       later = w.later;
       left = w.left;
@@ -25,7 +25,7 @@ returns-in_err-line-clause-watches g c =
     rw (p.1, p.2) (record {
       done = tt;
       halts = λ start before. halts-after c.args.settings.now c.args.job.now c.in_err-line.field-0.0 c.args.iteration c.args.routes.now c.args.lines.now.items start
-          (g.D.Desk.taken c.args.desk.now) (g.D.Desk.taken c.load_round.new.desk) before (omega arith) w.done c.in_err-line.ensures.memory;
+          (g.D.Desk.taken c.args.desk.now) (g.D.Desk.taken c.load_and_measure.new.desk) before (omega arith) w.done c.in_err-line.ensures.memory;
       failed = not-watch c.in_err-line.field-0.0 _ c.in_err-line.ensures.memory;
       later = w.later;
       left = w.left;
@@ -39,7 +39,7 @@ returns-in_err-push-clause-watches g c =
     rw (p.1, p.2) (record {
       done = tt;
       halts = λ start before. halts-after c.args.settings.now c.args.job.now halt.Memory c.args.iteration c.args.routes.now c.args.lines.now.items start
-          (g.D.Desk.taken c.args.desk.now) (g.D.Desk.taken c.load_round.new.desk) before (omega arith) w.done refl;
+          (g.D.Desk.taken c.args.desk.now) (g.D.Desk.taken c.load_and_measure.new.desk) before (omega arith) w.done refl;
       failed = not-watch halt.Memory _ refl;
       later = w.later;
       left = w.left;
@@ -51,7 +51,7 @@ returns-clause-watches g c =
     let w = c.in_ok-round.ensures.watches in
     record {
       done = λ start before. ahead c.args.settings.now c.args.job.now c.args.iteration c.args.routes.now c.leave.new.routes c.args.lines.now.items _ c.in_ok-line.line start
-          (g.D.Desk.taken c.args.desk.now) (g.D.Desk.taken c.load_round.new.desk) before w.done c.in_ok-push.ensures.items c.in_ok-line.ensures.gap c.in_ok-line.ensures.next;
+          (g.D.Desk.taken c.args.desk.now) (g.D.Desk.taken c.load_and_measure.new.desk) before w.done c.in_ok-push.ensures.items c.in_ok-line.ensures.gap c.in_ok-line.ensures.next;
       halts = tt;
       failed = tt;
       later = w.later;

@@ -1,6 +1,6 @@
 use Rattle.std.proofs.Common.{◌≡◌, ap, arith, refl, subst}
 use Rattle.net_core.specs.declared.rows.NetRows.{NetRows}
-use Rattle.skims.specs.Texts.{IsCutShort, IsSkimOut}
+use Rattle.skims.specs.Texts.{IsSkimCut, IsSkimOut}
 use Rattle.dta_run.specs.Jobs.{JobRows}
 use Rattle.dta_run.specs.declared.status.Status.TheVariants as status
 use Rattle.dta_run.proofs.RunFacts.{nothing-put, skim-cut, skim-done}
@@ -24,7 +24,7 @@ returns-in-Ok g c =
     let o = c.in-Err-put_skim.ensures in
     record {
       work = skim-cut c.args.settings.now c.args.job.now c.requires.command _ c.in-Ok.ensures (g.D.Desk.taken c.args.desk.now) (g.D.Desk.taken c.put_skim.new.desk)
-          (subst (λ (n : NetRows). IsCutShort n c.in-Ok.skim (g.D.Desk.taken c.args.desk.now) (g.D.Desk.taken c.put_skim.new.desk)) (ap (λ (j : JobRows). j.net) c.job.view_is) o.refused);
+          (subst (λ (n : NetRows). IsSkimCut n c.in-Ok.skim (g.D.Desk.taken c.args.desk.now) (g.D.Desk.taken c.put_skim.new.desk)) (ap (λ (j : JobRows). j.net) c.job.view_is) o.refused);
       failed = λ _. o.cause.failed;
       differs = λ (k : status.WriteFault ≡ status.Differs). absurd cc;
       later = o.cause.later;

@@ -3,7 +3,7 @@ use Rattle.net_core.specs.ByNode.{end_of, start_of}
 use Rattle.net_core.specs.Network.{as_links, numbers_below}
 use Rattle.net_core.specs.Rows.{IsBetween}
 use Rattle.net_core.proofs.ByNodeFacts.{as_links-more}
-use Rattle.net_core.proofs.GroupedFacts.{grouped-more}
+use Rattle.net_core.proofs.ListedFacts.{listed-more}
 use Rattle.net_core.proofs.RowsFacts.{link_in-all}
 use Rattle.net_core.proofs.by_node.link_lists.Goals as goal
 
@@ -27,7 +27,7 @@ loop-place-preserved c =
     let between = link_in-all (IsBetween c.args.nodes.now) links place c.loop-place-test.true c.requires.between in
     record {
       ins = rw (c.in_ok-push.ensures, c.row-ends.ensures, as_links-more place)
-          (grouped-more c.loop-place.ins count (end_of links) (as_links (numbers_below place)) (record { 0 = place }) between.to c.loop-place.invariant.ins);
+          (listed-more c.loop-place.ins count (end_of links) (as_links (numbers_below place)) (record { 0 = place }) between.to c.loop-place.invariant.ins);
       outs = rw (c.in_ok-push-2.ensures, c.row-ends.ensures, as_links-more place)
-          (grouped-more c.loop-place.outs count (start_of links) (as_links (numbers_below place)) (record { 0 = place }) between.from c.loop-place.invariant.outs);
+          (listed-more c.loop-place.outs count (start_of links) (as_links (numbers_below place)) (record { 0 = place }) between.from c.loop-place.invariant.outs);
     }

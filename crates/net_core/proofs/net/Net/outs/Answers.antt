@@ -7,4 +7,4 @@ use Rattle.net_core.proofs.net.Net.outs.Goals as goal
 pub returns : goal.returns
 returns c =
     let within = subst (λ (net : NetRows). c.args.node.0 < length net.nodes) (sym c.self.view_is) c.requires in
-    rw (← c.self.view_is) (sym c.get.ensures ∙ c.self.invariant.outs.grouped c.args.node.0 within ∙ outs-filtered (rows_of c.self.inside) c.args.node.0)
+    rw (← c.self.view_is) (sym c.get.ensures ∙ c.self.invariant.outs.listed c.args.node.0 within ∙ outs-filtered (rows_of c.self.inside) c.args.node.0)

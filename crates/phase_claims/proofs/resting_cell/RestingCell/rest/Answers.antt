@@ -7,7 +7,7 @@ use Rattle.phase_claims.proofs.resting_cell.RestingCell.rest.Goals as goal
 
 pub invariant_of-self-else-self : goal.invariant_of-self-else-self
 invariant_of-self-else-self c =
-    rests_on c.self.inside.cell c.rest-else-self.new.self c.self.inside.missed c.self.inside.wake c.self.inside.known c.self.inside.notes.value.counts c.self.inside.notes.value.rooms.items
+    rests_on c.self.inside.cell c.rest-else-self.new.self c.self.inside.missed c.self.inside.wake c.self.inside.known c.self.inside.remembered.value.counts c.self.inside.remembered.value.rooms.items
     (c.rest-else-self.ensures ∙ ap (λ s. rested 1 s) c.rest.ensures) c.self.invariant
 
 pub returns-then-self-lt4294967295 : goal.returns-then-self-lt4294967295

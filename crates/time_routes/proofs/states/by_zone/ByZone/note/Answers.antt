@@ -1,13 +1,13 @@
 use Rattle.std.proofs.Common.{◌++◌, ◌∷◌, [], length, arith, subst, sym}
-use Rattle.net_core.specs.Grouped.{Grouped}
-use Rattle.time_routes.proofs.OfStates.ByZoneFacts.{grouped_in, grouped_out}
+use Rattle.net_core.specs.AreListed.{AreListed}
+use Rattle.time_routes.proofs.OfStates.ByZoneFacts.{listed_in, listed_out}
 use Rattle.time_routes.proofs.states.by_zone.ByZone.note.Goals as goal
 
 pub returns-then-zone-eq-NO_ZONE : goal.returns-then-zone-eq-NO_ZONE
 returns-then-zone-eq-NO_ZONE c number items is g =
-    grouped_out c.args.self.now (length c.args.self.now) number items c.args.link c.args.zone is (omega (arith, c.requires.short, c.if-zone-eq-NO_ZONE.true)) g
+    listed_out c.args.self.now (length c.args.self.now) number items c.args.link c.args.zone is (omega (arith, c.requires.short, c.if-zone-eq-NO_ZONE.true)) g
 
 pub returns-in_ok-push : goal.returns-in_ok-push
 returns-in_ok-push c number items is g =
-    subst (λ l. Grouped l (length c.args.self.now) number (items ++ c.args.link ∷ [])) (sym c.in_ok-push.ensures)
-    (grouped_in c.args.self.now (length c.args.self.now) number items c.args.link c.args.zone is (c.requires.zone c.if-zone-eq-NO_ZONE.false) g)
+    subst (λ l. AreListed l (length c.args.self.now) number (items ++ c.args.link ∷ [])) (sym c.in_ok-push.ensures)
+    (listed_in c.args.self.now (length c.args.self.now) number items c.args.link c.args.zone is (c.requires.zone c.if-zone-eq-NO_ZONE.false) g)

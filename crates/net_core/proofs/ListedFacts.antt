@@ -3,13 +3,13 @@ use Rattle.std.proofs.Common.{◌≡◌, ◌≢◌, ℕ, ◌<◌, List, [], ◌�
 use Rattle.std.specs.Prelude.{replicate, filter}
 use Rattle.std.proofs.lemmas.List.{length-set, get_or-set_same, get_or-set_other, get_or-replicate, length-replicate}
 use Rattle.std.proofs.lemmas.List.Elements.{filter-append}
-use Rattle.net_core.specs.Grouped.{Grouped}
+use Rattle.net_core.specs.AreListed.{AreListed}
 
-pub grouped-none : {T : Type 0} (bound : ℕ) (number : T → ℕ)
-    → Grouped (replicate bound []) bound number []
-grouped-none bound number = record {
+pub listed-none : {T : Type 0} (bound : ℕ) (number : T → ℕ)
+    → AreListed (replicate bound []) bound number []
+listed-none bound number = record {
   bounded = length-replicate bound [];
-  grouped = λ n b. get_or-replicate bound n [] [] b;
+  listed = λ n b. get_or-replicate bound n [] [] b;
 }
 
 set-here : {T : Type 0} (lists : List (List T)) (m n : ℕ) (x : List T) → m ≡ n → m < length lists
@@ -41,11 +41,11 @@ list-more lists number items item n b before =
     ] refl
 
 -- an item goes to the end of the list of its number, and the other lists stay
-pub grouped-more : {T : Type 0} (lists : List (List T)) (bound : ℕ) (number : T → ℕ) (items : List T)
-    (item : T) → number item < bound → Grouped lists bound number items
-    → Grouped (set lists (number item) (get_or lists (number item) [] ++ item ∷ [])) bound number
+pub listed-more : {T : Type 0} (lists : List (List T)) (bound : ℕ) (number : T → ℕ) (items : List T)
+    (item : T) → number item < bound → AreListed lists bound number items
+    → AreListed (set lists (number item) (get_or lists (number item) [] ++ item ∷ [])) bound number
     (items ++ item ∷ [])
-grouped-more lists bound number items item b g = record {
+listed-more lists bound number items item b g = record {
   bounded = length-set lists (number item) _ ∙ g.bounded;
-  grouped = λ n v. list-more lists number items item n (rw g.bounded b) (g.grouped n v);
+  listed = λ n v. list-more lists number items item n (rw g.bounded b) (g.listed n v);
 }

@@ -1,5 +1,5 @@
 use Rattle.std.proofs.Common.{◌≡◌, [], replicate, map}
-use Rattle.net_core.proofs.groups.Groups.new.Given as goal
+use Rattle.net_core.proofs.lists.ListsByNumber.new.Given as goal
 
 abbrev pub invariant-loop : goal.invariant-loop
 invariant-loop g l = map (λ list. list.items) l.lists.items ≡ replicate l.counter []

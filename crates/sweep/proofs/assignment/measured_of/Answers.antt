@@ -1,7 +1,7 @@
 use Rattle.dta_model.specs.Lent.{plan_of as loading_plan}
 use Rattle.sweep.specs.Traffic.{traffic_over}
 use Rattle.sweep.proofs.AssignmentFacts.{short-table, sound-loading}
-use Rattle.sweep.proofs.assignment.round_of.Goals as goal
+use Rattle.sweep.proofs.assignment.measured_of.Goals as goal
 
 pub load_plain-requires : goal.load_plain-requires
 load_plain-requires c =

@@ -3,7 +3,7 @@ use Rattle.dta_model.specs.Lent.{plan_of as loading_plan}
 use Rattle.dta_model.specs.Sound.{IsSound}
 use Rattle.sweep.proofs.AssignmentFacts.{short-table}
 use Rattle.dta_run.proofs.IterateFacts.{sound-plan}
-use Rattle.dta_run.proofs.load.round_of.Goals as goal
+use Rattle.dta_run.proofs.load.measured_of.Goals as goal
 
 pub of-requires-clause-sound : goal.of-requires-clause-sound
 of-requires-clause-sound c =

@@ -7,11 +7,11 @@ use std::marker::Model;
 
 /// A list of items for each number below a bound.
 #[derive(Drop)]
-pub(crate) struct Groups<T: Drop> {
+pub(crate) struct ListsByNumber<T: Drop> {
     lists: Vec<Vec<T>>,
 }
 
-impl<T: Drop> Model for Groups<T> {
+impl<T: Drop> Model for ListsByNumber<T> {
     ghost use Rattle.std.specs.Prelude.{List, map};
 
     ghost Value = { List (List T) };
@@ -19,16 +19,16 @@ impl<T: Drop> Model for Groups<T> {
     ghost view = { λ b. map (λ list. list.items) b.lists.items };
 }
 
-impl<T: Drop> Groups<T> {
+impl<T: Drop> ListsByNumber<T> {
     /// So many lists without items.
     pub(crate) fn new(alloc: Global, count: usize) -> Result<Self, AllocError>
-        ensures { IfOk result (λ groups. groups ≡ replicate count []) }
+        ensures { IfOk result (λ lists. lists ≡ replicate count []) }
     {
         let mut lists = Vec::new(alloc);
         for _ in 0..count {
             lists.push(Vec::new(alloc))?;
         }
-        Ok(Groups { lists })
+        Ok(ListsByNumber { lists })
     }
 
     /// The list of a number.
@@ -40,7 +40,7 @@ impl<T: Drop> Groups<T> {
     }
 
     /// Adds an item at the end of the list of a number.
-    #[tactic(auto, using(crate::proofs::GroupsFacts::pushed))]
+    #[tactic(auto, using(crate::proofs::ListsFacts::pushed))]
     pub(crate) fn push(&mut self, number: usize, item: T) -> Result<(), AllocError>
         requires { number < length self.old }
         ensures { OnOk result
