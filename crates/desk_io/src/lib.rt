@@ -11,16 +11,18 @@ mod file_desk;
 mod mem_desk;
 mod source;
 mod tally_desk;
-mod text;
 mod transfers;
 
 pub use desk::{Desk, Failed, Output, Table};
 pub use file_desk::FileDesk;
+use lists::List;
 pub use mem_desk::MemDesk;
 use std::alloc::AllocError;
 pub use tally_desk::TallyDesk;
-pub use text::Text;
 pub use transfers::{MOST_TABLE_BYTES, ReadRefusal, put_all, read_table};
 
 /// Want of memory: the error of a call that may allocate and fails in no other way.
 pub type Memory = AllocError;
+
+/// A text, as its bytes.
+pub type Text = List<u8>;

@@ -14,7 +14,6 @@ mod machine;
 mod plan;
 mod queue;
 mod routes;
-mod steps;
 mod trip;
 
 pub use credit::PARTS_OF_A_VEHICLE;
@@ -26,11 +25,10 @@ pub use laws::{
     steps_are_below, steps_rise, trips_are_released, two_links_are_sound, vehicles_are_conserved,
     visits_end_in_order,
 };
-pub use loaded::{Journey, Loaded};
+pub use loaded::{Journey, Loaded, Steps};
 pub use loading::{Loading, MOST_HORIZON, MOST_LINK_STEPS};
 pub use machine::{Event, Outcome, Stage};
 pub use plan::Plan;
 pub use queue::{MOST_WAVE, Queue};
 pub use routes::{Route, Routes};
-pub use steps::Steps;
 pub use trip::{DemandCell, MOST_TRIPS, Trip, VOLUME_OF_A_VEHICLE};

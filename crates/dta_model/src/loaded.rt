@@ -1,8 +1,11 @@
 // What a loading gives: the journey of each vehicle.
 ghost use Rattle.std.specs.Prelude.{◌≡◌, ◌<◌, length, slice_get, slice_set, Some};
 
-use crate::Steps;
+use lists::List;
 use std::marker::Model;
+
+/// Steps, in the order in which they were put in.
+pub type Steps = List<u32>;
 
 /// The steps in which a vehicle entered its links, and the step of its arrival, if it arrived.
 #[derive(Drop)]

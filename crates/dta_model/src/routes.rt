@@ -1,46 +1,12 @@
 // Routes over the links of a network.
 ghost use Rattle.std.specs.Prelude.{◌≡◌, ◌<◌, length, slice_get, option_copied, Some};
 
+use lists::List;
 use net_core::LinkNo;
 use std::marker::Model;
 
 /// Links to be entered one after another.
-#[derive(Drop)]
-pub struct Route {
-    links: Vec<LinkNo>,
-}
-
-impl Model for Route {
-    ghost use Rattle.net_core.specs.declared.rows.LinkNo.{LinkNo};
-    ghost use Rattle.std.specs.Prelude.{List};
-
-    ghost Value = { List LinkNo };
-
-    ghost view = { λ r. r.links.items };
-}
-
-impl Route {
-    /// The route over these links.
-    pub fn of(links: Vec<LinkNo>) -> Self
-        ensures { result ≡ links.items }
-    {
-        Route { links }
-    }
-
-    /// The links, lent.
-    pub fn as_slice(&self) -> &[LinkNo]
-        ensures { result.now ≡ self.now }
-    {
-        self.links.as_slice()
-    }
-
-    /// The links, given away.
-    pub fn into_vec(self) -> Vec<LinkNo>
-        ensures { result.items ≡ self }
-    {
-        self.links
-    }
-}
+pub type Route = List<LinkNo>;
 
 /// A route for each vehicle, or none, in the order of vehicles.
 #[derive(Drop)]

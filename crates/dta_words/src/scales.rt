@@ -9,45 +9,11 @@ use crate::options::{GREATEST_SCALE, LEAST_SCALE, MOST_SCALES};
 use crate::pieces::pieces;
 use desk_io::Memory;
 use fixed_units::milli;
+use lists::List;
 use std::alloc::Global;
-use std::marker::Model;
 
 /// Multiples of a demand in thousandths, in the order in which they were given.
-#[derive(Drop)]
-pub struct Scales {
-    items: Vec<u64>,
-}
-
-impl Model for Scales {
-    ghost use Rattle.std.specs.Prelude.{List, ℕ};
-
-    ghost Value = { List ℕ };
-
-    ghost view = { λ s. s.items.items };
-}
-
-impl Scales {
-    /// These multiples.
-    pub fn of(items: Vec<u64>) -> Self
-        ensures { result ≡ items.items }
-    {
-        Scales { items }
-    }
-
-    /// The multiples, lent.
-    pub fn as_slice(&self) -> &[u64]
-        ensures { result.now ≡ self.now }
-    {
-        self.items.as_slice()
-    }
-
-    /// The multiples, given away.
-    pub fn into_vec(self) -> Vec<u64>
-        ensures { result.items ≡ self }
-    {
-        self.items
-    }
-}
+pub type Scales = List<u64>;
 
 /// The multiple that a piece writes, in thousandths, if it is within the bounds.
 fn scale_of(piece: &str) -> Option<u64>

@@ -17,7 +17,7 @@ ghost use Rattle.net_core.specs.Turns.{IsAllowed};
 use crate::by_node::{link_lists, named_nodes, pairs_of, row};
 use crate::ids::{Ids, Pairs};
 use crate::lists::ListsByNumber;
-use crate::rates::{Rates, Window, Windows, rate_at};
+use crate::rates::{Rates, Window, Windows, copy_of, rate_at};
 use crate::rows::{LinkNo, LinkRow, NodeNo, NodeRow, Turn, TurnRow, ZoneNo};
 use crate::zones::zones_of;
 use std::alloc::{AllocError, Global};
@@ -300,7 +300,7 @@ impl Net {
     {
         Ok(Rates {
             usual: Some(row(&self.links, link).rate),
-            windows: Windows::copy_of(alloc, self.link_windows(link))?,
+            windows: copy_of(alloc, self.link_windows(link))?,
         })
     }
 
@@ -313,7 +313,7 @@ impl Net {
     {
         Ok(Rates {
             usual: self.usual_rate(a, b),
-            windows: Windows::copy_of(alloc, self.turn_windows(a, b))?,
+            windows: copy_of(alloc, self.turn_windows(a, b))?,
         })
     }
 

@@ -2,8 +2,8 @@
 ghost use Rattle.std.specs.Prelude.{◌≡◌, IfOk};
 ghost use Rattle.net_core.specs.Rates.{rate_in};
 
+use lists::List;
 use std::alloc::{AllocError, Global};
-use std::marker::Model;
 
 /// The most windows of a link or a turn.
 pub const MOST_WINDOWS: usize = 64;
@@ -20,48 +20,13 @@ pub struct Window {
 }
 
 /// The windows of a link or a turn, in the order of their steps.
-#[derive(Drop)]
-pub struct Windows {
-    items: Vec<Window>,
-}
+pub type Windows = List<Window>;
 
-impl Model for Windows {
-    ghost use Rattle.net_core.specs.declared.rates.Window.{Window};
-    ghost use Rattle.std.specs.Prelude.{List};
-
-    ghost Value = { List Window };
-
-    ghost view = { λ w. w.items.items };
-}
-
-impl Windows {
-    /// These windows.
-    pub fn of(items: Vec<Window>) -> Self
-        ensures { result ≡ items.items }
-    {
-        Windows { items }
-    }
-
-    /// A copy of windows.
-    pub fn copy_of(alloc: Global, windows: &[Window]) -> Result<Self, AllocError>
-        ensures { IfOk result (λ copy. copy ≡ windows.now) }
-    {
-        Ok(Windows::of(Vec::from_slice(alloc, windows)?))
-    }
-
-    /// The windows, lent.
-    pub fn as_slice(&self) -> &[Window]
-        ensures { result.now ≡ self.now }
-    {
-        self.items.as_slice()
-    }
-
-    /// The windows, given away.
-    pub fn into_vec(self) -> Vec<Window>
-        ensures { result.items ≡ self }
-    {
-        self.items
-    }
+/// A copy of windows.
+pub fn copy_of(alloc: Global, windows: &[Window]) -> Result<Windows, AllocError>
+    ensures { IfOk result (λ copy. copy ≡ windows.now) }
+{
+    Ok(Windows::of(Vec::from_slice(alloc, windows)?))
 }
 
 /// What a link or a turn lets through in each step, in millionths of a vehicle per hour: the usual

@@ -5,6 +5,7 @@ ghost use Rattle.net_core.specs.Ids.{place_of};
 ghost use Rattle.route_flows.specs.Starts.{AreStartRows, agents_of, row_of};
 ghost use Rattle.route_flows.specs.declared.start_rows.TheConstants.{MOST_START_ROWS};
 
+use lists::List;
 use std::alloc::{AllocError, Global};
 use std::marker::Model;
 
@@ -12,41 +13,7 @@ use std::marker::Model;
 pub const MOST_START_ROWS: usize = 2_000_000;
 
 /// Identifiers, in the order in which they were put in.
-#[derive(Drop)]
-pub struct Ids {
-    items: Vec<u64>,
-}
-
-impl Model for Ids {
-    ghost use Rattle.std.specs.Prelude.{List, ℕ};
-
-    ghost Value = { List ℕ };
-
-    ghost view = { λ s. s.items.items };
-}
-
-impl Ids {
-    /// These identifiers.
-    pub fn of(items: Vec<u64>) -> Self
-        ensures { result ≡ items.items }
-    {
-        Ids { items }
-    }
-
-    /// The identifiers, lent.
-    pub fn as_slice(&self) -> &[u64]
-        ensures { result.now ≡ self.now }
-    {
-        self.items.as_slice()
-    }
-
-    /// The identifiers, given away.
-    pub fn into_vec(self) -> Vec<u64>
-        ensures { result.items ≡ self }
-    {
-        self.items
-    }
-}
+pub type Ids = List<u64>;
 
 /// What a start table says of an agent: its number, its zones, and the links of its route, all by
 /// their identifiers.
