@@ -7,6 +7,7 @@ ghost use Rattle.row_reader.specs.Columns.{column_of, field_in};
 ghost use Rattle.row_reader.specs.Faults.{fault_of_kind};
 ghost use Rattle.row_reader.specs.Records.{records};
 ghost use Rattle.row_reader.specs.Rows.{OpensAs, HasBadHeader, Steps};
+ghost use Rattle.row_reader.specs.RowsInside.{IsFresh};
 ghost use Rattle.row_reader.specs.Trimmed.{trimmed};
 ghost use Rattle.row_reader.specs.declared.rows.RowFault.TheVariants as fault;
 
@@ -41,13 +42,6 @@ impl Model for Row {
 }
 
 impl Row {
-    /// How many fields there are.
-    pub fn width(&self) -> usize
-        ensures { result ≡ length self.now.fields }
-    {
-        self.fields.len()
-    }
-
     /// The number of the record, where the header is 1.
     pub fn line(&self) -> u64
         ensures { result ≡ self.now.line }
@@ -82,7 +76,7 @@ impl Row {
 #[derive(Drop)]
 pub struct Rows<'a> {
     alloc: Global,
-    reader: Reader<&'a [u8]>,
+    reader: Box<Reader<&'a [u8]>>,
     header: StringRecord,
     line: u64,
     ended: bool,
@@ -109,9 +103,7 @@ impl<'a> Rows<'a> {
         ensures bad { IfErr result (λ e. (line : ℕ) → e ≡ fault.BadRecord line
             → (line ≡ 1) × HasBadHeader (records text.now)) }
     {
-        let mut reader = ReaderBuilder::new()
-            .has_headers(false)
-            .from_reader(alloc, text);
+        let mut reader = reader_of(alloc, text)?;
         let mut header = StringRecord::new(alloc);
         match reader.read_record(&mut header) {
             Ok(true) => Ok(Rows {
@@ -132,13 +124,6 @@ impl<'a> Rows<'a> {
             }),
             Err(error) => Err(fault_of(error, 1)),
         }
-    }
-
-    /// How many fields the header has.
-    pub fn width(&self) -> usize
-        ensures { result ≡ length self.now.header }
-    {
-        self.header.len()
     }
 
     /// The first position in the header of a column's name, or none.
@@ -198,6 +183,22 @@ impl<'a> Rows<'a> {
             Some(field) => trim_blanks(field.as_bytes()) == name.as_bytes(),
             None => false,
         }
+    }
+}
+
+// A reader at the start of a table. It takes 34 KB, so it lies on the heap, where want of memory is
+// answered, and in no caller's frame.
+#[inline(never)]
+fn reader_of(alloc: Global, text: &[u8]) -> Result<Box<Reader<&[u8]>>, RowFault>
+    ensures fresh { IfOk result (λ reader. IsFresh reader.value text.now) }
+    ensures memory { IfErr result (λ e. e ≡ fault.Memory) }
+{
+    let reader = ReaderBuilder::new()
+        .has_headers(false)
+        .from_reader(alloc, text);
+    match Box::new(alloc, reader) {
+        Ok(reader) => Ok(reader),
+        Err(_) => Err(RowFault::Memory),
     }
 }
 
