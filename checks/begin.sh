@@ -7,10 +7,11 @@ folder=$(mktemp -d)
 trap 'rm -rf "$folder"' EXIT
 cd "$folder" || exit 2
 failures=0
+exec 3>&1
 
-# fails NAME: tells of a check that failed.
+# fails NAME: tells of a check that failed, also where the output of the check goes to a file.
 fails() {
-    printf 'FAILED: %s\n' "$1"
+    printf 'FAILED: %s\n' "$1" >&3
     failures=$((failures + 1))
 }
 
