@@ -1,4 +1,4 @@
-# Read by edge.sh, examples.sh and cases.sh, where the one argument is a built program.
+# Read by edge.sh, examples.sh, cases.sh and script.sh, where the one argument is a program.
 # Sets `program` to its path, and goes to a folder that is gone at the end.
 # shellcheck shell=sh disable=SC2034
 [ $# -eq 1 ] || { echo "usage: $(basename "$0") PROGRAM" >&2; exit 2; }
@@ -19,4 +19,13 @@ fails() {
 end() {
     [ "$failures" -eq 0 ] && echo "$1"
     exit "$((failures > 0))"
+}
+
+# Makes a library, `unkept`, by which each sync of a file fails where it is loaded before the C
+# library; or says that it can't.
+make_unkept() {
+    unkept=$folder/unkept.so
+    command -v cc >/dev/null || { echo 'not tried: there is no C compiler'; return 1; }
+    printf '#include <errno.h>\nint fsync(int file) { (void)file; errno = EIO; return -1; }\n' |
+        cc -shared -fPIC -o "$unkept" -x c -
 }

@@ -225,6 +225,20 @@ tables 3
 ends 'a full standard error' 5 "$program" assign --length-unit km --watch 10 >report 2>/dev/full
 [ ! -e agent.csv ] && [ ! -s report ] || fails 'a full standard error: something was put'
 
+# Outputs that are put whole and not kept, a run that makes no file, and an output that is a device.
+if make_unkept; then
+    tables 3
+    ends 'outputs that are not kept' 5 env LD_PRELOAD="$unkept" "$program" assign \
+        --length-unit km >report
+    for file in agent.csv link_performance.csv gap.csv report; do
+        [ -s "$file" ] || fails "outputs that are not kept: no $file"
+    done
+    ends 'nothing to keep' 0 env LD_PRELOAD="$unkept" "$program" demo 2 --horizon 1 >report
+fi
+tables 3
+ln -s /dev/null agent.csv
+ends 'an output that is a device' 0 "$program" assign --length-unit km >report
+
 # The other statuses.
 ends 'no command' 2 "$program" >report
 ends 'a sweep without scales' 2 "$program" sweep >report
