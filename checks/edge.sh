@@ -226,14 +226,21 @@ ends 'a full standard error' 5 "$program" assign --length-unit km --watch 10 >re
 [ ! -e agent.csv ] && [ ! -s report ] || fails 'a full standard error: something was put'
 
 # Outputs that are put whole and not kept, a run that makes no file, and an output that is a device.
+unkept() {
+    env LD_PRELOAD="$unkept" "$program" "$@"
+}
 if make_unkept; then
     tables 3
-    ends 'outputs that are not kept' 5 env LD_PRELOAD="$unkept" "$program" assign \
-        --length-unit km >report
+    ends 'outputs that are not kept' 5 unkept assign --length-unit km >report
     for file in agent.csv link_performance.csv gap.csv report; do
         [ -s "$file" ] || fails "outputs that are not kept: no $file"
     done
-    ends 'nothing to keep' 0 env LD_PRELOAD="$unkept" "$program" demo 2 --horizon 1 >report
+    mv link_performance.csv times.csv
+    ends 'freeflow, not kept' 5 unkept freeflow --length-unit km >report
+    ends 'skim, not kept' 5 unkept skim --length-unit km >report
+    ends 'counts, not kept' 5 unkept counts --length-unit km >report
+    ends 'sweep, not kept' 5 unkept sweep --scales 1 --length-unit km >report
+    ends 'nothing to keep' 0 unkept demo 2 --horizon 1 >report
 fi
 tables 3
 ln -s /dev/null agent.csv
