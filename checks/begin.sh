@@ -1,4 +1,4 @@
-# Read by edge.sh, examples.sh and cases.sh, where the one argument is a built program.
+# Read by edge.sh, examples.sh, cases.sh and script.sh, where the one argument is a program.
 # Sets `program` to its path, and goes to a folder that is gone at the end.
 # shellcheck shell=sh disable=SC2034
 [ $# -eq 1 ] || { echo "usage: $(basename "$0") PROGRAM" >&2; exit 2; }
@@ -7,10 +7,11 @@ folder=$(mktemp -d)
 trap 'rm -rf "$folder"' EXIT
 cd "$folder" || exit 2
 failures=0
+exec 3>&1
 
-# fails NAME: tells of a check that failed.
+# fails NAME: tells of a check that failed, also where the output of the check goes to a file.
 fails() {
-    printf 'FAILED: %s\n' "$1"
+    printf 'FAILED: %s\n' "$1" >&3
     failures=$((failures + 1))
 }
 
@@ -18,4 +19,13 @@ fails() {
 end() {
     [ "$failures" -eq 0 ] && echo "$1"
     exit "$((failures > 0))"
+}
+
+# Makes a library, `unkept`, by which each sync of a file fails where it is loaded before the C
+# library; or says that it can't.
+make_unkept() {
+    unkept=$folder/unkept.so
+    command -v cc >/dev/null || { echo 'not tried: there is no C compiler'; return 1; }
+    printf '#include <errno.h>\nint fsync(int file) { (void)file; errno = EIO; return -1; }\n' |
+        cc -shared -fPIC -o "$unkept" -x c -
 }

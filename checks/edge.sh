@@ -225,6 +225,27 @@ tables 3
 ends 'a full standard error' 5 "$program" assign --length-unit km --watch 10 >report 2>/dev/full
 [ ! -e agent.csv ] && [ ! -s report ] || fails 'a full standard error: something was put'
 
+# Outputs that are put whole and not kept, a run that makes no file, and an output that is a device.
+unkept() {
+    env LD_PRELOAD="$unkept" "$program" "$@"
+}
+if make_unkept; then
+    tables 3
+    ends 'outputs that are not kept' 5 unkept assign --length-unit km >report
+    for file in agent.csv link_performance.csv gap.csv report; do
+        [ -s "$file" ] || fails "outputs that are not kept: no $file"
+    done
+    mv link_performance.csv times.csv
+    ends 'freeflow, not kept' 5 unkept freeflow --length-unit km >report
+    ends 'skim, not kept' 5 unkept skim --length-unit km >report
+    ends 'counts, not kept' 5 unkept counts --length-unit km >report
+    ends 'sweep, not kept' 5 unkept sweep --scales 1 --length-unit km >report
+    ends 'nothing to keep' 0 unkept demo 2 --horizon 1 >report
+fi
+tables 3
+ln -s /dev/null agent.csv
+ends 'an output that is a device' 0 "$program" assign --length-unit km >report
+
 # The other statuses.
 ends 'no command' 2 "$program" >report
 ends 'a sweep without scales' 2 "$program" sweep >report

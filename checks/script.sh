@@ -198,6 +198,16 @@ unwritten_outputs() {
     new_folder
 }
 
+# Outputs that are put whole and not kept.
+unkept_outputs() {
+    LD_PRELOAD=$unkept "$shell" "$script" assign >"$folder/report" 2>"$folder/said"
+    status=$?
+    text="An output isn't kept on its disk: the disk" wanted=5
+    case_of "outputs that are not kept: status $status, $(cat "$folder/said")" is_said
+    case_of 'the report of outputs that are not kept' grep -q '^gap_ppm ' "$folder/report"
+    new_folder
+}
+
 # Sentences of a run on a terminal, which takes two seconds; the files are those of a run without
 # one.
 told_on_a_terminal() {
@@ -298,6 +308,7 @@ packages() {
     case_of 'the needs of the package' sh -c "dpkg-deb -f '$file' Depends | grep -q libc6"
 }
 
+make_unkept || unkept=
 for shell in dash bash; do
     command -v $shell >/dev/null || { echo "not tried: there is no $shell"; continue; }
     new_folder
@@ -306,6 +317,7 @@ for shell in dash bash; do
     refused_runs
     told_before
     unwritten_outputs
+    [ -z "$unkept" ] || unkept_outputs
     told_on_a_terminal
     help_of
 done

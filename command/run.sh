@@ -257,9 +257,20 @@ why_not_made() {
 
 why_not_whole() {
     if [ "$(ulimit -f)" != unlimited ]; then echo 'the limit of file sizes, ulimit -f, cut it off'
-    elif [ "$(df --output=avail . | sed 1d | tr -d ' ')" = 0 ]; then echo 'the disk is full'
+    else why_no_room
+    fi
+}
+
+why_no_room() {
+    if [ "$(df --output=avail . | sed 1d | tr -d ' ')" = 0 ]; then echo 'the disk is full'
     else echo 'the disk or your share of it may be full'
     fi
+}
+
+# Says so where a sync failed. Report is put after all other outputs, so the run was done.
+tell_unkept() {
+    say "An output isn't kept on its disk: $(why_no_room), or the disk fails."
+    say "Don't use what the run wrote: $outputs."
 }
 
 # tell_unwritten BEFORE WORDS..: says which output couldn't be written, by the marks before the run.
@@ -303,7 +314,7 @@ tell_status() {
                 "$line" "$(value_of length-unit m "$@")" "$(value_of speed-unit kmh "$@")" \
                 "$(value_of step 6 "$@")" >&2
             ;;
-        5) tell_unwritten "$before" "$@" ;;
+        5) if [ -n "$line" ]; then tell_unkept; else tell_unwritten "$before" "$@"; fi ;;
         6)
             say 'There was not enough memory. No output was begun.'
             say 'A shorter --horizon, a longer --step or fewer --workers take less.'

@@ -1,5 +1,6 @@
 // The trusted edge: the files of the current folder, standard output and standard error.
 ghost use Rattle.std.specs.Prelude.{◌≡◌, ◌≤◌, IfOk, length};
+ghost use Rattle.desk_io.specs.Faults.{HasCause};
 
 use crate::{Desk, Failed, Output, Table};
 use std::fs::File;
@@ -76,6 +77,39 @@ impl<R, W> FileDesk<R, W> {
             read_faults: 0,
             put_faults: 0,
         }
+    }
+
+    /// Waits until the system has written each file that was made to its disk (sync). Failed where
+    /// one isn't kept, which counts as a failed put. The two streams aren't waited for.
+    pub fn keep(&mut self) -> Result<(), Failed>
+        ensures cause { HasCause self.old.put_faults self.new.put_faults result }
+        ensures reads { self.new.read_faults ≡ self.old.read_faults }
+    {
+        let kept = is_kept(&self.agent)
+            & is_kept(&self.link_time)
+            & is_kept(&self.gap)
+            & is_kept(&self.skim)
+            & is_kept(&self.counts)
+            & is_kept(&self.sweep);
+        if kept {
+            return Ok(());
+        }
+        self.put_faults = self.put_faults.saturating_add(1);
+        Err(Failed)
+    }
+}
+
+// Whether a file, where it was made, is on its disk. What knows no sync, as a device, passes.
+fn is_kept(file: &Option<File>) -> bool {
+    match file {
+        None => true,
+        Some(file) => match file.sync_all() {
+            Ok(()) => true,
+            Err(why) => matches!(
+                why.kind(),
+                ErrorKind::InvalidInput | ErrorKind::ReadOnlyFilesystem
+            ),
+        },
     }
 }
 

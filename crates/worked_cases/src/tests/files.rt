@@ -62,6 +62,7 @@ fn outputs_of_the_folder(rt: HostRuntime) -> Result<(), Fail> {
     for (output, path) in OUTPUTS {
         assert!(rt; makes(&rt, &mut desk, output, path)?, "{path}");
     }
+    assert!(rt; desk.keep().is_ok());
     Ok(())
 }
 
