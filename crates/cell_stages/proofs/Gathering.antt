@@ -25,10 +25,6 @@ use Rattle.dta_model.proofs.Places.{AtNode, at-node, node_of, node_by, to_link, 
 use Rattle.dta_model.proofs.Fuel.{has_moved-if, one-step}
 use Rattle.std.proofs.lemmas.Option.{same_Some}
 
--- the last moves of two lists together
-stay : List Move → Move → Bool
-stay N m = not (has_moved m.vehicle N)
-
 lasts_step : (x : Move) (L L' N : List Move) (h e : Bool) → L' ≡ filter (λ m. not (has_moved m.vehicle N)) L ++ last_moves N → e ≡ has_moved x.vehicle N → cond (h || e) L' (x ∷ L') ≡ filter (λ m. not (has_moved m.vehicle N)) (cond h L (x ∷ L)) ++ last_moves N
 lasts_step x L L' N true e q r = q
 lasts_step x L L' N false true q r = rw (← r) q
@@ -103,9 +99,6 @@ module _ (p : Plan) (t : ℕ) (T : List Move) where
 
   pub elsewhere : (n a v : ℕ) → node_of p T v ≡ Some n → a ≢ n → has_moved v (node_moves p a t T) ≡ false
   elsewhere n a v h other = false_from_ne_true (has_moved v (node_moves p a t T)) (λ e. other (same_Some a n (sym (mover_at a v e) ∙ h)))
-
-  block : ℕ → List Move
-  block n = node_moves p n t T
 
   less_apart : (a n : ℕ) → a < n → n ≢ a
   less_apart a n l e = absurd (omega (arith, l, e))
