@@ -56,9 +56,6 @@ all_hold (c ∷ cs) (inr (fails, e)) i d h = cc
 abbrev pub IsLeft : {X : Type 0} → (ℕ × X → List Check) → List X → ℕ → Type 0
 IsLeft f xs r = (v : Verdict) → IsVerdict (flat_map f (enumerate_from r (drop r xs))) v → IsVerdict (flat_map f (enumerate_from 0 xs)) v
 
-pub all_left : {X : Type 0} (f : ℕ × X → List Check) (xs : List X) → IsLeft f xs 0
-all_left f xs v h = h
-
 left_is : {X : Type 0} (f : ℕ × X → List Check) (xs : List X) (r : ℕ) (d : X) → r < length xs
     → flat_map f (enumerate_from r (drop r xs)) ≡ f (r, get_or xs r d) ++ flat_map f (enumerate_from (r + 1) (drop (r + 1) xs))
 left_is f xs r d h = ap (λ l. flat_map f (enumerate_from r l)) (drop_more xs r d h)

@@ -1,5 +1,5 @@
 -- Rates as some steps later.
-use Rattle.std.proofs.Common.{◌≡◌, ◌≤◌, ◌+◌, ◌-◌, ◌*◌, ◌%◌, ◌<◌, ◌∙◌, ℕ, zero, suc, List, [], ◌∷◌, length, map, refl, ap, arith, true, false, drop, get_or, take}
+use Rattle.std.proofs.Common.{◌≡◌, ◌≤◌, ◌+◌, ◌-◌, ◌*◌, ◌%◌, ◌<◌, ℕ, zero, suc, List, [], ◌∷◌, length, map, refl, arith, true, false, drop, get_or, take}
 use Rattle.std.specs.Prelude.{All, None, Option, nat_le}
 use Rattle.std.proofs.lemmas.Bool.Decides.{nat_tests}
 use Rattle.std.proofs.lemmas.List.Elements.{All-head, All-tail, All-weaker}
@@ -27,12 +27,6 @@ begun-later rate (w ∷ ws) n k = rw (near w.from n k, begun-later w.rate ws n k
 pub later_rate : (n k : ℕ) (rates : Rates) → rate_in (later n rates) k ≡ rate_in rates (n + k)
 later_rate n k rates = begun-later rates.usual rates.windows n k
 
--- the rate of the next one
-pub later_first : (n : ℕ) (rates : Rates) → rate_in (later n rates) 0 ≡ rate_in rates n
-later_first n rates =
-    let e : n + 0 ≡ n = omega arith in
-    later_rate n 0 rates ∙ ap (rate_in rates) e
-
 nearer-nearer : (m n : ℕ) (w : Window) → nearer m (nearer n w) ≡ nearer (n + m) w
 nearer-nearer m n w =
     let e : w.from - n - m ≡ w.from - (n + m) = omega arith in
@@ -45,11 +39,6 @@ map-nearer m n (w ∷ ws) = rw (nearer-nearer m n w, map-nearer m n ws) refl
 -- later by some steps, and then by some more
 pub later_more : (m n : ℕ) (rates : Rates) → later m (later n rates) ≡ later (n + m) rates
 later_more m n rates = rw (map-nearer m n rates.windows) refl
-
-pub later_next : (n : ℕ) (rates : Rates) → later 1 (later n rates) ≡ later (suc n) rates
-later_next n rates =
-    let e : n + 1 ≡ suc n = omega arith in
-    later_more 1 n rates ∙ ap (λ k. later k rates) e
 
 same-nearer : (m n : ℕ) (ws : List Window) → All (λ w. w.from ≤ MOST_WINDOW_STEP) ws
     → ((a : ℕ) → a ≤ MOST_WINDOW_STEP → a - m ≡ a - n) → map (nearer m) ws ≡ map (nearer n) ws

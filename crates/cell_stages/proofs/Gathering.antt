@@ -22,12 +22,9 @@ use Rattle.dta_model.proofs.Queues.{vehicles, absent, distinct}
 use Rattle.dta_model.proofs.Pushes.{has_moved-append, has_moved_is, moves_of-append}
 use Rattle.dta_model.proofs.Standing.{in-queue}
 use Rattle.dta_model.proofs.Places.{AtNode, at-node, node_of, node_by, to_link, of_mover}
+use Rattle.dta_model.proofs.Flat.{apart_from}
 use Rattle.dta_model.proofs.Fuel.{has_moved-if, one-step}
 use Rattle.std.proofs.lemmas.Option.{same_Some}
-
--- the last moves of two lists together
-stay : List Move → Move → Bool
-stay N m = not (has_moved m.vehicle N)
 
 lasts_step : (x : Move) (L L' N : List Move) (h e : Bool) → L' ≡ filter (λ m. not (has_moved m.vehicle N)) L ++ last_moves N → e ≡ has_moved x.vehicle N → cond (h || e) L' (x ∷ L') ≡ filter (λ m. not (has_moved m.vehicle N)) (cond h L (x ∷ L)) ++ last_moves N
 lasts_step x L L' N true e q r = q
@@ -104,19 +101,13 @@ module _ (p : Plan) (t : ℕ) (T : List Move) where
   pub elsewhere : (n a v : ℕ) → node_of p T v ≡ Some n → a ≢ n → has_moved v (node_moves p a t T) ≡ false
   elsewhere n a v h other = false_from_ne_true (has_moved v (node_moves p a t T)) (λ e. other (same_Some a n (sym (mover_at a v e) ∙ h)))
 
-  block : ℕ → List Move
-  block n = node_moves p n t T
-
-  less_apart : (a n : ℕ) → a < n → n ≢ a
-  less_apart a n l e = absurd (omega (arith, l, e))
-
   -- the moves of a vehicle at the nodes from one on, where its own node comes before them
   past : (k from n v : ℕ) → node_of p T v ≡ Some n → n < from → moves_of v (flat_map (λ a. node_moves p a t T) (range_with_len from k)) ≡ []
   unfolding moves_of
   past zero from n v h l = refl
   past (suc k) from n v h l =
       moves_of-append v (node_moves p from t T) (flat_map (λ a. node_moves p a t T) (range_with_len (from + 1) k))
-      ∙ ap (λ L. L ++ moves_of v (flat_map (λ a. node_moves p a t T) (range_with_len (from + 1) k))) (no-moves v (node_moves p from t T) (elsewhere n from v h (less_apart n from l)))
+      ∙ ap (λ L. L ++ moves_of v (flat_map (λ a. node_moves p a t T) (range_with_len (from + 1) k))) (no-moves v (node_moves p from t T) (elsewhere n from v h (apart_from n from l)))
       ∙ past k (from + 1) n v h (omega (arith, l))
 
   -- and where it is among them
@@ -137,7 +128,7 @@ module _ (p : Plan) (t : ℕ) (T : List Move) where
 
   none_past : (k from l : ℕ) → (link_at p l).from.0 < from → All (λ m. leads_to l m ≡ false) (flat_map (λ a. node_moves p a t T) (range_with_len from k))
   none_past zero from l h = All-nil (λ m. leads_to l m ≡ false)
-  none_past (suc k) from l h = All-append (λ m. leads_to l m ≡ false) (node_moves p from t T) _ (not-led l from (less_apart (link_at p l).from.0 from h)) (none_past k (from + 1) l (omega (arith, h)))
+  none_past (suc k) from l h = All-append (λ m. leads_to l m ≡ false) (node_moves p from t T) _ (not-led l from (apart_from (link_at p l).from.0 from h)) (none_past k (from + 1) l (omega (arith, h)))
 
   unmoved : (v : ℕ) (N : List Move) → moves_of v N ≡ [] → has_moved v N ≡ false
   unmoved v N e = has_moved_is v N ∙ ap (λ L. list_any (λ _. true) L) e

@@ -15,9 +15,7 @@ use Rattle.dta_model.specs.Riders.{rider_at, riders}
 use Rattle.cell_stages.specs.Stages.{batch_mail, line_after, line_before, staying, waiting_after, waiting_before, waiting_for}
 use Rattle.dta_model.specs.Trace.{Move, has_moved, moves_of}
 use Rattle.dta_model.specs.Sound.{IsSound}
-use Rattle.cell_stages.specs.Contents.{left_after, left_before}
 use Rattle.cell_stages.specs.Transfers.{WaitingLinesStay}
-use Rattle.cell_stages.proofs.LeftLately.{leavings_stay}
 use Rattle.dta_model.proofs.Pushes.{has_moved-append, has_moved_is, moves_of-append}
 use Rattle.dta_model.proofs.Standing.{no-last}
 use Rattle.dta_model.proofs.Steady.{steady_of}
@@ -112,8 +110,3 @@ module _ (p : Plan) (sound : IsSound p) (t n : ℕ) (there : n < length p.net.no
   pub next-waiting : map (waiting_before p (suc t)) (outs p n) ≡ map (waiting_after p n t) (outs p n)
   next-waiting =
       map_all (λ b. (link_at p b).from.0 ≡ n) (waiting_before p (suc t)) (waiting_after p n t) (outs p n) (out_links p n) (λ b h. waiting-line p t n b there h)
-
-  pub next-left : map (left_before p (suc t)) (ins p n) ≡ map (left_after p n t) (ins p n)
-  next-left =
-      map_all (λ l. (l < length p.net.links) × ((link_at p l).to.0 ≡ n)) (left_before p (suc t)) (left_after p n t) (ins p n) (in_links p n)
-      (λ l h. subst (λ k. left_before p (suc t) l ≡ left_after p k t l) h.1 (leavings_stay p sound t l h.0))

@@ -16,7 +16,7 @@ use Rattle.dta_model.specs.Riders.{rider_at, riders}
 use Rattle.cell_stages.specs.Stages.{brought, staying, waiting_for}
 use Rattle.dta_model.specs.Trace.{Arrived, Move, Onto, Target, has_moved, is_link, is_of, last_moves, leads_there, leads_to, moves_of, queue_of, stands_on}
 use Rattle.cell_stages.specs.Transfers.{LeavesLine, LeavesWaiting, MovesCount, MovesPass}
-use Rattle.dta_model.proofs.Queues.{absent-filter, absent-last, vehicles, absent, distinct, without, without-absent, queue-distinct, queues-apart}
+use Rattle.dta_model.proofs.Queues.{absent-filter, absent-last, vehicles, absent, distinct, one_vehicle, without, without-absent, queue-distinct, queues-apart}
 use Rattle.dta_model.proofs.Pushes.{has_moved-append, moves_of-append}
 use Rattle.dta_model.proofs.Standing.{in-queue, no-last, present}
 use Rattle.dta_model.proofs.Fuel.{has_moved-if}
@@ -65,13 +65,9 @@ first_leaves (x ∷ xs) v d h =
     let parts = and_parts (absent x xs) (distinct xs) d in
     rw (eq-eqb x v same) (without-absent v xs (subst (λ w. absent w xs ≡ true) same parts.0))
 
-one_mover : (b : Bool) (m : Move) → vehicles (cond b (m ∷ []) []) ≡ cond b (m.vehicle ∷ []) []
-one_mover true m = refl
-one_mover false m = refl
-
 brought_push : (b : ℕ) (M : List Move) (m : Move) → brought b (M ++ m ∷ []) ≡ brought b M ++ cond (leads_to b m) (m.vehicle ∷ []) []
 unfolding brought
-brought_push b M m = ap (λ L. vehicles L) (filter-append (leads_to b) M (m ∷ [])) ∙ map-append (λ x. x.vehicle) (filter (leads_to b) M) (cond (leads_to b m) (m ∷ []) []) ∙ ap (λ K. vehicles (filter (leads_to b) M) ++ K) (one_mover (leads_to b m) m)
+brought_push b M m = ap (λ L. vehicles L) (filter-append (leads_to b) M (m ∷ [])) ∙ map-append (λ x. x.vehicle) (filter (leads_to b) M) (cond (leads_to b m) (m ∷ []) []) ∙ ap (λ K. vehicles (filter (leads_to b) M) ++ K) (one_vehicle (leads_to b m) m)
 
 -- who was brought moved
 brought_moved : (b : ℕ) (M : List Move) (i v : ℕ) → slice_get (brought b M) i ≡ Some v → has_moved v M ≡ true

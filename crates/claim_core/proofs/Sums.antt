@@ -1,11 +1,11 @@
 -- Sums over lists, and over the numbers below a bound.
-use Rattle.std.proofs.Common.{◌≡◌, ℕ, zero, suc, ◌+◌, ◌<◌, ◌≤◌, ◌≢◌, List, [], ◌∷◌, ◌++◌, length, set, refl, sym, ap, ◌∙◌, subst, lt_of_not-le, arith}
+use Rattle.std.proofs.Common.{◌≡◌, ℕ, zero, suc, ◌+◌, ◌<◌, ◌≤◌, ◌≢◌, List, [], ◌∷◌, ◌++◌, set, refl, sym, ap, subst, lt_of_not-le, arith}
 use Rattle.std.proofs.lemmas.Bool.Decides.{nat_tests}
 use mathlib.Core.Option.{some, some-injective, some-ne-none}
 use lib.ListN.{get_elem?}
 use native.Mathlib.Decide.{dec_le}
 use mathlib.Core.Logic.{dite}
-use Rattle.claim_core.specs.Sums.{is_at, times, total, below}
+use Rattle.claim_core.specs.Sums.{is_at, total, below}
 
 module _ {A : Type 0} where
   pub total_set : (f : A → ℕ) (vs : List A) (i : ℕ) (v w : A) → get_elem? vs i ≡ some v → total f (set vs i w) + f v ≡ total f vs + f w
@@ -22,19 +22,11 @@ module _ {A : Type 0} where
   total_at f (x ∷ xs) zero v e = omega (arith, ap f (some-injective x v e))
   total_at f (x ∷ xs) (suc i) v e = omega (arith, total_at f xs i v e)
 
-  pub total_plus : (f g : A → ℕ) (vs : List A) → total (λ v. f v + g v) vs ≡ total f vs + total g vs
-  total_plus f g [] = refl
-  total_plus f g (x ∷ xs) = omega (arith, total_plus f g xs)
-
   pub total_zero : (vs : List A) → total (λ v. 0) vs ≡ 0
   total_zero [] = refl
   total_zero (x ∷ xs) = omega (arith, total_zero xs)
 
 module _ {A : Type 0} where
-  pub below_total : (F : ℕ → A → ℕ) (vs : List A) (m : ℕ) → below m (λ x. total (F x) vs) ≡ total (λ v. below m (λ x. F x v)) vs
-  below_total F vs zero = sym (total_zero vs)
-  below_total F vs (suc m) = ap (λ k. total (F m) vs + k) (below_total F vs m) ∙ sym (total_plus (F m) (λ v. below m (λ x. F x v)) vs)
-
   pub total_le : (f g : A → ℕ) (vs : List A) → ((i : ℕ) (v : A) → get_elem? vs i ≡ some v → f v ≤ g v) → total f vs ≤ total g vs
   total_le f g [] h = omega arith
   total_le f g (x ∷ xs) h = omega (arith, h zero x refl, total_le f g xs (λ i v e. h (suc i) v e))
@@ -51,14 +43,6 @@ below_at y zero h = absurd (omega arith)
 below_at y (suc m) h = dite (dec_le m y)
     (λ le. let same : y ≡ m = omega arith in let here : is_at m y ≡ 1 = subst (λ (z : ℕ). is_at z y ≡ 1) same (at_self y) in omega (arith, here))
     (λ ne. omega (arith, below_at y m (lt_of_not-le ne)))
-
--- the numbers below m in a list that has no others
-pub counted : (l : List ℕ) (m : ℕ) → ((x : ℕ) → m ≤ x → times x l ≡ 0) → length l ≤ below m (λ x. times x l)
-counted [] m none = omega arith
-counted (y ∷ ys) m none = dite (dec_le m y)
-    (λ h. let n : is_at y y + times y ys ≡ 0 = none y h in absurd (omega (arith, n, at_self y)))
-    (λ h. let rest : (x : ℕ) → m ≤ x → times x ys ≡ 0 = λ x le. (let n : is_at x y + times x ys ≡ 0 = none x le in omega (arith, n)) in
-    omega (arith, below_plus (λ x. is_at x y) (λ x. times x ys) m, below_at y m (lt_of_not-le h), counted ys m rest))
 
 pub bounded : (f : ℕ → ℕ) (m : ℕ) → ((x : ℕ) → x < m → f x ≤ 1) → below m f ≤ m
 bounded f zero h = omega arith
@@ -98,14 +82,6 @@ below_at_le y m = below_once y m (dec_le m y)
     below_once y (suc m) (no h) = dite (dec_le m y)
         (λ le. let t : is_at m y ≤ 1 = grind (arith, nat_tests) in omega (arith, none y m le, t))
         (λ n. let z : is_at m y ≡ 0 = (let l : suc y ≤ m = lt_of_not-le n in grind (arith, nat_tests)) in omega (arith, below_once y m (no n), z))
-
-pub below_le : (l : List ℕ) (m : ℕ) → below m (λ x. times x l) ≤ length l
-below_le [] m = zero_below m
-  where
-    zero_below : (m : ℕ) → below m (λ x. 0) ≤ 0
-    zero_below zero = omega arith
-    zero_below (suc m) = omega (arith, zero_below m)
-below_le (y ∷ ys) m = omega (arith, below_plus (λ x. is_at x y) (λ x. times x ys) m, below_at_le y m, below_le ys m)
 
 -- at least one of each
 pub full : (f : ℕ → ℕ) (m : ℕ) → ((x : ℕ) → x < m → 1 ≤ f x) → m ≤ below m f

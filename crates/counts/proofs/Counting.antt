@@ -104,9 +104,6 @@ with_one-none same grown first [] h = refl
 with_one-none same grown first (x ∷ counts) h = absurd (omega (arith, h))
 
 module _ {K C : Type 0} {lt : K → K → Type 0} {is : K → K → Bool} {count : K → ℕ → C} {same : K → C → Bool} {grown : C → C} (laws : IsCounting lt is count same grown) where
-  number : List K → K → ℕ
-  number xs k = count_by (is k) xs
-
   differs : (k x : K) → (k ≡ x → ⊥) → is k x ≡ false
   differs k x n = by (is k x) refl
     where

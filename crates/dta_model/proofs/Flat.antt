@@ -10,7 +10,7 @@ pub filter-flat : {A X : Type 0} (f : X → Bool) (g : A → List X) (xs : List 
 filter-flat f g [] = refl
 filter-flat f g (x ∷ xs) = filter-append f (g x) (flat_map g xs) ∙ ap (λ L. filter f (g x) ++ L) (filter-flat f g xs)
 
-apart_from : (a n : ℕ) → a < n → n ≢ a
+pub apart_from : (a n : ℕ) → a < n → n ≢ a
 apart_from a n l e = absurd (omega (arith, l, e))
 
 flat_past : {X : Type 0} (g : ℕ → List X) (k from n : ℕ) → n < from → ((x : ℕ) → x ≢ n → g x ≡ []) → flat_map g (range_with_len from k) ≡ []

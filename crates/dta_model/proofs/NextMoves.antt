@@ -35,9 +35,6 @@ where_cases true x m h = (refl, some_move x m h)
     some_move x m h = cc
 where_cases false x m h = cc
 
-pub In : Plan → ℕ → ℕ → Type 0
-In p n l = nat_eq (link_at p l).to.0 n ≡ true
-
 module _ (p : Plan) (n t : ℕ) (T0 : List Move) where
   -- a move of the head of link l
   pub record OfHead (M : List Move) (l : ℕ) (m : Move) : Type 0 where

@@ -3,7 +3,7 @@ use Rattle.std.proofs.Math.Bool.{not-not}
 use Rattle.std.specs.List.{list_any}
 use Rattle.std.specs.Prelude.{filter}
 use Rattle.std.proofs.Common.{◌≡◌, ℕ, Bool, true, false, cond, ◌&&◌, ◌||◌, not, List, [], ◌∷◌, ◌++◌, map, refl, ap, sym, ◌∙◌, subst, arith}
-use Rattle.std.proofs.lemmas.Bool.{eqb-true, eq-eqb}
+use Rattle.std.proofs.lemmas.Bool.{eqb-true}
 use Rattle.std.proofs.lemmas.Bool.Decides.{nat_tests}
 use Rattle.std.proofs.lemmas.List.{map-append}
 use Rattle.std.proofs.lemmas.List.Elements.{filter-append}
@@ -151,23 +151,3 @@ filters-apart p q one v (x ∷ L) d h =
 pub queues-apart : (l k : ℕ) (v : ℕ) (T : List Move) → (l ≡ k → ⊥) → absent v (queue_of l T) ≡ false → absent v (queue_of k T) ≡ true
 unfolding queue_of
 queues-apart l k v T n h = filters-apart (leads_to l) (leads_to k) (λ m e. leads_once l k m e n) v (last_moves T) (last_moves-distinct T) h
-
--- the head of a queue moves
-pub head-leaves : (l : ℕ) (T : List Move) (m : Move) (rest : List ℕ) → queue_of l T ≡ m.vehicle ∷ rest → queue_of l (T ++ m ∷ []) ≡ rest ++ cond (leads_to l m) (m.vehicle ∷ []) []
-head-leaves l T m rest q =
-    let d : (absent m.vehicle rest && distinct rest) ≡ true = subst (λ xs. distinct xs ≡ true) q (queue-distinct l T) in
-    let a : absent m.vehicle rest ≡ true = grind arith in
-    let e : without m.vehicle (m.vehicle ∷ rest) ≡ rest = rw (eq-eqb m.vehicle m.vehicle refl) (without-absent m.vehicle rest a) in
-    queue-push l T m ∙ ap (λ xs. without m.vehicle xs ++ cond (leads_to l m) (m.vehicle ∷ []) []) q ∙ ap (λ xs. xs ++ cond (leads_to l m) (m.vehicle ∷ []) []) e
-
--- another queue only grows
-pub other-grows : (l k : ℕ) (T : List Move) (m : Move) (rest : List ℕ) → queue_of l T ≡ m.vehicle ∷ rest → (l ≡ k → ⊥) → queue_of k (T ++ m ∷ []) ≡ queue_of k T ++ cond (leads_to k m) (m.vehicle ∷ []) []
-other-grows l k T m rest q n =
-    let here : absent m.vehicle (queue_of l T) ≡ false = rw q (rw (eq-eqb m.vehicle m.vehicle refl) refl) in
-    queue-push k T m ∙ ap (λ xs. xs ++ cond (leads_to k m) (m.vehicle ∷ []) []) (without-absent m.vehicle (queue_of k T) (queues-apart l k m.vehicle T n here))
-
--- a vehicle that had not moved enters
-pub new-enters : (k : ℕ) (T : List Move) (m : Move) → has_moved m.vehicle T ≡ false → queue_of k (T ++ m ∷ []) ≡ queue_of k T ++ cond (leads_to k m) (m.vehicle ∷ []) []
-unfolding queue_of
-new-enters k T m h =
-    queue-push k T m ∙ ap (λ xs. xs ++ cond (leads_to k m) (m.vehicle ∷ []) []) (without-absent m.vehicle (queue_of k T) (absent-filter (leads_to k) m.vehicle (last_moves T) (absent-last m.vehicle T h)))

@@ -189,7 +189,7 @@ number_is : (o : Option DemandCell) (k d : ℕ) → (trip_by o k d).number ≡ k
 number_is None k d = refl
 number_is (Some cell) k d = refl
 
-departs_is : (o : Option DemandCell) (k d : ℕ) → (trip_by o k d).departure ≡ d
+pub departs_is : (o : Option DemandCell) (k d : ℕ) → (trip_by o k d).departure ≡ d
 departs_is None k d = refl
 departs_is (Some cell) k d = refl
 

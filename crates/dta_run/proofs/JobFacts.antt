@@ -95,10 +95,6 @@ by-assigning P assign demo counts command.Counts assigns = counts
 by-assigning P assign demo counts command.Sweep assigns = absurd assigns
 by-assigning P assign demo counts command.Audit assigns = absurd assigns
 
--- it has the size of a loading, takes no link times and isn't `sweep`
-assigned-sizes : (c : Command) → Assigns c → HasSizes c
-assigned-sizes = by-assigning HasSizes tt (λ n. tt) tt
-
 pub assigned-no-times : (c : Command) → Assigns c → TakesTimes c → ⊥
 assigned-no-times = by-assigning (λ c. TakesTimes c → ⊥) (λ takes. takes) (λ n takes. takes) (λ takes. takes)
 

@@ -1,13 +1,13 @@
 -- Settings by what the words tell.
-use Rattle.std.proofs.Common.{◌≡◌, ◌∙◌, ◌||◌, false, codes, refl, sym, ap, ap₂, List, [], ◌∷◌, drop, Option, Some, None}
-use Rattle.std.specs.Prelude.{option_and_then, slice_get}
+use Rattle.std.proofs.Common.{◌≡◌, ◌∙◌, ◌||◌, false, codes, refl, sym, ap, ap₂, List, [], Option}
+use Rattle.std.specs.Prelude.{option_and_then}
 use Rattle.clap.specs.Matches.{first_value}
 use Rattle.clap.specs.declared.parser.matches.Found.{Found}
 use Rattle.std.specs.Str.{bytes_eq}
 use Rattle.dta_words.specs.Uses.{Text, has_name, uses_of, value_in}
 use Rattle.dta_words.specs.Options.{takes_of}
 use Rattle.dta_words.specs.Reading.{Reads}
-use Rattle.dta_words.specs.Grammar.{flags_in, settings_by, settings_from, settings_of, word_of}
+use Rattle.dta_words.specs.Grammar.{flags_in, settings_by, settings_from}
 use Rattle.dta_words.specs.declared.options.CommandWord.{CommandWord}
 use Rattle.dta_words.specs.declared.options.CommandWord.TheVariants as word
 use Rattle.dta_words.specs.declared.options.Flags.{Flags}
@@ -96,21 +96,3 @@ settings_read word words found flags r is =
     same_settings word (first_value found) (value_in r.uses) flags (values_of word words found r)
     ∙ ap (settings_by word (value_in r.uses)) is
     ∙ sym (ap (option_and_then (settings_from word)) r.all)
-
--- the words are those behind the first one, which names the command
-pub settings_named : (words : List Text) (first : Text) (word : CommandWord)
-    → slice_get words 0 ≡ Some first → word_of first ≡ Some word
-    → settings_of words ≡ option_and_then (settings_from word) (uses_of (takes_of word) (drop 1 words))
-settings_named [] first word e named = cc
-settings_named (w ∷ words) first word e named =
-    let same : w ≡ first = cc in
-    ap (option_and_then (λ c. option_and_then (settings_from c) (uses_of (takes_of c) words)))
-    (ap word_of same ∙ named)
-
-pub settings_unnamed : (words : List Text) (first : Text)
-    → slice_get words 0 ≡ Some first → word_of first ≡ None → settings_of words ≡ None
-settings_unnamed [] first e named = refl
-settings_unnamed (w ∷ words) first e named =
-    let same : w ≡ first = cc in
-    ap (option_and_then (λ c. option_and_then (settings_from c) (uses_of (takes_of c) words)))
-    (ap word_of same ∙ named)

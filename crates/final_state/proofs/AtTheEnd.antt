@@ -28,9 +28,6 @@ due_is : (p : Plan) → IsSound p → (v : ℕ) → is_due p p.horizon v ≡ is_
 unfolding is_due is_routed departure_of
 due_is p sound v = route_step (slice_get p.routes v) refl
   where
-    due_step : nat_lt (departure_in (slice_get p.trips v)) p.horizon ≡ true → (true && nat_lt (departure_in (slice_get p.trips v)) p.horizon) ≡ true
-    due_step e = e
-
     route_step : (o : Option (Option (List LinkNo))) → slice_get p.routes v ≡ o → (some_route o && nat_lt (departure_in (slice_get p.trips v)) p.horizon) ≡ some_route o
     route_step None e = refl
     route_step (Some None) e = refl

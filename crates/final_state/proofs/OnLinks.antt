@@ -1,6 +1,6 @@
 -- The vehicles on a link, counted vehicle by vehicle.
 use Rattle.std.specs.Prelude.{All, count_by, filter, find, sum_by, ◌≢◌}
-use Rattle.std.proofs.Common.{◌≡◌, ℕ, ◌+◌, ◌<◌, Bool, true, false, cond, ◌&&◌, List, [], ◌∷◌, refl, sym, ◌∙◌, subst, arith, ◌⊎◌, inl, inr}
+use Rattle.std.proofs.Common.{◌≡◌, ℕ, ◌+◌, ◌<◌, true, false, cond, ◌&&◌, List, [], ◌∷◌, refl, sym, ◌∙◌, subst, arith, ◌⊎◌, inl, inr}
 use Rattle.std.proofs.lemmas.Bool.{and_parts}
 use Rattle.std.proofs.lemmas.Bool.Decides.{eqb_tells}
 use Rattle.std.proofs.lemmas.List.{length-map}
@@ -17,9 +17,6 @@ use Rattle.dta_model.proofs.Fuel.{Lawful, trace-lawful}
 use Rattle.dta_model.proofs.Queues.{absent, distinct, last_moves-distinct, vehicles}
 use Rattle.dta_model.proofs.Standing.{find_absent}
 use Rattle.dta_model.proofs.Totals.{all_last, sum_alike, sum_both, sum_zero, vehicle_count_one}
-
-abbrev one_if : Bool → ℕ
-one_if b = cond b 1 0
 
 -- a move is that of its vehicle, and no other move here is
 split_there : (l : ℕ) (m : Move) (L : List Move) (v : ℕ) → absent m.vehicle (vehicles L) ≡ true

@@ -1,19 +1,16 @@
 -- Times that stay short.
-use Rattle.std.proofs.Common.{◌≡◌, ◌⊎◌, inl, inr, ℕ, zero, suc, ◌+◌, ◌/◌, ◌<◌, ◌≤◌, Bool, true, false, cond, List, [], ◌∷◌, length, refl, ap, arith, Option, Some, None, get_or, drop}
+use Rattle.std.proofs.Common.{◌≡◌, ◌⊎◌, inl, inr, ℕ, zero, suc, ◌+◌, ◌/◌, ◌<◌, ◌≤◌, Bool, true, false, cond, List, [], ◌∷◌, length, refl, ap, arith, get_or, drop}
 use Rattle.std.specs.Prelude.{All, nat_lt, slice_index, min}
 use Rattle.std.proofs.lemmas.Bool.{cases_lt}
 use Rattle.std.proofs.lemmas.Bool.Decides.{nat_tests}
-use Rattle.net_core.specs.Network.{IsNet, turn}
+use Rattle.net_core.specs.Network.{turn}
 use Rattle.net_core.specs.declared.rows.LinkNo.{LinkNo}
 use Rattle.net_core.specs.declared.rows.NetRows.{NetRows}
-use Rattle.fixed_units.specs.declared.turn.TheConstants.{MOST_PENALTY_STEPS}
-use Rattle.net_core.specs.declared.rows.Turn.{Turn}
 use Rattle.dta_model.specs.LinkTimes.{TimeTable, bucket_count, place_in, time_at}
 use Rattle.dta_model.specs.Plans.{link_numbers}
 use Rattle.dta_model.specs.TimedWalks.{arrival_after, penalty_steps}
 use Rattle.dta_model.specs.declared.loading.TheConstants.{MOST_HORIZON}
 use Rattle.link_times.specs.TimeTables.{IsShort}
-use Rattle.time_routes.proofs.OfStates.RouterFacts.{penalty-in}
 use Rattle.time_routes.proofs.OfStates.LongestFacts.{late_same}
 
 either : (P : ℕ → Type 0) (t : Bool) (x y : ℕ) → P x → P y → P (cond t x y)
@@ -48,15 +45,6 @@ time-capped t l step = by (cases_lt step t.horizon)
     by (inr b) = late_same t l (min step t.horizon) step (omega (arith, b)) b
 
 pub ruleset read = (time-short, time-capped)
-
-pub penalty-short : (net : NetRows) (a b : ℕ) → IsNet net → penalty_steps (turn net a b) ≤ MOST_PENALTY_STEPS
-penalty-short net a b sound = by (turn net a b) refl
-  where
-    by : (o : Option Turn) → turn net a b ≡ o → penalty_steps o ≤ MOST_PENALTY_STEPS
-    by None h = omega arith
-    by (Some way) h = penalty-in net a b way sound h
-
-pub ruleset penalties = (penalty-short)
 
 -- ---- the arrival after one link more
 pub arrival-more : (at : ℕ → ℕ → ℕ) (net : NetRows) (step new l : ℕ) (others : List LinkNo) (i : ℕ) (d : LinkNo) → i < length others

@@ -1,5 +1,5 @@
 -- Sums over vehicles, and the gap that they leave.
-use Rattle.std.proofs.Common.{◌≡◌, ℕ, zero, suc, ◌+◌, ◌<◌, ◌≤◌, Bool, true, false, List, [], ◌∷◌, length, refl, ap, sym, ◌∙◌, subst, arith, Option, Some, None, get_or}
+use Rattle.std.proofs.Common.{◌≡◌, ℕ, zero, suc, ◌+◌, ◌<◌, ◌≤◌, true, false, List, [], length, refl, ap, sym, ◌∙◌, subst, arith, Option, Some, None, get_or}
 use Rattle.std.specs.Prelude.{All, slice_get, sum_by}
 use Rattle.std.proofs.Math.ListN.{get_or-map}
 use Rattle.std.proofs.lemmas.List.{length-map}
@@ -14,8 +14,8 @@ use Rattle.dta_model.specs.declared.trip.Trip.{Trip}
 use Rattle.dta_model.specs.Sound.{AreWalks}
 use Rattle.gap.specs.Gap.{AreLeasts, has_route, IsGapLine, IsLeastOf, over_vehicles, ppm_of, route_time, routed, steps_of}
 use Rattle.gap.specs.declared.line.GapLine.{GapLine}
-use Rattle.gap.specs.Told.{asks_for, least_at, least_at_place, least_in}
-use Rattle.time_routes.specs.Destinations.{AreTold, asks_least, LeastOf}
+use Rattle.gap.specs.Told.{least_at, least_at_place, least_in}
+use Rattle.time_routes.specs.Destinations.{AreTold, LeastOf}
 use Rattle.net_core.proofs.Numbers.{numbers_more}
 
 -- ---- one vehicle more
@@ -106,13 +106,3 @@ module _ (at : ℕ → ℕ → ℕ) (net : NetRows) (trips : List Trip) (routes 
     above = omega (arith, by_routes, by_leasts, gap);
     per_million = ppm ∙ ap (λ n. ppm_of line.gap_steps n) (sym by_leasts);
   }
-
--- ---- what is asked for
-pub asked_where_routed : (routes : List (Option (List LinkNo))) (v : ℕ) → has_route routes v ≡ true → asks_least (asks_for routes) v ≡ true
-asked_where_routed [] v h = cc
-asked_where_routed (route ∷ routes) zero h = h
-asked_where_routed (route ∷ routes) (suc v) h = asked_where_routed routes v h
-
-pub told_where_routed : (T : Trip → Option ℕ → Type 0) (asked : ℕ → Bool) (routes : List (Option (List LinkNo))) (trips : List Trip) (told : List (Option ℕ)) → ((v : ℕ) → has_route routes v ≡ true → asked v ≡ true)
-    → AreTold T asked trips told → AreTold T (has_route routes) trips told
-told_where_routed T asked routes trips told more are = record { as_many = are.as_many; each = λ v x h trip a t. are.each v x h trip (more v a) t }

@@ -35,9 +35,6 @@ first_left (x ∷ L) zero = refl
 first_left (x ∷ L) (suc i) = first_left L i
 
 module _ (p : Plan) (bucket buckets v : ℕ) (route : List LinkNo) (entries : List ℕ) (arrival : Option ℕ) where
-  abbrev M : List Move
-  M = moves_along v route entries arrival
-
   -- what the visit at a place of the route adds
   visit_adds : (f : Visit → ℕ) (i l b steps : ℕ) → length entries ≤ length route → i < length entries
       → steps ≡ visit_time p (link_on route i) (slice_index entries i) (slice_get (moves_along v route entries arrival) (suc i))
@@ -115,9 +112,6 @@ module _ (p : Plan) (bucket buckets v : ℕ) (route : List LinkNo) (entries : Li
     sum_left = λ l b hl hb. one_more (λ x. x.time) sums i l b steps steps w h e refl inside hb place ∙ had.sum_left l b hl hb;
     count_left = λ l b hl hb. one_more (λ x. 1) counts i l b steps 1 w h e refl inside hb (omega (arith, many, place)) ∙ had.count_left l b hl hb;
   }
-
-  pub left_first : (sums counts : List ℕ) → AreLeft p bucket buckets (moves_along v route entries arrival) (drop 0 (moves_along v route entries arrival)) sums counts sums counts
-  left_first sums counts = record { sum_left = λ l b hl hb. refl; count_left = λ l b hl hb. refl }
 
   pub left_last : (old_sums old_counts sums counts : List ℕ) → length entries ≤ length route
       → AreLeft p bucket buckets (moves_along v route entries arrival) (drop (length entries) (moves_along v route entries arrival)) old_sums old_counts sums counts

@@ -10,7 +10,7 @@ use Rattle.std.proofs.lemmas.Nat.{div-mul-add}
 use Rattle.std.proofs.Math.Nat.{div-mul-le_self, mod-add-div, mod-lt}
 use Rattle.dta_model.specs.LinkTimes.{buckets_to, by_bucket, place_in}
 
-product_le : (a b n : ℕ) → a ≤ b → a * n ≤ b * n
+pub product_le : (a b n : ℕ) → a ≤ b → a * n ≤ b * n
 product_le a b n h = grind arith
 
 pub bucket_inside : (bucket horizon entry : ℕ) → 1 ≤ bucket → entry < horizon → entry / bucket < buckets_to bucket horizon

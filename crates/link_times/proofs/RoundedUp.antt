@@ -7,9 +7,7 @@ use Rattle.std.proofs.lemmas.Grind.{div_ceil_times}
 use Rattle.std.proofs.lemmas.List.{take_all, take_more}
 use Rattle.std.proofs.lemmas.List.Elements.{All-push}
 use Rattle.dta_model.specs.declared.loading.TheConstants.{MOST_HORIZON}
-
-product_le : (a b n : ℕ) → a ≤ b → a * n ≤ b * n
-product_le a b n h = grind arith
+use Rattle.link_times.proofs.Places.{product_le}
 
 pub mean_least : (s n : ℕ) → 1 ≤ n → n ≤ s → 1 ≤ div_ceil s n
 mean_least s n some h = by (cases_lt 0 (div_ceil s n))

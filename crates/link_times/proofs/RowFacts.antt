@@ -10,9 +10,6 @@ use Rattle.std.proofs.Math.Seq.{get_or-append_seam}
 use Rattle.dta_model.specs.LinkTimes.{TimeTable, bucket_count, place_in, time_at}
 use Rattle.link_times.specs.Rows.{AreRows, AreRowsTo}
 
-pub AreRowsTo_none : (links buckets : ℕ) (times : List ℕ) → AreRowsTo links buckets times [] 0
-AreRowsTo_none links buckets times = record { many = refl; are = λ k h. absurd (omega (arith, h)) }
-
 -- one more time
 pub AreRowsTo_more : (links buckets bucket link x : ℕ) (times xs new : List ℕ) → link < links → x ≡ get_or times (link * buckets + bucket) 0 → new ≡ xs ++ x ∷ []
     → AreRowsTo links buckets times xs (bucket * links + link) → AreRowsTo links buckets times new (bucket * links + (link + 1))
@@ -30,13 +27,6 @@ AreRowsTo_more links buckets bucket link x times xs new small is grown old = rec
         let column : k % links ≡ link = ap (λ n. n % links) place ∙ mod-mul-add bucket links link small in
         ap (λ (l : List ℕ). get_or l k 0) grown ∙ ap (λ n. get_or (xs ++ x ∷ []) n 0) last ∙ get_or-append_seam xs x [] 0 ∙ is
         ∙ ap (λ n. get_or times (n * buckets + bucket) 0) (sym column) ∙ ap (λ n. get_or times ((k % links) * buckets + n) 0) (sym row)
-
--- the next row
-pub AreRowsTo_next : (links buckets bucket link : ℕ) (times xs : List ℕ) → link ≡ links → AreRowsTo links buckets times xs (bucket * links + link) → AreRowsTo links buckets times xs ((bucket + 1) * links)
-AreRowsTo_next links buckets bucket link times xs whole old = record {
-  many = (let e : (bucket + 1) * links ≡ bucket * links + links = grind arith in omega (arith, old.many, e, whole));
-  are = old.are;
-}
 
 -- what is read at the place of a link in the row of a bucket is its time in the bucket
 pub row_read : (links buckets bucket link place x : ℕ) (times xs : List ℕ) → link < links → place ≡ bucket * links + link → slice_get xs place ≡ Some x → AreRows links buckets times xs → x ≡ get_or times (place_in buckets link bucket) 0

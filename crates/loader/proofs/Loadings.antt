@@ -36,24 +36,6 @@ every-is p w before after c zero e =
 every-is p w before after c (suc n) e = omega arith
 
 module _ (p : Plan) (workers : ℕ) (w : Watch) where
-  pub load-memory : (state : DeskState) (gate : GateState) → Loads p workers w state state gate gate (Err fault.Memory)
-  load-memory state gate = record {
-    loaded = tt;
-    conserved = tt;
-    left_in_order = tt;
-    ordered = tt;
-    watched = tt;
-    cut = λ is. absurd (cc is);
-    every = λ is. absurd (cc is);
-    cause = λ is. absurd (cc is);
-    silent = λ _. refl;
-    left = refl;
-    reads = refl;
-    later = omega arith;
-    receipt = λ other. absurd (other refl);
-    none = λ _. refl;
-  }
-
   pub load-done : {T E : Type 0} (x : T) (before after : DeskState) (gate gate_now : GateState) (journeys : List Journey)
       → journeys ≡ journeys_of p → OnlyPuts {T = T} {E = E} (IsWatched p w) (IsWatchCut p w) before after (Ok x)
       → gate_now ≡ taking (numbers_by p workers) gate → Loads p workers w before after gate gate_now (Ok journeys)

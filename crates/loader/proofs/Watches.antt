@@ -1,6 +1,6 @@
 -- What worker 0 has put, line by line, and that it is the watch lines of the loading in the end.
 use Rattle.std.proofs.Common.{arith, ◌≡◌, ◌<◌, ◌≤◌, ℕ, zero, suc, List, [], ◌∷◌, ◌++◌, refl, sym, ap, ◌∙◌, subst}
-use Rattle.std.specs.Prelude.{◌≢◌, map, Bool, true, false, Result, Ok, Err}
+use Rattle.std.specs.Prelude.{◌≢◌, map, true, false, Result, Ok, Err}
 use mathlib.Core.Logic.{dite}
 use native.Mathlib.Decide.{dec_le}
 use Rattle.desk_io.specs.declared.desk.Output.TheVariants as output
@@ -16,7 +16,7 @@ use Rattle.phase_claims.specs.PlacesHome.{posted_in}
 use Rattle.reports.specs.Texts.{watch_line}
 use Rattle.reports.specs.Watch.{AreWatchSteps, multiples, rises_from}
 use Rattle.loader.specs.Lines.{AreCutOff, AreLinesOf, AreStepsTold, IsWatchCut, IsWatched, line_after, watched}
-use Rattle.loader.specs.Watching.{AreShown, HasWatched, IsMore, IsShown, WentOut, last_from, steps_of}
+use Rattle.loader.specs.Watching.{AreShown, HasWatched, IsMore, IsShown, last_from, steps_of}
 use Rattle.loader.specs.declared.watch.Watch.{Watch}
 use Rattle.loader.specs.declared.watch.Watcher.{Watcher}
 use Rattle.loader.proofs.Outs.{and-nothing, cut-push, cut-sooner, map-push, watched-push}
@@ -181,28 +181,6 @@ module _ (p : Plan) (w : Watch) (pos : 1 ≤ w.every) (far : 1 ≤ p.horizon) wh
   cut-lines states before after s cut =
       let c = completed states s in
       record { lines = lines states ++ c.more; lines_are = c.all; out = cut-sooner (lines states) c.more before after cut }
-
--- nothing is watched
-nothing-out : (failed : Bool) (before after : Taken) → WentOut failed [] before after → after ≡ before
-nothing-out false before after out = out
-nothing-out true before after out = absurd out
-
-pub end-none : {T E : Type 0} (p : Plan) (w : Watcher) (x : T) (before after : DeskState) → w.watch.every ≡ 0
-    → HasWatched w before after → Ends {T = T} {E = E} p w before after (Ok x)
-end-none p w x before after none h =
-    let out = subst (λ (states : List Eight). WentOut w.failed (map (watch_line w.watch.iteration) states) before.taken after.taken)
-    (h.none none) h.out in
-    record {
-      whole = record {
-        lines = [];
-        lines_are = record { steps = []; by_rule = rw none refl; lines_are = refl };
-        out = nothing-out w.failed before.taken after.taken out;
-      };
-      refused = tt;
-      cause = record { later = h.later; failed = tt };
-      left = h.left;
-      reads = h.reads;
-    }
 
 -- what the writer posted, and what it posted last, once the pass is settled with it
 pub record IsSettled (p : Plan) (w : Watcher) (list : List Eight) (e : Eight) : Type 0 where

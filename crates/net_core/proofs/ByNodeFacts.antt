@@ -1,9 +1,9 @@
 -- Links and turns by their nodes, in the network's words.
 use Rattle.std.proofs.Common.{◌≡◌, ◌≢◌, ℕ, ◌+◌, ◌<◌, List, [], ◌∷◌, ◌++◌, length, refl, ap, sym, ◌∙◌, arith, rules, map, set, get_or, Bool, true, false, nat_eq}
-use Rattle.std.specs.Prelude.{◌||◌, Some, find, filter, replicate}
+use Rattle.std.specs.Prelude.{◌||◌, Some, find, filter}
 use Rattle.std.proofs.Math.Bool.{or-true}
 use Rattle.std.proofs.lemmas.Grind.{get_or-set_at}
-use Rattle.std.proofs.lemmas.List.{get_or_default, length-set, length-replicate, get_or-replicate, get_or-set_other}
+use Rattle.std.proofs.lemmas.List.{get_or_default, length-set, get_or-set_other}
 use Rattle.std.proofs.lemmas.List.Folds.{list_any-append}
 use Rattle.std.proofs.lemmas.List.FromFn.{map-range_with_len_more}
 use Rattle.std.specs.List.{list_any}
@@ -64,13 +64,6 @@ pub turn_at-listed : (net : NetRows) (n a b : ℕ) → is_named net n ≡ true
     → turn_at net n a b ≡ as_turn (find (is_from_to a b) net.turns)
 unfolding turn_at
 turn_at-listed net n a b e = rw e refl
-
--- no node is named by no turns
-pub named-none : (count : ℕ) (node : TurnRow → ℕ) → AreNamed (replicate count false) count node []
-named-none count node = record {
-  counted = length-replicate count false;
-  told = λ n b. get_or-replicate count n false false b;
-}
 
 -- a turn names its node, and no other
 pub named-more : (named : List Bool) (count : ℕ) (node : TurnRow → ℕ) (turns : List TurnRow)

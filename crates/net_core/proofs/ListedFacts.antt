@@ -1,16 +1,9 @@
 -- Items by number, one more item at a time.
 use Rattle.std.proofs.Common.{◌≡◌, ◌≢◌, ℕ, ◌<◌, List, [], ◌∷◌, ◌++◌, length, ap, sym, ◌∙◌, refl, rules, set, get_or, true, false, nat_eq, append-nil}
-use Rattle.std.specs.Prelude.{replicate, filter}
-use Rattle.std.proofs.lemmas.List.{length-set, get_or-set_same, get_or-set_other, get_or-replicate, length-replicate}
+use Rattle.std.specs.Prelude.{filter}
+use Rattle.std.proofs.lemmas.List.{length-set, get_or-set_same, get_or-set_other}
 use Rattle.std.proofs.lemmas.List.Elements.{filter-append}
 use Rattle.net_core.specs.AreListed.{AreListed}
-
-pub listed-none : {T : Type 0} (bound : ℕ) (number : T → ℕ)
-    → AreListed (replicate bound []) bound number []
-listed-none bound number = record {
-  bounded = length-replicate bound [];
-  listed = λ n b. get_or-replicate bound n [] [] b;
-}
 
 set-here : {T : Type 0} (lists : List (List T)) (m n : ℕ) (x : List T) → m ≡ n → m < length lists
     → get_or (set lists m (get_or lists m [] ++ x)) n [] ≡ get_or lists n [] ++ x

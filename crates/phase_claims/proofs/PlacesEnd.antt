@@ -78,9 +78,6 @@ module _ (k : Scope) (s : State Part View) (h : Holds k s) (id : ℕ) (v : View)
   finished_all : h.finished ≡ g
   finished_all = r.claimed.sum ∙ below_same (performed_by s.views) (λ x. 1) g (λ x l. done_is x ∙ once_in x g l) ∙ below_one g
 
-  pub never_more : h.finished ≤ Q
-  never_more = omega (arith, finished_all)
-
   -- a pass that has ended finds all finished
   pub ended_whole : v.stage ≡ stage.Ended → Q ≤ h.finished
   ended_whole e =
@@ -134,9 +131,6 @@ module _ (k k' : Scope) (q : Plan) (same : k ≡ k') (plan : q ≡ k.plan) (s : 
 
   quota_here : unit_count k.plan ≡ unit_count k'.plan
   quota_here = ap (λ (j : Scope). unit_count j.plan) same
-
-  quota_q : unit_count q ≡ unit_count k.plan
-  quota_q = ap (λ (x : Plan). unit_count x) plan
 
   module _ (count : ℕ) (counts : count ≡ unit_count k.plan) where
     pub is_early : f < count → IsEarly k' v' (record { finished = f })

@@ -1,16 +1,14 @@
 -- The loop of a posting over the cells, and what it posts.
-use Rattle.std.specs.Prelude.{All, nat_lt, slice_get}
+use Rattle.std.specs.Prelude.{All, slice_get}
 use Rattle.std.specs.List.{range_with_len}
-use Rattle.std.proofs.Common.{◌≡◌, ℕ, zero, suc, ◌+◌, ◌<◌, ◌≤◌, Bool, true, false, ◌&&◌, cond, List, [], ◌∷◌, ◌++◌, length, map, refl, sym, ap, ◌∙◌, subst, arith, Some}
-use Rattle.std.proofs.lemmas.Bool.Decides.{nat_tests}
+use Rattle.std.proofs.Common.{◌≡◌, ℕ, zero, suc, ◌+◌, ◌<◌, ◌≤◌, List, [], ◌∷◌, ◌++◌, length, map, refl, sym, ap, ◌∙◌, subst, arith, Some}
 use Rattle.std.proofs.lemmas.List.Elements.{All-cons, All-nil}
 use Rattle.atomic_table.specs.Seated.{TableId}
 use Rattle.atomic_table.specs.Table.{rest, turned}
 use Rattle.net_core.specs.Network.{numbers_below}
-use Rattle.dta_model.specs.Loading.{trace_after}
-use Rattle.dta_model.specs.Plans.{all_nodes, link_at}
+use Rattle.dta_model.specs.Plans.{all_nodes}
 use Rattle.dta_model.specs.Sound.{IsSound}
-use Rattle.dta_model.specs.State.{count_on, eight_after, eight_in}
+use Rattle.dta_model.specs.State.{eight_after, eight_in}
 use Rattle.dta_model.specs.Units.{node_count, posting_part}
 use Rattle.dta_model.specs.declared.eight.Eight.{Eight}
 use Rattle.dta_model.specs.declared.plan.Plan.{Plan}
@@ -20,7 +18,7 @@ use Rattle.monitors.specs.Posted.{IsLater, Known}
 use Rattle.net_core.proofs.Numbers.{numbers_grow}
 use Rattle.phase_claims.specs.declared.part.Part.{Part}
 use Rattle.phase_claims.specs.declared.part.Part.TheVariants.{Cell, Out, Writer}
-use Rattle.phase_claims.specs.PlacesCounted.{cell_place, counted_in, first_on, posting_places, writer_place}
+use Rattle.phase_claims.specs.PlacesCounted.{cell_place, counted_in, posting_places, writer_place}
 use Rattle.phase_claims.specs.PlacesHeld.{HoldsCell, HoldsWriter}
 use Rattle.phase_claims.specs.PlacesHome.{posted_in}
 use Rattle.phase_claims.proofs.PlacesSums.{all_counted}
@@ -37,20 +35,6 @@ node_at n i h = number_in n 0 i h ∙ ap (λ x. Some x) (omega arith)
 count_range : (n a : ℕ) → length (range_with_len a n) ≡ n
 count_range zero a = refl
 count_range (suc n) a = ap (λ k. suc k) (count_range n (a + 1))
-
--- nothing is counted at the start
-pub none_counted : (p : Plan) (t : ℕ) → record { steps = t; waiting = 0; running = 0; arrived = 0; first = 0 ∷ 0 ∷ 0 ∷ 0 ∷ [] } ≡ counted_in p t 0
-none_counted p t = λ i. record { steps = t; waiting = 0; running = 0; arrived = 0; first = none 0 i ∷ none 1 i ∷ none 2 i ∷ none 3 i ∷ [] }
-  where
-    past : (a : ℕ) → nat_lt a 0 ≡ false
-    past a = grind (arith, nat_tests)
-
-    both : (b : Bool) → (b && false) ≡ false
-    both true = refl
-    both false = refl
-
-    none : (l : ℕ) → 0 ≡ first_on p t 0 l
-    none l = sym (ap (λ b. cond (nat_lt l (length p.net.links) && b) (count_on (trace_after p t) l) 0) (past (link_at p l).to.0) ∙ ap (λ b. cond b (count_on (trace_after p t) l) 0) (both (nat_lt l (length p.net.links))))
 
 same_cell : (x y : CellState) → Cell x ≡ Cell y → x ≡ y
 same_cell x y e = cc

@@ -117,9 +117,6 @@ module _ {p : Plan} {n : ℕ} {ends : ℕ → ℕ} {links : List ℕ} {cell : (�
       round (mail_place p F) (mail_place p F) z links j next l l' is_next is
       (now ∙ ap turned (first_is (mail_place p F) (mail_place p F) z links j next l is_next is))
 
-  pub swap_is : (l : List (ℕ × Part)) (m : mail.Mail) → l ≡ midway (mail_place p F) (mail_place p G) z links j → l ≡ (N + next, Mail m) ∷ rest l → m ≡ F next
-  swap_is l m is got = same_mail m (F next) (same_first (N + next) (Mail m) (Mail (F next)) l got (next_mail l is))
-
   pub swap_round : (m : mail.Mail) → m ≡ G next → (l l' : List (ℕ × Part)) → l ≡ midway (mail_place p F) (mail_place p G) z links j → l' ≡ turned ((N + next, Mail m) ∷ rest l)
       → l' ≡ midway (mail_place p F) (mail_place p G) z links (j + 1)
   swap_round m same l l' is now =

@@ -3,7 +3,7 @@ use Rattle.std.proofs.Common.{◌≡◌, ◌≢◌, ◌⊎◌, inl, inr, ℕ, ze
 use Rattle.std.specs.Prelude.{◌&&◌, is_some, replicate, slice_get}
 use Rattle.std.proofs.lemmas.Bool.{cases_lt}
 use Rattle.std.proofs.lemmas.List.{length-append, length-set}
-use Rattle.std.proofs.lemmas.Option.{slice_get-get_or, slice_get_past, slice_get_within}
+use Rattle.std.proofs.lemmas.Option.{slice_get-get_or, slice_get_within}
 use Rattle.net_core.specs.declared.rows.LinkNo.{LinkNo}
 use Rattle.net_core.specs.declared.rows.NetRows.{NetRows}
 use Rattle.dta_model.specs.Plans.{link_numbers}
@@ -11,8 +11,7 @@ use Rattle.dta_model.specs.Walks.{IsWalk}
 use Rattle.dta_model.specs.declared.trip.Trip.{Trip}
 use Rattle.dta_model.specs.Sound.{AreWalks}
 use Rattle.gap.specs.Gap.{has_route, routed}
-use Rattle.gap.proofs.Sums.{told_where_routed}
-use Rattle.time_routes.specs.Destinations.{AreTold, asked_least, asked_walk, asks_least, asks_walk, LeastOf, WalkOf}
+use Rattle.time_routes.specs.Destinations.{AreTold, asked_walk, asks_walk, WalkOf}
 use Rattle.time_routes.specs.declared.reading.tell.Ask.{Ask}
 use Rattle.route_flows.specs.Asked.{AreAsked, Renews}
 use Rattle.route_flows.specs.Averages.{AreChosenRoutes, AreNextRoutes, is_selected}
@@ -40,9 +39,6 @@ set_other (y ∷ xs) (suc i) zero x h = refl
 set_other (y ∷ xs) (suc i) (suc j) x h = set_other xs i j x (λ e. h (ap suc e))
 
 -- ---- what is asked
-pub asked_none : (least : Bool) (k : ℕ) (routes : List (Option (List LinkNo))) → AreAsked least k routes 0 []
-asked_none least k routes = record { as_many = refl; each = λ v h. absurd (omega (arith, h)) }
-
 pub asked_more : (least : Bool) (k : ℕ) (routes : List (Option (List LinkNo))) (count : ℕ) (asks : List Ask) (ask : Ask) → ask ≡ record { least = least && has_route routes count; walk = is_selected count k }
     → AreAsked least k routes count asks → AreAsked least k routes (count + 1) (asks ++ ask ∷ [])
 asked_more least k routes count asks ask is are = record {
@@ -66,18 +62,6 @@ ask_is least k routes v route a b ask r ha hb is = same a b (least && has_route 
 
 walk_asked : (least : Bool) (k : ℕ) (routes : List (Option (List LinkNo))) (count : ℕ) (asks : List Ask) (v : ℕ) → AreAsked least k routes count asks → v < count → is_selected v k ≡ true → asks_walk asks v ≡ true
 walk_asked least k routes count asks v are h s = ap asked_walk (are.each v h) ∙ s
-
-routed_within : (routes : List (Option (List LinkNo))) (v : ℕ) → has_route routes v ≡ true → v < length routes
-routed_within routes v h = by (cases_lt v (length routes))
-  where
-    by : (v < length routes) ⊎ (length routes ≤ v) → v < length routes
-    by (inl b) = b
-    by (inr b) = absurd (let none = ap routed (slice_get_past routes v b) in let clash : true ≡ false = sym h ∙ none in cc)
-
-pub told_routed : (at : ℕ → ℕ → ℕ) (net : NetRows) (k : ℕ) (routes : List (Option (List LinkNo))) (trips : List Trip) (asks : List Ask) (told : List (Option ℕ)) → AreAsked true k routes (length routes) asks
-    → AreTold (LeastOf at net) (asks_least asks) trips told → AreTold (LeastOf at net) (has_route routes) trips told
-told_routed at net k routes trips asks told asked are =
-    told_where_routed (LeastOf at net) (asks_least asks) routes trips told (λ v h. ap asked_least (asked.each v (routed_within routes v h)) ∙ h) are
 
 -- ---- routes that are renewed
 -- the routes of the first vehicles are renewed, and the walks of the others are still there

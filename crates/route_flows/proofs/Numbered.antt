@@ -1,5 +1,5 @@
 -- The iterations in which vehicles took their routes, and that there is one list of them.
-use Rattle.std.proofs.Common.{◌≡◌, ◌⊎◌, inl, inr, ℕ, ◌<◌, ◌≤◌, ◌+◌, Bool, true, false, List, ap, sym, ◌∙◌, arith, Option, Some, None, subst}
+use Rattle.std.proofs.Common.{◌≡◌, ◌⊎◌, inl, inr, ℕ, ◌<◌, ◌+◌, Bool, true, false, List, ap, sym, ◌∙◌, arith, Option, Some, None, subst}
 use Rattle.std.specs.Prelude.{slice_get}
 use Rattle.std.proofs.lemmas.Bool.{cases_order}
 use Rattle.net_core.specs.declared.rows.LinkNo.{LinkNo}
@@ -12,15 +12,6 @@ use Rattle.route_flows.specs.Starts.{AreNamed, AreStartRows, IsStarted, TellsSta
 use Rattle.route_flows.specs.declared.start_rows.StartRow.{StartRow}
 use Rattle.route_flows.proofs.Determined.{in_list, same_lists, trip_at, walk_once}
 use Rattle.route_flows.proofs.Named.{named_once, one_row}
-
--- the last renewal, met from the last iteration down
-pub renewal_here : (v iterations k : ℕ) → 1 ≤ k → k < iterations → is_selected v k ≡ true → ((j : ℕ) → k + 1 ≤ j → j < iterations → is_selected v j ≡ false) → IsLastRenewal v iterations k
-renewal_here v iterations k some within here later = record {
-  least = some;
-  most = within;
-  selected = here;
-  last = λ j after before. later j (omega (arith, after)) before;
-}
 
 pub numbered_since : (net : NetRows) (start : List StartRow) (iterations v : ℕ) (trip : Trip) (walk : Option (List LinkNo)) (n : ℕ) → TellsStart net start trip walk → IsNumbered v iterations walk n → IsSince net start iterations v trip n
 numbered_since net start iterations v trip walk n tells (inl renewed) = inl renewed

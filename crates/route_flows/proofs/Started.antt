@@ -87,9 +87,6 @@ filling_more others i old mid left new rest inside long is leaves before = by (g
     by None e f g = subst (λ n. Filling others (i + 1) old n rest) (sym f) (subst (λ r. Filling others (i + 1) old (set mid i (get_or left i None)) r) (sym g) (taken e))
     by (Some walk) e f g = subst (λ n. Filling others (i + 1) old n rest) (sym f) (subst (λ r. Filling others (i + 1) old mid r) (sym g) (kept walk e))
 
-pub filled : (others : Walks) (i : ℕ) (old new left : Walks) → length old ≤ i → Filling others i old new left → FillsIn others old new
-filled others i old new left all is = record { as_many = is.as_many; each = λ v h. is.done v (omega (arith, h, all)) }
-
 -- ---- something of each trip, one after another
 push_before : {X : Type 0} (xs : List X) (x : X) (v : ℕ) → v < length xs → slice_get (xs ++ x ∷ []) v ≡ slice_get xs v
 push_before [] x v h = absurd (omega (arith, h))
@@ -106,9 +103,6 @@ same_some a b e = cc
 pub record Begun {X : Type 0} (Is : ℕ → Trip → X → Type 0) (trips : List Trip) (i : ℕ) (xs : List X) : Type 0 where
   pub as_many : length xs ≡ i
   pub each : (v : ℕ) (trip : Trip) (x : X) → slice_get trips v ≡ Some trip → slice_get xs v ≡ Some x → Is v trip x
-
-pub begun_none : {X : Type 0} (Is : ℕ → Trip → X → Type 0) (trips : List Trip) → Begun Is trips 0 []
-begun_none Is trips = record { as_many = refl; each = λ v trip x t e. cc }
 
 pub begun_more : {X : Type 0} (Is : ℕ → Trip → X → Type 0) (trips : List Trip) (i : ℕ) (xs : List X) (trip : Trip) (x : X) → slice_get trips i ≡ Some trip → Is i trip x → Begun Is trips i xs → Begun Is trips (i + 1) (xs ++ x ∷ [])
 begun_more {X} Is trips i xs trip x here is before = record {

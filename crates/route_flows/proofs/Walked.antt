@@ -1,5 +1,5 @@
 -- Whether links are a walk.
-use Rattle.std.proofs.Common.{◌≡◌, ℕ, zero, suc, ◌<◌, ◌+◌, Bool, true, false, List, [], ◌∷◌, length, ap, sym, ◌∙◌, arith, Some, nat_eq, subst, IsTrue, ◌↔◌}
+use Rattle.std.proofs.Common.{◌≡◌, ℕ, zero, suc, ◌<◌, ◌+◌, Bool, true, List, [], ◌∷◌, length, ap, sym, ◌∙◌, arith, Some, subst, IsTrue, ◌↔◌}
 use Rattle.std.specs.Prelude.{All, IfSome, is_some, IsSome, slice_get}
 use Rattle.std.proofs.lemmas.List.{get_or-map, length-map}
 use Rattle.std.proofs.lemmas.List.Elements.{All-from_get_or, All-get_or}
@@ -11,7 +11,7 @@ use Rattle.net_core.specs.declared.rows.LinkRow.{LinkRow}
 use Rattle.net_core.specs.declared.rows.NetRows.{NetRows}
 use Rattle.dta_model.proofs.Steady.{all_at}
 use Rattle.dta_model.specs.Plans.{link_numbers}
-use Rattle.dta_model.specs.Walks.{begins_in, ends_in, IsWalk}
+use Rattle.dta_model.specs.Walks.{begins_in, IsWalk}
 use Rattle.route_flows.specs.Starting.{EndsRight, TurnsOn}
 
 -- the row of a link, and the nodes at its ends
@@ -35,12 +35,6 @@ same_some : {X : Type 0} (a b : X) → Some a ≡ Some b → a ≡ b
 same_some a b e = cc
 
 -- ---- a place of a walk
-pub last_turns : (net : NetRows) (links : List LinkNo) (i : ℕ) → i + 1 ≡ length links → TurnsOn net (link_numbers links) i
-last_turns net links i last a b e f =
-    let many = numbers_many links in
-    let within = slice_get_within (link_numbers links) (suc i) b f in
-    absurd (omega (arith, many, within, last))
-
 pub turns_here : (net : NetRows) (links : List LinkNo) (i : ℕ) (a b : LinkNo) (r : Bool) → slice_get links i ≡ Some a → slice_get links (i + 1) ≡ Some b → r ≡ is_some (turn net a.0 b.0) → IsTrue r ↔ TurnsOn net (link_numbers links) i
 turns_here net links i a b r ea eb is = (forth, back)
   where
@@ -55,25 +49,6 @@ turns_here net links i a b r ea eb is = (forth, back)
 
     back : TurnsOn net (link_numbers links) i → IsTrue r
     back h = is ∙ h a.0 b.0 (number_at links i a ea) there
-
--- the test of a number against the next of a place
-last_is : (i n : ℕ) (last : Bool) → last ≡ nat_eq (i + 1) n → last ≡ nat_eq (suc i) n
-last_is i n last e = let up : i + 1 ≡ suc i = omega arith in e ∙ ap (λ k. nat_eq k n) up
-
-pub ends_here : (net : NetRows) (destination : ℕ) (links : List LinkNo) (i : ℕ) (a : LinkNo) (ends last r : Bool) → slice_get links i ≡ Some a → ends ≡ ends_in net destination a.0 → last ≡ nat_eq (i + 1) (length links)
-    → (r ≡ true → ends ≡ last) → (ends ≡ last → r ≡ true) → IsTrue r ↔ EndsRight net destination (link_numbers links) i
-ends_here net destination links i a ends last r ea he hl to_same from_same = (forth, back)
-  where
-    size : last ≡ nat_eq (suc i) (length (link_numbers links))
-    size = last_is i (length links) last hl ∙ ap (λ n. nat_eq (suc i) n) (sym (numbers_many links))
-
-    forth : IsTrue r → EndsRight net destination (link_numbers links) i
-    forth t x ex =
-        let ax : a.0 ≡ x = same_some a.0 x (sym (number_at links i a ea) ∙ ex) in
-        subst (λ n. ends_in net destination n ≡ nat_eq (suc i) (length (link_numbers links))) ax (sym he ∙ to_same t ∙ size)
-
-    back : EndsRight net destination (link_numbers links) i → IsTrue r
-    back h = from_same (he ∙ h a.0 (number_at links i a ea) ∙ sym size)
 
 -- ---- the whole walk
 numbers_within : (n : ℕ) (links : List LinkNo) → All (λ l. l.0 < n) links → All (λ l. l < n) (link_numbers links)
@@ -93,18 +68,3 @@ walk_is net o d links first e all begins turns ends = record {
   turns = λ i a b ea eb. (let many = numbers_many links in let within = slice_get_within (link_numbers links) i a ea in turns i (omega (arith, many, within)) a b ea eb);
   ends = λ i l el. (let many = numbers_many links in let within = slice_get_within (link_numbers links) i l el in ends i (omega (arith, many, within)) l el);
 }
-
-pub no_links : (net : NetRows) (o d : ℕ) (links : List LinkNo) → length links ≡ 0 → IsWalk net o d (link_numbers links) → ⊥
-no_links net o d links none walk = let some = walk.some in let many = numbers_many links in absurd (omega (arith, some, many, none))
-
-pub other_begin : (net : NetRows) (o d : ℕ) (links : List LinkNo) (first : LinkNo) → slice_get links 0 ≡ Some first → begins_in net o first.0 ≡ false → IsWalk net o d (link_numbers links) → ⊥
-other_begin net o d links first e not_there walk =
-    let begins : begins_in net o first.0 ≡ true = subst (λ x. IfSome x (λ l. begins_in net o l ≡ true)) (number_at links 0 first e) walk.begins in
-    let both : true ≡ false = sym begins ∙ not_there in
-    cc
-
-pub no_turn : (net : NetRows) (o d : ℕ) (links : List LinkNo) (i : ℕ) (r : Bool) → r ≡ false → IsTrue r ↔ TurnsOn net (link_numbers links) i → IsWalk net o d (link_numbers links) → ⊥
-no_turn net o d links i r is turns walk = let both : true ≡ false = sym (turns.1 (λ a b ea eb. walk.turns i a b ea eb)) ∙ is in cc
-
-pub no_end : (net : NetRows) (o d : ℕ) (links : List LinkNo) (i : ℕ) (r : Bool) → r ≡ false → IsTrue r ↔ EndsRight net d (link_numbers links) i → IsWalk net o d (link_numbers links) → ⊥
-no_end net o d links i r is ends walk = let both : true ≡ false = sym (ends.1 (λ l el. walk.ends i l el)) ∙ is in cc

@@ -1,14 +1,11 @@
 -- Lists that grow by an item for each of some others.
-use Rattle.std.proofs.Common.{◌≡◌, ℕ, ◌+◌, ◌<◌, ◌≤◌, List, [], ◌∷◌, ◌++◌, length, ap, sym, subst, ◌∙◌, get_or, take, append_assoc}
+use Rattle.std.proofs.Common.{◌≡◌, ℕ, ◌+◌, ◌<◌, List, [], ◌∷◌, ◌++◌, length, ap, sym, subst, ◌∙◌, get_or, take, append_assoc}
 use Rattle.std.specs.Prelude.{map}
-use Rattle.std.specs.List.{AllZip, flat_map}
-use Rattle.std.proofs.lemmas.List.{append-nil, map-append, take_all, take_more}
+use Rattle.std.specs.List.{flat_map}
+use Rattle.std.proofs.lemmas.List.{append-nil, map-append, take_more}
 use Rattle.std.proofs.lemmas.List.Concat.{flat_map-append}
 use Rattle.skims.specs.Growing.{Adds}
 use Rattle.skims.proofs.ZipFacts.{zip-append}
-
-pub adds-none : {A B : Type 0} (R : A → B → Type 0) (old : List B) → Adds R [] old old
-adds-none R old = record { more = []; each = tt; grown = sym (append-nil old) }
 
 pub adds-one : {A B : Type 0} (R : A → B → Type 0) (x : A) (y : B) (old new : List B) → R x y
     → new ≡ old ++ y ∷ [] → Adds R (x ∷ []) old new
@@ -21,11 +18,6 @@ adds-then R xs others old now new p q = record {
   each = zip-append R xs others p.more q.more p.each q.each;
   grown = q.grown ∙ ap (λ n. n ++ q.more) p.grown ∙ append_assoc old p.more q.more;
 }
-
--- from no items
-pub adds-begun : {A B : Type 0} (R : A → B → Type 0) (xs : List A) (new : List B)
-    → Adds R xs [] new → AllZip R xs new
-adds-begun R xs new p = subst (λ n. AllZip R xs n) (sym p.grown) p.each
 
 -- ---- lists of one more of the first
 map-more : {A B : Type 0} (f : A → B) (xs : List A) (k : ℕ) (d : A) → k < length xs
@@ -54,7 +46,3 @@ pub adds-flat : {X A B : Type 0} (R : A → B → Type 0) (f : X → List A) (xs
 adds-flat R f xs k d old now new l p q =
     subst (λ zs. Adds R zs old new) (sym (flat-more f xs k d l))
     (adds-then R (flat_map f (take k xs)) (f (get_or xs k d)) old now new p q)
-
-pub adds-all : {X A B : Type 0} (R : A → B → Type 0) (f : List X → List A) (xs : List X) (k : ℕ)
-    (old new : List B) → length xs ≤ k → Adds R (f (take k xs)) old new → Adds R (f xs) old new
-adds-all R f xs k old new l p = subst (λ zs. Adds R (f zs) old new) (take_all k xs l) p

@@ -1,6 +1,6 @@
 -- Lists whose items stand one to one.
-use Rattle.std.proofs.Common.{◌≡◌, ℕ, zero, suc, ◌+◌, ◌<◌, ◌≤◌, List, [], ◌∷◌, ◌++◌, length, refl, ap, sym, subst, arith, get_or, take}
-use Rattle.std.proofs.lemmas.List.{take_more, take_all}
+use Rattle.std.proofs.Common.{◌≡◌, ℕ, zero, suc, ◌+◌, ◌<◌, List, [], ◌∷◌, ◌++◌, length, refl, ap, sym, subst, arith, get_or, take}
+use Rattle.std.proofs.lemmas.List.{take_more}
 use Rattle.std.specs.List.{AllZip}
 
 pub zip-append : {A B : Type 0} (R : A → B → Type 0) (xs others : List A) (ys more : List B)
@@ -32,8 +32,3 @@ pub zip-more : {A B : Type 0} (R : A → B → Type 0) (xs : List A) (ys : List 
 zip-more R xs ys k d y l h r =
     subst (λ zs. AllZip R zs (ys ++ y ∷ [])) (sym (take_more xs k d l))
     (zip-append R (take k xs) (get_or xs k d ∷ []) ys (y ∷ []) h (r, tt))
-
--- all of them
-pub zip-all : {A B : Type 0} (R : A → B → Type 0) (xs : List A) (ys : List B) (k : ℕ)
-    → length xs ≤ k → AllZip R (take k xs) ys → AllZip R xs ys
-zip-all R xs ys k l h = subst (λ zs. AllZip R zs ys) (take_all k xs l) h

@@ -1,12 +1,11 @@
 -- Vehicles of scaled demand: the sum with a limit, and the first scenario above it.
-use Rattle.std.proofs.Common.{◌≡◌, ◌≢◌, ℕ, ◌+◌, ◌/◌, ◌<◌, ◌≤◌, ◌^◌, List, length, get_or, arith, refl, ap, sym, subst, ◌∙◌, ◌⊎◌, inl, inr}
+use Rattle.std.proofs.Common.{◌≡◌, ◌≢◌, ℕ, ◌+◌, ◌/◌, ◌<◌, ◌≤◌, ◌^◌, List, length, get_or, arith, refl, ap, sym, subst, ◌∙◌}
 use Rattle.std.specs.Prelude.{Result, Err, Some, ◌↔◌, slice_get}
-use Rattle.std.proofs.lemmas.Bool.{cases_lt}
 use Rattle.std.proofs.lemmas.List.{get_or-map, length-map}
 use Rattle.std.proofs.lemmas.List.Elements.{All-get_or}
 use Rattle.std.proofs.lemmas.Option.{slice_get-get_or, slice_get_within, get_or_from_slice_get}
 use Rattle.fixed_units.specs.declared.quantity.TheConstants.{MOST_THOUSANDTHS}
-use Rattle.dta_model.specs.Release.{counted, vehicles_before}
+use Rattle.dta_model.specs.Release.{counted}
 use Rattle.dta_model.specs.declared.trip.DemandCell.{DemandCell}
 use Rattle.dta_model.specs.declared.trip.TheConstants.{MOST_TRIPS, VOLUME_OF_A_VEHICLE}
 use Rattle.vehicle_release.specs.Limits.{IsFirstAbove, IsWithin}
@@ -77,24 +76,6 @@ pub none-above : (cells : List DemandCell) (line total : ℕ) → IsWithin cells
 none-above cells line total within first =
     omega (arith, within first.row (slice_get_within cells first.row first.cell first.at), first.so_many, first.above)
 
--- rows have one first row above the limit
-same-row : (cells : List DemandCell) (l m t u : ℕ) (a : IsFirstAbove cells l t) (b : IsFirstAbove cells m u) → a.row ≡ b.row
-same-row cells l m t u a b = by (cases_lt a.row b.row) (cases_lt b.row a.row)
-  where
-    by : (a.row < b.row) ⊎ (b.row ≤ a.row) → (b.row < a.row) ⊎ (a.row ≤ b.row) → a.row ≡ b.row
-    by (inl h) other = absurd (omega (arith, b.first a.row h, a.so_many, a.above))
-    by (inr h) (inl k) = absurd (omega (arith, a.first b.row k, b.so_many, b.above))
-    by (inr h) (inr k) = omega (arith, h, k)
-
-same-first : (cells : List DemandCell) (l m t u : ℕ) (a : IsFirstAbove cells l t) (b : IsFirstAbove cells m u) → (l ≡ m) × (t ≡ u)
-same-first cells l m t u a b =
-    let row = same-row cells l m t u a b in
-    let cell : Some a.cell ≡ Some b.cell = sym a.at ∙ ap (slice_get cells) row ∙ b.at in
-    let same : a.cell ≡ b.cell = cc in (
-      sym a.on ∙ ap (λ (c : DemandCell). c.line) same ∙ b.on,
-      sym a.so_many ∙ ap (λ n. vehicles_before cells (n + 1)) row ∙ b.so_many,
-    )
-
 module _ (cells : List DemandCell) (scales : List ℕ) where
   abbrev pub WithinAt : ℕ → Type 0
   WithinAt scale = IsWithin (scaled scale cells)
@@ -102,16 +83,6 @@ module _ (cells : List DemandCell) (scales : List ℕ) where
   -- the scenarios before a place are within the limit
   abbrev pub AreBefore : ℕ → Type 0
   AreBefore place = (earlier other : ℕ) → earlier < place → slice_get scales earlier ≡ Some other → WithinAt other
-
-  pub before-more : (place : ℕ) (d : ℕ) → AreBefore place → WithinAt (get_or scales place d) → AreBefore (place + 1)
-  before-more place d so_far last = λ earlier other h at. by earlier other h at (cases_lt earlier place)
-    where
-      by : (earlier other : ℕ) → earlier < place + 1 → slice_get scales earlier ≡ Some other
-          → (earlier < place) ⊎ (place ≤ earlier) → WithinAt other
-      by earlier other h at (inl k) = so_far earlier other k at
-      by earlier other h at (inr k) =
-          let same : earlier ≡ place = omega (arith, h, k) in
-          subst WithinAt (get_or_from_slice_get scales place other d (subst (λ n. slice_get scales n ≡ Some other) same at)) last
 
   -- all of them are
   pub all-before : (place : ℕ) → length scales ≤ place → AreBefore place → AreAllWithin cells scales
@@ -131,47 +102,6 @@ module _ (cells : List DemandCell) (scales : List ℕ) where
   told-within r all other scenario line total =
       (λ e. absurd (other scenario line total e), λ first. absurd (none-too-many scenario line total all first))
 
-  -- the first one with too many
-  pub first-too-many : (place line total d : ℕ) → place < length scales → AreBefore place
-      → IsFirstAbove (scaled (get_or scales place d) cells) line total → IsFirstTooMany cells scales place line total
-  first-too-many place line total d h so_far above = record {
-    scale = get_or scales place d;
-    at = slice_get-get_or scales place d h;
-    above = above;
-    before = so_far;
-  }
-
-  -- there is one first
-  same-place : (s t l m u v : ℕ) (a : IsFirstTooMany cells scales s l u) (b : IsFirstTooMany cells scales t m v) → s ≡ t
-  same-place s t l m u v a b = by (cases_lt s t) (cases_lt t s)
-    where
-      by : (s < t) ⊎ (t ≤ s) → (t < s) ⊎ (s ≤ t) → s ≡ t
-      by (inl h) other = absurd (none-above (scaled a.scale cells) l u (b.before s a.scale h a.at) a.above)
-      by (inr h) (inl k) = absurd (none-above (scaled b.scale cells) m v (a.before t b.scale k b.at) b.above)
-      by (inr h) (inr k) = omega (arith, h, k)
-
-  same-too-many : (s t l m u v : ℕ) (a : IsFirstTooMany cells scales s l u) (b : IsFirstTooMany cells scales t m v)
-      → fault.TooMany s l u ≡ fault.TooMany t m v
-  same-too-many s t l m u v a b =
-      let place = same-place s t l m u v a b in
-      let at : Some a.scale ≡ Some b.scale = sym a.at ∙ ap (slice_get scales) place ∙ b.at in
-      let scale : a.scale ≡ b.scale = cc in
-      let same = same-first (scaled b.scale cells) l m u v (subst (λ x. IsFirstAbove (scaled x cells) l u) scale a.above) b.above in
-      ap (λ n. fault.TooMany n l u) place ∙ ap (λ n. fault.TooMany t n u) same.0 ∙ ap (fault.TooMany t m) same.1
-
-  pub told-first : {T : Type 0} (r : Result T SweepFault) (s l u : ℕ) → r ≡ Err (fault.TooMany s l u) → IsFirstTooMany cells scales s l u
-      → (scenario line total : ℕ) → (r ≡ Err (fault.TooMany scenario line total)) ↔ IsFirstTooMany cells scales scenario line total
-  told-first {T} r s l u is first scenario line total = (
-    λ e. let both : ◌≡◌ {A = Result T SweepFault} (Err (fault.TooMany s l u)) (Err (fault.TooMany scenario line total)) = sym is ∙ e in
-        let place : s ≡ scenario = cc in
-        let row : l ≡ line = cc in
-        let many : u ≡ total = cc in
-        subst (λ n. IsFirstTooMany cells scales scenario line n) many
-        (subst (λ n. IsFirstTooMany cells scales scenario n u) row
-        (subst (λ n. IsFirstTooMany cells scales n l u) place first)),
-    λ other. is ∙ ap (λ (x : SweepFault). Err x) (same-too-many s scenario l line u total first other),
-  )
-
 -- a fault of one call is that of another
 err-again : {T U : Type 0} (e f : SweepFault) → ◌≡◌ {A = Result T SweepFault} (Err e) (Err f) → ◌≡◌ {A = Result U SweepFault} (Err e) (Err f)
 err-again e f h = let same : e ≡ f = cc in ap (λ (x : SweepFault). Err x) same
@@ -185,5 +115,3 @@ told-again cells scales e told scenario line total = (
 )
 
 pub ruleset counting = (scaled_fits, scaled_all)
-
-pub ruleset scenarios = (before-more, all-before)

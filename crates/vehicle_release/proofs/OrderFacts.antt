@@ -36,10 +36,6 @@ module _ {X : Type 0} (key : X → ℕ) where
   AllUnder high [] = ⊤
   AllUnder high (x ∷ xs) = (key x < high) × AllUnder high xs
 
-  from_less : (low lower : ℕ) (xs : List X) → lower ≤ low → AllFrom low xs → AllFrom lower xs
-  from_less low lower [] le all = tt
-  from_less low lower (x ∷ xs) le all = (omega (arith, all.0), from_less low lower xs le all.1)
-
   -- none is of a step before all of them
   of_step-before : (step low : ℕ) (xs : List X) → step < low → AllFrom low xs → of_step step xs ≡ []
   of_step-before step low [] before all = refl

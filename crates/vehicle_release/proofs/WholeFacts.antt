@@ -8,7 +8,7 @@ use Rattle.std.proofs.lemmas.List.{map-append}
 use Rattle.net_core.specs.Network.{numbers_below}
 use Rattle.dta_model.specs.Released.{IsRelease}
 use Rattle.dta_model.specs.Sound.{AreTrips}
-use Rattle.dta_model.proofs.Releases.{trips_are_released}
+use Rattle.dta_model.proofs.Releases.{departs_is, trips_are_released}
 use Rattle.dta_model.specs.Release.{Released, in_order_of_departure, numbered, released, trip_by, trips_of, vehicles_before}
 use Rattle.dta_model.specs.declared.trip.DemandCell.{DemandCell}
 use Rattle.dta_model.specs.declared.trip.TheConstants.{MOST_TRIPS}
@@ -21,11 +21,6 @@ use Rattle.vehicle_release.proofs.NumbersFacts.{length-renumbered, lent}
 use Rattle.vehicle_release.proofs.SumsFacts.{vehicles_before-volume}
 
 -- ---- the definition's order and numbers
-trip_by-departure : (o : Option DemandCell) (number departs : ℕ)
-    → (trip_by o number departs).departure ≡ departs
-trip_by-departure None number departs = refl
-trip_by-departure (Some cell) number departs = refl
-
 trip_by-number : (o : Option DemandCell) (number departs : ℕ)
     → record (trip_by o 0 departs) { number = number } ≡ trip_by o number departs
 trip_by-number None number departs = refl
@@ -46,7 +41,7 @@ of_step-map : (cells : List DemandCell) (step : ℕ) (all : List Released)
     → filter (λ trip. nat_eq trip.departure step) (map (unnumbered cells) all) ≡ map (unnumbered cells) (filter (λ r. nat_eq r.departs step) all)
 of_step-map cells step [] = refl
 of_step-map cells step (r ∷ rest) =
-    (λ i. cond (nat_eq (trip_by-departure (slice_get cells r.row) 0 r.departs i) step) (unnumbered cells r ∷ of_step-map cells step rest i) (of_step-map cells step rest i))
+    (λ i. cond (nat_eq (departs_is (slice_get cells r.row) 0 r.departs i) step) (unnumbered cells r ∷ of_step-map cells step rest i) (of_step-map cells step rest i))
     ∙ cond-map (unnumbered cells) (nat_eq r.departs step) r (filter (λ r. nat_eq r.departs step) rest)
 
 by_steps-map : (cells : List DemandCell) (from n : ℕ) (all : List Released)

@@ -139,19 +139,6 @@ module _ (p : Plan) (n : ℕ) where
     same = λ mail mail' h. ap (λ is. record (cell_after p n t mail ms) { ins = is }) (ins-same (in_link p n (suc t) (line_after p n t) (left_after p n t) mail) (in_link p n (suc t) (line_after p n t) (left_after p n t) mail') (λ x below at. ap (λ y. record (in_link p n (suc t) (line_after p n t) (left_after p n t) mail x) { mail = y }) (h x below at)));
   }
 
-  -- how many places there are
-  pub outs-count-before : (t : ℕ) (ms mail : ℕ → Mail) → length (cell_before p n t ms mail).outs ≡ length (outs p n)
-  unfolding cell_before
-  outs-count-before t ms mail = length-map (outs p n) (out_link p t (waiting_before p t) mail)
-
-  pub outs-count-after : (t : ℕ) (ms mail : ℕ → Mail) → length (cell_after p n t ms mail).outs ≡ length (outs p n)
-  unfolding cell_after
-  outs-count-after t ms mail = length-map (outs p n) (out_link p (suc t) (waiting_after p n t) mail)
-
   pub ins-count-before : (t : ℕ) (mail ms : ℕ → Mail) → length (cell_before p n t mail ms).ins ≡ length (ins p n)
   unfolding cell_before
   ins-count-before t mail ms = length-map (ins p n) (in_link p n t (line_before p t) (left_before p t) mail)
-
-  pub ins-count-after : (t : ℕ) (mail ms : ℕ → Mail) → length (cell_after p n t mail ms).ins ≡ length (ins p n)
-  unfolding cell_after
-  ins-count-after t mail ms = length-map (ins p n) (in_link p n (suc t) (line_after p n t) (left_after p n t) mail)

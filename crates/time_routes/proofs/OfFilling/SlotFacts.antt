@@ -72,12 +72,6 @@ row_fits horizon states back early few inside =
     let rows : (back + 1) * states ≤ (horizon + 1) * states = mul-le-mul_right states (omega arith) in
     omega (arith, rows, rows_fit horizon states early few)
 
--- a row lies inside a table
-pub row_inside : (horizon states back : ℕ) → back ≤ horizon → back * states + states ≤ (horizon + 1) * states
-row_inside horizon states back inside =
-    let rows : (back + 1) * states ≤ (horizon + 1) * states = mul-le-mul_right states (omega arith) in
-    omega (arith, rows)
-
 -- one more label of a slot is written, and those of the other slots stay
 module _ {S : Type 0} (slot : S → ℕ → ℕ) (slots : ℕ) (old : List S) (p place v : ℕ) (x y : S)
     (inside : p < length old) (was : x ≡ get_or old p x)

@@ -13,7 +13,7 @@ use Rattle.time_routes.specs.Reading.Tell.{LeadsToFirst, Settles, Stands, Tells}
 use Rattle.time_routes.specs.declared.reading.answers.Answer.{Answer}
 use Rattle.time_routes.specs.declared.reading.tell.Ask.{Ask}
 use Rattle.time_routes.specs.declared.reading.tell.Told.{Told}
-use Rattle.time_routes.proofs.OfReading.TellFacts.{group_more, settles_same, settles_set, tells_fewer, tells_none, tells_then}
+use Rattle.time_routes.proofs.OfReading.TellFacts.{group_more, settles_same, settles_set, tells_fewer, tells_then}
 
 -- ---- who is answered
 pub answered_before : (answers : List Answer) (answer : Answer) (v : ℕ) → Stands (answered answers) v → Stands (answered (answers ++ answer ∷ [])) v
@@ -46,9 +46,6 @@ answered_then (a ∷ answers) answer v s = by (s.0) s.1 (λ k e. answered_then a
 
 -- ---- some answers after others
 module _ (at : ℕ → ℕ → ℕ) (net : NetRows) (trips : List Trip) (asks : List Ask) where
-  pub answers_none : (Now : ℕ → Type 0) (answers : List Answer) → ((v : ℕ) → Now v → ⊥) → AnswersMore at net trips asks Now answers answers
-  answers_none Now answers none = record { right = λ all. all; kept = λ v s. s; made = λ v n. absurd (none v n) }
-
   pub answers_push : (v : ℕ) (answers : List Answer) (answer : Answer) → answer.vehicle ≡ v → IsAnswer at net trips asks answer → AnswersMore at net trips asks (λ w. w ≡ v) answers (answers ++ answer ∷ [])
   answers_push v answers answer of right = record {
     right = λ all. All-push (IsAnswer at net trips asks) answers answer all right;
@@ -69,9 +66,6 @@ module _ (at : ℕ → ℕ → ℕ) (net : NetRows) (trips : List Trip) (asks : 
 
   pub answers_fewer : (Many Few : ℕ → Type 0) (old new : List Answer) → AnswersMore at net trips asks Many old new → ((v : ℕ) → Few v → Many v) → AnswersMore at net trips asks Few old new
   answers_fewer Many Few old new more h = record { right = more.right; kept = more.kept; made = λ v n. more.made v (h v n) }
-
-  pub answers_all : (Now : ℕ → Type 0) (answers : List Answer) → AnswersMore at net trips asks Now [] answers → AreAnswers at net trips asks Now answers
-  answers_all Now answers more = record { right = more.right (λ k d h. absurd (omega (arith, h))); each = more.made }
 
 -- ---- an answer in its place
 module _ {X : Type 0} (T : Trip → X → Type 0) (asked : ℕ → Bool) (trips : List Trip) (v : ℕ) (xs : List X) (x : X) (right : IsRight T asked trips v x) where
@@ -107,12 +101,6 @@ put_told at net trips asks answer old new right leasts walks = record {
 pub put_long : {X : Type 0} (b : Bool) (xs : List X) (v : ℕ) (x : X) → length (cond b (set xs v x) xs) ≡ length xs
 put_long true xs v x = length-set xs v x
 put_long false xs v x = refl
-
-nobody_stands : (v : ℕ) → Stands (answered []) v → ⊥
-nobody_stands v s = let e = s.1 in cc
-
-pub put_none : (at : ℕ → ℕ → ℕ) (net : NetRows) (trips : List Trip) (asks : List Ask) (told : Told) → Tells at net trips asks (Stands (answered [])) told told
-put_none at net trips asks told = tells_none at net trips asks (Stands (answered [])) told nobody_stands
 
 pub put_more : (at : ℕ → ℕ → ℕ) (net : NetRows) (trips : List Trip) (asks : List Ask) (answers : List Answer) (answer : Answer) (start mid new : Told) → All (IsAnswer at net trips asks) (answers ++ answer ∷ [])
     → (All (IsAnswer at net trips asks) answers → Tells at net trips asks (Stands (answered answers)) start mid) → (IsAnswer at net trips asks answer → Tells at net trips asks (λ v. v ≡ answer.vehicle) mid new)

@@ -1,37 +1,19 @@
 -- What is left to each zone of a group.
-use Rattle.std.proofs.Common.{◌≡◌, ◌⊎◌, inl, inr, ℕ, ◌+◌, ◌<◌, ◌≤◌, List, [], ◌∷◌, ◌++◌, length, ap, sym, ◌∙◌, subst, arith, get_or}
-use Rattle.std.proofs.lemmas.Bool.{cases_lt}
-use Rattle.std.proofs.lemmas.Grind.{common_steps}
-use Rattle.std.proofs.lemmas.List.{get_or-map, length-map, get_or_append_left, get_or-append-add}
+use Rattle.std.proofs.Common.{◌≡◌, ℕ, ◌<◌, List, [], length, ap, sym, ◌∙◌, arith, get_or}
+use Rattle.std.proofs.lemmas.List.{get_or-map, length-map}
 use Rattle.net_core.specs.Network.{zones}
 use Rattle.net_core.specs.declared.rows.ZoneNo.{ZoneNo}
 use Rattle.dta_model.specs.LinkTimes.{time_at}
-use Rattle.time_routes.specs.Filling.Labels.{rest_in}
-use Rattle.time_routes.specs.Reading.Serves.{AreLeft, AreRowsLeft, Fit, Serves}
+use Rattle.time_routes.specs.Reading.Serves.{Fit, Serves}
 use Rattle.time_routes.specs.Filling.Tables.{rests}
 use Rattle.time_routes.specs.ToZone.{zone_numbers}
 use Rattle.time_routes.specs.Reading.GroupsTo.{AreFilled}
 use Rattle.time_routes.specs.declared.reading.group_labels.GroupLabels.TheInside.{Inside}
-use Rattle.time_routes.specs.declared.states.router.Router.{Router}
 use Rattle.time_routes.proofs.OfReading.ServeFacts.{serves_of}
 
 -- the number at a place
 pub number_of : (zs : List ZoneNo) (j : ℕ) (d : ZoneNo) → j < length zs → get_or (zone_numbers zs) j 0 ≡ (get_or zs j d).0
 number_of zs j d h = get_or-map (λ z. z.0) zs j d 0 h
-
--- one more zone
-pub AreRowsLeft_more : (at : ℕ → ℕ → ℕ) (r : Router) (horizon : ℕ) (old new : List (List ℕ)) (zs : List ZoneNo) (n : ℕ) (row : List ℕ) (d : ZoneNo) → n < length zs → length old ≡ n → new ≡ old ++ row ∷ [] → AreLeft at (rest_in (length r.zones.items) horizon row) r (get_or zs n d).0
-    → AreRowsLeft at r horizon old (zone_numbers zs) → AreRowsLeft at r horizon new (zone_numbers zs)
-AreRowsLeft_more at r horizon old new zs n row d small many grown is all j h = by (cases_lt j n)
-  where
-    by : (j < n) ⊎ (n ≤ j) → AreLeft at (rest_in (length r.zones.items) horizon (get_or new j [])) r (get_or (zone_numbers zs) j 0)
-    by (inl less) = subst (λ x. AreLeft at (rest_in (length r.zones.items) horizon x) r (get_or (zone_numbers zs) j 0)) (sym (ap (λ xs. get_or xs j []) grown ∙ get_or_append_left old (row ∷ []) [] j (omega (arith, less, many)))) (all j (omega (arith, less, many)))
-    by (inr above) =
-        let total : length new ≡ n + 1 = grind (arith, common_steps) in
-        let here : j ≡ length old + 0 = omega (arith, above, h, total, many) in
-        let stands : get_or new j [] ≡ row = ap (λ xs. get_or xs j []) grown ∙ ap (λ k. get_or (old ++ row ∷ []) k []) here ∙ get_or-append-add old (row ∷ []) 0 [] in
-        let number : get_or (zone_numbers zs) j 0 ≡ (get_or zs n d).0 = ap (λ k. get_or (zone_numbers zs) k 0) (here ∙ omega (arith, many)) ∙ number_of zs n d small in
-        subst (λ x. AreLeft at (rest_in (length r.zones.items) horizon x) r (get_or (zone_numbers zs) j 0)) (sym stands) (subst (λ z. AreLeft at (rest_in (length r.zones.items) horizon row) r z) (sym number) is)
 
 -- the labels of a group serve walks to each of its zones
 module _ (l : Inside) (i : AreFilled l) (j : ℕ) (within : j < length (zone_numbers l.zones.items)) where

@@ -105,14 +105,6 @@ not_both : (asked : ℕ → Bool) (v w : ℕ) → asked v ≡ true → asked w �
 not_both asked v w yes_v no_w same = let e = ap asked same in cc
 
 module _ {X : Type 0} (asked : ℕ → Bool) (Right : ℕ → X → Type 0) where
-  pub settles_none : (Now : ℕ → Type 0) (xs : List X) → ((v : ℕ) → Now v → ⊥) → Settles asked Right Now xs xs
-  settles_none Now xs none = record {
-    unasked = λ v other. refl;
-    as_many = refl;
-    kept = λ v x y a r b. (let same : x ≡ y = some_same x y (sym a ∙ b) in subst (λ z. Right v z) same r);
-    made = λ v y n b. absurd (none v n);
-  }
-
   pub settles_same : (v : ℕ) (xs : List X) → ((x : X) → Right v x) → Settles asked Right (λ w. w ≡ v) xs xs
   settles_same v xs all = record {
     unasked = λ v other. refl;
@@ -176,14 +168,6 @@ unasked_least T asks trips v d h x trip asked there = absurd (differs asks v ask
     differs (ask ∷ asks) zero t f = cc
     differs (ask ∷ asks) (suc v) t f = differs asks v t f
 
-pub unasked_walk : {X : Type 0} (T : Trip → X → Type 0) (asks : List Ask) (trips : List Trip) (v : ℕ) (d : Ask) → (get_or asks v d).walk ≡ false → (x : X) → IsRight T (asks_walk asks) trips v x
-unasked_walk T asks trips v d h x trip asked there = absurd (differs asks v asked h)
-  where
-    differs : (asks : List Ask) (v : ℕ) → asks_walk asks v ≡ true → (get_or asks v d).walk ≡ false → ⊥
-    differs [] v t f = cc
-    differs (ask ∷ asks) zero t f = cc
-    differs (ask ∷ asks) (suc v) t f = differs asks v t f
-
 -- ---- some vehicles after others
 module _ (at : ℕ → ℕ → ℕ) (net : NetRows) (trips : List Trip) (asks : List Ask) where
   abbrev Leasts : (ℕ → Type 0) → List (Option ℕ) → List (Option ℕ) → Type 0
@@ -191,12 +175,6 @@ module _ (at : ℕ → ℕ → ℕ) (net : NetRows) (trips : List Trip) (asks : 
 
   abbrev Walks : (ℕ → Type 0) → List (Option (List LinkNo)) → List (Option (List LinkNo)) → Type 0
   Walks = Settles (asks_walk asks) (IsRight (WalkOf at net) (asks_walk asks) trips)
-
-  pub tells_none : (Now : ℕ → Type 0) (told : Told) → ((v : ℕ) → Now v → ⊥) → Tells at net trips asks Now told told
-  tells_none Now told none = record {
-    leasts = settles_none (asks_least asks) (IsRight (LeastOf at net) (asks_least asks) trips) Now told.leasts.items none;
-    walks = settles_none (asks_walk asks) (IsRight (WalkOf at net) (asks_walk asks) trips) Now told.walks.items none;
-  }
 
   pub tells_then : (First Second Both : ℕ → Type 0) (old mid new : Told) → Tells at net trips asks First old mid → Leasts Second mid.leasts.items new.leasts.items → Walks Second mid.walks.items new.walks.items → ((v : ℕ) → Both v → First v ⊎ Second v) → Tells at net trips asks Both old new
   tells_then First Second Both old mid new one leasts walks split = record {
@@ -219,9 +197,6 @@ before_more numbers i d v s = by (cases_lt (s.0) i)
     by : (s.0 < i) ⊎ (i ≤ s.0) → StandsBefore numbers i v ⊎ (v ≡ get_or numbers i d)
     by (inl b) = inl (s.0, b, s.2)
     by (inr b) = let low = s.1 in let same : s.0 ≡ i = omega (arith, low, b) in inr (sym (get_or_from_slice_get numbers i v d (ap (λ k. slice_get numbers k) (sym same) ∙ s.2)))
-
-pub none_before : (numbers : List ℕ) (v : ℕ) → StandsBefore numbers 0 v → ⊥
-none_before numbers v s = let low = s.1 in omega (arith, low)
 
 pub all_before : (numbers : List ℕ) (i v : ℕ) → length numbers ≤ i → Stands numbers v → StandsBefore numbers i v
 all_before numbers i v h s = let inside = slice_get_within numbers (s.0) v (s.1) in (s.0, omega (arith, inside, h), s.1)
@@ -300,9 +275,6 @@ module _ (net : NetRows) (trips : List Trip) (asks : List Ask) (lists : List (Li
           let inside : (get_or named (s.0) d).0 < length (zones net.nodes) = small (s.0) d (slice_get_within named (s.0) (s.1) (s.3)) in
           let to : LeadsTo net trips asks (get_or named (s.0) d).0 v = subst (λ z. LeadsTo net trips asks z.0 v) (sym there) (s.4) in
           inr (subst (λ l. Stands l v) are (subst (λ p. Stands (get_or lists (get_or named p d).0 []) v) same (leading_stand (get_or named (s.0) d).0 v inside to)))
-
-pub no_first_yet : (net : NetRows) (trips : List Trip) (asks : List Ask) (named : List ZoneNo) (v : ℕ) → LeadsToFirst net trips asks named 0 v → ⊥
-no_first_yet net trips asks named v s = let low = s.2 in omega (arith, low)
 
 -- ---- one group after others
 take_get : {X : Type 0} (xs : List X) (n k : ℕ) → k < n → slice_get (take n xs) k ≡ slice_get xs k
@@ -399,13 +371,3 @@ unasked_none asked Right Now count start new is s v x other there =
     let long : length new ≡ count = s.as_many ∙ ap length is ∙ length-replicate count None in
     let small = slice_get_within new v x there in
     some_same x None (sym there ∙ s.unasked v other ∙ ap (λ l. slice_get l v) is ∙ one_of None count v (omega (arith, small, long)))
-
-pub asked_least_at : (asks : List Ask) (v : ℕ) (d : Ask) → (get_or asks v d).least ≡ true → v < length asks → asks_least asks v ≡ true
-asked_least_at [] v d h small = absurd (omega (arith, small))
-asked_least_at (ask ∷ asks) zero d h small = h
-asked_least_at (ask ∷ asks) (suc v) d h small = asked_least_at asks v d h (omega (arith, small))
-
-pub asked_walk_at : (asks : List Ask) (v : ℕ) (d : Ask) → (get_or asks v d).walk ≡ true → v < length asks → asks_walk asks v ≡ true
-asked_walk_at [] v d h small = absurd (omega (arith, small))
-asked_walk_at (ask ∷ asks) zero d h small = h
-asked_walk_at (ask ∷ asks) (suc v) d h small = asked_walk_at asks v d h (omega (arith, small))

@@ -1,5 +1,5 @@
 -- What is left from where a link ends, and how it fits together.
-use Rattle.std.specs.Prelude.{◌≡◌, ℕ, ◌+◌, ◌<◌, ◌≤◌, Bool, true, false, cond, nat_lt, min, List, []}
+use Rattle.std.specs.Prelude.{◌≡◌, ℕ, ◌+◌, ◌<◌, Bool, true, cond, nat_lt, min, List, []}
 use Rattle.std.specs.Prelude.{◌∷◌, Option, Some, None, slice_get}
 use Rattle.time_routes.specs.declared.states.onward.Onward.{Onward}
 use Rattle.time_routes.specs.Reading.Paths.{Ways}
@@ -17,13 +17,6 @@ module _ (at : ℕ → ℕ → ℕ) (far : ℕ) (rest : ℕ → ℕ → ℕ) whe
   unfoldable pub least_over : ℕ → List Onward → ℕ
   least_over e [] = far
   least_over e (w ∷ ws) = min (over e w) (least_over e ws)
-
--- times that fit together: nothing at the zone, elsewhere the least over the ways on
-pub record AreRests (at : ℕ → ℕ → ℕ) (far : ℕ) (own : ℕ → Bool) (ways : ℕ → List Onward)
-    (rest : ℕ → ℕ → ℕ) (states first last : ℕ) : Type 0 where
-  pub at_zone : (s e : ℕ) → s < states → first ≤ e → e < last → own s ≡ true → rest s e ≡ 0
-  pub before : (s e : ℕ) → s < states → first ≤ e → e < last → own s ≡ false
-      → rest s e ≡ least_over at far rest e (ways s)
 
 -- the ways on are the allowed turns, in any state where a link ends
 pub record AreTurns (g : Ways) (links : ℕ) (own : ℕ → Bool) (state : ℕ → ℕ) (ways : ℕ → List Onward)

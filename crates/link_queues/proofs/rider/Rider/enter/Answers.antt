@@ -2,7 +2,7 @@ use Rattle.std.proofs.Common.{length, sym, ◌∙◌, ap, arith, None, ◌+◌, 
 use Rattle.std.specs.List.{last_or}
 use Rattle.std.specs.Prelude.{slice_get}
 use Rattle.std.proofs.lemmas.List.{length-drop, length-take}
-use Rattle.link_queues.proofs.LastFacts.{put_last}
+use Rattle.dta_model.proofs.Riders.{last_push}
 use Rattle.link_queues.proofs.PathFacts.{fit, links_stay, one_more, step_last}
 use Rattle.link_queues.proofs.rider.Rider.enter.Goals as goal
 
@@ -30,7 +30,7 @@ invariant_of-self c =
           absurd (omega (arith, full, inside, many, behind, left, entries, route, short));
       last_entry = sym (ap (λ xs. last_or None (drop n xs)) c.push_reserved.ensures.items
           ∙ ap (last_or None) (step_last n old.items c.args.step within)
-          ∙ put_last None (drop n old.items) c.args.step);
+          ∙ last_push None (drop n old.items) c.args.step);
       next_link = c.link_at-self-inside.ensures
           ∙ ap (λ r. slice_get r.route (c.entered.result + 1)) (sym c.self.view_is)
           ∙ ap (λ k. slice_get (take n old.items) (k + 1)) (c.entered.ensures ∙ sym entries)
