@@ -1,10 +1,12 @@
 -- Look-ups and changes in a list that is made of numbers.
-use Rattle.std.proofs.Common.{◌≡◌, ℕ, suc, ◌+◌, Bool, true, false, cond, ◌||◌, not, List, [], ◌∷◌, map, refl, ap, sym, subst, Option, Some, None, add-one, ◌⊎◌, inl, inr}
+use Rattle.std.proofs.Common.{◌≡◌, ℕ, zero, suc, ◌+◌, ◌<◌, Bool, true, false, cond, ◌||◌, not, List, [], ◌∷◌, length, map, refl, ap, sym, subst, arith, get_or, Option, Some, None, add-one, ◌⊎◌, inl, inr}
 use Rattle.std.specs.Prelude.{slice_get, find, filter, nat_eq, option_map, ◌≢◌}
 use Rattle.std.specs.List.{list_any}
-use Rattle.std.proofs.lemmas.Bool.{eqb-true, eqb-false}
+use Rattle.std.specs.List.Sorted.{IsNonDecreasing, IsNonDecreasingBy, IsPartitionPoint}
+use Rattle.std.proofs.lemmas.Bool.{eqb-true, eqb-false, eq-eqb, ne_eqb, ltb-true, ltb-false}
+use Rattle.std.proofs.lemmas.List.{get_or-map, length-map}
 use Rattle.std.proofs.lemmas.Bool.Decides.{eqb_tells}
-use Rattle.std.proofs.Math.Dec.{eqb}
+use Rattle.std.proofs.Math.Dec.{eqb, ltb}
 pub use Rattle.std.proofs.lemmas.Bool.{and_parts as both_true}
 use Rattle.dta_model.proofs.Queues.{absent, distinct}
 use Rattle.node_transfer.specs.Inside.Pass.{place_of}
@@ -77,3 +79,41 @@ find_kept q b (x ∷ xs) = kept_step (eqb x b) (q x) (q b) refl (λ e. ap q (eqb
     kept_step true false false r h ih = ih
     kept_step false true d r h ih = rw (← r) ih
     kept_step false false d r h ih = ih
+
+-- elements stand in order where their numbers do
+pub order-by : {X : Type 0} (key : X → ℕ) (xs : List X) → IsNonDecreasing (map key xs) → IsNonDecreasingBy key xs
+order-by key xs order i j d l h =
+    let r = order i j 0 l (omega (arith, h, length-map xs key)) in
+    let a = get_or-map key xs i d 0 (omega (arith, l, h)) in
+    let b = get_or-map key xs j d 0 h in
+    omega (arith, r, a, b)
+
+-- the number stands at its place
+found_at : {X : Type 0} (key : X → ℕ) (b : ℕ) (xs : List X) (d : X) → place_of b (map key xs) < length xs → key (get_or xs (place_of b (map key xs)) d) ≡ b
+unfolding place_of
+found_at key b [] d h = absurd (omega (arith, h))
+found_at key b (x ∷ xs) d h = by (eqb_tells (key x) b) h (found_at key b xs d)
+  where
+    by : ((eqb (key x) b ≡ true) × (key x ≡ b)) ⊎ ((eqb (key x) b ≡ false) × (key x ≢ b)) → cond (eqb (key x) b) 0 (place_of b (map key xs) + 1) < suc (length xs)
+        → (place_of b (map key xs) < length xs → key (get_or xs (place_of b (map key xs)) d) ≡ b)
+        → key (get_or (x ∷ xs) (cond (eqb (key x) b) 0 (place_of b (map key xs) + 1)) d) ≡ b
+    by (inl (test, same)) k ih = rw test same
+    by (inr (test, ne)) k ih = let m = rw test at k in rw (test, add-one) (ih (omega (arith, m)))
+
+-- where they stand in order, it is the first place that isn't below the number
+pub point-place : {X : Type 0} (key : X → ℕ) (b : ℕ) (xs : List X) (r : ℕ) → IsNonDecreasingBy key xs → place_of b (map key xs) < length xs
+    → IsPartitionPoint (λ x. ltb (key x) b ≡ true) (λ x. ltb (key x) b ≡ false) xs r → r ≡ place_of b (map key xs)
+unfolding place_of
+point-place key b [] r order there point = absurd (omega (arith, there))
+point-place key b (x ∷ xs) zero order there point =
+    let first = ltb-false (key x) b (point.1 0 x (omega arith) (omega arith)) in
+    let last = order 0 (place_of b (map key (x ∷ xs))) x (omega arith) there in
+    let is = found_at key b (x ∷ xs) x there in
+    rw (eq-eqb (key x) b (omega (arith, first, last, is))) refl
+point-place key b (x ∷ xs) (suc r) order there point =
+    let less = ltb-true (key x) b (point.0 0 x (omega arith) (omega arith)) in
+    let other = ne_eqb (key x) b (λ same. omega (arith, less, same)) in
+    let rest = rw other at there in
+    let ih = point-place key b xs r (λ i j d l h. order (suc i) (suc j) d (omega (arith, l)) (omega (arith, h))) (omega (arith, rest))
+    ((λ k d l h. point.0 (suc k) d (omega arith) (omega (arith, h))), (λ k d l h. point.1 (suc k) d (omega (arith, l)) (omega (arith, h)))) in
+    rw (other, add-one) (ap suc ih)

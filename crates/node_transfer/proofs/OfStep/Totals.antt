@@ -1,9 +1,13 @@
 -- How many riders a cell holds, and what a transfer asks of them.
+use Rattle.net_core.specs.Network as network
 use Rattle.std.specs.List.{flat_map, range_with_len, sum_by}
+use Rattle.std.specs.List.Sorted.{IsNonDecreasing}
 use Rattle.std.specs.Prelude.{filter, find, slice_get, nat_eq, nat_le, nat_lt, All, IfSome, option_map}
 use Rattle.std.proofs.Common.{◌≡◌, ℕ, zero, suc, ◌+◌, ◌<◌, ◌≤◌, Bool, true, false, cond, List, [], ◌∷◌, ◌++◌, length, length-append, map, refl, ap, sym, ◌∙◌, subst, arith, rules, min, Option, Some, None, ◌⊎◌, inl, inr}
 use Rattle.std.proofs.lemmas.Bool.Decides.{nat_tests, eqb_tells}
 use Rattle.std.proofs.lemmas.List.{length-map}
+use Rattle.std.proofs.lemmas.List.FromFn.{get_or-range_with_len, length-range_with_len}
+use Rattle.std.proofs.lemmas.List.Kept.{IsNonDecreasingBy-filter}
 use Rattle.std.proofs.lemmas.List.Elements.{All-head, All-tail, All-nil, All-cons}
 use Rattle.std.proofs.lemmas.List.Sums.{sum_by-cons, length-filter}
 use Rattle.std.proofs.lemmas.Option.{slice_get-map}
@@ -112,8 +116,16 @@ module _ (p : Plan) (n t : ℕ) where
         placed_step true e ih = omega arith
         placed_step false e ih = let r = ih e in omega (arith, r)
 
+    outs-order : IsNonDecreasing (outs p n)
+    unfolding network.outs
+    outs-order = IsNonDecreasingBy-filter (λ l. l) (λ l. nat_eq (link_at p l).from.0 n) (network.numbers_below (length p.net.links)) (λ i j d l h.
+        let count = length-range_with_len 0 (length p.net.links) in
+        let a = get_or-range_with_len 0 (length p.net.links) i d (omega (arith, l, h, count)) in
+        let b = get_or-range_with_len 0 (length p.net.links) j d (omega (arith, h, count)) in
+        omega (arith, l, a, b))
+
     rides-of : (l v : ℕ) → OnLink p n t l v → Rides (outs p n) (rider_at p (T p n t) v)
-    rides-of l v F = record { under_way = F.under_way; placed = by_next (slice_get (rider_at p (T p n t) v).route (length (rider_at p (T p n t) v).entries)) refl }
+    rides-of l v F = record { order = outs-order; under_way = F.under_way; placed = by_next (slice_get (rider_at p (T p n t) v).route (length (rider_at p (T p n t) v).entries)) refl }
       where
         by_next : (o : Option ℕ) → slice_get (rider_at p (T p n t) v).route (length (rider_at p (T p n t) v).entries) ≡ o → IfSome o (λ b. place_of b (outs p n) < length (outs p n))
         by_next None e = search rules

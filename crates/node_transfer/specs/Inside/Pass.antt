@@ -4,6 +4,7 @@ use Rattle.std.specs.Prelude.{◌≡◌, ℕ, ◌+◌, ◌<◌, ◌≤◌, Bool,
 use Rattle.std.specs.Prelude.{nat_le, nat_eq, List, [], ◌∷◌, ◌++◌, length, map, Option, None, Some}
 use Rattle.std.specs.Prelude.{option_map, IfSome, All, slice_get, slice_set}
 use Rattle.std.specs.List.{sum_by, last_or}
+use Rattle.std.specs.List.Sorted.{IsNonDecreasing}
 use Rattle.dta_model.specs.Riders.{RiderState, moved}
 use Rattle.capacity_credits.specs.Meter.{MeterState, passed_one}
 use Rattle.cell_stages.specs.declared.turn.LimitedTurn.{LimitedTurn}
@@ -127,8 +128,9 @@ passed step (r ∷ line) exit outs arrived = elim (head_action step exit outs r)
   | Enters p k ↦ passed step line (after_entry k exit) (entered_at p step r outs) arrived
 ]
 
--- a rider on its way to one of the links
+-- a rider on its way to one of the links, which stand in order
 pub record Rides (links : List ℕ) (r : RiderState) : Type 0 where
+  pub order : IsNonDecreasing links
   pub under_way : r.arrival ≡ None
   pub placed : IfSome (slice_get r.route (length r.entries)) (λ b. place_of b links < length links)
 

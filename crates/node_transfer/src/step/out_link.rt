@@ -1,6 +1,7 @@
 // An out-link of a node.
 ghost use Rattle.std.specs.Prelude.{◌≡◌, ◌+◌, ◌-◌, ◌<◌, ◌≤◌, length, map, All, IsTrue, false, None};
 ghost use Rattle.std.specs.Prelude.{Some};
+ghost use Rattle.std.specs.List.Sorted.{IsNonDecreasing};
 ghost use Rattle.node_transfer.specs.Inside.Pass.{place_of, out_links, held};
 ghost use Rattle.node_transfer.specs.Inside.Outs.{released, capped_by, opened_out, admitted};
 ghost use Rattle.node_transfer.specs.Inside.Outs.{closed_out};
@@ -12,15 +13,13 @@ use fixed_units::MOST_STEP;
 use link_queues::{Line, MOST_RIDERS};
 use net_core::LinkNo;
 
-/// The place of a link among out-links; their number where it isn't there.
+/// The place of a link among out-links that stand in order.
 pub fn place_to(outs: &[OutLink], link: LinkNo) -> usize
+    requires order { IsNonDecreasing (out_links outs.now) }
+    requires there { place_of link.0 (out_links outs.now) < length outs.now }
     ensures { result ≡ place_of link.0 (out_links outs.now) }
 {
-    let mut place = 0;
-    while place < outs.len() && outs[place].link.0 != link.0 {
-        place += 1;
-    }
-    place
+    outs.partition_point(|out| out.link.0 < link.0)
 }
 
 /// Moves the first that waits, where it is due, and says whether it did.

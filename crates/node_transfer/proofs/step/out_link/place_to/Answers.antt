@@ -1,21 +1,11 @@
-use Rattle.std.proofs.Common.{arith}
-use Rattle.node_transfer.proofs.OfStep.Maps.{place_step, place_here, place_none}
+use Rattle.std.proofs.Common.{ltb, rules}
+use Rattle.std.proofs.lemmas.List.Sorted.{IsPartitionPoint-from_clause, IsPartitionedBy-ltb}
+use Rattle.node_transfer.proofs.OfStep.ByKey.{order-by, point-place}
 use Rattle.node_transfer.proofs.step.out_link.place_to.Goals as goal
 
-pub loop-place-preserved : goal.loop-place-preserved
-loop-place-preserved c =
-    let e = place_step (λ x. x.link.0) c.args.link.0 c.args.outs.now c.loop-place.place c.index-outs-place.result (omega arith) c.if-outs-place.true in
-    let h = c.loop-place.invariant in
-    (omega arith, omega (arith, h.1, e))
-
-pub returns-else-outs-place : goal.returns-else-outs-place
-returns-else-outs-place c =
-    let e = place_here (λ x. x.link.0) c.args.link.0 c.args.outs.now c.loop-place.place c.index-outs-place.result (omega arith) c.if-outs-place.false in
-    let h = c.loop-place.invariant in
-    omega (arith, h.1, e)
-
-pub returns-after-loop-place : goal.returns-after-loop-place
-returns-after-loop-place c =
-    let e = place_none (λ x. x.link.0) c.args.link.0 c.args.outs.now c.loop-place.place (omega arith) in
-    let h = c.loop-place.invariant in
-    omega (arith, h.1, e)
+pub returns : goal.returns
+returns c =
+    let order = order-by (λ o. o.link.0) c.args.outs.now c.requires.order in
+    let parted = IsPartitionedBy-ltb (λ o. o.link.0) _ c.args.link.0 order in
+    let point = IsPartitionPoint-from_clause (λ o. ltb o.link.0 c.args.link.0) _ _ c.partition_point.ensures.partitioned parted (λ a r q k. search rules) in
+    point-place (λ o. o.link.0) c.args.link.0 c.args.outs.now c.partition_point.result order c.requires.there point
