@@ -11,11 +11,9 @@ use Rattle.dta_model.specs.declared.plan.Plan.{Plan}
 use Rattle.counts.specs.Counting.{counts_of}
 use Rattle.counts.specs.Inside.Turns.{IsWithin}
 use Rattle.counts.specs.Turns.{IsOfNet, all_turns, timed, times_taken, turn_count, turn_counts, turn_counts_in, turns_between, turns_from}
+use Rattle.link_times.proofs.Places.{product_le}
 use Rattle.counts.proofs.Counting.{Each, counts-cons}
 use Rattle.counts.proofs.InOrder.{Each-flat_of, Each-map_of}
-
-product_le : (a b n : ℕ) → a ≤ b → a * n ≤ b * n
-product_le a b n h = grind arith
 
 begins : (bucket horizon k : ℕ) → 1 ≤ bucket → k < buckets_to bucket horizon → k * bucket < horizon
 begins bucket horizon k h l =

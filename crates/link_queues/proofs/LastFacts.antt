@@ -1,6 +1,6 @@
 -- The last of a list.
 use Rattle.std.specs.List.{last_or}
-use Rattle.std.specs.Prelude.{◌≡◌, List, [], ◌∷◌, IsNone, None, Option, Some, refl}
+use Rattle.std.specs.Prelude.{◌≡◌, List, [], ◌∷◌, IsNone, None, Some, refl}
 
 some_last : {X : Type 0} (x : X) (xs : List X) → IsNone (last_or (Some x) xs) → ⊥
 some_last x [] h = cc
