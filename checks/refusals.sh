@@ -289,7 +289,6 @@ ends 7 'size: links 195 steps 86400 limit 16777216' sweep --scales 1 --horizon 8
 size='size: demand line 3 vehicles 2000001 limit 2000000'
 for words in assign counts 'sweep --scales 1' 'sweep --scales 0.1;1' 'audit --horizon 60'; do
     rows demand 1,3,%.0f 1999998 1999998
-    # shellcheck disable=SC2086
     ends 7 "$size" $words
 done
 seq 513 | awk 'BEGIN { print "node_id,zone_id" } { print $1 "," $1 }' >node.csv

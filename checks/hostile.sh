@@ -8,30 +8,23 @@ groups='folder_without_writing full_outputs full_disk broken_streams closed_stre
 longest_tables long_rows odd_bytes most_vehicles little_memory little_memory_for_shares
 little_memory_for_threads no_threads times_tables skims_and_counts windows waves start_tables sweeps
 sweeps_in_little_memory audits audited_tables kills'
-[ $# -ge 1 ] || { echo 'usage: hostile.sh PROGRAM [GROUP..]' >&2; exit 2; }
-bench=$(dirname "$(readlink -f "$0")")
-work=$(mktemp -d)
+checks=$(dirname "$(readlink -f "$0")")
+more='[GROUP..]'
+. "$checks/begin.sh"
+work=$folder
 trap 'umount "$work/small" 2>/dev/null; rm -rf "$work"' EXIT
-trap 'exit 1' INT TERM
 chmod 755 "$work"
-cp "$1" "$work/program" && chmod 755 "$work/program" || exit 2
-shift
+cp "$program" "$work/program" && chmod 755 "$work/program" || exit 2
 program=$work/program
 whole=$work/whole
 cases=0
-failures=0
 is_root=$([ "$(id -u)" = 0 ] && echo yes)
 usage='usage: dta COMMAND [options]'
 
 # check NAME WANTED GOT: tells of a case.
 check() {
     cases=$((cases + 1))
-    if [ "$2" = "$3" ]; then
-        echo "ok: $1: $3"
-    else
-        failures=$((failures + 1))
-        echo "FAILED: $1: wanted $2, got $3"
-    fi
+    if [ "$2" = "$3" ]; then echo "ok: $1: $3"; else fails "$1: wanted $2, got $3"; fi
 }
 
 # A new folder with two links in a line and so many vehicles, which is then the current one.
@@ -41,7 +34,7 @@ begin() {
     mkdir "$work/case"
     chmod 777 "$work/case"
     cd "$work/case" || exit 2
-    "$bench/two_links.sh" "${1:-3000}"
+    "$checks/two_links.sh" "${1:-3000}"
 }
 
 # Runs the program with these words. Report and Watch go to files beside the folder.
@@ -118,8 +111,8 @@ full_outputs() {
             begin
             case $kind in
                 folder) mkdir "$name"; was=folder ;;
-                itself) ln -s "$name" "$name"; was=link ;;
-                *) ln -s "$kind" "$name"; was=link ;;
+                itself) ln -s "$name" "$name"; was='link' ;;
+                *) ln -s "$kind" "$name"; was='link' ;;
             esac
             run assign
             case $name in
@@ -262,7 +255,8 @@ pipes() {
 
 # longer FILE BYTES: appends line feeds until the file has so many bytes.
 longer() {
-    head -c $(($2 - $(wc -c <"$1"))) /dev/zero | tr '\0' '\n' >>"$1"
+    size=$(wc -c <"$1")
+    head -c $(($2 - size)) /dev/zero | tr '\0' '\n' >>"$1"
 }
 
 # Tables of the most bytes and of one more; empty lines are passed over.
@@ -344,7 +338,6 @@ most_vehicles() {
     printf 'link_id,from_node_id,to_node_id,length,free_speed,capacity\n1,1,3,100,60,3600\n' \
         >link.csv
     for words in --plain '--workers 16'; do
-        # shellcheck disable=SC2086
         run assign $words
         got=$(sed -n -e 3p -e 6,8p "$work/report" | tr '\n' ' ')
         check "2,000,000 vehicles on one link, $words" \
@@ -905,4 +898,4 @@ kills() {
 keep_whole 3000
 for group in ${*:-$groups}; do $group; done
 echo "$cases cases, $failures failed"
-[ $failures -eq 0 ]
+exit "$((failures > 0))"

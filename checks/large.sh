@@ -1,91 +1,74 @@
 #!/bin/sh
-# large.sh PROGRAM PEER [STAGE] [CASE..]: large input gets an answer. Runs a built program over
-# large tables, with --plain and with workers, and beside it PEER, another program of the same
-# rules, with `--stage STAGE` before its words (16 where it isn't said, nothing where it is 0; for
-# skims and counts at least 19, for sweeps and audits 20). One runs after another. Each must end
-# with status 0, and all must write the same tables and the same report. Prints the seconds and the
-# peak memory of each run; ends with 0 where all is as it should be. Cases are the functions that
-# `cases` names, and all of them run where none is said.
+# large.sh PROGRAM [CASE..]: large input gets an answer, which no clause says: each leaves want of
+# memory free. Runs a built program over large tables, with --plain and with workers, one run after
+# another. Each must end with status 0, and all must write the same tables and the same report.
+# Prints the seconds and the peak memory of each run; ends with 0 where all is as it should be.
+# Cases are the functions that `cases` names, and all of them run where none is said.
+#
+# PEER, in the environment, is the path of another program of the same rules, which takes the same
+# words, writes the same files and ends with the same status. Where it is set each case runs it
+# first, and the program must write what it wrote.
 cases='many_vehicles long_chain long_horizon wide_labels many_iterations many_links many_rows
 many_turns crossings many_zones no_demand many_counts many_entries many_windows many_waves
 long_waves many_starts many_scales many_audits'
-[ $# -ge 2 ] || { echo 'usage: large.sh PROGRAM PEER [STAGE] [CASE..]' >&2; exit 2; }
-program=$(realpath "$1")
-peer=$(realpath "$2")
-shift 2
-stage=16
-case $1 in [0-9]*) stage=$1; shift ;; esac
-work=$(mktemp -d)
-trap 'rm -rf "$work"' EXIT
-trap 'exit 1' INT TERM
+checks=$(dirname "$(readlink -f "$0")")
+more='[CASE..]'
+peer=${PEER:+$(realpath "$PEER")}
+. "$checks/begin.sh"
+[ -n "$peer" ] || echo "PEER isn't set: the program is compared with itself"
+outputs='agent.csv link_performance.csv gap.csv skim.csv counts.csv sweep.txt'
 runs=0
-failures=0
 
-# timed NAME COMMAND..: runs a command in the current folder; prints what it took, sets `status`.
+# timed NAME COMMAND..: runs a command in the current folder, and prints what it took.
 timed() {
     told=$1
     shift
     runs=$((runs + 1))
-    /usr/bin/time -o "$work/time" -f '%e seconds, %U + %S of processors, peak %M KB' "$@" >report
+    /usr/bin/time -o "$folder/time" -f '%e seconds, %U + %S of processors, peak %M KB' "$@" >report
     status=$?
-    echo "  $told: status $status, $(tail -n 1 "$work/time")"
+    echo "  $told: status $status, $(tail -n 1 "$folder/time")"
     [ $status -eq 0 ] || fails "$told ends with $status: $(head -n 1 report)"
 }
 
-fails() {
-    failures=$((failures + 1))
-    echo "FAILED: $1"
+# same NAME COMMAND..: runs a command. It writes what the first run of the case wrote.
+same() {
+    timed "$@"
+    mkdir now
+    mv report $outputs now 2>/dev/null
+    if [ ! -e first ]; then mv now first; return; fi
+    diff -r -q first now || fails "$1 writes something else"
+    rm -r now
 }
 
-# Runs the other program with these words, and keeps what it writes in the folder `first`.
-first() {
-    # shellcheck disable=SC2086
-    timed 'the other program' "$peer" $at_stage "$@"
-    mkdir first
-    # shellcheck disable=SC2086
-    mv $outputs report first
-}
-
-# then_same NAME WORDS..: runs the program; what it writes is the same, and is removed.
-then_same() {
-    name=$1
+# compare WAYS WORDS..: runs the program with these words in each of the ways, and before it the
+# other program in the first way, in the current folder of tables, which is then removed.
+compare() {
+    ways=$1
     shift
-    timed "$name" "$program" "$@"
-    for output in $outputs report; do
-        cmp "$output" "first/$output" || fails "$name writes another $output"
-        rm -f "$output"
-    done
-}
-
-# Tells the report of a case, and removes its folder.
-end() {
+    [ -z "$peer" ] || same 'the other program' "$peer" "$@" ${ways%% *}
+    [ -n "$ways" ] || same dta "$program" "$@"
+    for way in $ways; do same "dta $way" "$program" "$@" "$way"; done
     tr '\n' ';' <first/report
     echo
-    cd "$work" || exit 2
-    rm -rf "$work/tables"
+    cd "$folder" && rm -rf tables
 }
 
-# compare WORDS..: runs both programs with these words in the current folder of tables.
-compare() {
-    first "$@" --plain
-    for way in --plain --workers=4; do then_same $way "$@" $way; done
-    end
-}
+# assign WORDS.., counts WORDS..: the same of these commands, plainly and by workers.
+assign() { compare '--plain --workers=4' assign "$@"; }
+counts() { compare '--plain --workers=4' counts "$@"; }
 
-# known_from STAGE: sets how the other program is called, at this stage or a later one.
-known_from() {
-    at_stage="--stage $(($1 > stage ? $1 : stage))"
-    [ "$stage" != 0 ] || at_stage=
+# earlier WORDS..: a run from which a case begins, by the other program where there is one.
+earlier() {
+    timed "${peer:+the other program, }before" "${peer:-$program}" assign --plain "$@"
+    mv agent.csv start.csv
+    mv link_performance.csv times.csv
+    rm gap.csv
 }
 
 # begin TITLE: a new folder, which is then the current one.
 begin() {
     echo "$1:"
-    known_from 0
-    outputs='agent.csv link_performance.csv gap.csv'
-    rm -rf "$work/tables"
-    mkdir "$work/tables"
-    cd "$work/tables" || exit 2
+    mkdir "$folder/tables" && cd "$folder/tables" || exit 2
 }
 
 # Nodes 1 to NODES in a line, joined by links one way: `chain NODES LENGTH`. The first node is zone
@@ -131,21 +114,21 @@ many_vehicles() {
     begin '1,900,000 vehicles'
     grid 12 4
     demand 1,2,500000 2,3,500000 3,4,500000 4,1,400000
-    compare assign --iterations 2 --queue spatial
+    assign --iterations 2 --queue spatial
 }
 
 long_chain() {
     begin 'a chain of 5,000 links'
     chain 5001 100
     demand 1,2,2000
-    compare assign --horizon 12000 --bucket 500
+    assign --horizon 12000 --bucket 500
 }
 
 long_horizon() {
     begin 'a horizon of 86,400 steps'
     grid 10 8
     demand 1,2,3000 3,4,3000 5,6,3000 7,8,3000 8,1,2000
-    compare assign --horizon 86400 --period 86400 --step 1 --bucket 900
+    assign --horizon 86400 --period 86400 --step 1 --bucket 900
 }
 
 # Times that need more than 32 bits: links of 10,000 steps, with penalties of 36,000 between them.
@@ -163,21 +146,21 @@ wide_labels() {
         }
     }'
     demand 1,2,20
-    compare assign --step 1 --horizon 1300 --period 60 --iterations 2
+    assign --step 1 --horizon 1300 --period 60 --iterations 2
 }
 
 many_iterations() {
     begin '1,000 iterations of a small network'
     grid 5 4
     demand 1,2,200 2,3,200 3,4,200 4,1,200 1,4,200
-    compare assign --horizon 200 --period 20 --bucket 10 --iterations 1000
+    assign --horizon 200 --period 20 --bucket 10 --iterations 1000
 }
 
 many_links() {
     begin '400,000 links'
     grid 317 2000
     demand 1,2,300 2,3,300 3,4,300 1000,1001,300 2000,1999,300
-    compare assign --step 20 --horizon 160 --period 60
+    assign --step 20 --horizon 160 --period 60
 }
 
 many_rows() {
@@ -186,7 +169,7 @@ many_rows() {
     echo o_zone_id,d_zone_id,volume >demand.csv
     awk 'BEGIN { for (k = 0; k < 4000000; k++) print k % 100 + 1 "," k % 101 % 100 + 1 ",0.3" }' \
         >>demand.csv
-    compare assign
+    assign
 }
 
 # Each of 1,008 nodes of a ring is joined to the next by 63 links, so that it has 3,969 turns.
@@ -208,7 +191,7 @@ many_turns() {
         }
     }'
     demand 1,2,500 2,3,500 4,1,500
-    compare assign --horizon 400
+    assign --horizon 400
 }
 
 # crossing LINKS: a node with so many links in and as many out, and all of its turns.
@@ -227,7 +210,7 @@ crossing() {
     }'
     echo o_zone_id,d_zone_id,volume >demand.csv
     awk 'BEGIN { for (k = 1; k <= 40; k++) print k "," k % 4 + 41 ",50" }' >>demand.csv
-    compare assign --horizon 100 --iterations 2
+    assign --horizon 100 --iterations 2
 }
 
 # Four times the rows should take about four times as long.
@@ -243,38 +226,29 @@ many_zones() {
     awk 'BEGIN {
         for (o = 1; o <= 1000; o++) for (d = 1; d <= 1000; d++) if (o != d) print o "," d ",0.05"
     }' >>demand.csv
-    compare assign --iterations 2
+    assign --iterations 2
 }
 
 no_demand() {
     begin 'an empty demand'
     grid 100 100
     echo o_zone_id,d_zone_id,volume >demand.csv
-    compare assign --iterations 3
+    assign --iterations 3
 }
 
 many_counts() {
     begin 'the turns of 1,900,000 vehicles, in each step'
-    known_from 19
-    outputs=counts.csv
     grid 12 4
     demand 1,2,500000 2,3,500000 3,4,500000 4,1,400000
-    compare counts --iterations 2 --queue spatial --bucket 1 --link 100
+    counts --iterations 2 --queue spatial --bucket 1 --link 100
 }
 
 many_entries() {
     begin '1,000 zones and 16 starts'
-    known_from 19
-    outputs=skim.csv
     grid 32 1000
     demand 1,1000,300 500,20,300 999,500,300
-    # shellcheck disable=SC2086
-    timed 'link times' "$peer" $at_stage assign --plain
-    mv link_performance.csv times.csv
-    set -- --at '0;75;150;225;300;375;450;525;600;675;750;825;900;975;1050;1125'
-    first skim "$@"
-    then_same skim skim "$@"
-    end
+    earlier
+    compare '' skim --at '0;75;150;225;300;375;450;525;600;675;750;825;900;975;1050;1125'
 }
 
 # windowed TABLE CAPACITY..: the table with 64 windows in each row, as a last column. One begins
@@ -292,7 +266,6 @@ windowed() {
 
 many_windows() {
     begin '64 windows at each of 39,600 links and of 157,208 turns, 50,000 vehicles'
-    known_from 14
     grid 100 40
     awk -F, 'NR > 1 { into[$3] = into[$3] " " $1; out[$2] = out[$2] " " $1 }
     END {
@@ -308,65 +281,48 @@ many_windows() {
     echo o_zone_id,d_zone_id,volume >demand.csv
     awk 'BEGIN { for (o = 1; o <= 40; o++) for (d = 1; d <= 40; d++) print o "," d ",32" }' \
         >>demand.csv
-    compare assign
+    assign
 }
 
 many_waves() {
     begin '1,900,000 vehicles and backward waves'
-    known_from 15
     grid 12 4
     demand 1,2,500000 2,3,500000 3,4,500000 4,1,400000
-    compare assign --iterations 2 --queue newell --wave 15
+    assign --iterations 2 --queue newell --wave 15
 }
 
 # Waves that take longer than the horizon: each link keeps how many left it in each step.
 long_waves() {
     begin 'a chain of 2,000 links, each with 20,000 steps of its wave'
-    known_from 15
     chain 2001 10000
     demand 1,2,2000
-    compare assign --horizon 20000 --bucket 500 --step 1 --queue newell --wave 1
+    assign --horizon 20000 --bucket 500 --step 1 --queue newell --wave 1
 }
 
 many_starts() {
     begin 'a start table of 1,900,000 rows'
-    known_from 16
     grid 12 4
     demand 1,2,500000 2,3,500000 3,4,500000 4,1,400000
-    # shellcheck disable=SC2086
-    timed 'the earlier run' "$peer" $at_stage assign --plain --iterations 3
-    mv agent.csv start.csv
+    earlier --iterations 3
     sed -i '50s/,1800$/,300/' link.csv
-    compare assign --iterations 2 --start
+    assign --iterations 2 --start
 }
 
 many_scales() {
     begin 'four scenarios of up to 1,900,000 vehicles'
-    known_from 20
-    outputs=sweep.txt
     grid 12 4
     demand 1,2,500000 2,3,500000 3,4,500000 4,1,400000
-    set -- --scales '1;0.5;0.25;0.75' --queue spatial
-    first sweep "$@"
-    for way in --workers=1 --workers=4; do then_same $way sweep "$@" $way; done
-    end
+    compare '--workers=1 --workers=4' sweep --scales '1;0.5;0.25;0.75' --queue spatial
 }
 
 many_audits() {
     begin 'an audit of 1,900,000 vehicles'
-    known_from 20
-    outputs=
     grid 12 4
     demand 1,2,500000 2,3,500000 3,4,500000 4,1,400000
-    # shellcheck disable=SC2086
-    timed 'what is audited' "$peer" $at_stage assign --plain --queue spatial
-    mv agent.csv start.csv
-    mv link_performance.csv times.csv
-    first audit --queue spatial
-    then_same audit audit --queue spatial
-    end
+    earlier --queue spatial
+    compare '' audit --queue spatial
 }
 
 for case in ${*:-$cases}; do $case; done
 echo "$runs runs, $failures failures"
-[ $failures -eq 0 ]
+exit "$((failures > 0))"

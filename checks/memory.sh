@@ -7,15 +7,11 @@
 # case how many requests there are and how many runs ended with each status; ends with 0 where all
 # held. It needs a C compiler, a program that takes its memory from the C library of GNU, and some
 # minutes.
-[ $# -eq 1 ] || { echo 'usage: memory.sh PROGRAM' >&2; exit 2; }
-program=$(realpath "$1")
-bench=$(dirname "$(readlink -f "$0")")
+checks=$(dirname "$(readlink -f "$0")")
+. "$checks/begin.sh"
+work=$folder
 every=3000
 stride=50
-work=$(mktemp -d)
-trap 'rm -rf "$work"' EXIT
-trap 'exit 1' INT TERM
-failures=0
 
 # What stands between the program and the C library. It counts the requests from the start of the
 # program on, and refuses the one whose number REFUSED tells. Where the program ends it writes to
@@ -85,7 +81,7 @@ cc -O -fno-builtin -shared -fPIC -o "$work/refuse.so" "$work/refuse.c" || exit 2
 
 # Two links in a line, and three vehicles.
 two_links() {
-    "$bench/two_links.sh" 3
+    "$checks/two_links.sh" 3
 }
 
 # A narrow link and a way round it, and four vehicles.
@@ -99,18 +95,16 @@ a_way_round() {
 # Two links in a line, and what an assignment of 60 steps tells of them.
 link_times() {
     two_links
-    printf 'link_id,from_step,to_step,entered,travel_steps,free_steps\n' >times.csv
-    printf '10,0,50,3,10,10\n10,50,60,0,10,10\n' >>times.csv
-    printf '20,0,50,3,10,10\n20,50,60,0,10,10\n' >>times.csv
+    printf '%s\n' link_id,from_step,to_step,entered,travel_steps,free_steps \
+        10,0,50,3,10,10 10,50,60,0,10,10 20,0,50,3,10,10 20,50,60,0,10,10 >times.csv
 }
 
 # The same with the agent table of that assignment.
 results() {
     link_times
-    printf 'agent_id,o_zone_id,d_zone_id,departure_step,arrival_step,status,' >start.csv
-    printf 'link_ids,entry_steps\n' >>start.csv
-    printf '0,1,3,5,25,arrived,10;20,5;15\n1,1,3,15,35,arrived,10;20,15;25\n' >>start.csv
-    printf '2,1,3,25,45,arrived,10;20,25;35\n' >>start.csv
+    columns=agent_id,o_zone_id,d_zone_id,departure_step,arrival_step,status,link_ids,entry_steps
+    printf '%s\n' $columns '0,1,3,5,25,arrived,10;20,5;15' '1,1,3,15,35,arrived,10;20,15;25' \
+        '2,1,3,25,45,arrived,10;20,25;35' >start.csv
 }
 
 # run NUMBER WORDS: a run whose request of this number is refused, none where it is 0, over outputs
@@ -135,12 +129,6 @@ letters() {
     done
 }
 
-# fails NUMBER WHAT: tells of a run that failed.
-fails() {
-    failures=$((failures + 1))
-    echo "FAILED: $name, request $1 refused: status and outputs $2"
-}
-
 # Looks at a run whose request of this number was refused. A put that failed leaves first outputs
 # whole and a first part of the next.
 look() {
@@ -151,14 +139,14 @@ look() {
         5) put_runs=$((put_runs + 1)) ;;
         6) memory_runs=$((memory_runs + 1)) ;;
     esac
-    echo "$got" | grep -Eqx '0 w+|5 w*[pu]u*|6 u+' || fails "$1" "$got"
+    echo "$got" | grep -Eqx '0 w+|5 w*[pu]u*|6 u+' ||
+        fails "$name, request $1 refused: status and outputs $got"
 }
 
 # Runs without a refusal, and keeps what is written and how many requests there are.
 keep_whole() {
     run 0 "$@"
     [ $status -eq 0 ] || { echo "$name: a run with ample memory ends with $status"; exit 2; }
-    # shellcheck disable=SC2086
     cp $outputs "$work/whole"
     ample=$(cat "$work/counted" 2>/dev/null)
     [ "${ample:-0}" -gt 0 ] || { echo 'no request for memory was seen'; exit 2; }
@@ -193,15 +181,11 @@ case_of() {
 
 files='agent.csv link_performance.csv gap.csv report'
 for loader in --plain '--workers 1' '--workers 4'; do
-    # shellcheck disable=SC2086
     case_of "two links in a line, $loader" two_links "$files" \
         assign --period 30 --horizon 60 $loader
-    # shellcheck disable=SC2086
     case_of "two iterations, $loader" a_way_round "$files" \
         assign --period 1 --horizon 60 --iterations 2 $loader
-    # shellcheck disable=SC2086
     case_of "a demonstration, $loader" : report demo 2 --period 1 --horizon 1 $loader
-    # shellcheck disable=SC2086
     case_of "counts, $loader" a_way_round 'counts.csv report' \
         counts --period 1 --horizon 60 --link 30 $loader
 done
@@ -211,5 +195,4 @@ for workers in 1 4; do
         --horizon 60 --iterations 2 --scales '1;0.5;2' --workers $workers
 done
 case_of 'an audit' results report audit --period 30 --horizon 60
-[ $failures -eq 0 ] && echo 'all is as it should be'
-exit "$((failures > 0))"
+end 'all is as it should be'

@@ -1,22 +1,18 @@
 #!/usr/bin/env python3
-"""random_cases.py PROGRAM PEER [--cases N] [--seed S] [--stage 20] [--jobs J] [--case K] [--all]
-                                 [--only KIND]
+"""random_cases.py PROGRAM [--cases N] [--seed S] [--jobs J] [--case K] [--all] [--only KIND]
 
-Runs PROGRAM and PEER, another program of the same rules, in folders with equal tables, N times
-(1000 where N isn't said), and compares the status, standard output and standard error, and every
-file that is then there. Case K of seed S is the same wherever it is made with the same words:
-`--case K` runs it alone. With `--only KIND` all cases are of this kind: a command, such as skim,
-counts, sweep or audit; `windows`, capacities by step in link and movement tables; `newell`, the
-queue with and without a wave; `start`, assignments from a start table. Otherwise each kind has its
-share. The link times that a skim reads are those of an `assign` of PEER, and a start table is its
-agent table; both as they are or changed. An audit reads the agent table and the link times of one
-`assign` of PEER, mostly with one field or one row changed.
+Runs PROGRAM and PEER in folders with equal tables, N times (1000 where N isn't said), and compares
+the status, standard output and standard error, and every file that is then there. PEER, in the
+environment, is the path of another program of the same rules, which takes the same words, writes
+the same files and ends with the same status; without it nothing can be compared.
 
-PEER is called with `--stage` and its number before the words, unless the number is 0. The number is
-at least that from which on PEER has what the case needs: 14 for windows, 15 for `newell`, 16 for a
-start table, 19 for `skim` and `counts`, 20 for `sweep` and `audit`. Features above the stage that
-is said aren't tried, unless `--only` asks for one. A stage below 17 has an older usage line, which
-is compared as if it were the one of now. At the first difference its folder is kept and named, and
+Case K of seed S is the same wherever it is made with the same words: `--case K` runs it alone. With
+`--only KIND` all cases are of this kind: a command, such as skim, counts, sweep or audit;
+`windows`, capacities by step in link and movement tables; `newell`, the queue with and without a
+wave; `start`, assignments from a start table. Otherwise each kind has its share. The link times
+that a skim reads are those of an `assign` of PEER, and a start table is its agent table; both as
+they are or changed. An audit reads the agent table and the link times of one `assign` of PEER,
+mostly with one field or one row changed. At the first difference its folder is kept and named, and
 the status is 1; with --all each one is told.
 
 Where workers load, which watch lines come before the last one of an iteration is free within its
@@ -37,8 +33,6 @@ import case_maker  # noqa: E402
 import watch_rule  # noqa: E402
 
 LONGEST = 120  # seconds that a run may take
-USAGE = b"usage: dta COMMAND [options]\n"
-OLDER_USAGE = b"usage: dta freeflow|assign|demo N [options]\n"
 
 
 class Outcome:
@@ -73,11 +67,11 @@ def entry(path):
         return file.read()
 
 
-def run(command, case, folder):
-    """Runs a command with the words of a case in a folder of its own."""
+def run(program, case, folder):
+    """Runs a program with the words of a case in a folder of its own."""
     lay_out(case, folder)
     try:
-        ended = subprocess.run([os.fsencode(word) for word in command] + case.words, cwd=folder,
+        ended = subprocess.run([os.fsencode(program)] + case.words, cwd=folder,
                                stdin=subprocess.DEVNULL, capture_output=True, timeout=LONGEST)
     except subprocess.TimeoutExpired:
         return Outcome("no end", b"", b"", {})
@@ -85,23 +79,12 @@ def run(command, case, folder):
     return Outcome(ended.returncode, ended.stdout, ended.stderr, files)
 
 
-def run_peer(settings, case, folder):
-    """Runs PEER at the stage that a case asks for."""
-    command = [settings.peer]
-    if settings.stage > 0:
-        command += ["--stage", str(max(settings.stage, case.stage))]
-    outcome = run(command, case, folder)
-    if outcome.report == OLDER_USAGE:
-        outcome.report = USAGE
-    return outcome
-
-
 def earlier_run(settings, folder):
     """A function that answers the files that an assignment of PEER leaves in such a folder, or None
     where it doesn't end with 0."""
-    def assign(words, files, stage):
-        case = case_maker.Case([word.encode("ascii") for word in words], files, stage=stage)
-        outcome = run_peer(settings, case, folder)
+    def assign(words, files):
+        case = case_maker.Case([word.encode("ascii") for word in words], files)
+        outcome = run(settings.peer, case, folder)
         shutil.rmtree(folder)
         return outcome.files if outcome.status == 0 else None
     return assign
@@ -161,12 +144,11 @@ def try_case(job):
     folder."""
     settings, number = job
     folder = tempfile.mkdtemp(prefix=f"case_{settings.seed}_{number}_", dir=settings.folder)
-    known = settings.stage or case_maker.LAST_STAGE
     case = case_maker.make_case(random.Random(f"{settings.seed}:{number}"),
                                 earlier_run(settings, os.path.join(folder, "earlier")),
-                                settings.only, known)
-    got = run([settings.program], case, os.path.join(folder, "program"))
-    wanted = run_peer(settings, case, os.path.join(folder, "peer"))
+                                settings.only)
+    got = run(settings.program, case, os.path.join(folder, "program"))
+    wanted = run(settings.peer, case, os.path.join(folder, "peer"))
     found = differences(case, got, wanted)
     if found or settings.case is not None:
         keep(folder, case, {"program": got, "peer": wanted})
@@ -179,15 +161,17 @@ def try_case(job):
 def read_settings():
     reader = argparse.ArgumentParser(usage=__doc__)
     reader.add_argument("program", type=os.path.abspath)
-    reader.add_argument("peer", type=os.path.abspath)
     reader.add_argument("--cases", type=int, default=1000)
     reader.add_argument("--seed", type=int, default=1)
-    reader.add_argument("--stage", type=int, default=20)
     reader.add_argument("--jobs", type=int, default=2)
     reader.add_argument("--case", type=int)
     reader.add_argument("--all", action="store_true")
     reader.add_argument("--only", choices=list(case_maker.SHARES))
-    return reader.parse_args()
+    settings = reader.parse_args()
+    if not os.environ.get("PEER"):
+        reader.error("PEER, the path of another program of the same rules, isn't set")
+    settings.peer = os.path.abspath(os.environ["PEER"])
+    return settings
 
 
 def try_cases(settings):

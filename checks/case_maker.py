@@ -5,10 +5,9 @@ cases. A case is made sound first, a small network with demand and the words of 
 spelled: numbers and quotes in odd but accepted ways. Every second case or so is then spoilt, in
 its fields, columns, bytes, words or files, so that most spoilt cases are near to sound ones.
 
-Of some features that PEER has only from a stage on there are kinds of cases by themselves:
-capacities in windows (case_windows.py), the queue `newell`, and start tables (case_starts.py).
-What a sweep is made of beyond an assignment stands in case_sweeps.py, and the changed results that
-an audit looks at are made by case_audits.py.
+Of some features there are kinds of cases by themselves: capacities in windows (case_windows.py),
+the queue `newell`, and start tables (case_starts.py). What a sweep is made of beyond an assignment
+stands in case_sweeps.py, and the changed results that an audit looks at are made by case_audits.py.
 """
 from dataclasses import dataclass, field
 
@@ -23,17 +22,15 @@ OUTPUTS_OF = {"skim": ("skim.csv",), "counts": ("counts.csv",), "sweep": ("sweep
               "audit": ("audit.txt", "agent.csv")}
 TIMES = "times.csv"
 START = "start.csv"
-LAST_STAGE = 20
 
 
 @dataclass
 class Case:
-    """The words of a run (as bytes), the files of its folder, what stands in place of some, its
-    kind, and the stage from which on PEER has what the case needs."""
+    """The words of a run (as bytes), the files of its folder, what stands in place of some, and its
+    kind."""
     words: list
     files: dict
     kind: str = "assign"
-    stage: int = 0
     folders: list = field(default_factory=list)
     links_to_themselves: list = field(default_factory=list)
 
@@ -48,14 +45,13 @@ class Table:
         return self.columns.index(column)
 
 
-def make_case(r, assign, only=None, known=LAST_STAGE):
-    """A case by these random numbers, of the kind `only` where it is said; features of a stage
-    above `known` aren't in it. `assign(words, files, stage)` answers the files that an assignment
-    with these words over these tables leaves, or None where it is refused."""
-    kind = only or choose_kind(r, known)
-    features = choose_features(r, kind, only, known)
-    command = choose_command(r, kind, features, known)
-    stage = max(FIRST_STAGE.get(what, 0) for what in [command] + features)
+def make_case(r, assign, only=None):
+    """A case by these random numbers, of the kind `only` where it is said. `assign(words, files)`
+    answers the files that an assignment with these words over these tables leaves, or None where it
+    is refused."""
+    kind = only or r.choices(list(SHARES), weights=SHARES.values())[0]
+    features = choose_features(r, kind, only)
+    command = choose_command(r, kind, features)
     groups = make_options(r, command, features)
     tables = make_tables(r, flat(command, groups), features)
     if command == "counts":
@@ -63,7 +59,12 @@ def make_case(r, assign, only=None, known=LAST_STAGE):
     if command == "sweep":
         add_scales(r, groups, tables)
     words = flat(command, groups)
-    earlier = Earlier(assign, stage)
+
+    def earlier(words, tables):
+        return assign(words, {name: table if isinstance(table, bytes)
+                              else write_table(None, table, False)
+                              for name, table in tables.items()})
+
     if "start" in features:
         tables[START] = start_table(r, groups, tables, earlier)
     for name in list(tables):
@@ -91,70 +92,36 @@ def make_case(r, assign, only=None, known=LAST_STAGE):
         name = choose_table(r, files, features)
         files[name] = spoil_bytes(r, files[name])
     if "words" in spoils:
-        words = spoil_words(r, words, command, known)
-    case = Case([word.encode("utf-8", "surrogateescape") for word in words], files, kind, stage)
+        words = spoil_words(r, words, command)
+    case = Case([word.encode("utf-8", "surrogateescape") for word in words], files, kind)
     if "files" in spoils:
         spoil_files(r, case, command, features)
     return case
 
 
-@dataclass
-class Earlier:
-    """Runs of PEER that a case stands on."""
-    assign: object
-    stage: int
-
-    def file(self, words, tables, name):
-        """A file that an assignment over these tables leaves, or None where it is refused."""
-        files = self.files(words, tables)
-        return None if files is None else files[name]
-
-    def files(self, words, tables):
-        """All files that it leaves, or None."""
-        texts = {each: text if isinstance(text, bytes) else write_table(None, text, False)
-                 for each, text in tables.items()}
-        return self.assign(words, texts, self.stage)
-
-
-# What PEER has from which stage on: commands, and features of tables and words.
-FIRST_STAGE = {"skim": 19, "counts": 19, "windows": 14, "newell": 15, "start": 16, "sweep": 20,
-               "audit": 20}
 FEATURES = ["windows", "newell", "start"]
 
 
-def choose_kind(r, known):
-    later = FEATURES + ["sweep", "audit"]
-    kinds = [kind for kind in SHARES if kind not in later or FIRST_STAGE[kind] <= known]
-    return r.choices(kinds, weights=[SHARES[kind] for kind in kinds])[0]
-
-
-def choose_features(r, kind, only, known):
+def choose_features(r, kind, only):
     """The feature of the kind, and now and then others that go with it, unless one kind alone is
     asked for."""
     features = [kind] if kind in FEATURES else []
     if kind in ("sweep", "audit"):
         features = [one for one in ("windows", "newell") if r.random() < .3]
     if features and not only:
-        features += [one for one in FEATURES if one != kind and FIRST_STAGE[one] <= known
-                     and (one != "start" or kind == "newell") and r.random() < .2]
+        features += [one for one in FEATURES
+                     if one != kind and (one != "start" or kind == "newell") and r.random() < .2]
     return features
 
 
-def choose_command(r, kind, features, known):
+def choose_command(r, kind, features):
     """A command in which the features of a case can be met."""
     if kind not in FEATURES:
         return kind
     if "start" in features:
         return "assign"
-    commands = {"assign": 70}
-    if kind == "windows":
-        commands["freeflow"] = 10
-    if kind == "newell":
-        commands["demo"] = 10
-    if known >= FIRST_STAGE["start"]:
-        commands["counts"] = 15
-        if kind == "windows":
-            commands["skim"] = 5
+    commands = {"assign": 70, "counts": 15}
+    commands.update({"windows": {"freeflow": 10, "skim": 5}, "newell": {"demo": 10}}[kind])
     return r.choices(list(commands), weights=commands.values())[0]
 
 
@@ -315,10 +282,6 @@ def add_link(r, groups, links):
     groups.insert(r.randint(0, len(groups)), group)
 
 
-# What PEER knows at the stage at which it has skims and counts, and an older PROGRAM doesn't.
-NOT_YET = ("--wave=20", "--queue=newell", "newell")
-
-
 ODD_VALUES = ["", "0", "-1", "+1", "1.0", "1e0", " 1", "1 ", "61", "1001", "86400", "86401", "17",
               "999999999", "1000000000", "0000000001", "000000001", "٣", "x", "km ", "KM", "m",
               "point", "newell", "Spatial", "--plain", "-", "--", "1,0", "0x1",
@@ -333,22 +296,16 @@ ODD_WORDS = ["", "-", "--", "--help", "-h", "--version", "-V", "help", "--plain=
              "--at", "--at=0", "--scales=1", "--link=1", "--wörkers=1", "\t", "=", "--wave",
              "--wave=0", "--wave=101", "--wave=1.0", "--wave=", "--start=", "--start=1", "--starts",
              "--start.csv", "--queue=Newell", "--queue=newell ", "--waves=20"]
-ODD_COMMANDS = ["Assign", "assig", "demo", "freeflow", "", "skims", "count", "--assign"]
+ODD_COMMANDS = ["Assign", "assig", "demo", "freeflow", "", "skims", "count", "--assign", "sweep",
+                "audit", "sweeps", "Audit"]
 
 
-def spoil_words(r, words, command, known):
+def spoil_words(r, words, command):
     """Words of which one thing or two are odd; a few of them are in the grammar all the same."""
     words = list(words)
-    later = command in OUTPUTS_OF and known < FIRST_STAGE["start"]
-    values = ODD_VALUES + {"skim": ODD_STARTS, "sweep": case_sweeps.ODD_SCALES}.get(command, [])
+    odd_values = ODD_VALUES + {"skim": ODD_STARTS, "sweep": case_sweeps.ODD_SCALES}.get(command, [])
     own = {"skim": ["at"], "sweep": ["scales"]}.get(command)
-    odd_values = [value for value in values if not later or value not in NOT_YET]
-    odd_words = [word for word in ODD_WORDS if not later or word not in NOT_YET]
-    if known < FIRST_STAGE["newell"] and command == "counts":
-        odd_words = [word for word in odd_words if not word.startswith("--wave")]
     odd_commands = ODD_COMMANDS + (["assign", "skim", "counts"] if command in OUTPUTS_OF else [])
-    if known >= FIRST_STAGE["sweep"]:
-        odd_commands = odd_commands + ["sweep", "audit", "sweeps", "Audit"]
     if command == "sweep" and r.random() < .6:
         put_scales(r, words)
         return words
@@ -358,11 +315,11 @@ def spoil_words(r, words, command, known):
         if choice == 0 and words:
             del words[place]
         elif choice == 1:
-            words.insert(r.randint(0, len(words)), r.choice(odd_words))
+            words.insert(r.randint(0, len(words)), r.choice(ODD_WORDS))
         elif choice == 2 and words:
             words.insert(r.randint(0, len(words)), words[place])
         elif choice == 3 and words:
-            words[place] = r.choice(odd_words + odd_values)
+            words[place] = r.choice(ODD_WORDS + odd_values)
         elif choice == 4 and words:
             words[0] = r.choice(odd_commands)
         elif choice == 5 and words:
@@ -592,9 +549,10 @@ def times_table(r, groups, tables, earlier):
     """The link times of an assignment over these tables, which a skim with these options can mostly
     read; travel steps are often others than came out."""
     words = ["assign"] + times_options(r, groups)
-    text = earlier.file(words, tables, "link_performance.csv")
-    if text is None:
+    files = earlier(words, tables)
+    if files is None:
         return Table(list(TIME_COLUMNS), [])
+    text = files["link_performance.csv"]
     lines = [line.split(",") for line in text.decode("ascii").splitlines()]
     rows = lines[1:]
     place = lines[0].index("travel_steps")
@@ -624,9 +582,9 @@ def audited_tables(r, groups, tables, earlier):
     tables, or began with a start table."""
     words = ["assign"] + audited_options(r, groups)
     before = other_tables(r, tables) if r.random() < .06 else tables
-    files = earlier.files(words, before)
+    files = earlier(words, before)
     if files is not None and r.random() < .25:
-        again = earlier.files(words + ["--start"], {**before, START: files["agent.csv"]})
+        again = earlier(words + ["--start"], {**before, START: files["agent.csv"]})
         files = again or files
     if files is None:
         return Table(list(case_audits.AGENT_COLUMNS), []), Table(list(TIME_COLUMNS), [])
@@ -655,12 +613,12 @@ def start_table(r, groups, tables, earlier):
     before = dict(tables)
     if r.random() < .6:
         before = other_tables(r, tables)
-    text = earlier.file(words, before, "agent.csv")
-    if text is not None and r.random() < .3:
-        text = earlier.file(words + ["--start"], {**before, START: text}, "agent.csv")
-    if text is None:
+    files = earlier(words, before)
+    if files is not None and r.random() < .3:
+        files = earlier(words + ["--start"], {**before, START: files["agent.csv"]})
+    if files is None:
         return Table(list(case_starts.REQUIRED), [])
-    columns, rows = case_starts.earlier_columns_and_rows(text)
+    columns, rows = case_starts.earlier_columns_and_rows(files["agent.csv"])
     links = tables["link.csv"]
     names = [row[links.place("link_id")] for row in links.rows]
     if r.random() < .5:

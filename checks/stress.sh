@@ -1,14 +1,13 @@
 #!/bin/sh
-# Runs loadings by workers again and again: `bench/stress.sh [RUNS]`. For each number of workers
+# stress.sh PROGRAM [RUNS]: runs loadings by workers again and again. For each number of workers
 # from 1 to 16 so many runs (200 where none is said) of a ring with storage, by spatial queues, and
 # of `demo 6 --iterations 3`, first one after another and then by four such loops side by side. Each
 # run must end within a minute with the bytes of the run with --plain. Prints the seconds that the
 # runs by each number of workers took. Ends with 0 where all held.
-set -u
-bench=$(dirname "$(readlink -f "$0")")
+checks=$(dirname "$(readlink -f "$0")")
+more='[RUNS]'
+. "$checks/begin.sh"
 runs=${1:-200}
-. "$bench/begin.sh"
-begin_dta
 
 # The tables of a small net with short links, in which queues fill and block one another.
 make_net() {
