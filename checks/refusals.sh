@@ -1,9 +1,9 @@
 #!/bin/sh
 # refusals.sh PROGRAM: runs a built program with each refusal that docs/FORMATS.md names but that of
 # words, which words.sh tries, and of want of memory. Each table has each fault in each column; too
-# many rows of link times would be too many bytes. What is wanted follows from that document by hand.
-# Prints each case that isn't as wanted, and how many are; ends with 0 where all are. A line is a
-# case, or one for each of the texts at its end.
+# many rows of link times would be too many bytes. What is wanted follows from that document by
+# hand. Prints each case that isn't as wanted, and how many are; ends with 0 where all are. A line
+# is a case, or one for each of the texts at its end.
 checks=$(dirname "$(readlink -f "$0")")
 . "$checks/cases.sh"
 by=

@@ -1,5 +1,5 @@
-//! Fills labels of eight zones on a grid of 60 nodes a side, as bench/labels.sh does in Rattle, so often as there are words, and
-//! prints how many steps the last walk takes.
+//! Fills labels of eight zones on a grid of 60 nodes a side, as bench/programs/labels.txt does, so
+//! often as there are words, and prints how many steps the last walk takes.
 
 const SIDE: u32 = 60;
 const HORIZON: usize = 1200;
@@ -105,7 +105,8 @@ fn labels(grid: &Grid) -> Vec<[u16; 8]> {
         for node in 0..nodes {
             let mut least = [FAR; 8];
             for span in &spans[grid.starts[node]..grid.starts[node + 1]] {
-                let left = cells[back.saturating_sub(span.time as usize) * nodes + span.to as usize];
+                let from = back.saturating_sub(span.time as usize);
+                let left = cells[from * nodes + span.to as usize];
                 for lane in 0..8 {
                     least[lane] = least[lane].min(left[lane] + span.time as u16);
                 }

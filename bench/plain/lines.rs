@@ -1,4 +1,5 @@
-//! Moves riders through a ring of lines, as bench/lines.sh does in Rattle, and prints how many moves there were.
+//! Moves riders through a ring of lines, as bench/programs/lines.txt does, and prints how many
+//! moves there were.
 use std::collections::LinkedList;
 use std::mem;
 

@@ -1,7 +1,8 @@
-//! Loads the vehicles of the tables of the current folder over their least free-flow routes, as bench/loading.sh does in Rattle:
-//! 1,200 steps of six seconds, point queues. Prints how long the loading takes, and what comes out of it.
+//! Loads the vehicles of the tables of the current folder over their least free-flow routes, as
+//! bench/programs/loading.txt does: 1,200 steps of six seconds, point queues. Prints the
+//! nanoseconds of the loading, and what comes out.
 //!
-//! Tables have whole numbers in the columns that the script writes, and identifiers of nodes and links that count from 1.
+//! Tables have whole numbers, and identifiers of nodes and links that count from 1.
 
 use std::cmp::Reverse;
 use std::collections::{BinaryHeap, HashMap};
@@ -163,8 +164,8 @@ fn routes(net: &Net, trips: &[Trip]) -> Routes {
     let mut routes = Routes { starts: vec![0], links: Vec::new() };
     for trip in trips {
         let links = walks.entry((trip.origin, trip.destination)).or_insert_with(|| {
-            let left = left.entry(trip.destination).or_insert_with(|| steps_left(net, trip.destination));
-            walk(net, left, trip.origin)
+            let zone = trip.destination;
+            walk(net, left.entry(zone).or_insert_with(|| steps_left(net, zone)), trip.origin)
         });
         routes.links.extend(&*links);
         routes.starts.push(routes.links.len());
@@ -195,8 +196,8 @@ fn pop(line: &mut Line, behind: &[u32]) {
     line.first = behind[line.first as usize];
 }
 
-// A loading: each link's vehicles in order, those that wait to enter it, its credit, and how many may still enter and leave it in
-// the step; each vehicle's steps of entry, how many it has, and its arrival.
+// A loading: each link's vehicles in order, those that wait to enter it, its credit, and how many
+// may still enter it in the step; each vehicle's steps of entry, how many it has, and its arrival.
 struct State<'a> {
     net: &'a Net,
     trips: &'a [Trip],
@@ -335,6 +336,6 @@ fn main() {
     let arrived = state.arrivals.iter().flatten().count();
     let sum: u64 = state.arrivals.iter().flatten().map(|step| u64::from(*step)).sum();
     let entries: u64 = state.made.iter().map(|made| u64::from(*made)).sum();
-    println!("{} microseconds to load {} vehicles", took.as_micros(), trips.len());
+    println!("{}", took.as_nanos());
     println!("{arrived} arrived, sum of arrivals {sum}, {entries} entries");
 }

@@ -1,5 +1,6 @@
-// The claims of a floor in plain Rust: as many workers as the first word says claim, open and finish each unit of 1,200 steps over
-// as many nodes as the second word says. Prints how many units there are, and the nanoseconds that it takes.
+//! The claims of a floor: as many workers as the first word says claim, open and finish each unit
+//! of 1,200 steps over as many nodes as the second word says. Prints how many units there are, and
+//! the nanoseconds that it takes.
 use std::hint::black_box;
 use std::sync::atomic::{AtomicU64, Ordering::SeqCst};
 use std::thread;
