@@ -47,6 +47,7 @@ builds() {
         rt try --seconds 5 >"$work/log" 2>&1 </dev/null
         grep -q '^run=' "$work/log" && ! grep -q '^run=none' "$work/log"
     else
+        echo "build.sh: $1, below which each crate is proved first" >&2
         rm -f "out/$1"
         rt run >"$work/log" 2>&1 </dev/null
         [ -x "out/$1" ]

@@ -13,9 +13,10 @@ many_turns crossings many_zones no_demand many_counts many_entries many_windows 
 long_waves many_starts many_scales many_audits'
 checks=$(dirname "$(readlink -f "$0")")
 more='[CASE..]'
-peer=${PEER:+$(realpath "$PEER")}
+peer=${PEER:+$(realpath -m "$PEER")}
 . "$checks/begin.sh"
-[ -n "$peer" ] || echo "PEER isn't set: the program is compared with itself"
+if [ -z "$peer" ]; then echo "PEER isn't set: the program is compared with itself"
+elif [ ! -x "$peer" ]; then echo "large.sh: PEER isn't a program: $peer" >&2; exit 2; fi
 outputs='agent.csv link_performance.csv gap.csv skim.csv counts.csv sweep.txt'
 runs=0
 

@@ -168,9 +168,10 @@ def read_settings():
     reader.add_argument("--all", action="store_true")
     reader.add_argument("--only", choices=list(case_maker.SHARES))
     settings = reader.parse_args()
-    if not os.environ.get("PEER"):
-        reader.error("PEER, the path of another program of the same rules, isn't set")
-    settings.peer = os.path.abspath(os.environ["PEER"])
+    settings.peer = os.path.abspath(os.environ.get("PEER", ""))
+    for name, path in (("PROGRAM", settings.program), ("PEER in the environment", settings.peer)):
+        if not os.path.isfile(path) or not os.access(path, os.X_OK):
+            reader.error(f"{name} has to be the path of a program")
     return settings
 
 
