@@ -1,32 +1,32 @@
-# Read by the scripts that measure a built program, which have set `bench` to this folder. Makes a folder that is gone at the end.
-# shellcheck shell=sh disable=SC2034,SC2154
+# Read by runs.sh and crates.sh, which have set `bench` to this folder. Makes a folder that is gone
+# at the end, and goes there.
+# shellcheck shell=sh disable=SC2034
 folder=$(mktemp -d)
 trap 'rm -rf "$folder"' EXIT
+trap 'exit 1' INT TERM
+cd "$folder" || exit 2
+wrong=0
 
-# begin NAME [PROGRAM]: builds the program of bench/NAME, unless one that build.sh made is handed in, sets `program` to its path and
-# goes to the folder.
-begin() {
-    if [ -n "${2:-}" ]; then
-        program=$(realpath -e "$2")
-    else
-        program=$("$bench/build.sh" "$1" "$folder/build")
-    fi
-    cd "$folder" || exit 2
+# fails TEXT: tells of what isn't as it should be.
+fails() {
+    echo "FAILED: $1"
+    wrong=1
 }
 
-# Builds the plain Rust program bench/NAME.rs and sets `plain` to its path, which is empty where there is no rustc to build it.
-begin_plain() {
-    plain=
-    if command -v rustc >/dev/null; then
-        rustc -O -C target-cpu=x86-64-v2 -o "$folder/plain" "$bench/$1.rs"
-        plain=$folder/plain
-    else
-        echo 'no rustc is on the path: the plain Rust program is not measured'
-    fi
+# timed FILE COMMAND..: runs a command, and adds to the file what it takes.
+timed() {
+    times=$1
+    shift
+    /usr/bin/time -q -a -o "$times" -f '%e %U %S %M' "$@" </dev/null
 }
 
-# Sets `program` to the built dta, which is built first where it isn't yet, or to the program that DTA names.
-begin_dta() {
-    [ -n "${DTA:-}" ] || "$bench/../dta" demo 2 >/dev/null || exit 1
-    program=$(readlink -f "${DTA:-$bench/../crates/dta/out/dta}")
+# middle FILE: of the three runs that a file tells of, the middle one in seconds by the clock and
+# the middle one in seconds of processors (with those of the kernel), and the largest peak of memory
+# in MB.
+middle() {
+    clock=$(awk '{ print $1 }' "$1" | sort -n | sed -n 2p)
+    busy=$(awk '{ print $2 + $3 }' "$1" | sort -n | sed -n 2p)
+    awk -v clock="$clock" -v busy="$busy" '
+        $4 > peak { peak = $4 }
+        END { printf "%.2f | %.2f | %d", clock, busy, peak / 1024 }' "$1"
 }

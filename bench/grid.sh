@@ -1,8 +1,9 @@
 #!/bin/sh
-# Makes node.csv, link.csv and demand.csv of a grid of nodes in the current folder, as grid_maker makes them, of any size:
-# `bench/grid.sh SIDE [ZONES VEHICLES]`. From each node a link of 200 to 280 metres leads to each of its neighbours, each corner is
-# a zone, and 25 vehicles for each row of the grid go from each zone to each other zone. With ZONES so many nodes all over the grid
-# are zones instead, and about VEHICLES vehicles go between them.
+# grid.sh SIDE [ZONES VEHICLES]: makes node.csv, link.csv and demand.csv of a grid of nodes in the
+# current folder, as grid_maker makes them, of any size. From each node a link of 200 to 280 metres
+# leads to each of its neighbours, each corner is a zone, and 25 vehicles for each row of the grid
+# go from each zone to each other zone. With ZONES so many nodes all over the grid are zones
+# instead, and about VEHICLES vehicles go between them.
 set -e
 side=$1
 zones=${2:-4}
@@ -18,7 +19,8 @@ awk -v n="$side" -v zones="$zones" 'BEGIN {
     for (k = 0; k < n * n; k++) print k + 1 "," zone[k]
 }' >node.csv
 awk -v n="$side" 'function add(direction, to) {
-    print ++links "," r * n + c + 1 "," to + 1 "," 200 + 10 * ((7 * r + 3 * c + direction) % 9) ",1,40,900"
+    length_ = 200 + 10 * ((7 * r + 3 * c + direction) % 9)
+    print ++links "," r * n + c + 1 "," to + 1 "," length_ ",1,40,900"
 }
 BEGIN {
     print "link_id,from_node_id,to_node_id,length,lanes,free_speed,capacity"
@@ -32,5 +34,6 @@ BEGIN {
 awk -v zones="$zones" -v vehicles="$vehicles" 'BEGIN {
     print "o_zone_id,d_zone_id,volume"
     volume = vehicles / (zones * (zones - 1))
-    for (o = 1; o <= zones; o++) for (d = 1; d <= zones; d++) if (o != d) printf "%d,%d,%.6g\n", o, d, volume
+    for (o = 1; o <= zones; o++) for (d = 1; d <= zones; d++)
+        if (o != d) printf "%d,%d,%.6g\n", o, d, volume
 }' >demand.csv

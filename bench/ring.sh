@@ -1,6 +1,7 @@
 #!/bin/sh
-# Makes node.csv and link.csv of a ring of nodes in the current folder: `bench/ring.sh NODES STEP..`. Node k leads to the node STEP
-# places after it round the ring, for each STEP. With s steps link s(k - 1) + i goes from node k by the i-th of them.
+# ring.sh NODES STEP..: makes node.csv and link.csv of a ring of nodes in the current folder. Node k
+# leads to the node STEP places after it round the ring, for each STEP. With s steps link
+# s(k - 1) + i goes from node k by the i-th of them.
 set -e
 nodes=$1
 shift
@@ -13,5 +14,6 @@ awk -v n="$nodes" -v steps="$*" 'BEGIN {
     s = split(steps, step, " ")
     for (k = 1; k <= n; k++)
         for (i = 1; i <= s; i++)
-            print s * (k - 1) + i "," k "," (k - 1 + step[i]) % n + 1 "," 200 + (37 * k + i) % 1800 ".5," 1 + k % 3 "," 30 + 10 * i ",900"
+            print s * (k - 1) + i "," k "," (k - 1 + step[i]) % n + 1 "," \
+                200 + (37 * k + i) % 1800 ".5," 1 + k % 3 "," 30 + 10 * i ",900"
 }' >link.csv

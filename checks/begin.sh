@@ -1,10 +1,17 @@
-# Read by edge.sh, examples.sh, cases.sh and script.sh, where the one argument is a program.
-# Sets `program` to its path, and goes to a folder that is gone at the end.
+# Read by the scripts of this folder, whose first argument is a built program; `more` says what may
+# stand behind it. Sets `program` to its path, takes it from the arguments, and goes to a folder
+# that is gone at the end.
 # shellcheck shell=sh disable=SC2034
-[ $# -eq 1 ] || { echo "usage: $(basename "$0") PROGRAM" >&2; exit 2; }
+if [ $# -eq 0 ] || { [ $# -gt 1 ] && [ -z "${more:-}" ]; } || [ ! -x "$1" ]; then
+    echo "usage: $(basename "$0") PROGRAM ${more:-}
+PROGRAM is the path of a built program" >&2
+    exit 2
+fi
 program=$(realpath "$1")
+shift
 folder=$(mktemp -d)
 trap 'rm -rf "$folder"' EXIT
+trap 'exit 1' INT TERM
 cd "$folder" || exit 2
 failures=0
 exec 3>&1

@@ -8,7 +8,7 @@ outputs='agent.csv link_performance.csv gap.csv skim.csv counts.csv sweep.txt'
 # The tables of a case: two links in a line and the one turn between them, three vehicles, and what
 # an assignment with `--period 30 --horizon 60` tells of them. A link takes ten steps.
 mkdir "$folder/first" && cd "$folder/first" || exit 2
-"$checks/../bench/two_links.sh" 3
+"$checks/two_links.sh" 3
 printf '%s\n' node_id,ib_link_id,ob_link_id,penalty,capacity,capacity_by_step \
     2,10,20,,, >movement.csv
 printf '%s\n' agent_id,o_zone_id,d_zone_id,departure_step,arrival_step,status,link_ids,entry_steps \
@@ -84,7 +84,6 @@ rows() {
 # can't be written Report is empty.
 is_told() {
     if [ "$wanted" -eq 0 ]; then
-        # shellcheck disable=SC2086
         cat report watch $outputs 2>/dev/null | grep -Fqx -- "$1"
         return
     fi
@@ -105,7 +104,6 @@ ends() {
     cases=$((cases + 1))
     "$program" "$@" >report 2>watch
     status=$?
-    # shellcheck disable=SC2086
     { [ "$status" -eq "$wanted" ] && is_told "$line"; } ||
         fails "dta $*$told: wanted $wanted, $line; got $status, $(head -n 1 report)
             $(ls -d $outputs 2>/dev/null | tr '\n' ' ')"

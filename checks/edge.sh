@@ -23,7 +23,7 @@ has() {
 # tables VOLUME: two links in a line, each of length 1, over which so many vehicles go.
 tables() {
     rm -f ./*.csv sweep.txt
-    "$checks/../bench/two_links.sh" "$1" 1
+    "$checks/two_links.sh" "$1" 1
 }
 
 # Every option at once: all words are taken, Report goes to standard output and Watch to standard

@@ -1,9 +1,9 @@
 #!/bin/sh
 # refusals.sh PROGRAM: runs a built program with each refusal that docs/FORMATS.md names but that of
 # words, which words.sh tries, and of want of memory. Each table has each fault in each column; too
-# many rows of link times would be too many bytes. What is wanted follows from that document by hand.
-# Prints each case that isn't as wanted, and how many are; ends with 0 where all are. A line is a
-# case, or one for each of the texts at its end.
+# many rows of link times would be too many bytes. What is wanted follows from that document by
+# hand. Prints each case that isn't as wanted, and how many are; ends with 0 where all are. A line
+# is a case, or one for each of the texts at its end.
 checks=$(dirname "$(readlink -f "$0")")
 . "$checks/cases.sh"
 by=
@@ -289,7 +289,6 @@ ends 7 'size: links 195 steps 86400 limit 16777216' sweep --scales 1 --horizon 8
 size='size: demand line 3 vehicles 2000001 limit 2000000'
 for words in assign counts 'sweep --scales 1' 'sweep --scales 0.1;1' 'audit --horizon 60'; do
     rows demand 1,3,%.0f 1999998 1999998
-    # shellcheck disable=SC2086
     ends 7 "$size" $words
 done
 seq 513 | awk 'BEGIN { print "node_id,zone_id" } { print $1 "," $1 }' >node.csv

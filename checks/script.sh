@@ -22,10 +22,7 @@ case_of() {
 # Three nodes, two links in a line, three vehicles.
 new_folder() {
     cd "$folder" && rm -rf case && mkdir case && cd case || exit 2
-    printf 'node_id,zone_id\n1,1\n2,\n3,3\n' >node.csv
-    printf 'link_id,from_node_id,to_node_id,length,lanes,free_speed,capacity\n' >link.csv
-    printf '%s,1000,1,60,600\n' 10,1,2 20,2,3 >>link.csv
-    printf 'o_zone_id,d_zone_id,volume\n1,3,3\n' >demand.csv
+    "$checks/two_links.sh" 3
 }
 
 # Runs the script by the shell of the round; its sentences go to `said`.

@@ -3,7 +3,7 @@
 
 Checks that each scenario of a sweep has the texts that `assign` writes over the scaled demand
 alone. Makes N small networks (200 where N isn't said) with the words of a sweep by a seed, as
-bench/random_cases.py does. PROGRAM runs `sweep` over each, and `assign` with the same words over
+random_cases.py does. PROGRAM runs `sweep` over each, and `assign` with the same words over
 the demand times each scale. The texts of a scenario must be those of Agent, LinkTime, Gap and
 Report. Prints how many cases and scenarios there were; the status is 1 where some text differs.
 """
@@ -16,8 +16,6 @@ import tempfile
 from fractions import Fraction
 
 sys.dont_write_bytecode = True
-BENCH = os.path.join(os.path.dirname(os.path.abspath(__file__)), "..", "bench")
-sys.path.insert(0, BENCH)
 import case_maker  # noqa: E402
 import case_sweeps  # noqa: E402
 

@@ -1,7 +1,7 @@
 #!/bin/sh
-# worked.sh PROGRAM: runs a built program over the cases of worked_runs as a planner would: each in a
-# folder of its own with the case's tables, and with its words. Prints each case of which the status,
-# a text or a file isn't as it is expected, and how many are; ends with 0 where all are.
+# worked.sh PROGRAM: runs a built program over the cases of worked_runs as a planner would: each in
+# a folder of its own with the case's tables, and with its words. Prints each case of which the
+# status, a text or a file isn't as it is expected, and how many are; ends with 0 where all are.
 checks=$(dirname "$(readlink -f "$0")")
 cases=$(realpath "$checks/../crates/worked_runs/data")
 . "$checks/begin.sh"
