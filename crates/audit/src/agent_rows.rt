@@ -1,6 +1,6 @@
 // The rows of an agent table.
 use desk_io::Text;
-use lists::List;
+use item_list::List;
 use route_flows::Ids;
 
 /// The most rows of an agent table.

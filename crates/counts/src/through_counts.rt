@@ -1,5 +1,5 @@
 // How many vehicles enter a link, by the zones between which they go.
-use lists::List;
+use item_list::List;
 
 /// How many vehicles from a zone to a zone, by their identifiers, enter a link. Each counts once.
 #[derive(Clone, Copy, Debug, PartialEq, Eq, Drop)]

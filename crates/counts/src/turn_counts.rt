@@ -1,5 +1,5 @@
 // How many moves take each turn in each bucket.
-use lists::List;
+use item_list::List;
 use net_core::LinkNo;
 
 /// How many moves go from a link to another in a bucket of steps. A vehicle that makes two of them

@@ -15,7 +15,7 @@ mod transfers;
 
 pub use desk::{Desk, Failed, Output, Table};
 pub use file_desk::FileDesk;
-use lists::List;
+use item_list::List;
 pub use mem_desk::MemDesk;
 use std::alloc::AllocError;
 pub use tally_desk::TallyDesk;

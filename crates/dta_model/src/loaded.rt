@@ -1,7 +1,7 @@
 // What a loading gives: the journey of each vehicle.
 ghost use Rattle.std.specs.Prelude.{◌≡◌, ◌<◌, length, slice_get, slice_set, Some};
 
-use lists::List;
+use item_list::List;
 use std::marker::Model;
 
 /// Steps, in the order in which they were put in.

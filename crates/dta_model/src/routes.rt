@@ -1,7 +1,7 @@
 // Routes over the links of a network.
 ghost use Rattle.std.specs.Prelude.{◌≡◌, ◌<◌, length, slice_get, option_copied, Some};
 
-use lists::List;
+use item_list::List;
 use net_core::LinkNo;
 use std::marker::Model;
 

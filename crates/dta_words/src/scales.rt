@@ -9,7 +9,7 @@ use crate::options::{GREATEST_SCALE, LEAST_SCALE, MOST_SCALES};
 use crate::pieces::pieces;
 use desk_io::Memory;
 use fixed_units::milli;
-use lists::List;
+use item_list::List;
 use std::alloc::Global;
 
 /// Multiples of a demand in thousandths, in the order in which they were given.

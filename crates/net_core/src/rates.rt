@@ -2,7 +2,7 @@
 ghost use Rattle.std.specs.Prelude.{◌≡◌, IfOk};
 ghost use Rattle.net_core.specs.Rates.{rate_in};
 
-use lists::List;
+use item_list::List;
 use std::alloc::{AllocError, Global};
 
 /// The most windows of a link or a turn.

@@ -2,7 +2,7 @@
 use crate::cell::NodeCell;
 use cell_stages::Mail;
 use dta_model::Loaded;
-use lists::List;
+use item_list::List;
 
 /// The cells of a network's nodes, in the order of their table.
 pub type Cells = List<NodeCell>;

@@ -5,7 +5,7 @@ ghost use Rattle.net_core.specs.Ids.{place_of};
 ghost use Rattle.route_flows.specs.Starts.{AreStartRows, agents_of, row_of};
 ghost use Rattle.route_flows.specs.declared.start_rows.TheConstants.{MOST_START_ROWS};
 
-use lists::List;
+use item_list::List;
 use std::alloc::{AllocError, Global};
 use std::marker::Model;
 

@@ -1,5 +1,5 @@
 // A skim as a list.
-use lists::List;
+use item_list::List;
 
 /// The least steps from a zone to another, started in a step; None where there is no walk. Zones
 /// are identifiers.

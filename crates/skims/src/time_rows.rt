@@ -1,5 +1,5 @@
 // Rows of a table of link times.
-use lists::List;
+use item_list::List;
 
 /// What a table of link times says of a bucket of a link: how many vehicles entered, and the steps
 /// that the link takes.

@@ -1,6 +1,6 @@
 // The scenarios of a sweep.
 use desk_io::Text;
-use lists::List;
+use item_list::List;
 
 /// The assignment for one multiple of the demand: its scale in thousandths, and the texts that
 /// `assign` puts to Agent, LinkTime, Gap and Report.
