@@ -6,7 +6,7 @@
 # takes about a minute each, and shows whether a name has moved.
 #
 # A program is a main.rt over the libraries that programs/uses.txt lists. It stands here as text and
-# is built in a folder outside the repository, over a copy of the crates: the gate reads every .rt
+# is built in a folder outside the repository, over a copy of the crates: the test command reads every .rt
 # file, and nothing of bench/ is proved or timed in it. From nothing each crate below is proved
 # first, which takes as long as `./dta` takes to build.
 bench=$(dirname "$(readlink -f "$0")")
