@@ -6,9 +6,9 @@
 # takes about a minute each, and shows whether a name has moved.
 #
 # A program is a main.rt over the libraries that programs/uses.txt lists. It stands here as text and
-# is built in a folder outside the repository, over a copy of the crates: the test command reads every .rt
-# file, and nothing of bench/ is proved or timed in it. From nothing each crate below is proved
-# first, which takes as long as `./dta` takes to build.
+# is built in a folder outside the repository, over a copy of the crates: the test command reads
+# every .rt file, and nothing of bench/ is proved or timed in it. From nothing each crate below is
+# proved first, which takes as long as `./dta` takes to build.
 bench=$(dirname "$(readlink -f "$0")")
 trying=
 [ "${1:-}" != --try ] || { trying=1; shift; }

@@ -32,7 +32,11 @@ sweep | sioux_falls | sweep --scales 0.8;0.9;1;1.1 --iterations 10 | --workers=1
 skim | loaded 40 100 20000 --iterations 3 | skim | --at=0
 skim_of_three | loaded 40 100 20000 --iterations 3 | skim | --at=0;300;600
 audit | large_results | audit --step 60 --horizon 7200 | --period=6000
-audit_differs | changed_results | audit --step 60 --horizon 7200 | --period=6000'
+audit_differs | changed_results | audit --step 60 --horizon 7200 | --period=6000
+star | hub star | assign --period 300 --horizon 600 --iterations 2 | --plain
+jam | hub jam | assign --period 100 --horizon 2400 --iterations 2 --queue spatial | --plain
+turns | hub turns | assign --period 200 --horizon 1200 --iterations 2 | --plain
+listed | hub listed | assign --period 150 --horizon 200 --iterations 2 | --plain'
 
 bench=$(dirname "$(readlink -f "$0")")
 program=$(realpath -m "${PROGRAM:-$bench/../crates/dta/out/dta}")
@@ -56,6 +60,7 @@ wanted=0
 
 ring() { "$bench/ring.sh" "$@"; }
 grid() { "$bench/grid.sh" "$@"; }
+hub() { "$bench/hub.sh" "$@"; }
 sioux_falls() { cp "$bench"/../examples/sioux_falls/*.csv . && rm -f $outputs; }
 made() { "$make_net" . "$@" >/dev/null; }
 
