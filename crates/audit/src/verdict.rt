@@ -23,7 +23,7 @@ pub enum Verdict {
 impl Verdict {
     // The verdict of one check, that of a column in a line.
     pub(crate) fn of(holds: bool, table: Table, line: u64, column: Column) -> Self
-        ensures { (statement : Statement) → IsTrue holds ↔ Holds statement
+        ensures { (s : Statement) → IsTrue holds ↔ Holds s
             → IsVerdict (record { statement = s; table = table; line = line; column = column } ∷ [])
             result }
     {
