@@ -2,14 +2,14 @@
 ghost use Rattle.std.specs.Prelude.{◌≡◌, ◌<◌, ◌≤◌, length, take, min, IsOk, Ok, IfOk, IfSome};
 ghost use Rattle.std.specs.Io.KnownBytes.{IsAtEnd};
 ghost use Rattle.desk_io.specs.Desk.{left_of, before_left};
-ghost use Rattle.desk_io.specs.MemDesk.{all_left};
+ghost use Rattle.desk_io.specs.MemDesk.{all_left, with_start, with_times};
 ghost use Rattle.desk_io.specs.TallyDesk.{count_of, counted, no_counts, nothing_told};
 
 use crate::source::Source;
 use crate::{Desk, Failed, Output, Table};
 use std::marker::Model;
 
-/// A desk that reads four texts from memory, and of what it is given keeps the number of bytes
+/// A desk that reads six texts from memory, and of what it is given keeps the number of bytes
 /// alone. It never fails and takes no memory. It tells what is left, and no bytes that were put.
 #[derive(Drop)]
 pub struct TallyDesk {
@@ -17,6 +17,8 @@ pub struct TallyDesk {
     link: Source,
     movement: Source,
     demand: Source,
+    start: Option<Source>,
+    times: Option<Source>,
     agent: u64,
     link_time: u64,
     gap: u64,
@@ -38,7 +40,7 @@ impl Model for TallyDesk {
 }
 
 impl TallyDesk {
-    /// A desk with these texts, and tables of a start and of link times of zero bytes, to which
+    /// A desk with these texts and tables of a start and of link times of zero bytes, to which
     /// nothing is put yet.
     pub fn new(node: Vec<u8>, link: Vec<u8>, movement: Vec<u8>, demand: Vec<u8>) -> Self
         ensures left { result.left ≡ all_left node.items link.items movement.items demand.items }
@@ -49,6 +51,8 @@ impl TallyDesk {
             link: Source::new(link),
             movement: Source::new(movement),
             demand: Source::new(demand),
+            start: None,
+            times: None,
             agent: 0,
             link_time: 0,
             gap: 0,
@@ -58,6 +62,20 @@ impl TallyDesk {
             counts: 0,
             sweep: 0,
         }
+    }
+
+    /// Sets the table of a start, of which nothing is read yet.
+    pub fn set_start(&mut self, text: Vec<u8>)
+        ensures { self.new ≡ record self.old { left = with_start text.items self.old.left } }
+    {
+        self.start = Some(Source::new(text));
+    }
+
+    /// Sets the table of link times, of which nothing is read yet.
+    pub fn set_times(&mut self, text: Vec<u8>)
+        ensures { self.new ≡ record self.old { left = with_times text.items self.old.left } }
+    {
+        self.times = Some(Source::new(text));
     }
 
     /// How many bytes an output has taken. The count stays at 2^64 - 1 once it is there.
@@ -105,7 +123,14 @@ impl Desk for TallyDesk {
             Table::Link => self.link.read(buf, usize::MAX),
             Table::Movement => self.movement.read(buf, usize::MAX),
             Table::Demand => self.demand.read(buf, usize::MAX),
-            Table::Start | Table::Times => 0,
+            Table::Start => match &mut self.start {
+                Some(start) => start.read(buf, usize::MAX),
+                None => 0,
+            },
+            Table::Times => match &mut self.times {
+                Some(times) => times.read(buf, usize::MAX),
+                None => 0,
+            },
         })
     }
 
