@@ -1,7 +1,7 @@
 -- Jobs of accepted tables, and what stops a run before its work.
 use Rattle.std.proofs.Common.{◌≡◌, ◌≢◌, ◌<◌, ℕ, Bool, false, true, List, [], ◌∷◌, ◌++◌, length, refl, sym, ap, subst, arith, rules, inl, inr, ◌⊎◌, ◌∙◌}
 use Rattle.std.specs.Prelude.{◌↔◌, ⊤, Result, Ok, Err, OnOk, IfOk, IfErr, filter, nat_eq}
-use Rattle.std.specs.List.{IsDistinct, flat_map}
+use Rattle.std.specs.List.{flat_map}
 use Rattle.std.proofs.lemmas.List.{length-map}
 use Rattle.std.proofs.lemmas.List.Elements.{All-nil}
 use Rattle.std.proofs.lemmas.Result.{IfErr-weaker, IfOk-weaker}
@@ -11,16 +11,19 @@ use Rattle.desk_io.specs.Desk.{Left}
 use Rattle.desk_io.specs.Faults.{Rose}
 use Rattle.desk_io.specs.MemDesk.{all_left}
 use Rattle.desk_io.specs.Transfers.{IsBegun, IsLong}
-use Rattle.net_core.specs.Network.{numbers_below}
+use Rattle.net_core.specs.Network.{IsNet, numbers_below}
 use Rattle.net_core.specs.declared.rows.LinkRow.{LinkRow}
+use Rattle.net_core.specs.declared.rows.NetRows.{NetRows}
 use Rattle.net_core.specs.declared.rows.NodeRow.{NodeRow}
 use Rattle.gmns_tables.specs.Net.{net_rows}
 use Rattle.gmns_tables.specs.RowsWithWindows.{rows_of}
 use Rattle.route_flows.specs.Starts.{AreStartRows}
+use Rattle.route_flows.specs.declared.start_rows.StartRow.{StartRow}
 use Rattle.gmns_tables.specs.declared.with_windows.WithWindows.{WithWindows}
 use Rattle.dta_model.specs.Release.{in_order_of_departure, released, Released, trips_of}
 use Rattle.vehicle_release.specs.Limits.{IsFirstAbove, IsWithin}
 use Rattle.dta_model.specs.declared.trip.DemandCell.{DemandCell}
+use Rattle.dta_model.specs.declared.trip.Trip.{Trip}
 use Rattle.dta_words.specs.Ranges.{AreSettings}
 use Rattle.grid_maker.specs.Grid.{node_text, link_text, demand_text}
 use Rattle.reports.specs.declared.refusal.Refusal.{Refusal}
@@ -29,8 +32,8 @@ use Rattle.desk_io.specs.declared.transfers.TheConstants.{MOST_TABLE_BYTES}
 use Rattle.dta_words.specs.declared.command.Command.{Command}
 use Rattle.dta_words.specs.declared.command.Command.TheVariants as command
 use Rattle.dta_words.specs.declared.command.Settings.{Settings}
-use Rattle.sweep.specs.Traffic.{AreTripsBelow}
-use Rattle.dta_run.specs.Jobs.{AreWithin, HasRoom, HasSweepRoom, IsAcceptedJob, IsJobOf, JobRows, LeavesOf, Assigns, Reading, TakesTimes, job_of, read_tables, released_cells, source, swept_cells, tables_of}
+use Rattle.assignment.specs.Traffic.{AreTripsBelow, IsTraffic}
+use Rattle.dta_run.specs.Jobs.{AreWithin, HasRoom, HasSweepRoom, IsAcceptedJob, IsJob, IsJobOf, JobRows, LeavesOf, Assigns, Reading, TakesTimes, job_of, read_tables, released_cells, source, swept_cells, tables_of}
 use Rattle.dta_run.specs.Outcome.{AreCounted, DeskState, HasSizes, HasTooMany, IsCauseAmong, IsCauseIn, IsCutIn, ReadsFailed}
 use Rattle.sweep.specs.Scales.{IsFirstTooMany}
 use Rattle.sweep.specs.declared.fault.SweepFault.{SweepFault}
@@ -60,10 +63,14 @@ no-trips horizon = record {
   early = All-nil (λ trip. trip.departure < horizon);
 }
 
--- no rows of a start table
-pub no-start-rows : AreStartRows []
-unfolding IsDistinct
-no-start-rows = record { distinct = tt; few = search rules }
+-- what an assignment lends of a job
+pub lent-traffic : (s : Settings) (job : JobRows) (net : NetRows) (lent : List Trip) (start : List StartRow) → net ≡ job.net → lent ≡ job.trips
+    → start ≡ job.start → IsJob s job → IsTraffic s.horizon (record { net = net; trips = lent; start = start })
+lent-traffic s job net lent start over same rows good = record {
+  net = subst IsNet (sym over) good.net;
+  trips = subst (AreTripsBelow s.horizon) (sym same) good.trips;
+  start = subst AreStartRows (sym rows) good.start;
+}
 
 -- as many links as rows of links
 pub link-count : (links : List (WithWindows LinkRow)) (rows : List LinkRow) → rows ≡ rows_of links → length links ≡ length rows
@@ -86,7 +93,7 @@ module _ (settings : Settings) where
   reached-holds t Part P (u ∷ tables) rows left rest f (inr h) = reached-holds t Part P tables h.0 h.1 rest f h.3
 
 -- what is so of each command that assigns
-by-assigning : (P : Command → Type 0) → P command.Assign → ((n : ℕ) → P (command.Demo n)) → P command.Counts → (c : Command) → Assigns c → P c
+pub by-assigning : (P : Command → Type 0) → P command.Assign → ((n : ℕ) → P (command.Demo n)) → P command.Counts → (c : Command) → Assigns c → P c
 by-assigning P assign demo counts command.Freeflow assigns = absurd assigns
 by-assigning P assign demo counts command.Assign assigns = assign
 by-assigning P assign demo counts (command.Demo n) assigns = demo n

@@ -15,13 +15,11 @@ use Rattle.dta_words.specs.Ranges.{AreSettings}
 use Rattle.dta_words.specs.declared.command.Command.{Command}
 use Rattle.dta_words.specs.declared.command.Command.TheVariants as command
 use Rattle.dta_words.specs.declared.command.Settings.{Settings}
-use Rattle.sweep.specs.Assignment.{VehicleRoutes}
-use Rattle.dta_run.specs.Assignment.{end_of}
+use Rattle.assignment.specs.Assignment.{Traffic, VehicleRoutes, end_of, plan_of, summary_of}
 use Rattle.counts.specs.Through.{through_counts}
 use Rattle.counts.specs.Turns.{turn_counts}
-use Rattle.dta_run.specs.Jobs.{JobRows, plan_of}
 use Rattle.dta_run.specs.Outputs.{AreToldSteps, AreWatchLines, AreWatchTexts, IsCutOff, OutText, end_lines}
-use Rattle.dta_run.specs.Outputs.{counts_out, grown_by, last_texts, summary_of, table_texts, text_to}
+use Rattle.dta_run.specs.Outputs.{counts_out, grown_by, last_texts, table_texts, text_to}
 
 -- some texts went out, and then others
 pub grown-append : (xs ys : List OutText) (t : Taken) → grown_by (xs ++ ys) t ≡ grown_by ys (grown_by xs t)
@@ -45,23 +43,23 @@ zero-and : (number last : ℕ) → 0 + number ≡ last → last ≡ number
 zero-and number last e = omega (arith, e)
 
 -- the watch lines of iterations, and of one more
-pub watch-more : (s : Settings) (job : JobRows) (number last : ℕ) (done : List VehicleRoutes)
+pub watch-more : (s : Settings) (traffic : Traffic) (number last : ℕ) (done : List VehicleRoutes)
     (r : VehicleRoutes) (texts lines : List OutText) → length done + number ≡ last
-    → AreWatchTexts s job number done texts → AreWatchLines s job last r lines
-    → AreWatchTexts s job number (done ++ r ∷ []) (texts ++ lines)
-watch-more s job number last [] r texts lines e told own = (
+    → AreWatchTexts s traffic number done texts → AreWatchLines s traffic last r lines
+    → AreWatchTexts s traffic number (done ++ r ∷ []) (texts ++ lines)
+watch-more s traffic number last [] r texts lines e told own = (
   lines,
   [],
-  subst (λ (n : ℕ). AreWatchLines s job n r lines) (zero-and number last e) own,
+  subst (λ (n : ℕ). AreWatchLines s traffic n r lines) (zero-and number last e) own,
   refl,
   ap (λ (t : List OutText). t ++ lines) told ∙ sym (append-nil lines),
 )
-watch-more s job number last (x ∷ done) r texts lines e told own =
+watch-more s traffic number last (x ∷ done) r texts lines e told own =
     let k : length done + (number + 1) ≡ last = omega (arith, e) in (
       told.0,
       told.1 ++ lines,
       told.2,
-      watch-more s job (number + 1) last done r told.1 lines k told.3 own,
+      watch-more s traffic (number + 1) last done r told.1 lines k told.3 own,
       ap (λ (t : List OutText). t ++ lines) told.4 ∙ append_assoc told.0 told.1 lines,
     )
 
@@ -90,25 +88,25 @@ end-told every true horizon h = refl
 end-told every false horizon h = last-alone (suc every) horizon h
 
 -- the line that is put after the last step is what the rule asks of an iteration
-end-by : (s : Settings) (job : JobRows) (iteration : ℕ) (r : VehicleRoutes) (end : Eight) (every : ℕ)
-    → s.watch ≡ every → 1 ≤ s.horizon → end ≡ end_of s job r
-    → AreWatchLines s job iteration r (end_lines every iteration end)
-end-by s job iteration r end zero e h is = record {
+end-by : (s : Settings) (traffic : Traffic) (iteration : ℕ) (r : VehicleRoutes) (end : Eight) (every : ℕ)
+    → s.watch ≡ every → 1 ≤ s.horizon → end ≡ end_of s traffic r
+    → AreWatchLines s traffic iteration r (end_lines every iteration end)
+end-by s traffic iteration r end zero e h is = record {
   steps = [];
   by_rule = rw e refl;
   lines_are = refl;
 }
-end-by s job iteration r end (suc every) e h is = record {
+end-by s traffic iteration r end (suc every) e h is = record {
   steps = s.horizon ∷ [];
   by_rule = rw e (end-told every s.plain s.horizon h);
   lines_are = ap (λ (x : Eight). text_to output.Watch (watch_line iteration x) ∷ []) is;
 }
 
-pub end-lines : (s : Settings) (job : JobRows) (iteration : ℕ) (r : VehicleRoutes) (end : Eight)
-    → AreSettings s → end ≡ end_of s job r
-    → AreWatchLines s job iteration r (end_lines s.watch iteration end)
-end-lines s job iteration r end settings is =
-    end-by s job iteration r end s.watch refl settings.horizon.0 is
+pub end-lines : (s : Settings) (traffic : Traffic) (iteration : ℕ) (r : VehicleRoutes) (end : Eight)
+    → AreSettings s → end ≡ end_of s traffic r
+    → AreWatchLines s traffic iteration r (end_lines s.watch iteration end)
+end-lines s traffic iteration r end settings is =
+    end-by s traffic iteration r end s.watch refl settings.horizon.0 is
 
 -- one text went out, or was cut off
 pub grown-one : (o : Output) (text : List ℕ) (before now : Taken) → now ≡ grown o text before → now ≡ grown_by (text_to o text ∷ []) before
@@ -120,92 +118,92 @@ cut-one o text before now part = inl part
 pub ruleset parts = (grown-append, cut-later, grown-one, cut-one)
 
 -- the texts after the last iteration
-module _ (s : Settings) (job : JobRows) (r : VehicleRoutes) (since : Option (List ℕ)) (lines : List GapLine) (line : GapLine) where
+module _ (s : Settings) (traffic : Traffic) (r : VehicleRoutes) (since : Option (List ℕ)) (lines : List GapLine) (line : GapLine) where
   -- the tables and then the report went out
   pub tables-reported : (k : Command) (before mid now : Taken) → k ≡ command.Assign
-      → mid ≡ grown_by (table_texts s job r since lines) before
-      → now ≡ grown output.Report (report_text (summary_of s job r line)) mid
-      → now ≡ grown_by (last_texts k s job r since lines line) before
+      → mid ≡ grown_by (table_texts s traffic r since lines) before
+      → now ≡ grown output.Report (report_text (summary_of s traffic r line)) mid
+      → now ≡ grown_by (last_texts k s traffic r since lines line) before
   tables-reported k before mid now e tables report =
-      rw e (report ∙ ap (grown output.Report (report_text (summary_of s job r line))) tables
-      ∙ sym (grown-append (table_texts s job r since lines) (text_to output.Report (report_text (summary_of s job r line)) ∷ []) before))
+      rw e (report ∙ ap (grown output.Report (report_text (summary_of s traffic r line))) tables
+      ∙ sym (grown-append (table_texts s traffic r since lines) (text_to output.Report (report_text (summary_of s traffic r line)) ∷ []) before))
 
   -- the report was cut off after the tables
   pub report-cut : (k : Command) (before mid now : Taken) → k ≡ command.Assign
-      → mid ≡ grown_by (table_texts s job r since lines) before
-      → IsPartOut output.Report (report_text (summary_of s job r line)) mid now
-      → IsCutOff (last_texts k s job r since lines line) before now
+      → mid ≡ grown_by (table_texts s traffic r since lines) before
+      → IsPartOut output.Report (report_text (summary_of s traffic r line)) mid now
+      → IsCutOff (last_texts k s traffic r since lines line) before now
   report-cut k before mid now e tables part =
-      rw e (cut-later (table_texts s job r since lines) (text_to output.Report (report_text (summary_of s job r line)) ∷ []) before now
-      (rw (← tables) (cut-one output.Report (report_text (summary_of s job r line)) mid now part)))
+      rw e (cut-later (table_texts s traffic r since lines) (text_to output.Report (report_text (summary_of s traffic r line)) ∷ []) before now
+      (rw (← tables) (cut-one output.Report (report_text (summary_of s traffic r line)) mid now part)))
 
   -- the tables were cut off
   pub tables-cut : (k : Command) (before now : Taken) → k ≡ command.Assign
-      → IsCutOff (table_texts s job r since lines) before now
-      → IsCutOff (last_texts k s job r since lines line) before now
+      → IsCutOff (table_texts s traffic r since lines) before now
+      → IsCutOff (last_texts k s traffic r since lines line) before now
   tables-cut k before now e cut =
-      rw e (cut-sooner (table_texts s job r since lines) (text_to output.Report (report_text (summary_of s job r line)) ∷ []) before now cut)
+      rw e (cut-sooner (table_texts s traffic r since lines) (text_to output.Report (report_text (summary_of s traffic r line)) ∷ []) before now cut)
 
   -- the report of a demonstration went out, or was cut off
   pub demo-reported : (k : Command) (n : ℕ) (before now : Taken) → k ≡ command.Demo n
-      → now ≡ grown output.Report (report_text (summary_of s job r line)) before
-      → now ≡ grown_by (last_texts k s job r since lines line) before
+      → now ≡ grown output.Report (report_text (summary_of s traffic r line)) before
+      → now ≡ grown_by (last_texts k s traffic r since lines line) before
   demo-reported k n before now e report = rw e report
 
   pub demo-cut : (k : Command) (n : ℕ) (before now : Taken) → k ≡ command.Demo n
-      → IsPartOut output.Report (report_text (summary_of s job r line)) before now
-      → IsCutOff (last_texts k s job r since lines line) before now
-  demo-cut k n before now e part = rw e (cut-one output.Report (report_text (summary_of s job r line)) before now part)
+      → IsPartOut output.Report (report_text (summary_of s traffic r line)) before now
+      → IsCutOff (last_texts k s traffic r since lines line) before now
+  demo-cut k n before now e part = rw e (cut-one output.Report (report_text (summary_of s traffic r line)) before now part)
 
   -- the counts and then the report went out
   module _ (k : Command) (before mid now : Taken) (asks : k ≡ command.Counts) where
     abbrev counted : List OutText
-    counted = counts_out s job (turn_counts (plan_of s job r) s.bucket) (through_counts (plan_of s job r)) ∷ []
+    counted = counts_out s traffic (turn_counts (plan_of s traffic r) s.bucket) (through_counts (plan_of s traffic r)) ∷ []
 
     pub counts-reported : mid ≡ grown_by counted before
-        → now ≡ grown output.Report (report_text (summary_of s job r line)) mid
-        → now ≡ grown_by (last_texts k s job r since lines line) before
+        → now ≡ grown output.Report (report_text (summary_of s traffic r line)) mid
+        → now ≡ grown_by (last_texts k s traffic r since lines line) before
     counts-reported counts report =
-        rw asks (report ∙ ap (grown output.Report (report_text (summary_of s job r line))) counts)
+        rw asks (report ∙ ap (grown output.Report (report_text (summary_of s traffic r line))) counts)
 
     -- the report was cut off after the counts
     pub counts-report-cut : mid ≡ grown_by counted before
-        → IsPartOut output.Report (report_text (summary_of s job r line)) mid now
-        → IsCutOff (last_texts k s job r since lines line) before now
+        → IsPartOut output.Report (report_text (summary_of s traffic r line)) mid now
+        → IsCutOff (last_texts k s traffic r since lines line) before now
     counts-report-cut counts part =
-        rw asks (cut-later counted (text_to output.Report (report_text (summary_of s job r line)) ∷ []) before now
-        (rw (← counts) (cut-one output.Report (report_text (summary_of s job r line)) mid now part)))
+        rw asks (cut-later counted (text_to output.Report (report_text (summary_of s traffic r line)) ∷ []) before now
+        (rw (← counts) (cut-one output.Report (report_text (summary_of s traffic r line)) mid now part)))
 
   -- the counts were cut off
   pub counts-cut : (k : Command) (before now : Taken) → k ≡ command.Counts
-      → IsCutOff (counts_out s job (turn_counts (plan_of s job r) s.bucket) (through_counts (plan_of s job r)) ∷ []) before now
-      → IsCutOff (last_texts k s job r since lines line) before now
+      → IsCutOff (counts_out s traffic (turn_counts (plan_of s traffic r) s.bucket) (through_counts (plan_of s traffic r)) ∷ []) before now
+      → IsCutOff (last_texts k s traffic r since lines line) before now
   counts-cut k before now e cut =
-      rw e (cut-sooner (counts_out s job (turn_counts (plan_of s job r) s.bucket) (through_counts (plan_of s job r)) ∷ [])
-      (text_to output.Report (report_text (summary_of s job r line)) ∷ []) before now cut)
+      rw e (cut-sooner (counts_out s traffic (turn_counts (plan_of s traffic r) s.bucket) (through_counts (plan_of s traffic r)) ∷ [])
+      (text_to output.Report (report_text (summary_of s traffic r line)) ∷ []) before now cut)
 
   -- and so of another command
   pub skim-reported : (k : Command) (before now : Taken) → k ≡ command.Skim
-      → now ≡ grown output.Report (report_text (summary_of s job r line)) before
-      → now ≡ grown_by (last_texts k s job r since lines line) before
+      → now ≡ grown output.Report (report_text (summary_of s traffic r line)) before
+      → now ≡ grown_by (last_texts k s traffic r since lines line) before
   skim-reported k before now e report = rw e report
 
   pub skim-cut : (k : Command) (before now : Taken) → k ≡ command.Skim
-      → IsPartOut output.Report (report_text (summary_of s job r line)) before now
-      → IsCutOff (last_texts k s job r since lines line) before now
+      → IsPartOut output.Report (report_text (summary_of s traffic r line)) before now
+      → IsCutOff (last_texts k s traffic r since lines line) before now
   skim-cut k before now e part =
-      rw e (cut-one output.Report (report_text (summary_of s job r line)) before now part)
+      rw e (cut-one output.Report (report_text (summary_of s traffic r line)) before now part)
 
   pub free-reported : (k : Command) (before now : Taken) → k ≡ command.Freeflow
-      → now ≡ grown output.Report (report_text (summary_of s job r line)) before
-      → now ≡ grown_by (last_texts k s job r since lines line) before
+      → now ≡ grown output.Report (report_text (summary_of s traffic r line)) before
+      → now ≡ grown_by (last_texts k s traffic r since lines line) before
   free-reported k before now e report = rw e report
 
   pub free-cut : (k : Command) (before now : Taken) → k ≡ command.Freeflow
-      → IsPartOut output.Report (report_text (summary_of s job r line)) before now
-      → IsCutOff (last_texts k s job r since lines line) before now
+      → IsPartOut output.Report (report_text (summary_of s traffic r line)) before now
+      → IsCutOff (last_texts k s traffic r since lines line) before now
   free-cut k before now e part =
-      rw e (cut-one output.Report (report_text (summary_of s job r line)) before now part)
+      rw e (cut-one output.Report (report_text (summary_of s traffic r line)) before now part)
 
 pub ruleset lasts = (
   tables-reported,

@@ -11,9 +11,9 @@ use Rattle.dta_words.specs.declared.command.Settings.{Settings}
 use Rattle.loader.specs.Gates.{GateState, Numbers, numbers_by, taking}
 use Rattle.reports.specs.declared.refusal.Refusal.{Refusal}
 use Rattle.reports.specs.declared.refusal.Refusal.TheVariants as refusal
-use Rattle.sweep.specs.Assignment.{VehicleRoutes}
+use Rattle.assignment.specs.Assignment.{Traffic, VehicleRoutes, plan_of}
 use Rattle.dta_run.specs.Headline.{Headline}
-use Rattle.dta_run.specs.Jobs.{IsAcceptedJob, JobRows, Assigns, plan_of}
+use Rattle.dta_run.specs.Jobs.{IsAcceptedJob, JobRows, Assigns, traffic_of}
 use Rattle.dta_run.specs.Laws.{OneListOfTexts}
 use Rattle.dta_run.specs.Outcome.{DeskState, Works}
 use Rattle.dta_run.specs.Receipts.{Gives, HasWorked, RunGives, ToldGives, TookAtMost, WorkGives, numbers_in, receipts_in, receipts_of, taking_all}
@@ -21,13 +21,14 @@ use Rattle.dta_run.specs.Status.{refusal_status}
 use Rattle.dta_run.specs.Verdict.{Verdict, Accepted, Refused, AreToldBy, verdict, verdict_by}
 use Rattle.dta_run.specs.declared.status.Status.{Status}
 use Rattle.dta_run.specs.declared.status.Status.TheVariants as status
+use Rattle.dta_run.proofs.JobFacts.{by-assigning}
 use Rattle.dta_run.proofs.VerdictFacts.{all-told, told, verdict-job}
 
--- the numbers of a loading are those of its job
-pub numbers-are : (s : Settings) (job : JobRows) (routes : VehicleRoutes)
-    → numbers_by (plan_of s job routes) s.workers ≡ numbers_in s job
+-- the numbers of a loading are those of its traffic
+pub numbers-are : (s : Settings) (traffic : Traffic) (routes : VehicleRoutes)
+    → numbers_by (plan_of s traffic routes) s.workers ≡ numbers_in s traffic
 unfolding unit_count
-numbers-are s job routes = refl
+numbers-are s traffic routes = refl
 
 -- ---- receipts one after another
 
@@ -90,24 +91,33 @@ module _ (plain : Bool) (numbers : Numbers) (gate : GateState) where
 
 -- a command that assigns gives one for each iteration
 receipts-are : (c : Command) (s : Settings) → Assigns c → receipts_of s.plain s.iterations ≡ receipts_in c s
-receipts-are command.Freeflow s loads = absurd loads
-receipts-are command.Assign s loads = refl
-receipts-are (command.Demo n) s loads = refl
-receipts-are command.Skim s loads = absurd loads
-receipts-are command.Counts s loads = refl
-receipts-are command.Sweep s loads = absurd loads
-receipts-are command.Audit s loads = absurd loads
+receipts-are c s loads = by-assigning (λ (k : Command). receipts_of s.plain s.iterations ≡ receipts_in k s) refl (λ n. refl) refl c loads
 
 -- work that gave all receipts, at most as many, or none
 module _ (s : Settings) (job : JobRows) (gate now : GateState) where
-  pub work-all : Assigns s.command → now ≡ taking_all (receipts_of s.plain s.iterations) (numbers_in s job) gate
-      → now ≡ taking_all (receipts_in s.command s) (numbers_in s job) gate
-  work-all loads took = took ∙ ap (λ (n : ℕ). taking_all n (numbers_in s job) gate) (receipts-are s.command s loads)
+  work-all-own : Assigns s.command → now ≡ taking_all (receipts_of s.plain s.iterations) (numbers_in s (traffic_of job)) gate
+      → now ≡ taking_all (receipts_in s.command s) (numbers_in s (traffic_of job)) gate
+  work-all-own loads took = took ∙ ap (λ (n : ℕ). taking_all n (numbers_in s (traffic_of job)) gate) (receipts-are s.command s loads)
 
-  pub free-none : s.command ≡ command.Freeflow → now ≡ gate → now ≡ taking_all (receipts_in s.command s) (numbers_in s job) gate
+  pub work-all : Assigns s.command → (own : Settings) (traffic : Traffic) → own ≡ s → traffic ≡ traffic_of job
+      → now ≡ taking_all (receipts_of own.plain own.iterations) (numbers_in own traffic) gate
+      → now ≡ taking_all (receipts_in s.command s) (numbers_in s (traffic_of job)) gate
+  work-all loads own traffic same over took =
+      work-all-own loads (subst (λ (t : Traffic). now ≡ taking_all (receipts_of s.plain s.iterations) (numbers_in s t) gate) over
+      (subst (λ (z : Settings). now ≡ taking_all (receipts_of z.plain z.iterations) (numbers_in z traffic) gate) same took))
+
+  pub work-most : Assigns s.command → (own : Settings) (traffic : Traffic) → own ≡ s → traffic ≡ traffic_of job
+      → TookAtMost (receipts_of own.plain own.iterations) (numbers_in own traffic) gate now
+      → TookAtMost (receipts_in s.command s) (numbers_in s (traffic_of job)) gate now
+  work-most loads own traffic same over took =
+      subst (λ (n : ℕ). TookAtMost n (numbers_in s (traffic_of job)) gate now) (receipts-are s.command s loads)
+      (subst (λ (t : Traffic). TookAtMost (receipts_of s.plain s.iterations) (numbers_in s t) gate now) over
+      (subst (λ (z : Settings). TookAtMost (receipts_of z.plain z.iterations) (numbers_in z traffic) gate now) same took))
+
+  pub free-none : s.command ≡ command.Freeflow → now ≡ gate → now ≡ taking_all (receipts_in s.command s) (numbers_in s (traffic_of job)) gate
   free-none asks same = rw asks same
 
-  pub took-none : now ≡ gate → TookAtMost (receipts_in s.command s) (numbers_in s job) gate now
+  pub took-none : now ≡ gate → TookAtMost (receipts_in s.command s) (numbers_in s (traffic_of job)) gate now
   took-none same = (0, omega arith, same)
 
 -- a command that assigns nothing gives none, however it ends
@@ -115,7 +125,7 @@ pub none-given : (c : Command) (s : Settings) → receipts_in c s ≡ 0 → s.co
     → WorkGives s job answer gate gate
 none-given c s none asks job status.Done gate =
     let zero_in : receipts_in s.command s ≡ 0 = ap (λ (x : Command). receipts_in x s) asks ∙ none in
-    ap (λ (n : ℕ). taking_all n (numbers_in s job) gate) (sym zero_in)
+    ap (λ (n : ℕ). taking_all n (numbers_in s (traffic_of job)) gate) (sym zero_in)
 none-given c s none asks job status.Usage gate = took-none s job gate gate refl
 none-given c s none asks job status.Table gate = took-none s job gate gate refl
 none-given c s none asks job status.ReadFault gate = took-none s job gate gate refl
@@ -126,11 +136,11 @@ none-given c s none asks job status.Differs gate = took-none s job gate gate ref
 
 -- at most none is none
 none-taken : (s : Settings) (job : JobRows) (gate now : GateState) → s.command ≡ command.Audit
-    → TookAtMost (receipts_in s.command s) (numbers_in s job) gate now → now ≡ gate
+    → TookAtMost (receipts_in s.command s) (numbers_in s (traffic_of job)) gate now → now ≡ gate
 none-taken s job gate now asks took =
     let few : took.0 ≤ 0 = subst (λ (c : Command). took.0 ≤ receipts_in c s) asks took.1 in
     let none : took.0 ≡ 0 = omega (arith, few) in
-    took.2 ∙ ap (λ (n : ℕ). taking_all n (numbers_in s job) gate) none
+    took.2 ∙ ap (λ (n : ℕ). taking_all n (numbers_in s (traffic_of job)) gate) none
 
 -- the receipts of the work are those of the run
 pub work-gives : (words : List (List ℕ)) (s : Settings) (job : JobRows) (answer : Status) (left rest : Left) (before after : Taken)

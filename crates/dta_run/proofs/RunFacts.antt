@@ -30,16 +30,20 @@ use Rattle.skims.specs.Texts.{IsSkimCut, IsSkimOut}
 use Rattle.skims.specs.declared.skim_entry.SkimEntry.{SkimEntry}
 use Rattle.dta_model.specs.LinkTimes.{time_at}
 use Rattle.route_flows.specs.Starts.{AreStartRows}
-use Rattle.dta_run.specs.Jobs.{IsAcceptedJob, JobRows, Assigns}
+use Rattle.assignment.specs.Assignment.{Traffic}
+use Rattle.dta_run.specs.Jobs.{IsAcceptedJob, JobRows, Assigns, traffic_of}
 use Rattle.dta_run.specs.Outcome.{DeskState, IsCause, IsDifferent, IsRefused, LoadsSoundly, Means, ReportsLine, Works}
 use Rattle.dta_run.specs.Outputs.{AreAssigned, AreAudited, AreSkimmed, AreSwept, AreTexts, AreTextsSoFar, AreWatched, AreWatchedSoFar, IsAudited, IsCutOff, OutText}
 use Rattle.dta_run.specs.Outputs.{audit_texts, free_texts, grown_by, last_texts, skim_texts, sweep_texts}
-use Rattle.dta_run.specs.Progress.{IsAssigned}
+use Rattle.dta_run.specs.Progress.{Halts, IsAssigned}
 use Rattle.dta_run.specs.Status.{refusal_status}
 use Rattle.dta_run.specs.Stops.{HasFault}
-use Rattle.dta_run.specs.declared.iterate.Assigned.{Assigned}
+use Rattle.dta_run.specs.declared.halt.Halt.{Halt}
+use Rattle.dta_run.specs.declared.halt.Halt.TheVariants as halt
+use Rattle.dta_run.specs.declared.iterate.Iterated.{Iterated}
 use Rattle.dta_run.specs.declared.status.Status.{Status}
 use Rattle.dta_run.specs.declared.status.Status.TheVariants as status
+use Rattle.dta_run.proofs.JobFacts.{by-assigning}
 use Rattle.dta_run.proofs.OutputFacts.{cut-later, grown-append}
 
 -- what was added to a list stands after it
@@ -49,41 +53,53 @@ get-seam (x ∷ xs) y = get-seam xs y
 
 -- ---- the work
 
-texts-are : (c : Command) (s : Settings) (job : JobRows) (texts : List OutText) → Assigns c → AreAssigned s job texts → AreTexts c s job texts
-texts-are command.Freeflow s job texts loads a = absurd loads
-texts-are command.Assign s job texts loads a = a
-texts-are (command.Demo n) s job texts loads a = a
-texts-are command.Skim s job texts loads a = absurd loads
-texts-are command.Counts s job texts loads a = a
-texts-are command.Sweep s job texts loads a = absurd loads
-texts-are command.Audit s job texts loads a = absurd loads
+module _ (c : Command) (s : Settings) (job : JobRows) (texts : List OutText) (loads : Assigns c) where
+  abbrev Assignments : Type 0
+  Assignments = AreAssigned s (traffic_of job) texts
 
-so-far-assigned : (c : Command) (s : Settings) (job : JobRows) (texts : List OutText) → Assigns c → AreAssigned s job texts → AreTextsSoFar c s job texts
-so-far-assigned command.Freeflow s job texts loads a = absurd loads
-so-far-assigned command.Assign s job texts loads a = inl a
-so-far-assigned (command.Demo n) s job texts loads a = inl a
-so-far-assigned command.Skim s job texts loads a = absurd loads
-so-far-assigned command.Counts s job texts loads a = inl a
-so-far-assigned command.Sweep s job texts loads a = absurd loads
-so-far-assigned command.Audit s job texts loads a = absurd loads
+  abbrev Watches : Type 0
+  Watches = AreWatched s (traffic_of job) texts
 
-module _ (s : Settings) (job : JobRows) (loads : Assigns s.command) where
-  -- all texts of an assignment whose iterations are done
-  module _ (x : Assigned) (start now : Taken) (a : IsAssigned s job x start now) where
+  texts-are : Assignments → AreTexts c s job texts
+  texts-are = by-assigning (λ (k : Command). Assignments → AreTexts k s job texts) (λ a. a) (λ n a. a) (λ a. a) c loads
+
+  so-far-assigned : Assignments → AreTextsSoFar c s job texts
+  so-far-assigned = by-assigning (λ (k : Command). Assignments → AreTextsSoFar k s job texts) inl (λ n. inl) inl c loads
+
+  so-far-watched : Watches → AreTextsSoFar c s job texts
+  so-far-watched = by-assigning (λ (k : Command). Watches → AreTextsSoFar k s job texts) inr (λ n. inr) inr c loads
+
+  watched-so-far : Watches → AreWatchedSoFar c s job texts
+  watched-so-far = by-assigning (λ (k : Command). Watches → AreWatchedSoFar k s job texts) (λ w. w) (λ n w. w) (λ w. w) c loads
+
+-- an assignment of what a job and its settings say
+module _ (s : Settings) (job : JobRows) (loads : Assigns s.command) (own : Settings) (traffic : Traffic) (same : own ≡ s)
+    (over : traffic ≡ traffic_of job) where
+  -- all texts of one whose iterations are done
+  module _ (x : Iterated) (start now : Taken) (done : IsAssigned own traffic x start now) where
+    abbrev last_by : Settings → Traffic → List OutText
+    last_by z t = last_texts z.command z t x.last.routes x.since x.last.lines.items x.last.line
+
     abbrev last : List OutText
-    last = last_texts s.command s job x.routes x.since x.lines.items x.line
+    last = last_by s (traffic_of job)
 
-    assigned-texts : AreAssigned s job (a.texts ++ last)
+    last-is : last_by own traffic ≡ last
+    last-is = ap (λ (z : Settings). last_by z traffic) same ∙ ap (last_by s) over
+
+    a : IsAssigned s (traffic_of job) x start now
+    a = subst (λ (t : Traffic). IsAssigned s t x start now) over (subst (λ (z : Settings). IsAssigned z traffic x start now) same done)
+
+    assigned-texts : AreAssigned s (traffic_of job) (a.texts ++ last)
     assigned-texts = record {
-      routes = a.done ++ x.routes ∷ [];
-      lines = x.lines.items;
-      last = x.routes;
-      line = x.line;
+      routes = a.done ++ x.last.routes ∷ [];
+      lines = x.last.lines.items;
+      last = x.last.routes;
+      line = x.last.line;
       iterations = a.iterations;
-      as_many = length-append a.done (x.routes ∷ []) ∙ a.as_many;
-      with_gaps = ap length a.lines_are ∙ length-append a.before (x.line ∷ []) ∙ ap (λ n. n + 1) a.with_gaps ∙ a.as_many;
-      last_routes = ap (λ n. slice_get (a.done ++ x.routes ∷ []) n) (omega (arith, a.as_many)) ∙ get-seam a.done x.routes;
-      last_line = ap (λ xs. slice_get xs (s.iterations - 1)) a.lines_are ∙ ap (λ n. slice_get (a.before ++ x.line ∷ []) n) (omega (arith, a.as_many, a.with_gaps)) ∙ get-seam a.before x.line;
+      as_many = length-append a.done (x.last.routes ∷ []) ∙ a.as_many;
+      with_gaps = ap length a.lines_are ∙ length-append a.before (x.last.line ∷ []) ∙ ap (λ n. n + 1) a.with_gaps ∙ a.as_many;
+      last_routes = ap (λ n. slice_get (a.done ++ x.last.routes ∷ []) n) (omega (arith, a.as_many)) ∙ get-seam a.done x.last.routes;
+      last_line = ap (λ xs. slice_get xs (s.iterations - 1)) a.lines_are ∙ ap (λ n. slice_get (a.before ++ x.last.line ∷ []) n) (omega (arith, a.as_many, a.with_gaps)) ∙ get-seam a.before x.last.line;
       since = x.since;
       since_told = a.since_told;
       watched = a.texts;
@@ -91,19 +107,34 @@ module _ (s : Settings) (job : JobRows) (loads : Assigns s.command) where
       texts_are = refl;
     }
 
-    pub assigned-done : (after : Taken) → after ≡ grown_by last now → Works s job status.Done start after
+    pub assigned-done : (after : Taken) → after ≡ grown_by (last_by own traffic) now → Works s job status.Done start after
     assigned-done after out = (
       a.texts ++ last,
       texts-are s.command s job (a.texts ++ last) loads assigned-texts,
-      out ∙ ap (grown_by last) a.watched ∙ sym (grown-append a.texts last start),
+      out ∙ ap (λ (texts : List OutText). grown_by texts now) last-is ∙ ap (grown_by last) a.watched ∙ sym (grown-append a.texts last start),
     )
 
-    pub assigned-cut : (after : Taken) → IsCutOff last now after → Works s job status.WriteFault start after
+    pub assigned-cut : (after : Taken) → IsCutOff (last_by own traffic) now after → Works s job status.WriteFault start after
     assigned-cut after cut = (
       a.texts ++ last,
       so-far-assigned s.command s job (a.texts ++ last) loads assigned-texts,
-      cut-later a.texts last start after (subst (λ t. IsCutOff last t after) a.watched cut),
+      cut-later a.texts last start after (subst (λ t. IsCutOff last t after) a.watched (subst (λ (texts : List OutText). IsCutOff texts now after) last-is cut)),
     )
+
+  -- one that ended before its last iteration was done
+  abbrev halted : (why : Halt) (start now : Taken) → Halts own traffic why start now → Halts s (traffic_of job) why start now
+  halted why start now h =
+      subst (λ (t : Traffic). Halts s t why start now) over (subst (λ (z : Settings). Halts z traffic why start now) same h)
+
+  pub halted-watch : (why : Halt) (start now : Taken) → why ≡ halt.Watch → Halts own traffic why start now → Works s job status.WriteFault start now
+  halted-watch why start now is h =
+      let k = subst (λ (w : Halt). Halts s (traffic_of job) w start now) is (halted why start now h) in
+      (k.0, so-far-watched s.command s job k.0 loads k.1, k.2)
+
+  pub halted-memory : (why : Halt) (start now : Taken) → why ≡ halt.Memory → Halts own traffic why start now → Works s job status.Memory start now
+  halted-memory why start now is h =
+      let k = subst (λ (w : Halt). Halts s (traffic_of job) w start now) is (halted why start now h) in
+      (k.0, watched-so-far s.command s job k.0 loads k.1, k.2)
 
 -- the work of `freeflow`
 module _ (s : Settings) (job : JobRows) (asks : s.command ≡ command.Freeflow) (before after : Taken) where
@@ -202,8 +233,8 @@ line-out (Err e) net vehicles place before after p =
     inr (subst (λ (t : List ℕ). IsPartOut output.Report t before.taken after.taken) (line-told net vehicles place) p.refused, p.cause.failed)
 
 -- no iteration, and so no watch line
-nothing-watched : (s : Settings) (job : JobRows) → AreStartRows job.start → AreWatched s job []
-nothing-watched s job rows = record {
+nothing-watched : (s : Settings) (traffic : Traffic) → AreStartRows traffic.start → AreWatched s traffic []
+nothing-watched s traffic rows = record {
   routes = [];
   lines = [];
   iterations = record { start = rows; first = λ r e. absurd cc; next = λ i old new e f. absurd cc; gaps = λ i r line e f. absurd cc };
@@ -213,10 +244,10 @@ nothing-watched s job rows = record {
 
 nothing-so-far : (c : Command) (s : Settings) (job : JobRows) → AreStartRows job.start → AreWatchedSoFar c s job []
 nothing-so-far command.Freeflow s job rows = refl
-nothing-so-far command.Assign s job rows = nothing-watched s job rows
-nothing-so-far (command.Demo n) s job rows = nothing-watched s job rows
+nothing-so-far command.Assign s job rows = nothing-watched s (traffic_of job) rows
+nothing-so-far (command.Demo n) s job rows = nothing-watched s (traffic_of job) rows
 nothing-so-far command.Skim s job rows = refl
-nothing-so-far command.Counts s job rows = nothing-watched s job rows
+nothing-so-far command.Counts s job rows = nothing-watched s (traffic_of job) rows
 nothing-so-far command.Sweep s job rows = refl
 nothing-so-far command.Audit s job rows = refl
 

@@ -7,8 +7,7 @@ use Rattle.loader.specs.Lines.{AreCutOff, AreLinesOf, AreStepsTold, line_after, 
 use Rattle.loader.specs.Lines.{IsWatchCut as IsCutByWorkers, IsWatched as IsWatchedByWorkers}
 use Rattle.loader.specs.declared.watch.Watch.{Watch}
 use Rattle.dta_words.specs.declared.command.Settings.{Settings}
-use Rattle.sweep.specs.Assignment.{VehicleRoutes}
-use Rattle.dta_run.specs.Jobs.{JobRows, plan_of}
+use Rattle.assignment.specs.Assignment.{Traffic, VehicleRoutes, plan_of}
 use Rattle.dta_run.specs.Outputs.{AreToldSteps, AreWatchLines, IsCutOff, OutText, grown_by, text_to, watch_text}
 use Rattle.dta_run.specs.Progress.{IsWatchCut, IsWatched}
 
@@ -31,30 +30,30 @@ told-by-workers : (every : ℕ) (plain : Bool) (horizon : ℕ) (steps : List ℕ
 told-by-workers zero plain horizon steps by h = h
 told-by-workers (suc every) plain horizon steps by h = rw by h
 
-module _ (s : Settings) (job : JobRows) (iteration : ℕ) (routes : VehicleRoutes) (by : s.plain ≡ false) where
+module _ (s : Settings) (traffic : Traffic) (iteration : ℕ) (routes : VehicleRoutes) (by : s.plain ≡ false) where
   abbrev watch : Watch
   watch = record { iteration = iteration; every = s.watch }
 
   lines-as-texts : (steps : List ℕ)
-      → texts_of (map (line_after (plan_of s job routes) watch) steps) ≡ map (watch_text s job iteration routes) steps
+      → texts_of (map (line_after (plan_of s traffic routes) watch) steps) ≡ map (watch_text s traffic iteration routes) steps
   lines-as-texts [] = refl
   lines-as-texts (step ∷ others) =
-      ap (λ (texts : List OutText). watch_text s job iteration routes step ∷ texts) (lines-as-texts others)
+      ap (λ (texts : List OutText). watch_text s traffic iteration routes step ∷ texts) (lines-as-texts others)
 
-  are-watch-lines : (lines : List (List ℕ)) → AreLinesOf (plan_of s job routes) watch lines
-      → AreWatchLines s job iteration routes (texts_of lines)
+  are-watch-lines : (lines : List (List ℕ)) → AreLinesOf (plan_of s traffic routes) watch lines
+      → AreWatchLines s traffic iteration routes (texts_of lines)
   are-watch-lines lines h = record {
     steps = h.steps;
     by_rule = told-by-workers s.watch s.plain s.horizon h.steps by h.by_rule;
     lines_are = ap texts_of h.lines_are ∙ lines-as-texts h.steps;
   }
 
-  pub watched-by-workers : (before after : Taken) → IsWatchedByWorkers (plan_of s job routes) watch before after
-      → IsWatched s job iteration routes before after
+  pub watched-by-workers : (before after : Taken) → IsWatchedByWorkers (plan_of s traffic routes) watch before after
+      → IsWatched s traffic iteration routes before after
   watched-by-workers before after h =
       (texts_of h.lines, are-watch-lines h.lines h.lines_are, h.out ∙ out-as-texts h.lines before)
 
-  pub cut-by-workers : (before after : Taken) → IsCutByWorkers (plan_of s job routes) watch before after
-      → IsWatchCut s job iteration routes before after
+  pub cut-by-workers : (before after : Taken) → IsCutByWorkers (plan_of s traffic routes) watch before after
+      → IsWatchCut s traffic iteration routes before after
   cut-by-workers before after h =
       (texts_of h.lines, are-watch-lines h.lines h.lines_are, cut-as-texts h.lines before after h.out)

@@ -14,7 +14,7 @@ use Rattle.route_flows.specs.declared.start_rows.StartRow.{StartRow}
 use Rattle.reports.specs.declared.refusal.Refusal.{Refusal}
 use Rattle.desk_io.specs.declared.transfers.TheConstants.{MOST_TABLE_BYTES}
 use Rattle.dta_words.specs.declared.command.Settings.{Settings}
-use Rattle.sweep.specs.Assignment.{VehicleRoutes}
+use Rattle.assignment.specs.Assignment.{Traffic, VehicleRoutes}
 use Rattle.dta_run.specs.Jobs.{JobRows}
 use Rattle.dta_run.specs.Outcome.{DeskState, IsDifferent, PutsFailed, ReportsLine, Works}
 use Rattle.dta_run.specs.Outputs.{IsCutOff, OutText, grown_by}
@@ -22,7 +22,7 @@ use Rattle.dta_run.specs.Progress.{Halts, IsAssigned, IsAt}
 use Rattle.dta_run.specs.Status.{refusal_status}
 use Rattle.dta_run.specs.Stops.{StopsAmong, StopsAt}
 use Rattle.dta_run.specs.Tables.{AreAccepted, IsAccepted, TableRows, road_rows}
-use Rattle.dta_run.specs.declared.iterate.Assigned.{Assigned}
+use Rattle.dta_run.specs.declared.iterate.Iterated.{Iterated}
 use Rattle.dta_run.specs.declared.halt.Halt.{Halt}
 use Rattle.dta_run.specs.declared.halt.Halt.TheVariants as halt
 use Rattle.dta_run.specs.declared.status.Status.{Status}
@@ -139,22 +139,23 @@ pub record OnlyWatches {T : Type 0} (Done : T → Taken → Taken → Type 0)
 
 -- an iteration over these routes is done, and the next one is about to be loaded over the others
 abbrev pub IsAhead :
-    Settings → JobRows → (number : ℕ) → (routes next : VehicleRoutes)
+    Settings → Traffic → (number : ℕ) → (routes next : VehicleRoutes)
     → (lines more : List GapLine) → Taken → Taken → Type 0
-IsAhead s job number routes next lines more before now =
-    (start : Taken) → IsAt s job number routes lines start before
-    → IsAt s job (number + 1) next more start now
+IsAhead s traffic number routes next lines more before now =
+    (start : Taken) → IsAt s traffic number routes lines start before
+    → IsAt s traffic (number + 1) next more start now
 
 -- an assignment ended in an iteration over these routes
 abbrev pub HaltsFrom :
-    Settings → JobRows → (number : ℕ) → VehicleRoutes → List GapLine → Halt → Taken → Taken
+    Settings → Traffic → (number : ℕ) → VehicleRoutes → List GapLine → Halt → Taken → Taken
     → Type 0
-HaltsFrom s job number routes lines why before now =
-    (start : Taken) → IsAt s job number routes lines start before → Halts s job why start now
+HaltsFrom s traffic number routes lines why before now =
+    (start : Taken) → IsAt s traffic number routes lines start before
+    → Halts s traffic why start now
 
 -- the last iteration is done
 abbrev pub IsFinished :
-    Settings → JobRows → VehicleRoutes → List GapLine → Assigned → Taken → Taken → Type 0
-IsFinished s job routes lines a before now =
-    (start : Taken) → IsAt s job s.iterations routes lines start before
-    → IsAssigned s job a start now
+    Settings → Traffic → VehicleRoutes → List GapLine → Iterated → Taken → Taken → Type 0
+IsFinished s traffic routes lines a before now =
+    (start : Taken) → IsAt s traffic s.iterations routes lines start before
+    → IsAssigned s traffic a start now

@@ -6,7 +6,6 @@ use Rattle.desk_io.specs.MemDesk.{all_left}
 use Rattle.net_core.specs.Network.{IsNet, zones}
 use Rattle.net_core.specs.declared.rows.NetRows.{NetRows}
 use Rattle.dta_model.specs.Release.{trips_of}
-use Rattle.dta_model.specs.declared.plan.Plan.{Plan}
 use Rattle.dta_model.specs.declared.trip.DemandCell.{DemandCell}
 use Rattle.dta_model.specs.declared.trip.Trip.{Trip}
 use Rattle.vehicle_release.specs.Limits.{IsWithin}
@@ -19,10 +18,9 @@ use Rattle.dta_words.specs.declared.command.Settings.{Settings}
 use Rattle.skims.specs.GivenTimes.{AreRowsOf}
 use Rattle.skims.specs.declared.time_rows.TimeRow.{TimeRow}
 use Rattle.reports.specs.declared.refusal.TheConstants.{MOST_SKIM_ENTRIES, MOST_SWEEP_LINK_STEPS}
-use Rattle.sweep.specs.Assignment.{Traffic, VehicleRoutes}
-use Rattle.sweep.specs.Assignment.{plan_of as plan_of_traffic}
+use Rattle.assignment.specs.Assignment.{Traffic}
 use Rattle.sweep.specs.Scales.{AreAllWithin}
-use Rattle.sweep.specs.Traffic.{AreRoutesOf as AreRoutesOver, AreTripsBelow}
+use Rattle.assignment.specs.Traffic.{AreTripsBelow}
 use Rattle.audit.specs.declared.agent_rows.AgentRow.{AgentRow}
 use Rattle.route_flows.specs.Starts.{AreStartRows}
 use Rattle.route_flows.specs.declared.start_rows.StartRow.{StartRow}
@@ -159,11 +157,3 @@ pub record IsJob (s : Settings) (job : JobRows) : Type 0 where
 -- what is assigned of a job
 abbrev pub traffic_of : JobRows → Traffic
 traffic_of job = record { net = job.net; trips = job.trips; start = job.start }
-
--- the loading of a job over the routes of its vehicles
-abbrev pub plan_of : Settings → JobRows → VehicleRoutes → Plan
-plan_of s job routes = plan_of_traffic s (traffic_of job) routes
-
--- routes for the vehicles of a job: as many as trips, each a walk between the zones of its trip
-abbrev pub AreRoutesOf : JobRows → VehicleRoutes → Type 0
-AreRoutesOf job routes = AreRoutesOver (traffic_of job) routes

@@ -2,8 +2,8 @@
 use Rattle.std.specs.Prelude.{ℕ, ◌≡◌, Bool, List, [], ◌∷◌, false, true}
 use Rattle.desk_io.specs.declared.desk.Output.TheVariants as output
 use Rattle.audit.specs.declared.verdict.Verdict.{Verdict}
-use Rattle.sweep.specs.Scales.{trips_at}
-use Rattle.sweep.specs.Scenarios.{IsScenario}
+use Rattle.assignment.specs.Assignment.{Traffic}
+use Rattle.sweep.specs.Scenarios.{IsScenario, traffic_at}
 use Rattle.sweep.specs.declared.scenario.Scenario.{Scenario}
 use Rattle.dta_words.specs.declared.command.Command.TheVariants as command
 use Rattle.dta_words.specs.declared.command.Settings.{Settings}
@@ -12,7 +12,7 @@ use Rattle.dta_run.specs.Orders.{AreAssignedBy, AreNodeOrders, NodeOrders}
 use Rattle.dta_run.specs.Outputs.{AreAssigned, AreTexts, IsAudited, OutText, but_watch, text_to}
 
 -- two lists of texts of a job are the same but for Watch, and where the loader is plain altogether
-pub record AreDetermined (s : Settings) (job : JobRows) (a b : List OutText) : Type 0 where
+pub record AreDetermined (s : Settings) (a b : List OutText) : Type 0 where
   pub but_watch_lines : but_watch a ≡ but_watch b
   pub plain : s.plain ≡ true → a ≡ b
 
@@ -21,7 +21,7 @@ pub record AreDetermined (s : Settings) (job : JobRows) (a b : List OutText) : T
 abbrev pub TextsAreDetermined : Type 0
 TextsAreDetermined =
     (s : Settings) (job : JobRows) (a b : List OutText) → AreTexts s.command s job a
-    → AreTexts s.command s job b → AreDetermined s job a b
+    → AreTexts s.command s job b → AreDetermined s a b
 
 -- the settings of an assignment like those of a sweep, alone, by so many workers, with this watch
 -- and by either loader
@@ -33,17 +33,6 @@ alone s workers watch plain = record s {
   plain = plain;
   start = false;
   scales = [];
-}
-
--- the job of that assignment over the demand times a scale
-abbrev pub job_at : Settings → JobRows → (scale : ℕ) → JobRows
-job_at s job scale = record {
-  net = job.net;
-  trips = trips_at scale job.demand_cells s.period;
-  start = [];
-  times = [];
-  demand_cells = [];
-  agents = [];
 }
 
 -- the texts of a scenario, as an assignment puts them
@@ -58,7 +47,8 @@ abbrev pub ScenariosAreAlone : Type 0
 ScenariosAreAlone =
     (s : Settings) (job : JobRows) (scale workers watch : ℕ) (plain : Bool) (it : Scenario)
     (texts : List OutText) → IsScenario s job.net job.demand_cells scale it
-    → AreAssigned (alone s workers watch plain) (job_at s job scale) texts
+    → AreAssigned (alone s workers watch plain)
+    (traffic_at s job.net job.demand_cells scale) texts
     → but_watch texts ≡ scenario_texts it
 
 -- an audit of a job has one verdict
@@ -70,9 +60,9 @@ AuditsAreDetermined =
 -- where the loader is plain all texts are
 abbrev pub TextsInAnyOrder : Type 0
 TextsInAnyOrder =
-    (s : Settings) (job : JobRows) (order : NodeOrders) → AreNodeOrders s job order
-    → (a b : List OutText) → AreAssignedBy s job order a → AreAssigned s job b
-    → AreDetermined s job a b
+    (s : Settings) (traffic : Traffic) (order : NodeOrders) → AreNodeOrders s traffic order
+    → (a b : List OutText) → AreAssignedBy s traffic order a → AreAssigned s traffic b
+    → AreDetermined s a b
 
 -- settings and a job have one list of texts, one verdict of an audit, and scenarios that stand alone
 pub record OneListOfTexts : Type 0 where

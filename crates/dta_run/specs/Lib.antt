@@ -1,7 +1,6 @@
 pub mod Status
 pub mod Tables
 pub mod Jobs
-pub mod Assignment
 pub mod Outputs
 pub mod Orders
 pub mod Verdict

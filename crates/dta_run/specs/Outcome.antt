@@ -26,7 +26,7 @@ use Rattle.dta_words.specs.declared.command.Settings.{Settings}
 use Rattle.dta_run.specs.declared.status.Status.{Status}
 use Rattle.dta_run.specs.declared.status.Status.TheVariants as status
 use Rattle.reports.specs.declared.refusal.TheConstants.{MOST_SKIM_ENTRIES, MOST_SWEEP_LINK_STEPS}
-use Rattle.dta_run.specs.Assignment.{AreSoundIterations, IsSoundLoading}
+use Rattle.assignment.specs.Iterations.{AreSoundIterations, IsSoundLoading}
 use Rattle.dta_run.specs.Jobs.{HasRoom, HasSweepRoom, IsAcceptedJob, JobRows, Reading, read_tables}
 use Rattle.dta_run.specs.Jobs.{skim_entries, tables_of, traffic_of}
 use Rattle.dta_run.specs.Outputs.{AreTexts, AreTextsSoFar, AreWatchedSoFar, IsAudited, IsCutOff}

@@ -28,7 +28,8 @@ use Rattle.audit.specs.Audit.{IsAudit}
 use Rattle.audit.specs.declared.plan.Plan.{Plan}
 use Rattle.audit.specs.declared.verdict.Verdict.{Verdict}
 use Rattle.audit.specs.declared.verdict.Verdict.TheVariants as verdict
-use Rattle.sweep.specs.Assignment.{summary_of as summary_over}
+use Rattle.assignment.specs.Assignment.{AreIterations, Traffic, VehicleRoutes, plan_of}
+use Rattle.assignment.specs.Assignment.{summary_of, times_of}
 use Rattle.sweep.specs.Scenarios.{AreScenarios}
 use Rattle.sweep.specs.Texts.{sweep_report_line, sweep_text}
 use Rattle.sweep.specs.declared.scenario.Scenario.{Scenario}
@@ -36,13 +37,10 @@ use Rattle.reports.specs.Texts.{agent_text_by, free_link_time_text, free_report_
 use Rattle.reports.specs.Texts.{audit_text}
 use Rattle.reports.specs.Texts.{link_time_text, report_text, watch_line}
 use Rattle.reports.specs.Watch.{AreWatchSteps}
-use Rattle.reports.specs.declared.summary.Summary.{Summary}
 use Rattle.dta_words.specs.declared.command.Command.{Command}
 use Rattle.dta_words.specs.declared.command.Command.TheVariants as command
 use Rattle.dta_words.specs.declared.command.Settings.{Settings}
-use Rattle.sweep.specs.Assignment.{VehicleRoutes}
-use Rattle.dta_run.specs.Assignment.{AreIterations, times_of}
-use Rattle.dta_run.specs.Jobs.{JobRows, plan_of, traffic_of}
+use Rattle.dta_run.specs.Jobs.{JobRows, traffic_of}
 
 -- a text for an output
 pub record OutText : Type 0 where
@@ -71,16 +69,16 @@ AreToldSteps (suc every) true horizon steps = steps ≡ horizon ∷ []
 AreToldSteps (suc every) false horizon steps = AreWatchSteps (suc every) horizon steps
 
 -- the watch line of an iteration after so many steps of its loading
-abbrev pub watch_text : Settings → JobRows → (iteration : ℕ) → VehicleRoutes → (steps : ℕ) → OutText
-watch_text s job iteration routes steps =
-    text_to output.Watch (watch_line iteration (eight_after (plan_of s job routes) steps))
+abbrev pub watch_text : Settings → Traffic → (iteration : ℕ) → VehicleRoutes → (steps : ℕ) → OutText
+watch_text s traffic iteration routes steps =
+    text_to output.Watch (watch_line iteration (eight_after (plan_of s traffic routes) steps))
 
 -- the watch lines of an iteration over these routes
-pub record AreWatchLines (s : Settings) (job : JobRows) (iteration : ℕ) (routes : VehicleRoutes)
+pub record AreWatchLines (s : Settings) (traffic : Traffic) (iteration : ℕ) (routes : VehicleRoutes)
     (lines : List OutText) : Type 0 where
   pub steps : List ℕ
   pub by_rule : AreToldSteps s.watch s.plain s.horizon steps
-  pub lines_are : lines ≡ map (watch_text s job iteration routes) steps
+  pub lines_are : lines ≡ map (watch_text s traffic iteration routes) steps
 
 -- the watch lines of an iteration that a loader puts after the last step: that of its state there,
 -- where there is a watch
@@ -89,31 +87,28 @@ end_lines zero iteration end = []
 end_lines (suc every) iteration end = text_to output.Watch (watch_line iteration end) ∷ []
 
 -- the watch lines of iterations one after another, the first of which has this number
-abbrev pub AreWatchTexts : Settings → JobRows → ℕ → List VehicleRoutes → List OutText → Type 0
-AreWatchTexts s job number [] texts = texts ≡ []
-AreWatchTexts s job number (routes ∷ others) texts =
-    (lines : List OutText) × (more : List OutText) × AreWatchLines s job number routes lines
-    × AreWatchTexts s job (number + 1) others more × (texts ≡ lines ++ more)
-
--- the numbers of a report: those of the last iteration, over its routes and its gap
-abbrev pub summary_of : Settings → JobRows → VehicleRoutes → GapLine → Summary
-summary_of s job last line = summary_over s (traffic_of job) last line
+abbrev pub AreWatchTexts : Settings → Traffic → ℕ → List VehicleRoutes → List OutText → Type 0
+AreWatchTexts s traffic number [] texts = texts ≡ []
+AreWatchTexts s traffic number (routes ∷ others) texts =
+    (lines : List OutText) × (more : List OutText) × AreWatchLines s traffic number routes lines
+    × AreWatchTexts s traffic (number + 1) others more × (texts ≡ lines ++ more)
 
 -- the iterations in which the vehicles took their last routes, which are told exactly where a
 -- start table is asked for
-abbrev pub AreSinceTold : (start : Bool) → Settings → JobRows → Option (List ℕ) → Type 0
-AreSinceTold false s job since = since ≡ None
-AreSinceTold true s job None = ⊥
-AreSinceTold true s job (Some numbers) = AreSince job.net job.start job.trips s.iterations numbers
+abbrev pub AreSinceTold : (start : Bool) → Settings → Traffic → Option (List ℕ) → Type 0
+AreSinceTold false s traffic since = since ≡ None
+AreSinceTold true s traffic None = ⊥
+AreSinceTold true s traffic (Some numbers) =
+    AreSince traffic.net traffic.start traffic.trips s.iterations numbers
 
 -- Agent, LinkTime and Gap after the last iteration, Agent with the iterations of the routes where
 -- these are told
 abbrev pub table_texts :
-    Settings → JobRows → VehicleRoutes → Option (List ℕ) → List GapLine → List OutText
-table_texts s job last since lines =
+    Settings → Traffic → VehicleRoutes → Option (List ℕ) → List GapLine → List OutText
+table_texts s traffic last since lines =
     text_to output.Agent
-    (agent_text_by job.net job.trips last (journeys_of (plan_of s job last)) since)
-    ∷ text_to output.LinkTime (link_time_text job.net (times_of s job last))
+    (agent_text_by traffic.net traffic.trips last (journeys_of (plan_of s traffic last)) since)
+    ∷ text_to output.LinkTime (link_time_text traffic.net (times_of s traffic last))
     ∷ text_to output.Gap (gap_text lines) ∷ []
 
 -- the link with this identifier, if one is asked for and the network has it
@@ -129,25 +124,25 @@ through_asked through (Some link) = through link.0
 
 -- Counts: these counts of turns, and of the through counts of all links those of the link that the
 -- settings ask for
-abbrev pub counts_out : Settings → JobRows → List TurnCount → (ℕ → List ThroughCount) → OutText
-counts_out s job turns through =
-    text_to output.Counts (counts_text job.net turns
-    (through_asked through (asked_link job.net s.link)) s.bucket s.horizon)
+abbrev pub counts_out : Settings → Traffic → List TurnCount → (ℕ → List ThroughCount) → OutText
+counts_out s traffic turns through =
+    text_to output.Counts (counts_text traffic.net turns
+    (through_asked through (asked_link traffic.net s.link)) s.bucket s.horizon)
 
 -- the texts after the last iteration: `assign` has its tables and the report, `counts` its counts
 -- and the report, and any other command that comes there the report alone
 abbrev pub last_texts :
-    Command → Settings → JobRows → VehicleRoutes → Option (List ℕ) → List GapLine → GapLine
+    Command → Settings → Traffic → VehicleRoutes → Option (List ℕ) → List GapLine → GapLine
     → List OutText
-last_texts command.Assign s job last since lines line =
-    table_texts s job last since lines
-    ++ text_to output.Report (report_text (summary_of s job last line)) ∷ []
-last_texts command.Counts s job last since lines line =
-    counts_out s job (turn_counts (plan_of s job last) s.bucket)
-    (through_counts (plan_of s job last))
-    ∷ text_to output.Report (report_text (summary_of s job last line)) ∷ []
-last_texts c s job last since lines line =
-    text_to output.Report (report_text (summary_of s job last line)) ∷ []
+last_texts command.Assign s traffic last since lines line =
+    table_texts s traffic last since lines
+    ++ text_to output.Report (report_text (summary_of s traffic last line)) ∷ []
+last_texts command.Counts s traffic last since lines line =
+    counts_out s traffic (turn_counts (plan_of s traffic last) s.bucket)
+    (through_counts (plan_of s traffic last))
+    ∷ text_to output.Report (report_text (summary_of s traffic last line)) ∷ []
+last_texts c s traffic last since lines line =
+    text_to output.Report (report_text (summary_of s traffic last line)) ∷ []
 
 -- the texts of `freeflow`
 abbrev pub free_texts : NetRows → List OutText
@@ -215,29 +210,29 @@ but_watch texts = filter (λ t. not (is_watch t.to)) texts
 
 -- the texts of a whole assignment, which are the watch lines of its iterations and then those after
 -- the last
-pub record AreAssigned (s : Settings) (job : JobRows) (texts : List OutText) : Type 0 where
+pub record AreAssigned (s : Settings) (traffic : Traffic) (texts : List OutText) : Type 0 where
   pub routes : List VehicleRoutes
   pub lines : List GapLine
   pub last : VehicleRoutes
   pub line : GapLine
-  pub iterations : AreIterations s job routes lines
+  pub iterations : AreIterations s traffic routes lines
   pub as_many : length routes ≡ s.iterations
   pub with_gaps : length lines ≡ s.iterations
   pub last_routes : slice_get routes (s.iterations - 1) ≡ Some last
   pub last_line : slice_get lines (s.iterations - 1) ≡ Some line
   pub since : Option (List ℕ)
-  pub since_told : AreSinceTold s.start s job since
+  pub since_told : AreSinceTold s.start s traffic since
   pub watched : List OutText
-  pub watch_lines : AreWatchTexts s job 1 routes watched
-  pub texts_are : texts ≡ watched ++ last_texts s.command s job last since lines line
+  pub watch_lines : AreWatchTexts s traffic 1 routes watched
+  pub texts_are : texts ≡ watched ++ last_texts s.command s traffic last since lines line
 
 -- the watch lines of the first iterations
-pub record AreWatched (s : Settings) (job : JobRows) (texts : List OutText) : Type 0 where
+pub record AreWatched (s : Settings) (traffic : Traffic) (texts : List OutText) : Type 0 where
   pub routes : List VehicleRoutes
   pub lines : List GapLine
-  pub iterations : AreIterations s job routes lines
+  pub iterations : AreIterations s traffic routes lines
   pub few : length routes ≤ s.iterations
-  pub watch_lines : AreWatchTexts s job 1 routes texts
+  pub watch_lines : AreWatchTexts s traffic 1 routes texts
 
 -- what a run's work has put before its outputs: the watch lines of an assignment as far as it came,
 -- and nothing where the command does none
@@ -246,7 +241,7 @@ AreWatchedSoFar command.Freeflow s job texts = texts ≡ []
 AreWatchedSoFar command.Skim s job texts = texts ≡ []
 AreWatchedSoFar command.Sweep s job texts = texts ≡ []
 AreWatchedSoFar command.Audit s job texts = texts ≡ []
-AreWatchedSoFar c s job texts = AreWatched s job texts
+AreWatchedSoFar c s job texts = AreWatched s (traffic_of job) texts
 
 -- the texts of a run's whole work
 abbrev pub AreTexts : Command → Settings → JobRows → List OutText → Type 0
@@ -254,7 +249,7 @@ AreTexts command.Freeflow s job texts = texts ≡ free_texts job.net
 AreTexts command.Skim s job texts = AreSkimmed s job texts
 AreTexts command.Sweep s job texts = AreSwept s job texts
 AreTexts command.Audit s job texts = AreAudited s job texts
-AreTexts c s job texts = AreAssigned s job texts
+AreTexts c s job texts = AreAssigned s (traffic_of job) texts
 
 -- texts of a run's work as far as it came
 abbrev pub AreTextsSoFar : Command → Settings → JobRows → List OutText → Type 0
@@ -262,4 +257,5 @@ AreTextsSoFar command.Freeflow s job texts = texts ≡ free_texts job.net
 AreTextsSoFar command.Skim s job texts = AreSkimmed s job texts
 AreTextsSoFar command.Sweep s job texts = AreSwept s job texts
 AreTextsSoFar command.Audit s job texts = AreAudited s job texts
-AreTextsSoFar c s job texts = AreAssigned s job texts ⊎ AreWatched s job texts
+AreTextsSoFar c s job texts =
+    AreAssigned s (traffic_of job) texts ⊎ AreWatched s (traffic_of job) texts

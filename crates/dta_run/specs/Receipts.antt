@@ -8,18 +8,19 @@ use Rattle.dta_words.specs.declared.command.Command.{Command}
 use Rattle.dta_words.specs.declared.command.Command.TheVariants as command
 use Rattle.dta_words.specs.declared.command.Settings.{Settings}
 use Rattle.loader.specs.Gates.{GateState, Numbers, taking}
-use Rattle.dta_run.specs.Jobs.{IsAcceptedJob, JobRows}
+use Rattle.assignment.specs.Assignment.{Traffic}
+use Rattle.dta_run.specs.Jobs.{IsAcceptedJob, JobRows, traffic_of}
 use Rattle.dta_run.specs.Verdict.{Verdict, Refused, Accepted}
 use Rattle.dta_run.specs.declared.status.Status.{Status}
 use Rattle.dta_run.specs.declared.status.Status.TheVariants as status
 
--- the numbers of the receipt of each loading of a job: the units of all steps, a pass for each
--- worker, and the vehicles
-abbrev pub numbers_in : Settings → JobRows → Numbers
-numbers_in s job = record {
-  units = s.horizon * step_units (length job.net.nodes);
+-- the numbers of the receipt of each loading: the units of all steps, a pass for each worker, and
+-- the vehicles
+abbrev pub numbers_in : Settings → Traffic → Numbers
+numbers_in s traffic = record {
+  units = s.horizon * step_units (length traffic.net.nodes);
   passes = s.workers;
-  vehicles = length job.trips;
+  vehicles = length traffic.trips;
 }
 
 -- how many receipts so many loadings give: one each, and none where the loader is plain
@@ -55,9 +56,9 @@ pub record Gives {T E : Type 0} (n : ℕ) (numbers : Numbers) (gate now : GateSt
 -- the receipts of the work over a job, by the status with which it ended
 abbrev pub WorkGives : Settings → JobRows → Status → GateState → GateState → Type 0
 WorkGives s job status.Done gate now =
-    now ≡ taking_all (receipts_in s.command s) (numbers_in s job) gate
+    now ≡ taking_all (receipts_in s.command s) (numbers_in s (traffic_of job)) gate
 WorkGives s job _ gate now =
-    TookAtMost (receipts_in s.command s) (numbers_in s job) gate now
+    TookAtMost (receipts_in s.command s) (numbers_in s (traffic_of job)) gate now
 
 -- the words have settings, and their tables were accepted and make a job, whose work ended with
 -- this status and gave the gate its receipts

@@ -5,16 +5,16 @@ ghost use Rattle.dta_model.specs.Lent.{plan_of as loading_plan};
 ghost use Rattle.dta_model.specs.Loading.{journeys_of};
 ghost use Rattle.dta_model.specs.Sound.{IsSound};
 ghost use Rattle.counts.specs.Through.{through_counts};
-ghost use Rattle.dta_words.specs.Ranges.{AreSettings};
-ghost use Rattle.dta_run.specs.Jobs.{AreRoutesOf, IsJob, plan_of};
+ghost use Rattle.assignment.specs.Lent.{IsAssignment, settings_in, traffic_in};
+ghost use Rattle.assignment.specs.Progress.{IsLast};
 ghost use Rattle.dta_run.specs.Outputs.{asked_link as asked_link_of, through_asked};
 ghost use Rattle.dta_run.specs.Progress.{AreCountsOf, HasCounts};
 
-use crate::job::Job;
+use assignment::{Assigned, Assignment};
 use counts::{ThroughCounts, TurnCounts, count_through, count_turns};
 use desk_io::Memory;
-use dta_model::{Loaded, Loading, Routes};
-use dta_words::{Command, Settings};
+use dta_model::{Loaded, Loading};
+use dta_words::Command;
 use net_core::{LinkNo, Net};
 use std::alloc::Global;
 
@@ -63,23 +63,18 @@ fn through(
     }
 }
 
-// Counts over a loading.
-fn count(
-    alloc: Global,
-    settings: &Settings,
-    job: &Job,
-    routes: &Routes,
-    loaded: &Loaded,
-) -> Result<Counted, Memory>
-    requires settings { AreSettings settings.now }
-    requires job { IsJob settings.now job.now }
-    requires routes { AreRoutesOf job.now routes.now }
-    requires loaded { loaded.now ≡ journeys_of (plan_of settings.now job.now routes.now) }
-    ensures { IfOk result (AreCountsOf settings.now job.now routes.now) }
+// Counts over the loading of an iteration.
+fn count(alloc: Global, assignment: &Assignment, last: &Assigned) -> Result<Counted, Memory>
+    requires is { IsAssignment assignment.now }
+    requires last { IsLast (settings_in assignment.now) (traffic_in assignment.now) last.now }
+    ensures { IfOk result (AreCountsOf (settings_in assignment.now) (traffic_in assignment.now)
+        last.now.routes) }
 {
-    let loading = job.loading(settings, routes);
-    let turns = count_turns(alloc, &loading, loaded, settings.bucket)?;
-    let through = through(alloc, &loading, loaded, asked_link(&job.net, settings.link))?;
+    let settings = assignment.settings;
+    let loading = assignment.loading(&last.routes);
+    let turns = count_turns(alloc, &loading, &last.loaded, settings.bucket)?;
+    let link = asked_link(assignment.net, settings.link);
+    let through = through(alloc, &loading, &last.loaded, link)?;
     Ok(Counted { turns, through })
 }
 
@@ -87,19 +82,16 @@ fn count(
 /// are none.
 pub(crate) fn counts_over(
     alloc: Global,
-    settings: &Settings,
-    job: &Job,
-    routes: &Routes,
-    loaded: &Loaded,
+    assignment: &Assignment,
+    last: &Assigned,
 ) -> Result<Counted, Memory>
-    requires settings { AreSettings settings.now }
-    requires job { IsJob settings.now job.now }
-    requires routes { AreRoutesOf job.now routes.now }
-    requires loaded { loaded.now ≡ journeys_of (plan_of settings.now job.now routes.now) }
-    ensures { IfOk result (HasCounts settings.now job.now routes.now) }
+    requires is { IsAssignment assignment.now }
+    requires last { IsLast (settings_in assignment.now) (traffic_in assignment.now) last.now }
+    ensures { IfOk result (HasCounts (settings_in assignment.now) (traffic_in assignment.now)
+        last.now.routes) }
 {
-    match settings.command {
-        Command::Counts => count(alloc, settings, job, routes, loaded),
+    match assignment.settings.command {
+        Command::Counts => count(alloc, assignment, last),
         _ => Ok(Counted {
             turns: TurnCounts::of(Vec::new(alloc)),
             through: ThroughCounts::of(Vec::new(alloc)),

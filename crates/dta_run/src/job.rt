@@ -2,7 +2,6 @@
 ghost use Rattle.std.specs.Prelude.{◌≡◌, ◌≢◌, ◌≤◌, ◌*◌, length, IfOk, IfErr, OnOk};
 ghost use Rattle.desk_io.specs.Desk.{Left};
 ghost use Rattle.demand.specs.DemandRows.{AreDemandCells};
-ghost use Rattle.dta_model.specs.Lent.{plan_of as loading_plan};
 ghost use Rattle.dta_model.specs.Release.{trips_of};
 ghost use Rattle.dta_words.specs.Ranges.{AreSettings};
 ghost use Rattle.dta_words.specs.declared.command.Command.TheVariants as command;
@@ -12,10 +11,11 @@ ghost use Rattle.route_flows.specs.Starts.{AreStartRows};
 ghost use Rattle.dta_model.specs.declared.loading.TheConstants.{MOST_LINK_STEPS};
 ghost use Rattle.vehicle_release.specs.Limits.{IsWithin};
 ghost use Rattle.dta_run.specs.Calls.{OnlyReads, rows_in_tables};
-ghost use Rattle.sweep.specs.Traffic.{AreTripsBelow};
+ghost use Rattle.assignment.specs.Lent.{IsAssignment, settings_in, traffic_in};
+ghost use Rattle.assignment.specs.Traffic.{AreTripsBelow};
 ghost use Rattle.dta_run.specs.Jobs.{AreWithin, HasRoom, IsAcceptedJob, IsJob};
 ghost use Rattle.dta_run.specs.Jobs.{IsJobOf, Assigns};
-ghost use Rattle.dta_run.specs.Jobs.{job_of as job_of_rows, plan_of};
+ghost use Rattle.dta_run.specs.Jobs.{job_of as job_of_rows, traffic_of};
 ghost use Rattle.dta_run.specs.Outcome.{DeskState, state_of};
 ghost use Rattle.dta_run.specs.Stops.{Stops, StopsIn, StopsJob, StopsSkim, StopsSweep};
 ghost use Rattle.dta_run.specs.Tables.{TableRows, net_of};
@@ -25,9 +25,10 @@ use crate::stop::Stop;
 use crate::tables::{
     NetworkTables, Tables, accept_agents, accept_all, accept_network, accept_roads, accept_times,
 };
+use assignment::Assignment;
 use audit::AgentRows;
 use desk_io::{Desk, TallyDesk};
-use dta_model::{DemandCell, Loading, Routes, Trip};
+use dta_model::{DemandCell, Trip};
 use dta_words::{Command, Settings};
 use gmns_tables::join_net;
 use grid_maker::{GridFault, grid};
@@ -68,17 +69,21 @@ impl Model for Job {
 }
 
 impl Job {
-    /// The loading of the job over the routes of its vehicles.
-    pub(crate) fn loading<'a>(&'a self, settings: &Settings, routes: &'a Routes) -> Loading<'a>
-        ensures { loading_plan result ≡ plan_of settings.now self.now routes.now }
+    /// What is assigned of the job.
+    pub(crate) fn assignment<'a>(&'a self, settings: &'a Settings) -> Assignment<'a>
+        requires settings { AreSettings settings.now }
+        requires job { IsJob settings.now self.now }
+        ensures settings { settings_in result ≡ settings.now }
+        ensures traffic { traffic_in result ≡ traffic_of self.now }
+        ensures workers { result.workers ≡ settings.now.workers }
+        ensures is { IsAssignment result }
     {
-        Loading {
+        Assignment {
+            settings,
             net: &self.net,
-            queue: settings.queue,
-            delta: settings.units.delta,
-            horizon: settings.horizon,
-            trips: &self.trips,
-            routes,
+            trips: self.trips.as_slice(),
+            start: &self.start,
+            workers: settings.workers,
         }
     }
 }

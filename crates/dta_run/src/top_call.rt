@@ -69,8 +69,9 @@ fn assign<R: AllocGlobal + Threads + Wait + Sync, D: Desk + Send, G: Gate + Sync
     ensures receipts { let shown = gate_of G.closes G.last in
         WorkGives settings.now job.now result (shown gate.old) (shown gate.new) }
 {
-    match iterate(rt, settings, job, gate, desk) {
-        Ok(assigned) => match put_assigned(desk, settings, job, &assigned) {
+    let assignment = job.assignment(settings);
+    match iterate(rt, &assignment, gate, desk) {
+        Ok(assigned) => match put_assigned(desk, &assignment, &assigned) {
             Ok(()) => Status::Done,
             Err(Failed) => Status::WriteFault,
         },

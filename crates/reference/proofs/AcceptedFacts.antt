@@ -43,7 +43,7 @@ use Rattle.dta_run.specs.Jobs.{IsJob, IsSweepJob, JobRows, TakesTimes, job_of, r
 use Rattle.dta_run.specs.Tables.{TableRows, loading_tables, net_of, no_rows, road_rows, start_tables, turns_of, with_agents, with_table}
 use Rattle.dta_run.specs.Verdict.{Accepted, Refused, Verdict, after_table, first_above, texts_of, verdict, verdict_by, verdict_on, verdict_on_rows}
 use Rattle.dta_run.specs.Verdict.{verdict_on_scales, verdict_on_scenario, verdict_on_sizes, verdict_on_trips}
-use Rattle.dta_run.proofs.JobFacts.{no-start-rows}
+use Rattle.assignment.proofs.AssignmentFacts.{no-start-rows}
 use Rattle.dta_run.proofs.TableFacts.{joined-net}
 use Rattle.reference.specs.Laws.{IsAccepted}
 use Rattle.reference.proofs.Kept.{next_ok, same_Ok}

@@ -12,9 +12,9 @@ use Rattle.route_flows.proofs.Averaged.{next_walk}
 use Rattle.route_flows.proofs.Started.{started_walk}
 use Rattle.dta_words.specs.Ranges.{AreSettings}
 use Rattle.dta_words.specs.declared.command.Settings.{Settings}
-use Rattle.sweep.specs.Assignment.{AreIterations, Traffic, VehicleRoutes, plan_of, times_of}
-use Rattle.sweep.specs.Traffic.{AreRoutesOf, AreTripsBelow}
-use Rattle.sweep.proofs.AssignmentFacts.{sound-plan}
+use Rattle.assignment.specs.Assignment.{AreIterations, Traffic, VehicleRoutes, plan_of, times_of}
+use Rattle.assignment.specs.Traffic.{AreRoutesOf, AreTripsBelow}
+use Rattle.assignment.proofs.AssignmentFacts.{sound-plan}
 use Rattle.reference.specs.Reference.{all_gaps, all_routes, gap_at, routes_after, routes_at}
 use Rattle.reference.specs.Search.{AreTimes}
 use Rattle.reference.proofs.GapFacts.{gap-is}

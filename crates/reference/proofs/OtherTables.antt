@@ -28,7 +28,7 @@ use Rattle.skims.specs.TimesTable.{row_count, time_row_of, times_places, times_v
 use Rattle.skims.specs.declared.time_rows.TimeRow.{TimeRow}
 use Rattle.skims.specs.declared.times_table.TheConstants.{MOST_TIME_ROWS}
 use Rattle.skims.proofs.TimesFacts.{rows-told}
-use Rattle.dta_run.proofs.JobFacts.{no-start-rows}
+use Rattle.assignment.proofs.AssignmentFacts.{no-start-rows}
 use Rattle.reference.proofs.FieldsInRange.{fresh, quantity-below}
 use Rattle.reference.proofs.Kept.{Before, kept, next_ok, same_Ok}
 

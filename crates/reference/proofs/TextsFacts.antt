@@ -9,8 +9,10 @@ use Rattle.dta_words.specs.declared.command.Settings.{Settings}
 use Rattle.route_flows.proofs.Determined.{next_are_determined}
 use Rattle.route_flows.proofs.Numbered.{since_are_determined, started_are_determined}
 use Rattle.skims.specs.GivenTimes.{AreRowsOf}
-use Rattle.sweep.proofs.Determined.{RouteLaws, scenarios_stand_alone}
-use Rattle.dta_run.specs.Jobs.{JobRows, TakesTimes}
+use Rattle.assignment.proofs.Determined.{RouteLaws}
+use Rattle.sweep.proofs.Determined.{scenarios_stand_alone}
+use Rattle.assignment.specs.Traffic.{IsTraffic}
+use Rattle.dta_run.specs.Jobs.{IsJob, JobRows, TakesTimes, traffic_of}
 use Rattle.dta_run.specs.Outputs.{AreAudited, AreTexts, IsAudited, OutText, audit_plan}
 use Rattle.dta_run.proofs.Determined.{texts_are_determined}
 use Rattle.reference.specs.Audits.{verdict_of}
@@ -22,14 +24,18 @@ use Rattle.reference.proofs.AuditFacts.{audited}
 use Rattle.reference.proofs.SkimFacts.{skimmed}
 use Rattle.reference.proofs.SweepFacts.{swept}
 
+-- the traffic of a job is that of a loading
+traffic-is : (s : Settings) (job : JobRows) → IsJob s job → IsTraffic s.horizon (traffic_of job)
+traffic-is s job good = record { net = good.net; trips = good.trips; start = good.start }
+
 has-by : (c : Command) (s : Settings) (job : JobRows) → s.command ≡ c → IsAccepted s job → Passes s job → AreTexts c s job (texts_of c s job)
 has-by command.Freeflow s job asks good passes = refl
-has-by command.Assign s job asks good passes = assigned s job good.in_range good.sound
-has-by (command.Demo n) s job asks good passes = assigned s job good.in_range good.sound
+has-by command.Assign s job asks good passes = assigned s (traffic_of job) good.in_range (traffic-is s job good.sound)
+has-by (command.Demo n) s job asks good passes = assigned s (traffic_of job) good.in_range (traffic-is s job good.sound)
 has-by command.Skim s job asks good passes =
     skimmed s job good.in_range good.sound
     ((subst (λ c. TakesTimes c → AreRowsOf job.net s.bucket s.horizon job.times) asks good.sound.times) tt)
-has-by command.Counts s job asks good passes = assigned s job good.in_range good.sound
+has-by command.Counts s job asks good passes = assigned s (traffic_of job) good.in_range (traffic-is s job good.sound)
 has-by command.Sweep s job asks good passes = swept s job good.in_range good.sound (good.sound.sweep asks)
 has-by command.Audit s job asks good passes = record {
   passes = subst (λ v. IsAudited s job v) (passes asks) (audited s job);

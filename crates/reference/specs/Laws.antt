@@ -30,6 +30,6 @@ pub record EachJobHasItsTexts : Type 0 where
       → AreTexts s.command s job (texts_of s.command s job)
   -- and others are the same but for Watch, and where the loader is plain altogether
   pub no_others : (s : Settings) (job : JobRows) (texts : List OutText) → IsAccepted s job
-      → AreTexts s.command s job texts → AreDetermined s job texts (texts_of s.command s job)
+      → AreTexts s.command s job texts → AreDetermined s texts (texts_of s.command s job)
   -- the verdict of an audit is that of the reference
   pub audited : (s : Settings) (job : JobRows) → IsAudited s job (verdict_of s job)

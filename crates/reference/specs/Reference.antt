@@ -1,13 +1,11 @@
--- The iterations of an assignment, and its texts, from settings and a job.
+-- The iterations of an assignment, and its texts, from settings and traffic.
 use Rattle.std.specs.Prelude.{ℕ, zero, suc, ◌+◌, ◌-◌, Bool, true, false, List, [], ◌∷◌, ◌++◌, map}
 use Rattle.std.specs.Prelude.{Option, None, Some}
 use Rattle.net_core.specs.Network.{numbers_below}
 use Rattle.dta_model.specs.LinkTimes.{time_at}
 use Rattle.gap.specs.declared.line.GapLine.{GapLine}
 use Rattle.dta_words.specs.declared.command.Settings.{Settings}
-use Rattle.sweep.specs.Assignment.{Traffic, VehicleRoutes, times_of}
-use Rattle.dta_run.specs.Assignment.{end_of}
-use Rattle.dta_run.specs.Jobs.{JobRows, traffic_of}
+use Rattle.assignment.specs.Assignment.{Traffic, VehicleRoutes, end_of, times_of}
 use Rattle.dta_run.specs.Outputs.{OutText, end_lines, last_texts}
 use Rattle.reference.specs.Gaps.{gap_of}
 use Rattle.reference.specs.Routes.{all_since, first_routes, next_routes}
@@ -43,20 +41,20 @@ all_gaps s traffic = map (gap_at s traffic) (numbers_below s.iterations)
 
 -- the watch lines of iterations, the first of which has this number: one for the state after the
 -- last step, where there is a watch
-unfoldable pub watch_texts : Settings → JobRows → (number : ℕ) → List VehicleRoutes → List OutText
-watch_texts s job number [] = []
-watch_texts s job number (routes ∷ others) =
-    end_lines s.watch number (end_of s job routes) ++ watch_texts s job (number + 1) others
+unfoldable pub watch_texts : Settings → Traffic → (number : ℕ) → List VehicleRoutes → List OutText
+watch_texts s traffic number [] = []
+watch_texts s traffic number (routes ∷ others) =
+    end_lines s.watch number (end_of s traffic routes) ++ watch_texts s traffic (number + 1) others
 
 -- since which iterations the vehicles have their routes, where it is told
-abbrev pub since_told : (start : Bool) → Settings → JobRows → Option (List ℕ)
-since_told false s job = None
-since_told true s job = Some (all_since job.net job.start job.trips s.iterations)
+abbrev pub since_told : (start : Bool) → Settings → Traffic → Option (List ℕ)
+since_told false s traffic = None
+since_told true s traffic = Some (all_since traffic.net traffic.start traffic.trips s.iterations)
 
 -- the texts of an assignment
-unfoldable pub assigned_texts : Settings → JobRows → List OutText
-assigned_texts s job =
-    watch_texts s job 1 (all_routes s (traffic_of job))
-    ++ last_texts s.command s job (routes_at s (traffic_of job) (s.iterations - 1))
-    (since_told s.start s job) (all_gaps s (traffic_of job))
-    (gap_at s (traffic_of job) (s.iterations - 1))
+unfoldable pub assigned_texts : Settings → Traffic → List OutText
+assigned_texts s traffic =
+    watch_texts s traffic 1 (all_routes s traffic)
+    ++ last_texts s.command s traffic (routes_at s traffic (s.iterations - 1))
+    (since_told s.start s traffic) (all_gaps s traffic)
+    (gap_at s traffic (s.iterations - 1))

@@ -3,7 +3,7 @@ use Rattle.std.specs.Prelude.{ℕ, ◌-◌, List, map}
 use Rattle.dta_model.specs.Loading.{journeys_of}
 use Rattle.reports.specs.Texts.{agent_text, gap_text, link_time_text, report_text}
 use Rattle.dta_words.specs.declared.command.Settings.{Settings}
-use Rattle.sweep.specs.Assignment.{Traffic, VehicleRoutes, plan_of, summary_of, times_of}
+use Rattle.assignment.specs.Assignment.{Traffic, VehicleRoutes, plan_of, summary_of, times_of}
 use Rattle.sweep.specs.Scenarios.{traffic_at}
 use Rattle.sweep.specs.declared.scenario.Scenario.{Scenario}
 use Rattle.dta_run.specs.Jobs.{JobRows}

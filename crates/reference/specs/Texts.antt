@@ -3,7 +3,7 @@ use Rattle.std.specs.Prelude.{List}
 use Rattle.dta_words.specs.declared.command.Command.{Command}
 use Rattle.dta_words.specs.declared.command.Command.TheVariants as command
 use Rattle.dta_words.specs.declared.command.Settings.{Settings}
-use Rattle.dta_run.specs.Jobs.{JobRows}
+use Rattle.dta_run.specs.Jobs.{JobRows, traffic_of}
 use Rattle.dta_run.specs.Outputs.{OutText, audit_texts, free_texts, skim_texts, sweep_texts}
 use Rattle.reference.specs.Reference.{assigned_texts}
 use Rattle.reference.specs.Skims.{entries_of}
@@ -15,4 +15,4 @@ texts_of command.Freeflow s job = free_texts job.net
 texts_of command.Skim s job = skim_texts job.net (entries_of s job)
 texts_of command.Sweep s job = sweep_texts (scenarios_of s job)
 texts_of command.Audit s job = audit_texts job
-texts_of c s job = assigned_texts s job
+texts_of c s job = assigned_texts s (traffic_of job)

@@ -1,23 +1,17 @@
--- Traffic and link times have one list of routes and one list of gaps; a scale has one scenario.
-use Rattle.std.proofs.Common.{◌≡◌, ℕ, zero, suc, ◌+◌, ◌-◌, List, [], length}
-use Rattle.std.proofs.Common.{refl, sym, ap, subst, arith, ◌∙◌}
-use Rattle.std.specs.Prelude.{Some, get_or, slice_get}
-use Rattle.std.proofs.lemmas.List.{ext_get_or}
-use Rattle.std.proofs.lemmas.Option.{slice_get-get_or, slice_get_within}
-use Rattle.dta_model.specs.LinkTimes.{TimeTable, table_of, time_at}
+-- A scale of the demand has one scenario.
+use Rattle.std.proofs.Common.{◌≡◌, ℕ, ◌-◌, List, [], length, refl, sym, ap, subst, ◌∙◌}
+use Rattle.std.specs.Prelude.{Some, slice_get}
+use Rattle.dta_model.specs.LinkTimes.{table_of}
 use Rattle.dta_model.specs.Loading.{journeys_of}
 use Rattle.dta_model.specs.State.{eight_after}
 use Rattle.dta_model.specs.declared.eight.Eight.{Eight}
 use Rattle.dta_model.specs.declared.plan.Plan.{Plan}
 use Rattle.gap.specs.declared.line.GapLine.{GapLine}
-use Rattle.gap.proofs.Determined.{lines_are_determined}
 use Rattle.reports.specs.Texts.{agent_text, gap_text, link_time_text, report_text}
 use Rattle.reports.specs.declared.summary.Summary.{Summary}
-use Rattle.gap.specs.Gap.{IsGapLine}
-use Rattle.route_flows.specs.Averages.{AreNextRoutes, free_time}
-use Rattle.route_flows.specs.Laws.{NextAreDetermined, SinceAreDetermined, StartedAreDetermined}
 use Rattle.dta_words.specs.declared.command.Settings.{Settings}
-use Rattle.sweep.specs.Assignment.{AreIterations, AreIterationsBy, Traffic, VehicleRoutes, plan_of, summary_of, times_of, unrouted}
+use Rattle.assignment.specs.Assignment.{AreIterations, Traffic, VehicleRoutes, plan_of, summary_of, times_of, unrouted}
+use Rattle.assignment.proofs.Determined.{RouteLaws, by-same-times, same-lines, same-routes}
 use Rattle.sweep.specs.Scales.{trips_at}
 use Rattle.sweep.specs.Laws.{Agree, ScenariosStandAlone}
 use Rattle.sweep.specs.Scenarios.{HasTexts, traffic_at}
@@ -25,62 +19,6 @@ use Rattle.sweep.specs.declared.scenario.Scenario.{Scenario}
 
 some-is : {A : Type 0} (x y : A) → Some x ≡ Some y → x ≡ y
 some-is x y e = cc
-
-abbrev no_line : GapLine
-no_line = record { route_steps = 0; least_steps = 0; gap_steps = 0; ppm = 0 }
-
--- routes and the iterations in which they were taken are determined
-pub record RouteLaws : Type 0 where
-  pub started : StartedAreDetermined
-  pub next : NextAreDetermined
-  pub since : SinceAreDetermined
-
-module _ (laws : RouteLaws) (times : VehicleRoutes → TimeTable) (traffic : Traffic) (ra rb : List VehicleRoutes) (la lb : List GapLine)
-    (a : AreIterationsBy times traffic ra la) (b : AreIterationsBy times traffic rb lb) where
-  -- an iteration's routes are as many as the trips
-  many : (i : ℕ) (x : VehicleRoutes) → slice_get ra i ≡ Some x → length x ≡ length traffic.trips
-  many zero x e = (a.first x e).as_many
-  many (suc i) x e =
-      let h = slice_get_within ra (suc i) x e in
-      let old = slice_get-get_or ra i [] (omega (arith, h)) in
-      (a.next i (get_or ra i []) x old (subst (λ n. slice_get ra n ≡ Some x) (omega arith) e)).as_many
-
-  same-at : (i : ℕ) (x y : VehicleRoutes) → slice_get ra i ≡ Some x → slice_get rb i ≡ Some y → x ≡ y
-  same-at zero x y e f = laws.started (free_time traffic.net) traffic.net traffic.start traffic.trips x y a.start (a.first x e) (b.first y f)
-  same-at (suc i) x y e f =
-      let h = slice_get_within ra (suc i) x e in
-      let k = slice_get_within rb (suc i) y f in
-      let old = slice_get-get_or ra i [] (omega (arith, h)) in
-      let other = slice_get-get_or rb i [] (omega (arith, k)) in
-      let p : get_or rb i [] ≡ get_or ra i [] = sym (same-at i (get_or ra i []) (get_or rb i []) old other) in
-      let next = a.next i (get_or ra i []) x old (subst (λ n. slice_get ra n ≡ Some x) (omega arith) e) in
-      let again = b.next i (get_or ra i []) y (subst (λ (r : VehicleRoutes). slice_get rb i ≡ Some r) p other) (subst (λ n. slice_get rb n ≡ Some y) (omega arith) f) in
-      laws.next (time_at (times (get_or ra i []))) traffic.net traffic.trips (i + 1) (get_or ra i []) x y next again
-
-  pub same-routes : length ra ≡ length rb → ra ≡ rb
-  same-routes e = ext_get_or [] ra rb e (λ i h.
-      same-at i (get_or ra i []) (get_or rb i []) (slice_get-get_or ra i [] h) (slice_get-get_or rb i [] (omega (arith, h, e))))
-
-  pub same-lines : ra ≡ rb → length la ≡ length ra → length la ≡ length lb → la ≡ lb
-  same-lines same n e = ext_get_or no_line la lb e (λ i h.
-      let r = get_or ra i [] in
-      let there = slice_get-get_or ra i [] (omega (arith, h, n)) in
-      let here : slice_get rb i ≡ Some r = subst (λ (rs : List VehicleRoutes). slice_get rs i ≡ Some r) same there in
-      lines_are_determined (time_at (times r)) traffic.net traffic.trips r (get_or la i no_line) (get_or lb i no_line) (many i r there)
-      (a.gaps i r (get_or la i no_line) there (slice_get-get_or la i no_line h))
-      (b.gaps i r (get_or lb i no_line) here (slice_get-get_or lb i no_line (omega (arith, h, e)))))
-
--- ---- settings that agree
-
--- iterations by other link times that are the same
-by-same-times : (t u : VehicleRoutes → TimeTable) (traffic : Traffic) (routes : List VehicleRoutes) (lines : List GapLine)
-    → ((r : VehicleRoutes) → u r ≡ t r) → AreIterationsBy u traffic routes lines → AreIterationsBy t traffic routes lines
-by-same-times t u traffic routes lines same it = record {
-  start = it.start;
-  first = it.first;
-  next = λ i old new e f. subst (λ (x : TimeTable). AreNextRoutes (time_at x) traffic.net traffic.trips (i + 1) old new) (same old) (it.next i old new e f);
-  gaps = λ i r line e f. subst (λ (x : TimeTable). IsGapLine (time_at x) traffic.net traffic.trips r line) (same r) (it.gaps i r line e f);
-}
 
 -- the numbers of a report by the state after the last step
 abbrev summary-by : Traffic → ℕ → VehicleRoutes → GapLine → Eight → Summary

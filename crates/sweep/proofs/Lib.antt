@@ -1,5 +1,4 @@
 pub mod LimitFacts
-pub mod AssignmentFacts
 pub mod ScenarioFacts
 pub mod RoundFacts
 pub mod TextFacts

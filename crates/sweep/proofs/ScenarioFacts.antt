@@ -1,42 +1,26 @@
 -- The texts of an assignment.
-use Rattle.std.proofs.Common.{◌≡◌, ℕ, ◌-◌, ◌≤◌, List, [], ◌∷◌, ◌++◌, length, sym, ap, subst, arith, refl, ◌∙◌, length-append}
-use Rattle.std.specs.Prelude.{Bool, count_by, Some, Result, Ok, Err, IfOk, OnOk}
+use Rattle.std.proofs.Common.{◌≡◌, ℕ, ◌-◌, List, [], ◌∷◌, ◌++◌, sym, ap, subst, arith, refl, ◌∙◌, length-append}
+use Rattle.std.specs.Prelude.{Some, Result, Ok, Err, IfOk, OnOk}
 use Rattle.std.specs.declared.alloc.AllocError.{AllocError}
 use Rattle.desk_io.specs.declared.desk.Failed.{Failed}
 use Rattle.desk_io.specs.declared.desk.Output.{Output}
 use Rattle.desk_io.specs.declared.desk.Output.TheVariants as output
 use Rattle.desk_io.specs.Desk.{Taken, grown, taken_of}
 use Rattle.desk_io.specs.MemDesk.{all_taken}
-use Rattle.std.proofs.lemmas.List.FromFn.{length-map-range_with_len, length-range_with_len}
-use Rattle.std.proofs.lemmas.List.Sums.{count_by-le-length}
-use Rattle.net_core.specs.Network.{numbers_below}
-use Rattle.dta_model.specs.Loading.{journey_of, journeys_of}
-use Rattle.dta_model.specs.State.{eight_after, eight_in, arrived_in, running_in, waiting_in}
-use Rattle.dta_model.specs.declared.eight.Eight.{Eight}
-use Rattle.dta_model.specs.declared.loaded.Journey.{Journey}
-use Rattle.dta_model.specs.declared.queue.Queue.TheVariants as queue
-use Rattle.reports.specs.Texts.{AreOnNet, agent_text, gap_text, link_time_text, report_text}
-use Rattle.reports.proofs.TextsFacts.{walks-on-net}
+use Rattle.net_core.specs.declared.rows.NetRows.{NetRows}
+use Rattle.dta_model.specs.Loading.{journeys_of}
+use Rattle.dta_model.specs.declared.trip.DemandCell.{DemandCell}
+use Rattle.dta_model.specs.declared.trip.Trip.{Trip}
+use Rattle.route_flows.specs.declared.start_rows.StartRow.{StartRow}
+use Rattle.reports.specs.Texts.{agent_text, gap_text, link_time_text, report_text}
 use Rattle.dta_words.specs.declared.command.Settings.{Settings}
-use Rattle.sweep.specs.Assignment.{Traffic, VehicleRoutes, end_of, plan_of, summary_of, times_of}
-use Rattle.sweep.specs.Progress.{IsAssigned}
-use Rattle.sweep.specs.Scenarios.{HasTexts}
-use Rattle.sweep.specs.Traffic.{AreRoutesOf}
-use Rattle.sweep.specs.declared.assignment.Assigned.{Assigned}
+use Rattle.assignment.specs.Assignment.{Traffic, plan_of, summary_of, times_of}
+use Rattle.assignment.specs.Progress.{IsAssigned}
+use Rattle.assignment.specs.declared.iterations.Assigned.{Assigned}
+use Rattle.assignment.proofs.AssignmentFacts.{get-added}
+use Rattle.sweep.specs.Scales.{trips_at}
+use Rattle.sweep.specs.Scenarios.{HasTexts, IsScenario}
 use Rattle.sweep.specs.declared.scenario.Scenario.{Scenario}
-use Rattle.sweep.proofs.AssignmentFacts.{get-added}
-
--- the routes are over the network
-pub on-net : (traffic : Traffic) (routes : VehicleRoutes) → AreRoutesOf traffic routes → AreOnNet traffic.net routes
-on-net traffic routes are =
-    walks-on-net (record { net = traffic.net; queue = queue.Point; delta = 1; horizon = 1; trips = traffic.trips; routes = routes }) are.walks are.each
-
--- as many journeys as trips
-pub many-journeys : (s : Settings) (traffic : Traffic) (routes : VehicleRoutes) (loaded : List Journey)
-    → loaded ≡ journeys_of (plan_of s traffic routes) → length loaded ≡ length traffic.trips
-unfolding journeys_of
-many-journeys s traffic routes loaded is =
-    ap length is ∙ length-map-range_with_len (journey_of (plan_of s traffic routes)) 0 (length traffic.trips)
 
 -- the texts of an assignment
 pub has-texts : (s : Settings) (traffic : Traffic) (a : Assigned) (it : Scenario) → IsAssigned s traffic a
@@ -64,29 +48,16 @@ has-texts s traffic a it done agent link_time gap report =
       report = report;
     }
 
--- ---- the last state
-
-count_few : (p : ℕ → Bool) (n : ℕ) → count_by p (numbers_below n) ≤ n
-count_few p n =
-    let a = count_by-le-length p (numbers_below n) in
-    let b = length-range_with_len 0 n in
-    omega (arith, a, b)
-
--- no more vehicles wait, run or have arrived than there are
-pub few-waiting : (s : Settings) (traffic : Traffic) (r : VehicleRoutes) (end : Eight)
-    → end ≡ end_of s traffic r → end.waiting ≤ length traffic.trips
-unfolding eight_after eight_in waiting_in
-few-waiting s traffic r end is = rw is (count_few _ (length traffic.trips))
-
-pub few-running : (s : Settings) (traffic : Traffic) (r : VehicleRoutes) (end : Eight)
-    → end ≡ end_of s traffic r → end.running ≤ length traffic.trips
-unfolding eight_after eight_in running_in
-few-running s traffic r end is = rw is (count_few _ (length traffic.trips))
-
-pub few-arrived : (s : Settings) (traffic : Traffic) (r : VehicleRoutes) (end : Eight)
-    → end ≡ end_of s traffic r → end.arrived ≤ length traffic.trips
-unfolding eight_after eight_in arrived_in
-few-arrived s traffic r end is = rw is (count_few _ (length traffic.trips))
+-- the scenario of a scale, over trips that were released and no start rows
+pub scenario-over : (s : Settings) (net : NetRows) (cells : List DemandCell) (scale : ℕ) (lent trips : List Trip) (start : List StartRow) (it : Scenario)
+    → lent ≡ trips → trips ≡ trips_at scale cells s.period → start ≡ [] → it.scale ≡ scale
+    → HasTexts s (record { net = net; trips = lent; start = start }) it → IsScenario s net cells scale it
+scenario-over s net cells scale lent trips start it same are none scale_is texts = record {
+  scale_is = scale_is;
+  texts =
+      subst (λ (rows : List StartRow). HasTexts s (record { net = net; trips = trips_at scale cells s.period; start = rows }) it) none
+      (subst (λ (all : List Trip). HasTexts s (record { net = net; trips = all; start = start }) it) (same ∙ are) texts);
+}
 
 -- ---- what a desk in memory has taken
 

@@ -1,9 +1,6 @@
-pub mod Assignment
 pub mod Scales
 pub mod Scenarios
 pub mod Texts
 pub mod Rounds
-pub mod Traffic
-pub mod Progress
 pub mod Laws
 pub mod Examples

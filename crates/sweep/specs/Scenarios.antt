@@ -7,8 +7,8 @@ use Rattle.dta_model.specs.declared.trip.DemandCell.{DemandCell}
 use Rattle.gap.specs.declared.line.GapLine.{GapLine}
 use Rattle.reports.specs.Texts.{agent_text, gap_text, link_time_text, report_text}
 use Rattle.dta_words.specs.declared.command.Settings.{Settings}
-use Rattle.sweep.specs.Assignment.{AreIterations, Traffic, VehicleRoutes, plan_of, summary_of}
-use Rattle.sweep.specs.Assignment.{times_of}
+use Rattle.assignment.specs.Assignment.{AreIterations, Traffic, VehicleRoutes, plan_of, summary_of}
+use Rattle.assignment.specs.Assignment.{times_of}
 use Rattle.sweep.specs.Scales.{trips_at}
 use Rattle.sweep.specs.declared.scenario.Scenario.{Scenario}
 

@@ -11,7 +11,6 @@
 //! scenario at once, and the texts. [`put_sweep`] puts them with a line before each, and a report.
 #![tactic(auto)]
 
-mod assignment;
 mod fault;
 mod laws;
 mod limits;

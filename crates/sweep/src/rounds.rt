@@ -2,25 +2,30 @@
 ghost use Rattle.std.specs.Prelude.{◌≡◌, ◌<◌, ◌≤◌, ◌↔◌, ℕ, All, Err, IfOk, OnOk, get_or, length};
 ghost use Rattle.std.specs.List.{AllZip};
 ghost use Rattle.fixed_units.specs.declared.quantity.TheConstants.{MOST_THOUSANDTHS};
+ghost use Rattle.dta_model.specs.Loading.{journeys_of};
+ghost use Rattle.assignment.specs.Lent.{IsAssignment, plan_in, settings_in, traffic_in};
+ghost use Rattle.assignment.specs.Progress.{IsAssigned};
+ghost use Rattle.assignment.specs.Traffic.{AreRoutesOf, AreTripsBelow};
 ghost use Rattle.dta_words.specs.Ranges.{AreScales, AreSettings};
 ghost use Rattle.dta_words.specs.declared.options.TheConstants.{GREATEST_SCALE};
 ghost use Rattle.sweep.specs.Rounds.{AreKept};
 ghost use Rattle.sweep.specs.Scales.{AreAllWithin, IsFirstTooMany, scaled, trips_at};
 ghost use Rattle.sweep.specs.Scenarios.{AreScenarios, IsScenario};
-ghost use Rattle.sweep.specs.Traffic.{IsTraffic, traffic_over};
 ghost use Rattle.sweep.specs.declared.fault.SweepFault.TheVariants as fault;
 ghost use Rattle.sweep.specs.declared.rounds.TheConstants.{MOST_AT_ONCE};
 ghost use Rattle.vehicle_release.specs.Limits.{IsWithin};
 
-use crate::assignment::assign;
 use crate::fault::SweepFault;
 use crate::limits::check_scales;
 use crate::scales::all_times;
 use crate::scenario::{Scenario, Sweep};
 use crate::scenario_texts::scenario_of;
-use dta_model::{DemandCell, Trip};
+use assignment::{Assigned, Assignment, advance, begin, finish};
+use dta_model::{DemandCell, Loaded, Routes, Trip};
 use dta_words::Settings;
 use net_core::{Memory, Net};
+use route_flows::StartRows;
+use serial_loader::load_plain;
 use std::alloc::{AllocError, Global};
 use std::thread;
 use std::thread::Threads;
@@ -29,11 +34,13 @@ use vehicle_release::{ReleaseFault, release};
 /// The most scenarios that are worked at once.
 pub const MOST_AT_ONCE: u32 = 4;
 
+/// The workers of a scenario: it is worked in its own thread.
+const WORKERS: u32 = 1;
+
 // The trips of a scenario that hasn't too many vehicles.
 fn released(
     alloc: Global,
     settings: &Settings,
-    net: &Net,
     cells: &[DemandCell],
     scale: u64,
 ) -> Result<Vec<Trip>, Memory>
@@ -43,16 +50,44 @@ fn released(
     requires within { IsWithin (scaled scale cells.now) }
     ensures trips { IfOk result (λ trips.
         trips.items ≡ trips_at scale cells.now settings.now.period) }
-    ensures traffic { IfOk result (λ trips.
-        IsTraffic settings.now.horizon (traffic_over net.now trips.items)) }
+    ensures below { IfOk result (λ trips. AreTripsBelow settings.now.horizon trips.items) }
 {
-    let _sound = net.link_count();
     let scaled = all_times(alloc, cells, scale)?;
     match release(alloc, &scaled, settings.period) {
         Ok(trips) => Ok(trips),
         Err(ReleaseFault::TooMany { .. }) => unreachable!(),
         Err(ReleaseFault::Memory) => Err(AllocError),
     }
+}
+
+// The loading of an iteration over these routes.
+fn load(alloc: Global, assignment: &Assignment, routes: &Routes) -> Result<Loaded, Memory>
+    requires is { IsAssignment assignment.now }
+    requires routes { AreRoutesOf (traffic_in assignment.now) routes.now }
+    ensures { IfOk result (λ loaded.
+        loaded ≡ journeys_of (plan_in assignment.now routes.now)) }
+{
+    let loading = assignment.loading(routes);
+    let loaded = load_plain(alloc, &loading)?;
+    Ok(loaded)
+}
+
+// The assignment, whose iterations are loaded plainly.
+fn assign<R: AllocGlobal + Threads + Sync>(
+    rt: &R,
+    assignment: &Assignment,
+) -> Result<Assigned, Memory>
+    requires is { IsAssignment assignment.now }
+    ensures { IfOk result (IsAssigned (settings_in assignment.now) (traffic_in assignment.now)) }
+{
+    let mut it = begin(rt, assignment)?;
+    for iteration in 1..assignment.settings.iterations {
+        let loaded = load(rt.alloc(), assignment, &it.routes)?;
+        advance(rt, assignment, &mut it, loaded, iteration)?;
+    }
+    let last = load(rt.alloc(), assignment, &it.routes)?;
+    let assigned = finish(rt, assignment, it, last)?;
+    Ok(assigned)
 }
 
 // The scenario of a scale.
@@ -70,9 +105,19 @@ fn worked<R: AllocGlobal + Threads + Sync>(
     ensures { IfOk result (IsScenario settings.now net.now cells.now scale) }
 {
     let alloc = rt.alloc();
-    let trips = released(alloc, settings, net, cells, scale)?;
-    let assigned = assign(rt, settings, net, &trips)?;
-    scenario_of(alloc, settings, net, &trips, &assigned, scale)
+    let _sound = net.link_count();
+    let trips = released(alloc, settings, cells, scale)?;
+    let start = StartRows::new(alloc);
+    let assignment = Assignment {
+        settings,
+        net,
+        trips: trips.as_slice(),
+        start: &start,
+        workers: WORKERS,
+    };
+    let assigned = assign(rt, &assignment)?;
+    let scenario = scenario_of(alloc, &assignment, &assigned, scale)?;
+    Ok(scenario)
 }
 
 // The scenarios of a few scales, worked side by side: each comes, or memory is wanting for it.

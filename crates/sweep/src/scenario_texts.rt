@@ -1,23 +1,19 @@
 // The texts of an assignment, put in memory.
-ghost use Rattle.std.specs.Prelude.{◌≡◌, ◌≤◌, [], IfOk, Ok, Some};
+ghost use Rattle.std.specs.Prelude.{◌≡◌, [], IfOk, Ok, Some};
 ghost use Rattle.desk_io.specs.Desk.{taken_of};
 ghost use Rattle.desk_io.specs.MemDesk.{all_taken};
 ghost use Rattle.dta_model.specs.Loading.{journeys_of};
-ghost use Rattle.dta_words.specs.Ranges.{AreSettings};
 ghost use Rattle.reports.specs.Texts.{agent_text, gap_text, link_time_text, report_text};
-ghost use Rattle.sweep.specs.Assignment.{plan_of, summary_of as summary_of_routes, times_of};
-ghost use Rattle.sweep.specs.Progress.{IsAssigned};
+ghost use Rattle.assignment.specs.Assignment.{summary_of as summary_of_routes, times_of};
+ghost use Rattle.assignment.specs.Lent.{IsAssignment, plan_in, settings_in, traffic_in};
+ghost use Rattle.assignment.specs.Progress.{IsAssigned};
 ghost use Rattle.sweep.specs.Scenarios.{HasTexts};
-ghost use Rattle.sweep.specs.Traffic.{IsTraffic, traffic_over};
 
-use crate::assignment::Assigned;
 use crate::scenario::Scenario;
+use assignment::{Assigned, Assignment, summary_of};
 use desk_io::{Failed, MemDesk, Output, Text};
-use dta_model::Trip;
-use dta_words::Settings;
-use net_core::{Memory, Net};
-use reports::{Summary, put_agents, put_gaps, put_link_times, put_summary};
-use route_flows::unrouted;
+use net_core::Memory;
+use reports::{put_agents, put_gaps, put_link_times, put_summary};
 use std::alloc::{AllocError, Global};
 
 // A desk that has taken nothing.
@@ -50,40 +46,31 @@ fn taken_by(
 }
 
 // The text of the vehicles.
-fn agent(
-    alloc: Global,
-    settings: &Settings,
-    net: &Net,
-    trips: &[Trip],
-    assigned: &Assigned,
-) -> Result<Text, Memory>
-    requires traffic { IsTraffic settings.now.horizon (traffic_over net.now trips.now) }
-    requires assigned { IsAssigned settings.now (traffic_over net.now trips.now) assigned.now }
-    ensures { let traffic = traffic_over net.now trips.now in
-        let plan = plan_of settings.now traffic assigned.now.routes in
+fn agent(alloc: Global, assignment: &Assignment, assigned: &Assigned) -> Result<Text, Memory>
+    requires is { IsAssignment assignment.now }
+    requires assigned { IsAssigned (settings_in assignment.now) (traffic_in assignment.now)
+        assigned.now }
+    ensures { let traffic = traffic_in assignment.now in
+        let plan = plan_in assignment.now assigned.now.routes in
         IfOk result (λ text.
-        text ≡ agent_text net.now trips.now assigned.now.routes (journeys_of plan)) }
+        text ≡ agent_text traffic.net traffic.trips assigned.now.routes (journeys_of plan)) }
 {
     let mut desk = empty_desk(alloc);
+    let (net, trips) = (assignment.net, assignment.trips);
     let put = put_agents(&mut desk, net, trips, &assigned.routes, &assigned.loaded);
     taken_by(alloc, put, desk, Output::Agent)
 }
 
 // The text of the link times.
-fn link_time(
-    alloc: Global,
-    settings: &Settings,
-    net: &Net,
-    trips: &[Trip],
-    assigned: &Assigned,
-) -> Result<Text, Memory>
-    requires assigned { IsAssigned settings.now (traffic_over net.now trips.now) assigned.now }
-    ensures { let traffic = traffic_over net.now trips.now in
-        IfOk result (λ text.
-        text ≡ link_time_text net.now (times_of settings.now traffic assigned.now.routes)) }
+fn link_time(alloc: Global, assignment: &Assignment, assigned: &Assigned) -> Result<Text, Memory>
+    requires assigned { IsAssigned (settings_in assignment.now) (traffic_in assignment.now)
+        assigned.now }
+    ensures { let traffic = traffic_in assignment.now in
+        let times = times_of (settings_in assignment.now) traffic assigned.now.routes in
+        IfOk result (λ text. text ≡ link_time_text traffic.net times) }
 {
     let mut desk = empty_desk(alloc);
-    let put = put_link_times(&mut desk, net, &assigned.times);
+    let put = put_link_times(&mut desk, assignment.net, &assigned.times);
     taken_by(alloc, put, desk, Output::LinkTime)
 }
 
@@ -96,68 +83,39 @@ fn gap(alloc: Global, assigned: &Assigned) -> Result<Text, Memory>
     taken_by(alloc, put, desk, Output::Gap)
 }
 
-// The numbers of the report.
-fn summary_of(settings: &Settings, net: &Net, trips: &[Trip], assigned: &Assigned) -> Summary
-    requires settings { AreSettings settings.now }
-    requires traffic { IsTraffic settings.now.horizon (traffic_over net.now trips.now) }
-    requires assigned { IsAssigned settings.now (traffic_over net.now trips.now) assigned.now }
-    ensures { result ≡ summary_of_routes settings.now (traffic_over net.now trips.now)
-        assigned.now.routes assigned.now.line }
-{
-    let eight = assigned.end;
-    Summary {
-        nodes: net.node_count(),
-        links: net.link_count(),
-        vehicles: trips.len() as u32,
-        unrouted: unrouted(&assigned.routes),
-        iterations: settings.iterations,
-        arrived: eight.arrived as u32,
-        running: eight.running as u32,
-        waiting: eight.waiting as u32,
-        gap: assigned.line,
-    }
-}
-
 // The text of the report.
-fn report(
-    alloc: Global,
-    settings: &Settings,
-    net: &Net,
-    trips: &[Trip],
-    assigned: &Assigned,
-) -> Result<Text, Memory>
-    requires settings { AreSettings settings.now }
-    requires traffic { IsTraffic settings.now.horizon (traffic_over net.now trips.now) }
-    requires assigned { IsAssigned settings.now (traffic_over net.now trips.now) assigned.now }
-    ensures { let traffic = traffic_over net.now trips.now in
-        IfOk result (λ text. text ≡ report_text
-        (summary_of_routes settings.now traffic assigned.now.routes assigned.now.line)) }
+fn report(alloc: Global, assignment: &Assignment, assigned: &Assigned) -> Result<Text, Memory>
+    requires is { IsAssignment assignment.now }
+    requires assigned { IsAssigned (settings_in assignment.now) (traffic_in assignment.now)
+        assigned.now }
+    ensures { let summary = summary_of_routes (settings_in assignment.now)
+        (traffic_in assignment.now) assigned.now.routes assigned.now.line in
+        IfOk result (λ text. text ≡ report_text summary) }
 {
     let mut desk = empty_desk(alloc);
-    let put = put_summary(&mut desk, &summary_of(settings, net, trips, assigned));
+    let put = put_summary(&mut desk, &summary_of(assignment, assigned));
     taken_by(alloc, put, desk, Output::Report)
 }
 
 /// The scenario of a scale, whose assignment this is.
 pub(crate) fn scenario_of(
     alloc: Global,
-    settings: &Settings,
-    net: &Net,
-    trips: &[Trip],
+    assignment: &Assignment,
     assigned: &Assigned,
     scale: u64,
 ) -> Result<Scenario, Memory>
-    requires settings { AreSettings settings.now }
-    requires traffic { IsTraffic settings.now.horizon (traffic_over net.now trips.now) }
-    requires assigned { IsAssigned settings.now (traffic_over net.now trips.now) assigned.now }
+    requires is { IsAssignment assignment.now }
+    requires assigned { IsAssigned (settings_in assignment.now) (traffic_in assignment.now)
+        assigned.now }
     ensures scale { IfOk result (λ it. it.scale ≡ scale) }
-    ensures texts { IfOk result (HasTexts settings.now (traffic_over net.now trips.now)) }
+    ensures texts { IfOk result
+        (HasTexts (settings_in assignment.now) (traffic_in assignment.now)) }
 {
     Ok(Scenario {
         scale,
-        agent: agent(alloc, settings, net, trips, assigned)?,
-        link_time: link_time(alloc, settings, net, trips, assigned)?,
+        agent: agent(alloc, assignment, assigned)?,
+        link_time: link_time(alloc, assignment, assigned)?,
         gap: gap(alloc, assigned)?,
-        report: report(alloc, settings, net, trips, assigned)?,
+        report: report(alloc, assignment, assigned)?,
     })
 }

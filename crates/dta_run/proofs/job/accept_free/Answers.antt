@@ -7,7 +7,8 @@ use Rattle.net_core.specs.Rows.{IsTurning}
 use Rattle.gmns_tables.proofs.NetFacts.{no-turns}
 use Rattle.gmns_tables.specs.RowsWithWindows.{rows_of}
 use Rattle.dta_run.proofs.ChainFacts.{reads-stopped, reads-done}
-use Rattle.dta_run.proofs.JobFacts.{free-counted, free-job, no-start-rows, no-trips}
+use Rattle.assignment.proofs.AssignmentFacts.{no-start-rows}
+use Rattle.dta_run.proofs.JobFacts.{free-counted, free-job, no-trips}
 use Rattle.dta_run.proofs.TableFacts.{joined-net}
 use Rattle.dta_run.proofs.job.accept_free.Goals as goal
 

@@ -6,7 +6,8 @@ use Rattle.dta_run.specs.Calls.{rows_in_network, with_time_rows}
 use Rattle.dta_run.specs.Outcome.{state_of}
 use Rattle.dta_run.specs.Tables.{network_tables, no_rows}
 use Rattle.dta_run.proofs.ChainFacts.{accepted-both, accepted-one, among-first, among-then, reads-both, reads-done, reads-stopped}
-use Rattle.dta_run.proofs.JobFacts.{among-skim, no-start-rows, no-trips, skim-in, skim-job, skim-read, skim-starved}
+use Rattle.assignment.proofs.AssignmentFacts.{no-start-rows}
+use Rattle.dta_run.proofs.JobFacts.{among-skim, no-trips, skim-in, skim-job, skim-read, skim-starved}
 use Rattle.dta_run.proofs.job.accept_skim.Goals as goal
 
 pub returns-in_err-network-clause-reads : goal.returns-in_err-network-clause-reads

@@ -1,5 +1,5 @@
 use Rattle.audit.specs.Audit.{checks_of}
-use Rattle.sweep.proofs.Determined.{RouteLaws}
+use Rattle.assignment.proofs.Determined.{RouteLaws}
 use Rattle.dta_run.specs.Outputs.{audit_plan}
 use Rattle.dta_run.proofs.AnyOrder.{texts_in_any_order}
 use Rattle.dta_run.proofs.Determined.{scenarios_are_alone, texts_are_determined}

@@ -1,30 +1,22 @@
-use Rattle.std.proofs.Common.{refl, subst, sym}
+use Rattle.std.proofs.Common.{refl}
 use Rattle.std.proofs.lemmas.Result.{err_from_is_err_and}
-use Rattle.dta_model.specs.Sound.{IsSound}
-use Rattle.dta_run.specs.Jobs.{plan_of}
+use Rattle.assignment.specs.Lent.{plan_in, settings_in, traffic_in}
+use Rattle.assignment.proofs.AssignmentFacts.{end-in}
 use Rattle.dta_run.specs.Outputs.{end_lines}
 use Rattle.dta_run.specs.declared.halt.Halt.TheVariants as halt
-use Rattle.dta_run.proofs.IterateFacts.{sound-plan, watch-halts}
-use Rattle.dta_run.proofs.LoadFacts.{end-in}
+use Rattle.dta_run.proofs.IterateFacts.{watch-halts}
 use Rattle.dta_run.proofs.OutputFacts.{end-lines}
 use Rattle.dta_run.proofs.load.load_plainly.Goals as goal
-
-pub load_plain-requires : goal.load_plain-requires
-load_plain-requires g c =
-    subst IsSound (sym c.loading-loading.ensures) (sound-plan c.args.settings.now c.args.job.now c.args.routes.now c.requires.settings c.requires.job c.requires.routes)
-
-pub final_state-end-requires-clause-sound : goal.final_state-end-requires-clause-sound
-final_state-end-requires-clause-sound g c =
-    subst IsSound (sym c.loading-loading.ensures) (sound-plan c.args.settings.now c.args.job.now c.args.routes.now c.requires.settings c.requires.job c.requires.routes)
 
 pub returns-in_err-watch-clause-watches : goal.returns-in_err-watch-clause-watches
 returns-in_err-watch-clause-watches g c =
     let p = err_from_is_err_and c.from_residual-in_err-watch.result c.from_residual-in_err-watch.ensures.1 in
-    let end = end-in _ (plan_of c.args.settings.now c.args.job.now c.args.routes.now) c.final_state-end.result c.loading-loading.ensures c.final_state-end.ensures.is in
+    let a = c.args.assignment.now in
+    let end = end-in _ (plan_in a c.args.routes.now) c.final_state-end.result c.loading-loading.ensures.plan c.final_state-end.ensures.is in
     rw (p.1, p.2) (record {
       done = tt;
-      halts = watch-halts c.args.settings.now c.args.job.now c.args.iteration c.args.routes.now
-          c.final_state-end.result halt.Watch _ _ c.requires.settings end refl c.in_err-watch.ensures.refused;
+      halts = watch-halts (settings_in a) (traffic_in a) c.args.iteration c.args.routes.now
+          c.final_state-end.result halt.Watch _ _ c.requires.is.settings end refl c.in_err-watch.ensures.refused;
       failed = λ _. c.in_err-watch.ensures.cause.failed;
       later = c.in_err-watch.ensures.cause.later;
       left = c.in_err-watch.ensures.left;
@@ -33,11 +25,12 @@ returns-in_err-watch-clause-watches g c =
 
 pub returns-clause-watches : goal.returns-clause-watches
 returns-clause-watches g c =
-    let end = end-in _ (plan_of c.args.settings.now c.args.job.now c.args.routes.now) c.final_state-end.result c.loading-loading.ensures c.final_state-end.ensures.is in
+    let a = c.args.assignment.now in
+    let end = end-in _ (plan_in a c.args.routes.now) c.final_state-end.result c.loading-loading.ensures.plan c.final_state-end.ensures.is in
     record {
       done = (
-        end_lines c.args.settings.now.watch c.args.iteration c.final_state-end.result,
-        end-lines c.args.settings.now c.args.job.now c.args.iteration c.args.routes.now c.final_state-end.result c.requires.settings end,
+        end_lines (settings_in a).watch c.args.iteration c.final_state-end.result,
+        end-lines (settings_in a) (traffic_in a) c.args.iteration c.args.routes.now c.final_state-end.result c.requires.is.settings end,
         c.in_ok-watch.ensures.whole,
       );
       halts = tt;

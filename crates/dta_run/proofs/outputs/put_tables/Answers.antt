@@ -1,8 +1,8 @@
-use Rattle.std.proofs.Common.{ap}
-use Rattle.dta_run.specs.Jobs.{JobRows}
-use Rattle.dta_run.proofs.IterateFacts.{free-of}
+use Rattle.assignment.specs.Lent.{settings_in, traffic_in}
+use Rattle.assignment.proofs.AssignmentFacts.{free-of}
 use Rattle.dta_run.proofs.outputs.put_tables.Goals as goal
 
 pub put_link_times-requires : goal.put_link_times-requires
 put_link_times-requires g c =
-    free-of c.args.settings.now c.args.job.now c.job.inside.net c.args.assigned.now.routes c.args.assigned.now.times (ap (λ (j : JobRows). j.net) c.job.view_is) c.requires.assigned.times_are
+    let a = c.args.assignment.now in
+    free-of (settings_in a) (traffic_in a) c.args.it.now.last.routes c.args.it.now.last.times c.requires.last.times_are

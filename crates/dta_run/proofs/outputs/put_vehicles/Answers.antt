@@ -1,22 +1,21 @@
-use Rattle.std.proofs.Common.{ap, ◌∙◌}
-use Rattle.dta_run.specs.Jobs.{JobRows}
-use Rattle.dta_run.proofs.IterateFacts.{many-journeys, net-routes}
+use Rattle.assignment.specs.Lent.{settings_in, traffic_in}
+use Rattle.assignment.proofs.AssignmentFacts.{many-journeys, on-net}
 use Rattle.dta_run.proofs.outputs.put_vehicles.Goals as goal
 
 pub put_agents-requires-clause-journeys : goal.put_agents-requires-clause-journeys
 put_agents-requires-clause-journeys g c =
-    many-journeys c.args.settings.now c.args.job.now c.deref-in-None.result.now c.args.assigned.now.routes c.args.assigned.now.loaded
-    (c.deref-in-None.ensures.value ∙ ap (λ (j : JobRows). j.trips) c.job.view_is) c.requires.assigned.journeys
+    let a = c.args.assignment.now in
+    many-journeys (settings_in a) (traffic_in a) c.args.it.now.last.routes c.args.it.now.last.loaded c.requires.last.journeys
 
 pub put_agents-requires-clause-on_net : goal.put_agents-requires-clause-on_net
 put_agents-requires-clause-on_net g c =
-    net-routes c.args.job.now c.job.inside.net c.args.assigned.now.routes (ap (λ (j : JobRows). j.net) c.job.view_is) c.requires.assigned.routed
+    on-net (traffic_in c.args.assignment.now) c.args.it.now.last.routes c.requires.last.routed
 
 pub put_agents_from-requires-clause-journeys : goal.put_agents_from-requires-clause-journeys
 put_agents_from-requires-clause-journeys g c =
-    many-journeys c.args.settings.now c.args.job.now c.deref.result.now c.args.assigned.now.routes c.args.assigned.now.loaded
-    (c.deref.ensures.value ∙ ap (λ (j : JobRows). j.trips) c.job.view_is) c.requires.assigned.journeys
+    let a = c.args.assignment.now in
+    many-journeys (settings_in a) (traffic_in a) c.args.it.now.last.routes c.args.it.now.last.loaded c.requires.last.journeys
 
 pub put_agents_from-requires-clause-on_net : goal.put_agents_from-requires-clause-on_net
 put_agents_from-requires-clause-on_net g c =
-    net-routes c.args.job.now c.job.inside.net c.args.assigned.now.routes (ap (λ (j : JobRows). j.net) c.job.view_is) c.requires.assigned.routed
+    on-net (traffic_in c.args.assignment.now) c.args.it.now.last.routes c.requires.last.routed

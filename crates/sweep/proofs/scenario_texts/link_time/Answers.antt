@@ -3,20 +3,20 @@ use Rattle.std.specs.Prelude.{IfOk}
 use Rattle.desk_io.specs.declared.desk.Output.TheVariants as output
 use Rattle.dta_model.specs.LinkTimes.{TimeTable}
 use Rattle.reports.specs.Texts.{link_time_text}
-use Rattle.sweep.specs.Traffic.{traffic_over}
-use Rattle.sweep.proofs.AssignmentFacts.{free-of}
+use Rattle.assignment.specs.Lent.{settings_in, traffic_in}
+use Rattle.assignment.proofs.AssignmentFacts.{free-of}
 use Rattle.sweep.proofs.ScenarioFacts.{text-told}
 use Rattle.sweep.proofs.scenario_texts.link_time.Goals as goal
 
 pub put_link_times-put-requires : goal.put_link_times-put-requires
 put_link_times-put-requires c =
-    free-of c.args.settings.now (traffic_over c.args.net.now c.args.trips.now) c.args.assigned.now.routes c.args.assigned.now.times
+    free-of (settings_in c.args.assignment.now) (traffic_in c.args.assignment.now) c.args.assigned.now.routes c.args.assigned.now.times
     c.requires.assigned.last.times_are
 
 pub returns : goal.returns
 returns c =
     let a = c.args.assigned.now in
-    let net = c.args.net.now in
+    let net = c.args.assignment.now.net.now in
     let told = text-told output.LinkTime (link_time_text net a.times) c.empty_desk-desk.result.taken c.put_link_times-put.new.desk.taken
     c.put_link_times-put.result c.taken_by.result c.empty_desk-desk.ensures c.put_link_times-put.ensures.whole c.taken_by.ensures.put c.taken_by.ensures.taken in
     subst (λ (times : TimeTable). IfOk c.taken_by.result (λ text. text ≡ link_time_text net times))

@@ -1,0 +1,67 @@
+-- Traffic and link times have one list of routes and one list of gaps.
+use Rattle.std.proofs.Common.{◌≡◌, ℕ, zero, suc, ◌+◌, List, [], length}
+use Rattle.std.proofs.Common.{sym, subst, arith}
+use Rattle.std.specs.Prelude.{Some, get_or, slice_get}
+use Rattle.std.proofs.lemmas.List.{ext_get_or}
+use Rattle.std.proofs.lemmas.Option.{slice_get-get_or, slice_get_within}
+use Rattle.dta_model.specs.LinkTimes.{TimeTable, time_at}
+use Rattle.gap.specs.Gap.{IsGapLine}
+use Rattle.gap.specs.declared.line.GapLine.{GapLine}
+use Rattle.gap.proofs.Determined.{lines_are_determined}
+use Rattle.route_flows.specs.Averages.{AreNextRoutes, free_time}
+use Rattle.route_flows.specs.Laws.{NextAreDetermined, SinceAreDetermined, StartedAreDetermined}
+use Rattle.assignment.specs.Assignment.{AreIterationsBy, Traffic, VehicleRoutes}
+
+abbrev no_line : GapLine
+no_line = record { route_steps = 0; least_steps = 0; gap_steps = 0; ppm = 0 }
+
+-- routes and the iterations in which they were taken are determined
+pub record RouteLaws : Type 0 where
+  pub started : StartedAreDetermined
+  pub next : NextAreDetermined
+  pub since : SinceAreDetermined
+
+module _ (laws : RouteLaws) (times : VehicleRoutes → TimeTable) (traffic : Traffic) (ra rb : List VehicleRoutes) (la lb : List GapLine)
+    (a : AreIterationsBy times traffic ra la) (b : AreIterationsBy times traffic rb lb) where
+  -- an iteration's routes are as many as the trips
+  many : (i : ℕ) (x : VehicleRoutes) → slice_get ra i ≡ Some x → length x ≡ length traffic.trips
+  many zero x e = (a.first x e).as_many
+  many (suc i) x e =
+      let h = slice_get_within ra (suc i) x e in
+      let old = slice_get-get_or ra i [] (omega (arith, h)) in
+      (a.next i (get_or ra i []) x old (subst (λ n. slice_get ra n ≡ Some x) (omega arith) e)).as_many
+
+  same-at : (i : ℕ) (x y : VehicleRoutes) → slice_get ra i ≡ Some x → slice_get rb i ≡ Some y → x ≡ y
+  same-at zero x y e f = laws.started (free_time traffic.net) traffic.net traffic.start traffic.trips x y a.start (a.first x e) (b.first y f)
+  same-at (suc i) x y e f =
+      let h = slice_get_within ra (suc i) x e in
+      let k = slice_get_within rb (suc i) y f in
+      let old = slice_get-get_or ra i [] (omega (arith, h)) in
+      let other = slice_get-get_or rb i [] (omega (arith, k)) in
+      let p : get_or rb i [] ≡ get_or ra i [] = sym (same-at i (get_or ra i []) (get_or rb i []) old other) in
+      let next = a.next i (get_or ra i []) x old (subst (λ n. slice_get ra n ≡ Some x) (omega arith) e) in
+      let again = b.next i (get_or ra i []) y (subst (λ (r : VehicleRoutes). slice_get rb i ≡ Some r) p other) (subst (λ n. slice_get rb n ≡ Some y) (omega arith) f) in
+      laws.next (time_at (times (get_or ra i []))) traffic.net traffic.trips (i + 1) (get_or ra i []) x y next again
+
+  pub same-routes : length ra ≡ length rb → ra ≡ rb
+  same-routes e = ext_get_or [] ra rb e (λ i h.
+      same-at i (get_or ra i []) (get_or rb i []) (slice_get-get_or ra i [] h) (slice_get-get_or rb i [] (omega (arith, h, e))))
+
+  pub same-lines : ra ≡ rb → length la ≡ length ra → length la ≡ length lb → la ≡ lb
+  same-lines same n e = ext_get_or no_line la lb e (λ i h.
+      let r = get_or ra i [] in
+      let there = slice_get-get_or ra i [] (omega (arith, h, n)) in
+      let here : slice_get rb i ≡ Some r = subst (λ (rs : List VehicleRoutes). slice_get rs i ≡ Some r) same there in
+      lines_are_determined (time_at (times r)) traffic.net traffic.trips r (get_or la i no_line) (get_or lb i no_line) (many i r there)
+      (a.gaps i r (get_or la i no_line) there (slice_get-get_or la i no_line h))
+      (b.gaps i r (get_or lb i no_line) here (slice_get-get_or lb i no_line (omega (arith, h, e)))))
+
+-- iterations by other link times that are the same
+pub by-same-times : (t u : VehicleRoutes → TimeTable) (traffic : Traffic) (routes : List VehicleRoutes) (lines : List GapLine)
+    → ((r : VehicleRoutes) → u r ≡ t r) → AreIterationsBy u traffic routes lines → AreIterationsBy t traffic routes lines
+by-same-times t u traffic routes lines same it = record {
+  start = it.start;
+  first = it.first;
+  next = λ i old new e f. subst (λ (x : TimeTable). AreNextRoutes (time_at x) traffic.net traffic.trips (i + 1) old new) (same old) (it.next i old new e f);
+  gaps = λ i r line e f. subst (λ (x : TimeTable). IsGapLine (time_at x) traffic.net traffic.trips r line) (same r) (it.gaps i r line e f);
+}

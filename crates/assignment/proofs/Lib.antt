@@ -1,0 +1,3 @@
+pub mod AssignmentFacts
+pub mod SoundFacts
+pub mod Determined

@@ -1,0 +1,21 @@
+use Rattle.std.proofs.Common.{rules}
+use Rattle.assignment.specs.Lent.{settings_in, traffic_in}
+use Rattle.assignment.proofs.AssignmentFacts.{has-next, table-links, walks-too}
+use Rattle.assignment.proofs.iterations.advance.Goals as goal
+
+pub gap_and_next_routes-requires-clause-table : goal.gap_and_next_routes-requires-clause-table
+gap_and_next_routes-requires-clause-table g c κs within =
+    let a = c.args.assignment.now in
+    table-links (settings_in a) (traffic_in a) c.args.it.now.routes c.in_ok-times.times c.in_ok-times.ensures.times
+
+pub gap_and_next_routes-requires-clause-walks : goal.gap_and_next_routes-requires-clause-walks
+gap_and_next_routes-requires-clause-walks g c κs within =
+    walks-too c.args.assignment.now.net.now c.args.assignment.now.trips.now c.replace-old.result c.args.it.now.routes (search rules) c.requires.routes.walks
+
+pub returns : goal.returns
+returns g c =
+    let a = c.args.assignment.now in
+    has-next (settings_in a) (traffic_in a) c.args.number c.args.it.now.routes c.replace-old.result
+    c.in_ok-line.next c.args.it.now.lines.items c.push.new.self.items c.in_ok-line.line c.in_ok-times.times
+    (search rules) c.in_ok-times.ensures.times c.in_ok-push.ensures.items
+    c.in_ok-line.ensures.gap c.in_ok-line.ensures.next c.in_ok-line.ensures.walks
