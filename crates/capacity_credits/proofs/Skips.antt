@@ -1,6 +1,6 @@
 -- Steps that go by at once.
 use Rattle.std.proofs.Common.{◌≡◌, ℕ, zero, suc, ◌+◌, ◌-◌, ◌*◌, ◌/◌, ◌%◌, refl, arith, add-one}
-use Rattle.std.specs.Prelude.{Option}
+use Rattle.std.specs.Prelude.{None}
 use Rattle.std.proofs.lemmas.Nat.{mul-mod_first}
 use Rattle.dta_model.specs.Allowance.{allowance, credited, parts}
 use Rattle.capacity_credits.specs.Grants.{IsRateFor}
@@ -12,13 +12,13 @@ pub skip_parts : (carried parts steps : ℕ) → (carried + parts % 3600000000 *
 skip_parts carried parts steps = let e = mul-mod_first parts steps 3600000000 in omega (arith, e)
 
 -- what rates give in one more step
-pub next_part : (rates : Rates) (delta t : ℕ)
+next_part : (rates : Rates) (delta t : ℕ)
     → parts rates delta (suc t) ≡ parts rates delta t + credited (rate_in rates t) * delta
 unfolding parts
 next_part rates delta t = refl
 
 -- and in so many steps of one rate
-pub same_parts : (rates : Rates) (delta grants rate steps : ℕ) → IsRateFor rates grants steps rate
+same_parts : (rates : Rates) (delta grants rate steps : ℕ) → IsRateFor rates grants steps rate
     → parts rates delta (grants + steps) ≡ parts rates delta grants + steps * (rate * delta)
 same_parts rates delta grants rate zero h =
     let e : grants + 0 ≡ grants = omega arith in
@@ -64,11 +64,12 @@ skip_after rates delta grants rate steps h =
     rw (same_parts rates delta grants rate steps h)
     (mod_more _ (parts rates delta grants) (steps * (rate * delta)) refl)
 
--- one rate in all steps
-pub steady_parts : (rate : Option ℕ) (delta steps : ℕ)
-    → parts (steady rate) delta steps ≡ steps * (credited rate * delta)
+-- without a limit nothing is credited
+no_parts : (delta steps : ℕ) → parts (steady None) delta steps ≡ 0
 unfolding last_begun parts
-steady_parts rate delta steps =
-    let all = same_parts (steady rate) delta 0 (credited rate) steps (λ k b. refl) in
-    let from_zero : 0 + steps ≡ steps = omega arith in
-    rw (← from_zero) (omega (arith, all))
+no_parts delta zero = refl
+no_parts delta (suc steps) = rw (no_parts delta steps) (omega arith)
+
+pub no_allowance : (delta step : ℕ) → 0 ≡ allowance (steady None) delta step
+unfolding allowance
+no_allowance delta step = rw (no_parts delta (step + 1), no_parts delta step) refl

@@ -1,19 +1,18 @@
--- How far a course has come in its windows.
+-- Windows, and the credit with which each begins.
+use Rattle.dta_model.specs.Allowance.{carried}
 use Rattle.net_core.specs.Rates.{AreRates}
 use Rattle.net_core.specs.declared.rates.Rates.{Rates}
-use Rattle.net_core.specs.declared.rates.TheConstants.{MOST_WINDOW_STEP}
 use Rattle.net_core.specs.declared.rates.Window.{Window}
-use Rattle.std.specs.Prelude.{ℕ, ◌<◌, ◌≤◌, All, IfSome, List, length, slice_get, take}
+use Rattle.std.specs.Prelude.{◌≡◌, ℕ, ◌+◌, ◌<◌, ◌≤◌, IfSome, List, length, map, slice_get}
 
--- so many windows have begun by a step: all of these, and not the one that follows
-pub record AreBegun (ws : List Window) (step begun : ℕ) : Type 0 where
-  pub within : begun ≤ length ws
-  pub begin : All (λ w. w.from ≤ step) (take begun ws)
-  pub next : IfSome (slice_get ws begun) (λ w. step < w.from)
+-- the last window that has begun by a step: the one that follows hasn't
+pub record IsLatest (ws : List Window) (step place : ℕ) : Type 0 where
+  pub within : place < length ws
+  pub begun : IfSome (slice_get ws place) (λ w. w.from ≤ step)
+  pub next : IfSome (slice_get ws (place + 1)) (λ w. step < w.from)
 
--- rates that a link or a turn may have, a step that is counted, and how many of their windows have
--- begun by it
-pub record IsCourse (rates : Rates) (step begun : ℕ) : Type 0 where
+-- rates with windows, and for each window what is carried at its start, in steps of delta seconds
+pub record IsCourse (rates : Rates) (delta : ℕ) (credits : List ℕ) : Type 0 where
   pub given : AreRates rates
-  pub counted : step ≤ MOST_WINDOW_STEP
-  pub windows : AreBegun rates.windows step begun
+  pub some : 0 < length rates.windows
+  pub carries : credits ≡ map (λ w. carried rates delta w.from) rates.windows

@@ -2,13 +2,15 @@
 use Rattle.std.specs.Prelude.{◌≡◌, ◌∷◌, ℕ, [], true, false, map, None, Some, refl}
 use Rattle.std.specs.List.{range_with_len}
 use Rattle.capacity_credits.specs.Grants.{StandsAfter}
-use Rattle.capacity_credits.specs.Meter.{MeterState, closed, granted, passed_one, skipped, unused}
+use Rattle.capacity_credits.specs.Meter.{MeterState, closed, granted, passed_one, unopened}
 use Rattle.dta_model.specs.Allowance.{allowance, parts}
 use Rattle.net_core.specs.Rates.{last_begun, steady}
 use Rattle.net_core.specs.declared.rates.Rates.{Rates}
 
 -- 500 vehicles an hour on one lane, in steps of 6 seconds: five in six steps
-five_in_six : map (allowance (steady (Some 500000000)) 6) (range_with_len 0 8) ≡ 0 ∷ 1 ∷ 1 ∷ 1 ∷ 1 ∷ 1 ∷ 0 ∷ 1 ∷ []
+five_in_six :
+    map (allowance (steady (Some 500000000)) 6) (range_with_len 0 8)
+    ≡ 0 ∷ 1 ∷ 1 ∷ 1 ∷ 1 ∷ 1 ∷ 0 ∷ 1 ∷ []
 unfolding allowance parts last_begun
 five_in_six = refl
 
@@ -35,20 +37,17 @@ unfolding parts last_begun
 after_two = refl
 
 -- a meter of these rates, step by step
-abbrev after : ℕ → MeterState
-after steps = skipped 6 steps (unused faster_later)
-
-abbrev next : ℕ → MeterState
-next steps = granted 6 (after steps)
+abbrev opened : ℕ → MeterState
+opened step = granted step (unopened 6 faster_later)
 
 allowances_of_a_meter :
-    (map (λ steps. (next steps).left) (range_with_len 0 4) ≡ 0 ∷ 1 ∷ 2 ∷ 1 ∷ [])
-    × ((closed (next 2)).carried ≡ (after 3).carried)
-    × ((passed_one (next 2)).left ≡ 1)
-unfolding parts last_begun faster_later
+    (map (λ step. (opened step).left) (range_with_len 0 4) ≡ 0 ∷ 1 ∷ 2 ∷ 1 ∷ [])
+    × ((passed_one (opened 2)).left ≡ 1)
+    × (granted 3 (closed (opened 2)) ≡ opened 3)
+unfolding allowance parts last_begun faster_later
 allowances_of_a_meter = (refl, refl, refl)
 
--- a limit that ends: nothing is credited in a step without one, and what was carried stays
+-- a limit that ends: nothing is credited in a step without one
 unlimited_later : Rates
 unlimited_later = record {
   usual = Some 500000000;
@@ -56,12 +55,11 @@ unlimited_later = record {
 }
 
 abbrev opened_at : ℕ → MeterState
-opened_at steps = granted 6 (skipped 6 steps (unused unlimited_later))
+opened_at step = granted step (unopened 6 unlimited_later)
 
 no_limit :
     ((opened_at 0).unlimited ≡ false)
     × ((opened_at 1).unlimited ≡ true)
     × ((opened_at 1).left ≡ 0)
-    × ((opened_at 1).carried ≡ 3000000000)
-unfolding parts last_begun unlimited_later
-no_limit = (refl, refl, refl, refl)
+unfolding allowance parts last_begun unlimited_later
+no_limit = (refl, refl, refl)

@@ -1,5 +1,5 @@
 pub mod Grants
 pub mod Meter
-pub mod Outlooks
 pub mod Course
+pub mod Outlooks
 pub mod Examples

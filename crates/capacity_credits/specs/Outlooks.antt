@@ -1,4 +1,5 @@
--- Rates in range, and rates of the steps to come.
+-- Rates in range, and how a meter keeps rates.
+use Rattle.capacity_credits.specs.Course.{IsCourse}
 use Rattle.capacity_credits.specs.declared.outlook.Outlook.{Outlook}
 use Rattle.fixed_units.specs.declared.link.TheConstants.{MOST_RATE}
 use Rattle.net_core.specs.Rates.{steady}
@@ -13,7 +14,7 @@ IsInRange rate = IfSome rate (λ r. r ≤ MOST_RATE)
 abbrev pub rates_of : Outlook → Rates
 rates_of (Outlook.Limit rate) = steady (Some rate)
 rates_of (Outlook.NoLimit unlimited) = steady None
-rates_of (Outlook.Course unlimited course) = course.value
+rates_of (Outlook.Course unlimited course) = course.value.rates
 
 -- whether the step that is open has no limit
 abbrev pub unlimited_of : Outlook → Bool
@@ -21,8 +22,9 @@ unlimited_of (Outlook.Limit rate) = false
 unlimited_of (Outlook.NoLimit unlimited) = unlimited
 unlimited_of (Outlook.Course unlimited course) = unlimited
 
--- an outlook whose limit a link or a turn may have
-abbrev pub IsOutlook : Outlook → Type 0
-IsOutlook (Outlook.Limit rate) = rate ≤ MOST_RATE
-IsOutlook (Outlook.NoLimit unlimited) = ⊤
-IsOutlook (Outlook.Course unlimited course) = ⊤
+-- an outlook for steps of delta seconds, whose limit a link or a turn may have
+abbrev pub IsOutlook : ℕ → Outlook → Type 0
+IsOutlook delta (Outlook.Limit rate) = rate ≤ MOST_RATE
+IsOutlook delta (Outlook.NoLimit unlimited) = ⊤
+IsOutlook delta (Outlook.Course unlimited course) =
+    IsCourse course.value.rates delta course.value.credits.items

@@ -10,7 +10,7 @@ use fixed_units::{MOST_RATE, MOST_STEP};
 use std::marker::Model;
 
 /// The parts of a vehicle that are carried to the next step, fewer than one vehicle has.
-#[derive(Drop)]
+#[derive(Clone, Copy, Drop)]
 pub struct Credit {
     carried: u32,
 }
@@ -22,6 +22,8 @@ impl Model for Credit {
     ghost Value = { ℕ };
 
     ghost view = { λ c. c.carried };
+
+    ghost inverse = { λ carried. record { carried = carried } };
 
     ghost invariant = { λ c. c.carried < PARTS_OF_A_VEHICLE };
 }

@@ -1,54 +1,52 @@
 // What rates still allow in a step.
-ghost use Rattle.std.specs.Prelude.{◌≡◌, ℕ, ◌+◌, ◌-◌, ◌<◌, ◌≤◌, IfOk};
-ghost use Rattle.capacity_credits.specs.Meter.{MeterState, capped, closed, granted, passed_one};
-ghost use Rattle.capacity_credits.specs.Meter.{skipped, unused};
+ghost use Rattle.std.specs.Prelude.{◌≡◌, ◌≤◌, IfOk};
+ghost use Rattle.capacity_credits.specs.Meter.{capped, closed, granted, passed_one, unopened};
 ghost use Rattle.net_core.specs.Rates.{AreRates};
 
-use crate::Credit;
-use crate::course::credited_of;
 use crate::outlook::Outlook;
 use fixed_units::MOST_STEP;
 use net_core::{Memory, Rates};
 use std::alloc::Global;
 use std::marker::Model;
 
-/// Rates with their credit, and what is left of the step's allowance.
+/// Rates in steps of some seconds, and what is left of the allowance of the step that is open.
 #[derive(Drop)]
 pub struct Meter {
     outlook: Outlook,
+    delta: u32,
     left: u32,
-    credit: Credit,
 }
 
 impl Model for Meter {
     ghost use Rattle.capacity_credits.specs.Meter.{MeterState};
     ghost use Rattle.capacity_credits.specs.Outlooks.{IsOutlook, rates_of, unlimited_of};
-    ghost use Rattle.dta_model.specs.declared.credit.TheConstants.{PARTS_OF_A_VEHICLE};
-    ghost use Rattle.std.specs.Prelude.{◌<◌};
+    ghost use Rattle.fixed_units.specs.declared.link.TheConstants.{MOST_STEP};
+    ghost use Rattle.std.specs.Prelude.{◌≤◌};
 
     ghost Value = { MeterState };
 
     ghost view = { λ m. record {
       rates = rates_of m.outlook;
-      carried = m.credit;
+      delta = m.delta;
       left = m.left;
       unlimited = unlimited_of m.outlook;
     } };
 
-    ghost invariant = { λ m. IsOutlook m.outlook × (m.credit < PARTS_OF_A_VEHICLE) };
+    ghost invariant = { λ m. (m.delta ≤ MOST_STEP) × IsOutlook m.delta m.outlook };
 }
 
 impl Meter {
-    /// Rates of which nothing is granted yet, in millionths of a vehicle per hour. It takes memory
-    /// where there are windows.
-    pub fn new(alloc: Global, rates: Rates) -> Result<Self, Memory>
-        requires { AreRates rates }
-        ensures { IfOk result (λ meter. meter ≡ unused rates) }
+    /// Rates of which no step is open, in millionths of a vehicle per hour, in steps of `delta`
+    /// seconds. It takes memory where there are windows.
+    pub fn new(alloc: Global, rates: Rates, delta: u32) -> Result<Self, Memory>
+        requires rates { AreRates rates }
+        requires step { delta ≤ MOST_STEP }
+        ensures { IfOk result (λ meter. meter ≡ unopened delta rates) }
     {
         Ok(Meter {
-            outlook: Outlook::of(alloc, rates)?,
+            outlook: Outlook::of(alloc, rates, delta)?,
+            delta,
             left: 0,
-            credit: Credit::new(),
         })
     }
 
@@ -66,14 +64,12 @@ impl Meter {
         self.outlook.is_unlimited()
     }
 
-    /// Grants the allowance of the next step. Where that has no limit nothing is credited.
+    /// Opens a step: its allowance is granted. Where that has no limit nothing is credited.
     #[inline]
-    pub fn open(&mut self, delta: u32)
-        requires { delta ≤ MOST_STEP }
-        ensures { self.new ≡ granted delta self.old }
+    pub fn open(&mut self, step: u32)
+        ensures { self.new ≡ granted step self.old }
     {
-        let rate = self.outlook.next();
-        self.left = self.credit.grant(credited_of(rate), delta) as u32;
+        self.left = self.outlook.open(self.delta, step);
     }
 
     /// One vehicle passes.
@@ -96,15 +92,5 @@ impl Meter {
         ensures { self.new ≡ capped room self.old }
     {
         self.left = room.min(self.left as u64) as u32;
-    }
-
-    /// Lets so many steps go by whose allowances nobody uses.
-    #[inline]
-    pub fn rest(&mut self, delta: u32, steps: u32)
-        requires { delta ≤ MOST_STEP }
-        ensures { self.new ≡ skipped delta steps self.old }
-    {
-        self.outlook.rest(&mut self.credit, delta, steps);
-        self.close();
     }
 }

@@ -12,3 +12,4 @@ pub mod NextLines
 pub mod Passing
 pub mod LeadsOn
 pub mod TwoStages
+pub mod MailTells

@@ -1,32 +1,27 @@
--- The lines and waiting lines of a node after a step.
+-- The waiting lines of a node after a step.
 use Rattle.net_core.specs.Network as network
 use Rattle.net_core.specs.Network.{numbers_below}
 use Rattle.std.specs.List.{range_with_len}
 use Rattle.std.specs.List.{list_any}
 use Rattle.std.specs.Prelude.{filter, slice_get, All, nat_eq}
-use Rattle.std.proofs.Common.{◌≡◌, ℕ, zero, suc, ◌+◌, ◌<◌, Bool, true, false, ◌&&◌, ◌||◌, not, List, [], ◌∷◌, ◌++◌, length, map, refl, ap, sym, ◌∙◌, subst, arith, Some, append-nil}
+use Rattle.std.proofs.Common.{◌≡◌, ℕ, zero, suc, ◌+◌, ◌<◌, Bool, true, false, ◌&&◌, ◌||◌, not, List, ◌++◌, length, map, refl, ap, sym, ◌∙◌, arith, Some, append-nil}
 use Rattle.std.proofs.lemmas.Bool.{eqb-true, and_parts, not-true}
-use Rattle.std.proofs.lemmas.List.Elements.{All-head, All-tail, All-nil, All-cons, All-weaker, All-filter, filter_passes}
+use Rattle.std.proofs.lemmas.List.Elements.{All-nil, All-cons, All-weaker, filter_passes}
 use Rattle.dta_model.specs.declared.plan.Plan.{Plan}
 use Rattle.dta_model.specs.Loading.{after_step, step_moves, trace_after}
 use Rattle.dta_model.specs.NodeMoves.{is_first, node_moves}
-use Rattle.dta_model.specs.Plans.{all_nodes, first_link, ins, link_at, outs, vehicles_of}
+use Rattle.dta_model.specs.Plans.{all_nodes, first_link, link_at, outs, vehicles_of}
 use Rattle.dta_model.specs.Riders.{rider_at, riders}
-use Rattle.cell_stages.specs.Stages.{batch_mail, line_after, line_before, staying, waiting_after, waiting_before, waiting_for}
+use Rattle.cell_stages.specs.Stages.{staying, waiting_after, waiting_before, waiting_for}
 use Rattle.dta_model.specs.Trace.{Move, has_moved, moves_of}
-use Rattle.dta_model.specs.Sound.{IsSound}
 use Rattle.cell_stages.specs.Transfers.{WaitingLinesStay}
 use Rattle.dta_model.proofs.Pushes.{has_moved-append, has_moved_is, moves_of-append}
 use Rattle.dta_model.proofs.Standing.{no-last}
 use Rattle.dta_model.proofs.Steady.{steady_of}
 use Rattle.cell_stages.proofs.Riders.{filter_two}
 use Rattle.dta_model.proofs.Places.{node_of, first_at}
-use Rattle.cell_stages.proofs.Gathering.{own-at, rider-like, lines_gather, map_like, kept_at}
+use Rattle.cell_stages.proofs.Gathering.{own-at, rider-like, map_like, kept_at}
 use Rattle.dta_model.proofs.NoMoves.{no-moves}
-
-map_all : {X : Type 0} (P : ℕ → Type 0) (f g : ℕ → X) (xs : List ℕ) → All P xs → ((x : ℕ) → P x → f x ≡ g x) → map f xs ≡ map g xs
-map_all P f g [] all h = refl
-map_all P f g (x ∷ xs) all h = rw (h x (All-head P x xs all), map_all P f g xs (All-tail P x xs all) h) refl
 
 pub below_all : (k from : ℕ) → All (λ x. x < from + k) (range_with_len from k)
 below_all zero from = All-nil (λ x. x < from + zero)
@@ -37,18 +32,6 @@ below_all (suc k) from = All-cons (λ x. x < from + suc k) from (range_with_len 
 
     more : (x a b : ℕ) → x < a + 1 + b → x < a + suc b
     more x a b h = omega (arith, h)
-
-all_pair : (P Q : ℕ → Type 0) (xs : List ℕ) → All P xs → All Q xs → All (λ x. P x × Q x) xs
-all_pair P Q [] a b = All-nil (λ x. P x × Q x)
-all_pair P Q (x ∷ xs) a b = All-cons (λ x. P x × Q x) x xs (All-head P x xs a, All-head Q x xs b) (all_pair P Q xs (All-tail P x xs a) (All-tail Q x xs b))
-
-in_links : (p : Plan) (n : ℕ) → All (λ l. (l < length p.net.links) × ((link_at p l).to.0 ≡ n)) (ins p n)
-unfolding network.ins
-in_links p n =
-    let test : ℕ → Bool = λ l. nat_eq (link_at p l).to.0 n in
-    all_pair (λ l. l < length p.net.links) (λ l. (link_at p l).to.0 ≡ n) (filter test (numbers_below (length p.net.links)))
-    (All-filter test (λ l. l < length p.net.links) (numbers_below (length p.net.links)) (All-weaker (λ x. x < 0 + length p.net.links) (λ l. l < length p.net.links) (λ x h. omega (arith, h)) (numbers_below (length p.net.links)) (below_all (length p.net.links) 0)))
-    (All-weaker (λ l. test l ≡ true) (λ l. (link_at p l).to.0 ≡ n) (λ l h. eqb-true (link_at p l).to.0 n h) (filter test (numbers_below (length p.net.links))) (filter_passes test (numbers_below (length p.net.links))))
 
 pub out_links : (p : Plan) (n : ℕ) → All (λ b. (link_at p b).from.0 ≡ n) (outs p n)
 unfolding network.outs
@@ -98,15 +81,3 @@ waiting-line p t n b there out = waiting-gathered p t n b (trace_after p t) ther
 
 pub waiting_lines_stay : WaitingLinesStay
 waiting_lines_stay p sound t b there = waiting-line p t (link_at p b).from.0 b ((steady_of p sound).ends b there).0 refl
-
--- what a node's in-links know of those who left them, and the lines of its in-links and out-links in
--- the next step
-module _ (p : Plan) (sound : IsSound p) (t n : ℕ) (there : n < length p.net.nodes) where
-  pub next-lines : map (line_before p (suc t)) (ins p n) ≡ map (λ l. line_after p n t l ++ batch_mail p l t) (ins p n)
-  next-lines =
-      map_all (λ l. (l < length p.net.links) × ((link_at p l).to.0 ≡ n)) (line_before p (suc t)) (λ l. line_after p n t l ++ batch_mail p l t) (ins p n) (in_links p n)
-      (λ l h. subst (λ k. line_before p (suc t) l ≡ line_after p k t l ++ batch_mail p l t) h.1 (lines_gather p sound t l h.0))
-
-  pub next-waiting : map (waiting_before p (suc t)) (outs p n) ≡ map (waiting_after p n t) (outs p n)
-  next-waiting =
-      map_all (λ b. (link_at p b).from.0 ≡ n) (waiting_before p (suc t)) (waiting_after p n t) (outs p n) (out_links p n) (λ b h. waiting-line p t n b there h)

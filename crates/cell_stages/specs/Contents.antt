@@ -1,10 +1,9 @@
 -- What the cell of a node and the mail of its links hold at each stage of a loading.
-use Rattle.std.specs.Prelude.{ℕ, suc, ◌<◌, ◌/◌, ◌%◌, Bool, false, ◌&&◌, not, cond, nat_eq, nat_lt}
-use Rattle.std.specs.Prelude.{nat_le, ◌+◌, ◌++◌, ◌-◌, ◌||◌, List, [], length, map, filter, Option}
-use Rattle.std.specs.Prelude.{None, Some, count_by}
+use Rattle.std.specs.Prelude.{ℕ, zero, suc, ◌<◌, ◌/◌, ◌%◌, Bool, false, true, ◌&&◌, not, cond}
+use Rattle.std.specs.Prelude.{nat_eq, nat_lt, nat_le, ◌+◌, ◌++◌, ◌-◌, ◌||◌, List, [], length, map}
+use Rattle.std.specs.Prelude.{filter, Option, None, Some, count_by}
 use Rattle.std.specs.List.{range_with_len}
 use Rattle.std.specs.Option.{is_none}
-use Rattle.dta_model.specs.Allowance.{carried}
 use Rattle.dta_model.specs.Loading.{trace_after}
 use Rattle.dta_model.specs.NodeMoves.{node_moves}
 use Rattle.dta_model.specs.Plans.{link_at, ins, link_rates, outs, turn, turn_rates}
@@ -20,7 +19,7 @@ use Rattle.dta_model.specs.declared.queue.Queue.TheVariants as queue
 use Rattle.net_core.specs.declared.rates.Rates.{Rates}
 use Rattle.net_core.specs.declared.rows.Turn.{Turn}
 use Rattle.cell_stages.specs.CellState.{CellState}
-use Rattle.capacity_credits.specs.Meter.{MeterState, later}
+use Rattle.capacity_credits.specs.Meter.{MeterState, unopened}
 use Rattle.cell_stages.specs.declared.in_link.InLink.{InLink}
 use Rattle.cell_stages.specs.declared.mail.Mail.{Mail}
 use Rattle.cell_stages.specs.declared.mail.Mail.TheVariants.{Away, Room, Batch}
@@ -28,16 +27,6 @@ use Rattle.cell_stages.specs.declared.out_link.OutLink.{OutLink}
 use Rattle.cell_stages.specs.declared.out_link.Waiting.{Waiting}
 use Rattle.cell_stages.specs.declared.exit.Exit.{Exit}
 use Rattle.cell_stages.specs.declared.turn.LimitedTurn.{LimitedTurn}
-
--- rates between two steps, after so many grants: they carry what their credit does, and no vehicle
--- is left over
-abbrev pub meter_after : Plan → ℕ → Rates → MeterState
-meter_after p grants rates = record {
-  rates = later grants rates;
-  carried = carried rates p.delta grants;
-  left = 0;
-  unlimited = false;
-}
 
 -- whether rates limit a turn in some step: there is a usual rate, or there are windows
 abbrev pub is_limited : Rates → Bool
@@ -52,7 +41,7 @@ is_kept rates (Some way) = not (nat_eq way.penalty 0) || is_limited rates
 abbrev pub kept_turns : Plan → ℕ → ℕ → List ℕ
 kept_turns p n l = filter (λ b. is_kept (turn_rates p l b) (turn p l b)) (outs p n)
 
--- a limit by rates, which stands as the meter says; none where they limit no step
+-- the limit by rates, as the meter says; none where they limit no step
 abbrev pub limit_by : (Rates → MeterState) → Rates → Option MeterState
 limit_by meter rates = cond (is_limited rates) (Some (meter rates)) None
 
@@ -65,16 +54,16 @@ abbrev pub turn_by : (Rates → MeterState) → ℕ → Rates → Option Turn �
 turn_by meter b rates way =
     record { to = record { 0 = b }; penalty = penalty_of way; limit = limit_by meter rates }
 
--- the turn from an in-link to an out-link, after so many grants
-abbrev pub turn_after : Plan → ℕ → ℕ → ℕ → LimitedTurn
-turn_after p grants l b = turn_by (meter_after p grants) b (turn_rates p l b) (turn p l b)
+-- the turn from an in-link to an out-link, between two steps
+abbrev pub turn_of : Plan → ℕ → ℕ → LimitedTurn
+turn_of p l b = turn_by (unopened p.delta) b (turn_rates p l b) (turn p l b)
 
--- how vehicles leave an in-link, after so many grants
-abbrev pub exit_after : Plan → ℕ → ℕ → ℕ → Exit
-exit_after p n grants l = record {
+-- how vehicles leave an in-link, between two steps
+abbrev pub exit_of : Plan → ℕ → ℕ → Exit
+exit_of p n l = record {
   free = (link_at p l).free;
-  outflow = meter_after p grants (link_rates p l);
-  turns = map (turn_after p grants l) (kept_turns p n l);
+  outflow = unopened p.delta (link_rates p l);
+  turns = map (turn_of p l) (kept_turns p n l);
 }
 
 -- the storage of a link, where the queues are bounded by it
@@ -94,11 +83,11 @@ left_lately p t T l = map (left_ago T l t) (range_with_len 1 (wave_of p l - 1))
 
 -- an in-link with its line and its mail
 abbrev pub in_link :
-    Plan → ℕ → ℕ → (ℕ → List RiderState) → (ℕ → List ℕ) → (ℕ → Mail) → ℕ → InLink
-in_link p n grants line left mail l = record {
+    Plan → ℕ → (ℕ → List RiderState) → (ℕ → List ℕ) → (ℕ → Mail) → ℕ → InLink
+in_link p n line left mail l = record {
   line = line l;
   left = left l;
-  exit = exit_after p n grants l;
+  exit = exit_of p n l;
   storage = storage_by p.queue (link_at p l).storage;
   mail = mail l;
 }
@@ -112,10 +101,10 @@ waiting_parts steps riders = record {
 
 -- an out-link with its waiting line and its mail
 abbrev pub out_link : Plan → ℕ → (ℕ → List RiderState) → (ℕ → Mail) → ℕ → OutLink
-out_link p grants waiting mail b = record {
+out_link p steps waiting mail b = record {
   link = record { 0 = b };
-  inflow = meter_after p grants (link_rates p b);
-  waiting = waiting_parts grants (waiting b);
+  inflow = unopened p.delta (link_rates p b);
+  waiting = waiting_parts steps (waiting b);
   batch = [];
   mail = mail b;
 }
@@ -124,12 +113,36 @@ out_link p grants waiting mail b = record {
 abbrev pub away : ℕ → Mail
 away l = Away
 
--- the mail of a link before the transfer of a step, and after it
-abbrev pub room_of : Plan → ℕ → ℕ → Mail
-room_of p t l = Room t (room_mail p l t)
+-- whether two rooms are the same
+abbrev pub is_same : Option ℕ → Option ℕ → Bool
+is_same None None = true
+is_same None (Some b) = false
+is_same (Some a) None = false
+is_same (Some a) (Some b) = nat_eq a b
 
+-- whether a mail tells this room
+abbrev pub tells : Option ℕ → Mail → Bool
+tells room Away = false
+tells room (Room s there) = is_same there room
+tells room (Batch s riders) = false
+
+-- a mail once a room is told for step t: where it tells that room already it stays as it is
+abbrev pub told : ℕ → Option ℕ → Mail → Mail
+told t room mail = cond (tells room mail) mail (Room t room)
+
+-- a mail once riders are sent in step t: where there are none it stays as it is
+abbrev pub sent : ℕ → List RiderState → Mail → Mail
+sent t riders mail = cond (nat_lt 0 (length riders)) (Batch t riders) mail
+
+-- the mail of link l before the transfer of step t, which tells its room, and since when it is that
+unfoldable pub room_of : Plan → ℕ → ℕ → Mail
+room_of p zero l = Room 0 (room_mail p l 0)
+room_of p (suc t) l =
+    told (suc t) (room_mail p l (suc t)) (sent t (batch_mail p l t) (room_of p t l))
+
+-- and after it: its batch, where somebody enters the link
 abbrev pub batch_of : Plan → ℕ → ℕ → Mail
-batch_of p t l = Batch t (batch_mail p l t)
+batch_of p t l = sent t (batch_mail p l t) (room_of p t l)
 
 -- what an in-link knows of those who left it before the transfer of step t, and after it
 abbrev pub left_before : Plan → ℕ → ℕ → List ℕ
@@ -143,19 +156,17 @@ left_after p n t l =
 -- and out-links
 unfoldable pub cell_before : Plan → ℕ → ℕ → (ℕ → Mail) → (ℕ → Mail) → CellState
 cell_before p n t in_mail out_mail = record {
-  ins = map (in_link p n t (line_before p t) (left_before p t) in_mail) (ins p n);
+  ins = map (in_link p n (line_before p t) (left_before p t) in_mail) (ins p n);
   outs = map (out_link p t (waiting_before p t) out_mail) (outs p n);
   arrived = arrived_before p n t;
-  delta = p.delta;
 }
 
 -- the cell of node n after the transfer of step t
 unfoldable pub cell_after : Plan → ℕ → ℕ → (ℕ → Mail) → (ℕ → Mail) → CellState
 cell_after p n t in_mail out_mail = record {
-  ins = map (in_link p n (suc t) (line_after p n t) (left_after p n t) in_mail) (ins p n);
+  ins = map (in_link p n (line_after p n t) (left_after p n t) in_mail) (ins p n);
   outs = map (out_link p (suc t) (waiting_after p n t) out_mail) (outs p n);
   arrived = arrived_before p n (suc t);
-  delta = p.delta;
 }
 
 -- the stages of a cell and of a mail as numbers: stage 2 t is before the transfer of step t, and
@@ -170,7 +181,7 @@ cell_at p n stage =
     (cell_before p n (stage / 2) away away)
     (cell_after p n (stage / 2) away away)
 
--- the mail of link l at a stage: its room, or its batch
+-- the mail of link l at a stage
 unfoldable pub mail_at : Plan → ℕ → ℕ → Mail
 mail_at p l stage = cond (is_before stage) (room_of p (stage / 2) l) (batch_of p (stage / 2) l)
 

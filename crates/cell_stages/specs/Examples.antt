@@ -1,7 +1,7 @@
 -- Small worked cases of the definitions.
-use Rattle.capacity_credits.specs.Meter.{MeterState}
+use Rattle.capacity_credits.specs.Meter.{MeterState, unopened}
 use Rattle.net_core.specs.Rates.{steady}
-use Rattle.std.specs.Prelude.{◌≡◌, ℕ, List, ◌∷◌, [], None, Some, false, map, refl}
+use Rattle.std.specs.Prelude.{◌≡◌, ℕ, List, ◌∷◌, [], None, Some, map, refl}
 use Rattle.dta_model.specs.Examples.{a_wave_frees_room, room_at_the_start_of_the_step, trip}
 use Rattle.dta_model.specs.Examples.{two_links_in_a_line}
 use Rattle.dta_model.specs.Riders.{RiderState}
@@ -11,7 +11,7 @@ use Rattle.cell_stages.specs.Contents.{away, batch_of, cell_after, cell_at, cell
 use Rattle.cell_stages.specs.Contents.{left_after, left_before, room_of, waiting_parts}
 use Rattle.cell_stages.specs.OnLiterals.{stages_on_literals}
 use Rattle.cell_stages.specs.Stages.{line_before, line_after, room_mail, batch_mail}
-use Rattle.cell_stages.specs.declared.mail.Mail.TheVariants.{Away}
+use Rattle.cell_stages.specs.declared.mail.Mail.TheVariants.{Away, Batch, Room}
 
 -- two riders before their first link, who depart at steps 3 and 4
 abbrev waiting : ℕ → ℕ → RiderState
@@ -49,6 +49,16 @@ room_of_the_step : room_mail two_links_in_a_line 1 15 ≡ None
 unfolding stages_on_literals trip two_links_in_a_line
 room_of_the_step = refl
 
+-- the mail of the second link tells its room since the start, until somebody enters the link
+room_since_the_start : room_of two_links_in_a_line 2 1 ≡ Room 0 None
+unfolding room_of stages_on_literals trip two_links_in_a_line
+room_since_the_start = refl
+
+-- and that of the first one has the vehicle that enters it in step 5
+sent_in_step_five : batch_of two_links_in_a_line 5 0 ≡ Batch 5 (first_rider (5 ∷ []) ∷ [])
+unfolding room_of stages_on_literals trip two_links_in_a_line
+sent_in_step_five = refl
+
 -- stages 0 and 3 of a cell, and stages 4 and 5 of a mail
 nothing_is_done : (p : Plan) (n : ℕ) → cell_at p n 0 ≡ cell_before p n 0 away away
 unfolding cell_at
@@ -66,14 +76,9 @@ batch_of_step_two : (p : Plan) (l : ℕ) → mail_at p l 5 ≡ batch_of p 2 l
 unfolding mail_at
 batch_of_step_two p l = refl
 
--- 600 vehicles an hour in steps of six seconds are one a step
+-- 600 vehicles an hour in steps of six seconds
 abbrev middle_meter : MeterState
-middle_meter = record {
-  rates = steady (Some 600000000);
-  carried = 0;
-  left = 0;
-  unlimited = false;
-}
+middle_meter = unopened 6 (steady (Some 600000000))
 
 -- the middle node of two links in a line in step 15, when the first vehicle goes from one link to
 -- the other
@@ -98,7 +103,6 @@ middle_cell line = record {
     mail = Away;
   } ∷ [];
   arrived = [];
-  delta = 6;
 }
 
 before_the_transfer : cell_before two_links_in_a_line 1 15 away away

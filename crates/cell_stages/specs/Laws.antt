@@ -1,11 +1,14 @@
 -- What is true of the contents of cells and of mail at each stage.
 use Rattle.std.specs.Prelude.{◌≡◌, ℕ, suc, ◌<◌, ◌+◌, ◌-◌, ◌*◌, ◌∷◌, length, option_map, sum, take}
+use Rattle.std.specs.Prelude.{Option}
 use Rattle.dta_model.specs.Plans.{link_at}
 use Rattle.dta_model.specs.Sound.{IsSound}
 use Rattle.dta_model.specs.declared.plan.Plan.{Plan}
 use Rattle.cell_stages.specs.Contents.{away, batch_of, cell_after, cell_at, cell_before, mail_at}
 use Rattle.cell_stages.specs.Contents.{left_after, left_before, room_of, storage_by}
 use Rattle.cell_stages.specs.Stages.{line_after, line_before, room_mail}
+use Rattle.cell_stages.specs.declared.mail.Mail.{Mail}
+use Rattle.cell_stages.specs.declared.mail.Mail.TheVariants.{Room}
 
 -- the two stages of a step: before its transfers, and after them
 pub record StageBefore (p : Plan) (t : ℕ) : Type 0 where
@@ -42,3 +45,11 @@ RoomsAddUp =
     → room_mail p l t
     ≡ option_map (λ storage. storage - (length (line_before p t l) + sum (left_before p t l)))
     (storage_by p.queue (link_at p l).storage)
+
+-- a mail tells a room, since some step
+abbrev pub TellsRoom : Option ℕ → Mail → Type 0
+TellsRoom room mail = (s : ℕ) × (mail ≡ Room s room)
+
+-- before each step the mail of a link tells its room
+abbrev pub RoomsAreTold : Type 0
+RoomsAreTold = (p : Plan) (t l : ℕ) → TellsRoom (room_mail p l t) (room_of p t l)

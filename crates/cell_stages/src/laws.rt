@@ -1,6 +1,6 @@
 // Laws of what cells hold. Each is the contract of a function that does nothing.
 ghost use Rattle.cell_stages.specs.HandOver.{NodesHoldAll};
-ghost use Rattle.cell_stages.specs.Laws.{LeavingsPass, LeavingsStay, RoomsAddUp};
+ghost use Rattle.cell_stages.specs.Laws.{LeavingsPass, LeavingsStay, RoomsAddUp, RoomsAreTold};
 ghost use Rattle.cell_stages.specs.Laws.{StepsHaveTwoStages};
 ghost use Rattle.cell_stages.specs.OnePass.{OnePassIsEnough};
 ghost use Rattle.cell_stages.specs.Transfers.{FirstWaits, HeadsOfLines, LinesGather, MovesCount};
@@ -81,4 +81,9 @@ pub fn leavings_pass()
 /// left it lately.
 pub fn rooms_add_up()
     ensures { RoomsAddUp }
+{}
+
+/// Before each step the mail of a link tells its room.
+pub fn rooms_are_told()
+    ensures { RoomsAreTold }
 {}

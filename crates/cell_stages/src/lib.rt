@@ -19,8 +19,8 @@ pub use exit::Exit;
 pub use in_link::InLink;
 pub use laws::{
     heads_of_lines, leavings_pass, leavings_stay, lines_gather, moves_count, moves_pass,
-    nodes_hold_all, one_pass_is_enough, riders_move, riders_tell, rooms_add_up, routes_lead_on,
-    steps_have_two_stages, the_first_waits, waiting_lines_stay,
+    nodes_hold_all, one_pass_is_enough, riders_move, riders_tell, rooms_add_up, rooms_are_told,
+    routes_lead_on, steps_have_two_stages, the_first_waits, waiting_lines_stay,
 };
 pub use mail::Mail;
 pub use out_link::{OutLink, Waiting};

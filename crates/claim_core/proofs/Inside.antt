@@ -14,6 +14,7 @@ use Rattle.dta_model.specs.declared.machine.Stage.TheVariants as stage
 use Rattle.cell_stages.specs.CellState.{CellState}
 use Rattle.cell_stages.specs.Contents.{cell_at, mail_at}
 use Rattle.cell_stages.specs.declared.mail.Mail.{Mail}
+use Rattle.node_transfer.proofs.OfMail.Sets.{count-set}
 use Rattle.claim_core.specs.Machine.{AreReached, IsMachine}
 use Rattle.claim_core.specs.Parts.{done_in, moves, stage_in, stage_of}
 use Rattle.claim_core.specs.Sums.{is_at}
@@ -23,11 +24,6 @@ use Rattle.claim_core.proofs.Cuts.{below_same}
 use Rattle.claim_core.proofs.Effects.{kept_of}
 use Rattle.claim_core.proofs.Ended.{drawn_most}
 use Rattle.claim_core.proofs.Events.{Kept, done_same, done_stays}
-
-set_count : (xs : List Stage) (i : ℕ) (x : Stage) → length (slice_set xs i x) ≡ length xs
-set_count [] i x = refl
-set_count (y ∷ xs) zero x = refl
-set_count (y ∷ xs) (suc i) x = ap (λ k. suc k) (set_count xs i x)
 
 module _ (p : Plan) (s : Claims) (k : Kept p s) where
   -- a claim and an open finish nothing
@@ -66,8 +62,8 @@ module _ (p : Plan) (s : Claims) where
   claim_count w (Some stage.Idle) = by (nat_lt s.drawn (unit_count p))
     where
       by : (b : Bool) → length (cond {A = Effect} b (record { claims = record (with_stage s w (stage.Held s.drawn)) { drawn = suc s.drawn }; outcome = outcomes.Given s.drawn }) (record { claims = record (with_stage s w stage.Ended) { drawn = suc s.drawn }; outcome = outcomes.Over s.drawn })).claims.stages ≡ length s.stages
-      by true = set_count s.stages w (stage.Held s.drawn)
-      by false = set_count s.stages w stage.Ended
+      by true = count-set s.stages w (stage.Held s.drawn)
+      by false = count-set s.stages w stage.Ended
   claim_count w (Some (stage.Held c)) = refl
   claim_count w (Some (stage.Open c)) = refl
   claim_count w (Some stage.Ended) = refl
@@ -78,7 +74,7 @@ module _ (p : Plan) (s : Claims) where
   open_count w (Some (stage.Held c)) = by (may_open p s c)
     where
       by : (b : Bool) → length (cond {A = Effect} b (record { claims = with_stage s w (stage.Open c); outcome = outcomes.Done }) (record { claims = s; outcome = outcomes.NotYet (finished p s) })).claims.stages ≡ length s.stages
-      by true = set_count s.stages w (stage.Open c)
+      by true = count-set s.stages w (stage.Open c)
       by false = refl
   open_count w (Some (stage.Open c)) = refl
   open_count w (Some stage.Ended) = refl
@@ -87,7 +83,7 @@ module _ (p : Plan) (s : Claims) where
   finish_count w None = refl
   finish_count w (Some stage.Idle) = refl
   finish_count w (Some (stage.Held c)) = refl
-  finish_count w (Some (stage.Open c)) = set_count s.stages w stage.Idle
+  finish_count w (Some (stage.Open c)) = count-set s.stages w stage.Idle
   finish_count w (Some stage.Ended) = refl
 
   step_count : (e : Event) → length (step_machine p s e).stages ≡ length s.stages

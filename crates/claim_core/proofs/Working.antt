@@ -15,6 +15,7 @@ use Rattle.cell_stages.specs.Contents.{IsStep, away, batch_of, cell_after, cell_
 use Rattle.node_transfer.specs.Exchange.{AreMail, ArePut, is_among}
 use Rattle.cell_stages.specs.declared.mail.Mail.{Mail}
 use Rattle.node_transfer.proofs.OfMail.Parts.{ins-among, ins-member, outs-among, outs-member}
+use Rattle.node_transfer.proofs.OfMail.Sets.{count-set, set-here, set-other}
 use Rattle.cell_stages.proofs.TwoStages.{steps_have_two_stages}
 use Rattle.claim_core.specs.Kinds.{kind_by}
 use Rattle.claim_core.specs.Parts.{moves, stage_before}
@@ -49,23 +50,6 @@ one_is false h = cc
 at_self : (y : ℕ) → is_at y y ≡ 1
 at_self y = grind (arith, nat_tests)
 
-set_here : {A : Type 0} (xs : List A) (i : ℕ) (x : A) → i < length xs → slice_get (slice_set xs i x) i ≡ Some x
-set_here [] i x h = absurd (omega (arith, h))
-set_here (y ∷ xs) zero x h = refl
-set_here (y ∷ xs) (suc i) x h = set_here xs i x (omega (arith, h))
-
-set_else : {A : Type 0} (xs : List A) (i j : ℕ) (x : A) → j ≢ i → slice_get (slice_set xs i x) j ≡ slice_get xs j
-set_else [] i j x h = refl
-set_else (y ∷ xs) zero zero x h = absurd (h refl)
-set_else (y ∷ xs) zero (suc j) x h = refl
-set_else (y ∷ xs) (suc i) zero x h = refl
-set_else (y ∷ xs) (suc i) (suc j) x h = set_else xs i j x (λ e. h (ap (λ k. suc k) e))
-
-set_count : {A : Type 0} (xs : List A) (i : ℕ) (x : A) → length (slice_set xs i x) ≡ length xs
-set_count [] i x = refl
-set_count (y ∷ xs) zero x = refl
-set_count (y ∷ xs) (suc i) x = ap (λ k. suc k) (set_count xs i x)
-
 module _ (p : Plan) (c a : ℕ) (links : List ℕ) (s : ℕ) (m : IsOfNode p c a links s) (cells : List CellState) (mail : List Mail) (r : AreReady p c (record { cells = cells; mail = mail })) where
   pub cell_inside : a < length cells
   cell_inside = omega (arith, r.counted.cells, m.node)
@@ -82,12 +66,12 @@ module _ (p : Plan) (c a : ℕ) (links : List ℕ) (s : ℕ) (m : IsOfNode p c a
       → length mail' ≡ length mail → ((l : ℕ) → is_among links l ≡ false → slice_get mail' l ≡ slice_get mail l)
       → AreMoved p c (record { cells = cells; mail = mail }) (record { cells = slice_set cells a cell; mail = mail' })
   parts_moved cell mail' e own count others = record {
-    counted = record { cells = set_count cells a cell ∙ r.counted.cells; mail = count ∙ r.counted.mail };
+    counted = record { cells = count-set cells a cell ∙ r.counted.cells; mail = count ∙ r.counted.mail };
     cells = λ n h one. (let same : n ≡ a = at_is n a (omega (arith, one, m.cell_moves n h)) in
         subst (λ (x : ℕ). slice_get (slice_set cells a cell) x ≡ Some (cell_at p x (suc (stage_before p c x)))) (sym same)
-        (set_here cells a cell cell_inside ∙ ap (λ y. Some y) (e ∙ ap (λ k. cell_at p a (suc k)) (sym (m.cell_stage a m.node)))));
+        (set-here cells a cell cell_inside ∙ ap (λ y. Some y) (e ∙ ap (λ k. cell_at p a (suc k)) (sym (m.cell_stage a m.node)))));
     mail = λ l h one. own l (is_one (is_among links l) (omega (arith, one, m.mail_moves l h))) ∙ ap (λ k. Some (mail_at p l (suc k))) (sym (m.mail_stage l h));
-    other_cells = λ n h zero_moves. set_else cells a n cell (λ same. (let one : is_at n a ≡ 1 = ap (λ x. is_at x a) same ∙ at_self a in absurd (omega (arith, zero_moves, m.cell_moves n h, one))));
+    other_cells = λ n h zero_moves. set-other cells a n cell (λ same. (let one : is_at n a ≡ 1 = ap (λ x. is_at x a) same ∙ at_self a in absurd (omega (arith, zero_moves, m.cell_moves n h, one))));
     other_mail = λ l h zero_moves. others l (is_zero (is_among links l) (omega (arith, zero_moves, m.mail_moves l h)));
   }
 

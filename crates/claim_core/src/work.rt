@@ -7,8 +7,8 @@ ghost use Rattle.std.specs.Prelude.{◌≡◌, ◌<◌};
 
 use crate::units::{UnitKind, Units};
 use dta_model::Loading;
-use node_transfer::exchange::{gather_unit, transfer_unit};
-use node_transfer::{Mail, NodeCell};
+use node_transfer::exchange::do_half;
+use node_transfer::{Half, HalfStep, Mail, NodeCell};
 
 /// Takes the parts of a unit to their next stage. A posting moves none.
 pub(crate) fn do_work(loading: &Loading, number: u64, cells: &mut [NodeCell], mail: &mut [Mail])
@@ -24,10 +24,22 @@ pub(crate) fn do_work(loading: &Loading, number: u64, cells: &mut [NodeCell], ma
     let step = units.step_of(number);
     match units.kind_of(number) {
         UnitKind::Transfer(node) => {
-            transfer_unit(loading, node, step, &mut cells[node.0 as usize], mail);
+            let half = Half::Transfer;
+            do_half(
+                loading,
+                HalfStep { half, node, step },
+                &mut cells[node.0 as usize],
+                mail,
+            );
         }
         UnitKind::Gather(node) => {
-            gather_unit(loading, node, step, &mut cells[node.0 as usize], mail);
+            let half = Half::Gather;
+            do_half(
+                loading,
+                HalfStep { half, node, step },
+                &mut cells[node.0 as usize],
+                mail,
+            );
         }
         UnitKind::Posting => {}
     }

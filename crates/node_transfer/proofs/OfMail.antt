@@ -7,4 +7,5 @@ pub mod MailPlaces
 pub mod Puts
 pub mod Exchanges
 pub mod Lending
+pub mod Halves
 pub mod Finished

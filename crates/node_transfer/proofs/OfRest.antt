@@ -1,5 +1,4 @@
 -- Nodes at which nobody moves.
 pub mod Quiet
 pub mod Idle
-pub mod Rested
 pub mod Ready

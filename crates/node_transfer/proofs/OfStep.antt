@@ -5,7 +5,6 @@ pub mod Passes
 pub mod Crossings
 pub mod Steps
 pub mod ByKey
-pub mod Later
 pub mod Mid
 pub mod Left
 pub mod HeadActions
@@ -18,5 +17,6 @@ pub mod InPass
 pub mod OutPass
 pub mod Due
 pub mod Transfer
+pub mod MailLines
 pub mod Gather
 pub mod Totals

@@ -1,16 +1,12 @@
 -- Small worked cases of the definitions.
-use Rattle.net_core.specs.Rates.{last_begun, steady}
-use Rattle.std.specs.Prelude.{◌≡◌, ℕ, List, ◌∷◌, [], None, Some, false, refl}
+use Rattle.std.specs.Prelude.{◌≡◌, ℕ, ◌∷◌, [], None, Some, refl}
 use Rattle.dta_model.specs.Riders.{RiderState}
-use Rattle.cell_stages.specs.CellState.{CellState}
 use Rattle.cell_stages.specs.Contents.{away}
 use Rattle.node_transfer.specs.Gathered.{room_after}
 use Rattle.node_transfer.specs.Hand.{handed}
 use Rattle.node_transfer.specs.Laws.{put_mail}
 use Rattle.node_transfer.specs.Inside.Outs.{released}
-use Rattle.node_transfer.specs.Rest.{rested}
 use Rattle.node_transfer.specs.Start.{no_journey, no_journeys}
-use Rattle.cell_stages.specs.declared.in_link.InLink.{InLink}
 use Rattle.cell_stages.specs.declared.mail.Mail.TheVariants.{Away, Room}
 use Rattle.node_transfer.specs.declared.counts.TheConstants.{MOST_COUNT}
 
@@ -41,36 +37,6 @@ at_seven = refl
 
 not_at_six : put_mail 7 (Room 2 None) away 6 ≡ Away
 not_at_six = refl
-
--- an in-link of 500 vehicles an hour, with what its credit carries and those who left it in the
--- last steps, and a cell of it alone
-abbrev link_with : ℕ → List ℕ → InLink
-link_with carried left = record {
-  line = waiting 0 3 ∷ [];
-  left = left;
-  exit = record {
-    free = 2;
-    outflow = record {
-      rates = steady (Some 500000000);
-      carried = carried;
-      left = 0;
-      unlimited = false;
-    };
-    turns = [];
-  };
-  storage = None;
-  mail = Away;
-}
-
-abbrev cell_with : ℕ → List ℕ → CellState
-cell_with carried left =
-    record { ins = link_with carried left ∷ []; outs = []; arrived = []; delta = 6 }
-
--- in two steps of six seconds ten sixths of a vehicle come: a whole one, which is lost, and four
--- sixths, which are carried. Those who left two steps before are no longer known
-two_steps_go_by : rested 2 (cell_with 0 (1 ∷ 0 ∷ 2 ∷ [])) ≡ cell_with 2400000000 (0 ∷ 0 ∷ 1 ∷ [])
-unfolding rested last_begun
-two_steps_go_by = refl
 
 -- beside a line of one and three who left lately a storage of ten leaves a room of six, and one of
 -- two no room

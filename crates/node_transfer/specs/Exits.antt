@@ -6,15 +6,15 @@ use Rattle.cell_stages.specs.declared.exit.Exit.{Exit}
 
 -- a turn that is granted its allowance of a step, and one whose step is over
 abbrev pub opened_turn : ℕ → LimitedTurn → LimitedTurn
-opened_turn delta t = record t { limit = option_map (granted delta) t.limit }
+opened_turn step t = record t { limit = option_map (granted step) t.limit }
 
 abbrev pub closed_turn : LimitedTurn → LimitedTurn
 closed_turn t = record t { limit = option_map closed t.limit }
 
 -- an exit at the start of a step, with its allowances granted, and one whose step is over
 abbrev pub opened_exit : ℕ → Exit → Exit
-opened_exit delta g =
-    record g { outflow = granted delta g.outflow; turns = map (opened_turn delta) g.turns }
+opened_exit step g =
+    record g { outflow = granted step g.outflow; turns = map (opened_turn step) g.turns }
 
 abbrev pub closed_exit : Exit → Exit
 closed_exit g = record g { outflow = closed g.outflow; turns = map closed_turn g.turns }

@@ -3,6 +3,7 @@ use Rattle.std.specs.Prelude.{ℕ, ◌+◌, ◌-◌, List, [], ◌++◌, length,
 use Rattle.std.specs.List.{sum}
 use Rattle.dta_model.specs.Riders.{RiderState}
 use Rattle.cell_stages.specs.CellState.{CellState}
+use Rattle.cell_stages.specs.Contents.{told}
 use Rattle.cell_stages.specs.declared.mail.Mail.{Mail}
 use Rattle.cell_stages.specs.declared.mail.Mail.TheVariants.{Away, Room, Batch}
 use Rattle.cell_stages.specs.declared.in_link.InLink.{InLink}
@@ -18,10 +19,16 @@ mail_line (Batch s line) = line
 abbrev pub room_after : Option ℕ → List RiderState → List ℕ → Option ℕ
 room_after storage line left = option_map (λ s. s - (length line + sum left)) storage
 
+-- the room that an in-link leaves
+abbrev pub room_on : InLink → Option ℕ
+room_on link = room_after link.storage link.line link.left
+
 -- an in-link with this line, and the room that it leaves told for the next step
 abbrev pub with_batch : ℕ → InLink → List RiderState → InLink
-with_batch step link line =
-    record link { line = line; mail = Room (step + 1) (room_after link.storage line link.left) }
+with_batch step link line = record link {
+  line = line;
+  mail = told (step + 1) (room_after link.storage line link.left) link.mail;
+}
 
 -- those that came stand last, and the room for the next step is told
 abbrev pub gathered_link : ℕ → InLink → InLink

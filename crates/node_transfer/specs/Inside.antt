@@ -4,6 +4,5 @@ pub mod Pass
 pub mod Outs
 pub mod Cells
 pub mod Counted
-pub mod Skip
 pub mod StartLines
 pub mod StartCells

@@ -7,5 +7,6 @@ pub mod Counts
 pub mod Rest
 pub mod Laws
 pub mod Exchange
+pub mod Halves
 pub mod Inside
 pub mod Examples

@@ -1,35 +1,16 @@
 -- A node at which nobody moves.
 use Rattle.dta_model.specs.Plans.{link_at}
-use Rattle.cell_stages.specs.Stages.{batch_mail, room_mail}
+use Rattle.cell_stages.specs.Stages.{batch_mail, line_after}
+use Rattle.node_transfer.specs.Gathered.{room_after}
 use Rattle.dta_model.specs.declared.plan.Plan.{Plan}
 use Rattle.cell_stages.specs.CellState.{CellState}
-use Rattle.cell_stages.specs.Contents.{IsStep, away, cell_after, cell_before}
-use Rattle.capacity_credits.specs.Meter.{closed, granted}
-use Rattle.node_transfer.specs.Exits.{closed_exit, opened_exit}
+use Rattle.cell_stages.specs.Contents.{IsStep, away, batch_of, cell_after, cell_before, left_after}
+use Rattle.cell_stages.specs.Contents.{room_of, storage_by, tells}
 use Rattle.cell_stages.specs.declared.in_link.InLink.{InLink}
 use Rattle.cell_stages.specs.declared.out_link.OutLink.{OutLink}
-use Rattle.link_queues.specs.Leavings.{pushed}
 use Rattle.std.specs.List.{last_or, sum}
-use Rattle.std.specs.Prelude.{◌≡◌, ℕ, zero, suc, ◌+◌, ◌<◌, [], All, IfSome, None, length, map}
+use Rattle.std.specs.Prelude.{◌≡◌, ℕ, suc, ◌+◌, ◌<◌, [], All, IfSome, None, length, true}
 use Rattle.std.specs.Prelude.{slice_get}
-
--- a link whose allowances of one step of delta seconds were granted, and are lost, and which nobody
--- left
-abbrev pub rested_in : ℕ → InLink → InLink
-rested_in delta link =
-    record link { left = pushed 0 link.left; exit = closed_exit (opened_exit delta link.exit) }
-
-abbrev pub rested_out : ℕ → OutLink → OutLink
-rested_out delta o = record o { inflow = closed (granted delta o.inflow) }
-
--- the cell after one step in which nobody moves, and after so many
-abbrev pub rested_once : CellState → CellState
-rested_once s =
-    record s { ins = map (rested_in s.delta) s.ins; outs = map (rested_out s.delta) s.outs }
-
-unfoldable pub rested : ℕ → CellState → CellState
-rested zero s = s
-rested (suc steps) s = rested_once (rested steps s)
 
 -- the head of a line is on its link until after a step
 abbrev pub HeadIsLater : ℕ → InLink → Type 0
@@ -57,19 +38,37 @@ abbrev pub NobodyComes : Plan → ℕ → ℕ → Type 0
 NobodyComes p n t =
     (l : ℕ) → l < length p.net.links → (link_at p l).to.0 ≡ n → batch_mail p l t ≡ []
 
--- a step in which nobody moves at a node
+-- a step in which nobody moves at a node: its cell stays as it is
 pub record IsIdle (p : Plan) (n t : ℕ) : Type 0 where
-  pub after : cell_after p n t away away ≡ rested_once (cell_before p n t away away)
+  pub after : cell_after p n t away away ≡ cell_before p n t away away
   pub batches : (b : ℕ) → b < length p.net.links → (link_at p b).from.0 ≡ n → batch_mail p b t ≡ []
-  -- and where nobody comes either, its links keep their rooms
+  -- and where nobody comes either, the mail of its in-links stays as it is
   pub rooms : NobodyComes p n t
       → (l : ℕ) → l < length p.net.links → (link_at p l).to.0 ≡ n
-      → room_mail p l (suc t) ≡ room_mail p l t
+      → room_of p (suc t) l ≡ room_of p t l
+
+-- after the transfer of a step the mail of each in-link of node n tells the room that the link
+-- leaves
+abbrev pub AreTold : Plan → ℕ → ℕ → Type 0
+AreTold p n t =
+    (l : ℕ) → l < length p.net.links → (link_at p l).to.0 ≡ n
+    → tells
+    (room_after (storage_by p.queue (link_at p l).storage) (line_after p n t l)
+    (left_after p n t l))
+    (batch_of p t l)
+    ≡ true
+
+-- nobody comes, and the gather of a step changes no mail
+pub record IsGathered (p : Plan) (n t : ℕ) : Type 0 where
+  pub nobody : NobodyComes p n t
+  pub rooms : (l : ℕ) → l < length p.net.links → (link_at p l).to.0 ≡ n
+      → room_of p (suc t) l ≡ batch_of p t l
 
 -- where nobody is ready nobody moves, and where nobody comes the gather of a step changes nothing
 pub record StaysIdle (p : Plan) (n t : ℕ) : Type 0 where
   pub quiet : IsQuiet t (cell_before p n t away away) → IsIdle p n t
   pub gather : NobodyComes p n t → cell_before p n (suc t) away away ≡ cell_after p n t away away
+  pub told : AreTold p n t → IsGathered p n t
 
 -- so it is at each node in each step
 abbrev pub QuietNodesStayIdle : Type 0

@@ -5,24 +5,27 @@ ghost use Rattle.dta_model.specs.State.{count_on};
 ghost use Rattle.dta_model.specs.declared.plan.Plan.{Plan};
 ghost use Rattle.node_transfer.specs.Places.{in_mail, out_mail, with_in_mail, with_out_mail};
 ghost use Rattle.cell_stages.specs.Contents.{IsStep, away, batch_of, cell_after, cell_before};
-ghost use Rattle.cell_stages.specs.Contents.{room_of};
+ghost use Rattle.cell_stages.specs.Contents.{room_of, tells};
 ghost use Rattle.node_transfer.specs.Counts.{counts_at};
+ghost use Rattle.node_transfer.specs.Halves.{half_after, half_before, mail_after, mail_before};
+ghost use Rattle.node_transfer.specs.Halves.{mail_in, with_mail};
+ghost use Rattle.node_transfer.specs.Gathered.{room_on};
 ghost use Rattle.node_transfer.specs.Hand.{Within, handed, riders_in};
 ghost use Rattle.dta_model.specs.Sound.{IsSound};
-ghost use Rattle.node_transfer.specs.Rest.{IsQuiet, rested};
+ghost use Rattle.node_transfer.specs.Rest.{IsQuiet};
 ghost use Rattle.node_transfer.specs.declared.rest.TheConstants.{NO_STEP};
 ghost use Rattle.std.specs.Prelude.{◌≡◌, ℕ, suc, ◌<◌, ◌≤◌, [], All, length, slice_get, IfOk};
-ghost use Rattle.std.specs.Prelude.{IfSome, Some};
+ghost use Rattle.std.specs.Prelude.{IfSome, IsSome, Some};
 
+use crate::Half;
 use crate::counts::count_parts;
 use crate::hand_over::hand_parts;
 use crate::mail::{put_in_mail, put_out_mail, swap_in_mail, swap_out_mail};
-use crate::rest::{first_step, rest_links};
-use crate::step::in_link::gather_links;
+use crate::rest::first_step;
+use crate::step::in_link::{gather_links, is_told_by};
 use crate::step::transfer::transfer_links;
 use cell_stages::{InLink, Mail, OutLink};
 use dta_model::Loaded;
-use fixed_units::MOST_STEP;
 use link_queues::Line;
 use net_core::Memory;
 use std::alloc::Global;
@@ -36,7 +39,7 @@ pub struct CellCounts {
     pub arrived: u64,
 }
 
-/// One node's links, riders and credits. It is one pointer to move.
+/// One node's links and riders. It is one pointer to move.
 #[derive(Drop)]
 pub struct NodeCell {
     parts: Box<Parts>,
@@ -48,12 +51,9 @@ struct Parts {
     ins: Vec<InLink>,
     outs: Vec<OutLink>,
     arrived: Line,
-    delta: u32,
 }
 
 impl Model for NodeCell {
-    ghost use Rattle.fixed_units.specs.declared.link.TheConstants.{MOST_STEP};
-    ghost use Rattle.std.specs.Prelude.{◌≤◌};
     ghost use Rattle.cell_stages.specs.CellState.{CellState};
 
     ghost Value = { CellState };
@@ -62,40 +62,22 @@ impl Model for NodeCell {
       ins = c.parts.value.ins.items;
       outs = c.parts.value.outs.items;
       arrived = c.parts.value.arrived;
-      delta = c.parts.value.delta;
     } };
-
-    ghost invariant = { λ c. c.parts.value.delta ≤ MOST_STEP };
 }
 
 impl NodeCell {
     // A cell of these links, where nobody has arrived.
-    pub(crate) fn of(
-        alloc: Global,
-        ins: Vec<InLink>,
-        outs: Vec<OutLink>,
-        delta: u32,
-    ) -> Result<Self, Memory>
-        requires { delta ≤ MOST_STEP }
+    pub(crate) fn of(alloc: Global, ins: Vec<InLink>, outs: Vec<OutLink>) -> Result<Self, Memory>
         ensures { IfOk result
-            (λ cell. cell
-            ≡ record { ins = ins.items; outs = outs.items; arrived = []; delta = delta }) }
+            (λ cell. cell ≡ record { ins = ins.items; outs = outs.items; arrived = [] }) }
     {
         let arrived = Line::new(alloc);
-        let parts = Box::new(
-            alloc,
-            Parts {
-                ins,
-                outs,
-                arrived,
-                delta,
-            },
-        )?;
+        let parts = Box::new(alloc, Parts { ins, outs, arrived })?;
         Ok(NodeCell { parts })
     }
 
-    /// Moves the vehicles of a step. The mail of each out-link is the room of that step, and
-    /// becomes the batch of it.
+    /// Moves the vehicles of a step. The mail of each out-link tells the room of that step, and
+    /// becomes the batch of it where somebody enters the link.
     pub fn transfer(&mut self, step: u32)
         requires { (p : Plan) × (n : ℕ) × IsStep p n step
             × (self.old ≡ cell_before p n step away (room_of p step)) }
@@ -104,17 +86,11 @@ impl NodeCell {
             → self.new ≡ cell_after p n step away (batch_of p step) }
     {
         let parts = &mut *self.parts;
-        transfer_links(
-            &mut parts.ins,
-            &mut parts.outs,
-            &mut parts.arrived,
-            parts.delta,
-            step,
-        );
+        transfer_links(&mut parts.ins, &mut parts.outs, &mut parts.arrived, step);
     }
 
     /// Puts those who come in a step last on their links. The mail of each in-link is the batch of
-    /// that step, and becomes the room of the next one.
+    /// that step where somebody comes, and tells the room of the next one then.
     pub fn gather(&mut self, step: u32)
         requires { (p : Plan) × (n : ℕ) × IsStep p n step
             × (self.old ≡ cell_after p n step (batch_of p step) away) }
@@ -125,14 +101,18 @@ impl NodeCell {
         gather_links(&mut self.parts.ins, step);
     }
 
-    /// Lets so many steps go by in which nobody moves: their allowances are granted, and lost, and
-    /// those who left before are forgotten step by step.
-    #[inline(always)]
-    pub fn rest(&mut self, steps: u32)
-        ensures { self.new ≡ rested steps self.old }
+    /// Does a half of a step. The mail of its links is what that takes, and becomes what it leaves.
+    pub fn work(&mut self, half: Half, step: u32)
+        requires { (p : Plan) × (n : ℕ) × IsStep p n step
+            × (self.old ≡ half_before half p n step (mail_before half p step)) }
+        ensures { (p : Plan) (n : ℕ) → IsStep p n step
+            → self.old ≡ half_before half p n step (mail_before half p step)
+            → self.new ≡ half_after half p n step (mail_after half p step) }
     {
-        let parts = &mut *self.parts;
-        rest_links(&mut parts.ins, &mut parts.outs, parts.delta, steps);
+        match half {
+            Half::Transfer => self.transfer(step),
+            Half::Gather => self.gather(step),
+        }
     }
 
     /// The first step in which somebody of the cell is ready, unless somebody comes: the head of an
@@ -181,6 +161,38 @@ impl NodeCell {
         ensures away { self.new ≡ with_in_mail place Mail.Away self.old }
     {
         swap_in_mail(&mut self.parts.ins, place)
+    }
+
+    /// Fills the place of a link's mail that a half takes.
+    pub fn take(&mut self, half: Half, place: usize, mail: Mail)
+        requires { mail_in half place self.old ≡ Some Mail.Away }
+        ensures { self.new ≡ with_mail half place mail self.old }
+    {
+        match half {
+            Half::Transfer => self.take_out(place, mail),
+            Half::Gather => self.take_in(place, mail),
+        }
+    }
+
+    /// Takes out the mail of a link that a half leaves.
+    pub fn give(&mut self, half: Half, place: usize) -> Mail
+        requires { IsSome (mail_in half place self.old) }
+        ensures mail { mail_in half place self.old ≡ Some result }
+        ensures away { self.new ≡ with_mail half place Mail.Away self.old }
+    {
+        match half {
+            Half::Transfer => self.give_out(place),
+            Half::Gather => self.give_in(place),
+        }
+    }
+
+    /// Whether a mail tells the room that the in-link of a place leaves.
+    pub fn is_told(&self, place: usize, mail: &Mail) -> bool
+        requires { place < length self.now.ins }
+        ensures { IfSome (slice_get self.now.ins place)
+            (λ link. result ≡ tells (room_on link) mail.now) }
+    {
+        is_told_by(&self.parts.ins[place], mail)
     }
 
     /// How many vehicles are on the in-link of a place.

@@ -25,8 +25,8 @@ pub fn cells_hand_over()
     ensures { CellsHandOver }
 {}
 
-/// At a node where nobody is ready nobody moves, and where nobody comes either, its cell only
-/// rests.
+/// At a node where nobody is ready nobody moves: a transfer leaves its cell as it is, and so does a
+/// gather where nobody comes.
 pub fn quiet_nodes_stay_idle()
     ensures { QuietNodesStayIdle }
 {}

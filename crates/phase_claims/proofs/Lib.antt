@@ -1,6 +1,5 @@
 pub mod Owners
-pub mod Resting
-pub mod Rooms
+pub mod Stays
 pub mod Counts
 pub mod Steps
 pub mod Allowed

@@ -1,5 +1,5 @@
 -- The words and the views of a floor are claims of the claim machine.
-use Rattle.std.proofs.Common.{◌≡◌, ◌≢◌, ℕ, suc, ◌+◌, ◌<◌, ◌≤◌, min, Bool, true, false, List, [], ◌∷◌, map, set, refl, sym, ap, ◌∙◌, arith}
+use Rattle.std.proofs.Common.{◌≡◌, ◌≢◌, ℕ, ◌+◌, ◌≤◌, min, Bool, true, false, List, [], ◌∷◌, map, set, refl, sym, ap, ◌∙◌, arith}
 use mathlib.Core.Option.{some}
 use lib.ListN.{get_elem?}
 use Rattle.atomic_table.specs.Table.{State}
@@ -7,7 +7,6 @@ use Rattle.atomic_table.proofs.Lists.{set_else}
 use Rattle.dta_model.specs.Machine.{Claims, finished, holds_unit}
 use Rattle.dta_model.specs.Units.{node_count, phase_start, posting_part, unit_count}
 use Rattle.dta_model.specs.declared.machine.Stage.{Stage}
-use Rattle.dta_model.specs.declared.machine.Stage.TheVariants as stage
 use Rattle.claim_core.specs.Parts.{done_in, stage_of}
 use Rattle.claim_core.specs.Sums.{one_if, total}
 use Rattle.claim_core.proofs.Claimed.{open_now}
@@ -19,7 +18,7 @@ use Rattle.phase_claims.specs.declared.part.Part.{Part}
 use Rattle.phase_claims.specs.declared.view.Scope.{Scope}
 use Rattle.phase_claims.specs.declared.view.View.{View}
 use Rattle.phase_claims.specs.Laws.{AreApart, AreClaims, claims_of}
-use Rattle.phase_claims.specs.PlacesHome.{has_slot, home_of, part_at}
+use Rattle.phase_claims.specs.PlacesHome.{home_of, part_at}
 use Rattle.phase_claims.specs.Running.{EarlierArePerformed, Holds, Running}
 use Rattle.phase_claims.specs.Views.{held_by, holds, nobody, performed_by}
 use Rattle.phase_claims.proofs.Counts.{once_le}

@@ -1,8 +1,9 @@
 -- The cells of a closed floor hand over their journeys, one after another.
 use Rattle.std.specs.Prelude.{All, slice_set}
-use Rattle.std.specs.List.{flat_map, range_with_len}
-use Rattle.std.proofs.Common.{◌≡◌, ◌≢◌, Bool, lt_of_not-le, ℕ, zero, suc, ◌+◌, ◌<◌, ◌≤◌, true, false, List, [], ◌∷◌, ◌++◌, length, map, get_or, refl, sym, ap, ◌∙◌, subst, append-nil, append_assoc, arith}
-use Rattle.std.proofs.lemmas.List.{length-map}
+use Rattle.std.specs.List.{flat_map}
+use Rattle.std.proofs.Common.{◌≡◌, Bool, lt_of_not-le, ℕ, zero, suc, ◌+◌, ◌<◌, ◌≤◌, true, false, List, [], ◌∷◌, ◌++◌, length, map, get_or, refl, sym, ap, ◌∙◌, subst, append-nil, append_assoc, arith}
+use Rattle.std.proofs.lemmas.List.{get_or-set_other, length-map}
+use Rattle.std.proofs.lemmas.List.FromFn.{length-range_with_len}
 use mathlib.Core.Logic.{dite}
 use native.Mathlib.Decide.{dec_le}
 use mathlib.Core.Option.{some, some-injective}
@@ -23,10 +24,8 @@ use Rattle.net_core.proofs.Numbers.{numbers_grow}
 use Rattle.phase_claims.specs.declared.part.Part.{Part}
 use Rattle.phase_claims.specs.declared.part.Part.TheVariants.{Cell}
 use Rattle.phase_claims.specs.PlacesClosed.{AreLast, HasCell}
+use Rattle.phase_claims.proofs.PlacesRound.{same_cell}
 use Rattle.dta_model.specs.Riders.{RiderState}
-
-same_cell : (x y : CellState) → Cell x ≡ Cell y → x ≡ y
-same_cell x y e = cc
 
 handed_append : (xs ys : List RiderState) (loaded : List Journey) → handed (xs ++ ys) loaded ≡ handed ys (handed xs loaded)
 unfolding handed
@@ -66,12 +65,8 @@ module _ (p : Plan) (sound : IsSound p) where
           let count : length loaded ≡ vehicle_count p = ap (λ xs. length xs) e ∙ handed-length (flat_map riders_in (map cell_at_end (numbers_below n))) (no_journeys (vehicle_count p)) ∙ many in
           subst (λ (x : ℕ). All (Within x) (riders_in cell)) (sym count) (subst (λ (x : CellState). All (Within (vehicle_count p)) (riders_in x)) (sym cell_is) ((cells_hand_over p sound).within n p.horizon away away h))
         where
-          counted : (m a : ℕ) → length (range_with_len a m) ≡ m
-          counted zero a = refl
-          counted (suc m) a = ap (λ k. suc k) (counted m (a + 1))
-
           many : length (no_journeys (vehicle_count p)) ≡ vehicle_count p
-          many = length-map (numbers_below (vehicle_count p)) _ ∙ counted (vehicle_count p) 0
+          many = length-map (numbers_below (vehicle_count p)) _ ∙ length-range_with_len 0 (vehicle_count p)
 
       pub hands_over : (loaded loaded' : List Journey) → loaded ≡ handed_by p n → loaded' ≡ handed (riders_in cell) loaded → loaded' ≡ handed_by p (n + 1)
       hands_over loaded loaded' e now =
@@ -87,22 +82,15 @@ module _ (p : Plan) (sound : IsSound p) where
   all_handed loaded n e whole = e ∙ ap (λ x. handed_by p x) whole ∙ (cells_hand_over p sound).journeys
 
 -- one more slot is no more filled
-get_else : (fs : List Bool) (i k : ℕ) → k ≢ i → get_or (slice_set fs i false) k false ≡ get_or fs k false
-get_else [] i k ne = refl
-get_else (f ∷ fs) zero zero ne = absurd (ne refl)
-get_else (f ∷ fs) zero (suc k) ne = refl
-get_else (f ∷ fs) (suc i) zero ne = refl
-get_else (f ∷ fs) (suc i) (suc k) ne = get_else fs i k (λ e. ne (ap (λ x. suc x) e))
-
 get_here : (fs : List Bool) (i : ℕ) → get_or (slice_set fs i false) i false ≡ false
 get_here [] i = refl
 get_here (f ∷ fs) zero = refl
 get_here (f ∷ fs) (suc i) = get_here fs i
 
 pub still_filled : (fs gs : List Bool) (n len : ℕ) → gs ≡ slice_set fs n false → ((k : ℕ) → n ≤ k → k < len → get_or fs k false ≡ true) → (k : ℕ) → n + 1 ≤ k → k < len → get_or gs k false ≡ true
-still_filled fs gs n len e h k low high = ap (λ xs. get_or xs k false) e ∙ get_else fs n k (λ q. omega (arith, q, low)) ∙ h k (omega (arith, low)) high
+still_filled fs gs n len e h k low high = ap (λ xs. get_or xs k false) e ∙ get_or-set_other fs n k false false (λ q. omega (arith, q, low)) ∙ h k (omega (arith, low)) high
 
 pub no_more_filled : (fs gs : List Bool) (n : ℕ) → gs ≡ slice_set fs n false → ((k : ℕ) → k < n → get_or fs k false ≡ false) → (k : ℕ) → k < n + 1 → get_or gs k false ≡ false
 no_more_filled fs gs n e h k l = ap (λ xs. get_or xs k false) e ∙ dite (dec_le n k)
     (λ here. let same : n ≡ k = omega (arith, here, l) in subst (λ (x : ℕ). get_or (slice_set fs n false) x false ≡ false) same (get_here fs n))
-    (λ low. let low' : k < n = lt_of_not-le low in get_else fs n k (λ q. omega (arith, q, low')) ∙ h k low')
+    (λ low. let low' : k < n = lt_of_not-le low in get_or-set_other fs n k false false (λ q. omega (arith, q, low')) ∙ h k low')

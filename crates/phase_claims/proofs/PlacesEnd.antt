@@ -1,6 +1,5 @@
 -- The last state of a floor, where all passes were joined into one that holds no unit.
 use Rattle.std.proofs.Common.{◌≡◌, ◌≢◌, ℕ, zero, suc, ◌-◌, ◌*◌, ◌<◌, ◌≤◌, true, false, min, List, length, set, refl, sym, ap, ◌∙◌, subst, arith}
-use Rattle.std.proofs.lemmas.Bool.Decides.{nat_tests}
 use mathlib.Core.Option.{some, some-injective}
 use lib.ListN.{get_elem?}
 use Rattle.atomic_table.specs.Table.{State}
@@ -29,21 +28,14 @@ use Rattle.phase_claims.specs.PlacesEnd.{IsClosed, IsEarly}
 use Rattle.phase_claims.specs.PlacesHome.{has_slot, home_of, part_at, posted_in}
 use Rattle.phase_claims.specs.Running.{FitsPast, Holds, Running}
 use Rattle.phase_claims.specs.Views.{held_by, holds, nobody, performed_by, performed_count, performs, rights}
-use Rattle.phase_claims.proofs.Counts.{holds_none}
+use Rattle.phase_claims.proofs.Counts.{holds_none, once_here}
+use Rattle.phase_claims.proofs.PlacesPosted.{same_writer}
+use Rattle.phase_claims.proofs.PlacesSteps.{has_none}
 use Rattle.phase_claims.proofs.PlacesUnit.{part_cell, part_writer}
-
-once_in : (x g : ℕ) → x < g → once_below x g ≡ 1
-once_in x g h = grind (arith, nat_tests)
 
 below_one : (m : ℕ) → below m (λ x. 1) ≡ m
 below_one zero = refl
 below_one (suc m) = omega (arith, below_one m)
-
-no_slot : (p : Plan) (slot : ℕ) (s : Stage) → HoldsNoUnit s → has_slot p slot s ≡ 0
-no_slot p slot stage.Idle q = refl
-no_slot p slot (stage.Held c) q = refl
-no_slot p slot (stage.Open c) q = absurd (cc)
-no_slot p slot stage.Ended q = refl
 
 module _ (k : Scope) (s : State Part View) (h : Holds k s) (id : ℕ) (v : View) (at : get_elem? s.views id ≡ some v) (all : rights v ≡ k.passes) (free : HoldsNoUnit v.stage) where
   abbrev Q : ℕ
@@ -76,7 +68,7 @@ module _ (k : Scope) (s : State Part View) (h : Holds k s) (id : ℕ) (v : View)
   finished_is = r.performed ∙ own_total performed_count refl
 
   finished_all : h.finished ≡ g
-  finished_all = r.claimed.sum ∙ below_same (performed_by s.views) (λ x. 1) g (λ x l. done_is x ∙ once_in x g l) ∙ below_one g
+  finished_all = r.claimed.sum ∙ below_same (performed_by s.views) (λ x. 1) g (λ x l. done_is x ∙ once_here x g l) ∙ below_one g
 
   -- a pass that has ended finds all finished
   pub ended_whole : v.stage ≡ stage.Ended → Q ≤ h.finished
@@ -94,12 +86,12 @@ module _ (k : Scope) (s : State Part View) (h : Holds k s) (id : ℕ) (v : View)
     unfolding stage_of unit_count
     last_stage slot =
         below_same (λ u. moves k.plan slot u * performed_by s.views u) (moves k.plan slot) Q
-        (λ u l. ap (λ d. moves k.plan slot u * d) (own_performed u ∙ each_once u ∙ once_in u Q l) ∙ omega arith)
+        (λ u l. ap (λ d. moves k.plan slot u * d) (own_performed u ∙ each_once u ∙ once_here u Q l) ∙ omega arith)
         ∙ of_whole_steps k.plan slot k.plan.horizon
 
     home : (slot : ℕ) → slot < suc (posting_part k.plan) → get_elem? s.homes slot ≡ some (some (part_at k slot (k.plan.horizon * below (step_units (node_count k.plan)) (at_place k.plan slot))))
     home slot l =
-        let none : total (λ u. has_slot k.plan slot u.stage) s.views ≡ 0 = own_total (λ u. has_slot k.plan slot u.stage) refl ∙ no_slot k.plan slot v.stage free in
+        let none : total (λ u. has_slot k.plan slot u.stage) s.views ≡ 0 = own_total (λ u. has_slot k.plan slot u.stage) refl ∙ has_none k slot v.stage free in
         h.homes slot l ∙ (λ i. some (home_of (none i) (part_at k slot (last_stage slot i))))
 
     module _ (parts : List Part) (values : (slot : ℕ) (y : Part) → get_elem? s.homes slot ≡ some (some y) → get_elem? parts slot ≡ some y) where
@@ -154,9 +146,6 @@ module _ (k k' : Scope) (q : Plan) (same : k ≡ k') (plan : q ≡ k.plan) (s : 
 
       pub writer_there : HasWriter (posting_part q) parts
       writer_there = (record { board = k.board; list = posted_in k.plan k.plan.horizon }, writer_last)
-
-      same_writer : (x y : Known) → Writer x ≡ Writer y → x ≡ y
-      same_writer x y e = cc
 
       pub closes : (journeys : List Journey) → journeys ≡ journeys_of q → (w : Known) → get_elem? parts (posting_part q) ≡ some (Writer w) → (units passes left vehicles : ℕ) → units ≡ unit_count k.plan → passes ≡ k.passes → left ≡ v.spare → vehicles ≡ length q.trips
           → IsClosed k' v' journeys w (record { units = units; passes = passes - left; vehicles = vehicles })

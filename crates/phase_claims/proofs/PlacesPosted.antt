@@ -2,7 +2,9 @@
 use Rattle.std.specs.Prelude.{All, slice_get}
 use Rattle.std.specs.List.{range_with_len}
 use Rattle.std.proofs.Common.{◌≡◌, ℕ, zero, suc, ◌+◌, ◌<◌, ◌≤◌, List, [], ◌∷◌, ◌++◌, length, map, refl, sym, ap, ◌∙◌, subst, arith, Some}
+use Rattle.std.proofs.lemmas.List.{map_push}
 use Rattle.std.proofs.lemmas.List.Elements.{All-cons, All-nil}
+use Rattle.std.proofs.lemmas.List.FromFn.{length-range_with_len}
 use Rattle.atomic_table.specs.Seated.{TableId}
 use Rattle.atomic_table.specs.Table.{rest, turned}
 use Rattle.net_core.specs.Network.{numbers_below}
@@ -21,6 +23,7 @@ use Rattle.phase_claims.specs.declared.part.Part.TheVariants.{Cell, Out, Writer}
 use Rattle.phase_claims.specs.PlacesCounted.{cell_place, counted_in, posting_places, writer_place}
 use Rattle.phase_claims.specs.PlacesHeld.{HoldsCell, HoldsWriter}
 use Rattle.phase_claims.specs.PlacesHome.{posted_in}
+use Rattle.phase_claims.proofs.PlacesRound.{same_cell}
 use Rattle.phase_claims.proofs.PlacesSums.{all_counted}
 use Rattle.phase_claims.proofs.PlacesTurn.{at_end, first_is, midway, round, same_first}
 
@@ -32,14 +35,7 @@ number_in (suc n) a (suc i) h = number_in n (a + 1) i (omega (arith, h)) ∙ ap 
 node_at : (n i : ℕ) → i < n → slice_get (numbers_below n) i ≡ Some i
 node_at n i h = number_in n 0 i h ∙ ap (λ x. Some x) (omega arith)
 
-count_range : (n a : ℕ) → length (range_with_len a n) ≡ n
-count_range zero a = refl
-count_range (suc n) a = ap (λ k. suc k) (count_range n (a + 1))
-
-same_cell : (x y : CellState) → Cell x ≡ Cell y → x ≡ y
-same_cell x y e = cc
-
-same_writer : (x y : Known) → Writer x ≡ Writer y → x ≡ y
+pub same_writer : (x y : Known) → Writer x ≡ Writer y → x ≡ y
 same_writer x y e = cc
 
 module _ (p : Plan) (t : ℕ) (z : List (ℕ × Part)) where
@@ -62,14 +58,10 @@ module _ (p : Plan) (t : ℕ) (z : List (ℕ × Part)) where
         let same : l2 ≡ (n, Cell (cell_before p n t away away)) ∷ rest l = back ∙ ap (λ x. (n, Cell x) ∷ rest l) (cell_is c e) in
         round (cell_place p t) (cell_place p t) z (all_nodes p) n n l l3 (node_at (node_count p) n h) is (e3 ∙ ap turned same)
 
-map_snoc : {A B : Type 0} (f : A → B) (xs : List A) (x : A) → map f (xs ++ x ∷ []) ≡ map f xs ++ f x ∷ []
-map_snoc f [] x = refl
-map_snoc f (y ∷ xs) x = ap (λ ys. f y ∷ ys) (map_snoc f xs x)
-
 posted_more : (p : Plan) (t : ℕ) → posted_in p (suc t) ≡ posted_in p t ++ eight_after p (suc t) ∷ []
 posted_more p t =
     ap (λ xs. map (λ i. eight_after p (suc i)) xs) (numbers_grow 0 t (0 + t) refl)
-    ∙ map_snoc (λ i. eight_after p (suc i)) (numbers_below t) (0 + t)
+    ∙ map_push (λ i. eight_after p (suc i)) (numbers_below t) (0 + t)
     ∙ ap (λ x. posted_in p t ++ eight_after p (suc x) ∷ []) (let e : 0 + t ≡ t = omega arith in e)
 
 steps_are : (p : Plan) (t : ℕ) → (eight_after p t).steps ≡ t
@@ -87,7 +79,7 @@ module _ (p : Plan) (sound : IsSound p) (board : TableId) (t N L n : ℕ) (nodes
   slot_is = omega (arith, nodes, links)
 
   last : l ≡ writer_place p board t ∷ map (cell_place p (suc t)) (all_nodes p)
-  last = is ∙ at_end (cell_place p (suc t)) (cell_place p (suc t)) (writer_place p board t ∷ []) (all_nodes p) n (omega (arith, count_range (node_count p) 0, nodes, over))
+  last = is ∙ at_end (cell_place p (suc t)) (cell_place p (suc t)) (writer_place p board t ∷ []) (all_nodes p) n (omega (arith, length-range_with_len 0 (node_count p), nodes, over))
 
   abbrev known : Known
   known = record { board = board; list = posted_in p t }

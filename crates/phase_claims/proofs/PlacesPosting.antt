@@ -15,8 +15,8 @@ use Rattle.claim_core.specs.Parts.{moves, stage_before}
 use Rattle.claim_core.specs.Sums.{below, is_at}
 use Rattle.claim_core.specs.declared.units.UnitKind.TheVariants as kind
 use Rattle.claim_core.proofs.Apart.{before_is}
-use Rattle.claim_core.proofs.Parts.{at_place, in_task, step_cell, step_posting}
-use Rattle.claim_core.proofs.Parts.{posts}
+use Rattle.claim_core.proofs.Parts.{at_place, in_task, posts, step_cell, step_posting}
+use Rattle.claim_core.proofs.Sums.{at_self}
 use Rattle.claim_core.proofs.Working.{in_time, moves_by, posting_kind}
 use Rattle.phase_claims.specs.declared.part.Part.{Part}
 use Rattle.phase_claims.specs.declared.part.Part.TheVariants.{Cell, Writer}
@@ -27,9 +27,6 @@ use Rattle.phase_claims.proofs.PlacesUnit.{part_cell, part_writer}
 
 no_part : (x y : ℕ) → x < y → is_at x y ≡ 0
 no_part x y h = grind (arith, nat_tests)
-
-self : (y : ℕ) → is_at y y ≡ 1
-self y = grind (arith, nat_tests)
 
 parts_append : {S : Type 0} (part : ℕ → ℕ → S) (xs ys : List ℕ) (at : ℕ → ℕ) → parts_of part (xs ++ ys) at ≡ parts_of part xs at ++ parts_of part ys at
 parts_append part [] ys at = refl
@@ -68,7 +65,7 @@ module _ (k : Scope) (sound : IsSound k.plan) (c t : ℕ) (now : step_of (node_c
   writer_before_it : stage_before p c (posting_part p) ≡ t
   writer_before_it =
       let one : below (step_units N) (at_place p (posting_part p)) ≡ 1 = step_posting p in
-      let rest : below (N + N) (at_place p (posting_part p)) ≡ 0 = omega (arith, one, last_of_step (posting_part p), self (posting_part p)) in
+      let rest : below (N + N) (at_place p (posting_part p)) ≡ 0 = omega (arith, one, last_of_step (posting_part p), at_self (posting_part p)) in
       let steps : step_of N c * below (step_units N) (at_place p (posting_part p)) ≡ t * 1 = ap (λ x. step_of N c * x) one ∙ ap (λ x. x * 1) now in
       omega (arith, before (posting_part p), rest, steps)
 
@@ -96,7 +93,7 @@ module _ (k : Scope) (sound : IsSound k.plan) (c t : ℕ) (now : step_of (node_c
   posting_brought =
       all_are (λ slot. stage_before p c slot + moves p slot c) (suc t)
       (λ n h. omega (arith, cell_before_it n h, moved n, no_part n (posting_part p) (omega (arith, h))))
-      (omega (arith, writer_before_it, moved (posting_part p), self (posting_part p)))
+      (omega (arith, writer_before_it, moved (posting_part p), at_self (posting_part p)))
 
 -- where the work is done, as for a transfer
 module _ (k k' : Scope) (q : Plan) (shown : TableId) (same : k ≡ k') (plan : q ≡ k.plan) (board : shown ≡ k.board) (sound : IsSound k.plan) (u N t : ℕ) (few : u < unit_count k'.plan) (nodes : N ≡ node_count k.plan) (step : t ≡ step_of N u)

@@ -1,25 +1,24 @@
 -- One round of a loop in which the mail of a node's links goes between held slots and the node's cell.
-use Rattle.std.specs.Prelude.{slice_get}
-use Rattle.std.proofs.lemmas.Bool.{eqb-true}
-use Rattle.std.proofs.Common.{◌≡◌, ℕ, ◌+◌, ◌<◌, List, [], ◌∷◌, length, take, sym, ap, ◌∙◌, subst, Option, Some}
+use Rattle.std.specs.Prelude.{nat_eq, slice_get}
+use Rattle.std.proofs.lemmas.Bool.{eq-eqb}
+use Rattle.std.proofs.Common.{◌≡◌, ℕ, ◌+◌, ◌<◌, Bool, true, false, ◌||◌, List, [], ◌∷◌, length, take, refl, sym, ap, ◌∙◌, Option, Some}
 use Rattle.atomic_table.specs.Table.{rest, turned}
 use Rattle.atomic_table.specs.declared.shared.Seat.{Seat}
 use Rattle.net_core.specs.Network.{as_links}
 use Rattle.net_core.specs.declared.rows.LinkNo.{LinkNo}
-use Rattle.dta_model.specs.Plans.{link_at, outs}
-use Rattle.dta_model.specs.Riders.{RiderState}
 use Rattle.dta_model.specs.Units.{mail_part, node_count}
 use Rattle.dta_model.specs.declared.plan.Plan.{Plan}
 use Rattle.cell_stages.specs.CellState.{CellState}
-use Rattle.cell_stages.specs.Contents.{IsStep, away, batch_of, cell_before, room_of}
+use Rattle.cell_stages.specs.Contents.{away}
 use Rattle.cell_stages.specs.declared.mail.Mail as mail
-use Rattle.cell_stages.specs.declared.mail.Mail.TheVariants.{Away, Batch}
+use Rattle.cell_stages.specs.declared.mail.Mail.TheVariants.{Away}
+use Rattle.node_transfer.specs.Exchange.{is_among}
+use Rattle.node_transfer.specs.Halves.{leaving_cell, left_mail, links_of, taken_mail, taking_cell}
+use Rattle.node_transfer.specs.declared.half.HalfStep.{HalfStep}
 use Rattle.node_transfer.proofs.OfMail.Exchanges.{emptied-next, filled-next, replaced}
 use Rattle.node_transfer.proofs.OfMail.Lending.{at-place, is-told, link_of}
-use Rattle.node_transfer.proofs.OfMail.Parts.{IsMadeOf, outs-before}
-use Rattle.node_transfer.proofs.OfMail.Puts.{among-links}
-use Rattle.node_transfer.specs.Rest.{IsIdle, IsQuiet}
-use Rattle.node_transfer.proofs.OfRest.Idle.{quiet_nodes_stay_idle}
+use Rattle.node_transfer.proofs.OfMail.Parts.{IsMadeOf}
+use Rattle.phase_claims.specs.Noted.{StaysAsItIs}
 use Rattle.phase_claims.specs.PlacesHeld.{HoldsCell, HoldsMail, HoldsNothing, IsSameSeat, after_cell, empty_place, mail_place, mail_places, node_places}
 use Rattle.phase_claims.specs.declared.part.Part.{Part}
 use Rattle.phase_claims.specs.declared.part.Part.TheVariants.{Cell, Mail, Out}
@@ -32,7 +31,7 @@ stays a b c x y = record { table = y.table ∙ x.table; id = y.id ∙ x.id; view
 pub cell_first : (p : Plan) (n : ℕ) (cell : CellState) (by : ℕ → mail.Mail) (links : List ℕ) (l : List (ℕ × Part)) → l ≡ node_places p n cell by links → HoldsCell n l
 cell_first p n cell by links l e = (cell, e ∙ ap (λ xs. (n, Cell cell) ∷ rest xs) (sym e))
 
-same_cell : (x y : CellState) → Cell x ≡ Cell y → x ≡ y
+pub same_cell : (x y : CellState) → Cell x ≡ Cell y → x ≡ y
 same_cell x y e = cc
 
 pub cell_taken : (p : Plan) (n : ℕ) (cell c : CellState) (by : ℕ → mail.Mail) (links : List ℕ) (l : List (ℕ × Part)) → l ≡ node_places p n cell by links → l ≡ (n, Cell c) ∷ rest l → c ≡ cell
@@ -94,46 +93,39 @@ module _ {p : Plan} {n : ℕ} {ends : ℕ → ℕ} {links : List ℕ} {cell : (�
       round (empty_place p) (mail_place p F) z links j here l l' there is
       (now ∙ ap (λ k. turned ((k, Mail m) ∷ rest l)) (sym slot_is) ∙ ap (λ x. turned ((mail_part p here, Mail x) ∷ rest l)) same)
 
--- one mail after another is swapped for that of another rule
+-- one mail after another is looked at
 module _ {p : Plan} {n : ℕ} {ends : ℕ → ℕ} {links : List ℕ} {cell : (ℕ → mail.Mail) → CellState} {put : ℕ → mail.Mail → CellState → CellState} {told : ℕ → CellState → Option mail.Mail}
-    (made : IsMadeOf p n ends links cell put told) (F G : ℕ → mail.Mail) (ls : List LinkNo) (are : ls ≡ as_links links) (N : ℕ) (nodes : N ≡ node_count p) (z : List (ℕ × Part)) (j : ℕ) (within : j < length ls) where
+    (made : IsMadeOf p n ends links cell put told) (F : ℕ → mail.Mail) (ls : List LinkNo) (are : ls ≡ as_links links) (N : ℕ) (nodes : N ≡ node_count p) (z : List (ℕ × Part)) (j : ℕ) (within : j < length ls) where
   abbrev next : ℕ
   next = link_of ls j
 
   is_next : slice_get links j ≡ Some next
   is_next = at-place made F ls are j within
 
-  next_slot : mail_part p next ≡ N + next
-  next_slot = ap (λ k. k + next) (sym nodes)
+  pub next_mail : (l : List (ℕ × Part)) → l ≡ midway (mail_place p F) (mail_place p F) z links j → l ≡ (N + next, Mail (F next)) ∷ rest l
+  next_mail l is = first_is (mail_place p F) (mail_place p F) z links j next l is_next is ∙ ap (λ k. (k + next, Mail (F next)) ∷ rest l) (sym nodes)
 
-  pub next_mail : (l : List (ℕ × Part)) → l ≡ midway (mail_place p F) (mail_place p G) z links j → l ≡ (N + next, Mail (F next)) ∷ rest l
-  next_mail l is = first_is (mail_place p F) (mail_place p G) z links j next l is_next is ∙ ap (λ k. (k, Mail (F next)) ∷ rest l) next_slot
-
-  pub swap_first : (l : List (ℕ × Part)) → l ≡ midway (mail_place p F) (mail_place p G) z links j → HoldsMail (N + next) l
-  swap_first l is = (F next, next_mail l is)
+  pub next_first : (l : List (ℕ × Part)) → l ≡ midway (mail_place p F) (mail_place p F) z links j → HoldsMail (N + next) l
+  next_first l is = (F next, next_mail l is)
 
   pub turn_round : (l l' : List (ℕ × Part)) → l ≡ midway (mail_place p F) (mail_place p F) z links j → l' ≡ turned l → l' ≡ midway (mail_place p F) (mail_place p F) z links (j + 1)
   turn_round l l' is now =
       round (mail_place p F) (mail_place p F) z links j next l l' is_next is
       (now ∙ ap turned (first_is (mail_place p F) (mail_place p F) z links j next l is_next is))
 
-  pub swap_round : (m : mail.Mail) → m ≡ G next → (l l' : List (ℕ × Part)) → l ≡ midway (mail_place p F) (mail_place p G) z links j → l' ≡ turned ((N + next, Mail m) ∷ rest l)
-      → l' ≡ midway (mail_place p F) (mail_place p G) z links (j + 1)
-  swap_round m same l l' is now =
-      round (mail_place p F) (mail_place p G) z links j next l l' is_next is
-      (now ∙ ap (λ k. turned ((k, Mail m) ∷ rest l)) (sym next_slot) ∙ ap (λ x. turned ((mail_part p next, Mail x) ∷ rest l)) same)
+same_places : (p : Plan) (F G : ℕ → mail.Mail) (links : List ℕ) → ((l : ℕ) → is_among links l ≡ true → F l ≡ G l) → mail_places p F links ≡ mail_places p G links
+same_places p F G [] same = refl
+same_places p F G (x ∷ links) same =
+    ap (λ m. (mail_part p x, Mail m) ∷ mail_places p F links) (same x (ap (λ c. c || is_among links x) (eq-eqb x x refl)))
+    ∙ ap (λ xs. mail_place p G x ∷ xs) (same_places p F G links (λ l later. same l (or_later (nat_eq x l) (is_among links l) later)))
+  where
+    or_later : (c d : Bool) → d ≡ true → (c || d) ≡ true
+    or_later true d h = refl
+    or_later false d h = h
 
--- a batch without anybody is that of an out-link of an idle node
-pub no_batch : (p : Plan) (n t : ℕ) → IsIdle p n t → (ls : List LinkNo) → ls ≡ as_links (outs p n) → (j : ℕ) → j < length ls → (line : List RiderState) → line ≡ [] → Batch t line ≡ batch_of p t (link_of ls j)
-no_batch p n t idle ls are j within line none =
-    let made = outs-before p n t away in
-    let b = link_of ls j in
-    let e = at-place made away ls are j within in
-    let inside = made.inside j b e in
-    let from = eqb-true (link_at p b).from.0 n (sym (made.member b inside) ∙ among-links (outs p n) j b e) in
-    ap (λ x. Batch t x) (none ∙ sym (idle.batches b inside from))
-
--- a node whose cell is quiet is idle
-pub stays_idle : (p : Plan) (n t : ℕ) → IsStep p n t → (c : CellState) (l : List (ℕ × Part)) → l ≡ node_places p n (cell_before p n t away away) (room_of p t) (outs p n) → l ≡ (n, Cell c) ∷ rest l → IsQuiet t c → IsIdle p n t
-stays_idle p n t step c l e got quiet =
-    (quiet_nodes_stay_idle p n t step).quiet (subst (λ (s : CellState). IsQuiet t s) (cell_taken p n (cell_before p n t away away) c (room_of p t) (outs p n) l e got) quiet)
+-- a half that changes nothing leaves the places as they are
+pub places_stay : (p : Plan) (h : HalfStep) → StaysAsItIs p h
+    → node_places p h.node.0 (leaving_cell p h away) (left_mail p h) (links_of p h) ≡ node_places p h.node.0 (taking_cell p h away) (taken_mail p h) (links_of p h)
+places_stay p h same =
+    ap (λ s. node_places p h.node.0 s (left_mail p h) (links_of p h)) same.cell
+    ∙ ap (λ xs. (h.node.0, Cell (taking_cell p h away)) ∷ xs) (same_places p (left_mail p h) (taken_mail p h) (links_of p h) same.mail)

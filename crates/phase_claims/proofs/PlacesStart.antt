@@ -1,7 +1,8 @@
 -- The slots of a new floor.
 use Rattle.std.specs.List.{range_with_len}
-use Rattle.std.proofs.Common.{◌≡◌, ℕ, zero, suc, ◌+◌, ◌-◌, ◌*◌, ◌<◌, ◌≤◌, List, [], ◌∷◌, ◌++◌, length, map, refl, sym, ap, ◌∙◌, append_assoc, length-append, lt_of_not-le, arith}
+use Rattle.std.proofs.Common.{◌≡◌, ℕ, zero, suc, ◌+◌, ◌-◌, ◌*◌, ◌<◌, ◌≤◌, List, [], ◌∷◌, ◌++◌, length, map, sym, ap, ◌∙◌, append_assoc, length-append, lt_of_not-le, arith}
 use Rattle.std.proofs.lemmas.List.{length-map}
+use Rattle.std.proofs.lemmas.List.FromFn.{length-range_with_len}
 use mathlib.Core.Option.{some}
 use mathlib.Core.Logic.{dite}
 use native.Mathlib.Decide.{dec_le}
@@ -34,10 +35,6 @@ range_at f (suc n) a (suc i) h = range_at f n (a + 1) i (omega (arith, h)) ∙ a
 below_at : {A : Type 0} (f : ℕ → A) (n i : ℕ) → i < n → get_elem? (map f (numbers_below n)) i ≡ some (f i)
 below_at f n i h = range_at f n 0 i h ∙ ap (λ x. some (f x)) (omega arith)
 
-count_range : (n a : ℕ) → length (range_with_len a n) ≡ n
-count_range zero a = refl
-count_range (suc n) a = ap (λ k. suc k) (count_range n (a + 1))
-
 after_front : {A : Type 0} (xs ys : List A) (n i : ℕ) → length xs ≡ n → n ≤ i → get_elem? (xs ++ ys) i ≡ get_elem? ys (i - n)
 after_front [] ys n i e h = ap (λ x. get_elem? ys x) (omega (arith, e))
 after_front (x ∷ xs) ys n zero e h = absurd (omega (arith, e, h))
@@ -58,10 +55,10 @@ module _ (k : Scope) (writer : Known) (cells : List CellState) (letters : List m
   laid = are ∙ append_assoc (map Cell cells) (map Mail letters) (Writer writer ∷ [])
 
   cell_count : length (map Cell cells) ≡ N
-  cell_count = length-map cells Cell ∙ ap (λ xs. length xs) first ∙ length-map (all_nodes p) (λ n. cell_before p n 0 away away) ∙ count_range N 0
+  cell_count = length-map cells Cell ∙ ap (λ xs. length xs) first ∙ length-map (all_nodes p) (λ n. cell_before p n 0 away away) ∙ length-range_with_len 0 N
 
   mail_count : length (map Mail letters) ≡ L
-  mail_count = length-map letters Mail ∙ ap (λ xs. length xs) rooms ∙ length-map (numbers_below L) (room_of p 0) ∙ count_range L 0
+  mail_count = length-map letters Mail ∙ ap (λ xs. length xs) rooms ∙ length-map (numbers_below L) (room_of p 0) ∙ length-range_with_len 0 L
 
   pub parts_count : length parts ≡ suc (posting_part p)
   parts_count = ap (λ xs. length xs) laid ∙ length-append (map Cell cells) (map Mail letters ++ Writer writer ∷ []) ∙ (let b = length-append (map Mail letters) (Writer writer ∷ []) in omega (arith, b, cell_count, mail_count))

@@ -62,7 +62,7 @@ module _ (k : Scope) where
       (λ slot. omega (arith, total_set (Has slot) views by v (less_spare v) e, total_snoc (Has slot) (set views by (less_spare v)) u))
       (λ x. omega (arith, total_set (performs x) views by v (less_spare v) e, total_snoc (performs x) (set views by (less_spare v)) u)) h
 
-  has_none : (slot : ℕ) (s : Stage) → HoldsNoUnit s → has_slot k.plan slot s ≡ 0
+  pub has_none : (slot : ℕ) (s : Stage) → HoldsNoUnit s → has_slot k.plan slot s ≡ 0
   has_none slot stage.Idle q = refl
   has_none slot (stage.Held c) q = refl
   has_none slot (stage.Open c) q = absurd (cc)

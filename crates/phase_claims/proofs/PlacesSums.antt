@@ -1,8 +1,11 @@
 -- The state of a loading, counted node by node.
 use Rattle.std.specs.Prelude.{min, nat_eq, nat_lt, slice_get, slice_set}
 use Rattle.std.specs.List.{range_with_len, sum_by}
-use Rattle.std.proofs.Common.{◌≡◌, ℕ, zero, suc, ◌+◌, ◌<◌, ◌≤◌, ◌^◌, Bool, true, false, ◌&&◌, ◌||◌, cond, List, [], ◌∷◌, ◌++◌, length, take, get_or, refl, sym, ap, ◌∙◌, add-one, lt_of_not-le, arith, Some}
+use Rattle.std.proofs.Common.{◌≡◌, ◌≢◌, ℕ, zero, suc, ◌+◌, ◌<◌, ◌≤◌, ◌^◌, Bool, true, false, ◌&&◌, ◌||◌, cond, List, [], ◌∷◌, ◌++◌, length, take, get_or, refl, sym, ap, ◌∙◌, add-one, lt_of_not-le, arith, Some}
 use Rattle.std.proofs.lemmas.Bool.Decides.{nat_tests}
+use Rattle.std.proofs.lemmas.Grind.{get_or-set_at}
+use Rattle.std.proofs.lemmas.List.{get_or-set_other, length-set, take_all}
+use Rattle.std.proofs.lemmas.List.FromFn.{length-range_with_len}
 use Rattle.std.proofs.lemmas.List.Sums.{count_by-le-length, sum_by-append}
 use mathlib.Core.Logic.{dite}
 use native.Mathlib.Decide.{dec_le}
@@ -23,6 +26,8 @@ use Rattle.node_transfer.proofs.OfMail.Parts.{ins-among, ins-member}
 use Rattle.net_core.proofs.Numbers.{numbers_grow}
 use Rattle.claim_core.proofs.Places.{Rises, ins_rise}
 use Rattle.phase_claims.specs.PlacesCounted.{counted_in, first_on, firsts_on}
+use Rattle.phase_claims.proofs.PlacesTurn.{take_next}
+use Rattle.phase_claims.proofs.PlacesUnit.{lt_is, lt_not}
 
 sum_more : (f : ℕ → ℕ) (m : ℕ) → sum_by f (numbers_below (suc m)) ≡ sum_by f (numbers_below m) + f m
 sum_more f m =
@@ -36,13 +41,9 @@ sum_grows f m (suc n) h = dite (dec_le m n)
     (λ low. omega (arith, sum_grows f m n low, sum_more f n))
     (λ top. let e : m ≡ suc n = (let l : n < m = lt_of_not-le top in omega (arith, h)) in omega (arith, ap (λ x. sum_by f (numbers_below x)) e))
 
-count_range : (n a : ℕ) → length (range_with_len a n) ≡ n
-count_range zero a = refl
-count_range (suc n) a = ap (λ k. suc k) (count_range n (a + 1))
-
 module _ (p : Plan) (sound : IsSound p) (t : ℕ) where
   few : length (vehicles_of p) < 2 ^ 32
-  few = let c = count_range (length p.trips) 0 in let m = sound.trips.few in omega (arith, c, m)
+  few = let c = length-range_with_len 0 (length p.trips) in let m = sound.trips.few in omega (arith, c, m)
 
   few_waiting : (eight_after p t).waiting < 2 ^ 32
   unfolding eight_after eight_in waiting_in
@@ -85,43 +86,24 @@ puts_snoc : (f : ℕ → ℕ) (ls : List ℕ) (l : ℕ) (xs : List ℕ) → puts
 puts_snoc f [] l xs = refl
 puts_snoc f (k ∷ ls) l xs = puts_snoc f ls l (slice_set xs k (f k))
 
-some_is : {A : Type 0} (a b : A) → Some a ≡ Some b → a ≡ b
-some_is a b e = cc
-
-take_next : (ks : List ℕ) (j b : ℕ) → slice_get ks j ≡ Some b → take (suc j) ks ≡ take j ks ++ b ∷ []
-take_next [] j b e = cc
-take_next (k ∷ ks) zero b e = ap (λ x. x ∷ []) (some_is k b e)
-take_next (k ∷ ks) (suc j) b e = ap (λ xs. k ∷ xs) (take_next ks j b e)
-
 pub puts_next : (f : ℕ → ℕ) (ks : List ℕ) (j b : ℕ) (xs : List ℕ) → slice_get ks j ≡ Some b → slice_set (puts f (take j ks) xs) b (f b) ≡ puts f (take (j + 1) ks) xs
 puts_next f ks j b xs e = rw add-one (sym (ap (λ ls. puts f ls xs) (take_next ks j b e) ∙ puts_snoc f (take j ks) b xs))
 
-set_count : (xs : List ℕ) (i x : ℕ) → length (slice_set xs i x) ≡ length xs
-set_count [] i x = refl
-set_count (y ∷ xs) zero x = refl
-set_count (y ∷ xs) (suc i) x = ap (λ k. suc k) (set_count xs i x)
-
 puts_count : (f : ℕ → ℕ) (ls xs : List ℕ) → length (puts f ls xs) ≡ length xs
 puts_count f [] xs = refl
-puts_count f (l ∷ ls) xs = puts_count f ls (slice_set xs l (f l)) ∙ set_count xs l (f l)
+puts_count f (l ∷ ls) xs = puts_count f ls (slice_set xs l (f l)) ∙ length-set xs l (f l)
 
 get_set : (xs : List ℕ) (l i x : ℕ) (b : Bool) → nat_eq l i ≡ b → i < length xs → get_or (slice_set xs l x) i 0 ≡ cond b x (get_or xs i 0)
-get_set [] l i x b e h = absurd (omega arith)
-get_set (y ∷ xs) zero zero x true e h = refl
-get_set (y ∷ xs) zero zero x false e h = absurd (grind (arith, nat_tests))
-get_set (y ∷ xs) zero (suc i) x true e h = absurd (grind (arith, nat_tests))
-get_set (y ∷ xs) zero (suc i) x false e h = refl
-get_set (y ∷ xs) (suc l) zero x true e h = absurd (grind (arith, nat_tests))
-get_set (y ∷ xs) (suc l) zero x false e h = refl
-get_set (y ∷ xs) (suc l) (suc i) x b e h = get_set xs l i x b (inner l i b e) (omega (arith, h))
+get_set xs l i x true e h = let same : i ≡ l = grind (arith, nat_tests) in get_or-set_at xs l i x 0 same (omega (arith, h, same))
+get_set xs l i x false e h = get_or-set_other xs l i x 0 (other l i e)
   where
-    inner : (l i : ℕ) (b : Bool) → nat_eq (suc l) (suc i) ≡ b → nat_eq l i ≡ b
-    inner l i b e = grind (arith, nat_tests)
+    other : (l i : ℕ) → nat_eq l i ≡ false → i ≢ l
+    other l i e q = grind (arith, nat_tests)
 
 puts_at : (f : ℕ → ℕ) (ls xs : List ℕ) (i : ℕ) → i < length xs → get_or (puts f ls xs) i 0 ≡ cond (is_among ls i) (f i) (get_or xs i 0)
 puts_at f [] xs i h = refl
 puts_at f (l ∷ ls) xs i h =
-    puts_at f ls (slice_set xs l (f l)) i (omega (arith, h, set_count xs l (f l)))
+    puts_at f ls (slice_set xs l (f l)) i (omega (arith, h, length-set xs l (f l)))
     ∙ ap (λ x. cond (is_among ls i) (f i) x) (get_set xs l i (f l) (nat_eq l i) refl h)
     ∙ by (nat_eq l i) (is_among ls i) (same l i)
   where
@@ -164,24 +146,18 @@ module _ (p : Plan) (t n : ℕ) (h : n < node_count p) where
   next : (l : ℕ) → cond (is_among (ins p n) l) (f l) (first_on p t n l) ≡ first_on p t (suc n) l
   next l = dite (dec_le (length p.net.links) l)
       (λ past. let away : is_among (ins p n) l ≡ false = by_among (is_among (ins p n) l) refl past in
-      let no_link : nat_lt l (length p.net.links) ≡ false = beyond l (length p.net.links) past in
+      let no_link : nat_lt l (length p.net.links) ≡ false = lt_not l (length p.net.links) past in
       ap (λ b. cond b (f l) (first_on p t n l)) away
       ∙ ap (λ b. cond (b && nat_lt (link_at p l).to.0 n) (f l) 0) no_link
       ∙ sym (ap (λ b. cond (b && nat_lt (link_at p l).to.0 (suc n)) (f l) 0) no_link))
       (λ low. let low' : l < length p.net.links = lt_of_not-le low in
-      let in_table : nat_lt l (length p.net.links) ≡ true = inside l (length p.net.links) low' in
+      let in_table : nat_lt l (length p.net.links) ≡ true = lt_is l (length p.net.links) low' in
       ap (λ b. cond b (f l) (first_on p t n l)) (ins-member p n l low')
       ∙ ap (λ b. cond (nat_eq (link_at p l).to.0 n) (f l) (cond (b && nat_lt (link_at p l).to.0 n) (f l) 0)) in_table
       ∙ by_node (nat_eq (link_at p l).to.0 n) (nat_lt (link_at p l).to.0 n)
       ∙ ap (λ b. cond b (f l) 0) (node_next (link_at p l).to.0 n)
       ∙ sym (ap (λ b. cond (b && nat_lt (link_at p l).to.0 (suc n)) (f l) 0) in_table))
     where
-      beyond : (a b : ℕ) → b ≤ a → nat_lt a b ≡ false
-      beyond a b h = grind (arith, nat_tests)
-
-      inside : (a b : ℕ) → a < b → nat_lt a b ≡ true
-      inside a b h = grind (arith, nat_tests)
-
       node_next : (a b : ℕ) → (nat_eq a b || nat_lt a b) ≡ nat_lt a (suc b)
       node_next a b = grind (arith, nat_tests)
 
@@ -199,15 +175,9 @@ module _ (p : Plan) (t n : ℕ) (h : n < node_count p) where
       four xs (first_on p t (suc n) 0) (first_on p t (suc n) 1) (first_on p t (suc n) 2) (first_on p t (suc n) 3) (puts_count f (take j (ins p n)) (firsts_on p t n))
       (at 0 (omega arith) ∙ next 0) (at 1 (omega arith) ∙ next 1) (at 2 (omega arith) ∙ next 2) (at 3 (omega arith) ∙ next 3)
     where
-      whole : (j : ℕ) (ks : List ℕ) → length ks ≤ j → take j ks ≡ ks
-      whole zero [] h = refl
-      whole (suc j) [] h = refl
-      whole zero (k ∷ ks) h = absurd (omega (arith, h))
-      whole (suc j) (k ∷ ks) h = ap (λ xs. k ∷ xs) (whole j ks (omega (arith, h)))
-
       same : (i : ℕ) → i < 4 → is_among (take j (ins p n)) i ≡ is_among (ins p n) i
       same i l = dite (dec_le (length (ins p n)) j)
-          (λ long. ap (λ ks. is_among ks i) (whole j (ins p n) long))
+          (λ long. ap (λ ks. is_among ks i) (take_all j (ins p n) long))
           (λ short. let s : j < length (ins p n) = lt_of_not-le short in among_first j 0 (length p.net.links) (ins p n) (ins_rise p n) i (omega (arith, l, over, s)))
 
       at : (i : ℕ) → i < 4 → get_or (puts f (take j (ins p n)) (firsts_on p t n)) i 0 ≡ cond (is_among (ins p n) i) (f i) (get_or (firsts_on p t n) i 0)
@@ -218,17 +188,11 @@ module _ (p : Plan) (sound : IsSound p) (t : ℕ) where
   first_whole : (l : ℕ) → first_on p t (node_count p) l ≡ count_on (trace_after p t) l
   unfolding count_on
   first_whole l = dite (dec_le (length p.net.links) l)
-      (λ past. ap (λ b. cond (b && nat_lt (link_at p l).to.0 (node_count p)) (count_on (trace_after p t) l) 0) (beyond l (length p.net.links) past)
+      (λ past. ap (λ b. cond (b && nat_lt (link_at p l).to.0 (node_count p)) (count_on (trace_after p t) l) 0) (lt_not l (length p.net.links) past)
       ∙ sym (ap (λ (q : List ℕ). length q) (none_outside p sound t l past)))
       (λ low. let low' : l < length p.net.links = lt_of_not-le low in
-      ap (λ b. cond (b && nat_lt (link_at p l).to.0 (node_count p)) (count_on (trace_after p t) l) 0) (inside l (length p.net.links) low')
-      ∙ ap (λ b. cond b (count_on (trace_after p t) l) 0) (inside (link_at p l).to.0 (node_count p) (to-below p sound (node_count p) (omega arith) l low')))
-    where
-      beyond : (a b : ℕ) → b ≤ a → nat_lt a b ≡ false
-      beyond a b h = grind (arith, nat_tests)
-
-      inside : (a b : ℕ) → a < b → nat_lt a b ≡ true
-      inside a b h = grind (arith, nat_tests)
+      ap (λ b. cond (b && nat_lt (link_at p l).to.0 (node_count p)) (count_on (trace_after p t) l) 0) (lt_is l (length p.net.links) low')
+      ∙ ap (λ b. cond b (count_on (trace_after p t) l) 0) (lt_is (link_at p l).to.0 (node_count p) (to-below p sound (node_count p) (omega arith) l low')))
 
   pub all_counted : counted_in p t (node_count p) ≡ eight_after p t
   unfolding eight_after eight_in

@@ -1,50 +1,32 @@
 -- A loop over held places: the first is worked on and goes last. So those that are left come first, and
 -- those that are done last, with some others between.
 use Rattle.std.specs.Prelude.{slice_get}
-use Rattle.std.proofs.Common.{◌≡◌, ℕ, zero, suc, ◌+◌, ◌≤◌, List, [], ◌∷◌, ◌++◌, length, take, drop, map, refl, sym, ap, ◌∙◌, append_assoc, add-one, arith, Some}
-use Rattle.std.proofs.lemmas.List.{append-nil}
+use Rattle.std.proofs.Common.{◌≡◌, ℕ, zero, suc, ◌+◌, ◌≤◌, List, [], ◌∷◌, ◌++◌, length, take, drop, map, sym, ap, ◌∙◌, append_assoc, add-one, Some}
+use Rattle.std.proofs.lemmas.List.{append-nil, drop_all, map_push, take_all}
+use Rattle.std.proofs.lemmas.Option.{same_Some}
 use mathlib.Core.Path.{Path}
 use Rattle.atomic_table.specs.Table.{rest, turned}
 
-some_is : {A : Type 0} (a b : A) → Some a ≡ Some b → a ≡ b
-some_is a b e = cc
-
 drop_next : (ks : List ℕ) (j b : ℕ) → slice_get ks j ≡ Some b → drop j ks ≡ b ∷ drop (suc j) ks
 drop_next [] j b e = cc
-drop_next (k ∷ ks) zero b e = ap (λ x. x ∷ ks) (some_is k b e)
+drop_next (k ∷ ks) zero b e = ap (λ x. x ∷ ks) (same_Some k b e)
 drop_next (k ∷ ks) (suc j) b e = drop_next ks j b e
 
-take_next : (ks : List ℕ) (j b : ℕ) → slice_get ks j ≡ Some b → take (suc j) ks ≡ take j ks ++ b ∷ []
+pub take_next : (ks : List ℕ) (j b : ℕ) → slice_get ks j ≡ Some b → take (suc j) ks ≡ take j ks ++ b ∷ []
 take_next [] j b e = cc
-take_next (k ∷ ks) zero b e = ap (λ x. x ∷ []) (some_is k b e)
+take_next (k ∷ ks) zero b e = ap (λ x. x ∷ []) (same_Some k b e)
 take_next (k ∷ ks) (suc j) b e = ap (λ xs. k ∷ xs) (take_next ks j b e)
-
-none_left : (ks : List ℕ) (j : ℕ) → length ks ≤ j → drop j ks ≡ []
-none_left [] zero h = refl
-none_left [] (suc j) h = refl
-none_left (k ∷ ks) zero h = absurd (omega (arith, h))
-none_left (k ∷ ks) (suc j) h = none_left ks j (omega (arith, h))
-
-all_done : (ks : List ℕ) (j : ℕ) → length ks ≤ j → take j ks ≡ ks
-all_done [] zero h = refl
-all_done [] (suc j) h = refl
-all_done (k ∷ ks) zero h = absurd (omega (arith, h))
-all_done (k ∷ ks) (suc j) h = ap (λ xs. k ∷ xs) (all_done ks j (omega (arith, h)))
 
 -- g is a place before its round, h the same after it, and z stands between
 module _ {S : Type 0} (g h : ℕ → ℕ × S) (z : List (ℕ × S)) where
   abbrev pub midway : List ℕ → ℕ → List (ℕ × S)
   midway ks j = map g (drop j ks) ++ (z ++ map h (take j ks))
 
-  map_snoc : (ks : List ℕ) (b : ℕ) → map h (ks ++ b ∷ []) ≡ map h ks ++ h b ∷ []
-  map_snoc [] b = refl
-  map_snoc (k ∷ ks) b = ap (λ xs. h k ∷ xs) (map_snoc ks b)
-
   pub at_start : (ks : List ℕ) → map g ks ++ z ≡ midway ks 0
   at_start ks = ap (λ xs. map g ks ++ xs) (sym (append-nil z))
 
   pub at_end : (ks : List ℕ) (j : ℕ) → length ks ≤ j → midway ks j ≡ z ++ map h ks
-  at_end ks j over = ap (λ xs. map g xs ++ (z ++ map h (take j ks))) (none_left ks j over) ∙ ap (λ xs. z ++ map h xs) (all_done ks j over)
+  at_end ks j over = ap (λ xs. map g xs ++ (z ++ map h (take j ks))) (drop_all j ks over) ∙ ap (λ xs. z ++ map h xs) (take_all j ks over)
 
   -- the place of the next number is first
   pub first_is : (ks : List ℕ) (j b : ℕ) (l : List (ℕ × S)) → slice_get ks j ≡ Some b → l ≡ midway ks j → l ≡ g b ∷ rest l
@@ -58,7 +40,7 @@ module _ {S : Type 0} (g h : ℕ → ℕ × S) (z : List (ℕ × S)) where
       let left = map g (drop (suc j) ks) in
       let done = map h (take j ks) in
       let f : l ≡ g b ∷ (left ++ (z ++ done)) = is ∙ ap (λ xs. map g xs ++ (z ++ done)) (drop_next ks j b e) in
-      let more : done ++ h b ∷ [] ≡ map h (take (suc j) ks) = sym (map_snoc (take j ks) b) ∙ ap (λ xs. map h xs) (sym (take_next ks j b e)) in
+      let more : done ++ h b ∷ [] ≡ map h (take (suc j) ks) = sym (map_push h (take j ks) b) ∙ ap (λ xs. map h xs) (sym (take_next ks j b e)) in
       rw add-one (now ∙ ap (λ xs. turned (h b ∷ rest xs)) f
       ∙ append_assoc left (z ++ done) (h b ∷ [])
       ∙ ap (λ xs. left ++ xs) (append_assoc z done (h b ∷ []) ∙ ap (λ xs. z ++ xs) more))

@@ -28,10 +28,10 @@ use Rattle.phase_claims.specs.declared.view.Scope.{Scope}
 use Rattle.phase_claims.specs.PlacesHeld.{mail_place, mail_places, node_places}
 use Rattle.phase_claims.specs.PlacesHome.{brought, carried, part_at, parts_of, posted_in}
 
-lt_is : (a b : ℕ) → a < b → nat_lt a b ≡ true
+pub lt_is : (a b : ℕ) → a < b → nat_lt a b ≡ true
 lt_is a b h = grind (arith, nat_tests)
 
-lt_not : (a b : ℕ) → b ≤ a → nat_lt a b ≡ false
+pub lt_not : (a b : ℕ) → b ≤ a → nat_lt a b ≡ false
 lt_not a b h = grind (arith, nat_tests)
 
 by_tests : (b c b' c' : Bool) (x y z : Part) → b ≡ b' → c ≡ c' → cond b x (cond c y z) ≡ cond b' x (cond c' y z)

@@ -6,7 +6,7 @@ pub mod Plays
 pub mod Passes
 pub mod Crews
 pub mod Floors
-pub mod Resting
+pub mod Noted
 pub mod PlacesHeld
 pub mod PlacesHome
 pub mod PlacesCounted

@@ -23,13 +23,13 @@ use crate::unit::{Open, Unit};
 use crate::view::View;
 use crate::work_close::{drop_parts, take_parts};
 use crate::work_posting::post_held;
-use crate::work_unit::{gather_held, transfer_held};
+use crate::work_unit::work_held;
 use atomic_table::{Table, TableRule};
 use claim_core::{Phase, UnitKind, Units};
 use dta_model::{Loaded, Loading, Stage};
 use monitors::{Board, WriterPass};
 use net_core::Memory;
-use node_transfer::opening;
+use node_transfer::{Half, HalfStep, opening};
 use std::alloc::{AllocError, Global};
 use std::marker::Model;
 use std::sync::Wait;
@@ -45,7 +45,6 @@ const MANY_UNITS: u64 = 64;
 /// contract it is its table, and what it is for.
 #[derive(Drop)]
 pub struct Floor<'a> {
-    alloc: Global,
     table: SharedTable<'a>,
     loading: Loading<'a>,
     board: &'a Board,
@@ -96,7 +95,7 @@ impl<'a> Floor<'a> {
     {
         let start = opening(alloc, loading)?;
         let cells = start.cells.into_vec();
-        let parts = parts_at_start(alloc, loading, cells, start.mail.into_vec(), writer)?;
+        let parts = parts_at_start(alloc, cells, start.mail.into_vec(), writer)?;
         let key = Key {
             loading: *loading,
             board,
@@ -108,7 +107,6 @@ impl<'a> Floor<'a> {
             Err(_) => return Err(AllocError),
         };
         let floor = Floor {
-            alloc,
             table,
             loading: *loading,
             board,
@@ -125,8 +123,8 @@ impl<'a> Floor<'a> {
         Ok((floor, pass))
     }
 
-    /// The table of its words, its places and the views of its passes. Its rule, which holds between
-    /// any two steps whatever the threads do, is the running rule of the floor.
+    /// The table of its words, its places and the views of its passes. Its rule, which holds
+    /// between any two steps whatever the threads do, is the running rule of the floor.
     pub fn table(&self) -> &SharedTable<'a>
         ensures own { result.now.shared.table_id ≡ self.now.table }
         ensures rule { (s : State Part View)
@@ -166,10 +164,10 @@ impl<'a> Floor<'a> {
         }
     }
 
-    /// Whether the unit of the next number could be opened at once, or there is none. It only looks,
-    /// and other passes may change that at any time, so nothing is promised. Where many units of its
-    /// phase were left when the pass drew its last one it needn't even look: to look at a word that
-    /// others change takes as long as to change it.
+    /// Whether the unit of the next number could be opened at once, or there is none. It only
+    /// looks, and other passes may change that at any time, so nothing is promised. Where many
+    /// units of its phase were left when the pass drew its last one it needn't even look: to look
+    /// at a word that others change takes as long as to change it.
     pub fn can_open_next(&self, pass: &Pass) -> bool {
         if pass.last.left > MANY_UNITS {
             return true;
@@ -238,11 +236,16 @@ impl<'a> Floor<'a> {
         ensures done { seat.new.me.1 ≡ brought self.now.scope number }
     {
         let shared = &self.table.shared;
+        let step = phase.step;
         match self.units.kind_in(phase, number) {
             UnitKind::Transfer(node) => {
-                transfer_held(self.alloc, shared, seat, &self.loading, node, phase.step)
+                let half = Half::Transfer;
+                work_held(shared, seat, &self.loading, HalfStep { half, node, step })
             }
-            UnitKind::Gather(node) => gather_held(shared, seat, &self.loading, node, phase.step),
+            UnitKind::Gather(node) => {
+                let half = Half::Gather;
+                work_held(shared, seat, &self.loading, HalfStep { half, node, step })
+            }
             UnitKind::Posting => unreachable!(),
         }
     }
@@ -395,7 +398,6 @@ impl<'a> Floor<'a> {
         ensures ended { pass.view.stage ≡ Stage.Ended → IsOk result }
     {
         let Floor {
-            alloc: _,
             table,
             loading,
             board: _,

@@ -12,10 +12,10 @@
 
 mod floor;
 mod laws;
+mod noted_cell;
 mod part;
 mod pass;
 mod receipt;
-mod resting_cell;
 mod rule;
 mod start;
 mod unit;

@@ -1,5 +1,5 @@
 // What the places of a floor hold.
-use crate::resting_cell::RestingCell;
+use crate::noted_cell::NotedCell;
 use monitors::WriterPass;
 use node_transfer::Mail;
 
@@ -8,7 +8,7 @@ use node_transfer::Mail;
 #[derive(Drop)]
 pub enum Part {
     Out,
-    Cell(RestingCell),
+    Cell(NotedCell),
     Mail(Mail),
     Writer(WriterPass),
 }

@@ -1,20 +1,16 @@
 // The parts of a loading, in the places of a floor.
-ghost use Rattle.dta_model.specs.Lent.{plan_of};
-ghost use Rattle.dta_model.specs.Plans.{ins as ins_of};
-ghost use Rattle.std.specs.Prelude.{◌<◌, length, ◌≡◌, ◌++◌, ◌∷◌, [], IfOk, map};
+ghost use Rattle.std.specs.Prelude.{◌≡◌, ◌++◌, ◌∷◌, [], IfOk, map};
 
+use crate::noted_cell::NotedCell;
 use crate::part::Part;
-use crate::resting_cell::RestingCell;
-use dta_model::Loading;
 use monitors::WriterPass;
-use net_core::{Memory, NodeNo};
+use net_core::Memory;
 use node_transfer::{Mail, NodeCell};
 use std::alloc::Global;
 
 /// The places: the cells of the nodes, the mail of the links, and the writer's pass.
 pub(crate) fn parts_at_start(
     alloc: Global,
-    loading: &Loading,
     cells: Vec<NodeCell>,
     mail: Vec<Mail>,
     writer: WriterPass,
@@ -24,27 +20,13 @@ pub(crate) fn parts_at_start(
 {
     let mut parts = Vec::new(alloc);
     for cell in cells {
-        let places = in_count(loading, parts.len());
-        let cell = RestingCell::new(alloc, cell, places)?;
-        put(&mut parts, Part::Cell(cell))?;
+        put(&mut parts, Part::Cell(NotedCell::new(cell)))?;
     }
     for letter in mail {
         put(&mut parts, Part::Mail(letter))?;
     }
     put(&mut parts, Part::Writer(writer))?;
     Ok(parts)
-}
-
-// How many links lead to a node.
-fn in_count(loading: &Loading, node: usize) -> usize
-    ensures { node < length (plan_of loading.now).net.nodes
-        → result ≡ length (ins_of (plan_of loading.now) node) }
-{
-    if node < loading.net.node_count() as usize {
-        loading.net.ins(NodeNo(node as u32)).len()
-    } else {
-        0
-    }
 }
 
 // Puts a part behind the others.

@@ -2,13 +2,14 @@
 ghost use Rattle.atomic_table.specs.Table.{rest, turned};
 ghost use Rattle.phase_claims.specs.PlacesHeld.{HoldsCell, HoldsMail, HoldsNothing, IsSameSeat};
 ghost use Rattle.cell_stages.specs.declared.mail.Mail.{Mail};
-ghost use Rattle.node_transfer.specs.Gathered.{mail_line};
-ghost use Rattle.std.specs.Prelude.{◌≡◌, ◌∷◌, [], true};
+ghost use Rattle.cell_stages.specs.Contents.{tells};
+ghost use Rattle.node_transfer.specs.Gathered.{room_on};
+ghost use Rattle.std.specs.Prelude.{◌≡◌, ◌<◌, ◌∷◌, IfSome, length, slice_get};
 
+use crate::noted_cell::NotedCell;
 use crate::part::Part;
-use crate::resting_cell::RestingCell;
 use atomic_table::{Seat, Shared, TableRule};
-use node_transfer::Mail;
+use node_transfer::{Mail, NodeCell};
 
 /// Takes the mail out of the first place that the seat holds, and turns to the next one.
 pub(crate) fn take_mail<V, K, P: TableRule<Part, V, K>>(
@@ -47,57 +48,29 @@ pub(crate) fn give_mail<V, K, P: TableRule<Part, V, K>>(
     seat.turn();
 }
 
-/// Brings mail into the first place that the seat holds in place of the mail there, which is
-/// dropped, and turns to the next one.
-#[inline(always)]
-pub(crate) fn swap_mail<V, K, P: TableRule<Part, V, K>>(
+/// Whether the mail in the first place that the seat holds tells the room that the in-link of a
+/// place leaves. It stays there, and the seat turns to the next place.
+pub(crate) fn is_told<V, K, P: TableRule<Part, V, K>>(
     shared: &Shared<Part, V, K, P>,
     seat: &mut Seat<Part, V>,
     slot: usize,
-    mail: Mail,
-)
-    requires table { seat.old.table_id ≡ shared.now.table_id }
-    requires held { HoldsMail slot seat.old.me.1 }
-    ensures seat { IsSameSeat seat.old seat.new }
-    ensures held { seat.new.me.1 ≡ turned ((slot, Part.Mail mail) ∷ rest seat.old.me.1) }
-{
-    let Part::Mail(there) = seat.slot_mut(shared, slot) else {
-        unreachable!()
-    };
-    *there = mail;
-    seat.turn();
-}
-
-/// Whether nobody comes with the mail in the first place that the seat holds. It stays there, and
-/// the seat turns to the next place.
-pub(crate) fn is_without_anybody<V, K, P: TableRule<Part, V, K>>(
-    shared: &Shared<Part, V, K, P>,
-    seat: &mut Seat<Part, V>,
-    slot: usize,
+    cell: &NodeCell,
+    place: usize,
 ) -> bool
     requires table { seat.old.table_id ≡ shared.now.table_id }
     requires held { HoldsMail slot seat.old.me.1 }
+    requires there { place < length cell.now.ins }
     ensures seat { IsSameSeat seat.old seat.new }
-    ensures nobody { (mail : Mail) → seat.old.me.1 ≡ (slot, Part.Mail mail) ∷ rest seat.old.me.1
-        → result ≡ true → mail_line mail ≡ [] }
+    ensures told { (mail : Mail) → seat.old.me.1 ≡ (slot, Part.Mail mail) ∷ rest seat.old.me.1
+        → IfSome (slice_get cell.now.ins place) (λ link. result ≡ tells (room_on link) mail) }
     ensures held { seat.new.me.1 ≡ turned seat.old.me.1 }
 {
     let Part::Mail(mail) = seat.slot_mut(shared, slot) else {
         unreachable!()
     };
-    let nobody = has_nobody(mail);
+    let told = cell.is_told(place, mail);
     seat.turn();
-    nobody
-}
-
-// Whether nobody comes with a mail.
-fn has_nobody(mail: &Mail) -> bool
-    ensures { result ≡ true → mail_line mail.now ≡ [] }
-{
-    match mail {
-        Mail::Batch { line, .. } => line.len() == 0,
-        _ => true,
-    }
+    told
 }
 
 /// Takes the cell out of the first place that the seat holds, which stays the first one.
@@ -105,7 +78,7 @@ pub(crate) fn take_cell<V, K, P: TableRule<Part, V, K>>(
     shared: &Shared<Part, V, K, P>,
     seat: &mut Seat<Part, V>,
     slot: usize,
-) -> RestingCell
+) -> NotedCell
     requires table { seat.old.table_id ≡ shared.now.table_id }
     requires held { HoldsCell slot seat.old.me.1 }
     ensures seat { IsSameSeat seat.old seat.new }
@@ -123,7 +96,7 @@ pub(crate) fn give_cell<V, K, P: TableRule<Part, V, K>>(
     shared: &Shared<Part, V, K, P>,
     seat: &mut Seat<Part, V>,
     slot: usize,
-    cell: RestingCell,
+    cell: NotedCell,
 )
     requires table { seat.old.table_id ≡ shared.now.table_id }
     requires held { HoldsNothing slot seat.old.me.1 }

@@ -12,8 +12,8 @@ ghost use Rattle.std.specs.Prelude.{◌≡◌, ◌<◌, suc, IsTrue, false, slic
 ghost use lib.ListN.{get_elem?};
 ghost use mathlib.Core.Option.{some};
 
+use crate::noted_cell::NotedCell;
 use crate::part::Part;
-use crate::resting_cell::RestingCell;
 use atomic_table::Closed;
 use dta_model::{Loaded, Loading};
 use monitors::WriterPass;
@@ -60,7 +60,7 @@ pub(crate) fn take_parts(
 }
 
 // Takes a cell out.
-fn take_cell(closed: &mut Closed<Part, Global>, slot: usize) -> RestingCell
+fn take_cell(closed: &mut Closed<Part, Global>, slot: usize) -> NotedCell
     requires inside { slot < slots_len closed.old.slots }
     requires full { IsTrue (slice_index_or (slots_filled closed.old.slots) slot false) }
     requires cell { HasCell slot (slots_items closed.old.slots) }

@@ -9,7 +9,7 @@ ghost use Rattle.cell_stages.specs.Contents.{away, cell_before};
 ghost use Rattle.phase_claims.specs.PlacesCounted.{counted_in, firsts_on};
 ghost use Rattle.std.specs.Prelude.{◌≡◌, ◌<◌, ℕ, Some, suc, length, slice_get, slice_set};
 
-use crate::resting_cell::RestingCell;
+use crate::noted_cell::NotedCell;
 use dta_model::{Eight, Loading};
 use net_core::NodeNo;
 
@@ -18,7 +18,7 @@ pub(crate) fn add_cell(
     loading: &Loading,
     node: NodeNo,
     steps: u32,
-    cell: &RestingCell,
+    cell: &NotedCell,
     eight: &mut Eight,
 )
     requires sound { IsSound (plan_of loading.now) }
@@ -36,7 +36,7 @@ pub(crate) fn add_cell(
 
 // Adds the vehicles on those of the first four links that lead to the node. They are at the first
 // places of its in-links, since these are in order.
-fn add_links(loading: &Loading, node: NodeNo, steps: u32, cell: &RestingCell, first: &mut [u64; 4])
+fn add_links(loading: &Loading, node: NodeNo, steps: u32, cell: &NotedCell, first: &mut [u64; 4])
     requires node { node.0 < length (plan_of loading.now).net.nodes }
     requires cell { cell.now ≡ cell_before (plan_of loading.now) node.0 steps away away }
     requires first { first.old ≡ firsts_on (plan_of loading.now) steps node.0 }
@@ -49,7 +49,7 @@ fn add_links(loading: &Loading, node: NodeNo, steps: u32, cell: &RestingCell, fi
 }
 
 // Puts the count of the in-link of a place, where it is one of the first four links.
-fn put_count(first: &mut [u64; 4], link: u32, cell: &RestingCell, place: usize)
+fn put_count(first: &mut [u64; 4], link: u32, cell: &NotedCell, place: usize)
     requires { place < length cell.now.ins }
     ensures { (p : Plan) (n t : ℕ) → cell.now ≡ cell_before p n t away away
         → slice_get (ins_of p n) place ≡ Some link

@@ -1,5 +1,3 @@
-pub mod Clocks
-pub mod Mails
-pub mod Passed
+pub mod Wakes
 pub mod Steps
 pub mod Ends

@@ -4,13 +4,10 @@
 //! nodes make their transfers, and then all nodes their gathers. Its promise is that it gives
 //! exactly the journeys of the definition, for every sound loading; only memory can fail.
 //!
-//! A node at which nobody is ready is left as it is until its next step or until somebody comes.
-//! Its credits are then brought up to date by their closed form.
+//! A node at which nobody is ready is left as it is until its next step or until somebody comes,
+//! and its mail too. Nothing of it changes by that.
 #![tactic(auto)]
 
-mod clock;
-mod exchange;
-mod node;
 mod phases;
 mod plain;
 

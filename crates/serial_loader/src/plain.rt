@@ -4,14 +4,12 @@ ghost use Rattle.dta_model.specs.Lent.{plan_of};
 ghost use Rattle.dta_model.specs.Loading.{journeys_of};
 ghost use Rattle.dta_model.specs.Sound.{IsSound};
 ghost use Rattle.serial_loader.specs.Phases.{AreBefore, cells_before};
-ghost use Rattle.cell_stages.specs.declared.mail.Mail.{Mail};
-ghost use Rattle.std.specs.Prelude.{◌≡◌, ◌<◌, suc, IfOk, List};
+ghost use Rattle.std.specs.Prelude.{◌≡◌, IfOk};
 
-use crate::clock::Clock;
-use crate::phases::{gather_all, transfer_all};
+use crate::phases::do_all;
 use dta_model::{Loaded, Loading};
 use net_core::Memory;
-use node_transfer::{Mail, NodeCell, Opening, hand_over_all, opening};
+use node_transfer::{Half, Mail, NodeCell, Opening, hand_over_all, opening};
 use std::alloc::Global;
 
 /// The journeys of a loading, by its definition: an entry step for each link that a vehicle
@@ -32,39 +30,21 @@ pub fn load_plain(alloc: Global, loading: &Loading) -> Result<Loaded, Memory>
         mut loaded,
     } = opening(alloc, loading)?;
     let mut cells = cells.into_vec();
-    let mut clocks = Vec::from_elem(alloc, Clock { since: 0, wake: 0 }, cells.len())?;
+    let mut wakes = Vec::from_elem(alloc, 0, cells.len())?;
     let mut mail = mail.into_vec();
-    run_steps(alloc, loading, &mut cells, &mut clocks, &mut mail);
+    run_steps(loading, &mut cells, &mut wakes, &mut mail);
     hand_over_all(cells, &mut loaded);
     Ok(loaded)
 }
 
-// All steps of a loading. At the end the cells of idle nodes are brought to the horizon.
-fn run_steps(
-    alloc: Global,
-    loading: &Loading,
-    cells: &mut [NodeCell],
-    clocks: &mut [Clock],
-    mail: &mut [Mail],
-)
+// All steps of a loading.
+fn run_steps(loading: &Loading, cells: &mut [NodeCell], wakes: &mut [u32], mail: &mut [Mail])
     requires sound { IsSound (plan_of loading.now) }
-    requires before { AreBefore (plan_of loading.now) 0 cells.old clocks.old mail.old }
+    requires before { AreBefore (plan_of loading.now) 0 cells.old wakes.old mail.old }
     ensures { cells.new ≡ cells_before (plan_of loading.now) loading.now.horizon }
 {
     for step in 0..loading.horizon {
-        transfer_all(loading, step, cells, clocks, mail);
-        gather_all(alloc, loading, step, cells, clocks, mail);
-    }
-    rest_all(loading, cells, clocks);
-}
-
-// Brings all cells to the horizon.
-fn rest_all(loading: &Loading, cells: &mut [NodeCell], clocks: &[Clock])
-    requires { (mail : List Mail)
-        × AreBefore (plan_of loading.now) loading.now.horizon cells.old clocks.now mail }
-    ensures { cells.new ≡ cells_before (plan_of loading.now) loading.now.horizon }
-{
-    for n in 0..cells.len() {
-        cells[n].rest(loading.horizon - clocks[n].since);
+        do_all(loading, Half::Transfer, step, cells, wakes, mail);
+        do_all(loading, Half::Gather, step, cells, wakes, mail);
     }
 }

@@ -29,6 +29,7 @@ use Rattle.cell_stages.proofs.HandOver.{nodes_hold_all}
 use Rattle.dta_model.proofs.Places.{of_mover}
 use Rattle.node_transfer.proofs.OfStep.ByKey.{both_true}
 use Rattle.cell_stages.specs.Contents.{away, cell_before, in_link, left_before, out_link, waiting_parts}
+use Rattle.node_transfer.proofs.OfMail.Sets.{count-set, set-here, set-other}
 use Rattle.node_transfer.specs.Hand.{Within, handed, journey_by, line_of, riders_in, waiting_of}
 use Rattle.node_transfer.specs.Start.{no_journey, no_journeys}
 use Rattle.cell_stages.specs.declared.mail.Mail.{Mail}
@@ -70,7 +71,7 @@ module _ (p : Plan) (sound : IsSound p) (t : ℕ) where
       map_append f [] ys = refl
       map_append f (x ∷ xs) ys = ap (λ zs. f x ∷ zs) (map_append f xs ys)
 
-  lines-in : (n : ℕ) (mail : ℕ → Mail) (ls : List ℕ) → flat_map line_of (map (in_link p n t (line_before p t) (left_before p t) mail) ls) ≡ flat_map (line_before p t) ls
+  lines-in : (n : ℕ) (mail : ℕ → Mail) (ls : List ℕ) → flat_map line_of (map (in_link p n (line_before p t) (left_before p t) mail) ls) ≡ flat_map (line_before p t) ls
   lines-in n mail [] = refl
   lines-in n mail (l ∷ ls) = ap (λ xs. line_before p t l ++ xs) (lines-in n mail ls)
 
@@ -99,38 +100,21 @@ abbrev last_journey : List RiderState → Option Journey → Option Journey
 last_journey [] o = o
 last_journey (r ∷ rs) o = last_journey rs (Some (journey_by r))
 
-set_length : (xs : List Journey) (n : ℕ) (y : Journey) → length (slice_set xs n y) ≡ length xs
-set_length [] n y = refl
-set_length (x ∷ xs) zero y = refl
-set_length (x ∷ xs) (suc n) y = ap (λ k. suc k) (set_length xs n y)
-
-set_here : (xs : List Journey) (n : ℕ) (y : Journey) → n < length xs → slice_get (slice_set xs n y) n ≡ Some y
-set_here [] n y h = absurd (omega (arith, h))
-set_here (x ∷ xs) zero y h = refl
-set_here (x ∷ xs) (suc n) y h = set_here xs n y (omega (arith, h))
-
-set_else : (xs : List Journey) (n v : ℕ) (y : Journey) → (n ≡ v → ⊥) → slice_get (slice_set xs n y) v ≡ slice_get xs v
-set_else [] n v y other = refl
-set_else (x ∷ xs) zero zero y other = absurd (other refl)
-set_else (x ∷ xs) zero (suc v) y other = refl
-set_else (x ∷ xs) (suc n) zero y other = refl
-set_else (x ∷ xs) (suc n) (suc v) y other = set_else xs n v y (λ e. other (ap (λ k. suc k) e))
-
 pub handed-length : (all : List RiderState) (loaded : List Journey) → length (handed all loaded) ≡ length loaded
 unfolding handed
 handed-length [] loaded = refl
-handed-length (r ∷ all) loaded = handed-length all (slice_set loaded r.number (journey_by r)) ∙ set_length loaded r.number (journey_by r)
+handed-length (r ∷ all) loaded = handed-length all (slice_set loaded r.number (journey_by r)) ∙ count-set loaded r.number (journey_by r)
 
 handed-at : (all : List RiderState) (loaded : List Journey) (v : ℕ) → v < length loaded → slice_get (handed all loaded) v ≡ last_journey (filter (λ r. nat_eq r.number v) all) (slice_get loaded v)
 unfolding handed
 handed-at [] loaded v h = refl
 handed-at (r ∷ all) loaded v h =
-    handed-at all (slice_set loaded r.number (journey_by r)) v (let e = set_length loaded r.number (journey_by r) in omega (arith, e, h)) ∙ by_number (eqb_tells r.number v)
+    handed-at all (slice_set loaded r.number (journey_by r)) v (let e = count-set loaded r.number (journey_by r) in omega (arith, e, h)) ∙ by_number (eqb_tells r.number v)
   where
     by_number : ((eqb r.number v ≡ true) × (r.number ≡ v)) ⊎ ((eqb r.number v ≡ false) × ((r.number ≡ v) → ⊥))
         → last_journey (filter (λ x. nat_eq x.number v) all) (slice_get (slice_set loaded r.number (journey_by r)) v) ≡ last_journey (cond (eqb r.number v) (r ∷ filter (λ x. nat_eq x.number v) all) (filter (λ x. nat_eq x.number v) all)) (slice_get loaded v)
-    by_number (inl (s, same)) = rw s (ap (λ o. last_journey (filter (λ x. nat_eq x.number v) all) o) (subst (λ w. slice_get (slice_set loaded w (journey_by r)) v ≡ Some (journey_by r)) (sym same) (set_here loaded v (journey_by r) h)))
-    by_number (inr (s, other)) = rw s (ap (λ o. last_journey (filter (λ x. nat_eq x.number v) all) o) (set_else loaded r.number v (journey_by r) other))
+    by_number (inl (s, same)) = rw s (ap (λ o. last_journey (filter (λ x. nat_eq x.number v) all) o) (subst (λ w. slice_get (slice_set loaded w (journey_by r)) v ≡ Some (journey_by r)) (sym same) (set-here loaded v (journey_by r) h)))
+    by_number (inr (s, other)) = rw s (ap (λ o. last_journey (filter (λ x. nat_eq x.number v) all) o) (set-other loaded r.number v (journey_by r) (λ e. other (sym e))))
 
 same_lists : (xs ys : List Journey) → length xs ≡ length ys → ((v : ℕ) → v < length xs → slice_get xs v ≡ slice_get ys v) → xs ≡ ys
 same_lists [] [] e h = refl

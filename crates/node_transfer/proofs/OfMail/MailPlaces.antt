@@ -17,8 +17,7 @@ use Rattle.cell_stages.specs.declared.mail.Mail.{Mail}
 use Rattle.cell_stages.specs.declared.out_link.OutLink.{OutLink}
 use Rattle.node_transfer.proofs.OfStep.ByKey.{behind_by}
 use Rattle.node_transfer.proofs.OfStep.InPass.{absent_all}
-use Rattle.node_transfer.proofs.OfStep.LinkPass.{outs-distinct}
-use Rattle.node_transfer.proofs.OfStep.Transfer.{ins-distinct}
+use Rattle.node_transfer.proofs.OfMail.Parts.{ins-once, outs-once}
 
 module _ {Y : Type 0} (make : Mail → ℕ → Y) (h : Y → Y) (mail : Mail) (f : ℕ → Mail) (b : ℕ) (puts : (x : Mail) (l : ℕ) → h (make x l) ≡ make mail l) where
   here_put : (x : ℕ) → x ≡ b → h (make (f x) x) ≡ make (put_mail b mail f x) x
@@ -62,22 +61,22 @@ same_all make f f' (x ∷ xs) a =
     ap (λ m. make m x ∷ map (λ x. make (f x) x) xs) (All-head (λ x. f x ≡ f' x) x xs a)
     ∙ ap (λ ys. make (f' x) x ∷ ys) (same_all make f f' xs (All-tail (λ x. f x ≡ f' x) x xs a))
 
-abbrev in_made : Plan → ℕ → ℕ → (ℕ → List RiderState) → (ℕ → List ℕ) → Mail → ℕ → InLink
-in_made p n grants line left mail l = in_link p n grants line left (λ x. mail) l
+abbrev in_made : Plan → ℕ → (ℕ → List RiderState) → (ℕ → List ℕ) → Mail → ℕ → InLink
+in_made p n line left mail l = in_link p n line left (λ x. mail) l
 
 abbrev out_made : Plan → ℕ → (ℕ → List RiderState) → Mail → ℕ → OutLink
-out_made p grants waiting mail b = out_link p grants waiting (λ x. mail) b
+out_made p steps waiting mail b = out_link p steps waiting (λ x. mail) b
 
 module _ (p : Plan) (n t : ℕ) where
   of-links : MailIsPut p n t
   unfolding cell_before cell_after
   of-links = record {
-    out_before = λ i b mail f g e. ap (λ os. record (cell_before p n t f g) { outs = os }) (put_place (out_made p t (waiting_before p t)) (out_mail_put mail) mail g b (λ x l. refl) (outs p n) i (outs-distinct p n) e);
-    out_after = λ i b mail f g e. ap (λ os. record (cell_after p n t f g) { outs = os }) (put_place (out_made p (suc t) (waiting_after p n t)) (out_mail_put mail) mail g b (λ x l. refl) (outs p n) i (outs-distinct p n) e);
-    in_before = λ i l mail f g e. ap (λ is. record (cell_before p n t f g) { ins = is }) (put_place (in_made p n t (line_before p t) (left_before p t)) (in_mail_put mail) mail f l (λ x k. refl) (ins p n) i (ins-distinct p n) e);
-    in_after = λ i l mail f g e. ap (λ is. record (cell_after p n t f g) { ins = is }) (put_place (in_made p n (suc t) (line_after p n t) (left_after p n t)) (in_mail_put mail) mail f l (λ x k. refl) (ins p n) i (ins-distinct p n) e);
-    same_before = λ f f' g g' a b. ap (λ is. record (cell_before p n t f g) { ins = is }) (same_all (in_made p n t (line_before p t) (left_before p t)) f f' (ins p n) a) ∙ ap (λ os. record (cell_before p n t f' g) { outs = os }) (same_all (out_made p t (waiting_before p t)) g g' (outs p n) b);
-    same_after = λ f f' g g' a b. ap (λ is. record (cell_after p n t f g) { ins = is }) (same_all (in_made p n (suc t) (line_after p n t) (left_after p n t)) f f' (ins p n) a) ∙ ap (λ os. record (cell_after p n t f' g) { outs = os }) (same_all (out_made p (suc t) (waiting_after p n t)) g g' (outs p n) b);
+    out_before = λ i b mail f g e. ap (λ os. record (cell_before p n t f g) { outs = os }) (put_place (out_made p t (waiting_before p t)) (out_mail_put mail) mail g b (λ x l. refl) (outs p n) i (outs-once p n) e);
+    out_after = λ i b mail f g e. ap (λ os. record (cell_after p n t f g) { outs = os }) (put_place (out_made p (suc t) (waiting_after p n t)) (out_mail_put mail) mail g b (λ x l. refl) (outs p n) i (outs-once p n) e);
+    in_before = λ i l mail f g e. ap (λ is. record (cell_before p n t f g) { ins = is }) (put_place (in_made p n (line_before p t) (left_before p t)) (in_mail_put mail) mail f l (λ x k. refl) (ins p n) i (ins-once p n) e);
+    in_after = λ i l mail f g e. ap (λ is. record (cell_after p n t f g) { ins = is }) (put_place (in_made p n (line_after p n t) (left_after p n t)) (in_mail_put mail) mail f l (λ x k. refl) (ins p n) i (ins-once p n) e);
+    same_before = λ f f' g g' a b. ap (λ is. record (cell_before p n t f g) { ins = is }) (same_all (in_made p n (line_before p t) (left_before p t)) f f' (ins p n) a) ∙ ap (λ os. record (cell_before p n t f' g) { outs = os }) (same_all (out_made p t (waiting_before p t)) g g' (outs p n) b);
+    same_after = λ f f' g g' a b. ap (λ is. record (cell_after p n t f g) { ins = is }) (same_all (in_made p n (line_after p n t) (left_after p n t)) f f' (ins p n) a) ∙ ap (λ os. record (cell_after p n t f' g) { outs = os }) (same_all (out_made p (suc t) (waiting_after p n t)) g g' (outs p n) b);
   }
 
 pub mail_goes_by_links : MailGoesByLinks

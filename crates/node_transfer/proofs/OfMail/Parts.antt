@@ -35,11 +35,11 @@ got-map f (x ∷ xs) zero b e = ap (λ o. option_map f o) e
 got-map f (x ∷ xs) (suc j) b e = got-map f xs j b e
 
 module _ (p : Plan) (n : ℕ) where
-  outs-once : distinct (outs p n) ≡ true
+  pub outs-once : distinct (outs p n) ≡ true
   unfolding network.outs
   outs-once = distinct_filter (λ l. nat_eq (link_at p l).from.0 n) (network.numbers_below (length p.net.links)) (distinct_range (length p.net.links) 0)
 
-  ins-once : distinct (ins p n) ≡ true
+  pub ins-once : distinct (ins p n) ≡ true
   unfolding network.ins
   ins-once = distinct_filter (λ l. nat_eq (link_at p l).to.0 n) (network.numbers_below (length p.net.links)) (distinct_range (length p.net.links) 0)
 
@@ -62,14 +62,14 @@ module _ (p : Plan) (n : ℕ) where
   pub outs-among : (l : ℕ) → is_among (outs p n) l ≡ true → l < length p.net.links
   outs-among l is_in = let stands = among-place (outs p n) l is_in in outs-inside stands.0 l stands.1
 
-  outs-same : {X : Type 0} (f g : ℕ → X) → ((x : ℕ) → x < length p.net.links → (link_at p x).from.0 ≡ n → f x ≡ g x) → map f (outs p n) ≡ map g (outs p n)
+  pub outs-same : {X : Type 0} (f g : ℕ → X) → ((x : ℕ) → x < length p.net.links → (link_at p x).from.0 ≡ n → f x ≡ g x) → map f (outs p n) ≡ map g (outs p n)
   unfolding network.outs
   outs-same f g h = same-kept f g (λ l. nat_eq (link_at p l).from.0 n) (length p.net.links) (λ i below e. h i below (eqb-true (link_at p i).from.0 n e))
 
   pub ins-among : (l : ℕ) → is_among (ins p n) l ≡ true → l < length p.net.links
   ins-among l is_in = let stands = among-place (ins p n) l is_in in ins-inside stands.0 l stands.1
 
-  ins-same : {X : Type 0} (f g : ℕ → X) → ((x : ℕ) → x < length p.net.links → (link_at p x).to.0 ≡ n → f x ≡ g x) → map f (ins p n) ≡ map g (ins p n)
+  pub ins-same : {X : Type 0} (f g : ℕ → X) → ((x : ℕ) → x < length p.net.links → (link_at p x).to.0 ≡ n → f x ≡ g x) → map f (ins p n) ≡ map g (ins p n)
   unfolding network.ins
   ins-same f g h = same-kept f g (λ l. nat_eq (link_at p l).to.0 n) (length p.net.links) (λ i below e. h i below (eqb-true (link_at p i).to.0 n e))
 
@@ -82,13 +82,13 @@ module _ (p : Plan) (n : ℕ) where
       (λ x ne. ap (λ y. record (out_link p t line mail x) { mail = y }) (sym (other x ne)))
       (ap (λ y. record (out_link p t line mail b) { mail = y }) (sym here))
 
-  ins-put : (t : ℕ) (line : ℕ → List RiderState) (left : ℕ → List ℕ) (mail mail' : ℕ → Mail) (j b : ℕ) (m : Mail) → slice_get (ins p n) j ≡ Some b → ((x : ℕ) → x ≢ b → mail x ≡ mail' x) → m ≡ mail' b
-      → in_mailed j m (map (in_link p n t line left mail) (ins p n)) ≡ map (in_link p n t line left mail') (ins p n)
-  ins-put t line left mail mail' j b m e other here =
-      ap (λ k. in_mailed k m (map (in_link p n t line left mail) (ins p n))) (sym (place-is (ins p n) j b ins-once e))
-      ∙ set-at (in_link p n t line left mail) (in_link p n t line left mail') (in_mail_put m) b (ins p n) ins-once
-      (λ x ne. ap (λ y. record (in_link p n t line left mail x) { mail = y }) (sym (other x ne)))
-      (ap (λ y. record (in_link p n t line left mail b) { mail = y }) (sym here))
+  ins-put : (line : ℕ → List RiderState) (left : ℕ → List ℕ) (mail mail' : ℕ → Mail) (j b : ℕ) (m : Mail) → slice_get (ins p n) j ≡ Some b → ((x : ℕ) → x ≢ b → mail x ≡ mail' x) → m ≡ mail' b
+      → in_mailed j m (map (in_link p n line left mail) (ins p n)) ≡ map (in_link p n line left mail') (ins p n)
+  ins-put line left mail mail' j b m e other here =
+      ap (λ k. in_mailed k m (map (in_link p n line left mail) (ins p n))) (sym (place-is (ins p n) j b ins-once e))
+      ∙ set-at (in_link p n line left mail) (in_link p n line left mail') (in_mail_put m) b (ins p n) ins-once
+      (λ x ne. ap (λ y. record (in_link p n line left mail x) { mail = y }) (sym (other x ne)))
+      (ap (λ y. record (in_link p n line left mail b) { mail = y }) (sym here))
 
   -- the four cells and their places
   pub outs-before : (t : ℕ) (ms : ℕ → Mail) → IsMadeOf p n (λ l. (link_at p l).from.0) (outs p n) (cell_before p n t ms) with_out_mail out_mail
@@ -122,9 +122,9 @@ module _ (p : Plan) (n : ℕ) where
     member = ins-member;
     inside = ins-inside;
     among = ins-among;
-    puts = λ mail mail' j b m e other here. ap (λ is. record (cell_before p n t mail ms) { ins = is }) (ins-put t (line_before p t) (left_before p t) mail mail' j b m e other here);
-    tells = λ mail j b e. ap (λ o. option_map mail_of_in o) (got-map (in_link p n t (line_before p t) (left_before p t) mail) (ins p n) j b e);
-    same = λ mail mail' h. ap (λ is. record (cell_before p n t mail ms) { ins = is }) (ins-same (in_link p n t (line_before p t) (left_before p t) mail) (in_link p n t (line_before p t) (left_before p t) mail') (λ x below at. ap (λ y. record (in_link p n t (line_before p t) (left_before p t) mail x) { mail = y }) (h x below at)));
+    puts = λ mail mail' j b m e other here. ap (λ is. record (cell_before p n t mail ms) { ins = is }) (ins-put (line_before p t) (left_before p t) mail mail' j b m e other here);
+    tells = λ mail j b e. ap (λ o. option_map mail_of_in o) (got-map (in_link p n (line_before p t) (left_before p t) mail) (ins p n) j b e);
+    same = λ mail mail' h. ap (λ is. record (cell_before p n t mail ms) { ins = is }) (ins-same (in_link p n (line_before p t) (left_before p t) mail) (in_link p n (line_before p t) (left_before p t) mail') (λ x below at. ap (λ y. record (in_link p n (line_before p t) (left_before p t) mail x) { mail = y }) (h x below at)));
   }
 
   pub ins-after : (t : ℕ) (ms : ℕ → Mail) → IsMadeOf p n (λ l. (link_at p l).to.0) (ins p n) (λ mail. cell_after p n t mail ms) with_in_mail in_mail
@@ -134,11 +134,11 @@ module _ (p : Plan) (n : ℕ) where
     member = ins-member;
     inside = ins-inside;
     among = ins-among;
-    puts = λ mail mail' j b m e other here. ap (λ is. record (cell_after p n t mail ms) { ins = is }) (ins-put (suc t) (line_after p n t) (left_after p n t) mail mail' j b m e other here);
-    tells = λ mail j b e. ap (λ o. option_map mail_of_in o) (got-map (in_link p n (suc t) (line_after p n t) (left_after p n t) mail) (ins p n) j b e);
-    same = λ mail mail' h. ap (λ is. record (cell_after p n t mail ms) { ins = is }) (ins-same (in_link p n (suc t) (line_after p n t) (left_after p n t) mail) (in_link p n (suc t) (line_after p n t) (left_after p n t) mail') (λ x below at. ap (λ y. record (in_link p n (suc t) (line_after p n t) (left_after p n t) mail x) { mail = y }) (h x below at)));
+    puts = λ mail mail' j b m e other here. ap (λ is. record (cell_after p n t mail ms) { ins = is }) (ins-put (line_after p n t) (left_after p n t) mail mail' j b m e other here);
+    tells = λ mail j b e. ap (λ o. option_map mail_of_in o) (got-map (in_link p n (line_after p n t) (left_after p n t) mail) (ins p n) j b e);
+    same = λ mail mail' h. ap (λ is. record (cell_after p n t mail ms) { ins = is }) (ins-same (in_link p n (line_after p n t) (left_after p n t) mail) (in_link p n (line_after p n t) (left_after p n t) mail') (λ x below at. ap (λ y. record (in_link p n (line_after p n t) (left_after p n t) mail x) { mail = y }) (h x below at)));
   }
 
   pub ins-count-before : (t : ℕ) (mail ms : ℕ → Mail) → length (cell_before p n t mail ms).ins ≡ length (ins p n)
   unfolding cell_before
-  ins-count-before t mail ms = length-map (ins p n) (in_link p n t (line_before p t) (left_before p t) mail)
+  ins-count-before t mail ms = length-map (ins p n) (in_link p n (line_before p t) (left_before p t) mail)

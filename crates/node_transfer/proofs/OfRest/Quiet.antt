@@ -1,19 +1,20 @@
 -- Cells in which nobody is ready in a step.
 use Rattle.std.specs.List.{last_or}
 use Rattle.std.specs.Prelude.{All, IfSome, map, nat_lt, slice_get, sum}
-use Rattle.std.proofs.Common.{◌≡◌, ℕ, zero, suc, ◌+◌, ◌-◌, ◌<◌, Bool, true, false, cond, List, [], ◌∷◌, length, take, drop, refl, ap, sym, ◌∙◌, arith, Option, None, Some}
-use Rattle.std.proofs.lemmas.List.{map-append, take-append-drop}
-use Rattle.std.proofs.lemmas.List.Elements.{All-drop, All-head, All-map, All-tail, All-take, All-weaker}
+use Rattle.std.proofs.Common.{◌≡◌, ℕ, ◌+◌, ◌-◌, ◌<◌, Bool, true, false, cond, List, [], ◌∷◌, length, take, drop, refl, ap, sym, ◌∙◌, arith, Option, None, Some}
+use Rattle.std.proofs.lemmas.List.{take-append-drop}
+use Rattle.std.proofs.lemmas.List.Elements.{All-drop, All-head, All-tail, All-take}
+use Rattle.std.proofs.lemmas.List.Sums.{sum_by-cons}
 use Rattle.dta_model.specs.Riders.{RiderState}
 use Rattle.cell_stages.specs.CellState.{CellState}
 use Rattle.node_transfer.specs.Inside.Cells.{finished, joined_behind, link_after, passed_front, passed_link, passed_links, passed_rotated, put_first, start_at, transferred}
-use Rattle.node_transfer.specs.Places.{out_mail_put}
 use Rattle.capacity_credits.specs.Meter.{MeterState, closed, granted}
 use Rattle.node_transfer.specs.Inside.Outs.{capped_by, closed_out, closed_with, opened_out, released}
 use Rattle.node_transfer.specs.Inside.Pass.{by_target, passed, penalty_of, place_of, turn_links, head_action, head_action_by}
-use Rattle.node_transfer.specs.Exits.{opened_exit}
-use Rattle.node_transfer.specs.Rest.{IsQuiet, IsQuietLink, WaitLater, rested, rested_in, rested_once, rested_out}
+use Rattle.node_transfer.specs.Exits.{closed_exit, opened_exit}
+use Rattle.node_transfer.specs.Rest.{IsQuietLink, WaitLater}
 use Rattle.cell_stages.specs.declared.in_link.InLink.{InLink}
+use Rattle.cell_stages.specs.Contents.{sent}
 use Rattle.cell_stages.specs.declared.mail.Mail.{Mail}
 use Rattle.cell_stages.specs.declared.mail.Mail.TheVariants.{Away, Batch, Room}
 use Rattle.cell_stages.specs.declared.out_link.OutLink.{OutLink}
@@ -21,7 +22,6 @@ use Rattle.cell_stages.specs.declared.exit.Exit.{Exit}
 use Rattle.node_transfer.specs.declared.step.pass.HeadAction.TheVariants.{Stays}
 use Rattle.cell_stages.specs.declared.turn.LimitedTurn.{LimitedTurn}
 use Rattle.link_queues.specs.Leavings.{pushed}
-use Rattle.node_transfer.proofs.OfRest.Rested.{nobody-pushed}
 use Rattle.node_transfer.proofs.OfStep.Outs.{admitted-none, not_le}
 
 -- a head that isn't ready stays
@@ -56,29 +56,43 @@ passed-stays step (r ∷ line) exit outs arrived h = rw (head_action-stays step 
 none_less : (k : ℕ) → k - k ≡ 0
 none_less k = omega arith
 
-link-stays : (delta step : ℕ) (link : InLink) (outs : List OutLink) (arrived : List RiderState) → IsQuietLink step link
-    → passed_link delta step link outs arrived ≡ record { link = rested_in delta link; outs = outs; arrived = arrived }
-link-stays delta step link outs arrived h =
-    ap (link_after link) (passed-stays step link.line (opened_exit delta link.exit) outs arrived h.head)
-    ∙ ap (λ k. record { link = record (rested_in delta link) { left = pushed k link.left }; outs = outs; arrived = arrived }) (none_less (length link.line))
+-- where nobody left in the last steps, one more such step changes nothing
+nobody-pushed : (xs : List ℕ) → sum xs ≡ 0 → pushed 0 xs ≡ xs
+nobody-pushed [] h = refl
+nobody-pushed (x ∷ xs) h =
+    let here : x ≡ 0 = omega (arith, sum_by-cons (λ y. y) x xs, h) in
+    let rest : sum xs ≡ 0 = omega (arith, sum_by-cons (λ y. y) x xs, h) in
+    ap (λ y. 0 ∷ take (length xs) (y ∷ xs)) here ∙ ap (λ ys. 0 ∷ ys) (nobody-pushed xs rest) ∙ ap (λ y. y ∷ xs) (sym here)
 
-links-stay : (delta step : ℕ) (xs : List InLink) (outs : List OutLink) (arrived : List RiderState) → All (IsQuietLink step) xs
-    → passed_links delta step xs outs arrived ≡ record { ins = map (rested_in delta) xs; outs = outs; arrived = arrived }
+-- a link that is quiet, and whose exit is the same after a step in which nobody leaves
+pub record StaysShut (step : ℕ) (link : InLink) : Type 0 where
+  pub quiet : IsQuietLink step link
+  pub exit : closed_exit (opened_exit step link.exit) ≡ link.exit
+
+link-stays : (step : ℕ) (link : InLink) (outs : List OutLink) (arrived : List RiderState) → StaysShut step link
+    → passed_link step link outs arrived ≡ record { link = link; outs = outs; arrived = arrived }
+link-stays step link outs arrived h =
+    ap (link_after link) (passed-stays step link.line (opened_exit step link.exit) outs arrived h.quiet.head)
+    ∙ ap (λ g. record { link = record link { left = pushed (length link.line - length link.line) link.left; exit = g }; outs = outs; arrived = arrived }) h.exit
+    ∙ ap (λ xs. record { link = record link { left = xs }; outs = outs; arrived = arrived })
+    (ap (λ k. pushed k link.left) (none_less (length link.line)) ∙ nobody-pushed link.left h.quiet.left)
+
+links-stay : (step : ℕ) (xs : List InLink) (outs : List OutLink) (arrived : List RiderState) → All (StaysShut step) xs
+    → passed_links step xs outs arrived ≡ record { ins = xs; outs = outs; arrived = arrived }
 unfolding passed_links
-links-stay delta step [] outs arrived a = refl
-links-stay delta step (x ∷ xs) outs arrived a =
-    ap (λ w. put_first w.link (passed_links delta step xs w.outs w.arrived))
-    (link-stays delta step x outs arrived (All-head (IsQuietLink step) x xs a))
-    ∙ ap (put_first (rested_in delta x)) (links-stay delta step xs outs arrived (All-tail (IsQuietLink step) x xs a))
+links-stay step [] outs arrived a = refl
+links-stay step (x ∷ xs) outs arrived a =
+    ap (λ w. put_first w.link (passed_links step xs w.outs w.arrived))
+    (link-stays step x outs arrived (All-head (StaysShut step) x xs a))
+    ∙ ap (put_first x) (links-stay step xs outs arrived (All-tail (StaysShut step) x xs a))
 
-rotated-stays : (delta step k : ℕ) (xs : List InLink) (outs : List OutLink) (arrived : List RiderState) → All (IsQuietLink step) xs
-    → passed_rotated delta step k xs outs arrived ≡ record { ins = map (rested_in delta) xs; outs = outs; arrived = arrived }
-rotated-stays delta step k xs outs arrived a =
-    ap (passed_front delta step (take k xs)) (links-stay delta step (drop k xs) outs arrived (All-drop (IsQuietLink step) k xs a))
-    ∙ ap (joined_behind (record { ins = map (rested_in delta) (drop k xs); outs = outs; arrived = arrived }))
-    (links-stay delta step (take k xs) outs arrived (All-take (IsQuietLink step) k xs a))
-    ∙ ap (λ is. record { ins = is; outs = outs; arrived = arrived })
-    (sym (map-append (rested_in delta) (take k xs) (drop k xs)) ∙ ap (map (rested_in delta)) (take-append-drop k xs))
+rotated-stays : (step k : ℕ) (xs : List InLink) (outs : List OutLink) (arrived : List RiderState) → All (StaysShut step) xs
+    → passed_rotated step k xs outs arrived ≡ record { ins = xs; outs = outs; arrived = arrived }
+rotated-stays step k xs outs arrived a =
+    ap (passed_front step (take k xs)) (links-stay step (drop k xs) outs arrived (All-drop (StaysShut step) k xs a))
+    ∙ ap (joined_behind (record { ins = drop k xs; outs = outs; arrived = arrived }))
+    (links-stay step (take k xs) outs arrived (All-take (StaysShut step) k xs a))
+    ∙ ap (λ is. record { ins = is; outs = outs; arrived = arrived }) (take-append-drop k xs)
 
 -- nobody who waits becomes due
 released-later : (step : ℕ) (later due : List RiderState) → IfSome (slice_get later 0) (λ r. step < r.departure)
@@ -93,57 +107,30 @@ closed-capped (Room step None) m = refl
 closed-capped (Room step (Some room)) m = refl
 closed-capped (Batch step line) m = refl
 
--- an out-link for which nobody waits and of which the batch is empty
-abbrev pub rested_with : ℕ → ℕ → OutLink → OutLink
-rested_with delta step o = out_mail_put (Batch step []) (rested_out delta o)
+-- an out-link of which no step is open, for which nobody waits, and of which the batch is empty
+pub record StaysEmpty (step : ℕ) (o : OutLink) : Type 0 where
+  pub waits : WaitLater step o
+  pub none : o.batch ≡ []
+  pub inflow : closed o.inflow ≡ o.inflow
 
-out-rests : (delta step : ℕ) (o : OutLink) → WaitLater step o → o.batch ≡ []
-    → closed_out step (opened_out delta step o) ≡ rested_with delta step o
-out-rests delta step o w none =
-    let m = capped_by o.mail (granted delta o.inflow) in
-    let opened : OutLink = record o { inflow = m; mail = Away } in
-    ap (λ x. closed_out step (record o { inflow = m; waiting = x; mail = Away })) (released-later step o.waiting.later o.waiting.due w.later)
-    ∙ ap (closed_with step opened) (admitted-none step o.waiting.due o.batch m (ap (λ xs. length xs) w.due))
-    ∙ ap (λ k. record o { inflow = k; batch = []; mail = Batch step o.batch }) (closed-capped o.mail (granted delta o.inflow))
-    ∙ ap (λ xs. record o { inflow = closed (granted delta o.inflow); batch = xs; mail = Batch step o.batch }) (sym none)
-    ∙ ap (λ xs. record (rested_out delta o) { mail = Batch step xs }) none
+out-stays : (step : ℕ) (o : OutLink) → StaysEmpty step o → closed_out step (opened_out step o) ≡ o
+out-stays step o h =
+    let m = capped_by o.mail (granted step o.inflow) in
+    let opened : OutLink = record o { inflow = m } in
+    ap (λ x. closed_out step (record o { inflow = m; waiting = x })) (released-later step o.waiting.later o.waiting.due h.waits.later)
+    ∙ ap (closed_with step opened) (admitted-none step o.waiting.due o.batch m (ap (λ xs. length xs) h.waits.due))
+    ∙ ap (λ k. record o { inflow = k; batch = []; mail = sent step o.batch o.mail }) (closed-capped o.mail (granted step o.inflow) ∙ h.inflow)
+    ∙ ap (λ xs. record o { batch = []; mail = sent step xs o.mail }) h.none
+    ∙ ap (λ xs. record o { batch = xs }) (sym h.none)
 
-outs-rest : (delta step : ℕ) (os : List OutLink) → All (WaitLater step) os → All (λ o. o.batch ≡ []) os
-    → map (closed_out step) (map (opened_out delta step) os) ≡ map (rested_with delta step) os
-outs-rest delta step [] w none = refl
-outs-rest delta step (o ∷ os) w none =
-    ap (λ x. x ∷ map (closed_out step) (map (opened_out delta step) os))
-    (out-rests delta step o (All-head (WaitLater step) o os w) (All-head (λ o. o.batch ≡ []) o os none))
-    ∙ ap (λ xs. rested_with delta step o ∷ xs)
-    (outs-rest delta step os (All-tail (WaitLater step) o os w) (All-tail (λ o. o.batch ≡ []) o os none))
+outs-stay : (step : ℕ) (os : List OutLink) → All (StaysEmpty step) os → map (closed_out step) (map (opened_out step) os) ≡ os
+outs-stay step [] a = refl
+outs-stay step (o ∷ os) a =
+    ap (λ x. x ∷ map (closed_out step) (map (opened_out step) os)) (out-stays step o (All-head (StaysEmpty step) o os a))
+    ∙ ap (λ xs. o ∷ xs) (outs-stay step os (All-tail (StaysEmpty step) o os a))
 
--- the transfer of a quiet cell
-pub transferred-rests : (step : ℕ) (s : CellState) → IsQuiet step s → All (λ o. o.batch ≡ []) s.outs
-    → transferred step s ≡ record s { ins = map (rested_in s.delta) s.ins; outs = map (rested_with s.delta step) s.outs }
-transferred-rests step s q none =
-    ap (finished step s) (rotated-stays s.delta step (start_at step s.ins) s.ins (map (opened_out s.delta step) s.outs) s.arrived q.links)
-    ∙ ap (λ os. record s { ins = map (rested_in s.delta) s.ins; outs = os }) (outs-rest s.delta step s.outs q.waits none)
-
--- a cell that rests stays quiet
-links-rested : (delta step : ℕ) (xs : List InLink) → All (IsQuietLink step) xs → All (IsQuietLink step) (map (rested_in delta) xs)
-links-rested delta step xs a =
-    All-map (IsQuietLink step) (rested_in delta) xs
-    (All-weaker (IsQuietLink step) (λ link. IsQuietLink step (rested_in delta link))
-    (λ link h. record { head = h.head; left = ap (λ ks. sum ks) (nobody-pushed link.left h.left) ∙ h.left }) xs a)
-
-waits-rested : (delta step : ℕ) (os : List OutLink) → All (WaitLater step) os → All (WaitLater step) (map (rested_out delta) os)
-waits-rested delta step os a =
-    All-map (WaitLater step) (rested_out delta) os
-    (All-weaker (WaitLater step) (λ o. WaitLater step (rested_out delta o)) (λ o h. record { due = h.due; later = h.later }) os a)
-
-quiet-once : (step : ℕ) (s : CellState) → IsQuiet step s → IsQuiet step (rested_once s)
-quiet-once step s q = record { links = links-rested s.delta step s.ins q.links; waits = waits-rested s.delta step s.outs q.waits }
-
-pub quiet-rested : (step steps : ℕ) (s : CellState) → IsQuiet step s → IsQuiet step (rested steps s)
-unfolding rested
-quiet-rested step zero s q = q
-quiet-rested step (suc steps) s q = quiet-once step (rested steps s) (quiet-rested step steps s q)
-
-pub rested-suc : (steps : ℕ) (s : CellState) → rested (suc steps) s ≡ rested_once (rested steps s)
-unfolding rested
-rested-suc steps s = refl
+-- the transfer of such a cell
+pub transferred-stays : (step : ℕ) (s : CellState) → All (StaysShut step) s.ins → All (StaysEmpty step) s.outs → transferred step s ≡ s
+transferred-stays step s shut empty =
+    ap (finished step s) (rotated-stays step (start_at step s.ins) s.ins (map (opened_out step) s.outs) s.arrived shut)
+    ∙ ap (λ os. record s { outs = os }) (outs-stay step s.outs empty)

@@ -2,14 +2,13 @@
 use Rattle.net_core.specs.Network as network
 use Rattle.net_core.specs.Network.{numbers_below}
 use Rattle.net_core.specs.declared.rows.LinkNo.{LinkNo}
-use Rattle.net_core.specs.declared.rates.Rates.{Rates}
 use Rattle.std.specs.List.{range_with_len}
 use Rattle.std.specs.Prelude.{filter, slice_get, slice_index_or, nat_eq, nat_le, nat_lt, All, ◌≢◌}
 use Rattle.std.proofs.Common.{◌≡◌, ℕ, zero, suc, ◌+◌, ◌-◌, ◌<◌, ◌≤◌, Bool, true, false, cond, ◌&&◌, List, [], ◌∷◌, ◌++◌, length, map, refl, ap, sym, ◌∙◌, subst, arith, append-nil, Option, Some, None, get_or, add-one}
-use Rattle.std.proofs.lemmas.Bool.{eqb-true, eq-eqb, ne_eqb}
+use Rattle.std.proofs.lemmas.Bool.{eq-eqb, ne_eqb}
 use Rattle.std.proofs.lemmas.Bool.Decides.{nat_tests}
 use Rattle.std.proofs.lemmas.List.{length-map, map-append}
-use Rattle.std.proofs.lemmas.List.Elements.{filter-append, All-head, All-tail, All-nil, All-cons}
+use Rattle.std.proofs.lemmas.List.Elements.{filter-append, All-head, All-tail, All-nil, All-cons, All-filter, All-weaker}
 use Rattle.std.proofs.lemmas.List.FromFn.{length-range_with_len, length-map-range_with_len, get_or-map-range_with_len}
 use Rattle.std.proofs.lemmas.List.Sums.{length-filter, count_by-le-length}
 use Rattle.std.proofs.lemmas.Option.{slice_get-get_or, slice_get_within}
@@ -17,8 +16,7 @@ use Rattle.std.proofs.Math.Dec.{eqb}
 use Rattle.net_core.proofs.Numbers.{numbers_more}
 use Rattle.dta_model.specs.Loading.{trace_after, entries_of, arrival_of}
 use Rattle.dta_model.specs.NodeMoves.{is_first}
-use Rattle.dta_model.specs.Plans.{departure_of, first_link, ins, link_at, link_numbers, link_rates, outs, route_in, route_of, turn, turn_rates, vehicle_count, vehicles_of}
-use Rattle.dta_model.specs.Allowance.{parts}
+use Rattle.dta_model.specs.Plans.{departure_of, first_link, ins, link_at, link_numbers, outs, route_in, route_of, vehicle_count, vehicles_of}
 use Rattle.dta_model.specs.Room.{wave_of}
 use Rattle.dta_model.specs.Riders.{RiderState, rider_at, riders}
 use Rattle.dta_model.specs.Sound.{IsSound}
@@ -32,17 +30,17 @@ use Rattle.node_transfer.proofs.OfStep.ByKey.{both_true}
 use Rattle.link_queues.specs.Riders.{setting_out}
 use Rattle.link_queues.specs.declared.line.TheConstants.{MOST_RIDERS}
 use Rattle.node_transfer.specs.Places.{changed_at, set_some}
-use Rattle.cell_stages.specs.Contents.{away, cell_before, in_link, is_limited, kept_turns, left_before, meter_after, out_link, penalty_of, turn_after, waiting_parts}
+use Rattle.cell_stages.specs.Contents.{away, cell_before, in_link, left_before, out_link, waiting_parts}
 use Rattle.link_queues.specs.Leavings.{no_leavings}
-use Rattle.capacity_credits.specs.Meter.{unused}
 use Rattle.node_transfer.specs.Inside.Pass.{place_of}
 use Rattle.node_transfer.specs.Start.{cells_at_start}
-use Rattle.node_transfer.specs.Inside.StartCells.{emptied, lines_left, start_in, start_out, taken_cell, taken_cells, taken_outs, turn_at_start, turns_at_start}
+use Rattle.node_transfer.specs.Inside.StartCells.{emptied, lines_left, start_in, start_out, taken_cell, taken_cells, taken_outs}
 use Rattle.node_transfer.specs.Inside.StartLines.{line_below, lines_at_start, lines_below, put_at, put_last, with_last}
 use Rattle.node_transfer.proofs.OfStep.ByKey.{set-at}
 use Rattle.node_transfer.proofs.OfStep.InPass.{absent_all}
-use Rattle.node_transfer.proofs.OfStep.LinkPass.{outs-distinct}
-use Rattle.node_transfer.proofs.OfStart.Starts.{left-start, line-start}
+use Rattle.cell_stages.proofs.NextLines.{out_links}
+use Rattle.node_transfer.proofs.OfMail.Parts.{outs-once}
+use Rattle.node_transfer.proofs.OfStart.Starts.{below, left-start, line-start}
 use Rattle.node_transfer.proofs.OfStep.Movers.{distinct_range, filter_like}
 
 some_trip : Trip
@@ -149,31 +147,14 @@ module _ (p : Plan) where
 
 -- the cells of step 0
 module _ (p : Plan) where
-  meter-start : (rates : Rates) → unused rates ≡ meter_after p 0 rates
-  unfolding parts
-  meter-start rates = refl
-
-  turn-start : (l b : ℕ) → turn_at_start p l b ≡ turn_after p 0 l b
-  turn-start l b = ap (λ y. record { to = record { 0 = b }; penalty = penalty_of (turn p l b); limit = y }) (by_limit (turn_rates p l b) (is_limited (turn_rates p l b)))
-    where
-      by_limit : (rates : Rates) (c : Bool) → cond c (Some (unused rates)) None ≡ cond c (Some (meter_after p 0 rates)) None
-      by_limit rates true = ap (λ m. Some m) (meter-start rates)
-      by_limit rates false = refl
-
-  turns-start : (l : ℕ) (bs : List ℕ) → map (turn_at_start p l) bs ≡ map (turn_after p 0 l) bs
-  turns-start l [] = refl
-  turns-start l (b ∷ bs) = ap (λ y. y ∷ map (turn_at_start p l) bs) (turn-start l b) ∙ ap (λ ys. turn_after p 0 l b ∷ ys) (turns-start l bs)
-
-  in-start : (n l : ℕ) → start_in p (outs p n) l ≡ in_link p n 0 (line_before p 0) (left_before p 0) away l
+  in-start : (n l : ℕ) → start_in p (outs p n) l ≡ in_link p n (line_before p 0) (left_before p 0) away l
   in-start n l =
-      ap (λ m. record (start_in p (outs p n) l) { exit = record { free = (link_at p l).free; outflow = m; turns = turns_at_start p l (outs p n) } }) (meter-start (link_rates p l))
-      ∙ ap (λ ts. record (start_in p (outs p n) l) { exit = record { free = (link_at p l).free; outflow = meter_after p 0 (link_rates p l); turns = ts } }) (turns-start l (kept_turns p n l))
-      ∙ ap (λ xs. record (in_link p n 0 (line_before p 0) (left_before p 0) away l) { line = xs; left = no_leavings (wave_of p l - 1) }) (line-start p l)
-      ∙ ap (λ ks. record (in_link p n 0 (line_before p 0) (left_before p 0) away l) { left = ks }) (left-start p l)
+      ap (λ xs. record (in_link p n (line_before p 0) (left_before p 0) away l) { line = xs; left = no_leavings (wave_of p l - 1) }) (line-start p l)
+      ∙ ap (λ ks. record (in_link p n (line_before p 0) (left_before p 0) away l) { left = ks }) (left-start p l)
 
-  ins-start : (n : ℕ) (ls : List ℕ) → map (start_in p (outs p n)) ls ≡ map (in_link p n 0 (line_before p 0) (left_before p 0) away) ls
+  ins-start : (n : ℕ) (ls : List ℕ) → map (start_in p (outs p n)) ls ≡ map (in_link p n (line_before p 0) (left_before p 0) away) ls
   ins-start n [] = refl
-  ins-start n (l ∷ ls) = ap (λ y. y ∷ map (start_in p (outs p n)) ls) (in-start n l) ∙ ap (λ ys. in_link p n 0 (line_before p 0) (left_before p 0) away l ∷ ys) (ins-start n ls)
+  ins-start n (l ∷ ls) = ap (λ y. y ∷ map (start_in p (outs p n)) ls) (in-start n l) ∙ ap (λ ys. in_link p n (line_before p 0) (left_before p 0) away l ∷ ys) (ins-start n ls)
 
   all-later : (rs : List RiderState) → waiting_parts 0 rs ≡ record { later = rs; due = [] }
   all-later [] = refl
@@ -185,8 +166,7 @@ module _ (p : Plan) where
   out-start : (lines : List (List RiderState)) (b : ℕ) → slice_index_or lines b [] ≡ waiting_before p 0 b → start_out p lines b ≡ out_link p 0 (waiting_before p 0) away b
   out-start lines b e =
       ap (λ w. record (start_out p lines b) { waiting = record { later = w; due = [] } }) e
-      ∙ ap (λ w. record { link = record { 0 = b }; inflow = unused (link_rates p b); waiting = w; batch = []; mail = away b }) (sym (all-later (waiting_before p 0 b)))
-      ∙ ap (λ m. record (out_link p 0 (waiting_before p 0) away b) { inflow = m }) (meter-start (link_rates p b))
+      ∙ ap (λ w. record (out_link p 0 (waiting_before p 0) away b) { waiting = w }) (sym (all-later (waiting_before p 0 b)))
 
   -- a line that is taken leaves the others
   other-kept : (b c : ℕ) (lines : List (List RiderState)) → b ≢ c → slice_index_or (emptied b lines) c [] ≡ slice_index_or lines c []
@@ -215,11 +195,7 @@ module _ (p : Plan) where
   outs-start (b ∷ bs) d lines a =
       let parts = both_true (absent b bs) (distinct bs) d in
       ap (λ y. y ∷ taken_outs p (emptied b lines) bs) (out-start lines b (All-head (λ b. slice_index_or lines b [] ≡ waiting_before p 0 b) b bs a))
-      ∙ ap (λ ys. out_link p 0 (waiting_before p 0) away b ∷ ys) (outs-start bs parts.1 (emptied b lines) (still bs (absent_all b bs parts.0) (All-tail (λ b. slice_index_or lines b [] ≡ waiting_before p 0 b) b bs a)))
-    where
-      still : (cs : List ℕ) → All (λ c. b ≢ c) cs → All (λ c. slice_index_or lines c [] ≡ waiting_before p 0 c) cs → All (λ c. slice_index_or (emptied b lines) c [] ≡ waiting_before p 0 c) cs
-      still [] o h = All-nil _
-      still (c ∷ cs) o h = All-cons (λ c. slice_index_or (emptied b lines) c [] ≡ waiting_before p 0 c) c cs (other-kept b c lines (All-head (λ c. b ≢ c) c cs o) ∙ All-head (λ c. slice_index_or lines c [] ≡ waiting_before p 0 c) c cs h) (still cs (All-tail (λ c. b ≢ c) c cs o) (All-tail (λ c. slice_index_or lines c [] ≡ waiting_before p 0 c) c cs h))
+      ∙ ap (λ ys. out_link p 0 (waiting_before p 0) away b ∷ ys) (outs-start bs parts.1 (emptied b lines) (λ k e lt. other-kept b (get_or bs k e) lines (absent_all b bs parts.0 k e lt) ∙ All-tail (λ b. slice_index_or lines b [] ≡ waiting_before p 0 b) b bs a k e lt))
 
   -- lines that are there for the links of the nodes from one on
   abbrev Filled : ℕ → List (List RiderState) → Type 0
@@ -227,34 +203,18 @@ module _ (p : Plan) where
 
   outs-of : (n : ℕ) → All (λ b. (b < length p.net.links) × ((link_at p b).from.0 ≡ n)) (outs p n)
   unfolding network.outs
-  outs-of n = range_outs (length p.net.links) 0 (length p.net.links) (zero_plus (length p.net.links))
-    where
-      zero_plus : (k : ℕ) → 0 + k ≡ k
-      zero_plus k = omega arith
-
-      range_outs : (k from L : ℕ) → from + k ≡ L → All (λ b. (b < L) × ((link_at p b).from.0 ≡ n)) (filter (λ b. nat_eq (link_at p b).from.0 n) (range_with_len from k))
-      range_outs zero from L e = All-nil _
-      range_outs (suc k) from L e = by_test (nat_eq (link_at p from).from.0 n) refl (range_outs k (from + 1) L (omega (arith, e)))
-        where
-          by_test : (c : Bool) → nat_eq (link_at p from).from.0 n ≡ c → All (λ b. (b < L) × ((link_at p b).from.0 ≡ n)) (filter (λ b. nat_eq (link_at p b).from.0 n) (range_with_len (from + 1) k))
-              → All (λ b. (b < L) × ((link_at p b).from.0 ≡ n)) (cond c (from ∷ filter (λ b. nat_eq (link_at p b).from.0 n) (range_with_len (from + 1) k)) (filter (λ b. nat_eq (link_at p b).from.0 n) (range_with_len (from + 1) k)))
-          by_test true q a = All-cons (λ b. (b < L) × ((link_at p b).from.0 ≡ n)) from (filter (λ b. nat_eq (link_at p b).from.0 n) (range_with_len (from + 1) k)) (omega (arith, e), eqb-true (link_at p from).from.0 n q) a
-          by_test false q a = a
-
-  all_map : (P Q : ℕ → Type 0) → ((x : ℕ) → P x → Q x) → (xs : List ℕ) → All P xs → All Q xs
-  all_map P Q f [] a = All-nil Q
-  all_map P Q f (x ∷ xs) a = All-cons Q x xs (f x (All-head P x xs a)) (all_map P Q f xs (All-tail P x xs a))
+  outs-of n = λ k d lt. (All-filter (λ b. nat_eq (link_at p b).from.0 n) (λ b. b < length p.net.links) (numbers_below (length p.net.links)) (below (length p.net.links)) k d lt, out_links p n k d lt)
 
   cell-start : (n : ℕ) (lines : List (List RiderState)) → Filled n lines → taken_cell p lines n ≡ cell_before p n 0 away away
   unfolding cell_before arrived_before
   cell-start n lines filled =
-      ap (λ is. record { ins = is; outs = taken_outs p lines (outs p n); arrived = []; delta = p.delta }) (ins-start n (ins p n))
-      ∙ ap (λ os. record { ins = map (in_link p n 0 (line_before p 0) (left_before p 0) away) (ins p n); outs = os; arrived = []; delta = p.delta })
-      (outs-start (outs p n) (outs-distinct p n) lines (all_map (λ b. (b < length p.net.links) × ((link_at p b).from.0 ≡ n)) (λ b. slice_index_or lines b [] ≡ waiting_before p 0 b) (λ b h. filled b h.0 (let e = h.1 in omega (arith, e))) (outs p n) (outs-of n)))
+      ap (λ is. record { ins = is; outs = taken_outs p lines (outs p n); arrived = [] }) (ins-start n (ins p n))
+      ∙ ap (λ os. record { ins = map (in_link p n (line_before p 0) (left_before p 0) away) (ins p n); outs = os; arrived = [] })
+      (outs-start (outs p n) (outs-once p n) lines (All-weaker (λ b. (b < length p.net.links) × ((link_at p b).from.0 ≡ n)) (λ b. slice_index_or lines b [] ≡ waiting_before p 0 b) (λ b h. filled b h.0 (let e = h.1 in omega (arith, e))) (outs p n) (outs-of n)))
 
   filled-left : (n : ℕ) (lines : List (List RiderState)) → Filled n lines → Filled (n + 1) (lines_left lines (outs p n))
   filled-left n lines filled b h k =
-      left-kept (outs p n) lines b (all_map (λ c. (c < length p.net.links) × ((link_at p c).from.0 ≡ n)) (λ c. c ≢ b) (λ c g e. let at = g.1 in let same = ap (λ x. (link_at p x).from.0) e in absurd (omega (arith, at, same, k))) (outs p n) (outs-of n)) ∙ filled b h (omega (arith, k))
+      left-kept (outs p n) lines b (All-weaker (λ c. (c < length p.net.links) × ((link_at p c).from.0 ≡ n)) (λ c. c ≢ b) (λ c g e. let at = g.1 in let same = ap (λ x. (link_at p x).from.0) e in absurd (omega (arith, at, same, k))) (outs p n) (outs-of n)) ∙ filled b h (omega (arith, k))
 
   cells-start : (k from : ℕ) (lines : List (List RiderState)) → Filled from lines → taken_cells p lines (range_with_len from k) ≡ map (λ n. cell_before p n 0 away away) (range_with_len from k)
   unfolding taken_cells

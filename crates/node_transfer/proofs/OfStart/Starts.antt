@@ -34,8 +34,8 @@ use Rattle.dta_model.proofs.Steady.{all_at}
 use Rattle.std.specs.Prelude.{nat_lt, sum, ◌&&◌, ◌||◌}
 use Rattle.std.proofs.lemmas.List.{map-append}
 use Rattle.std.proofs.lemmas.List.Elements.{filter-append, All-head, All-tail, All-nil, All-cons, All-weaker, All-filter}
-use Rattle.cell_stages.specs.Contents.{is_kept, room_of}
-use Rattle.node_transfer.specs.Inside.StartCells.{kept_at_start, turn_at_start, turns_at_start}
+use Rattle.cell_stages.specs.Contents.{is_kept, room_of, turn_of}
+use Rattle.node_transfer.specs.Inside.StartCells.{kept_at_start, turns_at_start}
 use Rattle.cell_stages.specs.declared.turn.LimitedTurn.{LimitedTurn}
 use Rattle.node_transfer.specs.Inside.StartCells.{emptied, lines_left, start_out, taken_cell, taken_cells, taken_outs}
 use Rattle.cell_stages.specs.declared.mail.Mail.{Mail}
@@ -109,7 +109,7 @@ ends_there p l row sound h = (all_at (IsBetween p.net.nodes) p.net.links l row s
 
 -- at a node that lists no turn, a cell keeps none
 pub free_turns : (p : Plan) (l : ℕ) (row : LinkRow) (bs : List ℕ) → slice_get p.net.links l ≡ Some row → network.is_named p.net row.to.0 ≡ false → turns_at_start p l bs ≡ []
-free_turns p l row bs h e = ap (λ ys. map (turn_at_start p l) ys) (none_kept bs)
+free_turns p l row bs h e = ap (λ ys. map (turn_of p l) ys) (none_kept bs)
   where
     none_is : (b : ℕ) → is_kept (turn_rates p l b) (turn p l b) ≡ false
     none_is b = kept_free p l b (subst (λ r. network.is_named p.net r.to.0 ≡ false) (sym (got_link p.net.links l row h)) e)
@@ -120,14 +120,14 @@ free_turns p l row bs h e = ap (λ ys. map (turn_at_start p l) ys) (none_kept bs
 
 -- one more turn, where it is one that a cell keeps
 pub turns_more : (p : Plan) (l : ℕ) (bs : List LinkNo) (i : ℕ) (d : LinkNo) → i < length bs
-    → turns_at_start p l (link_numbers (take (i + 1) bs)) ≡ turns_at_start p l (link_numbers (take i bs)) ++ cond (is_kept (turn_rates p l (get_or bs i d).0) (turn p l (get_or bs i d).0)) (turn_at_start p l (get_or bs i d).0 ∷ []) []
+    → turns_at_start p l (link_numbers (take (i + 1) bs)) ≡ turns_at_start p l (link_numbers (take i bs)) ++ cond (is_kept (turn_rates p l (get_or bs i d).0) (turn p l (get_or bs i d).0)) (turn_of p l (get_or bs i d).0 ∷ []) []
 turns_more p l bs i d h =
     ap (λ xs. turns_at_start p l xs) (map_more (λ x. x.0) bs i d h)
-    ∙ ap (λ xs. map (turn_at_start p l) xs) (filter-append (λ b. is_kept (turn_rates p l b) (turn p l b)) (link_numbers (take i bs)) ((get_or bs i d).0 ∷ []))
-    ∙ map-append (turn_at_start p l) (filter (λ b. is_kept (turn_rates p l b) (turn p l b)) (link_numbers (take i bs))) (cond (is_kept (turn_rates p l (get_or bs i d).0) (turn p l (get_or bs i d).0)) ((get_or bs i d).0 ∷ []) [])
+    ∙ ap (λ xs. map (turn_of p l) xs) (filter-append (λ b. is_kept (turn_rates p l b) (turn p l b)) (link_numbers (take i bs)) ((get_or bs i d).0 ∷ []))
+    ∙ map-append (turn_of p l) (filter (λ b. is_kept (turn_rates p l b) (turn p l b)) (link_numbers (take i bs))) (cond (is_kept (turn_rates p l (get_or bs i d).0) (turn p l (get_or bs i d).0)) ((get_or bs i d).0 ∷ []) [])
     ∙ ap (λ xs. turns_at_start p l (link_numbers (take i bs)) ++ xs) (one_turn (is_kept (turn_rates p l (get_or bs i d).0) (turn p l (get_or bs i d).0)))
   where
-    one_turn : (c : Bool) → map (turn_at_start p l) (cond c ((get_or bs i d).0 ∷ []) []) ≡ cond c (turn_at_start p l (get_or bs i d).0 ∷ []) []
+    one_turn : (c : Bool) → map (turn_of p l) (cond c ((get_or bs i d).0 ∷ []) []) ≡ cond c (turn_of p l (get_or bs i d).0 ∷ []) []
     one_turn true = refl
     one_turn false = refl
 
@@ -136,17 +136,17 @@ pub turn_found : (p : Plan) (l : ℕ) (bs : List LinkNo) (i : ℕ) (d : LinkNo) 
     → turns_at_start p l (link_numbers (take i bs)) ++ found ∷ [] ≡ turns_at_start p l (link_numbers (take (i + 1) bs))
 turn_found p l bs i d found h e = by_kept (is_kept (turn_rates p l (get_or bs i d).0) (turn p l (get_or bs i d).0)) e ∙ sym (turns_more p l bs i d h)
   where
-    by_kept : (c : Bool) → Some found ≡ cond c (Some (turn_at_start p l (get_or bs i d).0)) None
-        → turns_at_start p l (link_numbers (take i bs)) ++ found ∷ [] ≡ turns_at_start p l (link_numbers (take i bs)) ++ cond c (turn_at_start p l (get_or bs i d).0 ∷ []) []
-    by_kept true e = let same : found ≡ turn_at_start p l (get_or bs i d).0 = cc in ap (λ x. turns_at_start p l (link_numbers (take i bs)) ++ x ∷ []) same
+    by_kept : (c : Bool) → Some found ≡ cond c (Some (turn_of p l (get_or bs i d).0)) None
+        → turns_at_start p l (link_numbers (take i bs)) ++ found ∷ [] ≡ turns_at_start p l (link_numbers (take i bs)) ++ cond c (turn_of p l (get_or bs i d).0 ∷ []) []
+    by_kept true e = let same : found ≡ turn_of p l (get_or bs i d).0 = cc in ap (λ x. turns_at_start p l (link_numbers (take i bs)) ++ x ∷ []) same
     by_kept false e = cc
 
 pub no_turn_found : (p : Plan) (l : ℕ) (bs : List LinkNo) (i : ℕ) (d : LinkNo) → i < length bs → None ≡ kept_at_start p l (get_or bs i d).0
     → turns_at_start p l (link_numbers (take i bs)) ≡ turns_at_start p l (link_numbers (take (i + 1) bs))
 no_turn_found p l bs i d h e = by_kept (is_kept (turn_rates p l (get_or bs i d).0) (turn p l (get_or bs i d).0)) e ∙ sym (turns_more p l bs i d h)
   where
-    by_kept : (c : Bool) → None ≡ cond c (Some (turn_at_start p l (get_or bs i d).0)) None
-        → turns_at_start p l (link_numbers (take i bs)) ≡ turns_at_start p l (link_numbers (take i bs)) ++ cond c (turn_at_start p l (get_or bs i d).0 ∷ []) []
+    by_kept : (c : Bool) → None ≡ cond c (Some (turn_of p l (get_or bs i d).0)) None
+        → turns_at_start p l (link_numbers (take i bs)) ≡ turns_at_start p l (link_numbers (take i bs)) ++ cond c (turn_of p l (get_or bs i d).0 ∷ []) []
     by_kept true e = cc
     by_kept false e = sym (append-nil (turns_at_start p l (link_numbers (take i bs))))
 
@@ -167,7 +167,7 @@ below_links : (L : ℕ) (xs : List ℕ) → All (λ x. x < L) xs → All (λ l. 
 below_links L [] a = All-nil _
 below_links L (x ∷ xs) a = All-cons (λ l. l.0 < L) (record { 0 = x }) (network.as_links xs) (All-head (λ x. x < L) x xs a) (below_links L xs (All-tail (λ x. x < L) x xs a))
 
-below : (k : ℕ) → All (λ x. x < k) (numbers_below k)
+pub below : (k : ℕ) → All (λ x. x < k) (numbers_below k)
 below k = All-weaker (λ x. x < 0 + k) (λ x. x < k) (λ x h. omega (arith, h)) (numbers_below k) (below_all k 0)
 
 pub ins_below : (p : Plan) (n : ℕ) → All (λ l. l.0 < length p.net.links) (network.as_links (ins p n))
@@ -278,6 +278,7 @@ all-free p l =
     by_storage (Some s) = ap (λ k. Some k) (all_of s (sum (no_leavings (wave_of p l - 1))) (zeros (wave_of p l - 1) 0))
 
 pub rooms_start : (p : Plan) (xs : List ℕ) → map (start_room p) xs ≡ map (room_of p 0) xs
+unfolding room_of
 rooms_start p [] = refl
 rooms_start p (l ∷ xs) = ap (λ o. Room 0 o ∷ map (start_room p) xs) (all-free p l) ∙ ap (λ ys. room_of p 0 l ∷ ys) (rooms_start p xs)
 

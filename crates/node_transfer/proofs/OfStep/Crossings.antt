@@ -14,25 +14,25 @@ use Rattle.cell_stages.specs.declared.out_link.OutLink.{OutLink}
 abbrev pub behind : List InLink → CellWork → CellWork
 behind done w = record w { ins = done ++ w.ins }
 
-cross_suc : (delta step : ℕ) (xs : List InLink) (i : ℕ) (d link : InLink) (outs : List OutLink) (arrived : List RiderState) (outs' : List OutLink) (arrived' : List RiderState)
-    → i < length xs → passed_link delta step (slice_index_or xs i d) outs arrived ≡ record { link = link; outs = outs'; arrived = arrived' }
-    → behind (take i xs) (passed_links delta step (drop i xs) outs arrived) ≡ behind (take (suc i) (slice_set xs i link)) (passed_links delta step (drop (suc i) (slice_set xs i link)) outs' arrived')
+cross_suc : (step : ℕ) (xs : List InLink) (i : ℕ) (d link : InLink) (outs : List OutLink) (arrived : List RiderState) (outs' : List OutLink) (arrived' : List RiderState)
+    → i < length xs → passed_link step (slice_index_or xs i d) outs arrived ≡ record { link = link; outs = outs'; arrived = arrived' }
+    → behind (take i xs) (passed_links step (drop i xs) outs arrived) ≡ behind (take (suc i) (slice_set xs i link)) (passed_links step (drop (suc i) (slice_set xs i link)) outs' arrived')
 unfolding passed_links
-cross_suc delta step [] i d link outs arrived outs' arrived' h e = absurd (omega arith)
-cross_suc delta step (x ∷ xs) zero d link outs arrived outs' arrived' h e = ap (λ w. put_first w.link (passed_links delta step xs w.outs w.arrived)) e
-cross_suc delta step (x ∷ xs) (suc i) d link outs arrived outs' arrived' h e = ap (λ w. put_first x w) (cross_suc delta step xs i d link outs arrived outs' arrived' (omega arith) e)
+cross_suc step [] i d link outs arrived outs' arrived' h e = absurd (omega arith)
+cross_suc step (x ∷ xs) zero d link outs arrived outs' arrived' h e = ap (λ w. put_first w.link (passed_links step xs w.outs w.arrived)) e
+cross_suc step (x ∷ xs) (suc i) d link outs arrived outs' arrived' h e = ap (λ w. put_first x w) (cross_suc step xs i d link outs arrived outs' arrived' (omega arith) e)
 
-pub cross_step : (delta step : ℕ) (xs : List InLink) (i : ℕ) (d link : InLink) (outs : List OutLink) (arrived : List RiderState) (outs' : List OutLink) (arrived' : List RiderState)
-    → i < length xs → passed_link delta step (slice_index_or xs i d) outs arrived ≡ record { link = link; outs = outs'; arrived = arrived' }
-    → behind (take i xs) (passed_links delta step (drop i xs) outs arrived) ≡ behind (take (i + 1) (slice_set xs i link)) (passed_links delta step (drop (i + 1) (slice_set xs i link)) outs' arrived')
-cross_step delta step xs i d link outs arrived outs' arrived' h e = rw add-one (cross_suc delta step xs i d link outs arrived outs' arrived' h e)
+pub cross_step : (step : ℕ) (xs : List InLink) (i : ℕ) (d link : InLink) (outs : List OutLink) (arrived : List RiderState) (outs' : List OutLink) (arrived' : List RiderState)
+    → i < length xs → passed_link step (slice_index_or xs i d) outs arrived ≡ record { link = link; outs = outs'; arrived = arrived' }
+    → behind (take i xs) (passed_links step (drop i xs) outs arrived) ≡ behind (take (i + 1) (slice_set xs i link)) (passed_links step (drop (i + 1) (slice_set xs i link)) outs' arrived')
+cross_step step xs i d link outs arrived outs' arrived' h e = rw add-one (cross_suc step xs i d link outs arrived outs' arrived' h e)
 
-pub cross_end : (delta step : ℕ) (xs : List InLink) (i : ℕ) (outs : List OutLink) (arrived : List RiderState) → length xs ≤ i → behind (take i xs) (passed_links delta step (drop i xs) outs arrived) ≡ record { ins = xs; outs = outs; arrived = arrived }
+pub cross_end : (step : ℕ) (xs : List InLink) (i : ℕ) (outs : List OutLink) (arrived : List RiderState) → length xs ≤ i → behind (take i xs) (passed_links step (drop i xs) outs arrived) ≡ record { ins = xs; outs = outs; arrived = arrived }
 unfolding passed_links
-cross_end delta step [] zero outs arrived h = refl
-cross_end delta step [] (suc i) outs arrived h = refl
-cross_end delta step (x ∷ xs) zero outs arrived h = absurd (omega arith)
-cross_end delta step (x ∷ xs) (suc i) outs arrived h = ap (λ w. put_first x w) (cross_end delta step xs i outs arrived (omega arith))
+cross_end step [] zero outs arrived h = refl
+cross_end step [] (suc i) outs arrived h = refl
+cross_end step (x ∷ xs) zero outs arrived h = absurd (omega arith)
+cross_end step (x ∷ xs) (suc i) outs arrived h = ap (λ w. put_first x w) (cross_end step xs i outs arrived (omega arith))
 
 -- one in-link of many
 pub CanPass-one : (ins : List InLink) (outs : List OutLink) (arrived : List RiderState) (i : ℕ) (d : InLink) → i < length ins → CanCross ins outs arrived → CanPass (slice_index_or ins i d).line outs arrived

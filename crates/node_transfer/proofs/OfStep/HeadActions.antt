@@ -24,7 +24,6 @@ use Rattle.cell_stages.specs.declared.exit.Exit.{Exit}
 use Rattle.node_transfer.specs.declared.step.pass.HeadAction.{HeadAction}
 use Rattle.node_transfer.specs.declared.step.pass.HeadAction.TheVariants.{Stays, Arrives, Enters}
 use Rattle.cell_stages.specs.declared.turn.LimitedTurn.{LimitedTurn}
-use Rattle.node_transfer.proofs.OfStep.Later.{later-now}
 use Rattle.node_transfer.proofs.OfStep.Mid.{T, meter_mid, capped_room, turn_mid, exit_mid, out_mid}
 use Rattle.capacity_credits.specs.Meter.{MeterState}
 use Rattle.node_transfer.proofs.OfStep.ByKey.{get-at, find_kept}
@@ -105,8 +104,7 @@ module _ (p : Plan) (n t : ℕ) (M : List Move) where
       by_limit : (c : Bool) → is_limited (turn_rates p l b) ≡ c
           → limit_open (cond c (Some (meter_mid p t (turn_rates p l b) (turned p n t (T p n t) M l b))) None) ≡ has_pass p (turn_rates p l b) t (turned p n t (T p n t) M l b)
       by_limit true e =
-          ap (λ o. is_none o || nat_lt 0 (allowance (turn_rates p l b) p.delta t - turned p n t (T p n t) M l b)) (later-now t (turn_rates p l b))
-          ∙ ap (λ q. is_none (rate_in (turn_rates p l b) t) || q) (lt_sub (allowance (turn_rates p l b) p.delta t) (turned p n t (T p n t) M l b))
+          ap (λ q. is_none (rate_in (turn_rates p l b) t) || q) (lt_sub (allowance (turn_rates p l b) p.delta t) (turned p n t (T p n t) M l b))
       by_limit false e = rw (never-limited (turn_rates p l b).usual (turn_rates p l b).windows t e) refl
   found-open l b way false h = rw (never-limited (turn_rates p l b).usual (turn_rates p l b).windows t (plain-parts (turn_rates p l b) way h).1) refl
 

@@ -2,10 +2,10 @@
 use Rattle.node_transfer.proofs.OfStep.ByKey.{both_true}
 use Rattle.std.specs.List.{list_any}
 use Rattle.std.specs.Prelude.{slice_get, ◌≢◌, All, count_by}
-use Rattle.std.proofs.Common.{◌≡◌, ℕ, zero, suc, ◌<◌, ◌≤◌, Bool, true, false, cond, not, List, [], ◌∷◌, ◌++◌, length, map, refl, ap, sym, ◌∙◌, subst, arith, append_assoc, append-nil, Option, Some, None, take, drop}
+use Rattle.std.proofs.Common.{◌≡◌, ℕ, zero, suc, ◌<◌, ◌≤◌, Bool, true, false, cond, not, List, [], ◌∷◌, ◌++◌, length, map, refl, ap, sym, ◌∙◌, subst, arith, append_assoc, append-nil, Option, Some, None, take, drop, get_or}
 use Rattle.std.proofs.lemmas.Bool.{eqb-false, ne_eqb}
-use Rattle.std.proofs.lemmas.List.{map-append}
-use Rattle.std.proofs.lemmas.List.Elements.{All-nil, All-cons, All-append, All-head, All-tail, All-weaker}
+use Rattle.std.proofs.lemmas.List.{drop-map, map-append, take-append-drop}
+use Rattle.std.proofs.lemmas.List.Elements.{All-nil, All-cons, All-append, All-drop, All-head, All-tail, All-take, All-weaker}
 use Rattle.std.proofs.lemmas.List.Sums.{sum_by-cons}
 use Rattle.std.proofs.Math.Dec.{eqb}
 use Rattle.dta_model.specs.NodeMoves.{head_move, left, rotated}
@@ -22,7 +22,7 @@ use Rattle.dta_model.proofs.Places.{of_mover}
 use Rattle.dta_model.proofs.Queues.{absent, distinct, queue-distinct, leads_once}
 use Rattle.dta_model.proofs.Standing.{in-queue}
 use Rattle.node_transfer.specs.Inside.Cells.{passed_link, passed_links, passed_front, passed_rotated, link_after, put_first, joined_behind}
-use Rattle.cell_stages.specs.Contents.{in_link, exit_after, left_before, away}
+use Rattle.cell_stages.specs.Contents.{in_link, exit_of, left_before, away}
 use Rattle.node_transfer.specs.Exits.{opened_exit}
 use Rattle.cell_stages.specs.declared.in_link.InLink.{InLink}
 use Rattle.node_transfer.proofs.OfStep.ByKey.{head_parts}
@@ -93,7 +93,7 @@ module _ (p : Plan) (sound : IsSound p) (n t : ℕ) where
   done-stays l to M R none = ap (λ S. record (in_done p n t M l) { line = riders p (T p n t) S; left = left_mid p n t (riders p (T p n t) S) l }) (staying-same M R (queue_of l (T p n t)) (untouched-still l to R none))
 
   abbrev pub in_before : ℕ → InLink
-  in_before l = in_link p n t (line_before p t) (left_before p t) away l
+  in_before l = in_link p n (line_before p t) (left_before p t) away l
 
   line-before : (l : ℕ) → (link_at p l).to.0 ≡ n → (M : List Move) → Untouched p n t M l → line_before p t l ≡ line_mid p n t M l
   unfolding line_before
@@ -108,10 +108,10 @@ module _ (p : Plan) (sound : IsSound p) (n t : ℕ) where
 
   -- one in-link
   link-passes : (l : ℕ) → (to : (link_at p l).to.0 ≡ n) → (M M' : List Move) → Untouched p n t M l → (pass_of p sound n t l to M ≡ work_of p sound n t l to M')
-      → passed_link p.delta t (in_before l) (map (out_mid p n t M) (outs p n)) (arrived_mid p n t M) ≡ record { link = in_done p n t M' l; outs = map (out_mid p n t M') (outs p n); arrived = arrived_mid p n t M' }
+      → passed_link t (in_before l) (map (out_mid p n t M) (outs p n)) (arrived_mid p n t M) ≡ record { link = in_done p n t M' l; outs = map (out_mid p n t M') (outs p n); arrived = arrived_mid p n t M' }
   link-passes l to M M' none r =
       ap (λ w. link_after (in_before l) w)
-      (pass_same t (line_before p t l) (line_mid p n t M l) (opened_exit p.delta (exit_after p n t l)) (exit_mid p n t M l) (map (out_mid p n t M) (outs p n)) (map (out_mid p n t M) (outs p n)) (arrived_mid p n t M) (arrived_mid p n t M) (line-before l to M none) (exit-opens p n t M l (none-left l M none)) refl refl ∙ r)
+      (pass_same t (line_before p t l) (line_mid p n t M l) (opened_exit t (exit_of p n l)) (exit_mid p n t M l) (map (out_mid p n t M) (outs p n)) (map (out_mid p n t M) (outs p n)) (arrived_mid p n t M) (arrived_mid p n t M) (line-before l to M none) (exit-opens p n t M l (none-left l M none)) refl refl ∙ r)
       ∙ ap (λ g. record { link = record (in_before l) { line = line_mid p n t M' l; left = left_mid p n t (line_mid p n t M' l) l; exit = g }; outs = map (out_mid p n t M') (outs p n); arrived = arrived_mid p n t M' }) (exit-closes p n t M' l)
 
   -- several in-links
@@ -120,7 +120,7 @@ module _ (p : Plan) (sound : IsSound p) (n t : ℕ) where
     pub is : M' ≡ M ++ more
     pub now : All (λ m. m.step ≡ t) M'
     pub others : (k : ℕ) → absent k ls ≡ true → Untouched p n t more k
-    pub result : passed_links p.delta t (map in_before ls) (map (out_mid p n t M) (outs p n)) (arrived_mid p n t M) ≡ record { ins = map (in_done p n t M') ls; outs = map (out_mid p n t M') (outs p n); arrived = arrived_mid p n t M' }
+    pub result : passed_links t (map in_before ls) (map (out_mid p n t M) (outs p n)) (arrived_mid p n t M) ≡ record { ins = map (in_done p n t M') ls; outs = map (out_mid p n t M') (outs p n); arrived = arrived_mid p n t M' }
 
   pub ins-pass : (ls : List ℕ) → All (λ l. (link_at p l).to.0 ≡ n) ls → distinct ls ≡ true → (M : List Move) → All (λ m. m.step ≡ t) M → All (λ k. Untouched p n t M k) ls
       → InsPass M ls (pass_links (vehicle_count p) (λ l N. head_move p n t (T p n t) N l) ls M)
@@ -133,7 +133,7 @@ module _ (p : Plan) (sound : IsSound p) (n t : ℕ) where
       let M1 = drained (λ N. head_move p n t (T p n t) N l) (vehicle_count p) M in
       let now1 : All (λ m. m.step ≡ t) M1 = subst (λ L. All (λ m. m.step ≡ t) L) (sym D.is) (All-append (λ m. m.step ≡ t) M D.more now D.now) in
       let apart : All (λ k. Untouched p n t D.more k) ls = All-weaker (λ k. l ≢ k) (λ k. Untouched p n t D.more k) (λ k other. All-weaker (λ m. stands_on l (T p n t) m.vehicle ≡ true) (λ m. stands_on k (T p n t) m.vehicle ≡ false) (λ m s. stands_once p n t l k m.vehicle other s) D.more D.own) ls (absent_all l ls parts.0) in
-      let none1 : All (λ k. Untouched p n t M1 k) ls = both_untouched M1 D.more D.is ls (All-tail (λ k. Untouched p n t M k) l ls none) apart in
+      let none1 : All (λ k. Untouched p n t M1 k) ls = (λ k d lt. subst (λ L. Untouched p n t L (get_or ls k d)) (sym D.is) (All-append (λ m. stands_on (get_or ls k d) (T p n t) m.vehicle ≡ false) M D.more (All-tail (λ k. Untouched p n t M k) l ls none k d lt) (apart k d lt))) in
       let rest = ins-pass ls (All-tail (λ k. (link_at p k).to.0 ≡ n) l ls to) parts.1 M1 now1 none1 in
       let stays : in_done p n t M1 l ≡ in_done p n t (pass_links (vehicle_count p) (λ k N. head_move p n t (T p n t) N k) ls M1) l = sym (ap (λ L. in_done p n t L l) rest.is ∙ done-stays l here M1 rest.more (rest.others l parts.0)) in
       record {
@@ -143,16 +143,10 @@ module _ (p : Plan) (sound : IsSound p) (n t : ℕ) where
         others = λ k a. let away_from = head_parts (eqb l k) (list_any (λ y. eqb y k) ls) a in
             All-append (λ m. stands_on k (T p n t) m.vehicle ≡ false) D.more rest.more (All-weaker (λ m. stands_on l (T p n t) m.vehicle ≡ true) (λ m. stands_on k (T p n t) m.vehicle ≡ false) (λ m s. stands_once p n t l k m.vehicle (eqb-false l k away_from.0) s) D.more D.own) (rest.others k away_from.1);
         result =
-            ap (λ w. put_first w.link (passed_links p.delta t (map in_before ls) w.outs w.arrived)) (link-passes l here M M1 (All-head (λ k. Untouched p n t M k) l ls none) D.result)
+            ap (λ w. put_first w.link (passed_links t (map in_before ls) w.outs w.arrived)) (link-passes l here M M1 (All-head (λ k. Untouched p n t M k) l ls none) D.result)
             ∙ ap (λ w. put_first (in_done p n t M1 l) w) rest.result
             ∙ ap (λ x. record { ins = x ∷ map (in_done p n t (pass_links (vehicle_count p) (λ k N. head_move p n t (T p n t) N k) ls M1)) ls; outs = map (out_mid p n t (pass_links (vehicle_count p) (λ k N. head_move p n t (T p n t) N k) ls M1)) (outs p n); arrived = arrived_mid p n t (pass_links (vehicle_count p) (λ k N. head_move p n t (T p n t) N k) ls M1) }) stays;
       }
-    where
-      both_untouched : (M1 more : List Move) → M1 ≡ M ++ more → (ks : List ℕ) → All (λ k. Untouched p n t M k) ks → All (λ k. Untouched p n t more k) ks → All (λ k. Untouched p n t M1 k) ks
-      both_untouched M1 more is [] a b = All-nil (λ k. Untouched p n t M1 k)
-      both_untouched M1 more is (k ∷ ks) a b =
-          All-cons (λ k. Untouched p n t M1 k) k ks (subst (λ L. Untouched p n t L k) (sym is) (All-append (λ m. stands_on k (T p n t) m.vehicle ≡ false) M more (All-head (λ k. Untouched p n t M k) k ks a) (All-head (λ k. Untouched p n t more k) k ks b)))
-          (both_untouched M1 more is ks (All-tail (λ k. Untouched p n t M k) k ks a) (All-tail (λ k. Untouched p n t more k) k ks b))
 
   pass_links-append : (most : ℕ) (give : ℕ → List Move → Option Move) (ks ls : List ℕ) (M : List Move) → pass_links most give (ks ++ ls) M ≡ pass_links most give ls (pass_links most give ks M)
   unfolding pass_links
@@ -164,24 +158,9 @@ module _ (p : Plan) (sound : IsSound p) (n t : ℕ) where
   map_take f (suc k) [] = refl
   map_take f (suc k) (x ∷ xs) = ap (λ ys. f x ∷ ys) (map_take f k xs)
 
-  map_drop_all : {X Y : Type 0} (f : X → Y) (k : ℕ) (xs : List X) → drop k (map f xs) ≡ map f (drop k xs)
-  map_drop_all f zero xs = refl
-  map_drop_all f (suc k) [] = refl
-  map_drop_all f (suc k) (x ∷ xs) = map_drop_all f k xs
-
   pub map_all : {Y : Type 0} (P : ℕ → Type 0) (f g : ℕ → Y) (xs : List ℕ) → All P xs → ((x : ℕ) → P x → f x ≡ g x) → map f xs ≡ map g xs
   map_all P f g [] all h = refl
   map_all P f g (x ∷ xs) all h = rw (h x (All-head P x xs all), map_all P f g xs (All-tail P x xs all) h) refl
-
-  take_and_drop : (k : ℕ) (xs : List ℕ) → take k xs ++ drop k xs ≡ xs
-  take_and_drop zero xs = refl
-  take_and_drop (suc k) [] = refl
-  take_and_drop (suc k) (x ∷ xs) = ap (λ ys. x ∷ ys) (take_and_drop k xs)
-
-  take_all_of : (P : ℕ → Type 0) (k : ℕ) (xs : List ℕ) → All P xs → All P (take k xs) × All P (drop k xs)
-  take_all_of P zero xs a = (All-nil P, a)
-  take_all_of P (suc k) [] a = (All-nil P, All-nil P)
-  take_all_of P (suc k) (x ∷ xs) a = let r = take_all_of P k xs (All-tail P x xs a) in (All-cons P x (take k xs) (All-head P x xs a) r.0, r.1)
 
   absent-append : (x : ℕ) (xs ys : List ℕ) → absent x (xs ++ ys) ≡ true → (absent x xs ≡ true) × (absent x ys ≡ true)
   absent-append x [] ys a = (refl, a)
@@ -201,11 +180,7 @@ module _ (p : Plan) (sound : IsSound p) (n t : ℕ) where
   absent_cons x y xs other a = let e : eqb x y ≡ false = ne_eqb x y (λ s. other (sym s)) in rw e a
 
   apart : (xs ys : List ℕ) → distinct (xs ++ ys) ≡ true → Apart xs ys
-  apart [] ys d = record { left_alone = refl; right_alone = d; left_of = All-nil _; right_of = none_absent ys }
-    where
-      none_absent : (ys : List ℕ) → All (λ y. absent y [] ≡ true) ys
-      none_absent [] = All-nil _
-      none_absent (y ∷ ys) = All-cons (λ y. absent y [] ≡ true) y ys refl (none_absent ys)
+  apart [] ys d = record { left_alone = refl; right_alone = d; left_of = All-nil _; right_of = λ k e lt. refl }
   apart (x ∷ xs) ys d =
       let parts = both_true (absent x (xs ++ ys)) (distinct (xs ++ ys)) d in
       let both = absent-append x xs ys parts.0 in
@@ -214,12 +189,8 @@ module _ (p : Plan) (sound : IsSound p) (n t : ℕ) where
         left_alone = rw (both.0, rest.left_alone) refl;
         right_alone = rest.right_alone;
         left_of = All-cons (λ x. absent x ys ≡ true) x xs both.1 rest.left_of;
-        right_of = more_absent ys (absent_all x ys both.1) rest.right_of;
+        right_of = λ k e lt. absent_cons x (get_or ys k e) xs (λ s. absent_all x ys both.1 k e lt (sym s)) (rest.right_of k e lt);
       }
-    where
-      more_absent : (ys : List ℕ) → All (λ k. x ≢ k) ys → All (λ y. absent y xs ≡ true) ys → All (λ y. absent y (x ∷ xs) ≡ true) ys
-      more_absent [] o a = All-nil _
-      more_absent (y ∷ ys) o a = All-cons (λ y. absent y (x ∷ xs) ≡ true) y ys (absent_cons x y xs (λ s. All-head (λ k. x ≢ k) y ys o (sym s)) (All-head (λ y. absent y xs ≡ true) y ys a)) (more_absent ys (All-tail (λ k. x ≢ k) y ys o) (All-tail (λ y. absent y xs ≡ true) y ys a))
 
   abbrev pub passes : List ℕ → List Move → List Move
   passes ls M = pass_links (vehicle_count p) (λ l N. head_move p n t (T p n t) N l) ls M
@@ -227,35 +198,26 @@ module _ (p : Plan) (sound : IsSound p) (n t : ℕ) where
   -- the in-links from a place on, and then those before it
   pub record RotatedPass (ls : List ℕ) (k : ℕ) (M' : List Move) : Type 0 where
     pub now : All (λ m. m.step ≡ t) M'
-    pub result : passed_rotated p.delta t k (map in_before ls) (map (out_mid p n t []) (outs p n)) (arrived_mid p n t []) ≡ record { ins = map (in_done p n t M') ls; outs = map (out_mid p n t M') (outs p n); arrived = arrived_mid p n t M' }
+    pub result : passed_rotated t k (map in_before ls) (map (out_mid p n t []) (outs p n)) (arrived_mid p n t []) ≡ record { ins = map (in_done p n t M') ls; outs = map (out_mid p n t M') (outs p n); arrived = arrived_mid p n t M' }
 
   pub rotated-pass : (ls : List ℕ) (k : ℕ) → All (λ l. (link_at p l).to.0 ≡ n) ls → distinct ls ≡ true → RotatedPass ls k (passes (rotated k ls) [])
   rotated-pass ls k to d =
       let F = take k ls in
       let B = drop k ls in
-      let ap_ = apart F B (subst (λ xs. distinct xs ≡ true) (sym (take_and_drop k ls)) d) in
-      let tos = take_all_of (λ l. (link_at p l).to.0 ≡ n) k ls to in
-      let back = ins-pass B tos.1 ap_.right_alone [] (All-nil _) (untouched_all B) in
+      let ap_ = apart F B (subst (λ xs. distinct xs ≡ true) (sym (take-append-drop k ls)) d) in
+      let back = ins-pass B (All-drop (λ l. (link_at p l).to.0 ≡ n) k ls to) ap_.right_alone [] (All-nil _) (λ i d lt. All-nil _) in
       let M1 = passes B [] in
-      let front = ins-pass F tos.0 ap_.left_alone M1 back.now (All-weaker (λ x. absent x B ≡ true) (λ x. Untouched p n t M1 x) (λ x a. subst (λ L. Untouched p n t L x) (sym back.is) (back.others x a)) F ap_.left_of) in
+      let front = ins-pass F (All-take (λ l. (link_at p l).to.0 ≡ n) k ls to) ap_.left_alone M1 back.now (All-weaker (λ x. absent x B ≡ true) (λ x. Untouched p n t M1 x) (λ x a. subst (λ L. Untouched p n t L x) (sym back.is) (back.others x a)) F ap_.left_of) in
       let M2 = passes F M1 in
       let e : passes (rotated k ls) [] ≡ M2 = pass_links-append (vehicle_count p) (λ l N. head_move p n t (T p n t) N l) B F [] in
-      let kept : map (in_done p n t M1) B ≡ map (in_done p n t M2) B = map_all (λ l. ((link_at p l).to.0 ≡ n) × (absent l F ≡ true)) (in_done p n t M1) (in_done p n t M2) B (all_both B tos.1 ap_.right_of) (λ l h. sym (ap (λ L. in_done p n t L l) front.is ∙ done-stays l h.0 M1 front.more (front.others l h.1))) in
+      let kept : map (in_done p n t M1) B ≡ map (in_done p n t M2) B = map_all (λ l. ((link_at p l).to.0 ≡ n) × (absent l F ≡ true)) (in_done p n t M1) (in_done p n t M2) B (λ i d lt. (All-drop (λ l. (link_at p l).to.0 ≡ n) k ls to i d lt, ap_.right_of i d lt)) (λ l h. sym (ap (λ L. in_done p n t L l) front.is ∙ done-stays l h.0 M1 front.more (front.others l h.1))) in
       subst (λ M. RotatedPass ls k M) (sym e)
       (record {
         now = front.now;
         result =
-            ap (λ xs. passed_front p.delta t xs (passed_links p.delta t (drop k (map in_before ls)) (map (out_mid p n t []) (outs p n)) (arrived_mid p n t []))) (map_take in_before k ls)
-            ∙ ap (λ xs. passed_front p.delta t (map in_before F) (passed_links p.delta t xs (map (out_mid p n t []) (outs p n)) (arrived_mid p n t []))) (map_drop_all in_before k ls)
-            ∙ ap (λ w. passed_front p.delta t (map in_before F) w) back.result
+            ap (λ xs. passed_front t xs (passed_links t (drop k (map in_before ls)) (map (out_mid p n t []) (outs p n)) (arrived_mid p n t []))) (map_take in_before k ls)
+            ∙ ap (λ xs. passed_front t (map in_before F) (passed_links t xs (map (out_mid p n t []) (outs p n)) (arrived_mid p n t []))) (drop-map in_before k ls)
+            ∙ ap (λ w. passed_front t (map in_before F) w) back.result
             ∙ ap (λ w. joined_behind (record { ins = map (in_done p n t M1) B; outs = map (out_mid p n t M1) (outs p n); arrived = arrived_mid p n t M1 }) w) front.result
-            ∙ ap (λ xs. record { ins = xs; outs = map (out_mid p n t M2) (outs p n); arrived = arrived_mid p n t M2 }) (ap (λ xs. map (in_done p n t M2) F ++ xs) kept ∙ sym (map-append (in_done p n t M2) F B) ∙ ap (λ xs. map (in_done p n t M2) xs) (take_and_drop k ls));
+            ∙ ap (λ xs. record { ins = xs; outs = map (out_mid p n t M2) (outs p n); arrived = arrived_mid p n t M2 }) (ap (λ xs. map (in_done p n t M2) F ++ xs) kept ∙ sym (map-append (in_done p n t M2) F B) ∙ ap (λ xs. map (in_done p n t M2) xs) (take-append-drop k ls));
       })
-    where
-      untouched_all : (xs : List ℕ) → All (λ k. Untouched p n t [] k) xs
-      untouched_all [] = All-nil _
-      untouched_all (x ∷ xs) = All-cons (λ k. Untouched p n t [] k) x xs (All-nil _) (untouched_all xs)
-
-      all_both : (xs : List ℕ) → All (λ l. (link_at p l).to.0 ≡ n) xs → All (λ l. absent l (take k ls) ≡ true) xs → All (λ l. ((link_at p l).to.0 ≡ n) × (absent l (take k ls) ≡ true)) xs
-      all_both [] a b = All-nil _
-      all_both (x ∷ xs) a b = All-cons (λ l. ((link_at p l).to.0 ≡ n) × (absent l (take k ls) ≡ true)) x xs (All-head (λ l. (link_at p l).to.0 ≡ n) x xs a, All-head (λ l. absent l (take k ls) ≡ true) x xs b) (all_both xs (All-tail (λ l. (link_at p l).to.0 ≡ n) x xs a) (All-tail (λ l. absent l (take k ls) ≡ true) x xs b))

@@ -1,7 +1,5 @@
 -- How many left an in-link in the last steps, and the room that they leave.
-use Rattle.std.proofs.Common.{◌≡◌, ℕ, suc, ◌-◌, ◌<◌, ◌∙◌, List, [], ◌∷◌, length, map, refl, ap, sym}
-use Rattle.std.specs.Prelude.{All}
-use Rattle.std.proofs.lemmas.List.Elements.{All-head, All-tail}
+use Rattle.std.proofs.Common.{◌≡◌, ℕ, suc, ◌-◌, ◌<◌, ◌∙◌, length, ap, sym}
 use Rattle.cell_stages.proofs.LeftLately.{leavings_pass, leavings_stay, rooms_add_up}
 use Rattle.dta_model.specs.Plans.{link_at}
 use Rattle.dta_model.specs.Sound.{IsSound}
@@ -25,15 +23,6 @@ left-stays p sound t l h = leavings_stay p sound t l h
 pub left-next : (p : Plan) → IsSound p → (n t l : ℕ) → l < length p.net.links → (link_at p l).to.0 ≡ n
     → left_before p (suc t) l ≡ left_after p n t l
 left-next p sound n t l below to = left-stays p sound t l below ∙ ap (λ k. left_after p k t l) to
-
--- and for what is made of them
-pub lefts-stay : {Y : Type 0} (k : ℕ → List ℕ → Y) (p : Plan) → IsSound p → (n t : ℕ) (ls : List ℕ) → All (λ l. l < length p.net.links) ls → All (λ l. (link_at p l).to.0 ≡ n) ls
-    → map (λ l. k l (left_after p n t l)) ls ≡ map (λ l. k l (left_before p (suc t) l)) ls
-lefts-stay k p sound n t [] below to = refl
-lefts-stay k p sound n t (l ∷ ls) below to =
-    ap (λ x. k l x ∷ map (λ l. k l (left_after p n t l)) ls) (sym (left-next p sound n t l (All-head (λ l. l < length p.net.links) l ls below) (All-head (λ l. (link_at p l).to.0 ≡ n) l ls to)))
-    ∙ ap (λ xs. k l (left_before p (suc t) l) ∷ xs)
-    (lefts-stay k p sound n t ls (All-tail (λ l. l < length p.net.links) l ls below) (All-tail (λ l. (link_at p l).to.0 ≡ n) l ls to))
 
 -- the room beside a line and those who left lately
 pub room-same : (p : Plan) (t l : ℕ) → room_after (storage_by p.queue (link_at p l).storage) (line_before p t l) (left_before p t l) ≡ room_mail p l t

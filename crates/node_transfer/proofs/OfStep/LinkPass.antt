@@ -1,6 +1,5 @@
 -- The pass over one in-link is the moves that its heads give.
-use Rattle.net_core.specs.Network as network
-use Rattle.std.specs.Prelude.{filter, slice_get, nat_eq, nat_le, All}
+use Rattle.std.specs.Prelude.{filter, slice_get, nat_le, All}
 use Rattle.std.proofs.Common.{◌≡◌, ℕ, zero, suc, ◌+◌, ◌≤◌, Bool, true, false, cond, not, List, [], ◌∷◌, ◌++◌, length, map, refl, ap, sym, ◌∙◌, subst, arith, append_assoc, append-nil, Option, Some, None, drop}
 use Rattle.std.proofs.lemmas.List.Elements.{All-push, All-nil, All-cons}
 use Rattle.dta_model.specs.NodeMoves.{grow, head_move, leave_move, may_move, where_true}
@@ -15,15 +14,16 @@ use Rattle.cell_stages.specs.Transfers.{line_move}
 use Rattle.dta_model.specs.declared.plan.Plan.{Plan}
 use Rattle.cell_stages.proofs.Gathering.{kept_at}
 use Rattle.cell_stages.proofs.Lines.{heads_of_lines}
-use Rattle.dta_model.proofs.Queues.{distinct, queue-distinct}
+use Rattle.dta_model.proofs.Queues.{queue-distinct}
 use Rattle.cell_stages.specs.Contents.{kept_turns}
 use Rattle.node_transfer.specs.Inside.Pass.{Work, passed, head_action, place_of}
 use Rattle.cell_stages.specs.declared.out_link.OutLink.{OutLink}
 use Rattle.cell_stages.specs.declared.exit.Exit.{Exit}
 use Rattle.node_transfer.specs.declared.step.pass.HeadAction.TheVariants.{Stays, Arrives, Enters}
+use Rattle.node_transfer.proofs.OfMail.Parts.{outs-once}
 use Rattle.node_transfer.proofs.OfStep.Facts.{OnLink, on-link}
 use Rattle.node_transfer.proofs.OfStep.Mid.{T, line_mid, exit_mid, out_mid, arrived_mid, waiting_mid}
-use Rattle.node_transfer.proofs.OfStep.Movers.{distinct_filter, distinct_range, first_leaves, staying_push, staying-same, unmoved_one, waits-unmoved, clash, batch-push, arrive-push}
+use Rattle.node_transfer.proofs.OfStep.Movers.{distinct_filter, first_leaves, staying_push, staying-same, unmoved_one, waits-unmoved, clash, batch-push, arrive-push}
 use Rattle.node_transfer.proofs.OfStep.OneMove.{outs-arrival, outs-entry, exit-arrival, exit-entry}
 use Rattle.node_transfer.proofs.OfStep.Passes.{passed-none, passed-stays, passed-arrives, passed-enters}
 use Rattle.node_transfer.proofs.OfStep.HeadActions.{head_action-head}
@@ -41,10 +41,6 @@ map_drop f (x ∷ xs) = refl
 pub not_true : (c : Bool) → not c ≡ true → c ≡ false
 not_true true h = cc
 not_true false h = refl
-
-pub outs-distinct : (p : Plan) (n : ℕ) → distinct (outs p n) ≡ true
-unfolding network.outs
-outs-distinct p n = distinct_filter (λ l. nat_eq (link_at p l).from.0 n) (network.numbers_below (length p.net.links)) (distinct_range (length p.net.links) 0)
 
 pub pass_same : (step : ℕ) (a a' : List RiderState) (b b' : Exit) (c c' : List OutLink) (d d' : List RiderState) → a ≡ a' → b ≡ b' → c ≡ c' → d ≡ d' → passed step a b c d ≡ passed step a' b' c' d'
 pass_same step a a' b b' c c' d d' e f g h = ap (λ x. passed step x b c d) e ∙ ap (λ x. passed step a' x c d) f ∙ ap (λ x. passed step a' b' x d) g ∙ ap (λ x. passed step a' b' c' x) h
@@ -90,7 +86,7 @@ module _ (p : Plan) (sound : IsSound p) (n t l : ℕ) (to : (link_at p l).to.0 �
     goes-on : (b : ℕ) → next_target p (T p n t) v ≡ Onto b → head_action t (exit_mid p n t M l) (map (out_mid p n t M) (outs p n)) (rider_at p (T p n t) v) ≡ Enters (place_of b (outs p n)) (place_of b (kept_turns p n l)) → pass_of M ≡ pass_of (M ++ m0 ∷ [])
     goes-on b e w =
         passed-enters t (line_mid p n t M l) (exit_mid p n t M l) (map (out_mid p n t M) (outs p n)) (arrived_mid p n t M) (rider_at p (T p n t) v) (place_of b (outs p n)) (place_of b (kept_turns p n l)) first-rider w
-        ∙ pass_same t _ _ _ _ _ _ _ _ line-drops (exit-entry p n t M m0 l F.stood b (distinct_filter _ (outs p n) (outs-distinct p n)) e) (outs-entry p n t M m0 (batch-push p n t M m0 new F.only refl refl) waits (outs p n) b (outs-distinct p n) e)
+        ∙ pass_same t _ _ _ _ _ _ _ _ line-drops (exit-entry p n t M m0 l F.stood b (distinct_filter _ (outs p n) (outs-once p n)) e) (outs-entry p n t M m0 (batch-push p n t M m0 new F.only refl refl) waits (outs p n) b (outs-once p n) e)
         (ap (λ A. arrived_before p n t ++ A) (sym (arrive-push p n t M m0 new F.only refl refl ∙ ap (λ x. arrive_by p (T p n t) M ++ cond (not (is_onto x)) (moved (rider_at p (T p n t) v) t ∷ []) []) e ∙ append-nil (arrive_by p (T p n t) M))))
 
     stays-put : head_action t (exit_mid p n t M l) (map (out_mid p n t M) (outs p n)) (rider_at p (T p n t) v) ≡ Stays → pass_of M ≡ work_of M
@@ -105,9 +101,6 @@ module _ (p : Plan) (sound : IsSound p) (n t l : ℕ) (to : (link_at p l).to.0 �
     head-step-of : All (λ m. m.step ≡ t) M → HeadStep M
     head-step-of now = by_next (slice_get (rider_at p (T p n t) v).route (length (rider_at p (T p n t) v).entries)) refl
       where
-        ready : ℕ
-        ready = F.entry.step + (link_at p l).free
-
         by_test : (o : Option ℕ) (x : Target) (c : Bool) → next_target p (T p n t) v ≡ x → may_move p n t (T p n t) M l (F.entry.step + (link_at p l).free) x ≡ c
             → (c ≡ true → pass_of M ≡ pass_of (M ++ m0 ∷ [])) → (c ≡ false → pass_of M ≡ work_of M) → HeadStep M
         by_test o x true e q go stay = free-head m0 (head-is now ∙ ap (λ y. where_true (may_move p n t (T p n t) M l (F.entry.step + (link_at p l).free) y) m0) e ∙ ap (λ d. where_true d m0) q) refl F.stood leaves (go refl)

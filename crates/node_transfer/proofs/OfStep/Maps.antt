@@ -1,16 +1,13 @@
 -- Loops that change each element.
 use Rattle.std.proofs.Common.{◌≡◌, ℕ, zero, suc, ◌+◌, ◌<◌, ◌≤◌, List, [], ◌∷◌, ◌++◌, length, map, refl, ap, sym, ◌∙◌, arith, take, drop, add-one}
 use Rattle.std.specs.Prelude.{slice_set, slice_index_or, All}
-use Rattle.std.proofs.lemmas.List.Elements.{All-head, All-tail}
+use Rattle.std.proofs.lemmas.List.Elements.{All-tail}
 use Rattle.std.proofs.lemmas.Bool.{eq-eqb, ne_eqb}
 use Rattle.node_transfer.specs.Inside.Pass.{place_of}
 
 -- the elements before the index are done, the others not
 abbrev pub mapped_from : {X : Type 0} → (X → X) → ℕ → List X → List X
 mapped_from f i xs = take i xs ++ map f (drop i xs)
-
-pub map_start : {X : Type 0} (f : X → X) (xs : List X) → map f xs ≡ mapped_from f 0 xs
-map_start f xs = refl
 
 map_step_suc : {X : Type 0} (f : X → X) (xs : List X) (i : ℕ) (y d : X) → i < length xs → y ≡ f (slice_index_or xs i d) → mapped_from f (suc i) (slice_set xs i y) ≡ mapped_from f i xs
 map_step_suc f [] i y d h e = absurd (omega arith)
@@ -25,8 +22,6 @@ map_end f [] zero h = refl
 map_end f [] (suc i) h = refl
 map_end f (x ∷ xs) zero h = absurd (omega arith)
 map_end f (x ∷ xs) (suc i) h = ap (λ zs. x ∷ zs) (map_end f xs i (omega arith))
-
-pub ruleset map_next = (map_step, map_end)
 
 -- the place by a key is not before an index
 place_step_suc : {X : Type 0} (key : X → ℕ) (b : ℕ) (xs : List X) (i : ℕ) (d : X) → i < length xs → (key (slice_index_or xs i d) ≡ b → ⊥) → place_of b (drop i (map key xs)) ≡ place_of b (drop (suc i) (map key xs)) + 1
@@ -60,11 +55,3 @@ all_next_suc P (x ∷ xs) (suc i) y a = all_next_suc P xs i y a
 -- what holds of each element from an index on holds from the next on, after a write at the index
 pub all_next : {X : Type 0} (P : X → Type 0) (xs : List X) (i : ℕ) (y : X) → All P (drop i xs) → All P (drop (i + 1) (slice_set xs i y))
 all_next P xs i y a = rw add-one (all_next_suc P xs i y a)
-
-all_here_of : {X : Type 0} (P : X → Type 0) (xs : List X) (i : ℕ) (d : X) → i < length xs → All P (drop i xs) → P (slice_index_or xs i d)
-all_here_of P [] i d h a = absurd (omega arith)
-all_here_of P (x ∷ xs) zero d h a = All-head P x xs a
-all_here_of P (x ∷ xs) (suc i) d h a = all_here_of P xs i d (omega arith) a
-
-pub all_here : {X : Type 0} (P : X → Type 0) (xs : List X) (i : ℕ) (d : X) → i < length xs → All P (drop i xs) → P (slice_index_or xs i d)
-all_here P xs i d h a = all_here_of P xs i d h a

@@ -1,51 +1,28 @@
 -- Exits and out-links that open and close.
 use Rattle.std.specs.Prelude.{count_by, option_map}
-use Rattle.std.proofs.Common.{◌≡◌, ℕ, suc, ◌+◌, ◌-◌, ◌*◌, ◌/◌, ◌%◌, ◌≤◌, Bool, true, false, cond, ◌&&◌, List, [], ◌∷◌, map, refl, ap, sym, ◌∙◌, arith, Option, Some, None, min, add-one}
+use Rattle.std.proofs.Common.{◌≡◌, ℕ, ◌-◌, ◌≤◌, Bool, true, false, cond, ◌&&◌, List, [], ◌∷◌, map, refl, ap, ◌∙◌, arith, Option, Some, None, min}
 use Rattle.std.proofs.lemmas.List.Sums.{sum_by-cons}
-use Rattle.dta_model.specs.Allowance.{allowance, credited, parts}
+use Rattle.dta_model.specs.Allowance.{allowance}
 use Rattle.dta_model.specs.NodeMoves.{left, entered, turned}
 use Rattle.dta_model.specs.Plans.{link_allowance, link_rates, turn, turn_rates}
 use Rattle.dta_model.specs.Room.{room}
 use Rattle.cell_stages.specs.Stages.{room_mail}
 use Rattle.dta_model.specs.Trace.{Move, leads_to, stands_on}
 use Rattle.dta_model.specs.declared.plan.Plan.{Plan}
-use Rattle.net_core.specs.Rates.{rate_in}
 use Rattle.net_core.specs.declared.rates.Rates.{Rates}
-use Rattle.cell_stages.specs.Contents.{is_limited, kept_turns, penalty_of, turn_after, exit_after, meter_after, room_of}
-use Rattle.capacity_credits.specs.Meter.{granted, closed, later}
+use Rattle.cell_stages.specs.Contents.{is_limited, kept_turns, penalty_of, turn_of, exit_of, room_of}
+use Rattle.cell_stages.proofs.MailTells.{rooms_are_told}
+use Rattle.capacity_credits.specs.Meter.{granted, closed, unopened}
 use Rattle.node_transfer.specs.Inside.Outs.{capped_by, capped_at}
 use Rattle.node_transfer.specs.Exits.{opened_turn, closed_turn, opened_exit, closed_exit}
-use Rattle.std.specs.Option.{is_none}
-use Rattle.node_transfer.proofs.OfStep.Later.{later-next, later-now}
 use Rattle.node_transfer.proofs.OfStep.Mid.{T, meter_mid, meter_with, capped_room, turn_mid, exit_mid, takes}
 
-grant_carried : (y x : ℕ) → (y % 3600000000 + x) % 3600000000 ≡ (y + x) % 3600000000
-grant_carried y x = omega arith
-
-grant_left : (y x : ℕ) → (y % 3600000000 + x) / 3600000000 ≡ (y + x) / 3600000000 - y / 3600000000
-grant_left y x = omega arith
-
-less_none : (a b u : ℕ) → a ≡ b → u ≡ 0 → a ≡ b - u
-less_none a b u e z = omega arith
-
--- what rates give in one more step
-pub next_part : (rates : Rates) (delta t : ℕ) → parts rates delta (suc t) ≡ parts rates delta t + credited (rate_in rates t) * delta
-unfolding parts
-next_part rates delta t = refl
-
--- the grant of a step
-pub meter-opens : (p : Plan) (t : ℕ) (rates : Rates) (used : ℕ) → used ≡ 0 → granted p.delta (meter_after p t rates) ≡ meter_mid p t rates used
-unfolding allowance
-meter-opens p t rates used z =
-    let x = credited (rate_in (later t rates) 0) * p.delta in
-    let now : credited (rate_in rates t) * p.delta ≡ x = ap (λ o. credited o * p.delta) (sym (later-now t rates)) in
-    let c : (parts rates p.delta t % 3600000000 + x) % 3600000000 ≡ parts rates p.delta (suc t) % 3600000000 =
-    rw (next_part rates p.delta t, now) (grant_carried (parts rates p.delta t) x) in
-    let l : (parts rates p.delta t % 3600000000 + x) / 3600000000 ≡ (parts rates p.delta (t + 1) / 3600000000 - parts rates p.delta t / 3600000000) - used =
-    less_none _ _ used (rw (add-one t, next_part rates p.delta t, now) (grant_left (parts rates p.delta t) x)) z in
-    ap (λ r. record { rates = r; carried = (parts rates p.delta t % 3600000000 + x) % 3600000000; left = (parts rates p.delta t % 3600000000 + x) / 3600000000; unlimited = is_none (rate_in (later t rates) 0) }) (later-next t rates)
-    ∙ ap (λ k. record { rates = later (suc t) rates; carried = k; left = (parts rates p.delta t % 3600000000 + x) / 3600000000; unlimited = is_none (rate_in (later t rates) 0) }) c
-    ∙ ap (λ k. meter_with p t rates k) l
+-- the allowance of a step, of which nothing is used yet
+pub meter-opens : (p : Plan) (t : ℕ) (rates : Rates) (used : ℕ) → used ≡ 0 → granted t (unopened p.delta rates) ≡ meter_mid p t rates used
+meter-opens p t rates used z = ap (λ k. meter_with p t rates k) (less_none (allowance rates p.delta t) used z)
+  where
+    less_none : (a u : ℕ) → u ≡ 0 → a ≡ a - u
+    less_none a u z = omega (arith, z)
 
 count_and : {X : Type 0} (p q : X → Bool) (xs : List X) → count_by (λ x. p x && q x) xs ≤ count_by q xs
 count_and p q [] = omega arith
@@ -69,52 +46,52 @@ module _ (p : Plan) (n t : ℕ) (M : List Move) (l : ℕ) where
 
   -- a limit, by whether there is one
   limit-opens : (b : ℕ) (rates : Rates) (c : Bool) → turned p n t (T p n t) M l b ≡ 0
-      → option_map (granted p.delta) (cond c (Some (meter_after p t rates)) None) ≡ cond c (Some (meter_mid p t rates (turned p n t (T p n t) M l b))) None
+      → option_map (granted t) (cond c (Some (unopened p.delta rates)) None) ≡ cond c (Some (meter_mid p t rates (turned p n t (T p n t) M l b))) None
   limit-opens b rates false e = refl
   limit-opens b rates true e = ap (λ k. Some k) (meter-opens p t rates (turned p n t (T p n t) M l b) e)
 
   limit-closes : (b : ℕ) (rates : Rates) (c : Bool)
-      → option_map closed (cond c (Some (meter_mid p t rates (turned p n t (T p n t) M l b))) None) ≡ cond c (Some (meter_after p (suc t) rates)) None
+      → option_map closed (cond c (Some (meter_mid p t rates (turned p n t (T p n t) M l b))) None) ≡ cond c (Some (unopened p.delta rates)) None
   limit-closes b rates false = refl
   limit-closes b rates true = refl
 
-  pub exit-opens : left p n t (T p n t) M l ≡ 0 → opened_exit p.delta (exit_after p n t l) ≡ exit_mid p n t M l
+  pub exit-opens : left p n t (T p n t) M l ≡ 0 → opened_exit t (exit_of p n l) ≡ exit_mid p n t M l
   exit-opens z =
-      let o : granted p.delta (meter_after p t (link_rates p l)) ≡ meter_mid p t (link_rates p l) (left p n t (T p n t) M l) = meter-opens p t (link_rates p l) (left p n t (T p n t) M l) z in
-      let ts : map (opened_turn p.delta) (map (turn_after p t l) (kept_turns p n l)) ≡ map (turn_mid p n t M l) (kept_turns p n l) = turns (kept_turns p n l) in
+      let o : granted t (unopened p.delta (link_rates p l)) ≡ meter_mid p t (link_rates p l) (left p n t (T p n t) M l) = meter-opens p t (link_rates p l) (left p n t (T p n t) M l) z in
+      let ts : map (opened_turn t) (map (turn_of p l) (kept_turns p n l)) ≡ map (turn_mid p n t M l) (kept_turns p n l) = turns (kept_turns p n l) in
       rw (o, ts) refl
     where
-      turns : (xs : List ℕ) → map (opened_turn p.delta) (map (turn_after p t l) xs) ≡ map (turn_mid p n t M l) xs
+      turns : (xs : List ℕ) → map (opened_turn t) (map (turn_of p l) xs) ≡ map (turn_mid p n t M l) xs
       turns [] = refl
       turns (b ∷ xs) =
           let none : turned p n t (T p n t) M l b ≡ 0 = omega (arith, turned-le b) in
-          let e : opened_turn p.delta (turn_after p t l b) ≡ turn_mid p n t M l b =
+          let e : opened_turn t (turn_of p l b) ≡ turn_mid p n t M l b =
           ap (λ k. record { to = record { 0 = b }; penalty = penalty_of (turn p l b); limit = k }) (limit-opens b (turn_rates p l b) (is_limited (turn_rates p l b)) none) in
-          let r : map (opened_turn p.delta) (map (turn_after p t l) xs) ≡ map (turn_mid p n t M l) xs = turns xs in
+          let r : map (opened_turn t) (map (turn_of p l) xs) ≡ map (turn_mid p n t M l) xs = turns xs in
           rw (e, r) refl
 
-  pub exit-closes : closed_exit (exit_mid p n t M l) ≡ exit_after p n (suc t) l
+  pub exit-closes : closed_exit (exit_mid p n t M l) ≡ exit_of p n l
   exit-closes =
-      let ts : map closed_turn (map (turn_mid p n t M l) (kept_turns p n l)) ≡ map (turn_after p (suc t) l) (kept_turns p n l) = turns (kept_turns p n l) in rw ts refl
+      let ts : map closed_turn (map (turn_mid p n t M l) (kept_turns p n l)) ≡ map (turn_of p l) (kept_turns p n l) = turns (kept_turns p n l) in rw ts refl
     where
-      turns : (xs : List ℕ) → map closed_turn (map (turn_mid p n t M l) xs) ≡ map (turn_after p (suc t) l) xs
+      turns : (xs : List ℕ) → map closed_turn (map (turn_mid p n t M l) xs) ≡ map (turn_of p l) xs
       turns [] = refl
       turns (b ∷ xs) =
-          let e : closed_turn (turn_mid p n t M l b) ≡ turn_after p (suc t) l b =
+          let e : closed_turn (turn_mid p n t M l b) ≡ turn_of p l b =
           ap (λ k. record { to = record { 0 = b }; penalty = penalty_of (turn p l b); limit = k }) (limit-closes b (turn_rates p l b) (is_limited (turn_rates p l b))) in
-          let r : map closed_turn (map (turn_mid p n t M l) xs) ≡ map (turn_after p (suc t) l) xs = turns xs in
+          let r : map closed_turn (map (turn_mid p n t M l) xs) ≡ map (turn_of p l) xs = turns xs in
           rw (e, r) refl
 
 -- an inflow at the start of a step, within the room
-pub inflow-opens : (p : Plan) (n t b : ℕ) → capped_by (room_of p t b) (granted p.delta (meter_after p t (link_rates p b)))
+pub inflow-opens : (p : Plan) (n t b : ℕ) → capped_by (room_of p t b) (granted t (unopened p.delta (link_rates p b)))
     ≡ meter_with p t (link_rates p b) (takes p n t b - entered p n t (T p n t) [] b)
 unfolding room_mail link_allowance entered
-inflow-opens p n t b = by_room (room p b t (T p n t))
+inflow-opens p n t b = ap (λ m. capped_by m (granted t (unopened p.delta (link_rates p b)))) (rooms_are_told p t b).1 ∙ by_room (room p b t (T p n t))
   where
     min_less : (a places : ℕ) → min (a - 0) places ≡ min a places - 0
     min_less a places = omega arith
 
-    by_room : (r : Option ℕ) → capped_at r (granted p.delta (meter_after p t (link_rates p b)))
+    by_room : (r : Option ℕ) → capped_at r (granted t (unopened p.delta (link_rates p b)))
         ≡ meter_with p t (link_rates p b) (capped_room r (allowance (link_rates p b) p.delta t) - 0)
     by_room None = meter-opens p t (link_rates p b) 0 refl
     by_room (Some places) =

@@ -1,6 +1,6 @@
 -- A node's cell in the middle of its transfer, by the moves that it has made so far in the step.
 use Rattle.std.specs.Prelude.{ℕ, suc, ◌-◌, length, min, nat_le, List, [], ◌++◌, map, filter, Option, None, Some}
-use Rattle.dta_model.specs.Allowance.{carried, allowance}
+use Rattle.dta_model.specs.Allowance.{allowance}
 use Rattle.dta_model.specs.Loading.{trace_after}
 use Rattle.dta_model.specs.NodeMoves.{left, entered, turned}
 use Rattle.dta_model.specs.Plans.{link_at, link_allowance, link_rates, turn, turn_rates, departure_of}
@@ -13,18 +13,18 @@ use Rattle.link_queues.specs.Leavings.{pushed}
 use Rattle.cell_stages.specs.Stages.{line_before, staying, waiting_for, arrived_before, arrive_by, batch_by}
 use Rattle.dta_model.specs.Trace.{Move, queue_of}
 use Rattle.dta_model.specs.declared.plan.Plan.{Plan}
-use Rattle.cell_stages.specs.Contents.{kept_turns, turn_by, storage_by, exit_after, left_before, meter_after}
-use Rattle.capacity_credits.specs.Meter.{MeterState, later}
+use Rattle.cell_stages.specs.Contents.{kept_turns, turn_by, storage_by, exit_of, left_before, room_of, sent}
+use Rattle.capacity_credits.specs.Meter.{MeterState, unopened}
 use Rattle.cell_stages.specs.declared.in_link.InLink.{InLink}
-use Rattle.cell_stages.specs.declared.mail.Mail.TheVariants.{Away, Batch}
+use Rattle.cell_stages.specs.declared.mail.Mail.TheVariants.{Away}
 use Rattle.cell_stages.specs.declared.out_link.OutLink.{OutLink}
 use Rattle.cell_stages.specs.declared.out_link.Waiting.{Waiting}
 use Rattle.cell_stages.specs.declared.exit.Exit.{Exit}
 use Rattle.cell_stages.specs.declared.turn.LimitedTurn.{LimitedTurn}
 
--- rates in step t, of which so many vehicles are left, and of whose allowance some are used
+-- rates in step t, of whose allowance so many vehicles are left, and of which some are used
 abbrev pub meter_with : Plan → ℕ → Rates → ℕ → MeterState
-meter_with p t rates left = record { rates = later (suc t) rates; carried = carried rates p.delta (suc t); left = left; unlimited = is_none (rate_in (later t rates) 0) }
+meter_with p t rates left = record { rates = rates; delta = p.delta; left = left; unlimited = is_none (rate_in rates t) }
 
 abbrev pub meter_mid : Plan → ℕ → Rates → ℕ → MeterState
 meter_mid p t rates used = meter_with p t rates (allowance rates p.delta t - used)
@@ -71,7 +71,7 @@ module _ (p : Plan) (n t : ℕ) where
     inflow = meter_with p t (link_rates p b) (takes b - entered p n t T M b);
     waiting = waiting_mid M b;
     batch = batch_by p b T M;
-    mail = Away;
+    mail = room_of p t b;
   }
 
   abbrev pub arrived_mid : List Move → List RiderState
@@ -86,7 +86,7 @@ module _ (p : Plan) (n t : ℕ) where
   in_done M l = record {
     line = line_mid M l;
     left = left_mid (line_mid M l) l;
-    exit = exit_after p n (suc t) l;
+    exit = exit_of p n l;
     storage = storage_by p.queue (link_at p l).storage;
     mail = Away;
   }
@@ -94,8 +94,8 @@ module _ (p : Plan) (n t : ℕ) where
   abbrev pub out_done : List Move → ℕ → OutLink
   out_done M b = record {
     link = record { 0 = b };
-    inflow = meter_after p (suc t) (link_rates p b);
+    inflow = unopened p.delta (link_rates p b);
     waiting = waiting_mid M b;
     batch = [];
-    mail = Batch t (batch_by p b T M);
+    mail = sent t (batch_by p b T M) (room_of p t b);
   }

@@ -26,7 +26,7 @@ use Rattle.dta_model.proofs.Queues.{absent, distinct}
 use Rattle.dta_model.proofs.Standing.{in-queue}
 use Rattle.capacity_credits.specs.Meter.{MeterState, closed}
 use Rattle.node_transfer.specs.Inside.Outs.{Admitted, admitted, closed_out, closed_with}
-use Rattle.cell_stages.specs.declared.mail.Mail.TheVariants.{Batch}
+use Rattle.cell_stages.specs.Contents.{sent}
 use Rattle.cell_stages.specs.declared.out_link.OutLink.{OutLink}
 use Rattle.node_transfer.proofs.OfStep.ByKey.{head_parts}
 use Rattle.node_transfer.proofs.OfStep.InPass.{absent_all, all_from}
@@ -206,7 +206,7 @@ module _ (p : Plan) (sound : IsSound p) (n t : ℕ) where
       ∙ ap (λ S. record (out_done p n t M' b) { waiting = record { later = riders p (T p n t) S; due = riders p (T p n t) (due_now p n t M' b) } }) (sym a.rest.later)
 
   abbrev done_of : OutLink → OutLink
-  done_of o = record o { inflow = closed o.inflow; batch = []; mail = Batch t o.batch }
+  done_of o = record o { inflow = closed o.inflow; batch = []; mail = sent t o.batch o.mail }
 
   pub record OutsPass (M : List Move) (bs : List ℕ) (M' : List Move) : Type 0 where
     pub ins : (l : ℕ) → in_done p n t M' l ≡ in_done p n t M l

@@ -6,11 +6,6 @@ use Rattle.dta_model.specs.Riders.{RiderState, moved}
 use Rattle.capacity_credits.specs.Meter.{MeterState, passed_one}
 use Rattle.node_transfer.specs.Inside.Outs.{released, admitted}
 
--- a list with a first element
-pub as_cons : (xs : List RiderState) (r : RiderState) → slice_get xs 0 ≡ Some r → xs ≡ r ∷ drop 1 xs
-as_cons [] r h = cc
-as_cons (x ∷ xs) r h = grind arith
-
 pub released-none : (step : ℕ) (later due : List RiderState) → slice_get later 0 ≡ None → released step later due ≡ record { later = later; due = due }
 unfolding released
 released-none step [] due h = refl

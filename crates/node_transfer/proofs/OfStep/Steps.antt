@@ -1,5 +1,5 @@
 -- What one part of a step leaves to the next.
-use Rattle.std.proofs.Common.{◌≡◌, ℕ, ◌+◌, ◌≤◌, Bool, true, false, cond, List, [], ◌∷◌, ◌++◌, length, length-append, map, refl, ap, sym, subst, arith}
+use Rattle.std.proofs.Common.{◌≡◌, ℕ, ◌+◌, Bool, true, false, cond, List, [], ◌∷◌, ◌++◌, length, length-append, map, refl, ap, sym, subst, arith}
 use Rattle.std.specs.Prelude.{All, nat_le}
 use Rattle.std.specs.List.{sum_by}
 use Rattle.std.proofs.lemmas.List.Sums.{sum_by-cons}
@@ -24,16 +24,16 @@ released-length step (r ∷ later) due = step_length (nat_le r.departure step) (
     step_length true h = omega (arith, h, length-append due (r ∷ []))
     step_length false h = refl
 
-pub opened-held : (delta step : ℕ) (o : OutLink) → held (opened_out delta step o) ≡ held o
-opened-held delta step o = let e = released-length step o.waiting.later o.waiting.due in omega arith
+pub opened-held : (step : ℕ) (o : OutLink) → held (opened_out step o) ≡ held o
+opened-held step o = let e = released-length step o.waiting.later o.waiting.due in omega arith
 
-pub opened-sum : (delta step : ℕ) (outs : List OutLink) → sum_by held (map (opened_out delta step) outs) ≡ sum_by held outs
-opened-sum delta step [] = refl
-opened-sum delta step (o ∷ outs) = let e = opened-held delta step o in let h = opened-sum delta step outs in omega (arith, sum_by-cons held o outs, sum_by-cons held (opened_out delta step o) (map (opened_out delta step) outs))
+pub opened-sum : (step : ℕ) (outs : List OutLink) → sum_by held (map (opened_out step) outs) ≡ sum_by held outs
+opened-sum step [] = refl
+opened-sum step (o ∷ outs) = let e = opened-held step o in let h = opened-sum step outs in omega (arith, sum_by-cons held o outs, sum_by-cons held (opened_out step o) (map (opened_out step) outs))
 
-pub opened-links : (delta step : ℕ) (outs : List OutLink) → out_links (map (opened_out delta step) outs) ≡ out_links outs
-opened-links delta step [] = refl
-opened-links delta step (o ∷ outs) = ap (λ ls. o.link.0 ∷ ls) (opened-links delta step outs)
+pub opened-links : (step : ℕ) (outs : List OutLink) → out_links (map (opened_out step) outs) ≡ out_links outs
+opened-links step [] = refl
+opened-links step (o ∷ outs) = ap (λ ls. o.link.0 ∷ ls) (opened-links step outs)
 
 released-due : (step : ℕ) (later due : List RiderState) → All UnderWay later → All UnderWay due → All UnderWay (released step later due).due
 unfolding released
@@ -51,25 +51,21 @@ released-due step (r ∷ later) due a d = step_due (nat_le r.departure step) (re
 abbrev DueUnderWay : Waiting → Type 0
 DueUnderWay w = All UnderWay w.due
 
-waits_opened : (delta step : ℕ) (outs : List OutLink) → All Waits outs → All DueUnderWay (waitings (map (opened_out delta step) outs))
-waits_opened delta step [] a = All-nil DueUnderWay
-waits_opened delta step (o ∷ outs) a =
+waits_opened : (step : ℕ) (outs : List OutLink) → All Waits outs → All DueUnderWay (waitings (map (opened_out step) outs))
+waits_opened step [] a = All-nil DueUnderWay
+waits_opened step (o ∷ outs) a =
     let w = All-head Waits o outs a in
-    All-cons DueUnderWay (released step o.waiting.later o.waiting.due) (waitings (map (opened_out delta step) outs)) (released-due step o.waiting.later o.waiting.due w.later w.due) (waits_opened delta step outs (All-tail Waits o outs a))
+    All-cons DueUnderWay (released step o.waiting.later o.waiting.due) (waitings (map (opened_out step) outs)) (released-due step o.waiting.later o.waiting.due w.later w.due) (waits_opened step outs (All-tail Waits o outs a))
 
 of_waitings : (outs : List OutLink) → All DueUnderWay (waitings outs) → All (λ o. All UnderWay o.waiting.due) outs
 of_waitings [] a = All-nil _
 of_waitings (o ∷ outs) a = All-cons (λ o. All UnderWay o.waiting.due) o outs (All-head DueUnderWay o.waiting (waitings outs) a) (of_waitings outs (All-tail DueUnderWay o.waiting (waitings outs) a))
 
-pub due_under_way : (delta step : ℕ) (outs outs' : List OutLink) → All Waits outs → waitings outs' ≡ waitings (map (opened_out delta step) outs) → All (λ o. All UnderWay o.waiting.due) outs'
-due_under_way delta step outs outs' a e = of_waitings outs' (subst (λ ws. All DueUnderWay ws) (sym e) (waits_opened delta step outs a))
+pub due_under_way : (step : ℕ) (outs outs' : List OutLink) → All Waits outs → waitings outs' ≡ waitings (map (opened_out step) outs) → All (λ o. All UnderWay o.waiting.due) outs'
+due_under_way step outs outs' a e = of_waitings outs' (subst (λ ws. All DueUnderWay ws) (sym e) (waits_opened step outs a))
 
-pub all_held : (outs : List OutLink) (n : ℕ) → sum_by held outs ≤ n → All (λ o. held o ≤ n) outs
-all_held [] n h = All-nil _
-all_held (o ∷ outs) n h = All-cons (λ o. held o ≤ n) o outs (omega (arith, sum_by-cons held o outs)) (all_held outs n (omega (arith, sum_by-cons held o outs)))
-
-pub can_cross : (delta step : ℕ) (s : CellState) → CanTransfer s → CanCross s.ins (map (opened_out delta step) s.outs) s.arrived
-can_cross delta step s c = record {
-  rides = subst (λ ls. All (λ link. All (Rides ls) link.line) s.ins) (sym (opened-links delta step s.outs)) c.rides;
-  fits = let f = c.fits in let e = opened-sum delta step s.outs in omega arith;
+pub can_cross : (step : ℕ) (s : CellState) → CanTransfer s → CanCross s.ins (map (opened_out step) s.outs) s.arrived
+can_cross step s c = record {
+  rides = subst (λ ls. All (λ link. All (Rides ls) link.line) s.ins) (sym (opened-links step s.outs)) c.rides;
+  fits = let f = c.fits in let e = opened-sum step s.outs in omega arith;
 }

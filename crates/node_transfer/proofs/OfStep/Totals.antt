@@ -69,10 +69,10 @@ parts-length t (r ∷ rs) = by_two (nat_le t r.departure) (nat_lt r.departure t)
     by_two false false q s ih = let no_way : true ≡ false = sym (due_only q) ∙ s in cc no_way
 
 module _ (p : Plan) (n t : ℕ) where
-  lines-total : (line : ℕ → List RiderState) (left : ℕ → List ℕ) (mail : ℕ → Mail) (ls : List ℕ) → sum_by line_length (map (in_link p n t line left mail) ls) ≡ length (flat_map line ls)
+  lines-total : (line : ℕ → List RiderState) (left : ℕ → List ℕ) (mail : ℕ → Mail) (ls : List ℕ) → sum_by line_length (map (in_link p n line left mail) ls) ≡ length (flat_map line ls)
   lines-total line left mail [] = refl
   lines-total line left mail (l ∷ ls) =
-      let c = sum_by-cons line_length (in_link p n t line left mail l) (map (in_link p n t line left mail) ls) in
+      let c = sum_by-cons line_length (in_link p n line left mail l) (map (in_link p n line left mail) ls) in
       let r = lines-total line left mail ls in
       omega (arith, c, r, length-append (line l) (flat_map line ls))
 
@@ -135,11 +135,11 @@ module _ (p : Plan) (n t : ℕ) where
     all_riders_of P [] h = All-nil P
     all_riders_of P (x ∷ xs) h = All-cons P (rider_at p (T p n t) x) (riders p (T p n t) xs) (h 0 x refl) (all_riders_of P xs (λ i v e. h (suc i) v e))
 
-    lines-ride : (mail : ℕ → Mail) (ls : List ℕ) → All (λ l. (link_at p l).to.0 ≡ n) ls → All (λ link. All (Rides (outs p n)) link.line) (map (in_link p n t (line_before p t) (left_before p t) mail) ls)
+    lines-ride : (mail : ℕ → Mail) (ls : List ℕ) → All (λ l. (link_at p l).to.0 ≡ n) ls → All (λ link. All (Rides (outs p n)) link.line) (map (in_link p n (line_before p t) (left_before p t) mail) ls)
     unfolding line_before
     lines-ride mail [] to = All-nil _
     lines-ride mail (l ∷ ls) to =
-        All-cons (λ link. All (Rides (outs p n)) link.line) (in_link p n t (line_before p t) (left_before p t) mail l) (map (in_link p n t (line_before p t) (left_before p t) mail) ls)
+        All-cons (λ link. All (Rides (outs p n)) link.line) (in_link p n (line_before p t) (left_before p t) mail l) (map (in_link p n (line_before p t) (left_before p t) mail) ls)
         (all_riders_of (Rides (outs p n)) (queue_of l (T p n t)) (λ i v e. rides-of l v (on-link p sound n t l (All-head (λ k. (link_at p k).to.0 ≡ n) l ls to) i v e)))
         (lines-ride mail ls (All-tail (λ k. (link_at p k).to.0 ≡ n) l ls to))
 
@@ -170,7 +170,7 @@ module _ (p : Plan) (n t : ℕ) where
     pub can-transfer : (in_mail out_mail : ℕ → Mail) → CanTransfer (cell_before p n t in_mail out_mail)
     unfolding cell_before
     can-transfer in_mail out_mail = record {
-      rides = subst (λ ls. All (λ link. All (Rides ls) link.line) (map (in_link p n t (line_before p t) (left_before p t) in_mail) (ins p n))) (sym (links-same (waiting_before p t) out_mail (outs p n))) (lines-ride in_mail (ins p n) (in_links p n));
+      rides = subst (λ ls. All (λ link. All (Rides ls) link.line) (map (in_link p n (line_before p t) (left_before p t) in_mail) (ins p n))) (sym (links-same (waiting_before p t) out_mail (outs p n))) (lines-ride in_mail (ins p n) (in_links p n));
       waits = outs-wait out_mail (outs p n);
       fits = cell-few in_mail out_mail;
     }
@@ -184,11 +184,11 @@ module _ (p : Plan) (n t : ℕ) where
         let r = due-total mail bs in
         omega (arith, c, e, here, r)
 
-    running-total : (mail : ℕ → Mail) (ls : List ℕ) → sum_by line_length (map (in_link p n t (line_before p t) (left_before p t) mail) ls) ≡ sum_by (count_on (trace_after p t)) ls
+    running-total : (mail : ℕ → Mail) (ls : List ℕ) → sum_by line_length (map (in_link p n (line_before p t) (left_before p t) mail) ls) ≡ sum_by (count_on (trace_after p t)) ls
     unfolding line_before count_on
     running-total mail [] = refl
     running-total mail (l ∷ ls) =
-        let c = sum_by-cons line_length (in_link p n t (line_before p t) (left_before p t) mail l) (map (in_link p n t (line_before p t) (left_before p t) mail) ls) in
+        let c = sum_by-cons line_length (in_link p n (line_before p t) (left_before p t) mail l) (map (in_link p n (line_before p t) (left_before p t) mail) ls) in
         let e = sum_by-cons (count_on (trace_after p t)) l ls in
         let here = length-map (queue_of l (trace_after p t)) (rider_at p (trace_after p t)) in
         let r = running-total mail ls in
@@ -203,7 +203,7 @@ module _ (p : Plan) (n t : ℕ) where
         let a = due-total away (outs p n) in
         let b = running-total away (ins p n) in
         let w : min (sum_by waiting_length (map (out_link p t (waiting_before p t) away) (outs p n))) MOST_COUNT ≡ sum_by (λ b. due t (waiting_before p t b)) (outs p n) = omega (arith, few, due_few, a) in
-        let r : min (sum_by line_length (map (in_link p n t (line_before p t) (left_before p t) away) (ins p n))) MOST_COUNT ≡ sum_by (count_on (trace_after p t)) (ins p n) = omega (arith, few, b) in
+        let r : min (sum_by line_length (map (in_link p n (line_before p t) (left_before p t) away) (ins p n))) MOST_COUNT ≡ sum_by (count_on (trace_after p t)) (ins p n) = omega (arith, few, b) in
         rw (w, r) refl
 
 -- the number of the line of an in-link is that of the vehicles on its link
@@ -211,8 +211,8 @@ pub line-count : (p : Plan) (n t place l k : ℕ) (s : CellState) → IfSome (sl
     → s ≡ cell_before p n t away away → slice_get (ins p n) place ≡ Some l → k ≡ count_on (trace_after p t) l
 unfolding cell_before line_before count_on
 line-count p n t place l k s tells same here =
-    let there : slice_get s.ins place ≡ Some (in_link p n t (line_before p t) (left_before p t) away l) =
-    ap (λ c. slice_get c.ins place) same ∙ slice_get-map (in_link p n t (line_before p t) (left_before p t) away) (ins p n) place ∙ ap (λ o. option_map (in_link p n t (line_before p t) (left_before p t) away) o) here
+    let there : slice_get s.ins place ≡ Some (in_link p n (line_before p t) (left_before p t) away l) =
+    ap (λ c. slice_get c.ins place) same ∙ slice_get-map (in_link p n (line_before p t) (left_before p t) away) (ins p n) place ∙ ap (λ o. option_map (in_link p n (line_before p t) (left_before p t) away) o) here
     in
     let told : k ≡ length (line_before p t l) = subst (λ o. IfSome o (λ link. k ≡ length link.line)) there tells in
     told ∙ length-map (queue_of l (trace_after p t)) (rider_at p (trace_after p t))

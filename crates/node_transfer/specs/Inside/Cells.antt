@@ -9,8 +9,6 @@ use Rattle.cell_stages.specs.CellState.{CellState}
 use Rattle.node_transfer.specs.Inside.Pass.{Work, passed, Rides, held, out_links}
 use Rattle.node_transfer.specs.Exits.{opened_exit, closed_exit}
 use Rattle.node_transfer.specs.Inside.Outs.{opened_out, closed_out}
-use Rattle.cell_stages.specs.declared.mail.Mail.{Mail}
-use Rattle.cell_stages.specs.declared.mail.Mail.TheVariants.{Away, Room, Batch}
 use Rattle.cell_stages.specs.declared.in_link.InLink.{InLink}
 use Rattle.cell_stages.specs.declared.out_link.OutLink.{OutLink}
 use Rattle.node_transfer.specs.Gathered.{mail_line}
@@ -36,9 +34,9 @@ link_after link w = record {
 }
 
 -- the heads of one in-link move
-abbrev pub passed_link : ℕ → ℕ → InLink → List OutLink → List RiderState → LinkWork
-passed_link delta step link outs arrived =
-    link_after link (passed step link.line (opened_exit delta link.exit) outs arrived)
+abbrev pub passed_link : ℕ → InLink → List OutLink → List RiderState → LinkWork
+passed_link step link outs arrived =
+    link_after link (passed step link.line (opened_exit step link.exit) outs arrived)
 
 -- the in-links, the out-links and the riders who arrived, while heads move
 pub record CellWork : Type 0 where
@@ -51,27 +49,27 @@ abbrev pub put_first : InLink → CellWork → CellWork
 put_first link w = record w { ins = link ∷ w.ins }
 
 -- the heads of all in-links, in order
-unfoldable pub passed_links : ℕ → ℕ → List InLink → List OutLink → List RiderState → CellWork
-passed_links delta step [] outs arrived = record { ins = []; outs = outs; arrived = arrived }
-passed_links delta step (link ∷ ins) outs arrived =
-    put_first (passed_link delta step link outs arrived).link
-    (passed_links delta step ins
-    (passed_link delta step link outs arrived).outs
-    (passed_link delta step link outs arrived).arrived)
+unfoldable pub passed_links : ℕ → List InLink → List OutLink → List RiderState → CellWork
+passed_links step [] outs arrived = record { ins = []; outs = outs; arrived = arrived }
+passed_links step (link ∷ ins) outs arrived =
+    put_first (passed_link step link outs arrived).link
+    (passed_links step ins
+    (passed_link step link outs arrived).outs
+    (passed_link step link outs arrived).arrived)
 
 -- the second part of the in-links went first
 abbrev pub joined_behind : CellWork → CellWork → CellWork
 joined_behind back front = record front { ins = front.ins ++ back.ins }
 
 -- the heads of the first in-links, after those of the others
-abbrev pub passed_front : ℕ → ℕ → List InLink → CellWork → CellWork
-passed_front delta step front back =
-    joined_behind back (passed_links delta step front back.outs back.arrived)
+abbrev pub passed_front : ℕ → List InLink → CellWork → CellWork
+passed_front step front back =
+    joined_behind back (passed_links step front back.outs back.arrived)
 
 -- the heads of all in-links, from the one at place `start` on
-abbrev pub passed_rotated : ℕ → ℕ → ℕ → List InLink → List OutLink → List RiderState → CellWork
-passed_rotated delta step start ins outs arrived =
-    passed_front delta step (take start ins) (passed_links delta step (drop start ins) outs arrived)
+abbrev pub passed_rotated : ℕ → ℕ → List InLink → List OutLink → List RiderState → CellWork
+passed_rotated step start ins outs arrived =
+    passed_front step (take start ins) (passed_links step (drop start ins) outs arrived)
 
 -- how many riders stand in all in-links and behind them
 abbrev pub cell_total : List InLink → List OutLink → List RiderState → ℕ
@@ -96,8 +94,8 @@ finished step s w =
 abbrev pub transferred : ℕ → CellState → CellState
 transferred step s =
     finished step s
-    (passed_rotated s.delta step (start_at step s.ins) s.ins
-    (map (opened_out s.delta step) s.outs)
+    (passed_rotated step (start_at step s.ins) s.ins
+    (map (opened_out step) s.outs)
     s.arrived)
 
 -- a rider who hasn't arrived
@@ -115,13 +113,6 @@ pub record CanTransfer (s : CellState) : Type 0 where
   pub waits : All Waits s.outs
   pub fits : cell_total s.ins s.outs s.arrived ≤ MOST_RIDERS
 
--- a mail that is the batch of the step
-abbrev pub IsBatch : ℕ → Mail → Type 0
-IsBatch step Away = ⊥
-IsBatch step (Room s room) = ⊥
-IsBatch step (Batch s line) = s ≡ step
-
--- the mail of an in-link is the batch of the step, and its line has room for it
-pub record CanGather (step : ℕ) (link : InLink) : Type 0 where
-  pub batch : IsBatch step link.mail
-  pub fits : length link.line + length (mail_line link.mail) ≤ MOST_RIDERS
+-- the line of an in-link has room for those who come with its mail
+abbrev pub CanGather : InLink → Type 0
+CanGather link = length link.line + length (mail_line link.mail) ≤ MOST_RIDERS

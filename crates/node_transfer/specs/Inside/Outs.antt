@@ -1,6 +1,7 @@
 -- An out-link at the start and at the end of a step, on lists.
 use Rattle.std.specs.Prelude.{ℕ, cond, nat_lt, nat_le, List, [], ◌∷◌, ◌++◌, Option, None, Some}
 use Rattle.dta_model.specs.Riders.{RiderState, moved}
+use Rattle.cell_stages.specs.Contents.{sent}
 use Rattle.capacity_credits.specs.Meter.{MeterState, granted, passed_one, closed, capped}
 use Rattle.cell_stages.specs.declared.mail.Mail.{Mail}
 use Rattle.cell_stages.specs.declared.mail.Mail.TheVariants.{Away, Room, Batch}
@@ -27,11 +28,10 @@ capped_by (Batch step line) m = m
 
 -- an out-link at the start of a step: its allowance is granted within its room, and all who are due
 -- are known
-abbrev pub opened_out : ℕ → ℕ → OutLink → OutLink
-opened_out delta step o = record o {
-  inflow = capped_by o.mail (granted delta o.inflow);
+abbrev pub opened_out : ℕ → OutLink → OutLink
+opened_out step o = record o {
+  inflow = capped_by o.mail (granted step o.inflow);
   waiting = released step o.waiting.later o.waiting.due;
-  mail = Away;
 }
 
 -- those who are still due, those who enter, and the allowance that is left
@@ -48,13 +48,13 @@ admitted step (r ∷ due) batch m =
     (admitted step due (batch ++ moved r step ∷ []) (passed_one m))
     (record { due = r ∷ due; batch = batch; meter = m })
 
--- an out-link at the end of a step, when these were admitted: its batch is told
+-- an out-link at the end of a step, when these were admitted: its batch is sent
 abbrev pub closed_with : ℕ → OutLink → Admitted → OutLink
 closed_with step o a = record o {
   inflow = closed a.meter;
   waiting = record o.waiting { due = a.due };
   batch = [];
-  mail = Batch step a.batch;
+  mail = sent step a.batch o.mail;
 }
 
 -- an out-link at the end of a step: those who are due enter after those who came over in-links

@@ -7,27 +7,23 @@ use Rattle.dta_model.specs.Riders.{RiderState}
 use Rattle.dta_model.specs.declared.plan.Plan.{Plan}
 use Rattle.cell_stages.specs.CellState.{CellState}
 use Rattle.node_transfer.specs.Places.{changed_at}
-use Rattle.cell_stages.specs.Contents.{is_kept, storage_by, turn_by}
-use Rattle.capacity_credits.specs.Meter.{unused}
+use Rattle.cell_stages.specs.Contents.{is_kept, storage_by, turn_of}
+use Rattle.capacity_credits.specs.Meter.{unopened}
 use Rattle.link_queues.specs.Leavings.{no_leavings}
 use Rattle.cell_stages.specs.declared.in_link.InLink.{InLink}
 use Rattle.cell_stages.specs.declared.mail.Mail.TheVariants.{Away}
 use Rattle.cell_stages.specs.declared.out_link.OutLink.{OutLink}
 use Rattle.cell_stages.specs.declared.turn.LimitedTurn.{LimitedTurn}
 
--- the turn from link l to link b
-abbrev pub turn_at_start : Plan → ℕ → ℕ → LimitedTurn
-turn_at_start p l b = turn_by unused b (turn_rates p l b) (turn p l b)
-
 -- where it is one that a cell keeps
 abbrev pub kept_at_start : Plan → ℕ → ℕ → Option LimitedTurn
 kept_at_start p l b =
-    cond (is_kept (turn_rates p l b) (turn p l b)) (Some (turn_at_start p l b)) None
+    cond (is_kept (turn_rates p l b) (turn p l b)) (Some (turn_of p l b)) None
 
 -- those of the turns of link l to the links bs that a cell keeps
 abbrev pub turns_at_start : Plan → ℕ → List ℕ → List LimitedTurn
 turns_at_start p l bs =
-    map (turn_at_start p l) (filter (λ b. is_kept (turn_rates p l b) (turn p l b)) bs)
+    map (turn_of p l) (filter (λ b. is_kept (turn_rates p l b) (turn p l b)) bs)
 
 -- link l as an in-link of a node with the out-links bs
 abbrev pub start_in : Plan → List ℕ → ℕ → InLink
@@ -36,7 +32,7 @@ start_in p bs l = record {
   left = no_leavings (wave_of p l - 1);
   exit = record {
     free = (link_at p l).free;
-    outflow = unused (link_rates p l);
+    outflow = unopened p.delta (link_rates p l);
     turns = turns_at_start p l bs;
   };
   storage = storage_by p.queue (link_at p l).storage;
@@ -47,7 +43,7 @@ start_in p bs l = record {
 abbrev pub start_out : Plan → List (List RiderState) → ℕ → OutLink
 start_out p lines b = record {
   link = record { 0 = b };
-  inflow = unused (link_rates p b);
+  inflow = unopened p.delta (link_rates p b);
   waiting = record { later = slice_index_or lines b []; due = [] };
   batch = [];
   mail = Away;
@@ -72,7 +68,6 @@ taken_cell p lines n = record {
   ins = map (start_in p (outs p n)) (ins p n);
   outs = taken_outs p lines (outs p n);
   arrived = [];
-  delta = p.delta;
 }
 
 unfoldable pub taken_cells : Plan → List (List RiderState) → List ℕ → List CellState

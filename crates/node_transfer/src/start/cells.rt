@@ -53,6 +53,6 @@ fn start_cell(
     let outs = loading.net.outs(node);
     let out_links = start_outs(alloc, loading, outs, lines)?;
     let in_links = start_ins(alloc, loading, loading.net.ins(node), outs)?;
-    let cell = NodeCell::of(alloc, in_links, out_links, loading.delta)?;
+    let cell = NodeCell::of(alloc, in_links, out_links)?;
     Ok(cell)
 }

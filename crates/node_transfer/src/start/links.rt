@@ -4,7 +4,7 @@ ghost use Rattle.dta_model.specs.Lent.{plan_of};
 ghost use Rattle.dta_model.specs.Plans.{link_numbers, link_rates};
 ghost use Rattle.dta_model.specs.Room.{wave_of as wave_at};
 ghost use Rattle.dta_model.specs.Sound.{IsSound};
-ghost use Rattle.capacity_credits.specs.Meter.{unused};
+ghost use Rattle.capacity_credits.specs.Meter.{unopened};
 ghost use Rattle.node_transfer.specs.Inside.StartCells.{kept_at_start, lines_left, start_in};
 ghost use Rattle.node_transfer.specs.Inside.StartCells.{taken_outs, turns_at_start};
 ghost use Rattle.net_core.specs.Rates.{AreRates};
@@ -14,7 +14,7 @@ ghost use Rattle.std.specs.Prelude.{◌||◌, None, Some, cond, is_some, nat_eq,
 use capacity_credits::Meter;
 use cell_stages::{Exit, InLink, LimitedTurn, LimitedTurns, Mail, OutLink, Waiting};
 use dta_model::{Loading, Queue};
-use fixed_units::{Length, wave_steps};
+use fixed_units::{Length, MOST_STEP, wave_steps};
 use link_queues::{Leavings, Line};
 use net_core::{LinkNo, Memory, Rates};
 use std::alloc::Global;
@@ -137,13 +137,15 @@ fn start_turns(
     Ok(LimitedTurns { list })
 }
 
-// The rates of a link, of which nothing is granted yet.
+// The rates of a link, of which no step is open.
 fn start_meter(alloc: Global, loading: &Loading, link: LinkNo) -> Result<Meter, Memory>
-    requires { link.0 < length loading.now.net.now.links }
-    ensures { IfOk result (λ meter. meter ≡ unused (link_rates (plan_of loading.now) link.0)) }
+    requires sound { IsSound (plan_of loading.now) }
+    requires link { link.0 < length loading.now.net.now.links }
+    ensures { IfOk result
+        (λ meter. meter ≡ unopened loading.now.delta (link_rates (plan_of loading.now) link.0)) }
 {
     let rates = loading.net.link_rates(alloc, link)?;
-    let meter = Meter::new(alloc, rates)?;
+    let meter = Meter::new(alloc, rates, loading.delta)?;
     Ok(meter)
 }
 
@@ -154,6 +156,7 @@ fn start_turn(
     a: LinkNo,
     b: LinkNo,
 ) -> Result<Option<LimitedTurn>, Memory>
+    requires sound { IsSound (plan_of loading.now) }
     requires from { a.0 < length loading.now.net.now.links }
     requires to { b.0 < length loading.now.net.now.links }
     ensures { IfOk result (λ turn. turn ≡ kept_at_start (plan_of loading.now) a.0 b.0) }
@@ -162,7 +165,7 @@ fn start_turn(
         None => Ok(None),
         Some(turn) => {
             let rates = loading.net.turn_rates(alloc, a, b)?;
-            let limit = limit_of(alloc, rates)?;
+            let limit = limit_of(alloc, rates, loading.delta)?;
             Ok(kept_turn(b, turn.penalty, limit))
         }
     }
@@ -179,15 +182,16 @@ fn kept_turn(to: LinkNo, penalty: u32, limit: Option<Meter>) -> Option<LimitedTu
     Some(LimitedTurn { to, penalty, limit })
 }
 
-// A limit of which nothing is granted yet; none where the rates limit no step.
-fn limit_of(alloc: Global, rates: Rates) -> Result<Option<Meter>, Memory>
-    requires { AreRates rates }
-    ensures { IfOk result (λ limit. limit ≡ limit_by unused rates) }
+// The limit by rates in steps of so many seconds; none where they limit no step.
+fn limit_of(alloc: Global, rates: Rates, delta: u32) -> Result<Option<Meter>, Memory>
+    requires rates { AreRates rates }
+    requires step { delta ≤ MOST_STEP }
+    ensures { IfOk result (λ limit. limit ≡ limit_by (unopened delta) rates) }
 {
     if rates.usual.is_none() && rates.windows.as_slice().is_empty() {
         return Ok(None);
     }
-    let meter = Meter::new(alloc, rates)?;
+    let meter = Meter::new(alloc, rates, delta)?;
     Ok(Some(meter))
 }
 

@@ -1,88 +1,57 @@
 // An in-link of a node.
 ghost use Rattle.std.specs.Prelude.{◌≡◌, ◌+◌, ◌-◌, ◌<◌, ◌≤◌, length, map, All, Option, None, Some};
+ghost use Rattle.cell_stages.specs.Contents.{tells};
 ghost use Rattle.std.specs.List.{sum_by};
 ghost use Rattle.node_transfer.specs.Inside.Pass.{CanPass, total, out_links, waitings, held};
-ghost use Rattle.node_transfer.specs.Inside.Cells.{passed_link, passed_links, passed_rotated};
-ghost use Rattle.node_transfer.specs.Inside.Cells.{CanCross, cell_total, IsBatch, CanGather};
-ghost use Rattle.node_transfer.specs.Gathered.{mail_line, room_after, gathered_link};
+ghost use Rattle.node_transfer.specs.Inside.Cells.{passed_link, passed_links};
+ghost use Rattle.node_transfer.specs.Inside.Cells.{CanCross, cell_total, CanGather};
+ghost use Rattle.node_transfer.specs.Gathered.{mail_line, room_after, room_on, gathered_link};
 
 use crate::step::pass::{close_exit, open_exit, pass};
 use cell_stages::{InLink, Mail, OutLink};
 use dta_model::MOST_HORIZON;
-use fixed_units::MOST_STEP;
 use link_queues::{Leavings, Line, MOST_RIDERS};
 
 /// Moves the heads of an in-link that may move in the step, and notes how many left it.
 #[inline(always)]
-pub fn pass_link(link: &mut InLink, outs: &mut [OutLink], arrived: &mut Line, delta: u32, step: u32)
-    requires delta { delta ≤ MOST_STEP }
-    requires can { CanPass link.old.line outs.old arrived.old }
+pub fn pass_link(link: &mut InLink, outs: &mut [OutLink], arrived: &mut Line, step: u32)
+    requires { CanPass link.old.line outs.old arrived.old }
     ensures kept { CanPass link.new.line outs.new arrived.new }
     ensures links { out_links outs.new ≡ out_links outs.old }
     ensures waits { waitings outs.new ≡ waitings outs.old }
     ensures total { total link.new.line outs.new arrived.new
         ≤ total link.old.line outs.old arrived.old }
-    ensures done { passed_link delta step link.old outs.old arrived.old
+    ensures done { passed_link step link.old outs.old arrived.old
         ≡ record { link = link.new; outs = outs.new; arrived = arrived.new } }
 {
     let count = link.line.len();
-    open_exit(&mut link.exit, delta);
+    open_exit(&mut link.exit, step);
     pass(&mut link.line, &mut link.exit, outs, arrived, step);
     close_exit(&mut link.exit);
     link.left.push(count.saturating_sub(link.line.len()));
 }
 
 /// Moves the heads of all in-links, in order.
-pub fn pass_links(
-    ins: &mut [InLink],
-    outs: &mut [OutLink],
-    arrived: &mut Line,
-    delta: u32,
-    step: u32,
-)
-    requires delta { delta ≤ MOST_STEP }
-    requires can { CanCross ins.old outs.old arrived.old }
+pub fn pass_links(ins: &mut [InLink], outs: &mut [OutLink], arrived: &mut Line, step: u32)
+    requires { CanCross ins.old outs.old arrived.old }
     ensures kept { CanCross ins.new outs.new arrived.new }
     ensures links { out_links outs.new ≡ out_links outs.old }
     ensures waits { waitings outs.new ≡ waitings outs.old }
     ensures total { cell_total ins.new outs.new arrived.new
         ≤ cell_total ins.old outs.old arrived.old }
     ensures count { length ins.new ≡ length ins.old }
-    ensures done { passed_links delta step ins.old outs.old arrived.old
+    ensures done { passed_links step ins.old outs.old arrived.old
         ≡ record { ins = ins.new; outs = outs.new; arrived = arrived.new } }
 {
     for i in 0..ins.len() {
-        pass_link(&mut ins[i], outs, arrived, delta, step);
+        pass_link(&mut ins[i], outs, arrived, step);
     }
 }
 
-/// Moves the heads of all in-links, beginning at a place.
-pub fn pass_rotated(
-    ins: &mut [InLink],
-    outs: &mut [OutLink],
-    arrived: &mut Line,
-    delta: u32,
-    step: u32,
-    start: usize,
-)
-    requires delta { delta ≤ MOST_STEP }
-    requires start { start ≤ length ins.old }
-    requires can { CanCross ins.old outs.old arrived.old }
-    ensures links { out_links outs.new ≡ out_links outs.old }
-    ensures waits { waitings outs.new ≡ waitings outs.old }
-    ensures fits { length arrived.new + sum_by held outs.new ≤ MOST_RIDERS }
-    ensures done { passed_rotated delta step start ins.old outs.old arrived.old
-        ≡ record { ins = ins.new; outs = outs.new; arrived = arrived.new } }
-{
-    let (front, back) = ins.split_at_mut(start);
-    pass_links(back, outs, arrived, delta, step);
-    pass_links(front, outs, arrived, delta, step);
-}
-
-/// Puts those that came last in the line, and tells the room that is left for the next step.
+/// Puts those that came last in the line, and tells the room that is left for the next step, where
+/// that isn't told already.
 pub fn gather_link(link: &mut InLink, step: u32)
     requires step { step < MOST_HORIZON }
-    requires batch { IsBatch step link.old.mail }
     requires fits { length link.old.line + length (mail_line link.old.mail) ≤ MOST_RIDERS }
     ensures { link.new ≡ gathered_link step link.old }
 {
@@ -90,12 +59,35 @@ pub fn gather_link(link: &mut InLink, step: u32)
         link.line.append(line);
     }
     let room = room_left(&link.line, &link.left, link.storage);
-    let told = Mail::Room {
-        step: step + 1,
-        room,
+    if !tells_room(&link.mail, room) {
+        let told = Mail::Room {
+            step: step + 1,
+            room,
+        };
+        // The riders of the batch are in the line now, so that it has nothing to drop.
+        std::mem::forget(std::mem::replace(&mut link.mail, told));
+    }
+}
+
+/// Whether a mail tells the room that an in-link leaves.
+pub fn is_told_by(link: &InLink, mail: &Mail) -> bool
+    ensures { result ≡ tells (room_on link.now) mail.now }
+{
+    tells_room(mail, room_left(&link.line, &link.left, link.storage))
+}
+
+// Whether a mail tells this room.
+fn tells_room(mail: &Mail, room: Option<u32>) -> bool
+    ensures { result ≡ tells room mail.now }
+{
+    let Mail::Room { room: there, .. } = mail else {
+        return false;
     };
-    // The riders of the batch are in the line now, so that it has nothing to drop.
-    std::mem::forget(std::mem::replace(&mut link.mail, told));
+    match (*there, room) {
+        (None, None) => true,
+        (Some(there), Some(room)) => there == room,
+        _ => false,
+    }
 }
 
 /// The room that a storage leaves beside those on the link and those who left it lately; none is
@@ -115,7 +107,7 @@ pub fn room_left(line: &Line, left: &Leavings, storage: Option<u32>) -> Option<u
 /// Gathers on all in-links.
 pub fn gather_links(ins: &mut [InLink], step: u32)
     requires step { step < MOST_HORIZON }
-    requires can { All (CanGather step) ins.old }
+    requires can { All CanGather ins.old }
     ensures { ins.new ≡ map (gathered_link step) ins.old }
 {
     for i in 0..ins.len() {

@@ -9,7 +9,6 @@ ghost use Rattle.node_transfer.specs.Inside.Cells.{UnderWay};
 
 use capacity_credits::Meter;
 use cell_stages::{Mail, OutLink};
-use fixed_units::MOST_STEP;
 use link_queues::{Line, MOST_RIDERS};
 use net_core::LinkNo;
 
@@ -64,14 +63,12 @@ pub fn cap_by(meter: &mut Meter, mail: &Mail)
 }
 
 /// Grants an out-link its allowance, within its room, and finds who is due.
-pub fn open_out(out: &mut OutLink, delta: u32, step: u32)
-    requires delta { delta ≤ MOST_STEP }
-    requires fits { held out.old ≤ MOST_RIDERS }
-    ensures { out.new ≡ opened_out delta step out.old }
+pub fn open_out(out: &mut OutLink, step: u32)
+    requires { held out.old ≤ MOST_RIDERS }
+    ensures { out.new ≡ opened_out step out.old }
 {
-    out.inflow.open(delta);
+    out.inflow.open(step);
     cap_by(&mut out.inflow, &out.mail);
-    out.mail = Mail::Away;
     release(&mut out.waiting.later, &mut out.waiting.due, step);
 }
 
@@ -107,7 +104,7 @@ pub fn admit(due: &mut Line, batch: &mut Line, meter: &mut Meter, step: u32)
     while admit_one(due, batch, meter, step) {}
 }
 
-/// Admits those that wait, and writes the batch.
+/// Admits those that wait, and writes the batch, if anybody enters the link.
 pub fn close_out(out: &mut OutLink, step: u32)
     requires fits { held out.old ≤ MOST_RIDERS }
     requires under_way { All (λ r. r.arrival ≡ None) out.old.waiting.due }
@@ -115,20 +112,21 @@ pub fn close_out(out: &mut OutLink, step: u32)
 {
     admit(&mut out.waiting.due, &mut out.batch, &mut out.inflow, step);
     out.inflow.close();
-    out.mail = Mail::Batch {
-        step,
-        line: out.batch.take_all(),
-    };
+    if out.batch.len() > 0 {
+        out.mail = Mail::Batch {
+            step,
+            line: out.batch.take_all(),
+        };
+    }
 }
 
 /// Opens all out-links.
-pub fn open_outs(outs: &mut [OutLink], delta: u32, step: u32)
-    requires delta { delta ≤ MOST_STEP }
-    requires fits { All (λ o. held o ≤ MOST_RIDERS) outs.old }
-    ensures { outs.new ≡ map (opened_out delta step) outs.old }
+pub fn open_outs(outs: &mut [OutLink], step: u32)
+    requires { All (λ o. held o ≤ MOST_RIDERS) outs.old }
+    ensures { outs.new ≡ map (opened_out step) outs.old }
 {
     for i in 0..outs.len() {
-        open_out(&mut outs[i], delta, step);
+        open_out(&mut outs[i], step);
     }
 }
 

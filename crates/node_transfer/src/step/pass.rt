@@ -9,7 +9,6 @@ ghost use Rattle.node_transfer.specs.Exits.{opened_exit, closed_exit};
 use crate::step::out_link::place_to;
 use crate::step::turn::{close_all, has_pass, open_all, place_of_turn, turn_at, use_one};
 use cell_stages::{Exit, LimitedTurns, OutLink};
-use fixed_units::MOST_STEP;
 use link_queues::{Line, MOST_RIDERS, Rider};
 
 /// What the head of a line does.
@@ -21,12 +20,11 @@ pub enum HeadAction {
 }
 
 /// Grants an exit its allowances.
-pub fn open_exit(exit: &mut Exit, delta: u32)
-    requires { delta ≤ MOST_STEP }
-    ensures { exit.new ≡ opened_exit delta exit.old }
+pub fn open_exit(exit: &mut Exit, step: u32)
+    ensures { exit.new ≡ opened_exit step exit.old }
 {
-    exit.outflow.open(delta);
-    open_all(&mut exit.turns, delta);
+    exit.outflow.open(step);
+    open_all(&mut exit.turns, step);
 }
 
 /// Ends the step for an exit.

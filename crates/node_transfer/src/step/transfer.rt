@@ -2,30 +2,24 @@
 ghost use Rattle.std.specs.Prelude.{◌≡◌, ◌≤◌, ◌%◌, cond, nat_eq};
 ghost use Rattle.node_transfer.specs.Inside.Cells.{transferred, CanTransfer};
 
-use crate::step::in_link::pass_rotated;
+use crate::step::in_link::pass_links;
 use crate::step::out_link::{close_outs, open_outs};
 use cell_stages::{InLink, OutLink};
-use fixed_units::MOST_STEP;
 use link_queues::Line;
 
 /// Moves the vehicles of one step.
-pub fn transfer_links(
-    ins: &mut [InLink],
-    outs: &mut [OutLink],
-    arrived: &mut Line,
-    delta: u32,
-    step: u32,
-)
-    requires delta { delta ≤ MOST_STEP }
-    requires can { CanTransfer
-        (record { ins = ins.old; outs = outs.old; arrived = arrived.old; delta = delta }) }
+pub fn transfer_links(ins: &mut [InLink], outs: &mut [OutLink], arrived: &mut Line, step: u32)
+    requires { CanTransfer
+        (record { ins = ins.old; outs = outs.old; arrived = arrived.old }) }
     ensures { transferred step
-        (record { ins = ins.old; outs = outs.old; arrived = arrived.old; delta = delta })
-        ≡ record { ins = ins.new; outs = outs.new; arrived = arrived.new; delta = delta } }
+        (record { ins = ins.old; outs = outs.old; arrived = arrived.old })
+        ≡ record { ins = ins.new; outs = outs.new; arrived = arrived.new } }
 {
-    open_outs(outs, delta, step);
+    open_outs(outs, step);
     let start = start_place(step, ins.len());
-    pass_rotated(ins, outs, arrived, delta, step, start);
+    let (front, back) = ins.split_at_mut(start);
+    pass_links(back, outs, arrived, step);
+    pass_links(front, outs, arrived, step);
     close_outs(outs, step);
 }
 

@@ -4,21 +4,17 @@ ghost use Rattle.std.specs.Prelude.{Some, None};
 ghost use Rattle.node_transfer.specs.Inside.Pass.{place_of, turn_links, used_turn, limit_open};
 ghost use Rattle.node_transfer.specs.Inside.Pass.{used_at};
 ghost use Rattle.node_transfer.specs.Exits.{opened_turn, closed_turn};
-ghost use Rattle.node_transfer.specs.Inside.Skip.{skipped_turn};
 
-use crate::rest::rest_turns;
 use cell_stages::{LimitedTurn, LimitedTurns};
-use fixed_units::MOST_STEP;
 use net_core::LinkNo;
 
 /// Grants a turn its allowance.
-pub fn open_turn(turn: &mut LimitedTurn, delta: u32)
-    requires { delta ≤ MOST_STEP }
-    ensures { turn.new ≡ opened_turn delta turn.old }
+pub fn open_turn(turn: &mut LimitedTurn, step: u32)
+    ensures { turn.new ≡ opened_turn step turn.old }
 {
     match &mut turn.limit {
         None => {}
-        Some(meter) => meter.open(delta),
+        Some(meter) => meter.open(step),
     }
 }
 
@@ -53,12 +49,11 @@ pub fn has_pass(turn: &LimitedTurn) -> bool
 }
 
 /// Grants all turns their allowances.
-pub fn open_turns(turns: &mut [LimitedTurn], delta: u32)
-    requires { delta ≤ MOST_STEP }
-    ensures { turns.new ≡ map (opened_turn delta) turns.old }
+pub fn open_turns(turns: &mut [LimitedTurn], step: u32)
+    ensures { turns.new ≡ map (opened_turn step) turns.old }
 {
     for i in 0..turns.len() {
-        open_turn(&mut turns[i], delta);
+        open_turn(&mut turns[i], step);
     }
 }
 
@@ -91,20 +86,11 @@ pub fn use_turn_at(turns: &mut [LimitedTurn], place: usize)
     }
 }
 
-/// Lets so many steps go by in which nobody turns.
-pub fn rest_all(turns: &mut LimitedTurns, delta: u32, steps: u32)
-    requires { delta ≤ MOST_STEP }
-    ensures { turns.new ≡ map (skipped_turn delta steps) turns.old }
-{
-    rest_turns(&mut turns.list, delta, steps);
-}
-
 /// Grants all turns their allowances.
-pub fn open_all(turns: &mut LimitedTurns, delta: u32)
-    requires { delta ≤ MOST_STEP }
-    ensures { turns.new ≡ map (opened_turn delta) turns.old }
+pub fn open_all(turns: &mut LimitedTurns, step: u32)
+    ensures { turns.new ≡ map (opened_turn step) turns.old }
 {
-    open_turns(&mut turns.list, delta);
+    open_turns(&mut turns.list, step);
 }
 
 /// Ends the step for all turns.

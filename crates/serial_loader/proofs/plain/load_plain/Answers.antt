@@ -11,12 +11,12 @@ use Rattle.serial_loader.proofs.plain.load_plain.Goals as goal
 pub run_steps-requires-clause-before : goal.run_steps-requires-clause-before
 run_steps-requires-clause-before c =
     let start = c.in_ok-cells.ensures in
-    let clocks = c.deref_mut-2.ensures.value ∙ c.in_ok-clocks.ensures.items_if_clones_equal (λ y e. e) in
+    let wakes = c.deref_mut-2.ensures.value ∙ c.in_ok-wakes.ensures.items_if_clones_equal (λ y e. e) in
     let count = c.len.ensures in
     let fits = c.into_vec-cells.result.ok.0 in
     let same = ap (λ xs. length xs) c.deref_mut.ensures.value in
     starts-before (plan_of c.args.loading.now) c.deref_mut.result.now c.deref_mut-2.result.now c.deref_mut-3.result.now c.len.result (omega (arith, count, fits, same))
-    (c.deref_mut.ensures.value ∙ c.into_vec-cells.ensures ∙ start.cells) clocks (c.deref_mut-3.ensures.value ∙ c.into_vec-mail.ensures ∙ start.mail)
+    (c.deref_mut.ensures.value ∙ c.into_vec-cells.ensures ∙ start.cells) wakes (c.deref_mut-3.ensures.value ∙ c.into_vec-mail.ensures ∙ start.mail)
 
 pub hand_over_all-requires : goal.hand_over_all-requires
 hand_over_all-requires c =

@@ -16,13 +16,13 @@ pub gather_links-requires-clause-can : goal.gather_links-requires-clause-can
 gather_links-requires-clause-can c =
     let r = c.requires in
     rw (c.deref_mut-2.ensures.value, c.deref_mut.ensures.value)
-    (subst (λ x. All (CanGather c.args.step) x.ins) (sym (c.self.view_is ∙ r.3)) (can-gather r.0 r.1 c.args.step r.2.sound r.2.node))
+    (subst (λ x. All CanGather x.ins) (sym (c.self.view_is ∙ r.3)) (can-gather r.0 r.2.sound r.1 c.args.step))
 
 pub returns : goal.returns
 returns c p n s e =
-    let was : CellState = record { ins = c.deref_mut-2.result.now; outs = c.deref_mut.result.now.outs.items; arrived = c.deref_mut.result.now.arrived; delta = c.deref_mut.result.now.delta } in
+    let was : CellState = record { ins = c.deref_mut-2.result.now; outs = c.deref_mut.result.now.outs.items; arrived = c.deref_mut.result.now.arrived } in
     let same : was ≡ c.args.self.now = rw (c.deref_mut-2.ensures.value, c.deref_mut.ensures.value) c.self.view_is in
     let ins = with_items_is c.deref_mut.result.now.ins c.gather_links.new.ins (c.gather_links.auto.ins ∙ c.deref_mut-2.ensures.len) in
     rw ins
     (ap (λ ls. record was { ins = ls }) c.gather_links.ensures
-    ∙ ap (λ x. gathered c.args.step x) (same ∙ e) ∙ gather-stage p n c.args.step s.sound s.node)
+    ∙ ap (λ x. gathered c.args.step x) (same ∙ e) ∙ gather-stage p s.sound n c.args.step)

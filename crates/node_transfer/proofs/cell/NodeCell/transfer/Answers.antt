@@ -7,15 +7,15 @@ use Rattle.node_transfer.proofs.OfStep.Totals.{can-transfer}
 use Rattle.node_transfer.proofs.OfStep.Transfer.{transfer-stage}
 use Rattle.node_transfer.proofs.cell.NodeCell.transfer.Goals as goal
 
-pub transfer_links-requires-clause-can : goal.transfer_links-requires-clause-can
-transfer_links-requires-clause-can c =
+pub transfer_links-requires : goal.transfer_links-requires
+transfer_links-requires c =
     let r = c.requires in
     rw (c.deref_mut.ensures.value, c.deref_mut-2.ensures.value, c.deref_mut-parts.ensures.value)
     (subst CanTransfer (sym (c.self.view_is ∙ r.3)) (can-transfer r.0 r.1 c.args.step r.2.sound r.2.node away (room_of r.0 c.args.step)))
 
 pub returns : goal.returns
 returns c p n s e =
-    let was : CellState = record { ins = c.deref_mut.result.now; outs = c.deref_mut-2.result.now; arrived = c.deref_mut-parts.result.now.arrived; delta = c.deref_mut-parts.result.now.delta } in
+    let was : CellState = record { ins = c.deref_mut.result.now; outs = c.deref_mut-2.result.now; arrived = c.deref_mut-parts.result.now.arrived } in
     let same : was ≡ c.args.self.now = rw (c.deref_mut.ensures.value, c.deref_mut-2.ensures.value, c.deref_mut-parts.ensures.value) c.self.view_is in
     let ins = with_items_is c.deref_mut-parts.result.now.ins c.transfer_links.new.ins (c.transfer_links.auto.ins ∙ c.deref_mut.ensures.len) in
     let outs = with_items_is c.deref_mut-parts.result.now.outs c.transfer_links.new.outs (c.transfer_links.auto.outs ∙ c.deref_mut-2.ensures.len) in

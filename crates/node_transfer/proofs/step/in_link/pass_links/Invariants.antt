@@ -10,4 +10,4 @@ invariant-loop-i l =
     × (out_links l.outs ≡ out_links l.initial.outs)
     × (waitings l.outs ≡ waitings l.initial.outs)
     × (cell_total l.ins l.outs l.arrived ≤ cell_total l.initial.ins l.initial.outs l.initial.arrived)
-    × (passed_links l.delta l.step l.initial.ins l.initial.outs l.initial.arrived ≡ behind (take l.i l.ins) (passed_links l.delta l.step (drop l.i l.ins) l.outs l.arrived))
+    × (passed_links l.step l.initial.ins l.initial.outs l.initial.arrived ≡ behind (take l.i l.ins) (passed_links l.step (drop l.i l.ins) l.outs l.arrived))

@@ -1,0 +1,53 @@
+use Rattle.std.proofs.Common.{◌≡◌, ◌+◌, Bool, true, false, [], ◌∷◌, sym, ◌∙◌}
+use Rattle.dta_model.specs.Lent.{plan_of}
+use Rattle.cell_stages.specs.Contents.{away, batch_of}
+use Rattle.node_transfer.proofs.OfMail.Lending.{at-place, link_of, past}
+use Rattle.node_transfer.proofs.OfMail.Parts.{ins-after}
+use Rattle.phase_claims.specs.declared.part.Part.TheVariants.{Out}
+use Rattle.phase_claims.proofs.PlacesRound.{next_first, next_mail, stays, turn_round}
+use Rattle.phase_claims.proofs.Stays.{ToldYet, all_told, in_link_there, told_next}
+use Rattle.phase_claims.proofs.work_links.are_told.Goals as goal
+use Rattle.phase_claims.proofs.work_links.are_told.Goals.{then-all, else-all}
+
+never : {P : Type 0} (b : Bool) → b ≡ true → b ≡ false → P
+never b t f = cc
+
+pub is_told-here-requires-clause-held : goal.is_told-here-requires-clause-held
+is_told-here-requires-clause-held g c =
+    let p = plan_of c.args.loading.now in
+    next_first (ins-after p c.args.node.0 c.args.step away) (batch_of p c.args.step) c.ins-ins.result.now c.ins-ins.ensures c.node_count-nodes.result c.node_count-nodes.ensures.count ((c.args.node.0, Out) ∷ []) c.loop-place.place
+    c.loop-place-test.true c.loop-place.seat.me.1 c.loop-place.invariant.2
+
+pub is_told-here-requires-clause-there : goal.is_told-here-requires-clause-there
+is_told-here-requires-clause-there g c =
+    let p = plan_of c.args.loading.now in
+    let ls = c.ins-ins.result.now in
+    let j = c.loop-place.place in
+    let made = ins-after p c.args.node.0 c.args.step away in
+    in_link_there p c.args.node.0 c.args.step j (link_of ls j) c.args.cell.now c.requires.cell (at-place made away ls c.ins-ins.ensures j c.loop-place-test.true)
+
+pub loop-place-preserved : goal.loop-place-preserved
+loop-place-preserved g c =
+    let p = plan_of c.args.loading.now in
+    let n = c.args.node.0 in
+    let t = c.args.step in
+    let j = c.loop-place.place in
+    let ls = c.ins-ins.result.now in
+    let made = ins-after p n t away in
+    let first = next_mail made (batch_of p t) ls c.ins-ins.ensures c.node_count-nodes.result c.node_count-nodes.ensures.count ((n, Out) ∷ []) j c.loop-place-test.true c.loop-place.seat.me.1 c.loop-place.invariant.2 in
+    let so_far : c.if-all.all ≡ true → ToldYet p n t (j + 1) = λ told. elim c.if-all.branch [
+      | then-all w ↦ told_next p n t j (link_of ls j) c.args.cell.now c.is_told-here.result c.requires.cell (at-place made (batch_of p t) ls c.ins-ins.ensures j c.loop-place-test.true)
+          (c.is_told-here.ensures.told (batch_of p t (link_of ls j)) first) (sym w.all-is ∙ told) (c.loop-place.invariant.1 w.if-all.true)
+      | else-all w ↦ never c.if-all.all told (w.all-is ∙ w.if-all.false)
+    ] in (
+      stays c.args.seat.now c.loop-place.seat c.is_told-here.new.seat c.loop-place.invariant.0 c.is_told-here.ensures.seat,
+      so_far,
+      turn_round made (batch_of p t) ls c.ins-ins.ensures c.node_count-nodes.result c.node_count-nodes.ensures.count ((n, Out) ∷ []) j c.loop-place-test.true
+          c.loop-place.seat.me.1 c.is_told-here.new.seat.me.1 c.loop-place.invariant.2 c.is_told-here.ensures.held,
+    )
+
+pub returns-clause-told : goal.returns-clause-told
+returns-clause-told g c told =
+    let p = plan_of c.args.loading.now in
+    let made = ins-after p c.args.node.0 c.args.step away in
+    all_told p c.args.node.0 c.args.step c.loop-place.place (past made away c.ins-ins.result.now c.ins-ins.ensures c.loop-place.place c.loop-place-test.false) (c.loop-place.invariant.1 told)
