@@ -5,7 +5,7 @@ ghost use Rattle.dta_model.specs.State.{count_on};
 ghost use Rattle.dta_model.specs.declared.plan.Plan.{Plan};
 ghost use Rattle.node_transfer.specs.Places.{in_mail, out_mail, with_in_mail, with_out_mail};
 ghost use Rattle.cell_stages.specs.Contents.{IsStep, away, batch_of, cell_after, cell_before};
-ghost use Rattle.cell_stages.specs.Contents.{room_of, tells};
+ghost use Rattle.cell_stages.specs.Contents.{room_of};
 ghost use Rattle.node_transfer.specs.Counts.{counts_at};
 ghost use Rattle.node_transfer.specs.Halves.{half_after, half_before, mail_after, mail_before};
 ghost use Rattle.node_transfer.specs.Halves.{mail_in, with_mail};
@@ -22,7 +22,7 @@ use crate::counts::count_parts;
 use crate::hand_over::hand_parts;
 use crate::mail::{put_in_mail, put_out_mail, swap_in_mail, swap_out_mail};
 use crate::rest::first_step;
-use crate::step::in_link::{gather_links, is_told_by};
+use crate::step::in_link::{gather_links, room_left};
 use crate::step::transfer::transfer_links;
 use cell_stages::{InLink, Mail, OutLink};
 use dta_model::Loaded;
@@ -85,8 +85,7 @@ impl NodeCell {
             → self.old ≡ cell_before p n step away (room_of p step)
             → self.new ≡ cell_after p n step away (batch_of p step) }
     {
-        let parts = &mut *self.parts;
-        transfer_links(&mut parts.ins, &mut parts.outs, &mut parts.arrived, step);
+        self.work(Half::Transfer, step);
     }
 
     /// Puts those who come in a step last on their links. The mail of each in-link is the batch of
@@ -98,7 +97,7 @@ impl NodeCell {
             → self.old ≡ cell_after p n step (batch_of p step) away
             → self.new ≡ cell_before p n (suc step) (room_of p (suc step)) away }
     {
-        gather_links(&mut self.parts.ins, step);
+        self.work(Half::Gather, step);
     }
 
     /// Does a half of a step. The mail of its links is what that takes, and becomes what it leaves.
@@ -109,9 +108,12 @@ impl NodeCell {
             → self.old ≡ half_before half p n step (mail_before half p step)
             → self.new ≡ half_after half p n step (mail_after half p step) }
     {
+        let parts = &mut *self.parts;
         match half {
-            Half::Transfer => self.transfer(step),
-            Half::Gather => self.gather(step),
+            Half::Transfer => {
+                transfer_links(&mut parts.ins, &mut parts.outs, &mut parts.arrived, step);
+            }
+            Half::Gather => gather_links(&mut parts.ins, step),
         }
     }
 
@@ -186,13 +188,13 @@ impl NodeCell {
         }
     }
 
-    /// Whether a mail tells the room that the in-link of a place leaves.
-    pub fn is_told(&self, place: usize, mail: &Mail) -> bool
+    /// The room that the in-link of a place leaves; there is none where it has no bound.
+    pub fn room(&self, place: usize) -> Option<u32>
         requires { place < length self.now.ins }
-        ensures { IfSome (slice_get self.now.ins place)
-            (λ link. result ≡ tells (room_on link) mail.now) }
+        ensures { IfSome (slice_get self.now.ins place) (λ link. result ≡ room_on link) }
     {
-        is_told_by(&self.parts.ins[place], mail)
+        let link = &self.parts.ins[place];
+        room_left(&link.line, &link.left, link.storage)
     }
 
     /// How many vehicles are on the in-link of a place.

@@ -34,3 +34,4 @@ pub use laws::{
 pub use lists::{Cells, Mails, Opening};
 pub use rest::NO_STEP;
 pub use start::opening::opening;
+pub use step::in_link::tells_room;

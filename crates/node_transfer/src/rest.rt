@@ -1,5 +1,5 @@
 // Links at which nobody moves.
-ghost use Rattle.node_transfer.specs.Rest.{IsQuietLink, WaitLater};
+ghost use Rattle.node_transfer.specs.Rest.{HeadIsLater, IsQuietLink, WaitLater};
 ghost use Rattle.node_transfer.specs.declared.rest.TheConstants.{NO_STEP};
 ghost use Rattle.std.specs.Prelude.{◌≡◌, ℕ, ◌<◌, All};
 
@@ -8,6 +8,20 @@ use cell_stages::{InLink, OutLink};
 /// The answer where nobody is ready in any step.
 pub const NO_STEP: u32 = 4_294_967_295;
 
+/// The first step in which the head of an in-link is ready.
+pub fn head_step(link: &InLink) -> u32
+    ensures before { (step : ℕ) → step < result → HeadIsLater step link.now }
+    ensures least { result < NO_STEP → HeadIsLater result link.now → ⊥ }
+{
+    match link.line.front() {
+        None => NO_STEP,
+        Some(rider) => match rider.last_entry() {
+            None => NO_STEP,
+            Some(entry) => entry.saturating_add(link.exit.free),
+        },
+    }
+}
+
 // The first step in which the head of an in-link is ready, or its room may grow since somebody left
 // it in the last steps.
 fn ready_step(link: &InLink) -> u32
@@ -15,14 +29,9 @@ fn ready_step(link: &InLink) -> u32
     ensures least { result < NO_STEP → IsQuietLink result link.now → ⊥ }
 {
     if link.left.total() > 0 {
-        return 0;
-    }
-    match link.line.front() {
-        None => NO_STEP,
-        Some(rider) => match rider.last_entry() {
-            None => NO_STEP,
-            Some(entry) => entry.saturating_add(link.exit.free),
-        },
+        0
+    } else {
+        head_step(link)
     }
 }
 

@@ -3,14 +3,12 @@ use Rattle.std.specs.Prelude.{All, nat_eq}
 use Rattle.std.proofs.Common.{◌≡◌, ℕ, suc, ◌<◌, Bool, true, false, cond, ◌||◌, List, [], ◌∷◌, ◌++◌, length, map, refl, ap, sym, ◌∙◌, subst, append-nil}
 use Rattle.std.proofs.lemmas.Bool.{eq-eqb, eqb-true}
 use Rattle.std.proofs.lemmas.List.Elements.{All-cons, All-head, All-nil, All-tail}
-use Rattle.dta_model.specs.NodeMoves.{left}
 use Rattle.dta_model.specs.Plans.{ins, link_at, outs}
 use Rattle.dta_model.specs.Riders.{RiderState}
 use Rattle.cell_stages.specs.Stages.{batch_mail, line_after, line_before, room_mail, waiting_after, waiting_before}
 use Rattle.dta_model.specs.declared.plan.Plan.{Plan}
 use Rattle.cell_stages.specs.CellState.{CellState}
 use Rattle.node_transfer.specs.Exchange.{is_among}
-use Rattle.node_transfer.specs.Exits.{closed_exit}
 use Rattle.node_transfer.specs.Gathered.{mail_line, room_after}
 use Rattle.node_transfer.specs.Places.{out_mail_put}
 use Rattle.cell_stages.specs.Contents.{IsStep, away, batch_of, cell_after, cell_before, in_link, left_after, left_before, out_link, room_of, storage_by}
@@ -26,8 +24,7 @@ use Rattle.node_transfer.proofs.OfRest.Quiet.{StaysEmpty, StaysShut, transferred
 use Rattle.node_transfer.proofs.OfStep.Gather.{line-next, outs-next}
 use Rattle.node_transfer.proofs.OfStep.Left.{left-next, room-same}
 use Rattle.node_transfer.proofs.OfStep.MailLines.{batch-line, no-riders, room-line}
-use Rattle.node_transfer.proofs.OfStep.Meters.{exit-closes, exit-opens}
-use Rattle.node_transfer.proofs.OfStep.Mid.{T}
+use Rattle.node_transfer.proofs.OfStep.Meters.{exit-shut}
 use Rattle.node_transfer.proofs.OfStep.Transfer.{transfer-stage}
 
 -- where two lists made of the same numbers agree, what is made of each number does
@@ -53,17 +50,13 @@ module _ (p : Plan) (n t : ℕ) (step : IsStep p n t) where
   abbrev out_after : (ℕ → Mail) → ℕ → OutLink
   out_after mail = out_link p (suc t) (waiting_after p n t) mail
 
-  none_left : (l : ℕ) → left p n t (T p n t) [] l ≡ 0
-  unfolding left
-  none_left l = refl
-
   all_shut : (ls : List ℕ) → All (IsQuietLink t) (map in_before ls) → All (StaysShut t) (map in_before ls)
   all_shut [] q = All-nil (StaysShut t)
   all_shut (l ∷ ls) q =
       All-cons (StaysShut t) (in_before l) (map in_before ls)
       (record {
         quiet = All-head (IsQuietLink t) (in_before l) (map in_before ls) q;
-        exit = ap (λ g. closed_exit g) (exit-opens p n t [] l (none_left l)) ∙ exit-closes p n t [] l;
+        exit = exit-shut p n t l;
       })
       (all_shut ls (All-tail (IsQuietLink t) (in_before l) (map in_before ls) q))
 

@@ -7,12 +7,12 @@ use Rattle.std.proofs.lemmas.List.Elements.{All-drop, All-head, All-tail, All-ta
 use Rattle.std.proofs.lemmas.List.Sums.{sum_by-cons}
 use Rattle.dta_model.specs.Riders.{RiderState}
 use Rattle.cell_stages.specs.CellState.{CellState}
-use Rattle.node_transfer.specs.Inside.Cells.{finished, joined_behind, link_after, passed_front, passed_link, passed_links, passed_rotated, put_first, start_at, transferred}
+use Rattle.node_transfer.specs.Inside.Cells.{IsShut, finished, joined_behind, link_after, passed_front, passed_link, passed_links, passed_rotated, put_first, start_at, transferred}
 use Rattle.capacity_credits.specs.Meter.{MeterState, closed, granted}
 use Rattle.node_transfer.specs.Inside.Outs.{capped_by, closed_out, closed_with, opened_out, released}
 use Rattle.node_transfer.specs.Inside.Pass.{by_target, passed, penalty_of, place_of, turn_links, head_action, head_action_by}
-use Rattle.node_transfer.specs.Exits.{closed_exit, opened_exit}
-use Rattle.node_transfer.specs.Rest.{IsQuietLink, WaitLater}
+use Rattle.node_transfer.specs.Exits.{opened_exit}
+use Rattle.node_transfer.specs.Rest.{HeadIsLater, IsQuietLink, WaitLater}
 use Rattle.cell_stages.specs.declared.in_link.InLink.{InLink}
 use Rattle.cell_stages.specs.Contents.{sent}
 use Rattle.cell_stages.specs.declared.mail.Mail.{Mail}
@@ -22,6 +22,7 @@ use Rattle.cell_stages.specs.declared.exit.Exit.{Exit}
 use Rattle.node_transfer.specs.declared.step.pass.HeadAction.TheVariants.{Stays}
 use Rattle.cell_stages.specs.declared.turn.LimitedTurn.{LimitedTurn}
 use Rattle.link_queues.specs.Leavings.{pushed}
+use Rattle.node_transfer.proofs.OfStep.Meters.{closed-opened}
 use Rattle.node_transfer.proofs.OfStep.Outs.{admitted-none, not_le}
 
 -- a head that isn't ready stays
@@ -64,18 +65,24 @@ nobody-pushed (x ∷ xs) h =
     let rest : sum xs ≡ 0 = omega (arith, sum_by-cons (λ y. y) x xs, h) in
     ap (λ y. 0 ∷ take (length xs) (y ∷ xs)) here ∙ ap (λ ys. 0 ∷ ys) (nobody-pushed xs rest) ∙ ap (λ y. y ∷ xs) (sym here)
 
--- a link that is quiet, and whose exit is the same after a step in which nobody leaves
+-- a link whose head isn't ready: nobody leaves
+pub link-waits : (step : ℕ) (link : InLink) (outs : List OutLink) (arrived : List RiderState) → HeadIsLater step link → IsShut link.exit
+    → passed_link step link outs arrived ≡ record { link = record link { left = pushed 0 link.left }; outs = outs; arrived = arrived }
+link-waits step link outs arrived later shut =
+    ap (link_after link) (passed-stays step link.line (opened_exit step link.exit) outs arrived later)
+    ∙ ap (λ g. record { link = record link { left = pushed (length link.line - length link.line) link.left; exit = g }; outs = outs; arrived = arrived }) (closed-opened step link.exit ∙ shut)
+    ∙ ap (λ k. record { link = record link { left = pushed k link.left }; outs = outs; arrived = arrived }) (none_less (length link.line))
+
+-- a link that is quiet, and whose exit is shut
 pub record StaysShut (step : ℕ) (link : InLink) : Type 0 where
   pub quiet : IsQuietLink step link
-  pub exit : closed_exit (opened_exit step link.exit) ≡ link.exit
+  pub exit : IsShut link.exit
 
 link-stays : (step : ℕ) (link : InLink) (outs : List OutLink) (arrived : List RiderState) → StaysShut step link
     → passed_link step link outs arrived ≡ record { link = link; outs = outs; arrived = arrived }
 link-stays step link outs arrived h =
-    ap (link_after link) (passed-stays step link.line (opened_exit step link.exit) outs arrived h.quiet.head)
-    ∙ ap (λ g. record { link = record link { left = pushed (length link.line - length link.line) link.left; exit = g }; outs = outs; arrived = arrived }) h.exit
-    ∙ ap (λ xs. record { link = record link { left = xs }; outs = outs; arrived = arrived })
-    (ap (λ k. pushed k link.left) (none_less (length link.line)) ∙ nobody-pushed link.left h.quiet.left)
+    link-waits step link outs arrived h.quiet.head h.exit
+    ∙ ap (λ xs. record { link = record link { left = xs }; outs = outs; arrived = arrived }) (nobody-pushed link.left h.quiet.left)
 
 links-stay : (step : ℕ) (xs : List InLink) (outs : List OutLink) (arrived : List RiderState) → All (StaysShut step) xs
     → passed_links step xs outs arrived ≡ record { ins = xs; outs = outs; arrived = arrived }

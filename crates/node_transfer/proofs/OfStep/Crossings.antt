@@ -6,7 +6,7 @@ use Rattle.std.proofs.lemmas.List.Sums.{sum_by-set, sum_by-cons, get_or-le-sum_b
 use Rattle.std.proofs.lemmas.List.Elements.{All-head, All-tail, All-cons, All-get_or}
 use Rattle.dta_model.specs.Riders.{RiderState}
 use Rattle.node_transfer.specs.Inside.Pass.{CanPass, Rides, total, held, out_links}
-use Rattle.node_transfer.specs.Inside.Cells.{passed_link, CellWork, put_first, passed_links, CanCross, cell_total}
+use Rattle.node_transfer.specs.Inside.Cells.{passed_link, CellWork, put_first, passed_links, CanCross, IsShut, cell_total}
 use Rattle.node_transfer.specs.Inside.Lengths.{line_length, waiting_length}
 use Rattle.cell_stages.specs.declared.in_link.InLink.{InLink}
 use Rattle.cell_stages.specs.declared.out_link.OutLink.{OutLink}
@@ -41,16 +41,20 @@ CanPass-one ins outs arrived i d h c = record {
   fits = let m = get_or-le-sum_by line_length ins i d h in let f = c.fits in omega arith;
 }
 
+pub shut-one : (ins : List InLink) (i : ℕ) (d : InLink) → i < length ins → All (λ link. IsShut link.exit) ins → IsShut (slice_index_or ins i d).exit
+shut-one ins i d h a = All-get_or (λ (link : InLink). IsShut link.exit) ins i d h a
+
 set_all : {X : Type 0} (P : X → Type 0) (xs : List X) (i : ℕ) (y : X) → All P xs → P y → All P (slice_set xs i y)
 set_all P [] i y a p = a
 set_all P (x ∷ xs) zero y a p = All-cons P y xs p (All-tail P x xs a)
 set_all P (x ∷ xs) (suc i) y a p = All-cons P x (slice_set xs i y) (All-head P x xs a) (set_all P xs i y (All-tail P x xs a) p)
 
 pub CanCross-one : (ins : List InLink) (outs : List OutLink) (arrived : List RiderState) (i : ℕ) (d link : InLink) (outs' : List OutLink) (arrived' : List RiderState) → i < length ins
-    → CanCross ins outs arrived → CanPass link.line outs' arrived' → out_links outs' ≡ out_links outs → total link.line outs' arrived' ≤ total (slice_index_or ins i d).line outs arrived
+    → CanCross ins outs arrived → CanPass link.line outs' arrived' → IsShut link.exit → out_links outs' ≡ out_links outs → total link.line outs' arrived' ≤ total (slice_index_or ins i d).line outs arrived
     → CanCross (slice_set ins i link) outs' arrived'
-CanCross-one ins outs arrived i d link outs' arrived' h c p ls t = record {
+CanCross-one ins outs arrived i d link outs' arrived' h c p s ls t = record {
   rides = set_all (λ x. All (Rides (out_links outs')) x.line) ins i link (subst (λ l. All (λ x. All (Rides l) x.line) ins) (sym ls) c.rides) p.rides;
+  shut = set_all (λ x. IsShut x.exit) ins i link c.shut s;
   fits = let f = c.fits in let s = sum_by-set line_length ins i link d h in omega arith;
 }
 

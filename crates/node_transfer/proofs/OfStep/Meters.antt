@@ -1,6 +1,6 @@
 -- Exits and out-links that open and close.
 use Rattle.std.specs.Prelude.{count_by, option_map}
-use Rattle.std.proofs.Common.{◌≡◌, ℕ, ◌-◌, ◌≤◌, Bool, true, false, cond, ◌&&◌, List, [], ◌∷◌, map, refl, ap, ◌∙◌, arith, Option, Some, None, min}
+use Rattle.std.proofs.Common.{◌≡◌, ℕ, ◌-◌, ◌≤◌, Bool, true, false, cond, ◌&&◌, List, [], ◌∷◌, map, refl, ap, ◌∙◌, subst, arith, Option, Some, None, min}
 use Rattle.std.proofs.lemmas.List.Sums.{sum_by-cons}
 use Rattle.dta_model.specs.Allowance.{allowance}
 use Rattle.dta_model.specs.NodeMoves.{left, entered, turned}
@@ -12,7 +12,10 @@ use Rattle.dta_model.specs.declared.plan.Plan.{Plan}
 use Rattle.net_core.specs.declared.rates.Rates.{Rates}
 use Rattle.cell_stages.specs.Contents.{is_limited, kept_turns, penalty_of, turn_of, exit_of, room_of}
 use Rattle.cell_stages.proofs.MailTells.{rooms_are_told}
-use Rattle.capacity_credits.specs.Meter.{granted, closed, unopened}
+use Rattle.capacity_credits.specs.Meter.{MeterState, granted, closed, unopened}
+use Rattle.cell_stages.specs.declared.exit.Exit.{Exit}
+use Rattle.cell_stages.specs.declared.turn.LimitedTurn.{LimitedTurn}
+use Rattle.node_transfer.specs.Inside.Cells.{IsShut}
 use Rattle.node_transfer.specs.Inside.Outs.{capped_by, capped_at}
 use Rattle.node_transfer.specs.Exits.{opened_turn, closed_turn, opened_exit, closed_exit}
 use Rattle.node_transfer.proofs.OfStep.Mid.{T, meter_mid, meter_with, capped_room, turn_mid, exit_mid, takes}
@@ -38,6 +41,29 @@ count_and p q (x ∷ xs) =
     by_two true false = omega arith
     by_two false true = omega arith
     by_two false false = omega arith
+
+-- closing once more changes nothing, and neither does opening before
+closed-limit : (o : Option MeterState) → option_map closed (option_map closed o) ≡ option_map closed o
+closed-limit None = refl
+closed-limit (Some m) = refl
+
+opened-limit : (step : ℕ) (o : Option MeterState) → option_map closed (option_map (granted step) o) ≡ option_map closed o
+opened-limit step None = refl
+opened-limit step (Some m) = refl
+
+closed-turns : (ts : List LimitedTurn) → map closed_turn (map closed_turn ts) ≡ map closed_turn ts
+closed-turns [] = refl
+closed-turns (t ∷ ts) = rw (closed-turns ts) (ap (λ k. record t { limit = k } ∷ map closed_turn ts) (closed-limit t.limit))
+
+opened-turns : (step : ℕ) (ts : List LimitedTurn) → map closed_turn (map (opened_turn step) ts) ≡ map closed_turn ts
+opened-turns step [] = refl
+opened-turns step (t ∷ ts) = rw (opened-turns step ts) (ap (λ k. record t { limit = k } ∷ map closed_turn ts) (opened-limit step t.limit))
+
+pub closed-shut : (g : Exit) → IsShut (closed_exit g)
+closed-shut g = ap (λ ts. record g { outflow = closed g.outflow; turns = ts }) (closed-turns g.turns)
+
+pub closed-opened : (step : ℕ) (g : Exit) → closed_exit (opened_exit step g) ≡ closed_exit g
+closed-opened step g = ap (λ ts. record g { outflow = closed g.outflow; turns = ts }) (opened-turns step g.turns)
 
 module _ (p : Plan) (n t : ℕ) (M : List Move) (l : ℕ) where
   turned-le : (b : ℕ) → turned p n t (T p n t) M l b ≤ left p n t (T p n t) M l
@@ -81,6 +107,10 @@ module _ (p : Plan) (n t : ℕ) (M : List Move) (l : ℕ) where
           ap (λ k. record { to = record { 0 = b }; penalty = penalty_of (turn p l b); limit = k }) (limit-closes b (turn_rates p l b) (is_limited (turn_rates p l b))) in
           let r : map closed_turn (map (turn_mid p n t M l) xs) ≡ map (turn_of p l) xs = turns xs in
           rw (e, r) refl
+
+-- the exits of a cell before a step
+pub exit-shut : (p : Plan) (n t l : ℕ) → IsShut (exit_of p n l)
+exit-shut p n t l = subst IsShut (exit-closes p n t [] l) (closed-shut (exit_mid p n t [] l))
 
 -- an inflow at the start of a step, within the room
 pub inflow-opens : (p : Plan) (n t b : ℕ) → capped_by (room_of p t b) (granted t (unopened p.delta (link_rates p b)))

@@ -1,11 +1,13 @@
 -- Steps of a pass.
 use Rattle.link_queues.specs.declared.line.TheConstants.{MOST_RIDERS}
 use Rattle.std.proofs.Common.{◌≡◌, ℕ, zero, suc, ◌+◌, ◌<◌, ◌≤◌, List, [], ◌∷◌, ◌++◌, length, length-append, refl, ap, sym, ◌∙◌, subst, arith, rules, Option, Some, None, drop}
-use Rattle.std.specs.Prelude.{slice_get, All, IfSome}
+use Rattle.std.specs.Prelude.{slice_get, slice_index_or, slice_set, All, IfSome}
 use Rattle.std.specs.List.{sum_by}
 use Rattle.std.proofs.lemmas.List.Sums.{sum_by-cons}
 use Rattle.std.proofs.lemmas.List.Elements.{All-head, All-tail}
 use Rattle.std.proofs.lemmas.Grind.{common_steps}
+use Rattle.std.proofs.lemmas.Option.{slice_get-get_or}
+use Rattle.capacity_credits.specs.Meter.{MeterState, passed_one}
 use Rattle.dta_model.specs.Riders.{RiderState, moved}
 use Rattle.node_transfer.specs.Inside.Pass.{head_action, passed, CanPass, Rides, FitsAll, total, held, out_links, waitings, entered_at, entered_in, after_arrival, after_entry}
 use Rattle.cell_stages.specs.declared.exit.Exit.{Exit}
@@ -69,6 +71,15 @@ CanPass-enters (x ∷ line) outs arrived r c h p step = record {
   rides = subst (λ ls. All (Rides ls) line) (sym (entered_links (slice_get outs p) p step r outs refl)) (All-tail (Rides (out_links outs)) x line c.rides);
   fits = let h : length (x ∷ line) + (length arrived + sum_by held outs) ≤ MOST_RIDERS = c.fits in let s = entered_sum (slice_get outs p) p step r outs refl in omega arith;
 }
+
+-- a rider enters the out-link at a place
+pub entered_is : (outs : List OutLink) (p step : ℕ) (r : RiderState) (d : OutLink) (inflow : MeterState) (batch : List RiderState) → p < length outs
+    → inflow ≡ passed_one (slice_index_or outs p d).inflow → batch ≡ (slice_index_or outs p d).batch ++ moved r step ∷ []
+    → slice_set outs p (record (slice_index_or outs p d) { inflow = inflow; batch = batch }) ≡ entered_at p step r outs
+entered_is outs p step r d inflow batch within passes joins =
+    ap (λ m. slice_set outs p (record (slice_index_or outs p d) { inflow = m; batch = batch })) passes
+    ∙ ap (λ b. slice_set outs p (record (slice_index_or outs p d) { inflow = passed_one (slice_index_or outs p d).inflow; batch = b })) joins
+    ∙ ap (λ o. entered_in o p step r outs) (sym (slice_get-get_or outs p d within))
 
 -- what it tells that a head enters
 pub held_fits : (outs : List OutLink) (p n : ℕ) (o : OutLink) → slice_get outs p ≡ Some o → sum_by held outs ≤ n → length o.batch ≤ n

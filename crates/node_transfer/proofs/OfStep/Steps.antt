@@ -67,5 +67,6 @@ due_under_way step outs outs' a e = of_waitings outs' (subst (λ ws. All DueUnde
 pub can_cross : (step : ℕ) (s : CellState) → CanTransfer s → CanCross s.ins (map (opened_out step) s.outs) s.arrived
 can_cross step s c = record {
   rides = subst (λ ls. All (λ link. All (Rides ls) link.line) s.ins) (sym (opened-links step s.outs)) c.rides;
+  shut = c.shut;
   fits = let f = c.fits in let e = opened-sum step s.outs in omega arith;
 }

@@ -24,7 +24,7 @@ use Rattle.dta_model.proofs.NoMoves.{no-moves}
 use Rattle.cell_stages.proofs.HandOver.{nodes_hold_all}
 use Rattle.link_queues.specs.declared.line.TheConstants.{MOST_RIDERS}
 use Rattle.cell_stages.specs.CellState.{CellState}
-use Rattle.node_transfer.specs.Inside.Cells.{CanTransfer, UnderWay, Waits, cell_total}
+use Rattle.node_transfer.specs.Inside.Cells.{CanTransfer, IsShut, UnderWay, Waits, cell_total}
 use Rattle.node_transfer.specs.Inside.Lengths.{line_length, waiting_length}
 use Rattle.dta_model.specs.Sound.{IsSound}
 use Rattle.dta_model.specs.State.{count_on}
@@ -35,8 +35,10 @@ use Rattle.node_transfer.specs.declared.counts.TheConstants.{MOST_COUNT}
 use Rattle.node_transfer.proofs.OfStep.Crossings.{waiting_le}
 use Rattle.cell_stages.specs.Contents.{away, cell_before, in_link, left_before, out_link, waiting_parts}
 use Rattle.node_transfer.specs.Inside.Pass.{Rides, held, out_links as links_of, place_of}
+use Rattle.cell_stages.specs.declared.in_link.InLink.{InLink}
 use Rattle.cell_stages.specs.declared.mail.Mail.{Mail}
 use Rattle.node_transfer.proofs.OfStep.Facts.{OnLink, on-link}
+use Rattle.node_transfer.proofs.OfStep.Meters.{exit-shut}
 use Rattle.node_transfer.proofs.OfStep.Mid.{T}
 use Rattle.node_transfer.proofs.OfStep.Movers.{waits-unmoved}
 use Rattle.node_transfer.proofs.OfStep.Transfer.{in_links}
@@ -166,11 +168,18 @@ module _ (p : Plan) (n t : ℕ) where
         (record { later = all-filter (λ r. nat_le t r.departure) (waiting_before p t b) (waiting-way b); due = all-filter (λ r. nat_lt r.departure t) (waiting_before p t b) (waiting-way b) })
         (outs-wait mail bs)
 
-    -- what a transfer asks of the riders of the cell
+    lines-shut : (mail : ℕ → Mail) (ls : List ℕ) → All (λ link. IsShut link.exit) (map (in_link p n (line_before p t) (left_before p t) mail) ls)
+    lines-shut mail [] = All-nil _
+    lines-shut mail (l ∷ ls) =
+        All-cons (λ (link : InLink). IsShut link.exit) (in_link p n (line_before p t) (left_before p t) mail l) (map (in_link p n (line_before p t) (left_before p t) mail) ls)
+        (exit-shut p n t l) (lines-shut mail ls)
+
+    -- what a transfer asks of the riders of the cell, and of its exits
     pub can-transfer : (in_mail out_mail : ℕ → Mail) → CanTransfer (cell_before p n t in_mail out_mail)
     unfolding cell_before
     can-transfer in_mail out_mail = record {
       rides = subst (λ ls. All (λ link. All (Rides ls) link.line) (map (in_link p n (line_before p t) (left_before p t) in_mail) (ins p n))) (sym (links-same (waiting_before p t) out_mail (outs p n))) (lines-ride in_mail (ins p n) (in_links p n));
+      shut = lines-shut in_mail (ins p n);
       waits = outs-wait out_mail (outs p n);
       fits = cell-few in_mail out_mail;
     }

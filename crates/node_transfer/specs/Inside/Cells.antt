@@ -9,6 +9,7 @@ use Rattle.cell_stages.specs.CellState.{CellState}
 use Rattle.node_transfer.specs.Inside.Pass.{Work, passed, Rides, held, out_links}
 use Rattle.node_transfer.specs.Exits.{opened_exit, closed_exit}
 use Rattle.node_transfer.specs.Inside.Outs.{opened_out, closed_out}
+use Rattle.cell_stages.specs.declared.exit.Exit.{Exit}
 use Rattle.cell_stages.specs.declared.in_link.InLink.{InLink}
 use Rattle.cell_stages.specs.declared.out_link.OutLink.{OutLink}
 use Rattle.node_transfer.specs.Gathered.{mail_line}
@@ -75,10 +76,16 @@ passed_rotated step start ins outs arrived =
 abbrev pub cell_total : List InLink → List OutLink → List RiderState → ℕ
 cell_total ins outs arrived = sum_by line_length ins + (length arrived + sum_by held outs)
 
--- all who stand in the in-links ride on to an out-link or arrive, and lists hold all riders
+-- an exit of which no step is open
+abbrev pub IsShut : Exit → Type 0
+IsShut exit = closed_exit exit ≡ exit
+
+-- all who stand in the in-links ride on to an out-link or arrive, their exits are shut, and lists
+-- hold all riders
 pub record CanCross (ins : List InLink) (outs : List OutLink) (arrived : List RiderState)
     : Type 0 where
   pub rides : All (λ link. All (Rides (out_links outs)) link.line) ins
+  pub shut : All (λ link. IsShut link.exit) ins
   pub fits : cell_total ins outs arrived ≤ MOST_RIDERS
 
 -- the place of the in-link that begins
@@ -107,9 +114,10 @@ pub record Waits (o : OutLink) : Type 0 where
   pub later : All UnderWay o.waiting.later
   pub due : All UnderWay o.waiting.due
 
--- what the riders of a cell and their number allow
+-- what the riders of a cell, their number and its exits allow
 pub record CanTransfer (s : CellState) : Type 0 where
   pub rides : All (λ link. All (Rides (out_links s.outs)) link.line) s.ins
+  pub shut : All (λ link. IsShut link.exit) s.ins
   pub waits : All Waits s.outs
   pub fits : cell_total s.ins s.outs s.arrived ≤ MOST_RIDERS
 

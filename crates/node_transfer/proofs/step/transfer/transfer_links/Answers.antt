@@ -2,6 +2,8 @@ use Rattle.std.specs.Prelude.{All, map}
 use Rattle.std.proofs.Common.{◌∙◌, ap, arith, subst, sym, take}
 use Rattle.std.proofs.lemmas.List.Elements.{All-drop, All-take}
 use Rattle.std.proofs.lemmas.List.Sums.{sum_by-take-drop}
+use Rattle.cell_stages.specs.declared.in_link.InLink.{InLink}
+use Rattle.node_transfer.specs.Inside.Cells.{IsShut}
 use Rattle.node_transfer.specs.Inside.Lengths.{line_length}
 use Rattle.node_transfer.specs.Inside.Outs.{opened_out}
 use Rattle.node_transfer.specs.Inside.Pass.{Rides, out_links, waitings}
@@ -14,8 +16,9 @@ pass_links-requires c =
     let k = c.start_place-start.result in
     let rides = All-drop (λ link. All (Rides (out_links (map (opened_out c.args.step) c.args.outs.now))) link.line) k c.args.ins.now can.rides in
     let parts = sum_by-take-drop line_length c.args.ins.now k in
+    let shut = All-drop (λ (link : InLink). IsShut link.exit) k c.args.ins.now can.shut in
     let fits = can.fits in
-    rw (c.split_at_mut-front.ensures.back, c.open_outs.ensures) (record { rides = rides; fits = omega (arith, fits, parts) })
+    rw (c.split_at_mut-front.ensures.back, c.open_outs.ensures) (record { rides = rides; shut = shut; fits = omega (arith, fits, parts) })
 
 pub pass_links-requires-2 : goal.pass_links-requires-2
 pass_links-requires-2 c =
@@ -28,6 +31,7 @@ pass_links-requires-2 c =
     let total = rw (c.split_at_mut-front.ensures.back, c.open_outs.ensures) at c.pass_links.ensures.total in
     rw c.split_at_mut-front.ensures.front (record {
       rides = subst (λ ls. All (λ link. All (Rides ls) link.line) (take k c.args.ins.now)) (sym links) rides;
+      shut = All-take (λ (link : InLink). IsShut link.exit) k c.args.ins.now can.shut;
       fits = omega (arith, fits, parts, total);
     })
 
