@@ -9,7 +9,7 @@ use Rattle.cell_stages.specs.Contents.{room_of, storage_by, tells}
 use Rattle.cell_stages.specs.declared.in_link.InLink.{InLink}
 use Rattle.cell_stages.specs.declared.out_link.OutLink.{OutLink}
 use Rattle.std.specs.List.{last_or, sum}
-use Rattle.std.specs.Prelude.{◌≡◌, ℕ, suc, ◌+◌, ◌<◌, [], All, IfSome, None, length, true}
+use Rattle.std.specs.Prelude.{◌≡◌, ℕ, suc, ◌+◌, ◌<◌, [], All, IfSome, None, Option, length, true}
 use Rattle.std.specs.Prelude.{slice_get}
 
 -- the head of a line is on its link until after a step
@@ -47,16 +47,16 @@ pub record IsIdle (p : Plan) (n t : ℕ) : Type 0 where
       → (l : ℕ) → l < length p.net.links → (link_at p l).to.0 ≡ n
       → room_of p (suc t) l ≡ room_of p t l
 
--- after the transfer of a step the mail of each in-link of node n tells the room that the link
--- leaves
+-- the room that in-link l of node n leaves after the transfer of a step
+abbrev pub room_left_on : Plan → ℕ → ℕ → ℕ → Option ℕ
+room_left_on p n t l =
+    room_after (storage_by p.queue (link_at p l).storage) (line_after p n t l) (left_after p n t l)
+
+-- the mail of each in-link tells that room
 abbrev pub AreTold : Plan → ℕ → ℕ → Type 0
 AreTold p n t =
     (l : ℕ) → l < length p.net.links → (link_at p l).to.0 ≡ n
-    → tells
-    (room_after (storage_by p.queue (link_at p l).storage) (line_after p n t l)
-    (left_after p n t l))
-    (batch_of p t l)
-    ≡ true
+    → tells (room_left_on p n t l) (batch_of p t l) ≡ true
 
 -- nobody comes, and the gather of a step changes no mail
 pub record IsGathered (p : Plan) (n t : ℕ) : Type 0 where

@@ -1,6 +1,6 @@
 -- Halves of a step that change nothing.
 use Rattle.std.specs.Prelude.{IfSome, option_map, slice_get}
-use Rattle.std.proofs.Common.{◌≡◌, ℕ, ◌+◌, ◌<◌, ◌≤◌, Bool, true, length, ap, sym, ◌∙◌, subst, lt_of_not-le, arith, Some}
+use Rattle.std.proofs.Common.{◌≡◌, ℕ, ◌+◌, ◌<◌, ◌≤◌, Bool, true, length, ap, sym, ◌∙◌, subst, lt_of_not-le, arith, Option, Some}
 use Rattle.std.proofs.lemmas.Bool.{eq-eqb, eqb-true}
 use Rattle.std.proofs.lemmas.Option.{same_Some, slice_get-map, slice_get_within}
 use mathlib.Core.Logic.{dite}
@@ -9,13 +9,13 @@ use Rattle.net_core.specs.declared.rows.NodeNo.{NodeNo}
 use Rattle.dta_model.specs.Plans.{ins, link_at}
 use Rattle.dta_model.specs.declared.plan.Plan.{Plan}
 use Rattle.cell_stages.specs.CellState.{CellState}
-use Rattle.cell_stages.specs.Contents.{IsStep, away, batch_of, cell_after, in_link, left_after, storage_by, tells}
+use Rattle.cell_stages.specs.Contents.{IsStep, away, batch_of, cell_after, in_link, left_after, tells}
 use Rattle.cell_stages.specs.Stages.{line_after}
 use Rattle.cell_stages.specs.declared.in_link.InLink.{InLink}
 use Rattle.cell_stages.proofs.MailTells.{none-sent}
-use Rattle.node_transfer.specs.Gathered.{room_after, room_on}
+use Rattle.node_transfer.specs.Gathered.{room_on}
 use Rattle.node_transfer.specs.Halves.{half_before}
-use Rattle.node_transfer.specs.Rest.{AreTold, IsQuiet}
+use Rattle.node_transfer.specs.Rest.{AreTold, IsQuiet, room_left_on}
 use Rattle.node_transfer.specs.declared.half.Half.{Half}
 use Rattle.node_transfer.proofs.OfMail.ListPlaces.{among-place}
 use Rattle.node_transfer.proofs.OfMail.Parts.{ins-among, ins-member, outs-among, outs-member}
@@ -26,7 +26,7 @@ use Rattle.phase_claims.specs.Noted.{StaysAsItIs}
 abbrev pub ToldYet : Plan → ℕ → ℕ → ℕ → Type 0
 ToldYet p n t j =
     (i l : ℕ) → i < j → slice_get (ins p n) i ≡ Some l
-    → tells (room_after (storage_by p.queue (link_at p l).storage) (line_after p n t l) (left_after p n t l)) (batch_of p t l) ≡ true
+    → tells (room_left_on p n t l) (batch_of p t l) ≡ true
 
 -- the in-link at a place of a cell after a transfer
 in_link_at : (p : Plan) (n t j l : ℕ) (c : CellState) → c ≡ cell_after p n t away away → slice_get (ins p n) j ≡ Some l
@@ -40,15 +40,17 @@ in_link_at p n t j l c is at =
 pub in_link_there : (p : Plan) (n t j l : ℕ) (c : CellState) → c ≡ cell_after p n t away away → slice_get (ins p n) j ≡ Some l → j < length c.ins
 in_link_there p n t j l c is at = slice_get_within c.ins j (in_link p n (line_after p n t) (left_after p n t) away l) (in_link_at p n t j l c is at)
 
+-- the room that it leaves
+pub room_there : (p : Plan) (n t j l : ℕ) (c : CellState) (room : Option ℕ) → c ≡ cell_after p n t away away → slice_get (ins p n) j ≡ Some l
+    → IfSome (slice_get c.ins j) (λ (link : InLink). room ≡ room_on link) → room ≡ room_left_on p n t l
+room_there p n t j l c room is at found = subst (λ o. IfSome o (λ (x : InLink). room ≡ room_on x)) (in_link_at p n t j l c is at) found
+
 -- one more tells its room
-pub told_next : (p : Plan) (n t j b : ℕ) (c : CellState) (here : Bool) → c ≡ cell_after p n t away away → slice_get (ins p n) j ≡ Some b
-    → IfSome (slice_get c.ins j) (λ (link : InLink). here ≡ tells (room_on link) (batch_of p t b)) → here ≡ true → ToldYet p n t j → ToldYet p n t (j + 1)
-told_next p n t j b c here is at tested yes_here yet i l h e = dite (dec_le j i)
+pub told_next : (p : Plan) (n t j b : ℕ) → slice_get (ins p n) j ≡ Some b → tells (room_left_on p n t b) (batch_of p t b) ≡ true → ToldYet p n t j → ToldYet p n t (j + 1)
+told_next p n t j b at told yet i l h e = dite (dec_le j i)
     (λ last. let same : j ≡ i = omega (arith, last, h) in
     let link : b ≡ l = same_Some b l (sym at ∙ ap (λ k. slice_get (ins p n) k) same ∙ e) in
-    let told : here ≡ tells (room_on (in_link p n (line_after p n t) (left_after p n t) away b)) (batch_of p t b) =
-    subst (λ o. IfSome o (λ (x : InLink). here ≡ tells (room_on x) (batch_of p t b))) (in_link_at p n t j b c is at) tested in
-    subst (λ k. tells (room_after (storage_by p.queue (link_at p k).storage) (line_after p n t k) (left_after p n t k)) (batch_of p t k) ≡ true) link (sym told ∙ yes_here))
+    subst (λ k. tells (room_left_on p n t k) (batch_of p t k) ≡ true) link told)
     (λ low. yet i l (lt_of_not-le low) e)
 
 pub all_told : (p : Plan) (n t j : ℕ) → length (ins p n) ≤ j → ToldYet p n t j → AreTold p n t

@@ -3,13 +3,12 @@ ghost use Rattle.atomic_table.specs.Table.{rest, turned};
 ghost use Rattle.phase_claims.specs.PlacesHeld.{HoldsCell, HoldsMail, HoldsNothing, IsSameSeat};
 ghost use Rattle.cell_stages.specs.declared.mail.Mail.{Mail};
 ghost use Rattle.cell_stages.specs.Contents.{tells};
-ghost use Rattle.node_transfer.specs.Gathered.{room_on};
-ghost use Rattle.std.specs.Prelude.{◌≡◌, ◌<◌, ◌∷◌, IfSome, length, slice_get};
+ghost use Rattle.std.specs.Prelude.{◌≡◌, ◌∷◌};
 
 use crate::noted_cell::NotedCell;
 use crate::part::Part;
 use atomic_table::{Seat, Shared, TableRule};
-use node_transfer::{Mail, NodeCell};
+use node_transfer::{Mail, tells_room};
 
 /// Takes the mail out of the first place that the seat holds, and turns to the next one.
 pub(crate) fn take_mail<V, K, P: TableRule<Part, V, K>>(
@@ -48,27 +47,25 @@ pub(crate) fn give_mail<V, K, P: TableRule<Part, V, K>>(
     seat.turn();
 }
 
-/// Whether the mail in the first place that the seat holds tells the room that the in-link of a
-/// place leaves. It stays there, and the seat turns to the next place.
+/// Whether the mail in the first place that the seat holds tells a room. It stays there, and the
+/// seat turns to the next place.
 pub(crate) fn is_told<V, K, P: TableRule<Part, V, K>>(
     shared: &Shared<Part, V, K, P>,
     seat: &mut Seat<Part, V>,
     slot: usize,
-    cell: &NodeCell,
-    place: usize,
+    room: Option<u32>,
 ) -> bool
     requires table { seat.old.table_id ≡ shared.now.table_id }
     requires held { HoldsMail slot seat.old.me.1 }
-    requires there { place < length cell.now.ins }
     ensures seat { IsSameSeat seat.old seat.new }
     ensures told { (mail : Mail) → seat.old.me.1 ≡ (slot, Part.Mail mail) ∷ rest seat.old.me.1
-        → IfSome (slice_get cell.now.ins place) (λ link. result ≡ tells (room_on link) mail) }
+        → result ≡ tells room mail }
     ensures held { seat.new.me.1 ≡ turned seat.old.me.1 }
 {
     let Part::Mail(mail) = seat.slot_mut(shared, slot) else {
         unreachable!()
     };
-    let told = cell.is_told(place, mail);
+    let told = tells_room(mail, room);
     seat.turn();
     told
 }

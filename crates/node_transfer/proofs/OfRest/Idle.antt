@@ -13,7 +13,7 @@ use Rattle.node_transfer.specs.Gathered.{mail_line, room_after}
 use Rattle.node_transfer.specs.Places.{out_mail_put}
 use Rattle.cell_stages.specs.Contents.{IsStep, away, batch_of, cell_after, cell_before, in_link, left_after, left_before, out_link, room_of, storage_by}
 use Rattle.cell_stages.specs.Contents.{told as told_mail}
-use Rattle.node_transfer.specs.Rest.{AreTold, IsQuiet, IsQuietLink, NobodyComes, QuietNodesStayIdle, StaysIdle, WaitLater}
+use Rattle.node_transfer.specs.Rest.{AreTold, room_left_on, IsQuiet, IsQuietLink, NobodyComes, QuietNodesStayIdle, StaysIdle, WaitLater}
 use Rattle.cell_stages.specs.declared.in_link.InLink.{InLink}
 use Rattle.cell_stages.specs.declared.mail.Mail.{Mail}
 use Rattle.cell_stages.specs.declared.mail.Mail.TheVariants.{Away, Room}
@@ -129,16 +129,16 @@ module _ (p : Plan) (n t : ℕ) (step : IsStep p n t) where
 
   -- where all mail tells what rooms the links leave, nobody comes, and it stays
   told-nobody : AreTold p n t → NobodyComes p n t
-  told-nobody told l below to = no-riders p t l (room_after (storage_by p.queue (link_at p l).storage) (line_after p n t l) (left_after p n t l)) (told l below to)
+  told-nobody told l below to = no-riders p t l (room_left_on p n t l) (told l below to)
 
   told-rooms : AreTold p n t → (l : ℕ) → l < length p.net.links → (link_at p l).to.0 ≡ n → room_of p (suc t) l ≡ batch_of p t l
   unfolding room_of
   told-rooms told l below to =
       let same = same-at in_next (in_link p n (line_after p n t) (left_after p n t) away) (ins p n) l (ins-next (told-nobody told)) (ins-member p n l below ∙ eq-eqb (link_at p l).to.0 n to) in
-      let room : room_mail p l (suc t) ≡ room_after (storage_by p.queue (link_at p l).storage) (line_after p n t l) (left_after p n t l) =
+      let room : room_mail p l (suc t) ≡ room_left_on p n t l =
       sym (room-same p (suc t) l) ∙ ap (λ link. room_after (storage_by p.queue (link_at p l).storage) link.line link.left) same in
       ap (λ r. told_mail (suc t) r (batch_of p t l)) room
-      ∙ ap (λ c. cond c (batch_of p t l) (Room (suc t) (room_after (storage_by p.queue (link_at p l).storage) (line_after p n t l) (left_after p n t l)))) (told l below to)
+      ∙ ap (λ c. cond c (batch_of p t l) (Room (suc t) (room_left_on p n t l))) (told l below to)
 
   stays-idle : StaysIdle p n t
   stays-idle = record {

@@ -1,6 +1,6 @@
-use Rattle.std.proofs.Common.{◌≡◌, ◌+◌, Bool, true, false, [], ◌∷◌, sym, ◌∙◌}
+use Rattle.std.proofs.Common.{◌≡◌, ◌+◌, Bool, true, false, [], ◌∷◌, ap, sym, ◌∙◌}
 use Rattle.dta_model.specs.Lent.{plan_of}
-use Rattle.cell_stages.specs.Contents.{away, batch_of}
+use Rattle.cell_stages.specs.Contents.{away, batch_of, tells}
 use Rattle.node_transfer.proofs.OfMail.Lending.{at-place, link_of, past}
 use Rattle.node_transfer.proofs.OfMail.Parts.{ins-after}
 use Rattle.phase_claims.specs.declared.part.Part.TheVariants.{Out}
@@ -18,8 +18,8 @@ is_told-here-requires-clause-held g c =
     next_first (ins-after p c.args.node.0 c.args.step away) (batch_of p c.args.step) c.ins-ins.result.now c.ins-ins.ensures c.node_count-nodes.result c.node_count-nodes.ensures.count ((c.args.node.0, Out) ∷ []) c.loop-place.place
     c.loop-place-test.true c.loop-place.seat.me.1 c.loop-place.invariant.2
 
-pub is_told-here-requires-clause-there : goal.is_told-here-requires-clause-there
-is_told-here-requires-clause-there g c =
+pub room_left-room-requires : goal.room_left-room-requires
+room_left-room-requires g c =
     let p = plan_of c.args.loading.now in
     let ls = c.ins-ins.result.now in
     let j = c.loop-place.place in
@@ -35,9 +35,11 @@ loop-place-preserved g c =
     let ls = c.ins-ins.result.now in
     let made = ins-after p n t away in
     let first = next_mail made (batch_of p t) ls c.ins-ins.ensures c.node_count-nodes.result c.node_count-nodes.ensures.count ((n, Out) ∷ []) j c.loop-place-test.true c.loop-place.seat.me.1 c.loop-place.invariant.2 in
+    let at = at-place made (batch_of p t) ls c.ins-ins.ensures j c.loop-place-test.true in
     let so_far : c.if-all.all ≡ true → ToldYet p n t (j + 1) = λ told. elim c.if-all.branch [
-      | then-all w ↦ told_next p n t j (link_of ls j) c.args.cell.now c.is_told-here.result c.requires.cell (at-place made (batch_of p t) ls c.ins-ins.ensures j c.loop-place-test.true)
-          (c.is_told-here.ensures.told (batch_of p t (link_of ls j)) first) (sym w.all-is ∙ told) (c.loop-place.invariant.1 w.if-all.true)
+      | then-all w ↦ told_next p n t j (link_of ls j) at
+          (sym (c.is_told-here.ensures.told (batch_of p t (link_of ls j)) first ∙ ap (λ room. tells room (batch_of p t (link_of ls j))) (c.room_left-room.ensures n t (link_of ls j) c.requires.cell at)) ∙ sym w.all-is ∙ told)
+          (c.loop-place.invariant.1 w.if-all.true)
       | else-all w ↦ never c.if-all.all told (w.all-is ∙ w.if-all.false)
     ] in (
       stays c.args.seat.now c.loop-place.seat c.is_told-here.new.seat c.loop-place.invariant.0 c.is_told-here.ensures.seat,
