@@ -1,8 +1,9 @@
 -- The work of a transfer and of a gather.
 use Rattle.std.specs.Prelude.{nat_lt, slice_get, slice_index_or, slice_set}
 use Rattle.std.proofs.lemmas.Nat.{div-add-mod'}
-use Rattle.std.proofs.Common.{◌≡◌, ◌≢◌, ℕ, zero, suc, ◌+◌, ◌-◌, ◌*◌, ◌/◌, ◌<◌, ◌≤◌, Bool, true, false, cond, List, [], ◌∷◌, length, refl, ap, sym, ◌∙◌, subst, arith, lt_of_not-le, Some, add-one, mul-le-mul_right}
+use Rattle.std.proofs.Common.{◌≡◌, ℕ, zero, suc, ◌+◌, ◌-◌, ◌*◌, ◌/◌, ◌<◌, ◌≤◌, Bool, true, false, cond, List, [], ◌∷◌, length, refl, ap, sym, ◌∙◌, subst, arith, lt_of_not-le, None, Some, mul-le-mul_right}
 use Rattle.std.proofs.lemmas.Bool.Decides.{nat_tests}
+use Rattle.std.proofs.lemmas.Option.{same_Some}
 use mathlib.Core.Logic.{dite}
 use native.Mathlib.Decide.{dec_le}
 use Rattle.net_core.specs.declared.rows.NodeNo.{NodeNo}
@@ -11,17 +12,19 @@ use Rattle.dta_model.specs.Sound.{IsSound}
 use Rattle.dta_model.specs.Units.{Gather, Posting, Task, Transfer, mail_part, moved_by, node_count, posting_part, step_of, step_units, task_at, task_of, position_of, unit_count}
 use Rattle.dta_model.specs.declared.plan.Plan.{Plan}
 use Rattle.cell_stages.specs.CellState.{CellState}
-use Rattle.cell_stages.specs.Contents.{IsStep, away, batch_of, cell_after, cell_at, cell_before, mail_at, room_of}
+use Rattle.cell_stages.specs.Contents.{away, cell_at, mail_at}
 use Rattle.node_transfer.specs.Exchange.{AreMail, ArePut, is_among}
+use Rattle.node_transfer.specs.Halves.{IsHalf, half_after, half_before, leaving_cell, left_mail, links_by, links_of, mail_after, mail_before, taken_mail, taking_cell}
+use Rattle.node_transfer.specs.declared.half.Half.{Half}
+use Rattle.node_transfer.specs.declared.half.HalfStep.{HalfStep}
 use Rattle.cell_stages.specs.declared.mail.Mail.{Mail}
 use Rattle.node_transfer.proofs.OfMail.Parts.{ins-among, ins-member, outs-among, outs-member}
 use Rattle.node_transfer.proofs.OfMail.Sets.{count-set, set-here, set-other}
 use Rattle.cell_stages.proofs.TwoStages.{steps_have_two_stages}
-use Rattle.claim_core.specs.Kinds.{kind_by}
+use Rattle.claim_core.specs.Kinds.{half_by, kind_by}
 use Rattle.claim_core.specs.Parts.{moves, stage_before}
 use Rattle.claim_core.specs.Sums.{is_at, one_if}
 use Rattle.claim_core.specs.Work.{AreMoved, AreReady, PartsState}
-use Rattle.claim_core.specs.declared.units.UnitKind.{UnitKind}
 use Rattle.claim_core.specs.declared.units.UnitKind.TheVariants as kind
 use Rattle.claim_core.proofs.Apart.{before_gather, before_transfer, cell_once, mail_once}
 use Rattle.claim_core.proofs.Parts.{at_is, cell_of, in_task, mail_of, step_cell, step_mail, times_ins, times_outs}
@@ -177,84 +180,113 @@ in_time W H u one l = dite (dec_le H (u / W))
     (λ le. let m : H * W ≤ u / W * W = mul-le-mul_right W le in absurd (omega (arith, m, l, div-add-mod' u W)))
     (λ n. lt_of_not-le n)
 
--- what is known where the work is done: the number of nodes, the step, and what is done
-module _ (p : Plan) (sound : IsSound p) (u N t : ℕ) (few : u < unit_count p) (nodes : N ≡ node_count p) (step : t ≡ step_of N u) where
-  now_step : step_of (node_count p) u ≡ t
-  now_step = ap (λ n. step_of n u) (sym nodes) ∙ sym step
+-- a half's task, and the stage of the parts before it
+abbrev pub half_task : Half → ℕ → Task
+half_task Half.Transfer a = Transfer a
+half_task Half.Gather a = Gather a
 
-  before_end : t < p.horizon
+abbrev pub half_stage : Half → ℕ → ℕ
+half_stage Half.Transfer t = 2 * t
+half_stage Half.Gather t = 2 * t + 1
+
+pub half_is : (t : ℕ) (task : Task) (h : HalfStep) → half_by t task ≡ Some h → (task ≡ half_task h.half h.node.0) × (h.step ≡ t)
+half_is t (Transfer a) h e =
+    let same = same_Some (record { half = Half.Transfer; node = record { 0 = a }; step = t }) h e in
+    (ap (λ (x : HalfStep). half_task x.half x.node.0) same, sym (ap (λ (x : HalfStep). x.step) same))
+half_is t (Gather a) h e =
+    let same = same_Some (record { half = Half.Gather; node = record { 0 = a }; step = t }) h e in
+    (ap (λ (x : HalfStep). half_task x.half x.node.0) same, sym (ap (λ (x : HalfStep). x.step) same))
+half_is t Posting h e = cc
+
+pub no_half : (t : ℕ) (task : Task) → half_by t task ≡ None → task ≡ Posting
+no_half t (Transfer a) e = cc
+no_half t (Gather a) e = cc
+no_half t Posting e = refl
+
+-- the cell of a node and the mail of a link before a half, and after it
+pub cell_taken : (half : Half) (p : Plan) (a t : ℕ) → cell_at p a (half_stage half t) ≡ half_before half p a t away
+cell_taken Half.Transfer p a t = (steps_have_two_stages p t).0.cell a
+cell_taken Half.Gather p a t = (steps_have_two_stages p t).1.cell a
+
+pub mail_taken : (half : Half) (p : Plan) (l t : ℕ) → mail_at p l (half_stage half t) ≡ mail_before half p t l
+mail_taken Half.Transfer p l t = (steps_have_two_stages p t).0.mail l
+mail_taken Half.Gather p l t = (steps_have_two_stages p t).1.mail l
+
+after_transfer : (t : ℕ) → suc (2 * t) ≡ 2 * t + 1
+after_transfer t = omega arith
+
+after_gather : (t : ℕ) → suc (2 * t + 1) ≡ 2 * suc t
+after_gather t = omega arith
+
+pub cell_left : (half : Half) (p : Plan) (a t : ℕ) → cell_at p a (suc (half_stage half t)) ≡ half_after half p a t away
+cell_left Half.Transfer p a t = ap (λ x. cell_at p a x) (after_transfer t) ∙ (steps_have_two_stages p t).1.cell a
+cell_left Half.Gather p a t = ap (λ x. cell_at p a x) (after_gather t) ∙ (steps_have_two_stages p (suc t)).0.cell a
+
+pub mail_left : (half : Half) (p : Plan) (l t : ℕ) → mail_at p l (suc (half_stage half t)) ≡ mail_after half p t l
+mail_left Half.Transfer p l t = ap (λ x. mail_at p l x) (after_transfer t) ∙ (steps_have_two_stages p t).1.mail l
+mail_left Half.Gather p l t = ap (λ x. mail_at p l x) (after_gather t) ∙ (steps_have_two_stages p (suc t)).0.mail l
+
+-- a unit that is a half of a node's step
+module _ (p : Plan) (sound : IsSound p) (u N : ℕ) (few : u < unit_count p) (nodes : N ≡ node_count p) (h : HalfStep) (is_half : half_by (step_of N u) (task_of N u) ≡ Some h) where
+  told_half : (task_of (node_count p) u ≡ half_task h.half h.node.0) × (h.step ≡ step_of (node_count p) u)
+  told_half = half_is (step_of (node_count p) u) (task_of (node_count p) u) h (ap (λ n. half_by (step_of n u) (task_of n u)) (sym nodes) ∙ is_half)
+
+  pub half_work : task_of (node_count p) u ≡ half_task h.half h.node.0
+  half_work = told_half.0
+
+  of_half : (half : Half) (a : ℕ) → task_of (node_count p) u ≡ half_task half a → IsOfNode p u a (links_by half p a) (half_stage half (step_of (node_count p) u))
+  of_half Half.Transfer a e = transfer_of p sound u a e
+  of_half Half.Gather a e = gather_of p sound u a e
+
+  pub half_node : IsOfNode p u h.node.0 (links_of p h) (half_stage h.half h.step)
+  half_node = subst (λ (x : ℕ). IsOfNode p u h.node.0 (links_of p h) (half_stage h.half x)) (sym told_half.1) (of_half h.half h.node.0 told_half.0)
+
+  before_end : h.step < p.horizon
   unfolding unit_count
-  before_end = let l : u / step_units (node_count p) < p.horizon = in_time (step_units (node_count p)) p.horizon u (omega arith) few in omega (arith, l, now_step)
+  before_end = let l : u / step_units (node_count p) < p.horizon = in_time (step_units (node_count p)) p.horizon u (omega arith) few in omega (arith, l, told_half.1)
 
-  module _ (node : NodeNo) (k : UnitKind) (is_kind : k ≡ kind_by (task_of N u)) (is_now : k ≡ kind.Transfer node) where
-    pub transfer_now : IsOfNode p u node.0 (outs p node.0) (2 * t)
-    transfer_now = subst (λ (x : ℕ). IsOfNode p u node.0 (outs p node.0) (2 * x)) now_step
-        (transfer_of p sound u node.0 (transfer_kind (task_of (node_count p) u) node (ap (λ n. kind_by (task_of n u)) (sym nodes) ∙ sym is_kind ∙ is_now)))
+  pub half_step : IsHalf p h
+  half_step = record { sound = sound; node = half_node.node; step = before_end }
 
-    pub transfer_step : IsStep p node.0 t
-    transfer_step = record { sound = sound; node = transfer_now.node; step = before_end }
+  module _ (cells : List CellState) (mail : List Mail) (r : AreReady p u (record { cells = cells; mail = mail })) where
+    abbrev stage : ℕ
+    stage = half_stage h.half h.step
 
-    module _ (cells : List CellState) (mail : List Mail) (r : AreReady p u (record { cells = cells; mail = mail })) where
-      pub transfer_inside : node.0 < length cells
-      transfer_inside = cell_inside p u node.0 (outs p node.0) (2 * t) transfer_now cells mail r
+    pub half_inside : h.node.0 < length cells
+    half_inside = cell_inside p u h.node.0 (links_of p h) stage half_node cells mail r
 
-      pub transfer_cell : (d : CellState) → slice_index_or cells node.0 d ≡ cell_before p node.0 t away away
-      transfer_cell d = index_of cells node.0 (cell_before p node.0 t away away) d (cell_ready p u node.0 (outs p node.0) (2 * t) transfer_now cells mail r ∙ ap (λ x. Some x) ((steps_have_two_stages p t).0.cell node.0))
+    pub half_cell : (d : CellState) → slice_index_or cells h.node.0 d ≡ taking_cell p h away
+    half_cell d =
+        index_of cells h.node.0 (taking_cell p h away) d
+        (cell_ready p u h.node.0 (links_of p h) stage half_node cells mail r ∙ ap (λ x. Some x) (cell_taken h.half p h.node.0 h.step))
 
-      pub transfer_rooms : AreMail (room_of p t) (outs p node.0) mail
-      transfer_rooms l is_in = mail_ready p u node.0 (outs p node.0) (2 * t) transfer_now cells mail r l is_in ∙ ap (λ x. Some x) ((steps_have_two_stages p t).0.mail l)
+    pub half_mail : AreMail (taken_mail p h) (links_of p h) mail
+    half_mail l is_in = mail_ready p u h.node.0 (links_of p h) stage half_node cells mail r l is_in ∙ ap (λ x. Some x) (mail_taken h.half p l h.step)
 
-      pub transfer_done : (cell : CellState) (mail' : List Mail) → cell ≡ cell_after p node.0 t away away → ArePut (batch_of p t) (outs p node.0) mail mail'
-          → AreMoved p u (record { cells = cells; mail = mail }) (record { cells = slice_set cells node.0 cell; mail = mail' })
-      transfer_done cell mail' e put =
-          let next : 2 * t + 1 ≡ suc (2 * t) = add-one (2 * t) in
-          parts_moved p u node.0 (outs p node.0) (2 * t) transfer_now cells mail r cell mail'
-          (e ∙ sym ((steps_have_two_stages p t).1.cell node.0) ∙ ap (λ x. cell_at p node.0 x) next)
-          (λ l is_in. put.own l is_in ∙ ap (λ x. Some x) (sym ((steps_have_two_stages p t).1.mail l) ∙ ap (λ x. mail_at p l x) next))
-          put.others.count put.others.others
+    pub half_done : (cell : CellState) (mail' : List Mail) → cell ≡ leaving_cell p h away → ArePut (left_mail p h) (links_of p h) mail mail'
+        → AreMoved p u (record { cells = cells; mail = mail }) (record { cells = slice_set cells h.node.0 cell; mail = mail' })
+    half_done cell mail' e put =
+        parts_moved p u h.node.0 (links_of p h) stage half_node cells mail r cell mail'
+        (e ∙ sym (cell_left h.half p h.node.0 h.step))
+        (λ l is_in. put.own l is_in ∙ ap (λ x. Some x) (sym (mail_left h.half p l h.step)))
+        put.others.count put.others.others
 
-  module _ (node : NodeNo) (k : UnitKind) (is_kind : k ≡ kind_by (task_of N u)) (is_now : k ≡ kind.Gather node) where
-    pub gather_now : IsOfNode p u node.0 (ins p node.0) (2 * t + 1)
-    gather_now = subst (λ (x : ℕ). IsOfNode p u node.0 (ins p node.0) (2 * x + 1)) now_step
-        (gather_of p sound u node.0 (gather_kind (task_of (node_count p) u) node (ap (λ n. kind_by (task_of n u)) (sym nodes) ∙ sym is_kind ∙ is_now)))
+-- a posting moves nothing
+module _ (p : Plan) (sound : IsSound p) (u N : ℕ) (nodes : N ≡ node_count p) (none : half_by (step_of N u) (task_of N u) ≡ None) where
+  posts_now : (part : ℕ) → moves p part u ≡ in_task p part Posting
+  posts_now part = moves_by p sound u 0 Posting (no_half (step_of (node_count p) u) (task_of (node_count p) u) (ap (λ n. half_by (step_of n u) (task_of n u)) (sym nodes) ∙ none)) part
 
-    pub gather_step : IsStep p node.0 t
-    gather_step = record { sound = sound; node = gather_now.node; step = before_end }
+  no_part : (x y : ℕ) → x < y → is_at x y ≡ 0
+  no_part x y h = grind (arith, nat_tests)
 
-    module _ (cells : List CellState) (mail : List Mail) (r : AreReady p u (record { cells = cells; mail = mail })) where
-      pub gather_inside : node.0 < length cells
-      gather_inside = cell_inside p u node.0 (ins p node.0) (2 * t + 1) gather_now cells mail r
-
-      pub gather_cell : (d : CellState) → slice_index_or cells node.0 d ≡ cell_after p node.0 t away away
-      gather_cell d = index_of cells node.0 (cell_after p node.0 t away away) d (cell_ready p u node.0 (ins p node.0) (2 * t + 1) gather_now cells mail r ∙ ap (λ x. Some x) ((steps_have_two_stages p t).1.cell node.0))
-
-      pub gather_batches : AreMail (batch_of p t) (ins p node.0) mail
-      gather_batches l is_in = mail_ready p u node.0 (ins p node.0) (2 * t + 1) gather_now cells mail r l is_in ∙ ap (λ x. Some x) ((steps_have_two_stages p t).1.mail l)
-
-      pub gather_done : (cell : CellState) (mail' : List Mail) → cell ≡ cell_before p node.0 (suc t) away away → ArePut (room_of p (suc t)) (ins p node.0) mail mail'
-          → AreMoved p u (record { cells = cells; mail = mail }) (record { cells = slice_set cells node.0 cell; mail = mail' })
-      gather_done cell mail' e put =
-          let next : 2 * suc t ≡ suc (2 * t + 1) = omega arith in
-          parts_moved p u node.0 (ins p node.0) (2 * t + 1) gather_now cells mail r cell mail'
-          (e ∙ sym ((steps_have_two_stages p (suc t)).0.cell node.0) ∙ ap (λ x. cell_at p node.0 x) next)
-          (λ l is_in. put.own l is_in ∙ ap (λ x. Some x) (sym ((steps_have_two_stages p (suc t)).0.mail l) ∙ ap (λ x. mail_at p l x) next))
-          put.others.count put.others.others
-
-  module _ (k : UnitKind) (is_kind : k ≡ kind_by (task_of N u)) (is_now : k ≡ kind.Posting) where
-    posts_now : (part : ℕ) → moves p part u ≡ in_task p part Posting
-    posts_now part = moves_by p sound u 0 Posting (posting_kind (task_of (node_count p) u) (ap (λ n. kind_by (task_of n u)) (sym nodes) ∙ sym is_kind ∙ is_now)) part
-
-    no_part : (x y : ℕ) → x < y → is_at x y ≡ 0
-    no_part x y h = grind (arith, nat_tests)
-
-    pub posting_done : (parts : PartsState) → AreReady p u parts → AreMoved p u parts parts
-    posting_done parts r = record {
-      counted = r.counted;
-      cells = λ n h one. absurd (omega (arith, one, posts_now n, no_part n (posting_part p) (omega (arith, h))));
-      mail = λ l h one. absurd (omega (arith, one, posts_now (mail_part p l), no_part (mail_part p l) (posting_part p) (omega (arith, h))));
-      other_cells = λ n h z. refl;
-      other_mail = λ l h z. refl;
-    }
+  pub posting_done : (parts : PartsState) → AreReady p u parts → AreMoved p u parts parts
+  posting_done parts r = record {
+    counted = r.counted;
+    cells = λ n h one. absurd (omega (arith, one, posts_now n, no_part n (posting_part p) (omega (arith, h))));
+    mail = λ l h one. absurd (omega (arith, one, posts_now (mail_part p l), no_part (mail_part p l) (posting_part p) (omega (arith, h))));
+    other_cells = λ n h z. refl;
+    other_mail = λ l h z. refl;
+  }
 
 pub count_is_all : (p : Plan) (H N : ℕ) → H ≡ p.horizon → N ≡ node_count p → H * step_units N ≡ unit_count p
 unfolding unit_count

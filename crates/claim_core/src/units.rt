@@ -1,5 +1,5 @@
 // The units of a loading, by their numbers.
-ghost use Rattle.claim_core.specs.Kinds.{kind_by};
+ghost use Rattle.claim_core.specs.Kinds.{half_by, kind_by};
 ghost use Rattle.claim_core.specs.Phases.{IsPhase, phase_of};
 ghost use Rattle.dta_model.specs.Lent.{plan_of};
 ghost use Rattle.dta_model.specs.Units.{phase_start as start_of, step_of as step_at};
@@ -10,6 +10,7 @@ ghost use Rattle.std.specs.Prelude.{◌≡◌, ◌≤◌, ◌<◌, ◌*◌, ◌^
 use crate::phase::{Phase, PhaseKind};
 use dta_model::Loading;
 use net_core::NodeNo;
+use node_transfer::{Half, HalfStep};
 
 /// What a unit does.
 #[derive(Clone, Copy, Debug, PartialEq, Eq, Drop)]
@@ -153,5 +154,19 @@ impl Units {
             PhaseKind::Gathers => UnitKind::Gather(node),
             PhaseKind::Posting => UnitKind::Posting,
         }
+    }
+
+    /// The half of a node's step that a unit of a phase is. A posting is none.
+    pub fn half_in(self, phase: Phase, number: u64) -> Option<HalfStep>
+        requires { phase ≡ phase_of self.nodes number }
+        ensures { result ≡ half_by (step_at self.nodes number) (task_of self.nodes number) }
+    {
+        let (half, node) = match self.kind_in(phase, number) {
+            UnitKind::Transfer(node) => (Half::Transfer, node),
+            UnitKind::Gather(node) => (Half::Gather, node),
+            UnitKind::Posting => return None,
+        };
+        let step = phase.step;
+        Some(HalfStep { half, node, step })
     }
 }

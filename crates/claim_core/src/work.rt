@@ -5,10 +5,10 @@ ghost use Rattle.dta_model.specs.Sound.{IsSound};
 ghost use Rattle.dta_model.specs.Units.{unit_count};
 ghost use Rattle.std.specs.Prelude.{◌≡◌, ◌<◌};
 
-use crate::units::{UnitKind, Units};
+use crate::units::Units;
 use dta_model::Loading;
 use node_transfer::exchange::do_half;
-use node_transfer::{Half, HalfStep, Mail, NodeCell};
+use node_transfer::{Mail, NodeCell};
 
 /// Takes the parts of a unit to their next stage. A posting moves none.
 pub(crate) fn do_work(loading: &Loading, number: u64, cells: &mut [NodeCell], mail: &mut [Mail])
@@ -21,26 +21,8 @@ pub(crate) fn do_work(loading: &Loading, number: u64, cells: &mut [NodeCell], ma
         (record { cells = cells.new; mail = mail.new }) }
 {
     let units = Units::of(loading);
-    let step = units.step_of(number);
-    match units.kind_of(number) {
-        UnitKind::Transfer(node) => {
-            let half = Half::Transfer;
-            do_half(
-                loading,
-                HalfStep { half, node, step },
-                &mut cells[node.0 as usize],
-                mail,
-            );
-        }
-        UnitKind::Gather(node) => {
-            let half = Half::Gather;
-            do_half(
-                loading,
-                HalfStep { half, node, step },
-                &mut cells[node.0 as usize],
-                mail,
-            );
-        }
-        UnitKind::Posting => {}
+    match units.half_in(units.phase_of(number), number) {
+        Some(half) => do_half(loading, half, &mut cells[half.node.0 as usize], mail),
+        None => {}
     }
 }

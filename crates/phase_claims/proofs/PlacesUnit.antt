@@ -1,27 +1,27 @@
 -- What a pass has with it for a transfer and for a gather, and what it brings home.
 use Rattle.std.specs.Prelude.{nat_lt}
-use Rattle.std.proofs.Common.{◌≡◌, ℕ, suc, ◌+◌, ◌-◌, ◌*◌, ◌<◌, ◌≤◌, Bool, true, false, cond, List, [], ◌∷◌, length, map, refl, sym, ap, ◌∙◌, subst, lt_of_not-le, arith}
+use Rattle.std.proofs.Common.{◌≡◌, ◌≢◌, ℕ, suc, ◌+◌, ◌-◌, ◌*◌, ◌<◌, ◌≤◌, Bool, true, false, cond, List, [], ◌∷◌, length, map, refl, sym, ap, ◌∙◌, subst, lt_of_not-le, arith, None, Some}
 use Rattle.std.proofs.lemmas.Bool.Decides.{nat_tests}
 use mathlib.Core.Logic.{dite}
 use native.Mathlib.Decide.{dec_le}
 use Rattle.dta_model.specs.Plans.{ins, outs}
 use Rattle.dta_model.specs.Sound.{IsSound}
-use Rattle.dta_model.specs.Units.{Gather, Task, Transfer, mail_part, node_count, places, places_in, posting_part, step_of, task_of, unit_count}
+use Rattle.dta_model.specs.Units.{Task, mail_part, node_count, places, places_in, posting_part, step_of, task_of, unit_count}
 use Rattle.dta_model.specs.declared.machine.Stage.TheVariants as stage
 use Rattle.dta_model.specs.declared.plan.Plan.{Plan}
-use Rattle.cell_stages.specs.Contents.{IsStep, away, batch_of, cell_after, cell_at, cell_before, mail_at, room_of}
+use Rattle.cell_stages.specs.Contents.{away, cell_at, mail_at}
 use Rattle.node_transfer.specs.Exchange.{is_among}
 use Rattle.cell_stages.specs.declared.mail.Mail as mail
-use Rattle.cell_stages.proofs.TwoStages.{steps_have_two_stages}
-use Rattle.net_core.specs.declared.rows.NodeNo.{NodeNo}
-use Rattle.claim_core.specs.Kinds.{kind_by}
-use Rattle.claim_core.specs.declared.units.UnitKind.{UnitKind}
+use Rattle.node_transfer.specs.Halves.{IsHalf, leaving_cell, left_mail, links_by, links_of, taken_mail, taking_cell}
+use Rattle.node_transfer.specs.declared.half.Half.{Half}
+use Rattle.node_transfer.specs.declared.half.HalfStep.{HalfStep}
+use Rattle.claim_core.specs.Kinds.{half_by, kind_by}
 use Rattle.claim_core.specs.declared.units.UnitKind.TheVariants as kind
 use Rattle.claim_core.specs.Parts.{moves, stage_before}
 use Rattle.claim_core.specs.Sums.{one_if, times}
-use Rattle.claim_core.proofs.Parts.{ins_past, mail_of, outs_past}
+use Rattle.claim_core.proofs.Parts.{in_task, ins_past, mail_of, outs_past}
 use Rattle.claim_core.proofs.Sums.{at_self}
-use Rattle.claim_core.proofs.Working.{IsOfNode, gather_kind, gather_of, gather_step, moves_by, transfer_kind, transfer_of, transfer_step}
+use Rattle.claim_core.proofs.Working.{IsOfNode, cell_left, cell_taken, half_node, half_stage, half_step, half_task, half_work, mail_left, mail_taken, moves_by, no_half}
 use Rattle.phase_claims.specs.declared.part.Part.{Part}
 use Rattle.phase_claims.specs.declared.part.Part.TheVariants.{Cell, Mail, Writer}
 use Rattle.phase_claims.specs.declared.view.Scope.{Scope}
@@ -72,7 +72,7 @@ module _ (k : Scope) where
   one_most false = omega arith
 
   -- the places of a unit of one node, where all are at stage s before its phase
-  module _ (c a s : ℕ) (links : List ℕ) (task : Task) (m : IsOfNode p c a links s) (are : places p c ≡ a ∷ map (mail_part p) links) (past : (l : ℕ) → length p.net.links ≤ l → times l links ≡ 0) (moved : (l : ℕ) → moves p (mail_part p l) c ≡ times l links) where
+  module _ (c a s : ℕ) (links : List ℕ) (m : IsOfNode p c a links s) (are : places p c ≡ a ∷ map (mail_part p) links) (past : (l : ℕ) → length p.net.links ≤ l → times l links ≡ 0) (moved : (l : ℕ) → moves p (mail_part p l) c ≡ times l links) where
     within : (l : ℕ) → 1 ≤ times l links → l < length p.net.links
     within l h = dite (dec_le (length p.net.links) l) (λ over. absurd (omega (arith, past l over, h))) (λ low. lt_of_not-le low)
 
@@ -100,92 +100,65 @@ module _ (k : Scope) where
   unfolding places
   places_are c task e = ap (λ x. places_in p x) e
 
-  module _ (sound : IsSound p) (c a t : ℕ) (now : step_of (node_count p) c ≡ t) where
-    module _ (e : task_of (node_count p) c ≡ Transfer a) where
-      abbrev m_out : IsOfNode p c a (outs p a) (2 * step_of (node_count p) c)
-      m_out = transfer_of p sound c a e
+  -- the links of a half
+  places_by : (half : Half) (a : ℕ) → places_in p (half_task half a) ≡ a ∷ map (mail_part p) (links_by half p a)
+  places_by Half.Transfer a = refl
+  places_by Half.Gather a = refl
 
-      abbrev moved_out : (l : ℕ) → moves p (mail_part p l) c ≡ times l (outs p a)
-      moved_out l = moves_by p sound c a (Transfer a) e (mail_part p l) ∙ mail_of p a (outs p a) m_out.node l
+  past_by : (half : Half) (a l : ℕ) → length p.net.links ≤ l → times l (links_by half p a) ≡ 0
+  past_by Half.Transfer a = outs_past p a
+  past_by Half.Gather a = ins_past p a
 
-      pub transfer_carried : carried k (stage.Open c) ≡ node_places p a (cell_before p a t away away) (room_of p t) (outs p a)
-      transfer_carried =
-          let two : 2 * step_of (node_count p) c ≡ 2 * t = ap (λ x. 2 * x) now in
-          node_carried c a (2 * step_of (node_count p) c) (outs p a) (Transfer a) m_out (places_are c (Transfer a) e) (outs_past p a) moved_out (room_of p t)
-          (λ l. ap (λ x. mail_at p l x) two ∙ (steps_have_two_stages p t).0.mail l)
-          ∙ ap (λ x. node_places p a x (room_of p t) (outs p a)) (ap (λ x. cell_at p a x) two ∙ (steps_have_two_stages p t).0.cell a)
+  mail_by : (half : Half) (a : ℕ) → a < node_count p → (l : ℕ) → in_task p (mail_part p l) (half_task half a) ≡ times l (links_by half p a)
+  mail_by Half.Transfer a node l = mail_of p a (outs p a) node l
+  mail_by Half.Gather a node l = mail_of p a (ins p a) node l
 
-      pub transfer_brought : brought k c ≡ node_places p a (cell_after p a t away away) (batch_of p t) (outs p a)
-      transfer_brought =
-          let next : suc (2 * step_of (node_count p) c) ≡ 2 * t + 1 = omega (arith, now) in
-          node_brought c a (2 * step_of (node_count p) c) (outs p a) (Transfer a) m_out (places_are c (Transfer a) e) (outs_past p a) moved_out (batch_of p t)
-          (λ l. ap (λ x. mail_at p l x) next ∙ (steps_have_two_stages p t).1.mail l)
-          ∙ ap (λ x. node_places p a x (batch_of p t) (outs p a)) (ap (λ x. cell_at p a x) next ∙ (steps_have_two_stages p t).1.cell a)
+  module _ (sound : IsSound p) (c : ℕ) (few : c < unit_count p) (h : HalfStep) (is_half : half_by (step_of (node_count p) c) (task_of (node_count p) c) ≡ Some h) where
+    abbrev node_is : IsOfNode p c h.node.0 (links_of p h) (half_stage h.half h.step)
+    node_is = half_node p sound c (node_count p) few refl h is_half
 
-    module _ (e : task_of (node_count p) c ≡ Gather a) where
-      abbrev m_in : IsOfNode p c a (ins p a) (2 * step_of (node_count p) c + 1)
-      m_in = gather_of p sound c a e
+    abbrev task_is : task_of (node_count p) c ≡ half_task h.half h.node.0
+    task_is = half_work p sound c (node_count p) few refl h is_half
 
-      abbrev moved_in_links : (l : ℕ) → moves p (mail_part p l) c ≡ times l (ins p a)
-      moved_in_links l = moves_by p sound c a (Gather a) e (mail_part p l) ∙ mail_of p a (ins p a) m_in.node l
+    abbrev places_now : places p c ≡ h.node.0 ∷ map (mail_part p) (links_of p h)
+    places_now = places_are c (half_task h.half h.node.0) task_is ∙ places_by h.half h.node.0
 
-      pub gather_carried : carried k (stage.Open c) ≡ node_places p a (cell_after p a t away away) (batch_of p t) (ins p a)
-      gather_carried =
-          let odd : 2 * step_of (node_count p) c + 1 ≡ 2 * t + 1 = ap (λ x. 2 * x + 1) now in
-          node_carried c a (2 * step_of (node_count p) c + 1) (ins p a) (Gather a) m_in (places_are c (Gather a) e) (ins_past p a) moved_in_links (batch_of p t)
-          (λ l. ap (λ x. mail_at p l x) odd ∙ (steps_have_two_stages p t).1.mail l)
-          ∙ ap (λ x. node_places p a x (batch_of p t) (ins p a)) (ap (λ x. cell_at p a x) odd ∙ (steps_have_two_stages p t).1.cell a)
+    moved_now : (l : ℕ) → moves p (mail_part p l) c ≡ times l (links_of p h)
+    moved_now l = moves_by p sound c h.node.0 (half_task h.half h.node.0) task_is (mail_part p l) ∙ mail_by h.half h.node.0 node_is.node l
 
-      pub gather_brought : brought k c ≡ node_places p a (cell_before p a (suc t) away away) (room_of p (suc t)) (ins p a)
-      gather_brought =
-          let next : suc (2 * step_of (node_count p) c + 1) ≡ 2 * suc t = omega (arith, now) in
-          node_brought c a (2 * step_of (node_count p) c + 1) (ins p a) (Gather a) m_in (places_are c (Gather a) e) (ins_past p a) moved_in_links (room_of p (suc t))
-          (λ l. ap (λ x. mail_at p l x) next ∙ (steps_have_two_stages p (suc t)).0.mail l)
-          ∙ ap (λ x. node_places p a x (room_of p (suc t)) (ins p a)) (ap (λ x. cell_at p a x) next ∙ (steps_have_two_stages p (suc t)).0.cell a)
+    pub half_carried : carried k (stage.Open c) ≡ node_places p h.node.0 (taking_cell p h away) (taken_mail p h) (links_of p h)
+    half_carried =
+        node_carried c h.node.0 (half_stage h.half h.step) (links_of p h) node_is places_now (past_by h.half h.node.0) moved_now (taken_mail p h) (λ l. mail_taken h.half p l h.step)
+        ∙ ap (λ x. node_places p h.node.0 x (taken_mail p h) (links_of p h)) (cell_taken h.half p h.node.0 h.step)
+
+    pub half_brought : brought k c ≡ node_places p h.node.0 (leaving_cell p h away) (left_mail p h) (links_of p h)
+    half_brought =
+        node_brought c h.node.0 (half_stage h.half h.step) (links_of p h) node_is places_now (past_by h.half h.node.0) moved_now (left_mail p h) (λ l. mail_left h.half p l h.step)
+        ∙ ap (λ x. node_places p h.node.0 x (left_mail p h) (links_of p h)) (cell_left h.half p h.node.0 h.step)
 
 -- where the work is done: q is the plan that the code has, k the scope that the table was told, and k' that
 -- of the floor
-module _ (k k' : Scope) (q : Plan) (same : k ≡ k') (plan : q ≡ k.plan) (sound : IsSound k.plan) (u N t : ℕ) (few : u < unit_count k'.plan) (nodes : N ≡ node_count k.plan) (step : t ≡ step_of N u)
-    (has : UnitKind) (is_kind : has ≡ kind_by (task_of N u)) (node : NodeNo) where
+module _ (k k' : Scope) (q : Plan) (same : k ≡ k') (plan : q ≡ k.plan) (sound : IsSound k.plan) (u N : ℕ) (few : u < unit_count k'.plan) (nodes : N ≡ node_count k.plan)
+    (h : HalfStep) (is_half : half_by (step_of N u) (task_of N u) ≡ Some h) where
   few_here : u < unit_count k.plan
   few_here = subst (λ (j : Scope). u < unit_count j.plan) (sym same) few
 
-  now_here : step_of (node_count k.plan) u ≡ t
-  now_here = ap (λ n. step_of n u) (sym nodes) ∙ sym step
+  half_here : half_by (step_of (node_count k.plan) u) (task_of (node_count k.plan) u) ≡ Some h
+  half_here = ap (λ n. half_by (step_of n u) (task_of n u)) (sym nodes) ∙ is_half
 
-  kind_here : kind_by (task_of (node_count k.plan) u) ≡ has
-  kind_here = ap (λ n. kind_by (task_of n u)) (sym nodes) ∙ sym is_kind
+  pub half_may : IsHalf q h
+  half_may = subst (λ (x : Plan). IsHalf x h) (sym plan) (half_step k.plan sound u N few_here nodes h is_half)
 
-  module _ (now : has ≡ kind.Transfer node) where
-    task_out : task_of (node_count k.plan) u ≡ Transfer node.0
-    task_out = transfer_kind (task_of (node_count k.plan) u) node (kind_here ∙ now)
+  pub half_has : (xs : List (ℕ × Part)) → xs ≡ carried k' (stage.Open u) → xs ≡ node_places q h.node.0 (taking_cell q h away) (taken_mail q h) (links_of q h)
+  half_has xs e =
+      e ∙ ap (λ (j : Scope). carried j (stage.Open u)) (sym same) ∙ half_carried k sound u few_here h half_here
+      ∙ ap (λ (x : Plan). node_places x h.node.0 (taking_cell x h away) (taken_mail x h) (links_of x h)) (sym plan)
 
-    pub transfer_may : IsStep q node.0 t
-    transfer_may = subst (λ (x : Plan). IsStep x node.0 t) (sym plan) (transfer_step k.plan sound u N t few_here nodes step node has is_kind now)
+  pub half_brings : (xs : List (ℕ × Part)) → xs ≡ node_places q h.node.0 (leaving_cell q h away) (left_mail q h) (links_of q h) → xs ≡ brought k' u
+  half_brings xs e =
+      e ∙ ap (λ (x : Plan). node_places x h.node.0 (leaving_cell x h away) (left_mail x h) (links_of x h)) plan
+      ∙ sym (half_brought k sound u few_here h half_here) ∙ ap (λ (j : Scope). brought j u) same
 
-    pub transfer_has : (xs : List (ℕ × Part)) → xs ≡ carried k' (stage.Open u) → xs ≡ node_places q node.0 (cell_before q node.0 t away away) (room_of q t) (outs q node.0)
-    transfer_has xs e =
-        e ∙ ap (λ (j : Scope). carried j (stage.Open u)) (sym same) ∙ transfer_carried k sound u node.0 t now_here task_out
-        ∙ ap (λ (x : Plan). node_places x node.0 (cell_before x node.0 t away away) (room_of x t) (outs x node.0)) (sym plan)
-
-    pub transfer_brings : (xs : List (ℕ × Part)) → xs ≡ node_places q node.0 (cell_after q node.0 t away away) (batch_of q t) (outs q node.0) → xs ≡ brought k' u
-    transfer_brings xs e =
-        e ∙ ap (λ (x : Plan). node_places x node.0 (cell_after x node.0 t away away) (batch_of x t) (outs x node.0)) plan
-        ∙ sym (transfer_brought k sound u node.0 t now_here task_out) ∙ ap (λ (j : Scope). brought j u) same
-
-  module _ (now : has ≡ kind.Gather node) where
-    task_in : task_of (node_count k.plan) u ≡ Gather node.0
-    task_in = gather_kind (task_of (node_count k.plan) u) node (kind_here ∙ now)
-
-    pub gather_may : IsStep q node.0 t
-    gather_may = subst (λ (x : Plan). IsStep x node.0 t) (sym plan) (gather_step k.plan sound u N t few_here nodes step node has is_kind now)
-
-    pub gather_has : (xs : List (ℕ × Part)) → xs ≡ carried k' (stage.Open u) → xs ≡ node_places q node.0 (cell_after q node.0 t away away) (batch_of q t) (ins q node.0)
-    gather_has xs e =
-        e ∙ ap (λ (j : Scope). carried j (stage.Open u)) (sym same) ∙ gather_carried k sound u node.0 t now_here task_in
-        ∙ ap (λ (x : Plan). node_places x node.0 (cell_after x node.0 t away away) (batch_of x t) (ins x node.0)) (sym plan)
-
-    pub gather_brings : (xs : List (ℕ × Part)) → xs ≡ node_places q node.0 (cell_before q node.0 (suc t) away away) (room_of q (suc t)) (ins q node.0) → xs ≡ brought k' u
-    gather_brings xs e =
-        e ∙ ap (λ (x : Plan). node_places x node.0 (cell_before x node.0 (suc t) away away) (room_of x (suc t)) (ins x node.0)) plan
-        ∙ sym (gather_brought k sound u node.0 t now_here task_in) ∙ ap (λ (j : Scope). brought j u) same
+-- a unit that isn't a posting is a half of a node's step
+pub is_half_step : (t : ℕ) (task : Task) → kind_by task ≢ kind.Posting → half_by t task ≡ None → ⊥
+is_half_step t task other none = other (ap kind_by (no_half t task none))

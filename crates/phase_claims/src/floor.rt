@@ -29,7 +29,7 @@ use claim_core::{Phase, UnitKind, Units};
 use dta_model::{Loaded, Loading, Stage};
 use monitors::{Board, WriterPass};
 use net_core::Memory;
-use node_transfer::{Half, HalfStep, opening};
+use node_transfer::opening;
 use std::alloc::{AllocError, Global};
 use std::marker::Model;
 use std::sync::Wait;
@@ -224,32 +224,6 @@ impl<'a> Floor<'a> {
         }
     }
 
-    // Does the work of a transfer or a gather, on the places that a seat has for it.
-    #[tactic(auto, unfolding(dta_model::specs::Units::unit_count))]
-    fn do_work(&self, seat: &mut PassSeat, phase: Phase, number: u64)
-        requires table { seat.old.table_id ≡ self.now.table }
-        requires number { number < unit_count self.now.scope.plan }
-        requires phase { phase ≡ phase_of (node_count self.now.scope.plan) number }
-        requires kind { kind_at self.now.scope.plan number ≢ UnitKind.Posting }
-        requires held { seat.old.me.1 ≡ carried self.now.scope (Stage.Open number) }
-        ensures seat { IsSameSeat seat.old seat.new }
-        ensures done { seat.new.me.1 ≡ brought self.now.scope number }
-    {
-        let shared = &self.table.shared;
-        let step = phase.step;
-        match self.units.kind_in(phase, number) {
-            UnitKind::Transfer(node) => {
-                let half = Half::Transfer;
-                work_held(shared, seat, &self.loading, HalfStep { half, node, step })
-            }
-            UnitKind::Gather(node) => {
-                let half = Half::Gather;
-                work_held(shared, seat, &self.loading, HalfStep { half, node, step })
-            }
-            UnitKind::Posting => unreachable!(),
-        }
-    }
-
     // Does the work of a posting, on the places that a seat has for it.
     #[tactic(auto, unfolding(dta_model::specs::Units::unit_count))]
     fn do_posting<R: Wait>(&self, rt: &R, seat: &mut PassSeat, number: u64)
@@ -297,7 +271,10 @@ impl<'a> Floor<'a> {
             unreachable!()
         };
         let phase = self.phase(pass.last.phase, number);
-        self.do_work(&mut pass.seat, phase, number);
+        let Some(half) = self.units.half_in(phase, number) else {
+            unreachable!()
+        };
+        work_held(&self.table.shared, &mut pass.seat, &self.loading, half);
         self.finish(&mut pass.seat);
         pass.stage = Stage::Idle;
     }
