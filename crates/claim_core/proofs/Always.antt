@@ -19,7 +19,7 @@ use Rattle.cell_stages.specs.Contents.{away, cell_at, cell_before, mail_at, room
 use Rattle.cell_stages.proofs.TwoStages.{steps_have_two_stages}
 use Rattle.claim_core.specs.Laws.{Always, EarlierAreFinished, HeldWereGiven, IsHeldOnce, LaterAreNot, NumbersRise, OpenAreOfThePhase, PartsAreOfWholeSteps, number_given}
 use Rattle.claim_core.specs.Parts.{done_in, moves, stage_in, stage_of}
-use Rattle.claim_core.specs.Sums.{below, once_below, one_if}
+use Rattle.claim_core.specs.Sums.{below}
 use Rattle.claim_core.proofs.Claimed.{finished_le}
 use Rattle.claim_core.proofs.Counts.{drawn_in, held_in, min_high, min_low, none_past}
 use Rattle.claim_core.proofs.Cuts.{below_cut}
@@ -27,20 +27,7 @@ use Rattle.claim_core.proofs.Events.{Kept, always_kept, in_phase}
 use Rattle.claim_core.proofs.Phases.{whole_start}
 use Rattle.claim_core.proofs.Parts.{at_place, of_whole_steps, step_cell, step_mail}
 use Rattle.claim_core.proofs.Stages.{others_none}
-
-once_le : (x g : ℕ) → once_below x g ≤ 1
-once_le x g = grind (arith, nat_tests)
-
-once_in : (x g : ℕ) → 1 ≤ once_below x g → x < g
-once_in x g h = grind (arith, nat_tests)
-
-is_one : (b : Bool) → 1 ≤ one_if b → b ≡ true
-is_one true h = refl
-is_one false h = absurd (omega arith)
-
-is_zero : (b : Bool) → one_if b ≡ 0 → b ≡ false
-is_zero true h = absurd (omega (arith, h))
-is_zero false h = refl
+use Rattle.claim_core.proofs.Sums.{is_one, is_zero, once_in, once_le}
 
 module _ (p : Plan) (s : Claims) (k : Kept p s) where
   held_once : IsHeldOnce p s

@@ -16,12 +16,7 @@ use Rattle.claim_core.proofs.Cuts.{below_same}
 use Rattle.claim_core.proofs.Phases.{same_step, start_is, starts, stop_is, stops}
 use Rattle.claim_core.proofs.Parts.{at_is, at_place, cell_of, gathers, in_task, mail_of, moves_is, once, times_ins, times_outs, transfers}
 use Rattle.claim_core.proofs.Stages.{in_step}
-
-at_other : (x y : ℕ) → x ≢ y → is_at x y ≡ 0
-at_other x y h = grind (arith, nat_tests)
-
-at_same : (x y : ℕ) → is_at x y ≡ is_at y x
-at_same x y = grind (arith, nat_tests)
+use Rattle.claim_core.proofs.Sums.{at_other, at_same}
 
 -- two places of a step are of one phase
 pub band : (k b r j : ℕ) → r < k + k + 1 → j < k + k + 1 → starts k b r ≤ b + j → b + j < stops k b r → r < k → j < k

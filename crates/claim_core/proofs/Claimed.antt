@@ -1,30 +1,14 @@
 -- The numbers of a loading's units, over how often each is done (D) and held (H), where g are drawn and n
 -- finished.
-use Rattle.std.proofs.Common.{◌≡◌, ◌≢◌, ℕ, suc, ◌+◌, ◌<◌, ◌≤◌, refl, lt_of_not-le, arith}
-use Rattle.std.proofs.lemmas.Bool.Decides.{nat_tests}
+use Rattle.std.proofs.Common.{◌≡◌, ℕ, suc, ◌+◌, ◌<◌, ◌≤◌, refl, lt_of_not-le, arith}
 use mathlib.Core.Logic.{dite}
 use native.Mathlib.Decide.{dec_le}
 use Rattle.dta_model.specs.Units.{phase_start, phase_end}
 use Rattle.claim_core.specs.Claimed.{Claimed}
 use Rattle.claim_core.specs.Sums.{is_at, once_below, below}
-use Rattle.claim_core.proofs.Sums.{below_plus, below_at, below_at_le, bounded, all_there}
+use Rattle.claim_core.proofs.Sums.{all_there, at_other, below_at, below_at_le, below_plus, bounded, once_in, once_le, once_more, once_out}
 use Rattle.claim_core.proofs.Phases.{start_le, lt_stop, same_start, same_stop, next_start, start_at}
 use Rattle.claim_core.proofs.Cuts.{below_same, below_cut}
-
-once_le : (x g : ℕ) → once_below x g ≤ 1
-once_le x g = grind (arith, nat_tests)
-
-once_in : (x g : ℕ) → 1 ≤ once_below x g → x < g
-once_in x g h = grind (arith, nat_tests)
-
-once_out : (x g : ℕ) → g ≤ x → once_below x g ≡ 0
-once_out x g h = grind (arith, nat_tests)
-
-once_more : (x g : ℕ) → once_below x (suc g) ≡ once_below x g + is_at x g
-once_more x g = grind (arith, nat_tests)
-
-away : (x c : ℕ) → x ≢ c → is_at x c ≡ 0
-away x c h = grind (arith, nat_tests)
 
 module _ (N : ℕ) (g n : ℕ) (D H : ℕ → ℕ) (k : Claimed N g n D H) where
   pub finished_le : n ≤ g
@@ -55,7 +39,7 @@ module _ (N : ℕ) (g n : ℕ) (D H : ℕ → ℕ) (k : Claimed N g n D H) where
         omega (arith, k.sum, split, below_plus D (λ x. is_at x c) g, below_at c g in_g, below_at_le c g)
 
     far : (x : ℕ) → phase_end N n ≤ x → D' x ≡ 0
-    far x l = omega (arith, k.after x l, more x, away x c (λ e. (let q : x ≡ c = e in absurd (omega arith))))
+    far x l = omega (arith, k.after x l, more x, at_other x c (λ e. (let q : x ≡ c = e in absurd (omega arith))))
 
     -- where the phase ends, every number below its stop is done
     pub all_done : phase_end N n ≡ suc n → (x : ℕ) → x < phase_end N n → 1 ≤ D' x

@@ -19,7 +19,7 @@ use Rattle.cell_stages.specs.Contents.{cell_at, mail_at}
 use Rattle.node_transfer.specs.Exchange.{is_among}
 use Rattle.claim_core.specs.Machine.{AreReached}
 use Rattle.claim_core.specs.Parts.{done_in, moves, stage_before, stage_in, stage_of}
-use Rattle.claim_core.specs.Sums.{is_at, once_below, one_if}
+use Rattle.claim_core.specs.Sums.{is_at, one_if}
 use Rattle.claim_core.specs.Work.{AreAtStages, AreMoved, AreReady, PartsState}
 use Rattle.claim_core.proofs.Apart.{IsPart, alone}
 use Rattle.claim_core.proofs.Claimed.{finished_le}
@@ -28,6 +28,7 @@ use Rattle.claim_core.proofs.Events.{Kept, always_kept, done_more, finished_kept
 use Rattle.claim_core.proofs.Phases.{same_start, same_stop}
 use Rattle.claim_core.proofs.Stages.{stage_held, stage_more}
 use Rattle.claim_core.proofs.Working.{gather_of, index_of, moves_by, transfer_of}
+use Rattle.claim_core.proofs.Sums.{once_in}
 
 pub kept_of : (p : Plan) (s : Claims) → AreReached p s → Kept p s
 kept_of p s r = subst (λ x. Kept p x) (sym r.claims) (always_kept p r.workers r.events)
@@ -112,9 +113,6 @@ module _ (p : Plan) (s : Claims) (w : ℕ) where
       by (Some (stage.Held c)) h = refl
       by (Some (stage.Open c)) h = absurd (h c refl)
       by (Some stage.Ended) h = refl
-
-once_in : (x g : ℕ) → 1 ≤ once_below x g → x < g
-once_in x g h = grind (arith, nat_tests)
 
 at_most_one : (x y : ℕ) → is_at x y ≤ 1
 at_most_one x y = grind (arith, nat_tests)

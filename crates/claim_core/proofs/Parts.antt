@@ -2,7 +2,7 @@
 use Rattle.net_core.specs.Network as network
 use Rattle.std.specs.Prelude.{filter, nat_eq, nat_lt}
 use Rattle.std.specs.List.{range_with_len}
-use Rattle.std.proofs.Common.{◌≡◌, ◌≢◌, ℕ, zero, suc, ◌+◌, ◌-◌, ◌*◌, ◌%◌, ◌<◌, ◌≤◌, Bool, true, false, cond, List, [], ◌∷◌, length, map, refl, ap, sym, ◌∙◌, arith}
+use Rattle.std.proofs.Common.{◌≡◌, ℕ, zero, suc, ◌+◌, ◌-◌, ◌*◌, ◌%◌, ◌<◌, ◌≤◌, Bool, true, false, cond, List, [], ◌∷◌, length, map, refl, ap, sym, ◌∙◌, arith}
 use Rattle.std.proofs.lemmas.Bool.Decides.{nat_tests}
 use Rattle.net_core.proofs.Orders.{is_lt, not_lt}
 use mathlib.Core.Logic.{dite}
@@ -18,25 +18,10 @@ use Rattle.claim_core.specs.Sums.{below, is_at, once_below, one_if, times}
 use Rattle.net_core.proofs.Numbers.{numbers_grow}
 use Rattle.claim_core.proofs.Cuts.{below_none, below_same}
 use Rattle.claim_core.proofs.Stages.{below_shift, whole_steps}
-use Rattle.claim_core.proofs.Sums.{below_at, below_at_le, total-append}
-
-at_other : (x y : ℕ) → x ≢ y → is_at x y ≡ 0
-at_other x y h = grind (arith, nat_tests)
-
-at_same : (x y : ℕ) → is_at x y ≡ is_at y x
-at_same x y = grind (arith, nat_tests)
+use Rattle.claim_core.proofs.Sums.{at_other, at_same, below_at, below_at_le, once_here, once_more, once_out, total-append}
 
 pub at_is : (x y : ℕ) → 1 ≤ is_at x y → x ≡ y
 at_is x y h = grind (arith, nat_tests)
-
-once_more : (x g : ℕ) → once_below x (suc g) ≡ once_below x g + is_at x g
-once_more x g = grind (arith, nat_tests)
-
-once_in : (x g : ℕ) → x < g → once_below x g ≡ 1
-once_in x g h = grind (arith, nat_tests)
-
-once_out : (x g : ℕ) → g ≤ x → once_below x g ≡ 0
-once_out x g h = grind (arith, nat_tests)
 
 -- a number among those below a bound
 pub times_range : (x m : ℕ) → times x (numbers_below m) ≡ once_below x m
@@ -88,11 +73,11 @@ no_link false k e = refl
 module _ (p : Plan) where
   pub times_outs : (n l : ℕ) → l < length p.net.links → times l (outs p n) ≡ is_at n (link_at p l).from.0
   unfolding network.outs
-  times_outs n l h = among_links (λ b. (link_at p b).from.0) n (length p.net.links) l ∙ one_link (nat_eq (link_at p l).from.0 n) (once_below l (length p.net.links)) (once_in l (length p.net.links) h)
+  times_outs n l h = among_links (λ b. (link_at p b).from.0) n (length p.net.links) l ∙ one_link (nat_eq (link_at p l).from.0 n) (once_below l (length p.net.links)) (once_here l (length p.net.links) h)
 
   pub times_ins : (n l : ℕ) → l < length p.net.links → times l (ins p n) ≡ is_at n (link_at p l).to.0
   unfolding network.ins
-  times_ins n l h = among_links (λ b. (link_at p b).to.0) n (length p.net.links) l ∙ one_link (nat_eq (link_at p l).to.0 n) (once_below l (length p.net.links)) (once_in l (length p.net.links) h)
+  times_ins n l h = among_links (λ b. (link_at p b).to.0) n (length p.net.links) l ∙ one_link (nat_eq (link_at p l).to.0 n) (once_below l (length p.net.links)) (once_here l (length p.net.links) h)
 
   pub outs_past : (n l : ℕ) → length p.net.links ≤ l → times l (outs p n) ≡ 0
   unfolding network.outs

@@ -1,19 +1,15 @@
 -- How often done units moved a part, moves x saying how often unit x does.
 use Rattle.std.proofs.Common.{◌≡◌, ◌≢◌, ℕ, zero, suc, ◌+◌, ◌-◌, ◌*◌, ◌%◌, ◌<◌, ◌≤◌, sym, ap, ◌∙◌, lt_of_not-le, arith}
-use Rattle.std.proofs.lemmas.Bool.Decides.{nat_tests}
 use Rattle.std.proofs.lemmas.Nat.{mod-mul-add}
 use mathlib.Core.Logic.{dite}
 use native.Mathlib.Decide.{dec_le, ℕ_discrete}
 use Rattle.dta_model.specs.Units.{phase_start, phase_end}
 use Rattle.claim_core.specs.Claimed.{Claimed}
-use Rattle.claim_core.specs.Sums.{is_at, once_below, below}
-use Rattle.claim_core.proofs.Sums.{below_plus, full}
+use Rattle.claim_core.specs.Sums.{is_at, below}
+use Rattle.claim_core.proofs.Sums.{below_plus, full, once_le}
 use Rattle.claim_core.proofs.Phases.{start_le, same_start}
 use Rattle.claim_core.proofs.Cuts.{below_same, below_cut, point}
 use Rattle.claim_core.proofs.Claimed.{finished_le}
-
-once_le : (x g : ℕ) → once_below x g ≤ 1
-once_le x g = grind (arith, nat_tests)
 
 -- of the units below Q
 abbrev pub stage_by : ℕ → (ℕ → ℕ) → (ℕ → ℕ) → ℕ

@@ -1,11 +1,11 @@
 -- Sums over lists, and over the numbers below a bound.
-use Rattle.std.proofs.Common.{◌≡◌, ℕ, zero, suc, ◌+◌, ◌<◌, ◌≤◌, ◌≢◌, List, [], ◌∷◌, ◌++◌, set, refl, sym, ap, subst, lt_of_not-le, arith}
+use Rattle.std.proofs.Common.{◌≡◌, ℕ, Bool, zero, suc, true, false, ◌+◌, ◌<◌, ◌≤◌, ◌≢◌, List, [], ◌∷◌, ◌++◌, set, refl, sym, ap, subst, lt_of_not-le, arith}
 use Rattle.std.proofs.lemmas.Bool.Decides.{nat_tests}
 use mathlib.Core.Option.{some, some-injective, some-ne-none}
 use lib.ListN.{get_elem?}
 use native.Mathlib.Decide.{dec_le}
 use mathlib.Core.Logic.{dite}
-use Rattle.claim_core.specs.Sums.{is_at, total, below}
+use Rattle.claim_core.specs.Sums.{below, is_at, once_below, one_if, total}
 
 module _ {A : Type 0} where
   pub total_set : (f : A → ℕ) (vs : List A) (i : ℕ) (v w : A) → get_elem? vs i ≡ some v → total f (set vs i w) + f v ≡ total f vs + f w
@@ -37,6 +37,36 @@ below_plus f g (suc m) = omega (arith, below_plus f g m)
 
 pub at_self : (y : ℕ) → is_at y y ≡ 1
 at_self y = grind (arith, nat_tests)
+
+pub at_other : (x y : ℕ) → x ≢ y → is_at x y ≡ 0
+at_other x y h = grind (arith, nat_tests)
+
+pub at_same : (x y : ℕ) → is_at x y ≡ is_at y x
+at_same x y = grind (arith, nat_tests)
+
+-- a number among those below a bound
+pub once_le : (x g : ℕ) → once_below x g ≤ 1
+once_le x g = grind (arith, nat_tests)
+
+pub once_in : (x g : ℕ) → 1 ≤ once_below x g → x < g
+once_in x g h = grind (arith, nat_tests)
+
+pub once_here : (x g : ℕ) → x < g → once_below x g ≡ 1
+once_here x g h = grind (arith, nat_tests)
+
+pub once_out : (x g : ℕ) → g ≤ x → once_below x g ≡ 0
+once_out x g h = grind (arith, nat_tests)
+
+pub once_more : (x g : ℕ) → once_below x (suc g) ≡ once_below x g + is_at x g
+once_more x g = grind (arith, nat_tests)
+
+pub is_one : (b : Bool) → 1 ≤ one_if b → b ≡ true
+is_one true h = refl
+is_one false h = absurd (omega arith)
+
+pub is_zero : (b : Bool) → one_if b ≡ 0 → b ≡ false
+is_zero true h = absurd (omega (arith, h))
+is_zero false h = refl
 
 pub below_at : (y m : ℕ) → y < m → 1 ≤ below m (λ x. is_at x y)
 below_at y zero h = absurd (omega arith)

@@ -28,6 +28,7 @@ use Rattle.claim_core.specs.Work.{AreMoved, AreReady, PartsState}
 use Rattle.claim_core.specs.declared.units.UnitKind.TheVariants as kind
 use Rattle.claim_core.proofs.Apart.{before_gather, before_transfer, cell_once, mail_once}
 use Rattle.claim_core.proofs.Parts.{at_is, cell_of, in_task, mail_of, step_cell, step_mail, times_ins, times_outs}
+use Rattle.claim_core.proofs.Sums.{at_self, is_one, is_zero}
 
 -- what the parts of a unit of one node are, all at stage s
 pub record IsOfNode (p : Plan) (c a : ℕ) (links : List ℕ) (s : ℕ) : Type 0 where
@@ -38,20 +39,9 @@ pub record IsOfNode (p : Plan) (c a : ℕ) (links : List ℕ) (s : ℕ) : Type 0
   pub cell_stage : (n : ℕ) → n < node_count p → stage_before p c n ≡ s
   pub mail_stage : (l : ℕ) → l < length p.net.links → stage_before p c (mail_part p l) ≡ s
 
-is_one : (b : Bool) → 1 ≤ one_if b → b ≡ true
-is_one true h = refl
-is_one false h = absurd (omega arith)
-
-is_zero : (b : Bool) → one_if b ≡ 0 → b ≡ false
-is_zero true h = absurd (omega (arith, h))
-is_zero false h = refl
-
 one_is : (b : Bool) → b ≡ true → 1 ≤ one_if b
 one_is true h = omega arith
 one_is false h = cc
-
-at_self : (y : ℕ) → is_at y y ≡ 1
-at_self y = grind (arith, nat_tests)
 
 module _ (p : Plan) (c a : ℕ) (links : List ℕ) (s : ℕ) (m : IsOfNode p c a links s) (cells : List CellState) (mail : List Mail) (r : AreReady p c (record { cells = cells; mail = mail })) where
   pub cell_inside : a < length cells

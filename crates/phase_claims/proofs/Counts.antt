@@ -1,6 +1,5 @@
 -- Lists of views, and how often they hold and perform a unit.
-use Rattle.std.proofs.Common.{◌≡◌, ◌≢◌, ℕ, ◌<◌, ◌≤◌, true, false, List, set, refl, sym, ap, ◌∙◌, subst, ⊎_elim, arith}
-use Rattle.std.proofs.lemmas.Bool.Decides.{nat_tests}
+use Rattle.std.proofs.Common.{◌≡◌, ◌≢◌, ℕ, true, false, List, set, refl, sym, ap, ◌∙◌, subst, ⊎_elim, arith}
 use mathlib.Core.Option.{some}
 use lib.ListN.{get_elem?}
 use Rattle.atomic_table.proofs.Lists.{at_set}
@@ -8,7 +7,7 @@ use Rattle.dta_model.specs.Machine.{holds_unit}
 use Rattle.dta_model.specs.declared.machine.Stage.{Stage}
 use Rattle.dta_model.specs.declared.machine.Stage.TheVariants as stage
 use Rattle.claim_core.specs.Claimed.{Claimed}
-use Rattle.claim_core.specs.Sums.{is_at, once_below, one_if}
+use Rattle.claim_core.specs.Sums.{is_at, one_if}
 use Rattle.claim_core.proofs.Cuts.{below_same}
 use Rattle.phase_claims.specs.declared.view.View.{View}
 use Rattle.phase_claims.specs.Passes.{holds_no_unit}
@@ -33,15 +32,6 @@ claimed_same N g n D H D' H' c done held = record {
   before = λ x l. omega (arith, c.before x l, done x);
   after = λ x l. omega (arith, c.after x l, done x);
 }
-
-pub once_le : (x g : ℕ) → once_below x g ≤ 1
-once_le x g = grind (arith, nat_tests)
-
-pub once_in : (x g : ℕ) → 1 ≤ once_below x g → x < g
-once_in x g h = grind (arith, nat_tests)
-
-pub once_here : (x g : ℕ) → x < g → once_below x g ≡ 1
-once_here x g h = grind (arith, nat_tests)
 
 -- a stage that holds a unit
 pub holds_held : (s : Stage) (c x : ℕ) → s ≡ stage.Held c → one_if (holds_unit x s) ≡ is_at x c

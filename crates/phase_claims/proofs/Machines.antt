@@ -1,5 +1,5 @@
 -- The words and the views of a floor are claims of the claim machine.
-use Rattle.std.proofs.Common.{◌≡◌, ◌≢◌, ℕ, ◌+◌, ◌≤◌, min, Bool, true, false, List, [], ◌∷◌, map, set, refl, sym, ap, ◌∙◌, arith}
+use Rattle.std.proofs.Common.{◌≡◌, ◌≢◌, ℕ, ◌+◌, ◌≤◌, min, Bool, true, List, [], ◌∷◌, map, set, refl, sym, ap, ◌∙◌, arith}
 use mathlib.Core.Option.{some}
 use lib.ListN.{get_elem?}
 use Rattle.atomic_table.specs.Table.{State}
@@ -13,7 +13,7 @@ use Rattle.claim_core.proofs.Claimed.{open_now}
 use Rattle.claim_core.proofs.Counts.{count_is, done_is, drawn_in, held_in, sum_of}
 use Rattle.claim_core.proofs.Cuts.{below_same}
 use Rattle.claim_core.proofs.Phases.{same_start}
-use Rattle.claim_core.proofs.Sums.{total_at, total_set}
+use Rattle.claim_core.proofs.Sums.{is_zero, once_le, total_at, total_set}
 use Rattle.phase_claims.specs.declared.part.Part.{Part}
 use Rattle.phase_claims.specs.declared.view.Scope.{Scope}
 use Rattle.phase_claims.specs.declared.view.View.{View}
@@ -21,7 +21,6 @@ use Rattle.phase_claims.specs.Laws.{AreApart, AreClaims, claims_of}
 use Rattle.phase_claims.specs.PlacesHome.{home_of, part_at}
 use Rattle.phase_claims.specs.Running.{EarlierArePerformed, Holds, Running}
 use Rattle.phase_claims.specs.Views.{held_by, holds, nobody, performed_by}
-use Rattle.phase_claims.proofs.Counts.{once_le}
 use Rattle.phase_claims.proofs.PlacesUnit.{part_writer}
 
 total_map : (f : Stage → ℕ) (views : List View) → total f (map (λ v. v.stage) views) ≡ total (λ v. f v.stage) views
@@ -35,10 +34,6 @@ both_in f views i j v u none differ at_i at_j =
 
 one_is : (b : Bool) → b ≡ true → one_if b ≡ 1
 one_is b e = ap one_if e
-
-none_is : (b : Bool) → one_if b ≡ 0 → b ≡ false
-none_is true z = absurd (let n : 1 ≡ 0 = z in omega arith)
-none_is false z = refl
 
 module _ (k : Scope) (w n : ℕ) (views : List View) (r : Running k w n views) where
   abbrev s : Claims
@@ -65,7 +60,7 @@ module _ (k : Scope) (w n : ℕ) (views : List View) (r : Running k w n views) w
 
   apart : (i j : ℕ) (v u : View) → i ≢ j → get_elem? views i ≡ some v → get_elem? views j ≡ some u → AreApart (node_count k.plan) v u
   apart i j v u differ at_i at_j = record {
-    numbers = λ c mine. none_is (holds_unit c u.stage) (omega (arith, one_is (holds_unit c v.stage) mine, both_in (holds c) views i j v u refl differ at_i at_j, once c));
+    numbers = λ c mine. is_zero (holds_unit c u.stage) (omega (arith, one_is (holds_unit c v.stage) mine, both_in (holds c) views i j v u refl differ at_i at_j, once c));
     phases = λ c d mine other.
         let N : ℕ = node_count k.plan in
         let a = (r.each i v at_i).phase c mine in

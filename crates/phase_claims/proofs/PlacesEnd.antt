@@ -14,7 +14,7 @@ use Rattle.claim_core.specs.Parts.{moves, stage_of}
 use Rattle.claim_core.specs.Sums.{below, once_below, total}
 use Rattle.claim_core.proofs.Cuts.{below_same}
 use Rattle.claim_core.proofs.Parts.{at_place, of_whole_steps, step_cell, step_posting}
-use Rattle.claim_core.proofs.Sums.{total_at, total_only, total_set}
+use Rattle.claim_core.proofs.Sums.{once_here, total_at, total_only, total_set}
 use Rattle.phase_claims.specs.declared.part.Part.{Part}
 use Rattle.phase_claims.specs.declared.part.Part.TheVariants.{Cell, Writer}
 use Rattle.phase_claims.specs.declared.view.Scope.{Scope}
@@ -28,7 +28,7 @@ use Rattle.phase_claims.specs.PlacesEnd.{IsClosed, IsEarly}
 use Rattle.phase_claims.specs.PlacesHome.{has_slot, home_of, part_at, posted_in}
 use Rattle.phase_claims.specs.Running.{FitsPast, Holds, Running}
 use Rattle.phase_claims.specs.Views.{held_by, holds, nobody, performed_by, performed_count, performs, rights}
-use Rattle.phase_claims.proofs.Counts.{holds_none, once_here}
+use Rattle.phase_claims.proofs.Counts.{holds_none}
 use Rattle.phase_claims.proofs.PlacesPosted.{same_writer}
 use Rattle.phase_claims.proofs.PlacesSteps.{has_none}
 use Rattle.phase_claims.proofs.PlacesUnit.{part_cell, part_writer}

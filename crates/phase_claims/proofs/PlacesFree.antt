@@ -15,13 +15,13 @@ use Rattle.claim_core.proofs.Phases.{same_start, same_stop}
 use Rattle.claim_core.proofs.Places.{Rises, moved_is_placed, none_lower, one_has_it, places_in_order}
 use Rattle.claim_core.proofs.Stages.{stage_held}
 use Rattle.claim_core.proofs.Parts.{at_is}
-use Rattle.claim_core.proofs.Sums.{at_self, total_at, total_only, total_set}
+use Rattle.claim_core.proofs.Sums.{at_self, once_le, total_at, total_only, total_set}
 use Rattle.phase_claims.specs.declared.view.Scope.{Scope}
 use Rattle.phase_claims.specs.declared.view.View.{View}
 use Rattle.phase_claims.specs.PlacesHome.{has_slot}
 use Rattle.phase_claims.specs.Running.{Running}
 use Rattle.phase_claims.specs.Views.{held_by, holds, nobody, performed_by}
-use Rattle.phase_claims.proofs.Counts.{holds_open, once_le}
+use Rattle.phase_claims.proofs.Counts.{holds_open}
 use Rattle.phase_claims.proofs.Homes.{Once}
 
 -- the places of a unit are there, each once

@@ -11,7 +11,7 @@ use Rattle.claim_core.specs.Sums.{is_at, times, total}
 use Rattle.claim_core.proofs.Claimed.{open_now}
 use Rattle.claim_core.proofs.Cuts.{below_same}
 use Rattle.claim_core.proofs.Places.{moved_is_placed}
-use Rattle.claim_core.proofs.Sums.{at_self, total-append, total_at, total_set, total_snoc}
+use Rattle.claim_core.proofs.Sums.{at_self, once_in, total-append, total_at, total_set, total_snoc}
 use Rattle.phase_claims.specs.declared.part.Part.{Part}
 use Rattle.phase_claims.specs.declared.view.Scope.{Scope}
 use Rattle.phase_claims.specs.declared.view.View.{View}
@@ -19,7 +19,7 @@ use Rattle.phase_claims.specs.PlacesHome.{AreHome, brought, carried, has_slot, h
 use Rattle.phase_claims.specs.Passes.{HoldsNoUnit}
 use Rattle.phase_claims.specs.Running.{Running}
 use Rattle.phase_claims.specs.Views.{beginning, both_stages, held_by, holds, joined, less_spare, nobody, performed_by, performs}
-use Rattle.phase_claims.proofs.Counts.{holds_held, holds_open, none_both, once_in}
+use Rattle.phase_claims.proofs.Counts.{holds_held, holds_open, none_both}
 use Rattle.phase_claims.proofs.Homes.{all_home, apart_of, finishes_homes, opens_homes}
 use Rattle.phase_claims.proofs.PlacesFree.{one_place, only_own, places_once, stage_is}
 use Rattle.phase_claims.proofs.Turning.{gives_all, takes_all, valid_takes}

@@ -2,7 +2,7 @@
 -- those that are done last, with some others between.
 use Rattle.std.specs.Prelude.{slice_get}
 use Rattle.std.proofs.Common.{◌≡◌, ℕ, zero, suc, ◌+◌, ◌≤◌, List, [], ◌∷◌, ◌++◌, length, take, drop, map, sym, ap, ◌∙◌, append_assoc, add-one, Some}
-use Rattle.std.proofs.lemmas.List.{append-nil, drop_all, map_push, take_all}
+use Rattle.std.proofs.lemmas.List.{drop_all, map_push, take_all}
 use Rattle.std.proofs.lemmas.Option.{same_Some}
 use mathlib.Core.Path.{Path}
 use Rattle.atomic_table.specs.Table.{rest, turned}
@@ -21,9 +21,6 @@ take_next (k ∷ ks) (suc j) b e = ap (λ xs. k ∷ xs) (take_next ks j b e)
 module _ {S : Type 0} (g h : ℕ → ℕ × S) (z : List (ℕ × S)) where
   abbrev pub midway : List ℕ → ℕ → List (ℕ × S)
   midway ks j = map g (drop j ks) ++ (z ++ map h (take j ks))
-
-  pub at_start : (ks : List ℕ) → map g ks ++ z ≡ midway ks 0
-  at_start ks = ap (λ xs. map g ks ++ xs) (sym (append-nil z))
 
   pub at_end : (ks : List ℕ) (j : ℕ) → length ks ≤ j → midway ks j ≡ z ++ map h ks
   at_end ks j over = ap (λ xs. map g xs ++ (z ++ map h (take j ks))) (drop_all j ks over) ∙ ap (λ xs. z ++ map h xs) (take_all j ks over)

@@ -1,6 +1,6 @@
 -- What a pass has with it for a transfer and for a gather, and what it brings home.
 use Rattle.std.specs.Prelude.{nat_lt}
-use Rattle.std.proofs.Common.{◌≡◌, ◌≢◌, ℕ, suc, ◌+◌, ◌-◌, ◌*◌, ◌<◌, ◌≤◌, Bool, true, false, cond, List, [], ◌∷◌, length, map, refl, sym, ap, ◌∙◌, subst, lt_of_not-le, arith, None, Some}
+use Rattle.std.proofs.Common.{◌≡◌, ℕ, suc, ◌+◌, ◌-◌, ◌<◌, ◌≤◌, Bool, true, false, cond, List, [], ◌∷◌, length, map, refl, sym, ap, ◌∙◌, subst, lt_of_not-le, arith, Some}
 use Rattle.std.proofs.lemmas.Bool.Decides.{nat_tests}
 use mathlib.Core.Logic.{dite}
 use native.Mathlib.Decide.{dec_le}
@@ -15,13 +15,12 @@ use Rattle.cell_stages.specs.declared.mail.Mail as mail
 use Rattle.node_transfer.specs.Halves.{IsHalf, leaving_cell, left_mail, links_by, links_of, taken_mail, taking_cell}
 use Rattle.node_transfer.specs.declared.half.Half.{Half}
 use Rattle.node_transfer.specs.declared.half.HalfStep.{HalfStep}
-use Rattle.claim_core.specs.Kinds.{half_by, kind_by}
-use Rattle.claim_core.specs.declared.units.UnitKind.TheVariants as kind
+use Rattle.claim_core.specs.Kinds.{half_by}
 use Rattle.claim_core.specs.Parts.{moves, stage_before}
 use Rattle.claim_core.specs.Sums.{one_if, times}
 use Rattle.claim_core.proofs.Parts.{in_task, ins_past, mail_of, outs_past}
 use Rattle.claim_core.proofs.Sums.{at_self}
-use Rattle.claim_core.proofs.Working.{IsOfNode, cell_left, cell_taken, half_node, half_stage, half_step, half_task, half_work, mail_left, mail_taken, moves_by, no_half}
+use Rattle.claim_core.proofs.Working.{IsOfNode, cell_left, cell_taken, half_node, half_stage, half_step, half_task, half_work, mail_left, mail_taken, moves_by}
 use Rattle.phase_claims.specs.declared.part.Part.{Part}
 use Rattle.phase_claims.specs.declared.part.Part.TheVariants.{Cell, Mail, Writer}
 use Rattle.phase_claims.specs.declared.view.Scope.{Scope}
@@ -158,7 +157,3 @@ module _ (k k' : Scope) (q : Plan) (same : k ≡ k') (plan : q ≡ k.plan) (soun
   half_brings xs e =
       e ∙ ap (λ (x : Plan). node_places x h.node.0 (leaving_cell x h away) (left_mail x h) (links_of x h)) plan
       ∙ sym (half_brought k sound u few_here h half_here) ∙ ap (λ (j : Scope). brought j u) same
-
--- a unit that isn't a posting is a half of a node's step
-pub is_half_step : (t : ℕ) (task : Task) → kind_by task ≢ kind.Posting → half_by t task ≡ None → ⊥
-is_half_step t task other none = other (ap kind_by (no_half t task none))

@@ -15,13 +15,13 @@ use Rattle.claim_core.specs.Sums.{below, is_at, once_below, one_if, times, total
 use Rattle.claim_core.proofs.Claimed.{draw, finish, finished_le, none_held, open_now}
 use Rattle.claim_core.proofs.Cuts.{below_same}
 use Rattle.claim_core.proofs.Phases.{lt_stop, same_start, same_stop, start_le}
-use Rattle.claim_core.proofs.Sums.{at_self, below_at_le, below_plus, full, total-append, total_at, total_le, total_only, total_set, total_snoc}
+use Rattle.claim_core.proofs.Sums.{at_self, below_at_le, below_plus, full, once_here, once_in, total-append, total_at, total_le, total_only, total_set, total_snoc}
 use Rattle.phase_claims.specs.declared.view.Scope.{Scope}
 use Rattle.phase_claims.specs.declared.view.View.{View}
 use Rattle.phase_claims.specs.Passes.{holds_no_unit}
 use Rattle.phase_claims.specs.Running.{FitsPast, FitsView, Running}
 use Rattle.phase_claims.specs.Views.{beginning, both_stages, ended, held_by, holding, holds, joined, less_spare, nobody, performed_by, performed_count, performs, rights, seeing}
-use Rattle.phase_claims.proofs.Counts.{claimed_same, each_set, holds_held, holds_none, holds_open, none_both, not_open, once_here, once_in}
+use Rattle.phase_claims.proofs.Counts.{claimed_same, each_set, holds_held, holds_none, holds_open, none_both, not_open}
 
 module _ (k : Scope) (w n : ℕ) (views : List View) (r : Running k w n views) where
   abbrev N : ℕ

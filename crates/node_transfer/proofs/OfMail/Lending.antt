@@ -1,12 +1,11 @@
 -- One round of a loop over the places of a node's links: the next place, its link, and the mail of it.
-use Rattle.std.specs.Prelude.{slice_get, slice_set, option_map}
-use Rattle.std.proofs.Common.{◌≡◌, ℕ, ◌+◌, ◌<◌, ◌≤◌, List, length, refl, ap, ◌∙◌, arith, Option, None, Some, take, get_or}
-use Rattle.std.proofs.lemmas.Option.{slice_get-get_or, slice_get_within}
+use Rattle.std.specs.Prelude.{slice_get, slice_set}
+use Rattle.std.proofs.Common.{◌≡◌, ℕ, ◌+◌, ◌<◌, ◌≤◌, List, length, ap, ◌∙◌, arith, Option, Some, take, get_or}
+use Rattle.std.proofs.lemmas.Option.{slice_get-get_or}
 use Rattle.net_core.specs.Network.{as_links}
 use Rattle.net_core.specs.declared.rows.LinkNo.{LinkNo}
 use Rattle.dta_model.specs.declared.plan.Plan.{Plan}
 use Rattle.cell_stages.specs.CellState.{CellState}
-use Rattle.node_transfer.specs.Places.{in_mail, mail_of_in, mail_of_out, out_mail}
 use Rattle.cell_stages.specs.Contents.{away}
 use Rattle.node_transfer.specs.Exchange.{AreMail, ArePut, ChangesOnly}
 use Rattle.cell_stages.specs.declared.mail.Mail.{Mail}
@@ -21,19 +20,6 @@ abbrev pub link_of : List LinkNo → ℕ → ℕ
 link_of ls j = (get_or ls j (record { 0 = 0 })).0
 
 -- a place whose mail is known is there
-some-place : {X : Type 0} (f : X → Mail) (xs : List X) (j : ℕ) (m : Mail) → option_map f (slice_get xs j) ≡ Some m → j < length xs
-some-place f xs j m e = by_found (slice_get xs j) refl e
-  where
-    by_found : (o : Option _) → slice_get xs j ≡ o → option_map f o ≡ Some m → j < length xs
-    by_found None got e = cc
-    by_found (Some x) got e = slice_get_within xs j x got
-
-pub out-there : (c : CellState) (j : ℕ) (m : Mail) → out_mail j c ≡ Some m → j < length c.outs
-out-there c j m e = some-place mail_of_out c.outs j m e
-
-pub in-there : (c : CellState) (j : ℕ) (m : Mail) → in_mail j c ≡ Some m → j < length c.ins
-in-there c j m e = some-place mail_of_in c.ins j m e
-
 module _ {p : Plan} {n : ℕ} {ends : ℕ → ℕ} {links : List ℕ} {cell : (ℕ → Mail) → CellState} {put : ℕ → Mail → CellState → CellState} {told : ℕ → CellState → Option Mail}
     (made : IsMadeOf p n ends links cell put told) (F : ℕ → Mail) (ls : List LinkNo) (are : ls ≡ as_links links) (j : ℕ) where
   pub at-place : j < length ls → slice_get links j ≡ Some (link_of ls j)

@@ -33,9 +33,6 @@ among-links (x ∷ xs) (suc j) b e = or_true (nat_eq x b) (is_among xs b) (among
     or_true false d h = h
 
 -- changes of mail
-pub none-changed : (links : List ℕ) (mail : List Mail) → ChangesOnly (take 0 links) mail mail
-none-changed links mail = record { count = refl; others = λ l not_in. refl }
-
 pub same-mail : (links : List ℕ) (j b : ℕ) (old mid : List Mail) → slice_get links j ≡ Some b → ChangesOnly (take j links) old mid → ChangesOnly (take (suc j) links) old mid
 same-mail links j b old mid e f = record { count = f.count; others = λ l not_in. f.others l (sym (among-other links j b l e (not-among links j b l e not_in)) ∙ not_in) }
 
@@ -45,17 +42,11 @@ set-mail links j b m old mid e f = record {
   others = λ l not_in. set-other mid b l m (not-among links j b l e not_in) ∙ f.others l (sym (among-other links j b l e (not-among links j b l e not_in)) ∙ not_in);
 }
 
-pub all-changed : (links : List ℕ) (j : ℕ) (old new : List Mail) → length links ≤ j → ChangesOnly (take j links) old new → ChangesOnly links old new
-all-changed links j old new over f = subst (λ xs. ChangesOnly xs old new) (take-all links j over) f
-
 pub changed-again : (links : List ℕ) (old mid new : List Mail) → ChangesOnly links old mid → ChangesOnly links mid new → ChangesOnly links old new
 changed-again links old mid new f g = record { count = g.count ∙ f.count; others = λ l not_in. g.others l not_in ∙ f.others l not_in }
 
 -- mail that is put by a rule
 module _ (rule : ℕ → Mail) (links : List ℕ) where
-  pub none-put : (mail : List Mail) → ArePut rule (take 0 links) mail mail
-  none-put mail = record { own = λ l is_in. cc; others = none-changed links mail }
-
   pub put-next : (j b : ℕ) (m : Mail) (old mid : List Mail) → slice_get links j ≡ Some b → b < length mid → m ≡ rule b
       → ArePut rule (take j links) old mid → ArePut rule (take (j + 1) links) old (slice_set mid b m)
   put-next j b m old mid e inside is f =
