@@ -4,8 +4,8 @@ use Rattle.fixed_units.specs.Quantity.{number}
 use Rattle.row_reader.specs.Fields.{identifier}
 use Rattle.row_reader.specs.OnLiterals.{tables_on_literals}
 use Rattle.route_flows.specs.StartTable.{ids_in}
-use Rattle.audit.specs.Agents.{agent_places, agent_row_of, optional_identifier}
+use Rattle.audit.specs.Agents.{agent_row_of, optional_identifier}
 
 unfoldable pub agents_on_literals : ⊤
-unfolding tables_on_literals number identifier ids_in agent_places agent_row_of optional_identifier
+unfolding tables_on_literals number identifier ids_in agent_row_of optional_identifier
 agents_on_literals = tt

@@ -1,10 +1,14 @@
-// The rows of a demand table that was accepted.
-ghost use Rattle.std.specs.Prelude.{◌≡◌, ◌+◌, ◌<◌, ◌≤◌, ◌++◌, ◌∷◌, [], length, OnOk};
-ghost use Rattle.fixed_units.specs.declared.quantity.TheConstants.{MOST_THOUSANDTHS};
-ghost use Rattle.demand.specs.DemandRows.{AreDemandCells};
-ghost use Rattle.demand.specs.declared.demand_rows.TheConstants.{FIRST_LINE, MOST_DEMAND_CELLS};
+// Demand tables.
+ghost use Rattle.std.specs.Prelude.{◌≡◌, [], Ok, Err, IfOk, IfErr};
+ghost use Rattle.row_reader.specs.FirstFault.{Tells};
+ghost use Rattle.row_reader.specs.Records.{records};
+ghost use Rattle.demand.specs.DemandRows.{AreDemandCells, IsNextCell, demand_cell_of};
+ghost use Rattle.demand.specs.DemandRows.{demand_verdict};
+ghost use Rattle.demand.specs.declared.demand_rows.TheConstants.{MOST_DEMAND_CELLS};
 
+use desk_io::Table;
 use dta_model::DemandCell;
+use row_reader::{Accepted, Column, Fields, RowRefusal, TableRefusal, read_rows};
 use std::alloc::{AllocError, Global};
 use std::marker::Model;
 
@@ -14,9 +18,9 @@ pub const MOST_DEMAND_CELLS: usize = 4_000_000;
 // The line of the first row: the header is line 1.
 pub(crate) const FIRST_LINE: u64 = 2;
 
-// The demand cells of a table, in its order, each with its line.
+// The demand cells of a table that is being read, in its order, each with its line.
 #[derive(Drop)]
-pub(crate) struct DemandRows {
+struct DemandRows {
     items: Vec<DemandCell>,
 }
 
@@ -34,7 +38,7 @@ impl Model for DemandRows {
 
 impl DemandRows {
     // No demand cells yet.
-    pub(crate) fn new(alloc: Global) -> Self
+    fn new(alloc: Global) -> Self
         ensures { result ≡ [] }
     {
         DemandRows {
@@ -43,30 +47,67 @@ impl DemandRows {
     }
 
     // The demand cells.
-    pub(crate) fn as_slice(&self) -> &[DemandCell]
-        ensures cells { result.now ≡ self.now }
-        ensures sound { AreDemandCells self.now }
-    {
-        &self.items
-    }
-
-    // The demand cells.
-    pub(crate) fn into_vec(self) -> Vec<DemandCell>
+    fn into_vec(self) -> Vec<DemandCell>
         ensures cells { result.items ≡ self }
         ensures sound { AreDemandCells self }
     {
         self.items
     }
+}
 
-    // Adds a demand cell of the line below the others, as the last one.
+impl Accepted for DemandRows {
+    type Item = DemandCell;
+
+    ghost limit = { MOST_DEMAND_CELLS };
+
+    ghost rows = { λ cells. cells };
+
+    ghost checks = { λ _. demand_cell_of };
+
+    ghost fits = { IsNextCell };
+
+    fn most(&self) -> usize {
+        MOST_DEMAND_CELLS
+    }
+
+    #[tactic(auto, unfolding(crate::specs::DemandRows::demand_cell_of))]
+    fn row(&self, fields: &Fields<'_>) -> Result<DemandCell, RowRefusal> {
+        let origin = fields.identifier(Column::OZoneId)?;
+        let destination = fields.identifier(Column::DZoneId)?;
+        let volume = fields.quantity(Column::Volume)?;
+        Ok(DemandCell {
+            line: fields.line(),
+            origin,
+            destination,
+            volume,
+        })
+    }
+
     #[tactic(auto, using(crate::proofs::DemandFacts::one_demand_cell_more))]
-    pub(crate) fn push(&mut self, cell: DemandCell) -> Result<(), AllocError>
-        requires line { cell.line ≡ length self.old + FIRST_LINE }
-        requires volume { cell.volume ≤ MOST_THOUSANDTHS }
-        requires room { length self.old < MOST_DEMAND_CELLS }
-        ensures { OnOk result (self.new ≡ self.old ++ cell ∷ []) }
-    {
+    fn push(&mut self, cell: DemandCell) -> Result<(), AllocError> {
         self.items.push(cell)?;
         Ok(())
     }
+}
+
+/// Reads a demand table: the columns `o_zone_id` and `d_zone_id`, the identifiers of the zones
+/// where vehicles start and end, and `volume`, the vehicles in the period, of which a demand cell
+/// has thousandths. A zone may be one that the network doesn't have, and each demand cell keeps its
+/// line. The columns are this project's own. The refusal is the table's first fault, or want of
+/// memory.
+pub fn read_demand(alloc: Global, text: &[u8]) -> Result<Vec<DemandCell>, TableRefusal>
+    ensures cells { IfOk result (λ cells. demand_verdict (records text.now) ≡ Ok cells.items) }
+    ensures refused { IfErr result (λ refusal.
+        Tells (demand_verdict (records text.now)) (Err refusal)) }
+    ensures sound { IfOk result (λ cells. AreDemandCells cells.items) }
+{
+    let required = [Column::OZoneId, Column::DZoneId, Column::Volume];
+    let rows = read_rows(
+        alloc,
+        Table::Demand,
+        &required,
+        text,
+        DemandRows::new(alloc),
+    )?;
+    Ok(rows.into_vec())
 }

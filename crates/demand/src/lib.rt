@@ -7,7 +7,5 @@
 #![tactic(auto)]
 
 mod demand_rows;
-mod demand_table;
 
-pub use demand_rows::MOST_DEMAND_CELLS;
-pub use demand_table::read_demand;
+pub use demand_rows::{MOST_DEMAND_CELLS, read_demand};

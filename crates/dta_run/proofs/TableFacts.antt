@@ -9,9 +9,11 @@ use Rattle.desk_io.specs.Desk.{Left}
 use Rattle.desk_io.specs.Transfers.{IsRead}
 use Rattle.row_reader.specs.Records.{Record, is_text, records}
 use Rattle.row_reader.specs.Faults.{fault_of}
-use Rattle.row_reader.specs.Fields.{complain}
-use Rattle.row_reader.specs.FirstFault.{Judge, Tells, at_line, judged, rows_from, then_with, verdict}
+use Rattle.row_reader.specs.Fields.{complain, has_columns, then_with}
+use Rattle.row_reader.specs.FirstFault.{Checks, Judge, Tells, at_line, judged, rows_from, verdict}
 use Rattle.row_reader.specs.declared.faults.Code.TheVariants.{E2, E13}
+use Rattle.row_reader.specs.declared.faults.Column.{Column}
+use Rattle.row_reader.specs.declared.faults.Column.TheVariants as column
 use Rattle.row_reader.specs.declared.faults.Column.TheVariants.{NoColumn}
 use Rattle.row_reader.specs.declared.faults.Complaint.{Complaint}
 use Rattle.row_reader.specs.declared.faults.TableFault.{TableFault}
@@ -23,18 +25,18 @@ use Rattle.net_core.specs.declared.rows.NodeRow.{NodeRow}
 use Rattle.net_core.specs.declared.rows.TurnRow.{TurnRow}
 use Rattle.dta_model.specs.declared.trip.DemandCell.{DemandCell}
 use Rattle.net_core.specs.declared.rows.TheConstants.{MOST_LINKS, MOST_NODES, MOST_TURNS}
-use Rattle.gmns_tables.specs.Links.{link_of, link_places, link_verdict}
-use Rattle.gmns_tables.specs.Movements.{movement_of, movement_places}
+use Rattle.gmns_tables.specs.Links.{link_columns, link_of, link_verdict}
+use Rattle.gmns_tables.specs.Movements.{movement_columns, movement_of}
 use Rattle.gmns_tables.specs.Net.{listed_turns, net_rows}
 use Rattle.gmns_tables.specs.RowsWithWindows.{AreLinkRows, AreTurnRows, rows_of}
 use Rattle.std.proofs.lemmas.List.{length-map}
 use Rattle.net_core.specs.Network.{IsNet}
 use Rattle.net_core.specs.Rows.{AreNodes, IsBetween, IsTurning}
 use Rattle.gmns_tables.specs.declared.with_windows.WithWindows.{WithWindows}
-use Rattle.gmns_tables.specs.Nodes.{node_of, node_places, node_verdict}
-use Rattle.demand.specs.DemandRows.{demand_cell_of, demand_places, demand_verdict}
-use Rattle.route_flows.specs.StartTable.{start_places, start_row_of, start_verdict}
-use Rattle.audit.specs.Agents.{agent_places, agent_row_of, agents_verdict}
+use Rattle.gmns_tables.specs.Nodes.{node_of, node_verdict}
+use Rattle.demand.specs.DemandRows.{demand_cell_of, demand_columns, demand_verdict}
+use Rattle.route_flows.specs.StartTable.{start_columns, start_row_of, start_verdict}
+use Rattle.audit.specs.Agents.{agent_columns, agent_row_of, agents_verdict}
 use Rattle.audit.specs.declared.agent_rows.AgentRow.{AgentRow}
 use Rattle.audit.specs.declared.agent_rows.TheConstants.{MOST_AGENT_ROWS}
 use Rattle.dta_words.specs.declared.command.Command.{Command}
@@ -46,7 +48,7 @@ use Rattle.desk_io.specs.declared.transfers.TheConstants.{MOST_TABLE_BYTES}
 use Rattle.dta_run.specs.Outcome.{DeskState}
 use Rattle.dta_run.specs.Stops.{StopsAt, stop_of}
 use Rattle.dta_run.specs.Calls.{rows_in_roads, rows_with_turns, with_agent_rows, with_demand_cells, with_start_rows, with_time_rows}
-use Rattle.skims.specs.TimesTable.{none_missing, row_count, time_row_of, times_places, times_verdict}
+use Rattle.skims.specs.TimesTable.{none_missing, row_count, time_row_of, times_columns, times_verdict}
 use Rattle.skims.specs.declared.times_table.TheConstants.{MOST_TIME_ROWS}
 use Rattle.skims.specs.declared.time_rows.TimeRow.{TimeRow}
 use Rattle.dta_run.specs.Tables.{IsAccepted, TableRows, net_of, no_rows, road_rows, turns_of, with_agents, with_table}
@@ -65,13 +67,13 @@ rows-table t judge before [] f e = absurd cc
 rows-table t judge before (r ∷ rest) f e =
     then-table t (length before + 2) (judge before r) _ f (λ row g h. rows-table t judge (before ++ row ∷ []) rest g h) e
 
-pub verdict-table : {P R : Type 0} (t : Table) (limit : ℕ) (places : Record → Result P Complaint) (columns : P → Judge R) (all : List Record) (f : TableFault)
-    → verdict t limit places columns all ≡ Err f → f.table ≡ t
+pub verdict-table : {R : Type 0} (t : Table) (limit : ℕ) (required : List Column) (checks : Checks R) (all : List Record) (f : TableFault)
+    → verdict t limit required checks all ≡ Err f → f.table ≡ t
 unfolding verdict
-verdict-table t limit places columns [] f e = then-table t 1 (places []) _ f (λ p g h. rows-table t (judged [] limit (columns p)) [] [] g h) e
-verdict-table t limit places columns (header ∷ rest) f e =
+verdict-table t limit required checks [] f e = then-table t 1 (has_columns [] required) _ f (λ _ g h. rows-table t (judged [] limit checks) [] [] g h) e
+verdict-table t limit required checks (header ∷ rest) f e =
     elim (is_text header) as (λ b. is_text header ≡ b → f.table ≡ t) [
-      | true ↦ λ b. then-table t 1 (places header) _ f (λ p g h. rows-table t (judged header limit (columns p)) [] rest g h) (rw b at e)
+      | true ↦ λ b. then-table t 1 (has_columns header required) _ f (λ _ g h. rows-table t (judged header limit checks) [] rest g h) (rw b at e)
       | false ↦ λ b. let k = rw b at e in let s : fault_of t 1 (complain E2 NoColumn) ≡ f = cc in ap (λ (g : TableFault). g.table) (sym s)
     ] refl
 
@@ -91,19 +93,19 @@ stop-at settings t rows bytes before after refusal.Memory read short told = reco
 nodes-told : (settings : Settings) (rows : TableRows) (bytes : List ℕ) (why : TableRefusal) → Tells (node_verdict (records bytes)) (Err why)
     → IsToldBy settings table.Node rows bytes why
 nodes-told settings rows bytes (refusal.Fault f) told =
-    (rw (told) refl, verdict-table table.Node MOST_NODES node_places node_of (records bytes) f told)
+    (rw (told) refl, verdict-table table.Node MOST_NODES (column.NodeId ∷ []) node_of (records bytes) f told)
 nodes-told settings rows bytes refusal.Memory told = tt
 
 links-told : (settings : Settings) (rows : TableRows) (bytes : List ℕ) (why : TableRefusal) → Tells (link_verdict rows.nodes settings.units (records bytes)) (Err why)
     → IsToldBy settings table.Link rows bytes why
 links-told settings rows bytes (refusal.Fault f) told =
-    (rw (told) refl, verdict-table table.Link MOST_LINKS link_places (link_of rows.nodes settings.units) (records bytes) f told)
+    (rw (told) refl, verdict-table table.Link MOST_LINKS link_columns (link_of rows.nodes settings.units) (records bytes) f told)
 links-told settings rows bytes refusal.Memory told = tt
 
 turns-table : (settings : Settings) (rows : TableRows) (bytes : List ℕ) (f : TableFault) → turns_of settings rows bytes ≡ Err f → f.table ≡ table.Movement
 turns-table settings rows [] f told = absurd cc
 turns-table settings rows (b ∷ bytes) f told =
-    verdict-table table.Movement MOST_TURNS movement_places (movement_of rows.nodes (rows_of rows.links) settings.units) (records (b ∷ bytes)) f told
+    verdict-table table.Movement MOST_TURNS movement_columns (movement_of rows.nodes (rows_of rows.links) settings.units) (records (b ∷ bytes)) f told
 
 turns-told : (settings : Settings) (rows : TableRows) (bytes : List ℕ) (why : TableRefusal) → Tells (turns_of settings rows bytes) (Err why)
     → IsToldBy settings table.Movement rows bytes why
@@ -113,7 +115,7 @@ turns-told settings rows bytes refusal.Memory told = tt
 demand_cells-told : (settings : Settings) (rows : TableRows) (bytes : List ℕ) (why : TableRefusal) → Tells (demand_verdict (records bytes)) (Err why)
     → IsToldBy settings table.Demand rows bytes why
 demand_cells-told settings rows bytes (refusal.Fault f) told =
-    (rw (told) refl, verdict-table table.Demand MOST_DEMAND_CELLS demand_places demand_cell_of (records bytes) f told)
+    (rw (told) refl, verdict-table table.Demand MOST_DEMAND_CELLS demand_columns demand_cell_of (records bytes) f told)
 demand_cells-told settings rows bytes refusal.Memory told = tt
 
 -- what a start table of an assignment gives, and the agent table of an audit
@@ -128,13 +130,13 @@ agents-with settings rows bytes asks = ap (λ (c : Command). with_agents c rows 
 start-told : (settings : Settings) (rows : TableRows) (bytes : List ℕ) (why : TableRefusal) → settings.command ≡ command.Assign
     → Tells (start_verdict (records bytes)) (Err why) → IsToldBy settings table.Start rows bytes why
 start-told settings rows bytes (refusal.Fault f) asks told =
-    (start-with settings rows bytes asks ∙ (rw (told) refl), verdict-table table.Start MOST_START_ROWS start_places start_row_of (records bytes) f told)
+    (start-with settings rows bytes asks ∙ (rw (told) refl), verdict-table table.Start MOST_START_ROWS start_columns start_row_of (records bytes) f told)
 start-told settings rows bytes refusal.Memory asks told = tt
 
 agents-told : (settings : Settings) (rows : TableRows) (bytes : List ℕ) (why : TableRefusal) → settings.command ≡ command.Audit
     → Tells (agents_verdict (records bytes)) (Err why) → IsToldBy settings table.Start rows bytes why
 agents-told settings rows bytes (refusal.Fault f) asks told =
-    (agents-with settings rows bytes asks ∙ (rw (told) refl), verdict-table table.Start MOST_AGENT_ROWS agent_places agent_row_of (records bytes) f told)
+    (agents-with settings rows bytes asks ∙ (rw (told) refl), verdict-table table.Start MOST_AGENT_ROWS agent_columns agent_row_of (records bytes) f told)
 agents-told settings rows bytes refusal.Memory asks told = tt
 
 -- the fault of missing link times, and of those that are there
@@ -150,7 +152,7 @@ missing-table n (Ok rows) f own e =
 times-table : (net : NetRows) (bucket horizon : ℕ) (all : List Record) (f : TableFault) → times_verdict net bucket horizon all ≡ Err f → f.table ≡ table.Times
 times-table net bucket horizon all f told =
     missing-table (row_count net bucket horizon) _ f
-    (λ g e. verdict-table table.Times MOST_TIME_ROWS times_places (time_row_of net bucket horizon) all g e) told
+    (λ g e. verdict-table table.Times MOST_TIME_ROWS times_columns (time_row_of net bucket horizon) all g e) told
 
 times-told : (settings : Settings) (rows : TableRows) (bytes : List ℕ) (why : TableRefusal)
     → Tells (times_verdict (net_of rows) settings.bucket settings.horizon (records bytes)) (Err why) → IsToldBy settings table.Times rows bytes why

@@ -5,7 +5,7 @@ use Rattle.desk_io.specs.declared.desk.Table.{Table}
 use Rattle.desk_io.specs.declared.desk.Table.TheVariants as table
 use Rattle.desk_io.specs.Desk.{Left, left_of}
 use Rattle.desk_io.specs.Transfers.{IsRead}
-use Rattle.row_reader.specs.FirstFault.{then_with}
+use Rattle.row_reader.specs.Fields.{then_with}
 use Rattle.row_reader.specs.Records.{records}
 use Rattle.row_reader.specs.declared.faults.TableFault.{TableFault}
 use Rattle.net_core.specs.declared.rows.LinkRow.{LinkRow}

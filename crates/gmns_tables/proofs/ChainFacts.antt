@@ -3,21 +3,11 @@ use Rattle.std.proofs.Common.{◌≡◌, ℕ, ◌<◌, List, length, refl, ap, a
 use Rattle.std.specs.Prelude.{Option, None, Some, Result, Ok, Err, IfOk, option_map, ⊤}
 use Rattle.std.proofs.lemmas.List.Quantifiers.{position-Some}
 use Rattle.std.proofs.lemmas.Option.{same_Some}
-use Rattle.row_reader.specs.Fields.{unless}
-use Rattle.row_reader.specs.FirstFault.{then_with}
+use Rattle.row_reader.specs.Fields.{then_with, unless}
 use Rattle.row_reader.specs.declared.faults.Code.{Code}
 use Rattle.row_reader.specs.declared.faults.Column.{Column}
 use Rattle.net_core.specs.Ids.{place_of}
 use Rattle.gmns_tables.specs.Names.{found}
-
--- a chain that goes on with the value of a check
-pub passes : {A B C : Type 0} (Q : B → Type 0) (r : Result A C) (f : A → Result B C) → ((x : A) → r ≡ Ok x → IfOk (f x) Q) → IfOk (then_with r f) Q
-passes Q (Ok x) f h = h x refl
-passes Q (Err c) f h = tt
-
--- what holds of the value of a check holds of the value that it gave
-pub if_ok : {A C : Type 0} (Q : A → Type 0) {r : Result A C} {x : A} → r ≡ Ok x → IfOk r Q → Q x
-if_ok Q e h = rw e at h
 
 -- what must not hold doesn't
 pub unless-ok : (fails : Bool) (why : Code) (what : Column) {x : ⊤} → unless fails why what ≡ Ok x → fails ≡ false

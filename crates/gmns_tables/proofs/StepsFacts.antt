@@ -13,7 +13,7 @@ use Rattle.fixed_units.specs.declared.fault.NumberFault.{NumberFault}
 use Rattle.fixed_units.specs.declared.fault.NumberFault.TheVariants.{OutOfRange}
 use Rattle.fixed_units.specs.declared.identifier.TheConstants.{GREATEST_IDENTIFIER}
 use Rattle.fixed_units.proofs.Splits.{is_identifier-joined, whole_part-joined}
-use Rattle.row_reader.specs.FirstFault.{then_with}
+use Rattle.row_reader.specs.Fields.{then_with}
 use Rattle.row_reader.specs.Fields.{complain}
 use Rattle.row_reader.specs.declared.faults.Code.TheVariants as code
 use Rattle.row_reader.specs.declared.faults.Column.TheVariants as column

@@ -1,5 +1,4 @@
 pub mod Names
-pub mod Tells
 pub mod RowsWithWindows
 pub mod Windows
 pub mod Nodes

@@ -1,13 +1,13 @@
 -- The rows of a movement table.
-use Rattle.std.specs.Prelude.{ℕ, Bool, not, nat_eq, List, Some, is_some, option_map, Result, Ok}
+use Rattle.std.specs.Prelude.{ℕ, Bool, not, nat_eq, List, [], ◌∷◌, is_some, option_map, Result, Ok}
 use Rattle.fixed_units.specs.Units.{penalty_steps_of, turn_rate_of}
 use Rattle.fixed_units.specs.declared.turn.TheConstants.{MOST_PENALTY}
 use Rattle.desk_io.specs.declared.desk.Table.TheVariants as table
 use Rattle.row_reader.specs.Records.{Record}
-use Rattle.row_reader.specs.Columns.{field_in}
-use Rattle.row_reader.specs.FirstFault.{then_with, verdict}
-use Rattle.row_reader.specs.Fields.{optional_column, optional_quantity, quantity_or}
-use Rattle.row_reader.specs.Fields.{required_column, unless, within}
+use Rattle.row_reader.specs.Columns.{text}
+use Rattle.row_reader.specs.FirstFault.{Checks, verdict}
+use Rattle.row_reader.specs.Fields.{optional_quantity, quantity_or, then_with, unless, within}
+use Rattle.row_reader.specs.declared.faults.Column.{Column}
 use Rattle.row_reader.specs.declared.faults.Code.TheVariants as code
 use Rattle.row_reader.specs.declared.faults.Column.TheVariants as column
 use Rattle.row_reader.specs.declared.faults.Complaint.{Complaint}
@@ -26,23 +26,11 @@ use Rattle.gmns_tables.specs.Windows.{windows_by_step}
 use Rattle.gmns_tables.specs.declared.windows.WindowsOf.TheVariants.{Turn}
 use Rattle.gmns_tables.specs.declared.with_windows.WithWindows.{WithWindows}
 use Rattle.gmns_tables.specs.declared.movement_table.TheConstants.{DEFAULT_PENALTY}
-use Rattle.gmns_tables.specs.declared.movement_table.MovementPlaces.{MovementPlaces}
 use Rattle.fixed_units.specs.declared.units.Units.{Units}
 
--- the columns of a movement table, or the first required one that is missing
-unfoldable pub movement_places : Record → Result MovementPlaces Complaint
-movement_places header =
-    then_with (required_column header column.NodeId) (λ node.
-    then_with (required_column header column.IbLinkId) (λ from.
-    then_with (required_column header column.ObLinkId) (λ to.
-    Ok (record {
-      node = node;
-      from = from;
-      to = to;
-      penalty = optional_column header column.Penalty;
-      capacity = optional_column header column.Capacity;
-      by_step = optional_column header column.CapacityByStep;
-    }))))
+-- the columns that a movement table must have
+abbrev pub movement_columns : List Column
+movement_columns = column.NodeId ∷ column.IbLinkId ∷ column.ObLinkId ∷ []
 
 -- whether a link ends, or begins, at a node
 abbrev pub ends_at : List LinkRow → LinkNo → NodeNo → Bool
@@ -57,39 +45,32 @@ penalty_of text =
     then_with (quantity_or DEFAULT_PENALTY column.Penalty text)
     (within column.Penalty 0 MOST_PENALTY)
 
--- the turn of a record after the turns before it, without its windows, or the first check that
--- fails
-unfoldable pub turn_row_of :
-    List NodeRow → List LinkRow → Units → MovementPlaces → List TurnRow → Record
-    → Result TurnRow Complaint
-turn_row_of nodes links units places before r =
-    then_with (known_node nodes column.NodeId (field_in r (Some places.node))) (λ node.
-    then_with (known_link links column.IbLinkId (field_in r (Some places.from))) (λ a.
-    then_with (unless (not (ends_at links a node)) code.E9 column.IbLinkId) (λ _.
-    then_with (known_link links column.ObLinkId (field_in r (Some places.to))) (λ b.
-    then_with (unless (not (begins_at links b node)) code.E9 column.ObLinkId) (λ _.
-    then_with
-    (unless (is_some (place_of_pair (turn_pairs before) a.0 b.0)) code.E6 column.ObLinkId) (λ _.
-    then_with (penalty_of (field_in r places.penalty)) (λ penalty.
-    then_with (optional_quantity column.Capacity (field_in r places.capacity)) (λ capacity.
-    Ok (record {
-      a = a;
-      b = b;
-      penalty = penalty_steps_of penalty units.delta;
-      rate = option_map turn_rate_of capacity;
-    })))))))))
-
 -- the turn of a record after the turns before it, and its windows, or the first check that fails
 unfoldable pub movement_of :
-    List NodeRow → List LinkRow → Units → MovementPlaces → List (WithWindows TurnRow) → Record
-    → Result (WithWindows TurnRow) Complaint
-movement_of nodes links units places before r =
-    then_with (turn_row_of nodes links units places (rows_of before) r) (λ row.
-    then_with (windows_by_step Turn (field_in r places.by_step)) (λ windows.
-    Ok (record { row = row; windows = windows })))
+    List NodeRow → List LinkRow → Units → Checks (WithWindows TurnRow)
+movement_of nodes links units before r =
+    then_with (known_node nodes column.NodeId (text r column.NodeId)) (λ node.
+    then_with (known_link links column.IbLinkId (text r column.IbLinkId)) (λ a.
+    then_with (unless (not (ends_at links a node)) code.E9 column.IbLinkId) (λ _.
+    then_with (known_link links column.ObLinkId (text r column.ObLinkId)) (λ b.
+    then_with (unless (not (begins_at links b node)) code.E9 column.ObLinkId) (λ _.
+    then_with (unless (is_some (place_of_pair (turn_pairs (rows_of before)) a.0 b.0)) code.E6
+    column.ObLinkId) (λ _.
+    then_with (penalty_of (text r column.Penalty)) (λ penalty.
+    then_with (optional_quantity column.Capacity (text r column.Capacity)) (λ capacity.
+    then_with (windows_by_step Turn (text r column.CapacityByStep)) (λ windows.
+    Ok (record {
+      row = record {
+        a = a;
+        b = b;
+        penalty = penalty_steps_of penalty units.delta;
+        rate = option_map turn_rate_of capacity;
+      };
+      windows = windows;
+    }))))))))))
 
 -- a movement table's rows over these nodes and links, or its first fault
 abbrev pub movement_verdict : List NodeRow → List LinkRow → Units → List Record
     → Result (List (WithWindows TurnRow)) TableFault
 movement_verdict nodes links units records =
-    verdict table.Movement MOST_TURNS movement_places (movement_of nodes links units) records
+    verdict table.Movement MOST_TURNS movement_columns (movement_of nodes links units) records

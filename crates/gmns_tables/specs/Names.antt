@@ -1,7 +1,6 @@
 -- Fields that name a node or a link.
 use Rattle.std.specs.Prelude.{ℕ, List, Option, None, Some, Result, Ok, Err}
-use Rattle.row_reader.specs.FirstFault.{then_with}
-use Rattle.row_reader.specs.Fields.{complain, identifier}
+use Rattle.row_reader.specs.Fields.{complain, identifier, then_with}
 use Rattle.row_reader.specs.declared.faults.Code.{Code}
 use Rattle.row_reader.specs.declared.faults.Code.TheVariants as code
 use Rattle.row_reader.specs.declared.faults.Column.{Column}

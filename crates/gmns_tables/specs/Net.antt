@@ -1,7 +1,7 @@
 -- The network of tables that were read in order.
 use Rattle.std.specs.Prelude.{◌≡◌, List, [], Option, None, Some, Result, Ok, Err, ⊤}
 use Rattle.row_reader.specs.Records.{Record}
-use Rattle.row_reader.specs.FirstFault.{then_with}
+use Rattle.row_reader.specs.Fields.{then_with}
 use Rattle.row_reader.specs.declared.faults.TableFault.{TableFault}
 use Rattle.row_reader.specs.declared.faults.TableRefusal.{TableRefusal}
 use Rattle.row_reader.specs.declared.faults.TableRefusal.TheVariants as refusal

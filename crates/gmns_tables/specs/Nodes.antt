@@ -1,13 +1,12 @@
 -- The rows of a node table.
-use Rattle.std.specs.Prelude.{ℕ, List, Option, Some, is_some, Result, Ok, Err}
+use Rattle.std.specs.Prelude.{ℕ, List, [], ◌∷◌, Option, is_some, Result, Ok, Err}
 use Rattle.fixed_units.specs.Zone.{zone_of}
 use Rattle.fixed_units.specs.declared.fault.NumberFault.{NumberFault}
 use Rattle.desk_io.specs.declared.desk.Table.TheVariants as table
 use Rattle.row_reader.specs.Records.{Record}
-use Rattle.row_reader.specs.Columns.{field_in}
-use Rattle.row_reader.specs.FirstFault.{then_with, verdict}
-use Rattle.row_reader.specs.Fields.{identifier, not_a_number, optional_column, required_column}
-use Rattle.row_reader.specs.Fields.{unless}
+use Rattle.row_reader.specs.Columns.{text}
+use Rattle.row_reader.specs.FirstFault.{Checks, verdict}
+use Rattle.row_reader.specs.Fields.{identifier, not_a_number, then_with, unless}
 use Rattle.row_reader.specs.declared.faults.Code.TheVariants as code
 use Rattle.row_reader.specs.declared.faults.Column.TheVariants as column
 use Rattle.row_reader.specs.declared.faults.Complaint.{Complaint}
@@ -16,13 +15,6 @@ use Rattle.net_core.specs.Ids.{place_of}
 use Rattle.net_core.specs.Rows.{node_ids}
 use Rattle.net_core.specs.declared.rows.NodeRow.{NodeRow}
 use Rattle.net_core.specs.declared.rows.TheConstants.{MOST_NODES}
-use Rattle.gmns_tables.specs.declared.node_table.NodePlaces.{NodePlaces}
-
--- the columns of a node table, or the first required one that is missing
-unfoldable pub node_places : Record → Result NodePlaces Complaint
-node_places header =
-    then_with (required_column header column.NodeId) (λ id.
-    Ok (record { id = id; zone = optional_column header column.ZoneId }))
 
 -- a zone field's zone, or what is wrong with the field
 abbrev pub zone_told : Result (Option ℕ) NumberFault → Result (Option ℕ) Complaint
@@ -30,13 +22,13 @@ zone_told (Ok zone) = Ok zone
 zone_told (Err fault) = Err (not_a_number column.ZoneId fault)
 
 -- the node of a record after the nodes before it, or the first check that fails
-unfoldable pub node_of : NodePlaces → List NodeRow → Record → Result NodeRow Complaint
-node_of places before r =
-    then_with (identifier column.NodeId (field_in r (Some places.id))) (λ id.
+unfoldable pub node_of : Checks NodeRow
+node_of before r =
+    then_with (identifier column.NodeId (text r column.NodeId)) (λ id.
     then_with (unless (is_some (place_of (node_ids before) id)) code.E6 column.NodeId) (λ _.
-    then_with (zone_told (zone_of (field_in r places.zone))) (λ zone.
+    then_with (zone_told (zone_of (text r column.ZoneId))) (λ zone.
     Ok (record { id = id; zone = zone }))))
 
 -- a node table's rows, or its first fault
 abbrev pub node_verdict : List Record → Result (List NodeRow) TableFault
-node_verdict records = verdict table.Node MOST_NODES node_places node_of records
+node_verdict records = verdict table.Node MOST_NODES (column.NodeId ∷ []) node_of records

@@ -9,7 +9,7 @@ use Rattle.fixed_units.specs.Quantity.{are_digits, is_quantity, milli_of, number
 use Rattle.fixed_units.specs.Units.{link_rate_of, turn_rate_of}
 use Rattle.fixed_units.specs.declared.link.TheConstants.{MOST_LANES, MOST_RATE}
 use Rattle.fixed_units.specs.declared.fault.NumberFault.{NumberFault}
-use Rattle.row_reader.specs.FirstFault.{then_with}
+use Rattle.row_reader.specs.Fields.{then_with}
 use Rattle.row_reader.specs.Fields.{complain}
 use Rattle.row_reader.specs.declared.faults.Code.TheVariants as code
 use Rattle.row_reader.specs.declared.faults.Column.TheVariants as column

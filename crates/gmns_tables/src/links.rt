@@ -1,10 +1,9 @@
 // The links of a table that was accepted.
 ghost use Rattle.std.specs.Prelude.{◌≡◌, ◌<◌, ◌++◌, ◌∷◌, [], length, OnOk, None, IfSome, is_some};
 ghost use Rattle.net_core.specs.Ids.{place_of};
-ghost use Rattle.net_core.specs.Rates.{AreLinkWindows};
-ghost use Rattle.net_core.specs.Rows.{IsLinkInRange, link_ids, link_named};
+ghost use Rattle.net_core.specs.Rows.{link_ids, link_named};
 ghost use Rattle.net_core.specs.declared.rows.TheConstants.{MOST_LINKS};
-ghost use Rattle.gmns_tables.specs.RowsWithWindows.{AreLinkRows, rows_of, windows_of};
+ghost use Rattle.gmns_tables.specs.RowsWithWindows.{AreLinkRows, IsNextLink, rows_of, windows_of};
 
 use crate::with_windows::{RowParts, WithWindows};
 use net_core::{Ids, LinkNo, LinkRow, Windows};
@@ -100,10 +99,8 @@ impl LinkRows {
     // Adds a link with a new identifier and numbers in range, and its windows, as the last one.
     #[tactic(auto, using(crate::proofs::WindowsFacts::parts))]
     pub(crate) fn push(&mut self, link: WithWindows<LinkRow>) -> Result<(), AllocError>
-        requires new { place_of (link_ids (rows_of self.old)) link.row.id ≡ None }
         requires room { length self.old < MOST_LINKS }
-        requires range { IsLinkInRange link.row }
-        requires windows { AreLinkWindows link.windows }
+        requires next { IsNextLink self.old link }
         ensures { OnOk result (self.new ≡ self.old ++ link ∷ []) }
     {
         self.rows.reserve(1)?;

@@ -1,10 +1,9 @@
 // The turns of a table that was accepted.
 ghost use Rattle.std.specs.Prelude.{◌≡◌, ◌<◌, ◌++◌, ◌∷◌, [], length, OnOk, None, is_some};
 ghost use Rattle.net_core.specs.Ids.{place_of_pair};
-ghost use Rattle.net_core.specs.Rates.{AreWindows};
-ghost use Rattle.net_core.specs.Rows.{IsTurnInRange, turn_pairs};
+ghost use Rattle.net_core.specs.Rows.{turn_pairs};
 ghost use Rattle.net_core.specs.declared.rows.TheConstants.{MOST_TURNS};
-ghost use Rattle.gmns_tables.specs.RowsWithWindows.{AreTurnRows, rows_of, windows_of};
+ghost use Rattle.gmns_tables.specs.RowsWithWindows.{AreTurnRows, IsNextTurn, rows_of, windows_of};
 
 use crate::with_windows::{RowParts, WithWindows};
 use net_core::{LinkNo, Pairs, TurnRow, Windows};
@@ -90,11 +89,8 @@ impl TurnRows {
     // one.
     #[tactic(auto, using(crate::proofs::WindowsFacts::parts))]
     pub(crate) fn push(&mut self, turn: WithWindows<TurnRow>) -> Result<(), AllocError>
-        requires new { place_of_pair (turn_pairs (rows_of self.old)) turn.row.a.0 turn.row.b.0
-            ≡ None }
         requires room { length self.old < MOST_TURNS }
-        requires range { IsTurnInRange turn.row }
-        requires windows { AreWindows turn.windows }
+        requires next { IsNextTurn self.old turn }
         ensures { OnOk result (self.new ≡ self.old ++ turn ∷ []) }
     {
         self.rows.reserve(1)?;

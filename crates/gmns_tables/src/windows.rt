@@ -8,7 +8,7 @@ ghost use Rattle.row_reader.specs.Fields.{complain as complain_of};
 ghost use Rattle.row_reader.specs.declared.accepted.RowRefusal.TheVariants as refusal;
 ghost use Rattle.row_reader.specs.declared.faults.Column.TheVariants as column;
 ghost use Rattle.net_core.specs.declared.rates.TheConstants.{MOST_WINDOW_STEP};
-ghost use Rattle.gmns_tables.specs.Tells.{TellsRow};
+ghost use Rattle.row_reader.specs.FirstFault.{TellsRow};
 ghost use Rattle.gmns_tables.specs.Windows.{AreWindowsOf, IsKind, IsRateOf, IsWindowOf};
 ghost use Rattle.gmns_tables.specs.Windows.{are_in_order as are_in_order_of};
 ghost use Rattle.gmns_tables.specs.Windows.{capacity_text, is_capacity as is_capacity_of, is_colon};

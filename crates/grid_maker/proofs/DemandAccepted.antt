@@ -1,5 +1,5 @@
 -- The demand table of a grid, as its reader defines what it says.
-use Rattle.std.proofs.Common.{◌≡◌, ℕ, ◌+◌, ◌*◌, ◌<◌, ◌≤◌, Bool, true, false, List, [], ◌∷◌, ◌++◌, length, get_or, append_assoc, map, flat_map, All, Ok, codes, decimal, refl, ap, arith, nat_eq, length-append, if◌then◌else◌}
+use Rattle.std.proofs.Common.{◌≡◌, ℕ, ◌+◌, ◌*◌, ◌<◌, ◌≤◌, Bool, true, false, List, [], ◌∷◌, ◌++◌, length, get_or, append_assoc, map, flat_map, All, Ok, Some, codes, decimal, refl, ap, arith, nat_eq, length-append, if◌then◌else◌}
 use Rattle.std.specs.List.{range_with_len}
 use Rattle.std.proofs.lemmas.List.{length-map}
 use Rattle.std.proofs.lemmas.List.Elements.{All-nil, All-cons}
@@ -8,11 +8,12 @@ use Rattle.csv.specs.Records.{field_at}
 use Rattle.csv.specs.Writing.{default_writer, fields_text, is_blank, row_text}
 use Rattle.desk_io.specs.declared.transfers.TheConstants.{MOST_TABLE_BYTES}
 use Rattle.desk_io.specs.declared.desk.Table.TheVariants as table
+use Rattle.row_reader.specs.Columns.{place_of}
 use Rattle.row_reader.specs.OnLiterals.{tables_on_literals}
 use Rattle.row_reader.specs.Records.{Record, records}
 use Rattle.row_reader.specs.declared.faults.Column.TheVariants as column
 use Rattle.dta_model.specs.Release.{vehicles_before}
-use Rattle.demand.specs.DemandRows.{demand_cell_of, demand_places, demand_verdict}
+use Rattle.demand.specs.DemandRows.{demand_cell_of, demand_columns, demand_verdict}
 use Rattle.demand.specs.declared.demand_rows.TheConstants.{MOST_DEMAND_CELLS}
 use Rattle.grid_maker.specs.Grid.{demand_header, demand_line, demand_text, zones}
 use Rattle.grid_maker.specs.GridsAreAccepted.{demand_cell, demand_cells, numbered, zone_pairs, zones_from}
@@ -30,6 +31,10 @@ IsPair x = (x.0 < 13) × AreZones x.1
 
 abbrev pair-names : Record
 pair-names = codes "o_zone_id" ∷ codes "d_zone_id" ∷ codes "volume" ∷ []
+
+pair-places : (place_of pair-names column.OZoneId ≡ Some 0) × (place_of pair-names column.DZoneId ≡ Some 1) × (place_of pair-names column.Volume ≡ Some 2)
+unfolding tables_on_literals
+pair-places = (refl, refl, refl)
 
 abbrev pair-fields : ℕ → ℕ × (ℕ × ℕ) → Record
 pair-fields n x = decimal x.1.0 ∷ decimal x.1.1 ∷ decimal (25 * n) ∷ []
@@ -66,23 +71,24 @@ module _ (n : ℕ) (h : n ≤ 60) where
 
   pair-accepted : (before : List (ℕ × (ℕ × ℕ))) (x : ℕ × (ℕ × ℕ)) → IsPair x
       → map (λ x. x.0) before ≡ range_with_len 1 (length before) → x.0 ≡ length before + 1
-      → demand_cell_of (record { origin = 0; destination = 1; volume = 2 }) (map (demand_cell n) before) (pair-fields n x) ≡ Ok (demand_cell n x)
+      → demand_cell_of (map (demand_cell n) before) (record { header = pair-names; fields = pair-fields n x; line = length (map (demand_cell n) before) + 2 })
+      ≡ Ok (demand_cell n x)
   unfolding demand_cell_of field_at
   pair-accepted before x f b m =
       let o = f.1.0 in
       let d = f.1.1 in
       let long = length-map before (demand_cell n) in
       let line : length (map (demand_cell n) before) + 2 ≡ x.0 + 1 = omega arith in
-      rw (identifier-read column.OZoneId x.1.0 (omega arith), identifier-read column.DZoneId x.1.1 (omega arith), quantity-read column.Volume (25 * n) (omega arith), line) refl
+      rw (pair-places.0, pair-places.1, pair-places.2, identifier-read column.OZoneId x.1.0 (omega arith), identifier-read column.DZoneId x.1.1 (omega arith), quantity-read column.Volume (25 * n) (omega arith), line) refl
 
   demand-text-is : demand_text n ≡ demand_header ++ flat_map pair-line (numbered zone_pairs)
   unfolding demand_text demand_line pair-line
   demand-text-is = ap (λ t. demand_header ++ t) (pairs-flat (λ o d. decimal o ++ codes "," ++ decimal d ++ codes "," ++ decimal (25 * n) ++ codes "\n"))
 
   pub demand-accepted : demand_verdict (records (demand_text n)) ≡ Ok (demand_cells n)
-  unfolding tables_on_literals demand_places demand_text demand_header is_blank fields_text
+  unfolding tables_on_literals demand_text demand_header is_blank fields_text
   demand-accepted =
-      table-accepted (pair-fields n) pair-line (λ x. x.0) IsPair table.Demand MOST_DEMAND_CELLS demand_places demand_cell_of pair-names (record { origin = 0; destination = 1; volume = 2 })
+      table-accepted (pair-fields n) pair-line (λ x. x.0) IsPair table.Demand MOST_DEMAND_CELLS demand_columns demand_cell_of pair-names
       (λ x f. (refl, pair-are x f, let number = f.0 in omega arith)) pair-line-is (λ _. refl)
       (demand_cell n) pair-accepted (numbered zone_pairs) (demand_text n) pairs-are refl refl demand-text-is refl refl refl
 

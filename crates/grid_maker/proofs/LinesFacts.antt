@@ -15,9 +15,10 @@ use Rattle.csv.proofs.RoundTrip.{read-write, rows_text}
 use Rattle.desk_io.specs.declared.desk.Table.{Table}
 use Rattle.net_core.specs.Ids.{place_of}
 use Rattle.net_core.proofs.Numbers.{numbers_grow}
-use Rattle.row_reader.specs.FirstFault.{Judge, judged, rows_from, verdict}
+use Rattle.row_reader.specs.Fields.{has_columns}
+use Rattle.row_reader.specs.FirstFault.{Checks, judged, rows_from, verdict}
 use Rattle.row_reader.specs.Records.{Record, records, is_text}
-use Rattle.row_reader.specs.declared.faults.Complaint.{Complaint}
+use Rattle.row_reader.specs.declared.faults.Column.{Column}
 use Rattle.row_reader.proofs.FirstFaultFacts.{from-ok, from-end}
 use Rattle.row_reader.proofs.GoodFacts.{good}
 use Rattle.row_reader.proofs.RecordsFacts.{none-at-end, records-some}
@@ -60,8 +61,8 @@ line-is x y rest a =
 -- ---- a table
 
 -- A table is a header, and a line for each of some numbered things.
-module _ {A R P : Type 0} (fields : A → Record) (line : A → List ℕ) (number : A → ℕ) (Fits : A → Type 0)
-    (kind : Table) (limit : ℕ) (places : Record → Result P Complaint) (columns : P → Judge R) (header : Record) (p : P)
+module _ {A R : Type 0} (fields : A → Record) (line : A → List ℕ) (number : A → ℕ) (Fits : A → Type 0)
+    (kind : Table) (limit : ℕ) (required : List Column) (checks : Checks R) (header : Record)
     (are : (x : A) → Fits x → (length (fields x) ≡ length header) × AreFields (fields x) × (number x ≤ limit))
     (lines : (x : A) → Fits x → line x ≡ row_text default_writer (fields x))
     (same : (x : A) → read_back (fields x) ≡ fields x) where
@@ -89,9 +90,9 @@ module _ {A R P : Type 0} (fields : A → Record) (line : A → List ℕ) (numbe
 
   module _ (row : A → R)
       (accepts : (before : List A) (x : A) → Fits x → map number before ≡ range_with_len 1 (length before)
-      → number x ≡ length before + 1 → columns p (map row before) (fields x) ≡ Ok (row x)) where
+      → number x ≡ length before + 1 → checks (map row before) (record { header = header; fields = fields x; line = length (map row before) + 2 }) ≡ Ok (row x)) where
     judged-ok : (before : List A) (x : A) → Fits x → map number before ≡ range_with_len 1 (length before) → number x ≡ length before + 1
-        → judged header limit (columns p) (map row before) (fields x) ≡ Ok (row x)
+        → judged header limit checks (map row before) (fields x) ≡ Ok (row x)
     judged-ok before x f b n =
         let a = are x f in
         let small = a.2 in
@@ -100,24 +101,24 @@ module _ {A R P : Type 0} (fields : A → Record) (line : A → List ℕ) (numbe
 
     rows-after : (before xs : List A) → map number before ≡ range_with_len 1 (length before)
         → map number xs ≡ range_with_len (length before + 1) (length xs) → All Fits xs
-        → rows_from kind (judged header limit (columns p)) (map row before) (map fields xs) ≡ Ok (map row (before ++ xs))
-    rows-after before [] b h f = from-end kind (judged header limit (columns p)) (map row before) [] refl ∙ ap (λ l. Ok (map row l)) (sym (append-nil before))
+        → rows_from kind (judged header limit checks) (map row before) (map fields xs) ≡ Ok (map row (before ++ xs))
+    rows-after before [] b h f = from-end kind (judged header limit checks) (map row before) [] refl ∙ ap (λ l. Ok (map row l)) (sym (append-nil before))
     rows-after before (x ∷ xs) b h f =
         let first : number x ≡ length before + 1 = cc in
         let more : map number xs ≡ range_with_len (length before + 1 + 1) (length xs) = cc in
         let long : length (before ++ x ∷ []) ≡ length before + 1 = length-append before (x ∷ []) in
         let counted : map number (before ++ x ∷ []) ≡ range_with_len 1 (length (before ++ x ∷ []))
         = map-append number before (x ∷ []) ∙ rw (b, first, long, add-one) (sym (numbers_grow 1 (length before) (suc (length before)) (omega arith))) in
-        from-ok kind (judged header limit (columns p)) (map row before) (map fields (x ∷ xs)) (map fields xs) (fields x) (row x) refl
+        from-ok kind (judged header limit checks) (map row before) (map fields (x ∷ xs)) (map fields xs) (fields x) (row x) refl
         (judged-ok before x (f 0 x (omega arith)) b first)
-        ∙ ap (λ l. rows_from kind (judged header limit (columns p)) l (map fields xs)) (sym (map-append row before (x ∷ [])))
+        ∙ ap (λ l. rows_from kind (judged header limit checks) l (map fields xs)) (sym (map-append row before (x ∷ [])))
         ∙ rows-after (before ++ x ∷ []) xs counted (rw long more) (λ k d l. f (suc k) d (omega arith))
         ∙ ap (λ l. Ok (map row l)) (append_assoc before (x ∷ []) xs)
 
     -- its reader accepts the table where it accepts each line after those before it
     pub table-accepted : (xs : List A) (text : List ℕ) → All Fits xs → read_back header ≡ header → strip_bom text ≡ text
-        → text ≡ row_text default_writer header ++ flat_map line xs → is_text header ≡ true → places header ≡ Ok p
-        → map number xs ≡ range_with_len 1 (length xs) → verdict kind limit places columns (records text) ≡ Ok (map row xs)
+        → text ≡ row_text default_writer header ++ flat_map line xs → is_text header ≡ true → has_columns header required ≡ Ok tt
+        → map number xs ≡ range_with_len 1 (length xs) → verdict kind limit required checks (records text) ≡ Ok (map row xs)
     unfolding verdict
     table-accepted xs text f own bom is t h n = rw (records-are xs text f own bom is, t, h) (rows-after [] xs refl n f)
 

@@ -18,6 +18,7 @@ use Rattle.fixed_units.specs.declared.measure.SpeedUnit.{SpeedUnit}
 use Rattle.fixed_units.specs.declared.measure.SpeedUnit.TheVariants.{Kmh, Mph}
 use Rattle.fixed_units.specs.declared.units.Units.{Units}
 use Rattle.row_reader.specs.Fields.{optional_quantity, quantity_or}
+use Rattle.row_reader.specs.Columns.{place_of}
 use Rattle.row_reader.specs.OnLiterals.{tables_on_literals}
 use Rattle.row_reader.specs.Records.{Record, records}
 use Rattle.row_reader.specs.Trimmed.{trimmed}
@@ -25,10 +26,11 @@ use Rattle.row_reader.specs.declared.faults.Column.{Column}
 use Rattle.row_reader.specs.declared.faults.Column.TheVariants as column
 use Rattle.net_core.specs.Rows.{link_ids}
 use Rattle.net_core.specs.declared.rows.TheConstants.{MOST_LINKS}
-use Rattle.gmns_tables.specs.Links.{capacity_of, free_speed_of, is_undirected, lanes_of, link_of, link_places, link_row_of, link_verdict, link_windows_of}
+use Rattle.gmns_tables.specs.Links.{capacity_of, free_speed_of, is_undirected, lanes_of, link_columns, link_of, link_verdict}
 use Rattle.gmns_tables.specs.Names.{known_node}
 use Rattle.gmns_tables.specs.RowsWithWindows.{rows_of}
 use Rattle.gmns_tables.specs.Windows.{windows_by_step}
+use Rattle.row_reader.proofs.Kept.{Before}
 use Rattle.grid_maker.specs.declared.links.GridLink.{GridLink}
 use Rattle.grid_maker.specs.declared.places.Place.{Place}
 use Rattle.grid_maker.specs.Grid.{link_header, link_line, link_lines, link_text}
@@ -51,6 +53,12 @@ IsFit n x = (x.0 < 14161) × IsGridLink n x.1
 abbrev link-names : Record
 link-names = codes "link_id" ∷ codes "from_node_id" ∷ codes "to_node_id" ∷ codes "length" ∷ codes "lanes" ∷ codes "free_speed" ∷ codes "capacity" ∷ []
 
+link-places : (place_of link-names column.LinkId ≡ Some 0) × (place_of link-names column.FromNodeId ≡ Some 1) × (place_of link-names column.ToNodeId ≡ Some 2)
+    × (place_of link-names column.Directed ≡ None) × (place_of link-names column.Length ≡ Some 3) × (place_of link-names column.Lanes ≡ Some 4)
+    × (place_of link-names column.FreeSpeed ≡ Some 5) × (place_of link-names column.Capacity ≡ Some 6) × (place_of link-names column.CapacityByStep ≡ None)
+unfolding tables_on_literals
+link-places = (refl, refl, refl, refl, refl, refl, refl, refl, refl)
+
 abbrev link-fields : ℕ → ℕ × GridLink → Record
 link-fields n x =
     decimal x.0 ∷ decimal (node_id n x.1.from) ∷ decimal (node_id n x.1.to) ∷ decimal (grid.length_of x.1) ∷ codes "1" ∷ codes "40" ∷ codes "900" ∷ []
@@ -71,9 +79,9 @@ is-directed : is_undirected [] ≡ false
 unfolding is_undirected
 is-directed = refl
 
-no-windows : (n : ℕ) (x : ℕ × GridLink) → link_windows_of (record { id = 0; from = 1; to = 2; directed = None; length = 3; lanes = Some 4; free_speed = Some 5; capacity = Some 6; by_step = None }) (link-fields n x) ≡ Ok []
-unfolding tables_on_literals link_windows_of windows_by_step quantity_or number
-no-windows n x = refl
+no-windows : (kind : Before windows_by_step) → windows_by_step kind [] ≡ Ok []
+unfolding windows_by_step
+no-windows kind = refl
 
 -- a quotient that is rounded up
 rounded : (a b k : ℕ) → 0 < b → a ≤ k * b → div_ceil a b ≤ k
@@ -170,12 +178,21 @@ module _ (n : ℕ) (h : n ≤ 60) where
 module _ (n : ℕ) (h : n ≤ 60) (units : Units) (some : 1 ≤ units.delta) (metres : units.length ≡ Metre) where
   link-accepted : (before : List (ℕ × GridLink)) (x : ℕ × GridLink) → IsFit n x
       → map (λ x. x.0) before ≡ range_with_len 1 (length before) → x.0 ≡ length before + 1
-      → link_of (node_rows n) units (record { id = 0; from = 1; to = 2; directed = None; length = 3; lanes = Some 4; free_speed = Some 5; capacity = Some 6; by_step = None }) (map (link_row n units) before) (link-fields n x) ≡ Ok (link_row n units x)
-  unfolding link_of link_row_of field_at
+      → link_of (node_rows n) units (map (link_row n units) before)
+      (record { header = link-names; fields = link-fields n x; line = length (map (link_row n units) before) + 2 }) ≡ Ok (link_row n units x)
+  unfolding link_of field_at
   link-accepted before x f b m =
       let long = lengths x.1 in
       let number = f.0 in
       rw (
+        link-places.0,
+        link-places.1,
+        link-places.2,
+        link-places.3,
+        link-places.4,
+        link-places.5,
+        link-places.6,
+        link-places.7,
         identifier-read column.LinkId x.0 (omega arith),
         link-ids-of n units before,
         b,
@@ -188,12 +205,13 @@ module _ (n : ℕ) (h : n ≤ 60) (units : Units) (some : 1 ≤ units.delta) (me
         speed-read units.speed,
         steps-read units x.1 some metres,
         capacity-read,
-        no-windows n x,
+        link-places.8,
+        no-windows,
       ) refl
 
   pub links-accepted : link_verdict (node_rows n) units (records (link_text n)) ≡ Ok (link_rows n units)
-  unfolding tables_on_literals link_places link_text link_lines link_header is_blank fields_text
+  unfolding tables_on_literals link_text link_lines link_header is_blank fields_text
   links-accepted =
-      table-accepted (link-fields n) (λ x. link_line n x.0 x.1) (λ x. x.0) (IsFit n) table.Link MOST_LINKS link_places (link_of (node_rows n) units) link-names (record { id = 0; from = 1; to = 2; directed = None; length = 3; lanes = Some 4; free_speed = Some 5; capacity = Some 6; by_step = None })
+      table-accepted (link-fields n) (λ x. link_line n x.0 x.1) (λ x. x.0) (IsFit n) table.Link MOST_LINKS link_columns (link_of (node_rows n) units) link-names
       (λ x f. (refl, link-are n h x f, let number = f.0 in omega arith)) (link-line-is n h) (λ _. refl)
       (link_row n units) link-accepted (numbered (grid.links n)) (link_text n) (links-fit n h) refl refl refl refl refl (numbers-are 1 (grid.links n))

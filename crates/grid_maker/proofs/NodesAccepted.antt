@@ -10,13 +10,14 @@ use Rattle.desk_io.specs.declared.transfers.TheConstants.{MOST_TABLE_BYTES}
 use Rattle.desk_io.specs.declared.desk.Table.TheVariants as table
 use Rattle.fixed_units.specs.Quantity.{number}
 use Rattle.fixed_units.specs.Zone.{zone_of}
+use Rattle.row_reader.specs.Columns.{place_of}
 use Rattle.row_reader.specs.OnLiterals.{tables_on_literals}
 use Rattle.row_reader.specs.Records.{Record, records}
 use Rattle.row_reader.specs.Trimmed.{trimmed}
 use Rattle.row_reader.specs.declared.faults.Column.TheVariants as column
 use Rattle.net_core.specs.Rows.{node_ids}
 use Rattle.net_core.specs.declared.rows.TheConstants.{MOST_NODES}
-use Rattle.gmns_tables.specs.Nodes.{node_of, node_places, node_verdict, zone_told}
+use Rattle.gmns_tables.specs.Nodes.{node_of, node_verdict, zone_told}
 use Rattle.grid_maker.specs.declared.places.Place.{Place}
 use Rattle.grid_maker.specs.Grid.{node_header, node_line, node_text, zone_field}
 use Rattle.grid_maker.specs.GridsAreAccepted.{node_row, node_rows}
@@ -50,6 +51,10 @@ zone-read = one-of-four IsZoneField
 abbrev node-names : Record
 node-names = codes "node_id" ∷ codes "zone_id" ∷ []
 
+node-places : (place_of node-names column.NodeId ≡ Some 0) × (place_of node-names column.ZoneId ≡ Some 1)
+unfolding tables_on_literals
+node-places = (refl, refl)
+
 abbrev node-fields : ℕ → Place → Record
 node-fields n place = decimal (node_id n place) ∷ zone_field (zone_id n place) ∷ []
 
@@ -68,16 +73,17 @@ module _ (n : ℕ) (h : n ≤ 60) where
 
   node-accepted : (before : List Place) (place : Place) → IsInside n place
       → map (node_id n) before ≡ range_with_len 1 (length before) → node_id n place ≡ length before + 1
-      → node_of (record { id = 0; zone = Some 1 }) (map (node_row n) before) (node-fields n place) ≡ Ok (node_row n place)
+      → node_of (map (node_row n) before) (record { header = node-names; fields = node-fields n place; line = length (map (node_row n) before) + 2 })
+      ≡ Ok (node_row n place)
   unfolding node_of field_at
   node-accepted before place i b m =
       let small = small-id n place h i in
-      rw (identifier-read column.NodeId (node_id n place) (omega arith), node-ids-of n before, b, place-nowhere 1 (length before) (node_id n place) (omega arith), (zone-read n place).read) refl
+      rw (node-places.0, node-places.1, identifier-read column.NodeId (node_id n place) (omega arith), node-ids-of n before, b, place-nowhere 1 (length before) (node_id n place) (omega arith), (zone-read n place).read) refl
 
   pub nodes-accepted : node_verdict (records (node_text n)) ≡ Ok (node_rows n)
-  unfolding tables_on_literals node_places node_text node_header is_blank fields_text
+  unfolding tables_on_literals node_text node_header is_blank fields_text
   nodes-accepted =
-      table-accepted (node-fields n) (node_line n) (node_id n) (IsInside n) table.Node MOST_NODES node_places node_of node-names (record { id = 0; zone = Some 1 })
+      table-accepted (node-fields n) (node_line n) (node_id n) (IsInside n) table.Node MOST_NODES (column.NodeId ∷ []) node_of node-names
       (λ place i. (refl, node-are place i, let small = small-id n place h i in omega arith)) node-line-is (λ _. refl)
       (node_row n) node-accepted (places n) (node_text n) (places-inside n) refl refl refl refl refl
       (place-ids n ∙ ap (range_with_len 1) (sym (place-count n)))

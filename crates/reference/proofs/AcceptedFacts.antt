@@ -8,7 +8,7 @@ use Rattle.std.proofs.lemmas.List.Elements.{All-cons, All-nil}
 use Rattle.desk_io.specs.declared.desk.Table.{Table}
 use Rattle.desk_io.specs.declared.desk.Table.TheVariants as table
 use Rattle.desk_io.specs.declared.transfers.TheConstants.{MOST_TABLE_BYTES}
-use Rattle.row_reader.specs.FirstFault.{then_with}
+use Rattle.row_reader.specs.Fields.{then_with}
 use Rattle.row_reader.specs.Records.{records}
 use Rattle.row_reader.specs.declared.faults.TableFault.{TableFault}
 use Rattle.reports.specs.declared.refusal.Refusal.{Refusal}
@@ -46,7 +46,7 @@ use Rattle.dta_run.specs.Verdict.{verdict_on_scales, verdict_on_scenario, verdic
 use Rattle.assignment.proofs.AssignmentFacts.{no-start-rows}
 use Rattle.dta_run.proofs.TableFacts.{joined-net}
 use Rattle.reference.specs.Laws.{IsAccepted}
-use Rattle.reference.proofs.Kept.{next_ok, same_Ok}
+use Rattle.row_reader.proofs.Kept.{next_ok, same_Ok}
 use Rattle.reference.proofs.NetTables.{are-between, are-links, are-nodes, are-turning, are-turns}
 use Rattle.reference.proofs.OtherTables.{are-cells, are-starts, are-times}
 use Rattle.reference.proofs.SettingsInRange.{settings-in-range}

@@ -19,7 +19,7 @@ use Rattle.row_reader.specs.declared.faults.Column.{Column}
 use Rattle.row_reader.specs.declared.faults.Complaint.{Complaint}
 use Rattle.net_core.specs.Ids.{pair_eq}
 use Rattle.net_core.proofs.IdsFacts.{is_some-position}
-use Rattle.reference.proofs.Kept.{chosen, otherwise, same_Ok}
+use Rattle.row_reader.proofs.Kept.{chosen, otherwise, same_Ok}
 
 -- ---- numbers
 

@@ -14,7 +14,6 @@ pub mod SweepFacts
 pub mod AuditFacts
 pub mod TextsFacts
 pub mod SettingsInRange
-pub mod Kept
 pub mod FieldsInRange
 pub mod NetTables
 pub mod OtherTables

@@ -19,10 +19,10 @@ use Rattle.fixed_units.specs.declared.quantity.TheConstants.{MOST_THOUSANDTHS}
 use Rattle.fixed_units.specs.declared.turn.TheConstants.{MOST_PENALTY}
 use Rattle.fixed_units.specs.declared.units.Units.{Units}
 use Rattle.desk_io.specs.declared.desk.Table.TheVariants as table
-use Rattle.row_reader.specs.Columns.{field_in}
-use Rattle.row_reader.specs.Fields.{identifier, optional_quantity, quantity, quantity_or, unless}
-use Rattle.row_reader.specs.FirstFault.{then_with}
+use Rattle.row_reader.specs.Columns.{text}
+use Rattle.row_reader.specs.Fields.{identifier, optional_quantity, quantity, quantity_or, then_with, unless}
 use Rattle.row_reader.specs.Records.{Record}
+use Rattle.row_reader.specs.Rows.{FieldsView}
 use Rattle.row_reader.specs.declared.faults.Code.TheVariants as code
 use Rattle.row_reader.specs.declared.faults.Column.TheVariants as column
 use Rattle.net_core.specs.Ids.{place_of, place_of_pair}
@@ -34,10 +34,10 @@ use Rattle.net_core.specs.declared.rows.LinkRow.{LinkRow}
 use Rattle.net_core.specs.declared.rows.NodeRow.{NodeRow}
 use Rattle.net_core.specs.declared.rows.TheConstants.{MOST_LINKS, MOST_NODES, MOST_TURNS}
 use Rattle.net_core.specs.declared.rows.TurnRow.{TurnRow}
-use Rattle.gmns_tables.specs.Links.{capacity_of, free_speed_of, is_undirected, lanes_of, link_of, link_places, link_row_of, link_verdict, link_windows_of, steps_told}
-use Rattle.gmns_tables.specs.Movements.{begins_at, ends_at, movement_of, movement_places, movement_verdict, penalty_of, turn_row_of}
+use Rattle.gmns_tables.specs.Links.{capacity_of, free_speed_of, is_undirected, lanes_of, link_of, link_columns, link_verdict, steps_told}
+use Rattle.gmns_tables.specs.Movements.{begins_at, ends_at, movement_of, movement_columns, movement_verdict, penalty_of}
 use Rattle.gmns_tables.specs.Names.{known_link, known_node}
-use Rattle.gmns_tables.specs.Nodes.{node_of, node_places, node_verdict, zone_told}
+use Rattle.gmns_tables.specs.Nodes.{node_of, node_verdict, zone_told}
 use Rattle.gmns_tables.specs.RowsWithWindows.{AreLinkRows, AreTurnRows, rows_of, windows_of}
 use Rattle.gmns_tables.specs.Windows.{AreWindowsOf, IsRateOf, IsWindowOf, capacity_text, in_order, is_form, is_no_limit, parts_of, rate_in, step_text, window_in, windows_by_step, windows_in}
 use Rattle.gmns_tables.specs.declared.with_windows.WithWindows.{WithWindows}
@@ -48,17 +48,17 @@ use Rattle.gmns_tables.proofs.StepsFacts.{are_windows}
 use Rattle.gmns_tables.proofs.TableFacts.{tells-all}
 use Rattle.gmns_tables.proofs.TurningFacts.{movement_of-turning}
 use Rattle.reference.proofs.FieldsInRange.{fresh, milli-below, optional-below, pair_eq_equiv, penalty-below, quantity_or-below, rate-below, stored, within-high, within-limit}
-use Rattle.reference.proofs.Kept.{Before, chosen, kept, next_ok, same_Ok}
+use Rattle.row_reader.proofs.Kept.{Before, chosen, kept, next_ok, same_Ok}
 
 -- ---- nodes
 
-node-more : (places : Before node_of) (before : List NodeRow) (r : Record) (row : NodeRow) → node_of places before r ≡ Ok row
+node-more : (before : List NodeRow) (r : FieldsView) (row : NodeRow) → node_of before r ≡ Ok row
     → length before < MOST_NODES → AreNodes before → AreNodes (before ++ row ∷ [])
 unfolding node_of
-node-more places before r row e room are =
-    next_ok (identifier column.NodeId (field_in r (Some places.id))) _ row e (λ id _ e1.
+node-more before r row e room are =
+    next_ok (identifier column.NodeId (text r column.NodeId)) _ row e (λ id _ e1.
     next_ok (unless (is_some (place_of (node_ids before) id)) code.E6 column.NodeId) _ row e1 (λ _ new e2.
-    next_ok (zone_told (zone_of (field_in r places.zone))) _ row e2 (λ zone _ e3.
+    next_ok (zone_told (zone_of (text r column.ZoneId))) _ row e2 (λ zone _ e3.
     subst (λ (node : NodeRow). AreNodes (before ++ node ∷ [])) (same_Ok _ _ e3) (record {
       distinct = fresh nat_eq_equiv (λ (node : NodeRow). node.id) before (record { id = id; zone = zone }) are.distinct (unless-ok _ code.E6 column.NodeId new);
       few = omega (arith, length-append {A = NodeRow});
@@ -69,7 +69,7 @@ unfolding IsDistinct
 no-nodes = record { distinct = tt; few = omega arith }
 
 pub are-nodes : (all : List Record) (nodes : List NodeRow) → node_verdict all ≡ Ok nodes → AreNodes nodes
-are-nodes all nodes e = kept AreNodes table.Node MOST_NODES node_places node_of node-more all nodes e no-nodes
+are-nodes all nodes e = kept AreNodes table.Node MOST_NODES (column.NodeId ∷ []) node_of node-more all nodes e no-nodes
 
 -- ---- windows
 
@@ -153,35 +153,6 @@ free-steps size speed delta free e =
     let is = chosen (nat_le (steps_at_free_speed size speed delta) MOST_FREE_STEPS) (Ok (steps_at_free_speed size speed delta)) _ free e in
     subst (λ n. (1 ≤ n) × (n ≤ MOST_FREE_STEPS)) (same_Ok _ _ is.1) (omega arith, leb-true _ _ is.0)
 
-module _ (nodes : List NodeRow) (units : Units) where
-  link-row : (places : Before (link_row_of nodes units)) (before : List LinkRow) (r : Record) (row : LinkRow) → link_row_of nodes units places before r ≡ Ok row
-      → IsLinkInRange row × (is_some (place_of (link_ids before) row.id) ≡ false)
-  unfolding link_row_of
-  link-row places before r row e =
-      next_ok (identifier column.LinkId (field_in r (Some places.id))) _ row e (λ id _ e1.
-      next_ok (unless (is_some (place_of (link_ids before) id)) code.E6 column.LinkId) _ row e1 (λ _ new e2.
-      next_ok (known_node nodes column.FromNodeId (field_in r (Some places.from))) _ row e2 (λ from _ e3.
-      next_ok (known_node nodes column.ToNodeId (field_in r (Some places.to))) _ row e3 (λ to _ e4.
-      next_ok (unless (is_undirected (field_in r places.directed)) code.E10 column.Directed) _ row e4 (λ _ _ e5.
-      next_ok (quantity column.Length (field_in r (Some places.length))) _ row e5 (λ size _ e6.
-      next_ok (lanes_of (field_in r places.lanes)) _ row e6 (λ lanes lanes-are e7.
-      next_ok (free_speed_of units.speed (field_in r places.free_speed)) _ row e7 (λ speed _ e8.
-      next_ok (steps_told (free_steps_of (length_of size units.length) speed units.delta)) _ row e8 (λ free free-is e9.
-      next_ok (capacity_of (field_in r places.capacity)) _ row e9 (λ capacity capacity-is e10.
-      let steps = free-steps (length_of size units.length) speed units.delta free (steps-told (free_steps_of (length_of size units.length) speed units.delta) free free-is) in
-      let whole = quantity_or-below 1800000 column.Capacity (field_in r places.capacity) capacity (omega arith) capacity-is in
-      let space = stored MOST_STORAGE ((length_of size units.length).micrometres * lanes * units.jam / 10 ^ 12) (omega arith) in
-      subst (λ (link : LinkRow). IsLinkInRange link × (is_some (place_of (link_ids before) link.id) ≡ false)) (same_Ok _ _ e10) (
-        record {
-          moves = steps.0;
-          free = steps.1;
-          stores = space.0;
-          storage = space.1;
-          rate = rate-below capacity lanes whole (lanes-below (field_in r places.lanes) lanes lanes-are);
-        },
-        unless-ok _ code.E6 column.LinkId new,
-      )))))))))))
-
 links-push : (rows : List LinkRow) (row : LinkRow) → AreLinks rows → length rows < MOST_LINKS → IsLinkInRange row → is_some (place_of (link_ids rows) row.id) ≡ false
     → AreLinks (rows ++ row ∷ [])
 links-push rows row are room range new = record {
@@ -200,33 +171,42 @@ link_rows-push before link are room range new windows = record {
 }
 
 module _ (nodes : List NodeRow) (units : Units) where
-  link-windows : (places : Before (link_of nodes units)) (r : Record) (ws : List Window) → link_windows_of places r ≡ Ok ws → AreLinkWindows ws
-  unfolding link_windows_of
-  link-windows places r ws e =
-      next_ok (lanes_of (field_in r places.lanes)) _ ws e (λ lanes lanes-are e1.
-      windows-told _ (field_in r places.by_step) ws e1 (record { windows = no-windows; given = All-nil _ }) (link-rate lanes (lanes-below (field_in r places.lanes) lanes lanes-are)))
-
-  link-more : (places : Before (link_of nodes units)) (before : List (WithWindows LinkRow)) (r : Record) (link : WithWindows LinkRow)
-      → link_of nodes units places before r ≡ Ok link → length before < MOST_LINKS → AreLinkRows before → AreLinkRows (before ++ link ∷ [])
+  link-more : (before : List (WithWindows LinkRow)) (r : FieldsView) (link : WithWindows LinkRow)
+      → link_of nodes units before r ≡ Ok link → length before < MOST_LINKS → AreLinkRows before → AreLinkRows (before ++ link ∷ [])
   unfolding link_of
-  link-more places before r link e room are =
-      next_ok (link_row_of nodes units places (rows_of before) r) _ link e (λ row row-is e1.
-      next_ok (link_windows_of places r) _ link e1 (λ windows windows-are e2.
-      let is = link-row nodes units places (rows_of before) r row row-is in
-      subst (λ (l : WithWindows LinkRow). AreLinkRows (before ++ l ∷ [])) (same_Ok _ _ e2)
-      (link_rows-push before (record { row = row; windows = windows }) are room is.0 is.1 (link-windows places r windows windows-are))))
+  link-more before r link e room are =
+      next_ok (identifier column.LinkId (text r column.LinkId)) _ link e (λ id _ e1.
+      next_ok (unless (is_some (place_of (link_ids (rows_of before)) id)) code.E6 column.LinkId) _ link e1 (λ _ new e2.
+      next_ok (known_node nodes column.FromNodeId (text r column.FromNodeId)) _ link e2 (λ from _ e3.
+      next_ok (known_node nodes column.ToNodeId (text r column.ToNodeId)) _ link e3 (λ to _ e4.
+      next_ok (unless (is_undirected (text r column.Directed)) code.E10 column.Directed) _ link e4 (λ _ _ e5.
+      next_ok (quantity column.Length (text r column.Length)) _ link e5 (λ size _ e6.
+      next_ok (lanes_of (text r column.Lanes)) _ link e6 (λ lanes lanes-are e7.
+      next_ok (free_speed_of units.speed (text r column.FreeSpeed)) _ link e7 (λ speed _ e8.
+      next_ok (steps_told (free_steps_of (length_of size units.length) speed units.delta)) _ link e8 (λ free free-is e9.
+      next_ok (capacity_of (text r column.Capacity)) _ link e9 (λ capacity capacity-is e10.
+      next_ok (windows_by_step _ (text r column.CapacityByStep)) _ link e10 (λ windows windows-are e11.
+      let steps = free-steps (length_of size units.length) speed units.delta free (steps-told (free_steps_of (length_of size units.length) speed units.delta) free free-is) in
+      let whole = quantity_or-below 1800000 column.Capacity (text r column.Capacity) capacity (omega arith) capacity-is in
+      let space = stored MOST_STORAGE ((length_of size units.length).micrometres * lanes * units.jam / 10 ^ 12) (omega arith) in
+      let few = lanes-below (text r column.Lanes) lanes lanes-are in
+      subst (λ (l : WithWindows LinkRow). AreLinkRows (before ++ l ∷ [])) (same_Ok _ _ e11)
+      (link_rows-push before _ are room
+      (record { moves = steps.0; free = steps.1; stores = space.0; storage = space.1; rate = rate-below capacity lanes whole few })
+      (unless-ok _ code.E6 column.LinkId new)
+      (windows-told _ (text r column.CapacityByStep) windows windows-are (record { windows = no-windows; given = All-nil _ }) (link-rate lanes few))))))))))))))
 
   no-links : AreLinkRows []
   unfolding IsDistinct
   no-links = record { rows = record { distinct = tt; few = omega arith; range = All-nil IsLinkInRange }; windows = All-nil AreLinkWindows }
 
   pub are-links : (all : List Record) (links : List (WithWindows LinkRow)) → link_verdict nodes units all ≡ Ok links → AreLinkRows links
-  are-links all links e = kept AreLinkRows table.Link MOST_LINKS link_places (link_of nodes units) link-more all links e no-links
+  are-links all links e = kept AreLinkRows table.Link MOST_LINKS link_columns (link_of nodes units) link-more all links e no-links
 
   pub are-between : (all : List Record) (links : List (WithWindows LinkRow)) → link_verdict nodes units all ≡ Ok links → All (IsBetween nodes) (rows_of links)
   are-between all links e =
       All-map (IsBetween nodes) (λ (link : WithWindows LinkRow). link.row) links
-      (tells-all (λ (link : WithWindows LinkRow). IsBetween nodes link.row) table.Link MOST_LINKS link_places (link_of nodes units)
+      (tells-all (λ (link : WithWindows LinkRow). IsBetween nodes link.row) table.Link MOST_LINKS link_columns (link_of nodes units)
       (link_of-between nodes units) all (Ok links) e)
 
 -- ---- turns
@@ -256,41 +236,33 @@ turn_rows-push before turn are room range new windows = record {
 }
 
 module _ (nodes : List NodeRow) (links : List LinkRow) (units : Units) (some : 1 ≤ units.delta) where
-  turn-row : (places : Before (movement_of nodes links units)) (before : List TurnRow) (r : Record) (row : TurnRow) → turn_row_of nodes links units places before r ≡ Ok row
-      → IsTurnInRange row × (is_some (place_of_pair (turn_pairs before) row.a.0 row.b.0) ≡ false)
-  unfolding turn_row_of
-  turn-row places before r row e =
-      next_ok (known_node nodes column.NodeId (field_in r (Some places.node))) _ row e (λ node _ e1.
-      next_ok (known_link links column.IbLinkId (field_in r (Some places.from))) _ row e1 (λ a _ e2.
-      next_ok (unless (not (ends_at links a node)) code.E9 column.IbLinkId) _ row e2 (λ _ _ e3.
-      next_ok (known_link links column.ObLinkId (field_in r (Some places.to))) _ row e3 (λ b _ e4.
-      next_ok (unless (not (begins_at links b node)) code.E9 column.ObLinkId) _ row e4 (λ _ _ e5.
-      next_ok (unless (is_some (place_of_pair (turn_pairs before) a.0 b.0)) code.E6 column.ObLinkId) _ row e5 (λ _ new e6.
-      next_ok (penalty_of (field_in r places.penalty)) _ row e6 (λ penalty penalty-is e7.
-      next_ok (optional_quantity column.Capacity (field_in r places.capacity)) _ row e7 (λ capacity capacity-is e8.
-      subst (λ (turn : TurnRow). IsTurnInRange turn × (is_some (place_of_pair (turn_pairs before) turn.a.0 turn.b.0) ≡ false)) (same_Ok _ _ e8) (
-        record {
-          penalty = penalty-below penalty units.delta (penalty-few (field_in r places.penalty) penalty penalty-is) some;
-          rate = option-rate capacity (optional-below column.Capacity (field_in r places.capacity) capacity capacity-is);
-        },
-        unless-ok _ code.E6 column.ObLinkId new,
-      )))))))))
-
-  turn-more : (places : Before (movement_of nodes links units)) (before : List (WithWindows TurnRow)) (r : Record) (turn : WithWindows TurnRow)
-      → movement_of nodes links units places before r ≡ Ok turn → length before < MOST_TURNS → AreTurnRows before → AreTurnRows (before ++ turn ∷ [])
+  turn-more : (before : List (WithWindows TurnRow)) (r : FieldsView) (turn : WithWindows TurnRow)
+      → movement_of nodes links units before r ≡ Ok turn → length before < MOST_TURNS → AreTurnRows before → AreTurnRows (before ++ turn ∷ [])
   unfolding movement_of
-  turn-more places before r turn e room are =
-      next_ok (turn_row_of nodes links units places (rows_of before) r) _ turn e (λ row row-is e1.
-      next_ok (windows_by_step _ (field_in r places.by_step)) _ turn e1 (λ windows windows-are e2.
-      let is = turn-row places (rows_of before) r row row-is in
-      subst (λ (t : WithWindows TurnRow). AreTurnRows (before ++ t ∷ [])) (same_Ok _ _ e2)
-      (turn_rows-push before (record { row = row; windows = windows }) are room is.0 is.1 (windows-told _ (field_in r places.by_step) windows windows-are no-windows turn-rate))))
+  turn-more before r turn e room are =
+      next_ok (known_node nodes column.NodeId (text r column.NodeId)) _ turn e (λ node _ e1.
+      next_ok (known_link links column.IbLinkId (text r column.IbLinkId)) _ turn e1 (λ a _ e2.
+      next_ok (unless (not (ends_at links a node)) code.E9 column.IbLinkId) _ turn e2 (λ _ _ e3.
+      next_ok (known_link links column.ObLinkId (text r column.ObLinkId)) _ turn e3 (λ b _ e4.
+      next_ok (unless (not (begins_at links b node)) code.E9 column.ObLinkId) _ turn e4 (λ _ _ e5.
+      next_ok (unless (is_some (place_of_pair (turn_pairs (rows_of before)) a.0 b.0)) code.E6 column.ObLinkId) _ turn e5 (λ _ new e6.
+      next_ok (penalty_of (text r column.Penalty)) _ turn e6 (λ penalty penalty-is e7.
+      next_ok (optional_quantity column.Capacity (text r column.Capacity)) _ turn e7 (λ capacity capacity-is e8.
+      next_ok (windows_by_step _ (text r column.CapacityByStep)) _ turn e8 (λ windows windows-are e9.
+      subst (λ (t : WithWindows TurnRow). AreTurnRows (before ++ t ∷ [])) (same_Ok _ _ e9)
+      (turn_rows-push before _ are room
+      (record {
+        penalty = penalty-below penalty units.delta (penalty-few (text r column.Penalty) penalty penalty-is) some;
+        rate = option-rate capacity (optional-below column.Capacity (text r column.Capacity) capacity capacity-is);
+      })
+      (unless-ok _ code.E6 column.ObLinkId new)
+      (windows-told _ (text r column.CapacityByStep) windows windows-are no-windows turn-rate)))))))))))
 
   pub are-turns : (all : List Record) (turns : List (WithWindows TurnRow)) → movement_verdict nodes links units all ≡ Ok turns → AreTurnRows turns
-  are-turns all turns e = kept AreTurnRows table.Movement MOST_TURNS movement_places (movement_of nodes links units) turn-more all turns e no-turns
+  are-turns all turns e = kept AreTurnRows table.Movement MOST_TURNS movement_columns (movement_of nodes links units) turn-more all turns e no-turns
 
   pub are-turning : (all : List Record) (turns : List (WithWindows TurnRow)) → movement_verdict nodes links units all ≡ Ok turns → All (IsTurning links) (rows_of turns)
   are-turning all turns e =
       All-map (IsTurning links) (λ (turn : WithWindows TurnRow). turn.row) turns
-      (tells-all (λ (turn : WithWindows TurnRow). IsTurning links turn.row) table.Movement MOST_TURNS movement_places (movement_of nodes links units)
+      (tells-all (λ (turn : WithWindows TurnRow). IsTurning links turn.row) table.Movement MOST_TURNS movement_columns (movement_of nodes links units)
       (movement_of-turning nodes links units) all (Ok turns) e)

@@ -1,36 +1,37 @@
 -- The rows of accepted demand, start and times tables are in range.
 use Rattle.std.proofs.Common.{◌≡◌, ◌≤◌, ◌<◌, ◌+◌, ◌∙◌, ℕ, zero, suc, List, [], ◌∷◌, ◌++◌, length, length-append, refl, ap, subst, arith}
-use Rattle.std.specs.Prelude.{Some, Ok, is_some}
+use Rattle.std.specs.Prelude.{Ok, is_some}
 use Rattle.std.specs.Cmp.{nat_eq_equiv}
 use Rattle.std.specs.List.{range_with_len}
 use Rattle.std.proofs.lemmas.List.{map_push}
 use Rattle.std.proofs.lemmas.List.Elements.{All-nil, All-push}
 use Rattle.desk_io.specs.declared.desk.Table.TheVariants as table
 use Rattle.fixed_units.specs.declared.quantity.TheConstants.{MOST_THOUSANDTHS}
-use Rattle.row_reader.specs.Columns.{field_in}
+use Rattle.row_reader.specs.Columns.{text}
 use Rattle.row_reader.specs.Fields.{identifier, quantity, unless}
 use Rattle.row_reader.specs.FirstFault.{verdict}
 use Rattle.row_reader.specs.Records.{Record}
+use Rattle.row_reader.specs.Rows.{FieldsView}
 use Rattle.row_reader.specs.declared.faults.Code.TheVariants as code
 use Rattle.row_reader.specs.declared.faults.Column.TheVariants as column
 use Rattle.net_core.specs.Ids.{place_of}
 use Rattle.net_core.specs.declared.rows.NetRows.{NetRows}
 use Rattle.dta_model.specs.declared.trip.DemandCell.{DemandCell}
 use Rattle.gmns_tables.proofs.ChainFacts.{unless-ok}
-use Rattle.demand.specs.DemandRows.{AreDemandCells, demand_cell_of, demand_places, demand_verdict}
+use Rattle.demand.specs.DemandRows.{AreDemandCells, demand_cell_of, demand_columns, demand_verdict}
 use Rattle.demand.specs.declared.demand_rows.TheConstants.{MOST_DEMAND_CELLS}
 use Rattle.route_flows.specs.Starts.{AreStartRows, agents_of}
-use Rattle.route_flows.specs.StartTable.{ids_in, start_places, start_row_of, start_verdict}
+use Rattle.route_flows.specs.StartTable.{ids_in, start_columns, start_row_of, start_verdict}
 use Rattle.route_flows.specs.declared.start_rows.StartRow.{StartRow}
 use Rattle.route_flows.specs.declared.start_rows.TheConstants.{MOST_START_ROWS}
 use Rattle.skims.specs.GivenTimes.{AreRowsOf}
-use Rattle.skims.specs.TimesTable.{row_count, time_row_of, times_places, times_verdict}
+use Rattle.skims.specs.TimesTable.{row_count, time_row_of, times_columns, times_verdict}
 use Rattle.skims.specs.declared.time_rows.TimeRow.{TimeRow}
 use Rattle.skims.specs.declared.times_table.TheConstants.{MOST_TIME_ROWS}
 use Rattle.skims.proofs.TimesFacts.{rows-told}
 use Rattle.assignment.proofs.AssignmentFacts.{no-start-rows}
 use Rattle.reference.proofs.FieldsInRange.{fresh, quantity-below}
-use Rattle.reference.proofs.Kept.{Before, kept, next_ok, same_Ok}
+use Rattle.row_reader.proofs.Kept.{kept, next_ok, same_Ok}
 
 -- ---- demand
 
@@ -50,34 +51,34 @@ one-cell-more cells cell are room line volume =
           ∙ one-number-more (length cells) 2 cell.line below);
     }
 
-cell-more : (places : Before demand_cell_of) (before : List DemandCell) (r : Record) (cell : DemandCell) → demand_cell_of places before r ≡ Ok cell
+cell-more : (before : List DemandCell) (r : FieldsView) (cell : DemandCell) → demand_cell_of before r ≡ Ok cell
     → length before < MOST_DEMAND_CELLS → AreDemandCells before → AreDemandCells (before ++ cell ∷ [])
 unfolding demand_cell_of
-cell-more places before r cell e room are =
-    next_ok (identifier column.OZoneId (field_in r (Some places.origin))) _ cell e (λ origin _ e1.
-    next_ok (identifier column.DZoneId (field_in r (Some places.destination))) _ cell e1 (λ destination _ e2.
-    next_ok (quantity column.Volume (field_in r (Some places.volume))) _ cell e2 (λ volume volume-is e3.
+cell-more before r cell e room are =
+    next_ok (identifier column.OZoneId (text r column.OZoneId)) _ cell e (λ origin _ e1.
+    next_ok (identifier column.DZoneId (text r column.DZoneId)) _ cell e1 (λ destination _ e2.
+    next_ok (quantity column.Volume (text r column.Volume)) _ cell e2 (λ volume volume-is e3.
     subst (λ (c : DemandCell). AreDemandCells (before ++ c ∷ [])) (same_Ok _ _ e3)
     (one-cell-more before (record { line = length before + 2; origin = origin; destination = destination; volume = volume }) are room refl
-    (quantity-below column.Volume (field_in r (Some places.volume)) volume volume-is)))))
+    (quantity-below column.Volume (text r column.Volume) volume volume-is)))))
 
 pub no-cells : AreDemandCells []
 no-cells = record { few = omega arith; volumes = All-nil _; lines = refl }
 
 pub are-cells : (all : List Record) (cells : List DemandCell) → demand_verdict all ≡ Ok cells → AreDemandCells cells
-are-cells all cells e = kept AreDemandCells table.Demand MOST_DEMAND_CELLS demand_places demand_cell_of cell-more all cells e no-cells
+are-cells all cells e = kept AreDemandCells table.Demand MOST_DEMAND_CELLS demand_columns demand_cell_of cell-more all cells e no-cells
 
 -- ---- the start table
 
-start-more : (places : Before start_row_of) (before : List StartRow) (r : Record) (row : StartRow) → start_row_of places before r ≡ Ok row
+start-more : (before : List StartRow) (r : FieldsView) (row : StartRow) → start_row_of before r ≡ Ok row
     → length before < MOST_START_ROWS → AreStartRows before → AreStartRows (before ++ row ∷ [])
 unfolding start_row_of
-start-more places before r row e room are =
-    next_ok (identifier column.AgentId (field_in r (Some places.agent))) _ row e (λ agent _ e1.
+start-more before r row e room are =
+    next_ok (identifier column.AgentId (text r column.AgentId)) _ row e (λ agent _ e1.
     next_ok (unless (is_some (place_of (agents_of before) agent)) code.E6 column.AgentId) _ row e1 (λ _ new e2.
-    next_ok (identifier column.OZoneId (field_in r (Some places.origin))) _ row e2 (λ origin _ e3.
-    next_ok (identifier column.DZoneId (field_in r (Some places.destination))) _ row e3 (λ destination _ e4.
-    next_ok (ids_in column.LinkIds (field_in r (Some places.links))) _ row e4 (λ links _ e5.
+    next_ok (identifier column.OZoneId (text r column.OZoneId)) _ row e2 (λ origin _ e3.
+    next_ok (identifier column.DZoneId (text r column.DZoneId)) _ row e3 (λ destination _ e4.
+    next_ok (ids_in column.LinkIds (text r column.LinkIds)) _ row e4 (λ links _ e5.
     subst (λ (s : StartRow). AreStartRows (before ++ s ∷ [])) (same_Ok _ _ e5) (record {
       distinct = fresh nat_eq_equiv (λ (s : StartRow). s.agent) before (record { agent = agent; origin = origin; destination = destination; links = links }) are.distinct
           (unless-ok _ code.E6 column.AgentId new);
@@ -85,12 +86,12 @@ start-more places before r row e room are =
     }))))))
 
 pub are-starts : (all : List Record) (rows : List StartRow) → start_verdict all ≡ Ok rows → AreStartRows rows
-are-starts all rows e = kept AreStartRows table.Start MOST_START_ROWS start_places start_row_of start-more all rows e no-start-rows
+are-starts all rows e = kept AreStartRows table.Start MOST_START_ROWS start_columns start_row_of start-more all rows e no-start-rows
 
 -- ---- link times
 
 pub are-times : (net : NetRows) (bucket horizon : ℕ) (all : List Record) (rows : List TimeRow) → 1 ≤ bucket → 1 ≤ horizon
     → times_verdict net bucket horizon all ≡ Ok rows → AreRowsOf net bucket horizon rows
 are-times net bucket horizon all rows some long e =
-    next_ok (verdict table.Times MOST_TIME_ROWS times_places (time_row_of net bucket horizon) all) _ rows e (λ read accepted none.
+    next_ok (verdict table.Times MOST_TIME_ROWS times_columns (time_row_of net bucket horizon) all) _ rows e (λ read accepted none.
     rows-told net bucket horizon (row_count net bucket horizon) all read (Ok rows) some long refl accepted none)

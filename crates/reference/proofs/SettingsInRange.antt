@@ -22,7 +22,7 @@ use Rattle.dta_words.specs.declared.command.Command.TheVariants as command
 use Rattle.dta_words.specs.declared.command.Settings.{Settings}
 use Rattle.dta_words.proofs.StartFacts.{starts_within}
 use Rattle.dta_words.proofs.ScaleFacts.{scales_within}
-use Rattle.reference.proofs.Kept.{Before}
+use Rattle.row_reader.proofs.Kept.{Before}
 
 -- a chain of values that gives one gave one at each link
 then_some : {A B : Type 0} (o : Option A) (f : A → Option B) (y : B) → (o >>= f) ≡ Some y → (x : A) × (o ≡ Some x) × (f x ≡ Some y)

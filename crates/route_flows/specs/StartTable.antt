@@ -1,5 +1,5 @@
 -- The rows of a start table, as its text tells them.
-use Rattle.std.specs.Prelude.{ℕ, Bool, true, false, ◌==◌, List, [], length, map, Some}
+use Rattle.std.specs.Prelude.{ℕ, Bool, true, false, ◌==◌, List, [], ◌∷◌, length, map}
 use Rattle.std.specs.Prelude.{is_some, if◌then◌else◌, Result, Ok, Err}
 use Rattle.std.specs.List.{list_any, slice_split}
 use Rattle.fixed_units.specs.Quantity.{whole_of}
@@ -7,9 +7,9 @@ use Rattle.fixed_units.specs.declared.fault.NumberFault.{NumberFault}
 use Rattle.fixed_units.specs.declared.fault.NumberFault.TheVariants.{NotNumber, OutOfRange}
 use Rattle.desk_io.specs.declared.desk.Table.TheVariants as table
 use Rattle.row_reader.specs.Records.{Record}
-use Rattle.row_reader.specs.Columns.{field_in}
-use Rattle.row_reader.specs.Fields.{identifier, not_a_number, required_column, unless}
-use Rattle.row_reader.specs.FirstFault.{then_with, verdict}
+use Rattle.row_reader.specs.Columns.{text}
+use Rattle.row_reader.specs.Fields.{identifier, not_a_number, then_with, unless}
+use Rattle.row_reader.specs.FirstFault.{Checks, verdict}
 use Rattle.row_reader.specs.declared.faults.Code.TheVariants as code
 use Rattle.row_reader.specs.declared.faults.Column.{Column}
 use Rattle.row_reader.specs.declared.faults.Column.TheVariants as column
@@ -19,16 +19,10 @@ use Rattle.net_core.specs.Ids.{place_of}
 use Rattle.route_flows.specs.Starts.{agents_of}
 use Rattle.route_flows.specs.declared.start_rows.StartRow.{StartRow}
 use Rattle.route_flows.specs.declared.start_rows.TheConstants.{MOST_START_ROWS}
-use Rattle.route_flows.specs.declared.start_table.StartPlaces.{StartPlaces}
 
--- the columns of a start table, or the first one that is missing
-unfoldable pub start_places : Record → Result StartPlaces Complaint
-start_places header =
-    then_with (required_column header column.AgentId) (λ agent.
-    then_with (required_column header column.OZoneId) (λ origin.
-    then_with (required_column header column.DZoneId) (λ destination.
-    then_with (required_column header column.LinkIds) (λ links.
-    Ok (record { agent = agent; origin = origin; destination = destination; links = links })))))
+-- the columns that a start table must have
+abbrev pub start_columns : List Column
+start_columns = column.AgentId ∷ column.OZoneId ∷ column.DZoneId ∷ column.LinkIds ∷ []
 
 -- ---- identifiers joined by semicolons
 
@@ -78,15 +72,15 @@ ids_in what text =
 -- ---- rows
 
 -- the row of a record after the rows before it, or the first check that fails
-unfoldable pub start_row_of : StartPlaces → List StartRow → Record → Result StartRow Complaint
-start_row_of places before r =
-    then_with (identifier column.AgentId (field_in r (Some places.agent))) (λ agent.
+unfoldable pub start_row_of : Checks StartRow
+start_row_of before r =
+    then_with (identifier column.AgentId (text r column.AgentId)) (λ agent.
     then_with (unless (is_some (place_of (agents_of before) agent)) code.E6 column.AgentId) (λ _.
-    then_with (identifier column.OZoneId (field_in r (Some places.origin))) (λ origin.
-    then_with (identifier column.DZoneId (field_in r (Some places.destination))) (λ destination.
-    then_with (ids_in column.LinkIds (field_in r (Some places.links))) (λ links.
+    then_with (identifier column.OZoneId (text r column.OZoneId)) (λ origin.
+    then_with (identifier column.DZoneId (text r column.DZoneId)) (λ destination.
+    then_with (ids_in column.LinkIds (text r column.LinkIds)) (λ links.
     Ok (record { agent = agent; origin = origin; destination = destination; links = links }))))))
 
 -- a start table's rows, or its first fault
 abbrev pub start_verdict : List Record → Result (List StartRow) TableFault
-start_verdict records = verdict table.Start MOST_START_ROWS start_places start_row_of records
+start_verdict records = verdict table.Start MOST_START_ROWS start_columns start_row_of records

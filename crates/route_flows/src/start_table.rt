@@ -5,7 +5,7 @@ ghost use Rattle.row_reader.specs.FirstFault.{Tells};
 ghost use Rattle.row_reader.specs.Records.{records};
 ghost use Rattle.row_reader.specs.declared.accepted.RowRefusal.TheVariants as refusal;
 ghost use Rattle.row_reader.specs.declared.faults.Complaint.{Complaint};
-ghost use Rattle.route_flows.specs.StartTable.{ids_in as ids_of, pieces_of, start_places};
+ghost use Rattle.route_flows.specs.StartTable.{ids_in as ids_of, pieces_of};
 ghost use Rattle.route_flows.specs.StartTable.{identifiers_of, ids_told, start_row_of};
 ghost use Rattle.route_flows.specs.StartTable.{start_verdict};
 ghost use Rattle.route_flows.specs.StartTable.{is_beyond as is_beyond_of, value_in as value_in_of};
@@ -18,37 +18,9 @@ use desk_io::Table;
 use fixed_units::{NumberFault, whole};
 use net_core::Memory;
 use row_reader::{
-    Accepted, Code, Column, Complaint, Row, RowRefusal, Rows, TableRefusal, identifier,
-    not_a_number, read_rows, required_column, unless,
+    Accepted, Code, Column, Fields, RowRefusal, TableRefusal, not_a_number, read_rows, unless,
 };
-use std::alloc::Global;
-
-// Where the columns of a start table are.
-#[derive(Clone, Copy)]
-struct StartPlaces {
-    agent: usize,
-    origin: usize,
-    destination: usize,
-    links: usize,
-}
-
-impl StartPlaces {
-    #[tactic(auto, unfolding(crate::specs::StartTable::start_places))]
-    fn of(rows: &Rows<'_>) -> Result<Self, Complaint>
-        ensures { result ≡ start_places rows.now.header }
-    {
-        let agent = required_column(rows, Column::AgentId)?;
-        let origin = required_column(rows, Column::OZoneId)?;
-        let destination = required_column(rows, Column::DZoneId)?;
-        let links = required_column(rows, Column::LinkIds)?;
-        Ok(StartPlaces {
-            agent,
-            origin,
-            destination,
-            links,
-        })
-    }
-}
+use std::alloc::{AllocError, Global};
 
 // The pieces of a text between semicolons.
 fn pieces(alloc: Global, text: &[u8]) -> Result<Vec<&[u8]>, Memory>
@@ -127,26 +99,28 @@ struct StartTable {
     rows: StartRows,
 }
 
-impl StartTable {
-    // The row of a record, or the first check that fails.
+impl Accepted for StartTable {
+    type Item = StartRow;
+
+    ghost limit = { MOST_START_ROWS };
+
+    ghost rows = { λ t. t.rows };
+
+    ghost checks = { λ _. start_row_of };
+
+    ghost fits = { λ t start. place_of (agents_of t.rows) start.agent ≡ None };
+
+    fn most(&self) -> usize {
+        MOST_START_ROWS
+    }
+
     #[tactic(auto, unfolding(crate::specs::StartTable::start_row_of))]
-    fn row(&self, places: StartPlaces, row: &Row) -> Result<StartRow, RowRefusal>
-        ensures row { IfOk result (λ start.
-            start_row_of places self.now.rows row.now.fields ≡ Ok start) }
-        ensures complaint { (c : Complaint) → result ≡ Err (refusal.Complaint c)
-            → start_row_of places self.now.rows row.now.fields ≡ Err c }
-        ensures new { IfOk result (λ start.
-            place_of (agents_of self.now.rows) start.agent ≡ None) }
-    {
-        let agent = identifier(Column::AgentId, row.field_in(Some(places.agent)))?;
+    fn row(&self, fields: &Fields<'_>) -> Result<StartRow, RowRefusal> {
+        let agent = fields.identifier(Column::AgentId)?;
         unless(self.rows.contains(agent), Code::E6, Column::AgentId)?;
-        let origin = identifier(Column::OZoneId, row.field_in(Some(places.origin)))?;
-        let destination = identifier(Column::DZoneId, row.field_in(Some(places.destination)))?;
-        let links = ids_in(
-            self.alloc,
-            Column::LinkIds,
-            row.field_in(Some(places.links)),
-        )?;
+        let origin = fields.identifier(Column::OZoneId)?;
+        let destination = fields.identifier(Column::DZoneId)?;
+        let links = ids_in(self.alloc, Column::LinkIds, fields.text(Column::LinkIds))?;
         Ok(StartRow {
             agent,
             origin,
@@ -154,33 +128,9 @@ impl StartTable {
             links,
         })
     }
-}
 
-impl Accepted for StartTable {
-    type Places = StartPlaces;
-
-    type Item = StartRow;
-
-    ghost limit = { MOST_START_ROWS };
-
-    ghost columns = { start_places };
-
-    ghost rows = { λ t. t.rows };
-
-    ghost judge = { λ _. start_row_of };
-
-    fn find_columns(table: &Rows<'_>) -> Result<StartPlaces, Complaint> {
-        StartPlaces::of(table)
-    }
-
-    fn is_full(&self) -> bool {
-        self.rows.as_slice().len() >= MOST_START_ROWS
-    }
-
-    fn accept(&mut self, places: StartPlaces, row: &Row) -> Result<(), RowRefusal> {
-        let start = self.row(places, row)?;
-        self.rows.push(start)?;
-        Ok(())
+    fn push(&mut self, start: StartRow) -> Result<(), AllocError> {
+        self.rows.push(start)
     }
 }
 
@@ -195,12 +145,14 @@ pub fn read_start(alloc: Global, text: &[u8]) -> Result<StartRows, TableRefusal>
         alloc,
         rows: StartRows::new(alloc),
     };
-    match read_rows(alloc, Table::Start, text, table) {
-        Ok(table) => {
-            // What holds of all accepted rows is known where they are seen.
-            let _seen = table.rows.as_slice();
-            Ok(table.rows)
-        }
-        Err(refusal) => Err(refusal),
-    }
+    let required = [
+        Column::AgentId,
+        Column::OZoneId,
+        Column::DZoneId,
+        Column::LinkIds,
+    ];
+    let table = read_rows(alloc, Table::Start, &required, text, table)?;
+    // What holds of all accepted rows is known where they are seen.
+    let _seen = table.rows.as_slice();
+    Ok(table.rows)
 }

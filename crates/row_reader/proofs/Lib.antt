@@ -7,3 +7,4 @@ pub mod ColumnsFacts
 pub mod GoodFacts
 pub mod FirstFaultFacts
 pub mod LawsFacts
+pub mod Kept

@@ -9,15 +9,15 @@ use Rattle.desk_io.specs.declared.desk.Table.TheVariants as table
 use Rattle.fixed_units.specs.Quantity.{number}
 use Rattle.row_reader.specs.Records.{Record, records, is_good}
 use Rattle.row_reader.specs.Trimmed.{trimmed}
-use Rattle.row_reader.specs.Columns.{column_of, field_in}
-use Rattle.row_reader.specs.Fields.{unless, within, identifier, quantity, quantity_or}
-use Rattle.row_reader.specs.Fields.{optional_quantity, required_column}
-use Rattle.row_reader.specs.FirstFault.{Judge, then_with, verdict}
+use Rattle.row_reader.specs.Columns.{column_of, field_in, text}
+use Rattle.row_reader.specs.Rows.{FieldsView}
+use Rattle.row_reader.specs.Fields.{has_columns, then_with, unless, within, identifier, quantity}
+use Rattle.row_reader.specs.Fields.{quantity_or, optional_quantity}
+use Rattle.row_reader.specs.FirstFault.{Checks, verdict}
 use Rattle.row_reader.specs.declared.faults.Code.{Code}
 use Rattle.row_reader.specs.declared.faults.Code.TheVariants as code
 use Rattle.row_reader.specs.declared.faults.Column.{Column}
 use Rattle.row_reader.specs.declared.faults.Column.TheVariants as column
-use Rattle.row_reader.specs.declared.faults.Complaint.{Complaint}
 use Rattle.row_reader.specs.declared.faults.TableFault.{TableFault}
 use Rattle.row_reader.specs.OnLiterals.{tables_on_literals}
 
@@ -87,6 +87,22 @@ field_past = refl
 field_missing : field_in (codes "1" ∷ codes "7" ∷ []) None ≡ []
 field_missing = refl
 
+-- what a column says in a record, and of the columns that a header lacks the first
+said : text (record { header = header; fields = codes "1" ∷ codes " 7" ∷ codes "2" ∷ []; line = 2 })
+    column.ZoneId ≡ codes "7"
+unfolding tables_on_literals header
+said = refl
+
+unsaid : text (record { header = header; fields = codes "1" ∷ codes "7" ∷ codes "2" ∷ []; line = 2 })
+    column.NodeId ≡ []
+unfolding tables_on_literals header
+unsaid = refl
+
+lacking : has_columns header (column.ZoneId ∷ column.Volume ∷ column.NodeId ∷ [])
+    ≡ Err (record { code = code.E1; column = column.Volume })
+unfolding tables_on_literals header
+lacking = refl
+
 -- a record of another length than the header, and one that isn't text
 too_short : is_good (codes "id" ∷ codes "zone" ∷ []) (codes "1" ∷ []) ≡ false
 unfolding tables_on_literals
@@ -103,19 +119,16 @@ good = refl
 -- a table of names that may have two rows: its column is `name`, and a name isn't empty and has no
 -- earlier row
 names : List Record → Result (List (List ℕ)) TableFault
-names = verdict table.Node 2 name_place name_of
+names = verdict table.Node 2 (column.NodeId ∷ []) name_of
   where
-    name_place : Record → Result ℕ Complaint
-    name_place first = required_column first column.NodeId
+    name_in : FieldsView → List ℕ
+    name_in r = text r column.NodeId
 
-    name_in : Record → ℕ → List ℕ
-    name_in r place = field_in r (Some place)
-
-    name_of : ℕ → Judge (List ℕ)
-    name_of place before r =
-        then_with (unless (nat_eq (length (name_in r place)) 0) code.E3 column.NodeId) (λ filled.
-        then_with (unless (list_any (bytes_eq (name_in r place)) before) code.E6 column.NodeId)
-        (λ new. Ok (name_in r place)))
+    name_of : Checks (List ℕ)
+    name_of before r =
+        then_with (unless (nat_eq (length (name_in r)) 0) code.E3 column.NodeId) (λ filled.
+        then_with (unless (list_any (bytes_eq (name_in r)) before) code.E6 column.NodeId)
+        (λ new. Ok (name_in r)))
 
 -- a fault of that table
 fault : ℕ → Code → Column → TableFault

@@ -1,16 +1,20 @@
--- The checks of one field, and of one column of the header.
-use Rattle.std.specs.Prelude.{ℕ, ◌==◌, ◌&&◌, nat_le, Bool, List, length, if◌then◌else◌, Result, Ok}
-use Rattle.std.specs.Prelude.{Err, Option, None, Some, ⊤}
+-- The checks of one field, and of the columns of a header.
+use Rattle.std.specs.Prelude.{ℕ, ◌==◌, ◌&&◌, nat_le, Bool, List, [], ◌∷◌, length, Result, Ok, Err}
+use Rattle.std.specs.Prelude.{if◌then◌else◌, Option, None, Some, is_none, ⊤}
 use Rattle.fixed_units.specs.Quantity.{whole_of, milli_of}
 use Rattle.fixed_units.specs.declared.fault.NumberFault.{NumberFault}
 use Rattle.fixed_units.specs.declared.fault.NumberFault.TheVariants as number_fault
 use Rattle.row_reader.specs.Records.{Record}
-use Rattle.row_reader.specs.Columns.{column_of}
-use Rattle.row_reader.specs.Names.{column_name}
+use Rattle.row_reader.specs.Columns.{place_of}
 use Rattle.row_reader.specs.declared.faults.Code.{Code}
 use Rattle.row_reader.specs.declared.faults.Code.TheVariants.{E1, E3, E4, E5}
 use Rattle.row_reader.specs.declared.faults.Column.{Column}
 use Rattle.row_reader.specs.declared.faults.Complaint.{Complaint}
+
+-- go on with a value, or stay with the fault: checks in a chain fail at the first one that fails
+abbrev pub then_with : {A B C : Type 0} → Result A C → (A → Result B C) → Result B C
+then_with (Err fault) next = Err fault
+then_with (Ok x) next = next x
 
 -- a complaint with a code about a column
 abbrev pub complain : Code → Column → Complaint
@@ -59,15 +63,8 @@ unfoldable pub optional_quantity : Column → List ℕ → Result (Option ℕ) C
 optional_quantity what text =
     if length text == 0 then Ok None else option_of (numbered what (milli_of text))
 
--- the place of a column, or none
-abbrev pub optional_column : Record → Column → Option ℕ
-optional_column header what = column_of header (column_name what)
-
--- a place that is there, or E1
-abbrev pub required_place : Option ℕ → Column → Result ℕ Complaint
-required_place None what = Err (complain E1 what)
-required_place (Some place) what = Ok place
-
--- the place of a column that a table must have
-abbrev pub required_column : Record → Column → Result ℕ Complaint
-required_column header what = required_place (optional_column header what) what
+-- the first of some columns that a header lacks is E1
+abbrev pub has_columns : Record → List Column → Result ⊤ Complaint
+has_columns header [] = Ok tt
+has_columns header (what ∷ rest) =
+    then_with (unless (is_none (place_of header what)) E1 what) (λ _. has_columns header rest)

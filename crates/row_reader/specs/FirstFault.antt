@@ -4,10 +4,13 @@ use Rattle.std.specs.Prelude.{ℕ, ◌+◌, ◌≡◌, List, [], ◌∷◌, ◌+
 use Rattle.std.specs.Prelude.{if◌then◌else◌, nat_le, ⊤}
 use Rattle.desk_io.specs.declared.desk.Table.{Table}
 use Rattle.row_reader.specs.Records.{Record, is_text, is_good}
-use Rattle.row_reader.specs.Rows.{HasBadHeader}
+use Rattle.row_reader.specs.Rows.{FieldsView, HasBadHeader}
 use Rattle.row_reader.specs.Faults.{fault_of}
-use Rattle.row_reader.specs.Fields.{complain}
+use Rattle.row_reader.specs.Fields.{complain, has_columns, then_with}
+use Rattle.row_reader.specs.declared.accepted.RowRefusal.{RowRefusal}
+use Rattle.row_reader.specs.declared.accepted.RowRefusal.TheVariants as row_refusal
 use Rattle.row_reader.specs.declared.faults.Code.TheVariants.{E2, E12}
+use Rattle.row_reader.specs.declared.faults.Column.{Column}
 use Rattle.row_reader.specs.declared.faults.Column.TheVariants.{NoColumn}
 use Rattle.row_reader.specs.declared.faults.Complaint.{Complaint}
 use Rattle.row_reader.specs.declared.faults.TableFault.{TableFault}
@@ -18,10 +21,9 @@ use Rattle.row_reader.specs.declared.faults.TableRefusal.TheVariants as refusal
 abbrev pub Judge : Type 0 → Type 0
 Judge R = List R → Record → Result R Complaint
 
--- go on with a value, or stay with the fault: checks in a chain fail at the first one that fails
-abbrev pub then_with : {A B C : Type 0} → Result A C → (A → Result B C) → Result B C
-then_with (Err fault) next = Err fault
-then_with (Ok x) next = next x
+-- a table's checks of a line: what the fields of a record give after the rows before it
+abbrev pub Checks : Type 0 → Type 0
+Checks R = List R → FieldsView → Result R Complaint
 
 -- what a check of a line gives: a complaint is a fault at that line
 abbrev pub at_line : {A : Type 0} → Table → ℕ → Result A Complaint → Result A TableFault
@@ -29,11 +31,13 @@ at_line table line (Ok x) = Ok x
 at_line table line (Err c) = Err (fault_of table line c)
 
 -- under a header and with a most number of rows:
--- the record itself, then the number of rows, then what its columns give
-abbrev pub judged : {R : Type 0} → Record → ℕ → Judge R → Judge R
-judged header limit columns before r =
+-- the record itself, then the number of rows, then what its fields give
+abbrev pub judged : {R : Type 0} → Record → ℕ → Checks R → Judge R
+judged header limit checks before r =
     if is_good header r
-    then (if nat_le limit (length before) then Err (complain E12 NoColumn) else columns before r)
+    then (if nat_le limit (length before)
+    then Err (complain E12 NoColumn)
+    else checks before (record { header = header; fields = r; line = length before + 2 }))
     else Err (complain E2 NoColumn)
 
 -- the rows before and those of these records, or the first fault:
@@ -45,23 +49,21 @@ rows_from table judge before (r ∷ rest) =
     then_with (at_line table (length before + 2) (judge before r)) (λ row.
     rows_from table judge (before ++ row ∷ []) rest)
 
--- a table's rows under a header that gives the places of its columns, or the first fault
-abbrev pub rows_of : {P R : Type 0}
-    → Table → ℕ → (Record → Result P Complaint) → (P → Judge R)
-    → Record → List Record → Result (List R) TableFault
-rows_of table limit places columns header rest =
-    then_with (at_line table 1 (places header)) (λ p.
-    rows_from table (judged header limit (columns p)) [] rest)
+-- a table's rows under a header that must have some columns, or the first fault
+abbrev pub rows_of : {R : Type 0}
+    → Table → ℕ → List Column → Checks R → Record → List Record → Result (List R) TableFault
+rows_of table limit required checks header rest =
+    then_with (at_line table 1 (has_columns header required)) (λ _.
+    rows_from table (judged header limit checks) [] rest)
 
 -- a table's rows, or its first fault.
 -- The first record is the header: a text without records has a header of no columns
-unfoldable pub verdict : {P R : Type 0}
-    → Table → ℕ → (Record → Result P Complaint) → (P → Judge R)
-    → List Record → Result (List R) TableFault
-verdict table limit places columns [] = rows_of table limit places columns [] []
-verdict table limit places columns (header ∷ rest) =
+unfoldable pub verdict : {R : Type 0}
+    → Table → ℕ → List Column → Checks R → List Record → Result (List R) TableFault
+verdict table limit required checks [] = rows_of table limit required checks [] []
+verdict table limit required checks (header ∷ rest) =
     if is_text header
-    then rows_of table limit places columns header rest
+    then rows_of table limit required checks header rest
     else Err (fault_of table 1 (complain E2 NoColumn))
 
 -- what a reader answers: the rows, the first fault, or want of memory
@@ -69,6 +71,12 @@ abbrev pub Tells : {R : Type 0} → Result (List R) TableFault → Result (List 
 Tells told (Ok rows) = told ≡ Ok rows
 Tells told (Err (refusal.Fault f)) = told ≡ Err f
 Tells told (Err refusal.Memory) = ⊤
+
+-- what the reader of a record answers: its row, the first check that fails, or want of memory
+abbrev pub TellsRow : {R : Type 0} → Result R Complaint → Result R RowRefusal → Type 0
+TellsRow told (Ok row) = told ≡ Ok row
+TellsRow told (Err (row_refusal.Complaint complaint)) = told ≡ Err complaint
+TellsRow told (Err row_refusal.Memory) = ⊤
 
 -- the rows in a reader's answer
 abbrev pub rows_in :

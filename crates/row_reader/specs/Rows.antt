@@ -10,6 +10,12 @@ pub record RowView : Type 0 where
   pub fields : Record
   pub line : ℕ
 
+-- the fields of a record under its header, and its line
+pub record FieldsView : Type 0 where
+  pub header : Record
+  pub fields : Record
+  pub line : ℕ
+
 -- rows: the header, the line of the last record that was read, the records that are left, and the
 -- fault that stands, if any
 pub record RowsView : Type 0 where

@@ -41,7 +41,7 @@ view_of r header line ended fault = record {
 }
 
 abbrev pub rows_view : rows.Inside → RowsView
-rows_view a = view_of a.reader.value (fields_of a.header) a.line a.ended a.fault
+rows_view a = view_of a.reader.value a.header a.line a.ended a.fault
 
 -- a reader at the start of a text
 pub record IsFresh (r : Reader (Bor (List ℕ))) (text : List ℕ) : Type 0 where
@@ -67,4 +67,4 @@ pub record IsReading (r : Reader (Bor (List ℕ))) (header : Record) (line : ℕ
 -- what rows keep until they end or a fault stands
 abbrev pub IsSoundRows : rows.Inside → Type 0
 IsSoundRows a =
-    IsNone a.fault → a.ended ≡ false → IsReading a.reader.value (fields_of a.header) a.line
+    IsNone a.fault → a.ended ≡ false → IsReading a.reader.value a.header a.line

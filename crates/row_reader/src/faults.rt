@@ -73,6 +73,39 @@ pub enum Column {
     NoColumn,
 }
 
+// Each column, at its number.
+pub(crate) const ALL_COLUMNS: [Column; 29] = [
+    Column::NodeId,
+    Column::ZoneId,
+    Column::LinkId,
+    Column::FromNodeId,
+    Column::ToNodeId,
+    Column::Directed,
+    Column::Length,
+    Column::Lanes,
+    Column::FreeSpeed,
+    Column::Capacity,
+    Column::IbLinkId,
+    Column::ObLinkId,
+    Column::Penalty,
+    Column::OZoneId,
+    Column::DZoneId,
+    Column::Volume,
+    Column::FromStep,
+    Column::ToStep,
+    Column::Entered,
+    Column::TravelSteps,
+    Column::FreeSteps,
+    Column::CapacityByStep,
+    Column::AgentId,
+    Column::DepartureStep,
+    Column::ArrivalStep,
+    Column::Status,
+    Column::LinkIds,
+    Column::EntrySteps,
+    Column::NoColumn,
+];
+
 /// A check that fails within a line.
 #[derive(Clone, Copy, Debug, PartialEq, Eq)]
 pub struct Complaint {

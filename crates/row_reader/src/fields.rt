@@ -1,18 +1,17 @@
-// The checks of one field, and of one column of the header.
+// The fields of a record, and the checks of one field.
 ghost use Rattle.std.specs.Prelude.{◌≡◌, ◌≤◌, IfOk, IfSome};
 ghost use Rattle.row_reader.specs.Fields.{complain as complain_of, unless as unless_of};
 ghost use Rattle.row_reader.specs.Fields.{not_a_number as not_a_number_of, numbered as numbered_of};
 ghost use Rattle.row_reader.specs.Fields.{within as within_of};
-ghost use Rattle.row_reader.specs.Fields.{identifier as identifier_of, quantity as quantity_of};
-ghost use Rattle.row_reader.specs.Fields.{quantity_or as quantity_or_of};
-ghost use Rattle.row_reader.specs.Fields.{optional_column as optional_column_of};
-ghost use Rattle.row_reader.specs.Fields.{optional_quantity as optional_quantity_of};
-ghost use Rattle.row_reader.specs.Fields.{required_column as required_column_of};
+ghost use Rattle.row_reader.specs.Columns.{text};
+ghost use Rattle.row_reader.specs.Fields.{identifier, optional_quantity, quantity, quantity_or};
 ghost use Rattle.fixed_units.specs.Quantity.{milli_of};
 
-use crate::faults::{Code, Column, Complaint, column_name};
-use crate::rows::Rows;
+use crate::faults::{Code, Column, Complaint};
+use crate::header::Header;
+use crate::rows::Row;
 use fixed_units::{GREATEST_IDENTIFIER, MOST_THOUSANDTHS, NumberFault, milli, whole};
+use std::marker::Model;
 
 /// A complaint with this code about this column.
 pub fn complain(code: Code, column: Column) -> Complaint
@@ -55,80 +54,108 @@ pub fn not_a_number(column: Column, fault: NumberFault) -> Complaint
     }
 }
 
-/// The identifier in a required field: E3 where it is empty, E4 where it is none, E5 where it is
-/// out of range.
-#[tactic(auto, unfolding(crate::specs::Fields::identifier))]
-pub fn identifier(column: Column, text: &[u8]) -> Result<u64, Complaint>
-    ensures value { result ≡ identifier_of column text.now }
-    ensures range { IfOk result (λ n. n ≤ GREATEST_IDENTIFIER) }
-{
-    if text.is_empty() {
-        return Err(complain(Code::E3, column));
-    }
-    match whole(text) {
-        Ok(number) => Ok(number),
-        Err(fault) => Err(not_a_number(column, fault)),
-    }
+/// The fields of a record, by their columns.
+#[derive(Drop)]
+pub struct Fields<'a> {
+    header: &'a Header,
+    row: &'a Row,
 }
 
-/// The thousandths of the quantity in a required field: E3 where it is empty, E4 where it is none,
-/// E5 where it is out of range.
-#[tactic(auto, unfolding(crate::specs::Fields::quantity))]
-pub fn quantity(column: Column, text: &[u8]) -> Result<u64, Complaint>
-    ensures value { result ≡ quantity_of column text.now }
-    ensures range { IfOk result (λ n. n ≤ MOST_THOUSANDTHS) }
-{
-    if text.is_empty() {
-        return Err(complain(Code::E3, column));
-    }
-    thousandths(column, text)
+impl<'a> Model for Fields<'a> {
+    ghost use Rattle.row_reader.specs.Rows.{FieldsView};
+
+    ghost Value = { FieldsView };
+
+    ghost view = { λ a. record {
+      header = a.header.now;
+      fields = a.row.now.fields;
+      line = a.row.now.line;
+    } };
 }
 
-/// The thousandths of the quantity in an optional field, or `otherwise` where it is empty: E4 where
-/// it is none, E5 where it is out of range.
-#[tactic(auto, unfolding(crate::specs::Fields::quantity_or))]
-pub fn quantity_or(otherwise: u64, column: Column, text: &[u8]) -> Result<u64, Complaint>
-    requires { otherwise ≤ MOST_THOUSANDTHS }
-    ensures value { result ≡ quantity_or_of otherwise column text.now }
-    ensures range { IfOk result (λ n. n ≤ MOST_THOUSANDTHS) }
-{
-    if text.is_empty() {
-        return Ok(otherwise);
+impl<'a> Fields<'a> {
+    // The fields of a row under its header.
+    pub(crate) fn of(header: &'a Header, row: &'a Row) -> Self
+        ensures { result ≡ record {
+          header = header.now;
+          fields = row.now.fields;
+          line = row.now.line;
+        } }
+    {
+        Fields { header, row }
     }
-    thousandths(column, text)
-}
 
-/// The thousandths of the quantity in an optional field, or none where it is empty: E4 where it is
-/// no quantity, E5 where it is out of range.
-#[tactic(auto, unfolding(crate::specs::Fields::optional_quantity))]
-pub fn optional_quantity(column: Column, text: &[u8]) -> Result<Option<u64>, Complaint>
-    ensures value { result ≡ optional_quantity_of column text.now }
-    ensures range { IfOk result (λ n. IfSome n (λ x. x ≤ MOST_THOUSANDTHS)) }
-{
-    if text.is_empty() {
-        return Ok(None);
+    /// The number of the record, where the header is 1.
+    pub fn line(&self) -> u64
+        ensures { result ≡ self.now.line }
+    {
+        self.row.line()
     }
-    match thousandths(column, text) {
-        Ok(number) => Ok(Some(number)),
-        Err(complaint) => Err(complaint),
-    }
-}
 
-/// The place of a column that a table must have, or E1.
-pub fn required_column(rows: &Rows<'_>, column: Column) -> Result<usize, Complaint>
-    ensures { result ≡ required_column_of rows.now.header column }
-{
-    match optional_column(rows, column) {
-        Some(place) => Ok(place),
-        None => Err(complain(Code::E1, column)),
+    /// The field of a column, without the spaces and tabs at its ends. Empty where the header lacks
+    /// the column.
+    pub fn text(&self, column: Column) -> &'a [u8]
+        ensures { result.now ≡ text self.now column }
+    {
+        self.row.field_in(self.header.place(column))
     }
-}
 
-/// The place of a column that a table may have.
-pub fn optional_column(rows: &Rows<'_>, column: Column) -> Option<usize>
-    ensures { result ≡ optional_column_of rows.now.header column }
-{
-    rows.column(column_name(column))
+    /// The identifier in a required field: E3 where it is empty, E4 where it is none, E5 where it
+    /// is out of range.
+    #[tactic(auto, unfolding(crate::specs::Fields::identifier))]
+    pub fn identifier(&self, column: Column) -> Result<u64, Complaint>
+        ensures value { result ≡ identifier column (text self.now column) }
+        ensures range { IfOk result (λ n. n ≤ GREATEST_IDENTIFIER) }
+    {
+        let text = self.text(column);
+        unless(text.is_empty(), Code::E3, column)?;
+        match whole(text) {
+            Ok(number) => Ok(number),
+            Err(fault) => Err(not_a_number(column, fault)),
+        }
+    }
+
+    /// The thousandths of the quantity in a required field: E3 where it is empty, E4 where it is
+    /// none, E5 where it is out of range.
+    #[tactic(auto, unfolding(crate::specs::Fields::quantity))]
+    pub fn quantity(&self, column: Column) -> Result<u64, Complaint>
+        ensures value { result ≡ quantity column (text self.now column) }
+        ensures range { IfOk result (λ n. n ≤ MOST_THOUSANDTHS) }
+    {
+        let text = self.text(column);
+        unless(text.is_empty(), Code::E3, column)?;
+        thousandths(column, text)
+    }
+
+    /// The thousandths of the quantity in an optional field, or `otherwise` where it is empty: E4
+    /// where it is none, E5 where it is out of range.
+    #[tactic(auto, unfolding(crate::specs::Fields::quantity_or))]
+    pub fn quantity_or(&self, otherwise: u64, column: Column) -> Result<u64, Complaint>
+        requires { otherwise ≤ MOST_THOUSANDTHS }
+        ensures value { result ≡ quantity_or otherwise column (text self.now column) }
+        ensures range { IfOk result (λ n. n ≤ MOST_THOUSANDTHS) }
+    {
+        let text = self.text(column);
+        if text.is_empty() {
+            return Ok(otherwise);
+        }
+        thousandths(column, text)
+    }
+
+    /// The thousandths of the quantity in an optional field, or none where it is empty: E4 where it
+    /// is no quantity, E5 where it is out of range.
+    #[tactic(auto, unfolding(crate::specs::Fields::optional_quantity))]
+    pub fn optional_quantity(&self, column: Column) -> Result<Option<u64>, Complaint>
+        ensures value { result ≡ optional_quantity column (text self.now column) }
+        ensures range { IfOk result (λ n. IfSome n (λ x. x ≤ MOST_THOUSANDTHS)) }
+    {
+        let text = self.text(column);
+        if text.is_empty() {
+            return Ok(None);
+        }
+        let number = thousandths(column, text)?;
+        Ok(Some(number))
+    }
 }
 
 // The thousandths of a quantity's text.

@@ -3,14 +3,15 @@
 //! [`Rows`] reads a table's records in order and answers each with its line, the end exactly at the
 //! end, or the first record that isn't text or isn't as long as the header. [`read_rows`] makes
 //! rows of a table's records, or answers the first fault: the least line at which a check fails,
-//! and there the first check that fails. A table supplies its columns and its checks of a line as
-//! an [`Accepted`], and makes them of the field checks here.
+//! and there the first check that fails. A table names the columns that it must have, and supplies
+//! its checks of a line as an [`Accepted`], made of the checks of [`Fields`].
 #![tactic(auto)]
 
 mod accepted;
 mod blanks;
 mod faults;
 mod fields;
+mod header;
 mod laws;
 mod opening;
 mod rows;
@@ -19,9 +20,6 @@ pub use accepted::{Accepted, RowRefusal, read_rows};
 pub use faults::{
     Code, Column, Complaint, TableFault, TableRefusal, code_name, column_name, table_name,
 };
-pub use fields::{
-    complain, identifier, not_a_number, optional_column, optional_quantity, quantity, quantity_or,
-    required_column, unless, within,
-};
+pub use fields::{Fields, complain, not_a_number, unless, within};
 pub use laws::{accepted_rows_are_those_of_all_records, the_fault_is_that_of_the_least_line};
 pub use rows::{Row, RowFault, Rows};

@@ -1,17 +1,15 @@
 // The rows of a table over `csv`.
-ghost use Rattle.std.specs.Prelude.{◌≡◌, ◌<◌, ◌↔◌, ℕ, length, IfOk, IfErr, IfSome, IsNone, IsTrue};
-ghost use Rattle.std.specs.Prelude.{option_map};
+ghost use Rattle.std.specs.Prelude.{◌≡◌, ◌<◌, ℕ, length, IfOk, IfErr, IfSome, IsNone};
 ghost use Rattle.csv.specs.Reading.{error_kind};
-ghost use Rattle.csv.specs.Records.{field_at};
 ghost use Rattle.row_reader.specs.Columns.{column_of, field_in};
 ghost use Rattle.row_reader.specs.Faults.{fault_of_kind};
 ghost use Rattle.row_reader.specs.Records.{records};
 ghost use Rattle.row_reader.specs.Rows.{OpensAs, HasBadHeader, Steps};
 ghost use Rattle.row_reader.specs.RowsInside.{IsFresh};
-ghost use Rattle.row_reader.specs.Trimmed.{trimmed};
 ghost use Rattle.row_reader.specs.declared.rows.RowFault.TheVariants as fault;
 
 use crate::blanks::trim_blanks;
+use crate::header::Header;
 use csv::{Error, ErrorKind, Reader, ReaderBuilder, StringRecord};
 use std::alloc::Global;
 use std::marker::Model;
@@ -57,9 +55,9 @@ impl Row {
         self.field_in(Some(column))
     }
 
-    /// The field in a column that may be missing, without the spaces and tabs at its ends.
-    /// Empty where there is no such column.
-    pub fn field_in(&self, column: Option<usize>) -> &[u8]
+    // The field in a column that may be missing, without the spaces and tabs at its ends.
+    // Empty where there is no such column.
+    pub(crate) fn field_in(&self, column: Option<usize>) -> &[u8]
         ensures { result.now ≡ field_in self.now.fields column }
     {
         match column {
@@ -77,7 +75,7 @@ impl Row {
 pub struct Rows<'a> {
     alloc: Global,
     reader: Box<Reader<&'a [u8]>>,
-    header: StringRecord,
+    header: Header,
     line: u64,
     ended: bool,
     fault: Option<RowFault>,
@@ -109,7 +107,7 @@ impl<'a> Rows<'a> {
             Ok(true) => Ok(Rows {
                 alloc,
                 reader,
-                header,
+                header: Header::of(header),
                 line: 1,
                 ended: false,
                 fault: None,
@@ -117,7 +115,7 @@ impl<'a> Rows<'a> {
             Ok(false) => Ok(Rows {
                 alloc,
                 reader,
-                header: StringRecord::new(alloc),
+                header: Header::of(StringRecord::new(alloc)),
                 line: 1,
                 ended: true,
                 fault: None,
@@ -131,12 +129,7 @@ impl<'a> Rows<'a> {
     pub fn column(&self, name: &str) -> Option<usize>
         ensures { result ≡ column_of self.now.header name.now }
     {
-        for place in 0..self.header.len() {
-            if self.has_name(place, name) {
-                return Some(place);
-            }
-        }
-        None
+        self.header.position(name)
     }
 
     /// The next record, or the end. One that isn't UTF-8 or isn't as long as the header is a
@@ -174,15 +167,11 @@ impl<'a> Rows<'a> {
         }
     }
 
-    // Whether the header has this name at a place.
-    fn has_name(&self, place: usize, name: &str) -> bool
-        ensures { IsTrue result ↔
-            (option_map trimmed (field_at self.now.header place) ≡ Some name.now) }
+    // The header.
+    pub(crate) fn header(&self) -> &Header
+        ensures { result.now ≡ self.now.header }
     {
-        match self.header.get(place) {
-            Some(field) => trim_blanks(field.as_bytes()) == name.as_bytes(),
-            None => false,
-        }
+        &self.header
     }
 }
 

@@ -6,12 +6,13 @@ use Rattle.std.proofs.lemmas.Bool.{leb-true, ltb-false}
 use Rattle.std.proofs.lemmas.Option.{slice_get_within}
 use Rattle.std.proofs.lemmas.Result.{IfOk-weaker}
 use Rattle.std.proofs.Math.Nat.{div-lt_iff_lt-mul}
-use Rattle.desk_io.specs.declared.desk.Table.{Table}
 use Rattle.desk_io.specs.declared.desk.Table.TheVariants as table
-use Rattle.row_reader.specs.Columns.{field_in}
+use Rattle.row_reader.proofs.Kept.{if_ok, kept, passes}
+use Rattle.row_reader.specs.Columns.{text}
 use Rattle.row_reader.specs.Fields.{complain, identifier, unless, within}
-use Rattle.row_reader.specs.FirstFault.{Judge, judged, rows_from, rows_of, then_with, verdict}
-use Rattle.row_reader.specs.Records.{Record, is_good, is_text}
+use Rattle.row_reader.specs.FirstFault.{verdict}
+use Rattle.row_reader.specs.Records.{Record}
+use Rattle.row_reader.specs.Rows.{FieldsView}
 use Rattle.row_reader.specs.declared.faults.Code.TheVariants.{E8, E13}
 use Rattle.row_reader.specs.declared.faults.Column.{Column}
 use Rattle.row_reader.specs.declared.faults.Column.TheVariants as column
@@ -22,61 +23,10 @@ use Rattle.row_reader.specs.declared.faults.TableRefusal.{TableRefusal}
 use Rattle.dta_model.specs.LinkTimes.{buckets_to}
 use Rattle.link_times.proofs.Places.{bucket_inside}
 use Rattle.skims.specs.GivenTimes.{AreRowsOf}
-use Rattle.skims.specs.TimesTable.{has_link, link_of, none_missing, own_link, row_count, same_number, time_row_of, times_places, times_verdict, travel_of, wanted_after, wanted_in}
+use Rattle.skims.specs.TimesTable.{has_link, link_of, none_missing, own_link, row_count, same_number, time_row_of, times_columns, times_verdict, travel_of, wanted_after, wanted_in}
 use Rattle.skims.specs.declared.time_rows.TimeRow.{TimeRow}
 use Rattle.skims.specs.declared.times_table.TheConstants.{MOST_TIME_ROWS, MOST_TRAVEL_STEPS}
-use Rattle.skims.specs.declared.times_table.TimesPlaces.{TimesPlaces}
 use Rattle.skims.specs.declared.wanted.Wanted.{Wanted}
-
--- ---- chains of checks
-
--- a chain that goes on with the value of a check
-passes : {A B C : Type 0} (Q : B → Type 0) (r : Result A C) (f : A → Result B C) → ((x : A) → r ≡ Ok x → IfOk (f x) Q) → IfOk (then_with r f) Q
-passes Q (Ok x) f h = h x refl
-passes Q (Err c) f h = tt
-
--- what holds of the value of a check holds of the value that it gave
-if_ok : {A C : Type 0} (Q : A → Type 0) {r : Result A C} {x : A} → r ≡ Ok x → IfOk r Q → Q x
-if_ok Q e h = rw e at h
-
--- ---- what stays true row by row is true of all rows of an accepted table
-module _ {P R : Type 0} (Q : List R → Type 0) (table : Table) (limit : ℕ) (places : Record → Result P Complaint) (columns : P → Judge R)
-    (grows : (p : P) (before : List R) (r : Record) → Q before → IfOk (columns p before r) (λ x. Q (before ++ x ∷ []))) where
-  judged-grows : (p : P) (header : Record) (before : List R) (r : Record) (x : R) → judged header limit (columns p) before r ≡ Ok x → Q before → Q (before ++ x ∷ [])
-  judged-grows p header before r x e q =
-      elim (is_good header r) as (λ b. is_good header r ≡ b → Q (before ++ x ∷ [])) [
-        | true ↦ λ t. elim (nat_le limit (length before)) as (λ b. nat_le limit (length before) ≡ b → Q (before ++ x ∷ [])) [
-          | true ↦ λ full. absurd (let k = rw (t, full) at e in cc)
-          | false ↦ λ full. if_ok (λ y. Q (before ++ y ∷ [])) (rw (t, full) at e) (grows p before r q)
-        ] refl
-        | false ↦ λ t. absurd (let k = rw t at e in cc)
-      ] refl
-
-  rows_from-keep : (p : P) (header : Record) (before : List R) (rest : List Record) (rows : List R)
-      → rows_from table (judged header limit (columns p)) before rest ≡ Ok rows → Q before → Q rows
-  unfolding rows_from
-  rows_from-keep p header before [] rows e q = let same : before ≡ rows = cc in rw (← same) q
-  rows_from-keep p header before (r ∷ rest) rows e q =
-      elim (judged header limit (columns p) before r) as (λ o. judged header limit (columns p) before r ≡ o → Q rows) [
-        | Ok x ↦ λ j. rows_from-keep p header (before ++ x ∷ []) rest rows (rw j at e) (judged-grows p header before r x j q)
-        | Err c ↦ λ j. absurd (let k = rw j at e in cc)
-      ] refl
-
-  rows_of-keep : (header : Record) (rest : List Record) (rows : List R) → rows_of table limit places columns header rest ≡ Ok rows → Q [] → Q rows
-  rows_of-keep header rest rows e q =
-      elim (places header) as (λ o. places header ≡ o → Q rows) [
-        | Ok p ↦ λ j. rows_from-keep p header [] rest rows (rw j at e) q
-        | Err c ↦ λ j. absurd (let k = rw j at e in cc)
-      ] refl
-
-  verdict-keep : (all : List Record) (rows : List R) → verdict table limit places columns all ≡ Ok rows → Q [] → Q rows
-  unfolding verdict
-  verdict-keep [] rows e q = rows_of-keep [] [] rows e q
-  verdict-keep (header ∷ rest) rows e q =
-      elim (is_text header) as (λ b. is_text header ≡ b → Q rows) [
-        | true ↦ λ t. rows_of-keep header rest rows (rw t at e) q
-        | false ↦ λ t. absurd (let k = rw t at e in cc)
-      ] refl
 
 -- ---- what a row that is accepted tells
 
@@ -132,33 +82,33 @@ one-more count before row below travel q = record {
   some = All-push (λ r. 1 ≤ r.travel) before row q.some travel;
 }
 
-time_row_of-grows : (net : NetRows) (bucket horizon : ℕ) → 0 < buckets_to bucket horizon → (places : TimesPlaces) (before : List TimeRow) (r : Record)
+time_row_of-grows : (net : NetRows) (bucket horizon : ℕ) → 0 < buckets_to bucket horizon → (before : List TimeRow) (r : FieldsView)
     → AreSoFar (row_count net bucket horizon) before
-    → IfOk (time_row_of net bucket horizon places before r) (λ row. AreSoFar (row_count net bucket horizon) (before ++ row ∷ []))
+    → IfOk (time_row_of net bucket horizon before r) (λ row. AreSoFar (row_count net bucket horizon) (before ++ row ∷ []))
 unfolding time_row_of
-time_row_of-grows net bucket horizon some places before r q =
+time_row_of-grows net bucket horizon some before r q =
     let Q : TimeRow → Type 0 = λ row. AreSoFar (row_count net bucket horizon) (before ++ row ∷ []) in
-    passes Q (link_of net.links (wanted_after net bucket horizon (length before)) (field_in r (Some places.link))) _ (λ wanted link-is.
-    passes Q (same_number column.FromStep wanted.from (field_in r (Some places.from))) _ (λ _ _.
-    passes Q (same_number column.ToStep wanted.to (field_in r (Some places.to))) _ (λ _ _.
-    passes Q (identifier column.Entered (field_in r (Some places.entered))) _ (λ entered _.
-    passes Q (travel_of (field_in r (Some places.travel))) _ (λ travel travel-is.
-    passes Q (same_number column.FreeSteps wanted.free (field_in r (Some places.free))) _ (λ _ _.
+    passes Q (link_of net.links (wanted_after net bucket horizon (length before)) (text r column.LinkId)) _ (λ wanted link-is.
+    passes Q (same_number column.FromStep wanted.from (text r column.FromStep)) _ (λ _ _.
+    passes Q (same_number column.ToStep wanted.to (text r column.ToStep)) _ (λ _ _.
+    passes Q (identifier column.Entered (text r column.Entered)) _ (λ entered _.
+    passes Q (travel_of (text r column.TravelSteps)) _ (λ travel travel-is.
+    passes Q (same_number column.FreeSteps wanted.free (text r column.FreeSteps)) _ (λ _ _.
     one-more (row_count net bucket horizon) before (record { entered = entered; travel = travel })
     (wanted_after-below net bucket horizon (length before) wanted some
     (if_ok (λ w. wanted_after net bucket horizon (length before) ≡ Some w) link-is
-    (link_of-is net.links (wanted_after net bucket horizon (length before)) (field_in r (Some places.link)))))
-    (if_ok (λ steps. 1 ≤ steps) travel-is (travel_of-some (field_in r (Some places.travel))))
+    (link_of-is net.links (wanted_after net bucket horizon (length before)) (text r column.LinkId))))
+    (if_ok (λ steps. 1 ≤ steps) travel-is (travel_of-some (text r column.TravelSteps)))
     q))))))
 
 -- all rows of an accepted table, where none is missing
 are-rows : (net : NetRows) (bucket horizon : ℕ) (all : List Record) (rows whole : List TimeRow) → 0 < buckets_to bucket horizon
-    → verdict table.Times MOST_TIME_ROWS times_places (time_row_of net bucket horizon) all ≡ Ok rows
+    → verdict table.Times MOST_TIME_ROWS times_columns (time_row_of net bucket horizon) all ≡ Ok rows
     → none_missing (row_count net bucket horizon) rows ≡ Ok whole → AreRowsOf net bucket horizon whole
 are-rows net bucket horizon all rows whole some accepted none =
     let q : AreSoFar (row_count net bucket horizon) rows
-    = verdict-keep (AreSoFar (row_count net bucket horizon)) table.Times MOST_TIME_ROWS times_places (time_row_of net bucket horizon)
-    (time_row_of-grows net bucket horizon some) all rows accepted (record { few = omega arith; some = All-nil (λ r. 1 ≤ r.travel) }) in
+    = kept (AreSoFar (row_count net bucket horizon)) table.Times MOST_TIME_ROWS times_columns (time_row_of net bucket horizon)
+    (λ before r row e _ q. if_ok (λ (x : TimeRow). AreSoFar (row_count net bucket horizon) (before ++ x ∷ [])) e (time_row_of-grows net bucket horizon some before r q)) all rows accepted (record { few = omega arith; some = All-nil (λ r. 1 ≤ r.travel) }) in
     elim (nat_lt (length rows) (row_count net bucket horizon)) as (λ b. nat_lt (length rows) (row_count net bucket horizon) ≡ b → AreRowsOf net bucket horizon whole) [
       | true ↦ λ t. absurd (let k = rw t at none in cc)
       | false ↦ λ t. let k = rw t at none in let same : rows ≡ whole = cc in rw (← same) (record {
@@ -170,7 +120,7 @@ are-rows net bucket horizon all rows whole some accepted none =
 -- the rows that a reader answers
 pub rows-told : (net : NetRows) (bucket horizon count : ℕ) (all : List Record) (rows : List TimeRow) (answer : Result (List TimeRow) TableRefusal)
     → 1 ≤ bucket → 1 ≤ horizon → count ≡ row_count net bucket horizon
-    → verdict table.Times MOST_TIME_ROWS times_places (time_row_of net bucket horizon) all ≡ Ok rows
+    → verdict table.Times MOST_TIME_ROWS times_columns (time_row_of net bucket horizon) all ≡ Ok rows
     → IfOk answer (λ whole. none_missing count rows ≡ Ok whole) → IfOk answer (AreRowsOf net bucket horizon)
 rows-told net bucket horizon count all rows answer b h e accepted none =
     let inside = bucket_inside bucket horizon 0 b h in

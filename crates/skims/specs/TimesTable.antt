@@ -1,13 +1,13 @@
 -- The rows of a times table: one for each bucket of each link of a network, link by link.
 use Rattle.std.specs.Prelude.{ℕ, ◌+◌, ◌*◌, ◌/◌, ◌%◌, min, not, nat_eq, nat_lt, if◌then◌else◌, Bool}
-use Rattle.std.specs.Prelude.{List, length, slice_get, Option, None, Some, option_map, Result, Ok}
+use Rattle.std.specs.Prelude.{List, [], ◌∷◌, length, slice_get, Option, None, Some, option_map, Result, Ok}
 use Rattle.std.specs.Prelude.{Err}
 use Rattle.std.specs.List.{list_any}
 use Rattle.desk_io.specs.declared.desk.Table.TheVariants as table
-use Rattle.row_reader.specs.Columns.{field_in}
+use Rattle.row_reader.specs.Columns.{text}
 use Rattle.row_reader.specs.Faults.{fault_of}
-use Rattle.row_reader.specs.Fields.{complain, identifier, required_column, unless, within}
-use Rattle.row_reader.specs.FirstFault.{then_with, verdict}
+use Rattle.row_reader.specs.Fields.{complain, identifier, then_with, unless, within}
+use Rattle.row_reader.specs.FirstFault.{Checks, verdict}
 use Rattle.row_reader.specs.Records.{Record}
 use Rattle.row_reader.specs.declared.faults.Code.TheVariants.{E8, E13}
 use Rattle.row_reader.specs.declared.faults.Column.{Column}
@@ -19,26 +19,13 @@ use Rattle.net_core.specs.declared.rows.NetRows.{NetRows}
 use Rattle.dta_model.specs.LinkTimes.{buckets_to}
 use Rattle.skims.specs.declared.time_rows.TimeRow.{TimeRow}
 use Rattle.skims.specs.declared.times_table.TheConstants.{MOST_TIME_ROWS, MOST_TRAVEL_STEPS}
-use Rattle.skims.specs.declared.times_table.TimesPlaces.{TimesPlaces}
 use Rattle.skims.specs.declared.wanted.Wanted.{Wanted}
 
--- the columns of a times table, or the first one that is missing
-unfoldable pub times_places : Record → Result TimesPlaces Complaint
-times_places header =
-    then_with (required_column header column.LinkId) (λ link.
-    then_with (required_column header column.FromStep) (λ from.
-    then_with (required_column header column.ToStep) (λ to.
-    then_with (required_column header column.Entered) (λ entered.
-    then_with (required_column header column.TravelSteps) (λ travel.
-    then_with (required_column header column.FreeSteps) (λ free.
-    Ok (record {
-      link = link;
-      from = from;
-      to = to;
-      entered = entered;
-      travel = travel;
-      free = free;
-    })))))))
+-- the columns that a times table must have
+abbrev pub times_columns : List Column
+times_columns =
+    column.LinkId ∷ column.FromStep ∷ column.ToStep ∷ column.Entered ∷ column.TravelSteps
+    ∷ column.FreeSteps ∷ []
 
 -- what the row of a bucket of a link has to tell: the link's identifier, the first step, the step
 -- after the last one, which the horizon may cut short, and the link's free-flow steps
@@ -86,16 +73,15 @@ travel_of text =
     then_with (identifier column.TravelSteps text) (within column.TravelSteps 1 MOST_TRAVEL_STEPS)
 
 -- the row of a record after the rows before it, or the first check that fails
-unfoldable pub time_row_of : NetRows → ℕ → ℕ → TimesPlaces → List TimeRow → Record
-    → Result TimeRow Complaint
-time_row_of net bucket horizon places before r =
+unfoldable pub time_row_of : NetRows → ℕ → ℕ → Checks TimeRow
+time_row_of net bucket horizon before r =
     then_with (link_of net.links (wanted_after net bucket horizon (length before))
-    (field_in r (Some places.link))) (λ wanted.
-    then_with (same_number column.FromStep wanted.from (field_in r (Some places.from))) (λ _.
-    then_with (same_number column.ToStep wanted.to (field_in r (Some places.to))) (λ _.
-    then_with (identifier column.Entered (field_in r (Some places.entered))) (λ entered.
-    then_with (travel_of (field_in r (Some places.travel))) (λ travel.
-    then_with (same_number column.FreeSteps wanted.free (field_in r (Some places.free))) (λ _.
+    (text r column.LinkId)) (λ wanted.
+    then_with (same_number column.FromStep wanted.from (text r column.FromStep)) (λ _.
+    then_with (same_number column.ToStep wanted.to (text r column.ToStep)) (λ _.
+    then_with (identifier column.Entered (text r column.Entered)) (λ entered.
+    then_with (travel_of (text r column.TravelSteps)) (λ travel.
+    then_with (same_number column.FreeSteps wanted.free (text r column.FreeSteps)) (λ _.
     Ok (record { entered = entered; travel = travel })))))))
 
 -- as many rows as a network's links have buckets
@@ -115,5 +101,5 @@ none_missing count rows =
 abbrev pub times_verdict : NetRows → ℕ → ℕ → List Record → Result (List TimeRow) TableFault
 times_verdict net bucket horizon records =
     then_with
-    (verdict table.Times MOST_TIME_ROWS times_places (time_row_of net bucket horizon) records)
+    (verdict table.Times MOST_TIME_ROWS times_columns (time_row_of net bucket horizon) records)
     (none_missing (row_count net bucket horizon))

@@ -1,13 +1,14 @@
 // Times tables.
 ghost use Rattle.std.specs.Prelude.{◌≡◌, ◌≤◌, length, IfErr, IfOk, IfSome, IsTrue, Err, Ok};
 ghost use Rattle.std.specs.Prelude.{if◌then◌else◌};
+ghost use Rattle.row_reader.specs.Columns.{text};
 ghost use Rattle.row_reader.specs.FirstFault.{Tells};
 ghost use Rattle.row_reader.specs.Records.{records};
 ghost use Rattle.row_reader.specs.declared.faults.Code.TheVariants.{E8, E13};
-ghost use Rattle.row_reader.specs.declared.faults.Column.TheVariants.{LinkId};
+ghost use Rattle.row_reader.specs.declared.faults.Column.TheVariants as column;
 ghost use Rattle.skims.specs.GivenTimes.{AreRowsOf};
 ghost use Rattle.skims.specs.TimesTable.{has_link, link_of, none_missing, same_number};
-ghost use Rattle.skims.specs.TimesTable.{row_count, time_row_of, times_places, times_verdict};
+ghost use Rattle.skims.specs.TimesTable.{row_count, time_row_of, times_verdict};
 ghost use Rattle.skims.specs.TimesTable.{travel_of, wanted_after};
 ghost use Rattle.skims.specs.declared.times_table.TheConstants.{MOST_TIME_ROWS, MOST_TRAVEL_STEPS};
 
@@ -16,49 +17,16 @@ use crate::wanted::{Wanted, after_rows, rows_wanted};
 use desk_io::Table;
 use net_core::Net;
 use row_reader::{
-    Accepted, Code, Column, Complaint, Row, RowRefusal, Rows, TableFault, TableRefusal, complain,
-    identifier, read_rows, required_column, within,
+    Accepted, Code, Column, Complaint, Fields, RowRefusal, TableFault, TableRefusal, complain,
+    read_rows, within,
 };
-use std::alloc::Global;
+use std::alloc::{AllocError, Global};
 
 /// The most rows of a times table.
 pub const MOST_TIME_ROWS: usize = 67_108_864;
 
 /// The most steps that a row may say a link takes.
 pub const MOST_TRAVEL_STEPS: u64 = 4_294_967_295;
-
-// Where the columns of a times table are.
-#[derive(Clone, Copy)]
-struct TimesPlaces {
-    link: usize,
-    from: usize,
-    to: usize,
-    entered: usize,
-    travel: usize,
-    free: usize,
-}
-
-impl TimesPlaces {
-    #[tactic(auto, unfolding(crate::specs::TimesTable::times_places))]
-    fn of(rows: &Rows<'_>) -> Result<Self, Complaint>
-        ensures { result ≡ times_places rows.now.header }
-    {
-        let link = required_column(rows, Column::LinkId)?;
-        let from = required_column(rows, Column::FromStep)?;
-        let to = required_column(rows, Column::ToStep)?;
-        let entered = required_column(rows, Column::Entered)?;
-        let travel = required_column(rows, Column::TravelSteps)?;
-        let free = required_column(rows, Column::FreeSteps)?;
-        Ok(TimesPlaces {
-            link,
-            from,
-            to,
-            entered,
-            travel,
-            free,
-        })
-    }
-}
 
 // Whether some link has an identifier.
 fn is_known(net: &Net, id: u64) -> bool
@@ -72,7 +40,7 @@ fn is_known(net: &Net, id: u64) -> bool
 fn not_its_link(net: &Net, id: u64) -> Complaint
     ensures { result ≡ record {
       code = if has_link net.now.links id then E13 else E8;
-      column = LinkId;
+      column = column.LinkId;
     } }
 {
     if is_known(net, id) {
@@ -84,11 +52,11 @@ fn not_its_link(net: &Net, id: u64) -> Complaint
 
 // What a row has to tell, where its field names its own link.
 #[tactic(auto, unfolding(crate::specs::TimesTable::link_of))]
-fn own_link(net: &Net, wanted: Option<Wanted>, text: &[u8]) -> Result<Wanted, Complaint>
+fn own_link(net: &Net, wanted: Option<Wanted>, fields: &Fields<'_>) -> Result<Wanted, Complaint>
     requires { IfSome wanted (λ wanted. IsTrue (has_link net.now.links wanted.link)) }
-    ensures { result ≡ link_of net.now.links wanted text.now }
+    ensures { result ≡ link_of net.now.links wanted (text fields.now column.LinkId) }
 {
-    let id = identifier(Column::LinkId, text)?;
+    let id = fields.identifier(Column::LinkId)?;
     match wanted {
         Some(wanted) => {
             if id == wanted.link {
@@ -103,10 +71,10 @@ fn own_link(net: &Net, wanted: Option<Wanted>, text: &[u8]) -> Result<Wanted, Co
 
 // The identifier in a required field, where it is this one.
 #[tactic(auto, unfolding(crate::specs::TimesTable::same_number))]
-fn same(column: Column, wanted: u64, text: &[u8]) -> Result<u64, Complaint>
-    ensures { result ≡ same_number column wanted text.now }
+fn same(column: Column, wanted: u64, fields: &Fields<'_>) -> Result<u64, Complaint>
+    ensures { result ≡ same_number column wanted (text fields.now column) }
 {
-    let number = identifier(column, text)?;
+    let number = fields.identifier(column)?;
     if number == wanted {
         Ok(number)
     } else {
@@ -116,11 +84,11 @@ fn same(column: Column, wanted: u64, text: &[u8]) -> Result<u64, Complaint>
 
 // The steps that a link takes.
 #[tactic(auto, unfolding(crate::specs::TimesTable::travel_of))]
-fn travel(text: &[u8]) -> Result<u64, Complaint>
-    ensures steps { result ≡ travel_of text.now }
+fn travel(fields: &Fields<'_>) -> Result<u64, Complaint>
+    ensures steps { result ≡ travel_of (text fields.now column.TravelSteps) }
     ensures most { IfOk result (λ n. n ≤ MOST_TRAVEL_STEPS) }
 {
-    let steps = identifier(Column::TravelSteps, text)?;
+    let steps = fields.identifier(Column::TravelSteps)?;
     within(Column::TravelSteps, 1, MOST_TRAVEL_STEPS, steps)
 }
 
@@ -135,66 +103,37 @@ struct TimesTable<'a> {
     ghost some_time: { 1 ≤ horizon },
 }
 
-impl TimesTable<'_> {
-    // The row of a record, or the first check that fails.
+impl Accepted for TimesTable<'_> {
+    type Item = TimeRow;
+
+    ghost limit = { MOST_TIME_ROWS };
+
+    ghost rows = { λ t. t.rows.items };
+
+    ghost checks = { λ t. time_row_of t.net.now t.bucket t.horizon };
+
+    fn most(&self) -> usize {
+        MOST_TIME_ROWS
+    }
+
     #[tactic(auto, unfolding(crate::specs::TimesTable::time_row_of))]
-    fn row(&self, places: TimesPlaces, row: &Row) -> Result<TimeRow, Complaint>
-        ensures { result ≡ time_row_of self.now.net.now self.now.bucket self.now.horizon places
-            self.now.rows.items row.now.fields }
-    {
+    fn row(&self, fields: &Fields<'_>) -> Result<TimeRow, RowRefusal> {
         let wanted = after_rows(self.net, self.bucket, self.horizon, self.rows.len());
-        let wanted = own_link(self.net, wanted, row.field_in(Some(places.link)))?;
-        same(
-            Column::FromStep,
-            wanted.from,
-            row.field_in(Some(places.from)),
-        )?;
-        same(Column::ToStep, wanted.to, row.field_in(Some(places.to)))?;
-        let entered = identifier(Column::Entered, row.field_in(Some(places.entered)))?;
-        let travel = travel(row.field_in(Some(places.travel)))?;
-        same(
-            Column::FreeSteps,
-            wanted.free,
-            row.field_in(Some(places.free)),
-        )?;
+        let wanted = own_link(self.net, wanted, fields)?;
+        same(Column::FromStep, wanted.from, fields)?;
+        same(Column::ToStep, wanted.to, fields)?;
+        let entered = fields.identifier(Column::Entered)?;
+        let travel = travel(fields)?;
+        same(Column::FreeSteps, wanted.free, fields)?;
         Ok(TimeRow {
             entered,
             travel: travel as u32,
         })
     }
-}
 
-impl Accepted for TimesTable<'_> {
-    type Places = TimesPlaces;
-
-    type Item = TimeRow;
-
-    ghost limit = { MOST_TIME_ROWS };
-
-    ghost columns = { times_places };
-
-    ghost rows = { λ t. t.rows.items };
-
-    ghost judge = { λ t. time_row_of t.net.now t.bucket t.horizon };
-
-    fn find_columns(table: &Rows<'_>) -> Result<TimesPlaces, Complaint>
-        ensures { result ≡ times_places table.now.header }
-    {
-        TimesPlaces::of(table)
-    }
-
-    fn is_full(&self) -> bool {
-        self.rows.len() >= MOST_TIME_ROWS
-    }
-
-    fn accept(&mut self, places: TimesPlaces, row: &Row) -> Result<(), RowRefusal> {
-        match self.row(places, row) {
-            Ok(times) => match self.rows.push(times) {
-                Ok(()) => Ok(()),
-                Err(_) => Err(RowRefusal::Memory),
-            },
-            Err(complaint) => Err(RowRefusal::Complaint(complaint)),
-        }
+    fn push(&mut self, times: TimeRow) -> Result<(), AllocError> {
+        self.rows.push(times)?;
+        Ok(())
     }
 }
 
@@ -243,8 +182,14 @@ pub fn read_times(
         horizon,
         rows: Vec::new(alloc),
     };
-    match read_rows(alloc, Table::Times, text, table) {
-        Ok(table) => whole(table.rows, rows_wanted(net, bucket, horizon)),
-        Err(refusal) => Err(refusal),
-    }
+    let required = [
+        Column::LinkId,
+        Column::FromStep,
+        Column::ToStep,
+        Column::Entered,
+        Column::TravelSteps,
+        Column::FreeSteps,
+    ];
+    let table = read_rows(alloc, Table::Times, &required, text, table)?;
+    whole(table.rows, rows_wanted(net, bucket, horizon))
 }

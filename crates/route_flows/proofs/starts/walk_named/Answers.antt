@@ -1,4 +1,4 @@
-use Rattle.std.proofs.Common.{◌≡◌, None, Option, Some, Vec, List, ◌∙◌, false, subst, sym, true}
+use Rattle.std.proofs.Common.{◌≡◌, Option, Vec, List, ◌∙◌, false, subst, sym, true}
 use Rattle.std.specs.Prelude.{option_map}
 use Rattle.std.specs.declared.alloc.Global.{Global}
 use Rattle.dta_model.specs.Plans.{link_numbers}

@@ -1,6 +1,5 @@
-use Rattle.std.proofs.Common.{◌≡◌, Err, List, Ok, Option, Result, subst}
+use Rattle.std.proofs.Common.{Err, Ok, Result, subst}
 use Rattle.std.specs.Prelude.{IfOk}
-use Rattle.net_core.specs.declared.rows.LinkNo.{LinkNo}
 use Rattle.route_flows.specs.Starts.{TellsFit, TellsWalk}
 use Rattle.route_flows.proofs.Named.{named_fits}
 use Rattle.route_flows.proofs.starts.walk_of_row.Goals as goal

@@ -6,4 +6,4 @@ pub invariant_of-self-2 : goal.invariant_of-self-2
 invariant_of-self-2 c =
     let old = c.self.inside in
     link_pushed old.rows.items c.push.new.self.items old.windows.items c.push-2.new.self.items old.ids c.add.new.self c.args.link
-    c.self.invariant (search rules) (search rules) (search rules) c.add.ensures.distinct (rw c.self.view_is c.requires.room) c.requires.range c.requires.windows
+    c.self.invariant (search rules) (search rules) (search rules) c.add.ensures.distinct (rw c.self.view_is c.requires.room) c.requires.next.range c.requires.next.windows
