@@ -1,7 +1,6 @@
 // The text of counts.
 ghost use Rattle.std.specs.Prelude.{◌≡◌, ◌<◌, ◌≤◌, ◌+◌, ◌*◌, ◌++◌, length, min, All, OnOk, OnErr};
 ghost use Rattle.desk_io.specs.declared.desk.Output.TheVariants as output;
-ghost use Rattle.desk_io.specs.State.{state_of};
 ghost use Rattle.desk_io.specs.Transfers.{Puts};
 ghost use Rattle.net_core.specs.Network.{link_at};
 ghost use Rattle.pending_text.specs.declared.pending.TheConstants.{PIECE};
@@ -34,9 +33,8 @@ pub fn put_counts<D: Desk>(
     requires bucket { 1 ≤ bucket }
     requires horizon { 1 ≤ horizon }
     requires turns { All (IsOfNet net.now horizon bucket) turns.now }
-    ensures { let state = state_of D.left D.taken D.read_faults D.put_faults in
-        Puts output.Counts (counts_text net.now turns.now through.now bucket horizon)
-        (state desk.old) (state desk.new) result }
+    ensures { Puts output.Counts (counts_text net.now turns.now through.now bucket horizon)
+        (D.state desk.old) (D.state desk.new) result }
 {
     let mut pending = header();
     add_turn_lines(&mut pending, desk, net, turns.as_slice(), bucket, horizon)?;
@@ -109,9 +107,8 @@ fn add_turn<D: Desk>(
     horizon: u32,
 ) -> Result<(), Failed>
     requires { IsOfNet net.now horizon bucket turn.now }
-    ensures { let state = state_of D.left D.taken D.read_faults D.put_faults in
-        Adds output.Counts (turn_line net.now bucket horizon turn.now) pending.old pending.new
-        (state desk.old) (state desk.new) result }
+    ensures { Adds output.Counts (turn_line net.now bucket horizon turn.now) pending.old pending.new
+        (D.state desk.old) (D.state desk.new) result }
 {
     pending.make_room(desk, Output::Counts, LINE)?;
     push_turn(pending, net, turn, bucket, horizon);
@@ -119,7 +116,7 @@ fn add_turn<D: Desk>(
 }
 
 // Adds the lines of turn counts.
-#[tactic(auto, unfolding(crate::specs::Text::turn_lines))]
+#[tactic(auto, using(pending_text::proofs::SendingFacts::starts), unfolding(crate::specs::Text::turn_lines))]
 fn add_turn_lines<D: Desk>(
     pending: &mut Pending,
     desk: &mut D,
@@ -129,9 +126,8 @@ fn add_turn_lines<D: Desk>(
     horizon: u32,
 ) -> Result<(), Failed>
     requires { All (IsOfNet net.now horizon bucket) turns.now }
-    ensures { let state = state_of D.left D.taken D.read_faults D.put_faults in
-        Adds output.Counts (turn_lines net.now bucket horizon turns.now) pending.old pending.new
-        (state desk.old) (state desk.new) result }
+    ensures { Adds output.Counts (turn_lines net.now bucket horizon turns.now)
+        pending.old pending.new (D.state desk.old) (D.state desk.new) result }
 {
     'each: for turn in turns {
         add_turn(pending, desk, net, turn, bucket, horizon)?;
@@ -164,9 +160,8 @@ fn add_through<D: Desk>(
     count: &ThroughCount,
     horizon: u32,
 ) -> Result<(), Failed>
-    ensures { let state = state_of D.left D.taken D.read_faults D.put_faults in
-        Adds output.Counts (through_line horizon count.now) pending.old pending.new
-        (state desk.old) (state desk.new) result }
+    ensures { Adds output.Counts (through_line horizon count.now) pending.old pending.new
+        (D.state desk.old) (D.state desk.new) result }
 {
     pending.make_room(desk, Output::Counts, LINE)?;
     push_through(pending, count, horizon);
@@ -174,16 +169,15 @@ fn add_through<D: Desk>(
 }
 
 // Adds the lines of through counts.
-#[tactic(auto, unfolding(crate::specs::Text::through_lines))]
+#[tactic(auto, using(pending_text::proofs::SendingFacts::starts), unfolding(crate::specs::Text::through_lines))]
 fn add_through_lines<D: Desk>(
     pending: &mut Pending,
     desk: &mut D,
     through: &[ThroughCount],
     horizon: u32,
 ) -> Result<(), Failed>
-    ensures { let state = state_of D.left D.taken D.read_faults D.put_faults in
-        Adds output.Counts (through_lines horizon through.now) pending.old pending.new
-        (state desk.old) (state desk.new) result }
+    ensures { Adds output.Counts (through_lines horizon through.now) pending.old pending.new
+        (D.state desk.old) (D.state desk.new) result }
 {
     'each: for count in through {
         add_through(pending, desk, count, horizon)?;

@@ -1,7 +1,9 @@
--- What a desk has left of each table and has taken of each output. `None` stands for bytes that are
--- not told.
-use Rattle.std.specs.Prelude.{ℕ, List, Option}
+-- What a desk has left of each table and has taken of each output, in lists by the numbers of the
+-- tables and of the outputs. `None` stands for bytes that are not told, and so does a number past
+-- the end of the list.
+use Rattle.std.specs.Prelude.{ℕ, zero, suc, List, [], ◌∷◌, Option, None, Some, get_or, replicate}
 use Rattle.std.specs.Io.KnownBytes.{prepend_known, append_known}
+use Rattle.desk_io.specs.declared.desk.TheConstants.{OUTPUTS}
 use Rattle.desk_io.specs.declared.desk.Table.{Table}
 use Rattle.desk_io.specs.declared.desk.Table.TheVariants.{Node, Link, Movement, Demand}
 use Rattle.desk_io.specs.declared.desk.Table.TheVariants.{Start, Times}
@@ -10,61 +12,56 @@ use Rattle.desk_io.specs.declared.desk.Output.TheVariants.{Agent, LinkTime, Gap,
 use Rattle.desk_io.specs.declared.desk.Output.TheVariants.{Skim, Counts, Sweep}
 
 -- the bytes of each table that are not read yet
-pub record Left : Type 0 where
-  pub node : Option (List ℕ)
-  pub link : Option (List ℕ)
-  pub movement : Option (List ℕ)
-  pub demand : Option (List ℕ)
-  pub start : Option (List ℕ)
-  pub times : Option (List ℕ)
+abbrev pub Left : Type 0
+Left = List (Option (List ℕ))
 
 -- the bytes that each output has taken
-pub record Taken : Type 0 where
-  pub agent : Option (List ℕ)
-  pub link_time : Option (List ℕ)
-  pub gap : Option (List ℕ)
-  pub report : Option (List ℕ)
-  pub watch : Option (List ℕ)
-  pub skim : Option (List ℕ)
-  pub counts : Option (List ℕ)
-  pub sweep : Option (List ℕ)
+abbrev pub Taken : Type 0
+Taken = List (Option (List ℕ))
+
+-- the number of a table
+abbrev pub table_number : Table → ℕ
+table_number Node = 0
+table_number Link = 1
+table_number Movement = 2
+table_number Demand = 3
+table_number Start = 4
+table_number Times = 5
+
+-- the number of an output
+abbrev pub output_number : Output → ℕ
+output_number Agent = 0
+output_number LinkTime = 1
+output_number Gap = 2
+output_number Report = 3
+output_number Watch = 4
+output_number Skim = 5
+output_number Counts = 6
+output_number Sweep = 7
+
+-- the list with the element of this number changed: all other elements are the same
+abbrev pub changed_at : {A : Type 0} → ℕ → (A → A) → List A → List A
+changed_at n change [] = []
+changed_at zero change (x ∷ xs) = change x ∷ xs
+changed_at (suc n) change (x ∷ xs) = x ∷ changed_at n change xs
 
 -- what is left of one table
 abbrev pub left_of : Table → Left → Option (List ℕ)
-left_of Node l = l.node
-left_of Link l = l.link
-left_of Movement l = l.movement
-left_of Demand l = l.demand
-left_of Start l = l.start
-left_of Times l = l.times
+left_of table left = get_or left (table_number table) None
 
 -- these bytes of one table, and then what is left: all other tables are the same
-abbrev pub before_left : Table → List ℕ → Left → Left
-before_left Node bs l = record l { node = prepend_known bs l.node }
-before_left Link bs l = record l { link = prepend_known bs l.link }
-before_left Movement bs l = record l { movement = prepend_known bs l.movement }
-before_left Demand bs l = record l { demand = prepend_known bs l.demand }
-before_left Start bs l = record l { start = prepend_known bs l.start }
-before_left Times bs l = record l { times = prepend_known bs l.times }
+unfoldable pub before_left : Table → List ℕ → Left → Left
+before_left table bytes left = changed_at (table_number table) (prepend_known bytes) left
 
 -- what one output has taken
 abbrev pub taken_of : Output → Taken → Option (List ℕ)
-taken_of Agent t = t.agent
-taken_of LinkTime t = t.link_time
-taken_of Gap t = t.gap
-taken_of Report t = t.report
-taken_of Watch t = t.watch
-taken_of Skim t = t.skim
-taken_of Counts t = t.counts
-taken_of Sweep t = t.sweep
+taken_of output taken = get_or taken (output_number output) None
 
 -- one output grown by these bytes: all other outputs are the same
-abbrev pub grown : Output → List ℕ → Taken → Taken
-grown Agent bs t = record t { agent = append_known t.agent bs }
-grown LinkTime bs t = record t { link_time = append_known t.link_time bs }
-grown Gap bs t = record t { gap = append_known t.gap bs }
-grown Report bs t = record t { report = append_known t.report bs }
-grown Watch bs t = record t { watch = append_known t.watch bs }
-grown Skim bs t = record t { skim = append_known t.skim bs }
-grown Counts bs t = record t { counts = append_known t.counts bs }
-grown Sweep bs t = record t { sweep = append_known t.sweep bs }
+unfoldable pub grown : Output → List ℕ → Taken → Taken
+grown output bytes taken =
+    changed_at (output_number output) (λ known. append_known known bytes) taken
+
+-- every output tells what it has taken, and none has taken anything
+abbrev pub nothing_taken : Taken
+nothing_taken = replicate OUTPUTS (Some [])

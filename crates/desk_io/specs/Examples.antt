@@ -3,9 +3,9 @@ use Rattle.std.specs.Prelude.{◌≡◌, refl, codes, [], ◌∷◌, Some, true,
 use Rattle.std.proofs.Math.Nat.{le_refl, lt_irrefl, le-add_right}
 use Rattle.desk_io.specs.declared.desk.Table.TheVariants.{Link, Start, Times}
 use Rattle.desk_io.specs.declared.desk.Output.TheVariants.{Counts, Report, Skim, Watch}
-use Rattle.desk_io.specs.Desk.{before_left, grown, taken_of}
+use Rattle.desk_io.specs.Desk.{before_left, grown, nothing_taken, taken_of}
 use Rattle.desk_io.specs.Faults.{last_count, Rose}
-use Rattle.desk_io.specs.MemDesk.{all_left, all_taken, is_listed, number_after}
+use Rattle.desk_io.specs.MemDesk.{all_left, is_listed, number_after}
 use Rattle.desk_io.specs.MemDesk.{with_start, with_times}
 use Rattle.desk_io.specs.TallyDesk.{count_of, counted, no_counts}
 use Rattle.desk_io.specs.Transfers.{IsPartOut}
@@ -13,16 +13,19 @@ use Rattle.desk_io.specs.Transfers.{IsPartOut}
 -- a desk with the texts "n" and "link" had handed out "li" when "nk" was left
 a-link-table-half-read : all_left (codes "n") (codes "link") [] []
     ≡ before_left Link (codes "li") (all_left (codes "n") (codes "nk") [] [])
+unfolding before_left
 a-link-table-half-read = refl
 
 -- Report has taken "nodes 3" and then a line feed
-two-puts : grown Report (codes "\n") (grown Report (codes "nodes 3") (all_taken [] [] [] [] []))
-    ≡ all_taken [] [] [] (codes "nodes 3\n") []
+two-puts : grown Report (codes "\n") (grown Report (codes "nodes 3") nothing_taken)
+    ≡ grown Report (codes "nodes 3\n") nothing_taken
+unfolding grown
 two-puts = refl
 
 -- a desk whose table of link times was half read
 a-times-table-half-read : with_times (codes "link_id") (all_left [] [] [] [])
     ≡ before_left Times (codes "link_") (with_times (codes "id") (all_left [] [] [] []))
+unfolding before_left
 a-times-table-half-read = refl
 
 -- a desk whose table of a start was half read, beside a table of link times
@@ -30,10 +33,12 @@ a-start-table-half-read :
     with_start (codes "agent_id") (with_times (codes "link_id") (all_left [] [] [] []))
     ≡ before_left Start (codes "agent")
     (with_times (codes "link_id") (with_start (codes "_id") (all_left [] [] [] [])))
+unfolding before_left
 a-start-table-half-read = refl
 
 -- what Skim takes isn't in Counts
-skim-alone : taken_of Counts (grown Skim (codes "1") (all_taken [] [] [] [] [])) ≡ Some []
+skim-alone : taken_of Counts (grown Skim (codes "1") nothing_taken) ≡ Some []
+unfolding grown
 skim-alone = refl
 
 -- the second call is listed
@@ -62,7 +67,8 @@ at-the-last = le_refl last_count
 
 -- of "usage" the first part "us" went out to Report
 us-of-usage : IsPartOut Report (codes "usage")
-    (all_taken [] [] [] (codes "a") []) (all_taken [] [] [] (codes "aus") [])
+    (grown Report (codes "a") nothing_taken) (grown Report (codes "aus") nothing_taken)
+unfolding grown
 us-of-usage = record { count = 2; within = le-add_right 2 3; out = refl }
 
 -- Watch took 3 bytes and then 2

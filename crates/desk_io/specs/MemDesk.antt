@@ -1,8 +1,10 @@
 -- A desk in memory as a clause sees it.
-use Rattle.std.specs.Prelude.{ℕ, ◌+◌, ◌^◌, ◌==◌, nat_lt, Bool, false, List, [], Option, None, Some}
-use Rattle.std.specs.Prelude.{if◌then◌else◌}
+use Rattle.std.specs.Prelude.{ℕ, ◌+◌, ◌^◌, ◌==◌, nat_lt, Bool, false, List, [], ◌∷◌, map}
+use Rattle.std.specs.Prelude.{Option, None, Some, if◌then◌else◌}
 use Rattle.std.specs.List.{list_any}
-use Rattle.desk_io.specs.Desk.{Left, Taken}
+use Rattle.desk_io.specs.declared.desk.Table.TheVariants.{Start, Times}
+use Rattle.desk_io.specs.Desk.{Left, Taken, changed_at, table_number}
+use Rattle.desk_io.specs.State.{DeskState}
 
 pub record MemView : Type 0 where
   pub left : Left
@@ -21,6 +23,15 @@ pub record MemView : Type 0 where
   -- the most bytes that one call moves
   pub most : ℕ
 
+-- what it shows as a desk
+abbrev pub desk_state : MemView → DeskState
+desk_state d = record {
+  left = d.left;
+  taken = d.taken;
+  read_faults = d.read_faults;
+  put_faults = d.put_faults;
+}
+
 -- a call is listed to fail: no call past the last number is
 abbrev pub is_listed : List ℕ → Option ℕ → Bool
 is_listed calls None = false
@@ -33,32 +44,12 @@ number_after (Some number) = if nat_lt (number + 1) (2 ^ 64) then Some (number +
 
 -- every text is told; the tables of a start and of link times have zero bytes
 abbrev pub all_left : List ℕ → List ℕ → List ℕ → List ℕ → Left
-all_left node link movement demand = record {
-  node = Some node;
-  link = Some link;
-  movement = Some movement;
-  demand = Some demand;
-  start = Some [];
-  times = Some [];
-}
+all_left node link movement demand = map Some (node ∷ link ∷ movement ∷ demand ∷ [] ∷ [] ∷ [])
 
 -- and with these bytes as the table of a start
 abbrev pub with_start : List ℕ → Left → Left
-with_start start left = record left { start = Some start }
+with_start start left = changed_at (table_number Start) (λ _. Some start) left
 
 -- and with these bytes as the table of link times
 abbrev pub with_times : List ℕ → Left → Left
-with_times times left = record left { times = Some times }
-
--- every output tells what it has taken; the last three nothing
-abbrev pub all_taken : List ℕ → List ℕ → List ℕ → List ℕ → List ℕ → Taken
-all_taken agent link_time gap report watch = record {
-  agent = Some agent;
-  link_time = Some link_time;
-  gap = Some gap;
-  report = Some report;
-  watch = Some watch;
-  skim = Some [];
-  counts = Some [];
-  sweep = Some [];
-}
+with_times times left = changed_at (table_number Times) (λ _. Some times) left

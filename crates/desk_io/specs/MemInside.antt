@@ -1,17 +1,12 @@
 -- What the fields of a desk in memory show.
-use Rattle.std.specs.Prelude.{◌<◌, Some}
-use Rattle.desk_io.specs.MemDesk.{MemView, all_left, all_taken, with_start, with_times}
+use Rattle.std.specs.Prelude.{◌<◌, map, Some}
+use Rattle.desk_io.specs.MemDesk.{MemView}
 use Rattle.desk_io.specs.declared.mem_desk.MemDesk.TheInside as mem
 
 abbrev pub mem_view : mem.Inside → MemView
 mem_view d = record {
-  left = with_times d.times (with_start d.start (all_left d.node d.link d.movement d.demand));
-  taken = record (all_taken d.agent.items d.link_time.items d.gap.items d.report.items
-      d.watch.items) {
-        skim = Some d.skim.items;
-        counts = Some d.counts.items;
-        sweep = Some d.sweep.items;
-      };
+  left = map Some d.tables;
+  taken = map (λ output. Some output.items) d.outputs;
   read_faults = d.read_faults;
   put_faults = d.put_faults;
   starved = d.starved;

@@ -1,6 +1,5 @@
 -- What the fields of a desk that counts show.
-use Rattle.std.specs.Prelude.{ℕ, List, [], Option, None, Some}
-use Rattle.desk_io.specs.MemDesk.{all_left, with_start, with_times}
+use Rattle.std.specs.Prelude.{ℕ, List, [], map, Option, None, Some}
 use Rattle.desk_io.specs.TallyDesk.{TallyView}
 use Rattle.desk_io.specs.declared.tally_desk.TallyDesk.TheInside as tally
 
@@ -11,16 +10,6 @@ set_or_none (Some bytes) = bytes
 
 abbrev pub tally_view : tally.Inside → TallyView
 tally_view d = record {
-  left = with_times (set_or_none d.times)
-      (with_start (set_or_none d.start) (all_left d.node d.link d.movement d.demand));
-  counts = record {
-    agent = d.agent;
-    link_time = d.link_time;
-    gap = d.gap;
-    report = d.report;
-    watch = d.watch;
-    skim = d.skim;
-    counts = d.counts;
-    sweep = d.sweep;
-  };
+  left = map (λ text. Some (set_or_none text)) d.tables;
+  counts = d.counts;
 }

@@ -2,11 +2,12 @@
 ghost use Rattle.std.specs.Prelude.{◌≡◌, ◌≤◌, IfOk, length};
 ghost use Rattle.desk_io.specs.Faults.{HasCause};
 
+use crate::desk::{OUTPUTS, TABLES};
 use crate::{Desk, Failed, Output, Table};
 use std::fs::File;
 use std::io::{ErrorKind, Read, Write};
 use std::rt::{Stderr, Stdout};
-use std::{fs, io};
+use std::{array, fs, io};
 
 /// A file that is read, from its first read on.
 #[derive(Drop)]
@@ -25,18 +26,8 @@ enum TableFile {
 #[derive(Drop)]
 pub struct FileDesk<R, W> {
     rt: HostRuntime,
-    node: TableFile,
-    link: TableFile,
-    movement: TableFile,
-    demand: TableFile,
-    start: TableFile,
-    times: TableFile,
-    agent: Option<File>,
-    link_time: Option<File>,
-    gap: Option<File>,
-    skim: Option<File>,
-    counts: Option<File>,
-    sweep: Option<File>,
+    tables: [TableFile; TABLES],
+    outputs: [Option<File>; OUTPUTS],
     report: R,
     watch: W,
     read_faults: u64,
@@ -60,18 +51,8 @@ impl<R, W> FileDesk<R, W> {
     {
         FileDesk {
             rt,
-            node: TableFile::NotOpened,
-            link: TableFile::NotOpened,
-            movement: TableFile::NotOpened,
-            demand: TableFile::NotOpened,
-            start: TableFile::NotOpened,
-            times: TableFile::NotOpened,
-            agent: None,
-            link_time: None,
-            gap: None,
-            skim: None,
-            counts: None,
-            sweep: None,
+            tables: array::from_fn(|_| TableFile::NotOpened),
+            outputs: array::from_fn(|_| None),
             report,
             watch,
             read_faults: 0,
@@ -85,12 +66,10 @@ impl<R, W> FileDesk<R, W> {
         ensures cause { HasCause self.old.put_faults self.new.put_faults result }
         ensures reads { self.new.read_faults ≡ self.old.read_faults }
     {
-        let kept = is_kept(&self.agent)
-            & is_kept(&self.link_time)
-            & is_kept(&self.gap)
-            & is_kept(&self.skim)
-            & is_kept(&self.counts)
-            & is_kept(&self.sweep);
+        let mut kept = true;
+        for file in &self.outputs {
+            kept &= is_kept(file);
+        }
         if kept {
             return Ok(());
         }
@@ -159,42 +138,38 @@ impl<R: Write, W: Write> FileDesk<R, W> {
         ensures reads { self.new.read_faults ≡ self.old.read_faults }
         ensures puts { self.new.put_faults ≡ self.old.put_faults }
     {
-        match output {
-            Output::Agent => made(&self.rt, &mut self.agent, "agent.csv")?.write(piece),
-            Output::LinkTime => {
-                made(&self.rt, &mut self.link_time, "link_performance.csv")?.write(piece)
-            }
-            Output::Gap => made(&self.rt, &mut self.gap, "gap.csv")?.write(piece),
-            Output::Report => self.report.write(piece),
-            Output::Watch => self.watch.write(piece),
-            Output::Skim => made(&self.rt, &mut self.skim, "skim.csv")?.write(piece),
-            Output::Counts => made(&self.rt, &mut self.counts, "counts.csv")?.write(piece),
-            Output::Sweep => made(&self.rt, &mut self.sweep, "sweep.txt")?.write(piece),
-        }
+        let path = match output {
+            Output::Agent => "agent.csv",
+            Output::LinkTime => "link_performance.csv",
+            Output::Gap => "gap.csv",
+            Output::Report => return self.report.write(piece),
+            Output::Watch => return self.watch.write(piece),
+            Output::Skim => "skim.csv",
+            Output::Counts => "counts.csv",
+            Output::Sweep => "sweep.txt",
+        };
+        let rt = self.rt;
+        made(&rt, &mut self.outputs[output.number()], path)?.write(piece)
     }
 }
 
 impl<R: Write, W: Write> Desk for FileDesk<R, W> {
-    ghost use Rattle.desk_io.specs.FileDesk.{untold_left, untold_taken, failed_reads, failed_puts};
+    ghost use Rattle.desk_io.specs.FileDesk.{untold_state};
 
-    ghost left = { untold_left };
+    ghost state = { untold_state };
 
-    ghost taken = { untold_taken };
-
-    ghost read_faults = { failed_reads };
-
-    ghost put_faults = { failed_puts };
-
+    #[tactic(auto, unfolding(crate::specs::Desk::before_left))]
     fn read(&mut self, table: Table, buf: &mut [u8]) -> Result<usize, Failed> {
-        let read = match table {
-            Table::Node => read_file(&self.rt, &mut self.node, "node.csv", false, buf),
-            Table::Link => read_file(&self.rt, &mut self.link, "link.csv", false, buf),
-            Table::Movement => read_file(&self.rt, &mut self.movement, "movement.csv", true, buf),
-            Table::Demand => read_file(&self.rt, &mut self.demand, "demand.csv", false, buf),
-            Table::Start => read_file(&self.rt, &mut self.start, "start.csv", false, buf),
-            Table::Times => read_file(&self.rt, &mut self.times, "times.csv", false, buf),
+        let path = match table {
+            Table::Node => "node.csv",
+            Table::Link => "link.csv",
+            Table::Movement => "movement.csv",
+            Table::Demand => "demand.csv",
+            Table::Start => "start.csv",
+            Table::Times => "times.csv",
         };
-        match read {
+        let file = &mut self.tables[table.number()];
+        match read_file(&self.rt, file, path, table == Table::Movement, buf) {
             Ok(count) => Ok(count),
             Err(_) => {
                 self.read_faults = self.read_faults.saturating_add(1);
@@ -203,6 +178,7 @@ impl<R: Write, W: Write> Desk for FileDesk<R, W> {
         }
     }
 
+    #[tactic(auto, unfolding(crate::specs::Desk::grown))]
     fn put(&mut self, output: Output, piece: &[u8]) -> Result<usize, Failed> {
         // Nothing to put, and so no file to make or empty.
         if piece.is_empty() {

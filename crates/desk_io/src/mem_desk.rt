@@ -2,11 +2,13 @@ ghost use Rattle.std.specs.Prelude.{◌≡◌, ◌<◌, ◌≤◌, ◌+◌, ◌+
 ghost use Rattle.std.specs.Prelude.{if◌then◌else◌};
 ghost use Rattle.std.specs.Prelude.{IsTrue, IsErr, is_err, IfOk, IfSome, OnOk, OnErr, None, Some};
 ghost use Rattle.std.specs.Io.KnownBytes.{IsAtEnd};
-ghost use Rattle.desk_io.specs.Desk.{left_of, before_left, taken_of, grown};
-ghost use Rattle.desk_io.specs.Faults.{HasCause, last_count};
-ghost use Rattle.desk_io.specs.MemDesk.{is_listed, number_after, all_left, all_taken};
+ghost use Rattle.desk_io.specs.Desk.{left_of, nothing_taken, taken_of};
+ghost use Rattle.desk_io.specs.Faults.{last_count};
+ghost use Rattle.desk_io.specs.MemDesk.{is_listed, number_after, all_left, desk_state};
 ghost use Rattle.desk_io.specs.MemDesk.{with_start, with_times};
+ghost use Rattle.desk_io.specs.State.{PutsSome, ReadsSome};
 
+use crate::desk::{OUTPUTS, TABLES};
 use crate::source::Source;
 use crate::{Desk, Failed, Memory, Output, Table};
 use std::alloc::Global;
@@ -17,20 +19,8 @@ use std::mem;
 /// listed to fail.
 #[derive(Drop)]
 pub struct MemDesk {
-    node: Source,
-    link: Source,
-    movement: Source,
-    demand: Source,
-    start: Source,
-    times: Source,
-    agent: Vec<u8>,
-    link_time: Vec<u8>,
-    gap: Vec<u8>,
-    report: Vec<u8>,
-    watch: Vec<u8>,
-    skim: Vec<u8>,
-    counts: Vec<u8>,
-    sweep: Vec<u8>,
+    tables: [Source; TABLES],
+    outputs: [Vec<u8>; OUTPUTS],
     failing_reads: Vec<u64>,
     failing_puts: Vec<u64>,
     next_read: Option<u64>,
@@ -64,27 +54,31 @@ impl MemDesk {
         demand: Vec<u8>,
     ) -> Self
         ensures left { result.left ≡ all_left node.items link.items movement.items demand.items }
-        ensures taken { result.taken ≡ all_taken [] [] [] [] [] }
+        ensures taken { result.taken ≡ nothing_taken }
         ensures faults { (result.read_faults ≡ 0) × (result.put_faults ≡ 0) × (result.starved ≡ 0) }
         ensures first { (result.next_read ≡ Some 1) × (result.next_put ≡ Some 1) }
         ensures listed { (result.failing_reads ≡ []) × (result.failing_puts ≡ []) }
         ensures most { result.most ≡ usize.MAX }
     {
         MemDesk {
-            node: Source::new(node),
-            link: Source::new(link),
-            movement: Source::new(movement),
-            demand: Source::new(demand),
-            start: Source::new(Vec::new(alloc)),
-            times: Source::new(Vec::new(alloc)),
-            agent: Vec::new(alloc),
-            link_time: Vec::new(alloc),
-            gap: Vec::new(alloc),
-            report: Vec::new(alloc),
-            watch: Vec::new(alloc),
-            skim: Vec::new(alloc),
-            counts: Vec::new(alloc),
-            sweep: Vec::new(alloc),
+            tables: [
+                Source::new(node),
+                Source::new(link),
+                Source::new(movement),
+                Source::new(demand),
+                Source::new(Vec::new(alloc)),
+                Source::new(Vec::new(alloc)),
+            ],
+            outputs: [
+                Vec::new(alloc),
+                Vec::new(alloc),
+                Vec::new(alloc),
+                Vec::new(alloc),
+                Vec::new(alloc),
+                Vec::new(alloc),
+                Vec::new(alloc),
+                Vec::new(alloc),
+            ],
             failing_reads: Vec::new(alloc),
             failing_puts: Vec::new(alloc),
             next_read: Some(1),
@@ -100,47 +94,28 @@ impl MemDesk {
     pub fn set_start(&mut self, text: Vec<u8>)
         ensures { self.new ≡ record self.old { left = with_start text.items self.old.left } }
     {
-        self.start = Source::new(text);
+        self.tables[Table::Start.number()] = Source::new(text);
     }
 
     /// Sets the table of link times, of which nothing is read yet.
     pub fn set_times(&mut self, text: Vec<u8>)
         ensures { self.new ≡ record self.old { left = with_times text.items self.old.left } }
     {
-        self.times = Source::new(text);
+        self.tables[Table::Times.number()] = Source::new(text);
     }
 
     /// What an output has taken.
     pub fn taken(&self, output: Output) -> &[u8]
         ensures { taken_of output self.now.taken ≡ Some result.now }
     {
-        match output {
-            Output::Agent => &self.agent,
-            Output::LinkTime => &self.link_time,
-            Output::Gap => &self.gap,
-            Output::Report => &self.report,
-            Output::Watch => &self.watch,
-            Output::Skim => &self.skim,
-            Output::Counts => &self.counts,
-            Output::Sweep => &self.sweep,
-        }
+        &self.outputs[output.number()]
     }
 
     /// What an output has taken, in place of the desk. It takes no memory.
     pub fn into_taken(mut self, alloc: Global, output: Output) -> Vec<u8>
         ensures { taken_of output self.taken ≡ Some result.items }
     {
-        let taken = match output {
-            Output::Agent => &mut self.agent,
-            Output::LinkTime => &mut self.link_time,
-            Output::Gap => &mut self.gap,
-            Output::Report => &mut self.report,
-            Output::Watch => &mut self.watch,
-            Output::Skim => &mut self.skim,
-            Output::Counts => &mut self.counts,
-            Output::Sweep => &mut self.sweep,
-        };
-        mem::replace(taken, Vec::new(alloc))
+        mem::replace(&mut self.outputs[output.number()], Vec::new(alloc))
     }
 
     /// How many reads failed.
@@ -216,24 +191,11 @@ fn next_number(number: Option<u64>) -> Option<u64>
 }
 
 impl Desk for MemDesk {
-    ghost left = { λ d. d.left };
+    ghost state = { desk_state };
 
-    ghost taken = { λ d. d.taken };
-
-    ghost read_faults = { λ d. d.read_faults };
-
-    ghost put_faults = { λ d. d.put_faults };
-
+    #[tactic(auto, unfolding(crate::specs::Desk::before_left))]
     fn read(&mut self, table: Table, buf: &mut [u8]) -> Result<usize, Failed>
-        ensures count { IfOk result (λ n. n ≤ length buf.new) }
-        ensures bytes { IfOk result (λ n.
-            self.old.left ≡ before_left table (take n buf.new) self.new.left) }
-        ensures end { IfOk result (λ n.
-            n ≡ 0 → 0 < length buf.new → IsAtEnd (left_of table self.new.left)) }
-        ensures refused { OnErr result (self.new.left ≡ self.old.left) }
-        ensures taken { self.new.taken ≡ self.old.taken }
-        ensures cause { HasCause self.old.read_faults self.new.read_faults result }
-        ensures puts { self.new.put_faults ≡ self.old.put_faults }
+        ensures reads { ReadsSome table buf.new (desk_state self.old) (desk_state self.new) result }
 
         // More than the trait promises: when a read fails, how much it moves, and what else
         // changes.
@@ -255,25 +217,13 @@ impl Desk for MemDesk {
             self.read_faults = self.read_faults.saturating_add(1);
             return Err(Failed);
         }
-        Ok(match table {
-            Table::Node => self.node.read(buf, self.most),
-            Table::Link => self.link.read(buf, self.most),
-            Table::Movement => self.movement.read(buf, self.most),
-            Table::Demand => self.demand.read(buf, self.most),
-            Table::Start => self.start.read(buf, self.most),
-            Table::Times => self.times.read(buf, self.most),
-        })
+        Ok(self.tables[table.number()].read(buf, self.most))
     }
 
+    #[tactic(auto, unfolding(crate::specs::Desk::grown))]
     fn put(&mut self, output: Output, piece: &[u8]) -> Result<usize, Failed>
-        ensures count { IfOk result (λ n. n ≤ length piece.now) }
-        ensures some { IfOk result (λ n. 0 < length piece.now → 0 < n) }
-        ensures bytes { IfOk result (λ n.
-            self.new.taken ≡ grown output (take n piece.now) self.old.taken) }
-        ensures refused { OnErr result (self.new.taken ≡ self.old.taken) }
-        ensures left { self.new.left ≡ self.old.left }
-        ensures cause { HasCause self.old.put_faults self.new.put_faults result }
-        ensures reads { self.new.read_faults ≡ self.old.read_faults }
+        ensures puts { PutsSome output piece.now
+            (desk_state self.old) (desk_state self.new) result }
 
         // More than the trait promises: when a put fails, how much it moves, and what else changes.
         ensures fails { IsTrue (is_listed self.old.failing_puts self.old.next_put) → IsErr result }
@@ -298,17 +248,7 @@ impl Desk for MemDesk {
             return Err(Failed);
         }
         let count = piece.len().min(self.most);
-        let grew = match output {
-            Output::Agent => self.agent.extend_from_slice(&piece[..count]),
-            Output::LinkTime => self.link_time.extend_from_slice(&piece[..count]),
-            Output::Gap => self.gap.extend_from_slice(&piece[..count]),
-            Output::Report => self.report.extend_from_slice(&piece[..count]),
-            Output::Watch => self.watch.extend_from_slice(&piece[..count]),
-            Output::Skim => self.skim.extend_from_slice(&piece[..count]),
-            Output::Counts => self.counts.extend_from_slice(&piece[..count]),
-            Output::Sweep => self.sweep.extend_from_slice(&piece[..count]),
-        };
-        match grew {
+        match self.outputs[output.number()].extend_from_slice(&piece[..count]) {
             Ok(()) => Ok(count),
             Err(_) => {
                 self.starved = self.starved.saturating_add(1);

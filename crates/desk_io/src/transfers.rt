@@ -1,7 +1,6 @@
 // Whole tables and whole texts over a desk.
 ghost use Rattle.std.specs.Prelude.{◌≡◌, ◌≤◌};
 ghost use Rattle.desk_io.specs.declared.transfers.ReadRefusal.TheVariants as refusal;
-ghost use Rattle.desk_io.specs.State.{state_of};
 ghost use Rattle.desk_io.specs.Transfers.{Puts, Reads};
 
 use crate::{Desk, Failed, Memory, Output, Table};
@@ -49,8 +48,7 @@ pub fn read_table<D: Desk>(
     table: Table,
     limit: u64,
 ) -> Result<Vec<u8>, ReadRefusal>
-    ensures { let state = state_of D.left D.taken D.read_faults D.put_faults in
-        Reads table limit (state desk.old) (state desk.new) result }
+    ensures { Reads table limit (D.state desk.old) (D.state desk.new) result }
 {
     let mut bytes = Vec::new(alloc);
     let mut buf = [0; PIECE];
@@ -69,8 +67,7 @@ pub fn read_table<D: Desk>(
 /// Puts all of the bytes. On Failed a first part of them went out. It takes no memory.
 #[tactic(auto, using(crate::proofs::DeskFacts::desk_facts))]
 pub fn put_all<D: Desk>(desk: &mut D, output: Output, bytes: &[u8]) -> Result<(), Failed>
-    ensures { let state = state_of D.left D.taken D.read_faults D.put_faults in
-        Puts output bytes.now (state desk.old) (state desk.new) result }
+    ensures { Puts output bytes.now (D.state desk.old) (D.state desk.new) result }
 {
     let mut at = 0;
     while at < bytes.len() {

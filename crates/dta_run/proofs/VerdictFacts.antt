@@ -5,8 +5,8 @@ use Rattle.std.specs.List.{range_with_len}
 use Rattle.std.proofs.lemmas.List.{append-nil}
 use Rattle.std.specs.Io.KnownBytes.{prepend_known, IsAtEnd}
 use Rattle.desk_io.specs.declared.desk.Table.{Table}
-use Rattle.desk_io.specs.declared.desk.Table.TheVariants.{Node, Link, Movement, Demand, Start, Times}
 use Rattle.desk_io.specs.Desk.{Left, left_of, before_left}
+use Rattle.desk_io.proofs.DeskFacts.{left-other, left-own}
 use Rattle.desk_io.specs.Transfers.{IsBegun, IsRead, IsLong}
 use Rattle.row_reader.specs.declared.faults.TableFault.{TableFault}
 use Rattle.dta_model.specs.Release.{vehicles_before}
@@ -42,29 +42,10 @@ known-longer : (k : Option (List ℕ)) (bytes xs : List ℕ) → prepend_known b
 known-longer None bytes xs e = absurd cc
 known-longer (Some ys) bytes xs e = let s : bytes ++ ys ≡ xs = cc in let n : length (bytes ++ ys) ≡ length xs = ap length s in omega (arith, length-append bytes ys)
 
--- bytes of one table before what is left of it
-its-own : (t : Table) (bytes : List ℕ) (left : Left) → left_of t (before_left t bytes left) ≡ prepend_known bytes (left_of t left)
-its-own Node bytes left = refl
-its-own Link bytes left = refl
-its-own Movement bytes left = refl
-its-own Demand bytes left = refl
-its-own Start bytes left = refl
-its-own Times bytes left = refl
-
--- and what is left of another table
-another : (t u : Table) (bytes : List ℕ) (left : Left) → t ≢ u → left_of u (before_left t bytes left) ≡ left_of u left
-another Node Node bytes left n = absurd (n refl)
-another Link Link bytes left n = absurd (n refl)
-another Movement Movement bytes left n = absurd (n refl)
-another Demand Demand bytes left n = absurd (n refl)
-another Start Start bytes left n = absurd (n refl)
-another Times Times bytes left n = absurd (n refl)
-another t u bytes left n = refl
-
 -- the bytes that were read of a table are a first part of those that were told
 part-told : (t : Table) (bytes xs : List ℕ) (before after : Left) → before ≡ before_left t bytes after → left_of t before ≡ Some xs
     → prepend_known bytes (left_of t after) ≡ Some xs
-part-told t bytes xs before after r e = sym (its-own t bytes after) ∙ sym (ap (left_of t) r) ∙ e
+part-told t bytes xs before after r e = sym (left-own t bytes after) ∙ sym (ap (left_of t) r) ∙ e
 
 whole-told : (t : Table) (bytes xs : List ℕ) (before after : Left) → IsRead t bytes before after → left_of t before ≡ Some xs → bytes ≡ xs
 whole-told t bytes xs before after r e = known-whole (left_of t after) bytes xs r.ended (part-told t bytes xs before after r.read e)
@@ -90,7 +71,7 @@ others-told : (t : Table) (others : List Table) (texts : Table → List ℕ) (by
     → AreOthers t others → AreTold others (before_left t bytes after) texts → AreTold others after texts
 others-told t [] texts bytes after o h = tt
 others-told t (u ∷ others) texts bytes after o h =
-    (sym (another t u bytes after o.0) ∙ h.0, others-told t others texts bytes after o.1 h.1)
+    (sym (left-other t u bytes after o.0) ∙ h.0, others-told t others texts bytes after o.1 h.1)
 
 still-told : (settings : Settings) (t : Table) (others : List Table) (texts : Table → List ℕ) (rows next : TableRows) (before after : Left)
     → AreOthers t others → IsAccepted settings t rows next before after → AreTold others before texts → AreTold others after texts

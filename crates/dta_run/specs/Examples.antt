@@ -3,7 +3,7 @@ use Rattle.std.specs.Prelude.{◌≡◌, ℕ, refl, codes, false, true, map, [],
 use Rattle.desk_io.specs.declared.desk.Table.{Table}
 use Rattle.desk_io.specs.declared.desk.Table.TheVariants as table
 use Rattle.desk_io.specs.declared.desk.Output.TheVariants as output
-use Rattle.desk_io.specs.MemDesk.{all_taken}
+use Rattle.desk_io.specs.Desk.{grown, nothing_taken}
 use Rattle.row_reader.specs.declared.faults.Code.TheVariants as code
 use Rattle.row_reader.specs.declared.faults.Column.TheVariants as column
 use Rattle.gmns_tables.specs.OnLiterals.{networks_on_literals}
@@ -74,9 +74,8 @@ movements-third = refl
 
 -- texts go out one after the other
 two-texts :
-    grown_by (text_to output.Gap (codes "a") ∷ text_to output.Report (codes "b") ∷ [])
-    (all_taken [] [] [] [] [])
-    ≡ all_taken [] [] (codes "a") (codes "b") []
+    grown_by (text_to output.Gap (codes "a") ∷ text_to output.Report (codes "b") ∷ []) nothing_taken
+    ≡ grown output.Report (codes "b") (grown output.Gap (codes "a") nothing_taken)
 two-texts = refl
 
 -- two iterations by four workers, over three nodes and 60 steps, with four vehicles: the gate took

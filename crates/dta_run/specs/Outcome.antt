@@ -5,7 +5,7 @@ use Rattle.desk_io.specs.declared.desk.Table.{Table}
 use Rattle.desk_io.specs.declared.desk.Output.TheVariants as output
 use Rattle.desk_io.specs.Desk.{Left, Taken}
 use Rattle.desk_io.specs.Faults.{Rose}
-pub use Rattle.desk_io.specs.State.{DeskState, state_of}
+pub use Rattle.desk_io.specs.State.{DeskState}
 use Rattle.desk_io.specs.Transfers.{IsBegun, IsLong, IsOut}
 use Rattle.row_reader.specs.declared.faults.TableFault.{TableFault}
 use Rattle.vehicle_release.specs.Limits.{IsFirstAbove}

@@ -2,7 +2,6 @@
 ghost use Rattle.std.specs.Prelude.{drop, map, string_bytes};
 ghost use Rattle.std.specs.Vec.Iter.{into_iter_items};
 ghost use Rattle.dta_run.specs.Headline.{Headline, silent};
-ghost use Rattle.dta_run.specs.Outcome.{state_of};
 
 use crate::NoGate;
 use crate::laws::texts_are_one;
@@ -21,9 +20,8 @@ pub fn run_arguments<R: AllocGlobal + Threads + Wait + Sync, D: Desk + Send>(
     arguments: Args,
     desk: &mut D,
 ) -> Status
-    ensures headline { let state = state_of D.left D.taken D.read_faults D.put_faults in
-        Headline (drop 1 (map string_bytes (into_iter_items arguments)))
-        result (state desk.old) (state desk.new) silent silent }
+    ensures headline { Headline (drop 1 (map string_bytes (into_iter_items arguments)))
+        result (D.state desk.old) (D.state desk.new) silent silent }
 {
     texts_are_one();
     match Words::after_name(rt.alloc(), arguments) {

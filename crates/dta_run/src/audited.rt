@@ -1,6 +1,5 @@
 // The work of `audit`: the verdict on an agent table and a table of link times.
 ghost use Rattle.std.specs.Prelude.{◌≡◌, IfOk};
-ghost use Rattle.desk_io.specs.State.{state_of};
 ghost use Rattle.dta_words.specs.Ranges.{AreSettings};
 ghost use Rattle.dta_words.specs.declared.command.Command.TheVariants as command;
 ghost use Rattle.dta_run.specs.Calls.{DoesWork};
@@ -42,8 +41,7 @@ pub(crate) fn put_verdict<D: Desk>(
     requires settings { AreSettings settings.now }
     requires job { IsJob settings.now job.now }
     requires command { settings.now.command ≡ command.Audit }
-    ensures { let state = state_of D.left D.taken D.read_faults D.put_faults in
-        DoesWork settings.now job.now (state desk.old) (state desk.new) result }
+    ensures { DoesWork settings.now job.now (D.state desk.old) (D.state desk.new) result }
 {
     let vehicles = job.trips.len() as u32;
     match verdict_of(alloc, settings, job) {

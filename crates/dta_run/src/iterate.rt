@@ -1,6 +1,5 @@
 // The iterations of an assignment, with their watch lines and receipts.
 ghost use Rattle.std.specs.Prelude.{◌≡◌, ◌<◌, ◌≤◌, IfOk, IfErr, OnOk};
-ghost use Rattle.desk_io.specs.State.{state_of};
 ghost use Rattle.loader.specs.Gates.{gate_of};
 ghost use Rattle.assignment.specs.Lent.{IsAssignment, settings_in, traffic_in};
 ghost use Rattle.assignment.specs.Traffic.{AreRoutesOf};
@@ -61,12 +60,11 @@ fn go_on<R: AllocGlobal + Threads + Wait + Sync, D: Desk + Send, G: Gate + Sync>
     requires routes { AreRoutesOf (traffic_in assignment.now) it.old.routes }
     requires number { (1 ≤ number) × (number < (settings_in assignment.now).iterations) }
     ensures routes { OnOk result (AreRoutesOf (traffic_in assignment.now) it.new.routes) }
-    ensures watches { let state = state_of D.left D.taken D.read_faults D.put_faults in
-        let s = settings_in assignment.now in
+    ensures watches { let s = settings_in assignment.now in
         let traffic = traffic_in assignment.now in
         OnlyWatches (λ _. IsAhead s traffic number it.old.routes it.new.routes it.old.lines.items
         it.new.lines.items) (HaltsFrom s traffic number it.old.routes it.old.lines.items)
-        (state desk.old) (state desk.new) result }
+        (D.state desk.old) (D.state desk.new) result }
     ensures receipts { let shown = gate_of G.closes G.last in
         let s = settings_in assignment.now in
         Gives (receipts_of s.plain 1) (numbers_in s (traffic_in assignment.now))
@@ -88,12 +86,11 @@ fn do_last<R: AllocGlobal + Threads + Wait + Sync, D: Desk + Send, G: Gate + Syn
 ) -> Result<Iterated, Halt>
     requires is { IsAssignment assignment.now }
     requires routes { AreRoutesOf (traffic_in assignment.now) it.routes }
-    ensures watches { let state = state_of D.left D.taken D.read_faults D.put_faults in
-        let s = settings_in assignment.now in
+    ensures watches { let s = settings_in assignment.now in
         let traffic = traffic_in assignment.now in
         OnlyWatches (IsFinished s traffic it.routes it.lines.items)
         (HaltsFrom s traffic s.iterations it.routes it.lines.items)
-        (state desk.old) (state desk.new) result }
+        (D.state desk.old) (D.state desk.new) result }
     ensures receipts { let shown = gate_of G.closes G.last in
         let s = settings_in assignment.now in
         Gives (receipts_of s.plain 1) (numbers_in s (traffic_in assignment.now))
@@ -120,11 +117,10 @@ pub(crate) fn iterate<R: AllocGlobal + Threads + Wait + Sync, D: Desk + Send, G:
     desk: &mut D,
 ) -> Result<Iterated, Halt>
     requires is { IsAssignment assignment.now }
-    ensures watches { let state = state_of D.left D.taken D.read_faults D.put_faults in
-        let s = settings_in assignment.now in
+    ensures watches { let s = settings_in assignment.now in
         let traffic = traffic_in assignment.now in
         OnlyWatches (IsAssigned s traffic) (Halts s traffic)
-        (state desk.old) (state desk.new) result }
+        (D.state desk.old) (D.state desk.new) result }
     ensures receipts { let shown = gate_of G.closes G.last in
         let s = settings_in assignment.now in
         Gives (receipts_of s.plain s.iterations) (numbers_in s (traffic_in assignment.now))

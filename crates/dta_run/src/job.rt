@@ -16,7 +16,7 @@ ghost use Rattle.assignment.specs.Traffic.{AreTripsBelow};
 ghost use Rattle.dta_run.specs.Jobs.{AreWithin, HasRoom, IsAcceptedJob, IsJob};
 ghost use Rattle.dta_run.specs.Jobs.{IsJobOf, Assigns};
 ghost use Rattle.dta_run.specs.Jobs.{job_of as job_of_rows, traffic_of};
-ghost use Rattle.dta_run.specs.Outcome.{DeskState, state_of};
+ghost use Rattle.dta_run.specs.Outcome.{DeskState};
 ghost use Rattle.dta_run.specs.Stops.{Stops, StopsIn, StopsJob, StopsSkim, StopsSweep};
 ghost use Rattle.dta_run.specs.Tables.{TableRows, net_of};
 
@@ -157,9 +157,8 @@ fn job_of(alloc: Global, tables: Tables, settings: &Settings) -> Result<Job, Sto
 fn accept_tables<D: Desk>(alloc: Global, desk: &mut D, settings: &Settings) -> Result<Job, Stop>
     requires settings { AreSettings settings.now }
     requires command { Assigns settings.now.command }
-    ensures reads { let state = state_of D.left D.taken D.read_faults D.put_faults in
-        OnlyReads (IsJobOf settings.now) (StopsIn settings.now) (state desk.old) (state desk.new)
-        result }
+    ensures reads { OnlyReads (IsJobOf settings.now) (StopsIn settings.now)
+        (D.state desk.old) (D.state desk.new) result }
     ensures sound { IfOk result (IsJob settings.now) }
 {
     let tables = accept_all(alloc, desk, settings)?;
@@ -170,9 +169,8 @@ fn accept_tables<D: Desk>(alloc: Global, desk: &mut D, settings: &Settings) -> R
 fn accept_free<D: Desk>(alloc: Global, desk: &mut D, settings: &Settings) -> Result<Job, Stop>
     requires settings { AreSettings settings.now }
     requires command { settings.now.command ≡ command.Freeflow }
-    ensures reads { let state = state_of D.left D.taken D.read_faults D.put_faults in
-        OnlyReads (IsJobOf settings.now) (StopsIn settings.now) (state desk.old) (state desk.new)
-        result }
+    ensures reads { OnlyReads (IsJobOf settings.now) (StopsIn settings.now)
+        (D.state desk.old) (D.state desk.new) result }
     ensures sound { IfOk result (IsJob settings.now) }
 {
     let roads = accept_roads(alloc, desk, settings)?;
@@ -220,9 +218,8 @@ fn skim_sizes(net: &Net, settings: &Settings) -> Result<(), Stop>
 fn accept_skim<D: Desk>(alloc: Global, desk: &mut D, settings: &Settings) -> Result<Job, Stop>
     requires settings { AreSettings settings.now }
     requires command { settings.now.command ≡ command.Skim }
-    ensures reads { let state = state_of D.left D.taken D.read_faults D.put_faults in
-        OnlyReads (IsJobOf settings.now) (StopsIn settings.now) (state desk.old) (state desk.new)
-        result }
+    ensures reads { OnlyReads (IsJobOf settings.now) (StopsIn settings.now)
+        (D.state desk.old) (D.state desk.new) result }
     ensures sound { IfOk result (IsJob settings.now) }
 {
     let network = accept_network(alloc, desk, settings)?;
@@ -308,9 +305,8 @@ fn sweep_job_of(alloc: Global, tables: Tables, settings: &Settings) -> Result<Jo
 fn accept_sweep<D: Desk>(alloc: Global, desk: &mut D, settings: &Settings) -> Result<Job, Stop>
     requires settings { AreSettings settings.now }
     requires command { settings.now.command ≡ command.Sweep }
-    ensures reads { let state = state_of D.left D.taken D.read_faults D.put_faults in
-        OnlyReads (IsJobOf settings.now) (StopsIn settings.now) (state desk.old) (state desk.new)
-        result }
+    ensures reads { OnlyReads (IsJobOf settings.now) (StopsIn settings.now)
+        (D.state desk.old) (D.state desk.new) result }
     ensures sound { IfOk result (IsJob settings.now) }
 {
     let tables = accept_all(alloc, desk, settings)?;
@@ -321,9 +317,8 @@ fn accept_sweep<D: Desk>(alloc: Global, desk: &mut D, settings: &Settings) -> Re
 fn accept_audit<D: Desk>(alloc: Global, desk: &mut D, settings: &Settings) -> Result<Job, Stop>
     requires settings { AreSettings settings.now }
     requires command { settings.now.command ≡ command.Audit }
-    ensures reads { let state = state_of D.left D.taken D.read_faults D.put_faults in
-        OnlyReads (IsJobOf settings.now) (StopsIn settings.now) (state desk.old) (state desk.new)
-        result }
+    ensures reads { OnlyReads (IsJobOf settings.now) (StopsIn settings.now)
+        (D.state desk.old) (D.state desk.new) result }
     ensures sound { IfOk result (IsJob settings.now) }
 {
     let tables = accept_all(alloc, desk, settings)?;
@@ -378,9 +373,8 @@ fn accept_grid(alloc: Global, settings: &Settings, n: u32) -> Result<Job, Stop>
 /// scenario in turn, or of a skim's entries.
 pub(crate) fn accept<D: Desk>(alloc: Global, desk: &mut D, settings: &Settings) -> Result<Job, Stop>
     requires settings { AreSettings settings.now }
-    ensures reads { let state = state_of D.left D.taken D.read_faults D.put_faults in
-        OnlyReads (IsAcceptedJob settings.now) (Stops settings.now)
-        (state desk.old) (state desk.new) result }
+    ensures reads { OnlyReads (IsAcceptedJob settings.now) (Stops settings.now)
+        (D.state desk.old) (D.state desk.new) result }
     ensures sound { IfOk result (IsJob settings.now) }
 {
     match settings.command {

@@ -1,6 +1,5 @@
 // The loading of an iteration: by workers, or by the plain loader.
 ghost use Rattle.std.specs.Prelude.{◌≡◌, false, IfOk};
-ghost use Rattle.desk_io.specs.State.{state_of};
 ghost use Rattle.dta_model.specs.Loading.{journeys_of};
 ghost use Rattle.loader.specs.Gates.{gate_of};
 ghost use Rattle.assignment.specs.Lent.{IsAssignment, plan_in, settings_in, traffic_in};
@@ -31,9 +30,8 @@ fn watch<D: Desk>(
     end: &Eight,
     desk: &mut D,
 ) -> Result<(), Failed>
-    ensures { let state = state_of D.left D.taken D.read_faults D.put_faults in
-        PutsAll (end_lines settings.now.watch iteration end.now)
-        (state desk.old) (state desk.new) result }
+    ensures { PutsAll (end_lines settings.now.watch iteration end.now)
+        (D.state desk.old) (D.state desk.new) result }
 {
     if settings.watch == 0 {
         return Ok(());
@@ -53,11 +51,10 @@ fn load_plainly<D: Desk>(
     requires routes { AreRoutesOf (traffic_in assignment.now) routes.now }
     ensures loaded { IfOk result (λ loaded.
         loaded ≡ journeys_of (plan_in assignment.now routes.now)) }
-    ensures watches { let state = state_of D.left D.taken D.read_faults D.put_faults in
-        let s = settings_in assignment.now in
+    ensures watches { let s = settings_in assignment.now in
         let traffic = traffic_in assignment.now in
         OnlyWatches (λ _. IsWatched s traffic iteration routes.now)
-        (HaltsIn s traffic iteration routes.now) (state desk.old) (state desk.new) result }
+        (HaltsIn s traffic iteration routes.now) (D.state desk.old) (D.state desk.new) result }
 {
     let loading = assignment.loading(routes);
     let loaded = load_plain(alloc, &loading)?;
@@ -80,11 +77,10 @@ fn load_by_workers<R: AllocGlobal + Threads + Wait + Sync, D: Desk + Send, G: Ga
     requires plain { (settings_in assignment.now).plain ≡ false }
     ensures loaded { IfOk result (λ loaded.
         loaded ≡ journeys_of (plan_in assignment.now routes.now)) }
-    ensures watches { let state = state_of D.left D.taken D.read_faults D.put_faults in
-        let s = settings_in assignment.now in
+    ensures watches { let s = settings_in assignment.now in
         let traffic = traffic_in assignment.now in
         OnlyWatches (λ _. IsWatched s traffic iteration routes.now)
-        (HaltsIn s traffic iteration routes.now) (state desk.old) (state desk.new) result }
+        (HaltsIn s traffic iteration routes.now) (D.state desk.old) (D.state desk.new) result }
     ensures receipts { let shown = gate_of G.closes G.last in
         Gives 1 (numbers_in (settings_in assignment.now) (traffic_in assignment.now))
         (shown gate.old) (shown gate.new) result }
@@ -112,11 +108,10 @@ pub(crate) fn load_watched<R: AllocGlobal + Threads + Wait + Sync, D: Desk + Sen
     requires routes { AreRoutesOf (traffic_in assignment.now) routes.now }
     ensures loaded { IfOk result (λ loaded.
         loaded ≡ journeys_of (plan_in assignment.now routes.now)) }
-    ensures watches { let state = state_of D.left D.taken D.read_faults D.put_faults in
-        let s = settings_in assignment.now in
+    ensures watches { let s = settings_in assignment.now in
         let traffic = traffic_in assignment.now in
         OnlyWatches (λ _. IsWatched s traffic iteration routes.now)
-        (HaltsIn s traffic iteration routes.now) (state desk.old) (state desk.new) result }
+        (HaltsIn s traffic iteration routes.now) (D.state desk.old) (D.state desk.new) result }
     ensures receipts { let shown = gate_of G.closes G.last in
         let s = settings_in assignment.now in
         Gives (receipts_of s.plain 1) (numbers_in s (traffic_in assignment.now))

@@ -1,7 +1,6 @@
 // The outputs of an assignment, in their order.
 ghost use Rattle.std.specs.Prelude.{◌≡◌, [], ◌∷◌};
 ghost use Rattle.desk_io.specs.declared.desk.Output.TheVariants as output;
-ghost use Rattle.desk_io.specs.State.{state_of};
 ghost use Rattle.desk_io.specs.Transfers.{Puts};
 ghost use Rattle.dta_model.specs.Loading.{journeys_of};
 ghost use Rattle.reports.specs.Texts.{agent_text_by};
@@ -27,11 +26,10 @@ fn put_vehicles<D: Desk>(desk: &mut D, assignment: &Assignment, it: &Iterated) -
     requires last { IsLast (settings_in assignment.now) (traffic_in assignment.now) it.now.last }
     requires since { let s = settings_in assignment.now in
         AreSinceTold s.start s (traffic_in assignment.now) it.now.since }
-    ensures { let state = state_of D.left D.taken D.read_faults D.put_faults in
-        let traffic = traffic_in assignment.now in
+    ensures { let traffic = traffic_in assignment.now in
         let journeys = journeys_of (plan_in assignment.now it.now.last.routes) in
         Puts output.Agent (agent_text_by traffic.net traffic.trips it.now.last.routes journeys
-        it.now.since) (state desk.old) (state desk.new) result }
+        it.now.since) (D.state desk.old) (D.state desk.new) result }
 {
     let (net, trips) = (assignment.net, assignment.trips);
     let routes = &it.last.routes;
@@ -49,10 +47,9 @@ fn put_tables<D: Desk>(desk: &mut D, assignment: &Assignment, it: &Iterated) -> 
     requires last { IsLast (settings_in assignment.now) (traffic_in assignment.now) it.now.last }
     requires since { let s = settings_in assignment.now in
         AreSinceTold s.start s (traffic_in assignment.now) it.now.since }
-    ensures { let state = state_of D.left D.taken D.read_faults D.put_faults in
-        PutsAll (table_texts (settings_in assignment.now) (traffic_in assignment.now)
+    ensures { PutsAll (table_texts (settings_in assignment.now) (traffic_in assignment.now)
         it.now.last.routes it.now.since it.now.last.lines.items)
-        (state desk.old) (state desk.new) result }
+        (D.state desk.old) (D.state desk.new) result }
 {
     put_vehicles(desk, assignment, it)?;
     put_link_times(desk, assignment.net, &it.last.times)?;
@@ -64,11 +61,10 @@ fn put_counted<D: Desk>(desk: &mut D, assignment: &Assignment, it: &Iterated) ->
     requires is { IsAssignment assignment.now }
     requires counts { AreCountsOf (settings_in assignment.now) (traffic_in assignment.now)
         it.now.last.routes it.now.counts }
-    ensures { let state = state_of D.left D.taken D.read_faults D.put_faults in
-        let s = settings_in assignment.now in
+    ensures { let s = settings_in assignment.now in
         let loading = plan_in assignment.now it.now.last.routes in
         PutsAll (counts_out s (traffic_in assignment.now) (turn_counts loading s.bucket)
-        (through_counts loading) ∷ []) (state desk.old) (state desk.new) result }
+        (through_counts loading) ∷ []) (D.state desk.old) (D.state desk.new) result }
 {
     let settings = assignment.settings;
     let counts = &it.counts;
@@ -96,10 +92,9 @@ pub(crate) fn put_assigned<D: Desk>(
         AreSinceTold s.start s (traffic_in assignment.now) it.now.since }
     requires counts { HasCounts (settings_in assignment.now) (traffic_in assignment.now)
         it.now.last.routes it.now.counts }
-    ensures { let state = state_of D.left D.taken D.read_faults D.put_faults in
-        let s = settings_in assignment.now in
+    ensures { let s = settings_in assignment.now in
         PutsAll (last_texts s.command s (traffic_in assignment.now) it.now.last.routes it.now.since
-        it.now.last.lines.items it.now.last.line) (state desk.old) (state desk.new) result }
+        it.now.last.lines.items it.now.last.line) (D.state desk.old) (D.state desk.new) result }
 {
     let summary = summary_of(assignment, &it.last);
     match assignment.settings.command {

@@ -1,6 +1,5 @@
 // The work of `skim`: least times between all zones, and their texts.
 ghost use Rattle.std.specs.Prelude.{◌≡◌, IfOk};
-ghost use Rattle.desk_io.specs.State.{state_of};
 ghost use Rattle.dta_model.specs.LinkTimes.{time_at};
 ghost use Rattle.dta_words.specs.Ranges.{AreSettings};
 ghost use Rattle.dta_words.specs.declared.command.Command.TheVariants as command;
@@ -44,8 +43,7 @@ pub(crate) fn put_least_times<D: Desk>(
     requires settings { AreSettings settings.now }
     requires job { IsJob settings.now job.now }
     requires command { settings.now.command ≡ command.Skim }
-    ensures { let state = state_of D.left D.taken D.read_faults D.put_faults in
-        DoesWork settings.now job.now (state desk.old) (state desk.new) result }
+    ensures { DoesWork settings.now job.now (D.state desk.old) (D.state desk.new) result }
 {
     match least_times(alloc, settings, job) {
         Ok(skim) => match put_skim(desk, &job.net, &skim) {

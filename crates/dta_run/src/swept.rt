@@ -1,6 +1,5 @@
 // The work of `sweep`: the assignments for multiples of the demand, and their texts.
 ghost use Rattle.std.specs.Prelude.{◌≡◌};
-ghost use Rattle.desk_io.specs.State.{state_of};
 ghost use Rattle.dta_words.specs.Ranges.{AreSettings};
 ghost use Rattle.dta_words.specs.declared.command.Command.TheVariants as command;
 ghost use Rattle.dta_run.specs.Calls.{DoesWork};
@@ -23,8 +22,7 @@ pub(crate) fn put_scenarios<R: AllocGlobal + Threads + Sync, D: Desk>(
     requires settings { AreSettings settings.now }
     requires job { IsJob settings.now job.now }
     requires command { settings.now.command ≡ command.Sweep }
-    ensures { let state = state_of D.left D.taken D.read_faults D.put_faults in
-        DoesWork settings.now job.now (state desk.old) (state desk.new) result }
+    ensures { DoesWork settings.now job.now (D.state desk.old) (D.state desk.new) result }
 {
     let scales = settings.scales.as_slice();
     match sweep(

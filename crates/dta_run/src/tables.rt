@@ -16,7 +16,6 @@ ghost use Rattle.dta_run.specs.Calls.{rows_in_roads, rows_in_tables, rows_with_t
 ghost use Rattle.dta_run.specs.Calls.{rows_in_network, with_agent_rows, with_demand_cells};
 ghost use Rattle.dta_run.specs.Calls.{with_start_rows, with_time_rows};
 ghost use Rattle.skims.specs.GivenTimes.{AreRowsOf};
-ghost use Rattle.dta_run.specs.Outcome.{state_of};
 ghost use Rattle.dta_run.specs.Stops.{StopsAt};
 ghost use Rattle.dta_run.specs.Tables.{TableRows, loading_tables, no_rows, road_rows, road_tables};
 ghost use Rattle.dta_run.specs.Tables.{net_of, network_tables, turns_of};
@@ -44,10 +43,9 @@ pub(crate) struct Roads {
 
 // Reads the bytes of a table.
 fn bytes_of<D: Desk>(alloc: Global, desk: &mut D, table: Table) -> Result<Vec<u8>, Stop>
-    ensures reads { let state = state_of D.left D.taken D.read_faults D.put_faults in
-        (settings : Settings) (rows : TableRows)
-        → OnlyReads (IsWhole table) (StopsAt settings table rows) (state desk.old) (state desk.new)
-        result }
+    ensures reads { (settings : Settings) (rows : TableRows)
+        → OnlyReads (IsWhole table) (StopsAt settings table rows) (D.state desk.old)
+        (D.state desk.new) result }
 {
     match read_table(alloc, desk, table, MOST_TABLE_BYTES) {
         Ok(bytes) => Ok(bytes),
@@ -59,9 +57,9 @@ fn bytes_of<D: Desk>(alloc: Global, desk: &mut D, table: Table) -> Result<Vec<u8
 
 // Reads and checks the node table.
 fn accept_nodes<D: Desk>(alloc: Global, desk: &mut D) -> Result<NodeRows, Stop>
-    ensures reads { let state = state_of D.left D.taken D.read_faults D.put_faults in
-        (settings : Settings) → Accepts settings table.Node no_rows (λ nodes. road_rows nodes [])
-        (state desk.old) (state desk.new) result }
+    ensures reads { (settings : Settings)
+        → Accepts settings table.Node no_rows (λ nodes. road_rows nodes [])
+        (D.state desk.old) (D.state desk.new) result }
     ensures sound { IfOk result AreNodes }
 {
     let bytes = bytes_of(alloc, desk, Table::Node)?;
@@ -76,9 +74,8 @@ fn accept_links<D: Desk>(
     nodes: &NodeRows,
 ) -> Result<LinkRows, Stop>
     requires settings { AreSettings settings.now }
-    ensures reads { let state = state_of D.left D.taken D.read_faults D.put_faults in
-        Accepts settings.now table.Link (road_rows nodes.now []) (road_rows nodes.now)
-        (state desk.old) (state desk.new) result }
+    ensures reads { Accepts settings.now table.Link (road_rows nodes.now []) (road_rows nodes.now)
+        (D.state desk.old) (D.state desk.new) result }
     ensures sound { IfOk result AreLinkRows }
     ensures between { IfOk result (λ links. All (IsBetween nodes.now) (rows_of links)) }
 {
@@ -93,9 +90,8 @@ pub(crate) fn accept_roads<D: Desk>(
     settings: &Settings,
 ) -> Result<Roads, Stop>
     requires settings { AreSettings settings.now }
-    ensures reads { let state = state_of D.left D.taken D.read_faults D.put_faults in
-        AcceptsAll settings.now road_tables no_rows rows_in_roads (state desk.old) (state desk.new)
-        result }
+    ensures reads { AcceptsAll settings.now road_tables no_rows rows_in_roads (D.state desk.old)
+        (D.state desk.new) result }
     ensures nodes { IfOk result (λ roads. AreNodes roads.nodes) }
     ensures links { IfOk result (λ roads. AreLinkRows roads.links) }
     ensures between { IfOk result (λ roads. All (IsBetween roads.nodes) (rows_of roads.links)) }
@@ -137,9 +133,8 @@ fn accept_turns<D: Desk>(
     roads: &Roads,
 ) -> Result<Option<TurnRows>, Stop>
     requires settings { AreSettings settings.now }
-    ensures reads { let state = state_of D.left D.taken D.read_faults D.put_faults in
-        Accepts settings.now table.Movement (rows_in_roads roads.now) (rows_with_turns roads.now)
-        (state desk.old) (state desk.new) result }
+    ensures reads { Accepts settings.now table.Movement (rows_in_roads roads.now)
+        (rows_with_turns roads.now) (D.state desk.old) (D.state desk.new) result }
     ensures sound { IfOk result (λ turns. AreTurnRows (listed_turns turns)) }
     ensures turning { IfOk result (λ turns.
         All (IsTurning (rows_of roads.now.links)) (rows_of (listed_turns turns))) }
@@ -150,10 +145,9 @@ fn accept_turns<D: Desk>(
 
 // Reads and checks the demand table.
 fn accept_demand_cells<D: Desk>(alloc: Global, desk: &mut D) -> Result<Vec<DemandCell>, Stop>
-    ensures reads { let state = state_of D.left D.taken D.read_faults D.put_faults in
-        (settings : Settings) (rows : TableRows)
-        → Accepts settings table.Demand rows (with_demand_cells rows) (state desk.old) (state desk.new)
-        result }
+    ensures reads { (settings : Settings) (rows : TableRows)
+        → Accepts settings table.Demand rows (with_demand_cells rows) (D.state desk.old)
+        (D.state desk.new) result }
     ensures sound { IfOk result (λ demand_cells. AreDemandCells demand_cells.items) }
 {
     let bytes = bytes_of(alloc, desk, Table::Demand)?;
@@ -162,10 +156,9 @@ fn accept_demand_cells<D: Desk>(alloc: Global, desk: &mut D) -> Result<Vec<Deman
 
 // Reads and checks the start table.
 fn accept_start<D: Desk>(alloc: Global, desk: &mut D) -> Result<StartRows, Stop>
-    ensures reads { let state = state_of D.left D.taken D.read_faults D.put_faults in
-        (settings : Settings) (rows : TableRows) → settings.command ≡ command.Assign
+    ensures reads { (settings : Settings) (rows : TableRows) → settings.command ≡ command.Assign
         → Accepts settings table.Start rows (with_start_rows rows)
-        (state desk.old) (state desk.new) result }
+        (D.state desk.old) (D.state desk.new) result }
     ensures sound { IfOk result AreStartRows }
 {
     let bytes = bytes_of(alloc, desk, Table::Start)?;
@@ -174,10 +167,9 @@ fn accept_start<D: Desk>(alloc: Global, desk: &mut D) -> Result<StartRows, Stop>
 
 /// Reads and checks the agent table of an audit.
 pub(crate) fn accept_agents<D: Desk>(alloc: Global, desk: &mut D) -> Result<AgentRows, Stop>
-    ensures reads { let state = state_of D.left D.taken D.read_faults D.put_faults in
-        (settings : Settings) (rows : TableRows) → settings.command ≡ command.Audit
+    ensures reads { (settings : Settings) (rows : TableRows) → settings.command ≡ command.Audit
         → Accepts settings table.Start rows (with_agent_rows rows)
-        (state desk.old) (state desk.new) result }
+        (D.state desk.old) (D.state desk.new) result }
 {
     let bytes = bytes_of(alloc, desk, Table::Start)?;
     Ok(read_agents(alloc, &bytes)?)
@@ -191,10 +183,9 @@ pub(crate) fn accept_times<D: Desk>(
     net: &Net,
 ) -> Result<TimeRows, Stop>
     requires settings { AreSettings settings.now }
-    ensures reads { let state = state_of D.left D.taken D.read_faults D.put_faults in
-        (rows : TableRows) → net_of rows ≡ net.now
+    ensures reads { (rows : TableRows) → net_of rows ≡ net.now
         → Accepts settings.now table.Times rows (with_time_rows rows)
-        (state desk.old) (state desk.new) result }
+        (D.state desk.old) (D.state desk.new) result }
     ensures sound { IfOk result (AreRowsOf net.now settings.now.bucket settings.now.horizon) }
 {
     let bytes = bytes_of(alloc, desk, Table::Times)?;
@@ -215,9 +206,8 @@ pub(crate) fn accept_network<D: Desk>(
     settings: &Settings,
 ) -> Result<NetworkTables, Stop>
     requires settings { AreSettings settings.now }
-    ensures reads { let state = state_of D.left D.taken D.read_faults D.put_faults in
-        AcceptsAll settings.now network_tables no_rows rows_in_network
-        (state desk.old) (state desk.new) result }
+    ensures reads { AcceptsAll settings.now network_tables no_rows rows_in_network
+        (D.state desk.old) (D.state desk.new) result }
     ensures net { IfOk result (λ t. IsNet (joined t.roads.nodes t.roads.links t.turns)) }
 {
     let roads = accept_roads(alloc, desk, settings)?;
@@ -241,9 +231,8 @@ pub(crate) fn accept_all<D: Desk>(
     settings: &Settings,
 ) -> Result<Tables, Stop>
     requires settings { AreSettings settings.now }
-    ensures reads { let state = state_of D.left D.taken D.read_faults D.put_faults in
-        AcceptsAll settings.now (loading_tables settings.now.start) no_rows rows_in_tables
-        (state desk.old) (state desk.new) result }
+    ensures reads { AcceptsAll settings.now (loading_tables settings.now.start) no_rows
+        rows_in_tables (D.state desk.old) (D.state desk.new) result }
     ensures net { IfOk result (λ t.
         IsNet (joined t.network.roads.nodes t.network.roads.links t.network.turns)) }
     ensures demand_cells { IfOk result (λ t. AreDemandCells t.demand_cells.items) }

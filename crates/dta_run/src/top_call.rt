@@ -7,7 +7,7 @@ ghost use Rattle.loader.specs.Gates.{gate_of};
 ghost use Rattle.dta_run.specs.Status.{refusal_status as status_of_refusal};
 ghost use Rattle.dta_run.specs.Calls.{DoesWork, Refuses};
 ghost use Rattle.dta_run.specs.Headline.{Headline};
-ghost use Rattle.dta_run.specs.Outcome.{state_of, Means};
+ghost use Rattle.dta_run.specs.Outcome.{Means};
 ghost use Rattle.dta_run.specs.Receipts.{RunGives, WorkGives};
 
 use crate::audited::put_verdict;
@@ -46,8 +46,7 @@ fn refusal_status(refusal: Refusal) -> Status
 // Puts the line of a refusal to Report, and answers the refusal's status, also where the put fails.
 // It takes no memory.
 fn refuse<D: Desk>(desk: &mut D, refusal: Refusal) -> Status
-    ensures { let state = state_of D.left D.taken D.read_faults D.put_faults in
-        Refuses refusal (state desk.old) (state desk.new) result }
+    ensures { Refuses refusal (D.state desk.old) (D.state desk.new) result }
 {
     let _ = put_refusal(desk, &refusal);
     refusal_status(refusal)
@@ -64,8 +63,7 @@ fn assign<R: AllocGlobal + Threads + Wait + Sync, D: Desk + Send, G: Gate + Sync
     requires settings { AreSettings settings.now }
     requires job { IsJob settings.now job.now }
     requires command { Assigns settings.now.command }
-    ensures works { let state = state_of D.left D.taken D.read_faults D.put_faults in
-        DoesWork settings.now job.now (state desk.old) (state desk.new) result }
+    ensures works { DoesWork settings.now job.now (D.state desk.old) (D.state desk.new) result }
     ensures receipts { let shown = gate_of G.closes G.last in
         WorkGives settings.now job.now result (shown gate.old) (shown gate.new) }
 {
@@ -90,8 +88,7 @@ fn work<R: AllocGlobal + Threads + Wait + Sync, D: Desk + Send, G: Gate + Sync>(
 ) -> Status
     requires settings { AreSettings settings.now }
     requires job { IsJob settings.now job.now }
-    ensures works { let state = state_of D.left D.taken D.read_faults D.put_faults in
-        DoesWork settings.now job.now (state desk.old) (state desk.new) result }
+    ensures works { DoesWork settings.now job.now (D.state desk.old) (D.state desk.new) result }
     ensures receipts { let shown = gate_of G.closes G.last in
         WorkGives settings.now job.now result (shown gate.old) (shown gate.new) }
 {
@@ -117,15 +114,14 @@ fn accept_and_work<R: AllocGlobal + Threads + Wait + Sync, D: Desk + Send, G: Ga
     desk: &mut D,
 ) -> Status
     requires settings { AreSettings settings.now }
-    ensures means { let state = state_of D.left D.taken D.read_faults D.put_faults in
-        (words : List (List ℕ)) → settings_of words ≡ Some settings.now
-        → Means words result (state desk.old) (state desk.new) }
+    ensures means { (words : List (List ℕ)) → settings_of words ≡ Some settings.now
+        → Means words result (D.state desk.old) (D.state desk.new) }
     ensures receipts { let shown = gate_of G.closes G.last in
         (words : List (List ℕ)) → settings_of words ≡ Some settings.now
-        → RunGives words result (D.left desk.old) (D.left desk.new)
+        → RunGives words result (D.state desk.old).left (D.state desk.new).left
         (shown gate.old) (shown gate.new) }
-    ensures reads { D.read_faults desk.old ≤ D.read_faults desk.new }
-    ensures puts { D.put_faults desk.old ≤ D.put_faults desk.new }
+    ensures reads { (D.state desk.old).read_faults ≤ (D.state desk.new).read_faults }
+    ensures puts { (D.state desk.old).put_faults ≤ (D.state desk.new).put_faults }
 {
     match accept(rt.alloc(), desk, settings) {
         Ok(job) => work(rt, settings, &job, gate, desk),
@@ -141,13 +137,12 @@ fn answer<R: AllocGlobal + Threads + Wait + Sync, D: Desk + Send, G: Gate + Sync
     gate: &mut G,
     desk: &mut D,
 ) -> Status
-    ensures means { let state = state_of D.left D.taken D.read_faults D.put_faults in
-        Means words.now result (state desk.old) (state desk.new) }
+    ensures means { Means words.now result (D.state desk.old) (D.state desk.new) }
     ensures receipts { let shown = gate_of G.closes G.last in
-        RunGives words.now result (D.left desk.old) (D.left desk.new)
+        RunGives words.now result (D.state desk.old).left (D.state desk.new).left
         (shown gate.old) (shown gate.new) }
-    ensures reads { D.read_faults desk.old ≤ D.read_faults desk.new }
-    ensures puts { D.put_faults desk.old ≤ D.put_faults desk.new }
+    ensures reads { (D.state desk.old).read_faults ≤ (D.state desk.new).read_faults }
+    ensures puts { (D.state desk.old).put_faults ≤ (D.state desk.new).put_faults }
 {
     match settings(rt.alloc(), words) {
         Ok(settings) => accept_and_work(rt, &settings, gate, desk),
@@ -188,9 +183,8 @@ pub fn run<R: AllocGlobal + Threads + Wait + Sync, D: Desk + Send, G: Gate + Syn
     desk: &mut D,
     gate: &mut G,
 ) -> Status
-    ensures headline { let state = state_of D.left D.taken D.read_faults D.put_faults in
-        let shown = gate_of G.closes G.last in
-        Headline words.now result (state desk.old) (state desk.new)
+    ensures headline { let shown = gate_of G.closes G.last in
+        Headline words.now result (D.state desk.old) (D.state desk.new)
         (shown gate.old) (shown gate.new) }
 {
     texts_are_one();

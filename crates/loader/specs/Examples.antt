@@ -2,7 +2,8 @@
 use Rattle.std.specs.Prelude.{◌≡◌, ◌∷◌, [], None, Some, codes, refl}
 use Rattle.std.proofs.Common.{inr, inl}
 use Rattle.std.proofs.Math.Nat.{le-add_right}
-use Rattle.desk_io.specs.MemDesk.{all_taken}
+use Rattle.desk_io.specs.declared.desk.Output.TheVariants.{Watch}
+use Rattle.desk_io.specs.Desk.{grown, nothing_taken}
 use Rattle.loader.specs.Gates.{GateState, Numbers, one_more, taking}
 use Rattle.loader.specs.Lines.{AreCutOff, watched}
 
@@ -31,10 +32,12 @@ at-the-last-count : one_more (Some 18446744073709551615) ≡ Some 18446744073709
 at-the-last-count = refl
 
 -- two lines go out, or one and the first byte of the next
-two-lines : watched (codes "1\n" ∷ codes "2\n" ∷ []) (all_taken [] [] [] [] [])
-    ≡ all_taken [] [] [] [] (codes "1\n2\n")
+two-lines : watched (codes "1\n" ∷ codes "2\n" ∷ []) nothing_taken
+    ≡ grown Watch (codes "1\n2\n") nothing_taken
+unfolding grown
 two-lines = refl
 
 cut-in-the-second : AreCutOff (codes "1\n" ∷ codes "2\n" ∷ [])
-    (all_taken [] [] [] [] []) (all_taken [] [] [] [] (codes "1\n2"))
+    nothing_taken (grown Watch (codes "1\n2") nothing_taken)
+unfolding grown
 cut-in-the-second = inr (inl (record { count = 1; within = le-add_right 1 1; out = refl }))

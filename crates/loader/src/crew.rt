@@ -1,7 +1,7 @@
 // The workers of a loading.
 ghost use Rattle.std.specs.Prelude.{◌≡◌, ◌<◌, ◌≤◌, ◌+◌, ◌-◌};
 ghost use Rattle.std.specs.Thread.{IsSync};
-ghost use Rattle.desk_io.specs.State.{DeskState, state_of};
+ghost use Rattle.desk_io.specs.State.{DeskState};
 ghost use Rattle.loader.specs.Crews.{HasCrewEnded, IsCrewReady};
 ghost use Rattle.phase_claims.specs.Crews.{HasEnded, HasSameRights, IsReady};
 ghost use Rattle.loader.specs.Watching.{HasWatched, IsSameWatch};
@@ -155,9 +155,8 @@ fn lead<R: Wait, G: Gate, D: Desk>(
     requires board { watcher.old.monitor.board ≡ board.now }
     ensures ended { HasEnded floor.now 1 pass.new }
     ensures same { IsSameWatch watcher.old watcher.new }
-    ensures put { let state = state_of D.left D.taken D.read_faults D.put_faults in
-        (before : DeskState) → HasWatched watcher.old before (state desk.old)
-        → HasWatched watcher.new before (state desk.new) }
+    ensures put { (before : DeskState) → HasWatched watcher.old before (D.state desk.old)
+        → HasWatched watcher.new before (D.state desk.new) }
 {
     for _ in rt.forever() {
         if 1 < workers {
@@ -189,9 +188,8 @@ pub fn perform_all<R: Threads + Wait + Sync, G: Gate + Sync, D: Desk + Send>(
     requires board { watcher.old.monitor.board ≡ board.now }
     ensures ended { HasEnded floor.now workers result }
     ensures same { IsSameWatch watcher.old watcher.new }
-    ensures put { let state = state_of D.left D.taken D.read_faults D.put_faults in
-        (before : DeskState) → HasWatched watcher.old before (state desk.old)
-        → HasWatched watcher.new before (state desk.new) }
+    ensures put { (before : DeskState) → HasWatched watcher.old before (D.state desk.old)
+        → HasWatched watcher.new before (D.state desk.new) }
 {
     if workers == 1 {
         let mut pass = pass;
@@ -213,11 +211,11 @@ pub fn perform_all<R: Threads + Wait + Sync, G: Gate + Sync, D: Desk + Send>(
         },
         &mut ||
             requires { IsReady floor.now 1 mine × (watcher.now.monitor.board ≡ board.now) }
-            ensures { let state = state_of D.left D.taken D.read_faults D.put_faults in
-                HasEnded floor.entry.now 1 mine.exit
+            ensures { HasEnded floor.entry.now 1 mine.exit
                 × IsSameWatch watcher.entry.now watcher.exit.now
-                × ((before : DeskState) → HasWatched watcher.entry.now before (state desk.entry.now)
-                → HasWatched watcher.exit.now before (state desk.exit.now)) }
+                × ((before : DeskState)
+                → HasWatched watcher.entry.now before (D.state desk.entry.now)
+                → HasWatched watcher.exit.now before (D.state desk.exit.now)) }
         { lead(rt, floor, gate, &mut mine, workers, board, watcher, desk) },
     );
     match rest {

@@ -1,6 +1,5 @@
 // The loading by workers.
 ghost use Rattle.std.specs.Prelude.{◌≡◌, ◌≤◌, []};
-ghost use Rattle.desk_io.specs.State.{state_of};
 ghost use Rattle.dta_model.specs.Lent.{plan_of};
 ghost use Rattle.dta_model.specs.Sound.{IsSound};
 ghost use Rattle.loader.specs.Gates.{gate_of};
@@ -55,11 +54,10 @@ fn load_shown<'b, 'l: 'b, R: AllocGlobal + Threads + Wait + Sync, D: Desk + Send
     requires most { workers ≤ MOST_WORKERS }
     requires writer { (writer.board ≡ board.now) × (writer.list ≡ []) }
     requires monitor { monitor.board ≡ board.now }
-    ensures { let state = state_of D.left D.taken D.read_faults D.put_faults in
-        let shown = gate_of G.closes G.last in
+    ensures { let shown = gate_of G.closes G.last in
         Loads (plan_of loading.entry.now) workers watch
-        (state desk.entry.now) (state desk.exit.now) (shown gate.entry.now) (shown gate.exit.now)
-        result }
+        (D.state desk.entry.now) (D.state desk.exit.now) (shown gate.entry.now)
+        (shown gate.exit.now) result }
 {
     let (floor, pass) = Floor::new(rt.alloc(), loading, board, writer, workers)?;
     let mut watcher = Watcher {
@@ -93,10 +91,9 @@ pub fn load<R: AllocGlobal + Threads + Wait + Sync, D: Desk + Send, G: Gate + Sy
     requires sound { IsSound (plan_of loading.now) }
     requires least { 1 ≤ workers }
     requires most { workers ≤ MOST_WORKERS }
-    ensures { let state = state_of D.left D.taken D.read_faults D.put_faults in
-        let shown = gate_of G.closes G.last in
+    ensures { let shown = gate_of G.closes G.last in
         Loads (plan_of loading.now) workers watch
-        (state desk.old) (state desk.new) (shown gate.old) (shown gate.new) result }
+        (D.state desk.old) (D.state desk.new) (shown gate.old) (shown gate.new) result }
 {
     let (board, writer, monitor) = Board::new(rt)?;
     load_shown(

@@ -1,6 +1,6 @@
 // The watch lines of a loading, which worker 0 puts while the workers are at work.
 ghost use Rattle.std.specs.Prelude.{◌≡◌, ◌<◌, ◌≤◌, false};
-ghost use Rattle.desk_io.specs.State.{DeskState, state_of};
+ghost use Rattle.desk_io.specs.State.{DeskState};
 ghost use Rattle.desk_io.specs.Transfers.{OnlyPuts};
 ghost use Rattle.dta_model.specs.declared.plan.Plan.{Plan};
 ghost use Rattle.loader.specs.Lines.{IsWatchCut, IsWatched};
@@ -37,10 +37,9 @@ impl Watcher {
         requires whole { self.old.failed ≡ false }
         ensures same { IsSameWatch self.old self.new }
         ensures list { self.new.monitor.list ≡ self.old.monitor.list }
-        ensures put { let state = state_of D.left D.taken D.read_faults D.put_faults in
-            (before : DeskState) → HasWatched self.old before (state desk.old)
+        ensures put { (before : DeskState) → HasWatched self.old before (D.state desk.old)
             → IsShown self.old.monitor.list eight.now → IsMore self.old eight.now
-            → HasWatched self.new before (state desk.new) }
+            → HasWatched self.new before (D.state desk.new) }
     {
         match put_watch(desk, self.watch.iteration, eight) {
             Ok(()) => self.last = eight.steps,
@@ -53,9 +52,8 @@ impl Watcher {
     pub fn look<R: Wait, D: Desk>(&mut self, rt: &R, board: &Board, desk: &mut D)
         requires own { self.old.monitor.board ≡ board.now }
         ensures same { IsSameWatch self.old self.new }
-        ensures put { let state = state_of D.left D.taken D.read_faults D.put_faults in
-            (before : DeskState) → HasWatched self.old before (state desk.old)
-            → HasWatched self.new before (state desk.new) }
+        ensures put { (before : DeskState) → HasWatched self.old before (D.state desk.old)
+            → HasWatched self.new before (D.state desk.new) }
     {
         if self.watch.every == 0 || self.failed {
             return;
@@ -78,11 +76,10 @@ impl Watcher {
     ) -> Result<(), Failed>
         requires own { self.monitor.board ≡ board.now }
         requires writer { writer.board ≡ board.now }
-        ensures put { let state = state_of D.left D.taken D.read_faults D.put_faults in
-            (p : Plan) (before : DeskState) → 1 ≤ p.horizon
-            → writer.list ≡ posted_in p p.horizon → HasWatched self before (state desk.old)
+        ensures put { (p : Plan) (before : DeskState) → 1 ≤ p.horizon
+            → writer.list ≡ posted_in p p.horizon → HasWatched self before (D.state desk.old)
             → OnlyPuts (IsWatched p self.watch) (IsWatchCut p self.watch)
-            before (state desk.new) result }
+            before (D.state desk.new) result }
     {
         if self.watch.every == 0 {
             return Ok(());

@@ -20,6 +20,10 @@ added-all o p t0 t1 e = record { sent = p; out = e; rest = refl }
 pub added-text : (o : Output) (text : List ℕ) (t : Taken) → IsAdded o text [] text t t
 added-text o text t = record { sent = []; out = sym (grown-empty o t); rest = refl }
 
+-- what is pending is a header, before the first line
+pub added-header : (o : Output) (header p : List ℕ) (t : Taken) → p ≡ header → IsAdded o (header ++ []) [] p t t
+added-header o header p t e = record { sent = []; out = sym (grown-empty o t); rest = append-nil header ∙ sym e }
+
 -- a text was pushed after room was made
 pub added-pushed : (o : Output) (text p q r : List ℕ) (t0 t1 : Taken) → IsAdded o [] p q t0 t1 → r ≡ q ++ text → IsAdded o text p r t0 t1
 added-pushed o text p q r t0 t1 a e = record {
@@ -79,6 +83,9 @@ part-of-room o text p t0 t1 b = part-longer o p text t0 t1 (rw (← append-nil p
 
 -- making room
 pub ruleset rooms = (added-none, added-all, part-longer)
+
+-- before the first of many lines
+pub ruleset starts = (added-none, added-header)
 
 -- making room, and pushing a text after it
 pub ruleset pieces = (added-pushed, part-of-room)

@@ -1,6 +1,5 @@
 // Text on its way out.
 ghost use Rattle.std.specs.Prelude.{◌≡◌, ◌≤◌, ◌+◌, ◌++◌, [], length, decimal, OnOk, OnErr};
-ghost use Rattle.desk_io.specs.State.{state_of};
 ghost use Rattle.desk_io.specs.Transfers.{Puts};
 ghost use Rattle.pending_text.specs.Sending.{Adds};
 
@@ -72,8 +71,7 @@ impl Pending {
 
     /// Puts all that is pending. On Failed a first part of it went out.
     pub fn put_out<D: Desk>(&mut self, desk: &mut D, output: Output) -> Result<(), Failed>
-        ensures puts { let state = state_of D.left D.taken D.read_faults D.put_faults in
-            Puts output self.old (state desk.old) (state desk.new) result }
+        ensures puts { Puts output self.old (D.state desk.old) (D.state desk.new) result }
         ensures none { OnOk result (self.new ≡ []) }
     {
         put_all(desk, output, self.text.as_str().as_bytes())?;
@@ -91,8 +89,8 @@ impl Pending {
     ) -> Result<(), Failed>
         requires { room ≤ PIECE }
         ensures room { OnOk result (length self.new + room ≤ PIECE) }
-        ensures adds { let state = state_of D.left D.taken D.read_faults D.put_faults in
-            Adds output [] self.old self.new (state desk.old) (state desk.new) result }
+        ensures adds { Adds output [] self.old self.new
+            (D.state desk.old) (D.state desk.new) result }
     {
         if self.text.remaining_capacity() < room {
             self.put_out(desk, output)?;
@@ -104,8 +102,8 @@ impl Pending {
     #[tactic(auto, using(crate::proofs::SendingFacts::pieces))]
     pub fn add<D: Desk>(&mut self, desk: &mut D, output: Output, text: &str) -> Result<(), Failed>
         requires { length text.now ≤ PIECE }
-        ensures { let state = state_of D.left D.taken D.read_faults D.put_faults in
-            Adds output text.now self.old self.new (state desk.old) (state desk.new) result }
+        ensures { Adds output text.now self.old self.new
+            (D.state desk.old) (D.state desk.new) result }
     {
         self.make_room(desk, output, text.len())?;
         self.push(text);

@@ -2,7 +2,6 @@
 ghost use Rattle.std.specs.Prelude.{◌≡◌, ◌≤◌, ◌+◌, ◌++◌, IfSome, length, OnOk, OnErr};
 ghost use Rattle.std.specs.Prelude.{option_copied};
 ghost use Rattle.desk_io.specs.declared.desk.Output.TheVariants as output;
-ghost use Rattle.desk_io.specs.State.{state_of};
 ghost use Rattle.desk_io.specs.Transfers.{Puts};
 ghost use Rattle.pending_text.specs.declared.pending.TheConstants.{DIGITS, PIECE};
 ghost use Rattle.pending_text.specs.Sending.{Adds};
@@ -83,9 +82,8 @@ fn add_trip<D: Desk>(
     arrival: Option<u32>,
     status: AgentStatus,
 ) -> Result<(), Failed>
-    ensures { let state = state_of D.left D.taken D.read_faults D.put_faults in
-        Adds output.Agent (trip_columns trip.now arrival status) pending.old pending.new
-        (state desk.old) (state desk.new) result }
+    ensures { Adds output.Agent (trip_columns trip.now arrival status) pending.old pending.new
+        (D.state desk.old) (D.state desk.new) result }
 {
     pending.make_room(desk, Output::Agent, COLUMNS)?;
     push_trip(pending, trip, arrival, status);
@@ -112,9 +110,8 @@ fn add_item<D: Desk>(
     place: usize,
     number: u64,
 ) -> Result<(), Failed>
-    ensures { let state = state_of D.left D.taken D.read_faults D.put_faults in
-        Adds output.Agent (item place number) pending.old pending.new
-        (state desk.old) (state desk.new) result }
+    ensures { Adds output.Agent (item place number) pending.old pending.new
+        (D.state desk.old) (D.state desk.new) result }
 {
     pending.make_room(desk, Output::Agent, ITEM)?;
     push_item(pending, place, number);
@@ -122,6 +119,7 @@ fn add_item<D: Desk>(
 }
 
 // Adds the identifiers of the links of a route, joined.
+#[tactic(auto, using(pending_text::proofs::SendingFacts::starts))]
 fn add_ids<D: Desk>(
     pending: &mut Pending,
     desk: &mut D,
@@ -129,9 +127,8 @@ fn add_ids<D: Desk>(
     route: &[LinkNo],
 ) -> Result<(), Failed>
     requires { AreLinksOf net.now route.now }
-    ensures { let state = state_of D.left D.taken D.read_faults D.put_faults in
-        Adds output.Agent (joined (ids_of net.now route.now)) pending.old pending.new
-        (state desk.old) (state desk.new) result }
+    ensures { Adds output.Agent (joined (ids_of net.now route.now)) pending.old pending.new
+        (D.state desk.old) (D.state desk.new) result }
 {
     'each: for place in 0..route.len() {
         let row = net.link(route[place]);
@@ -141,10 +138,10 @@ fn add_ids<D: Desk>(
 }
 
 // Adds steps, joined.
+#[tactic(auto, using(pending_text::proofs::SendingFacts::starts))]
 fn add_steps<D: Desk>(pending: &mut Pending, desk: &mut D, steps: &[u32]) -> Result<(), Failed>
-    ensures { let state = state_of D.left D.taken D.read_faults D.put_faults in
-        Adds output.Agent (joined steps.now) pending.old pending.new
-        (state desk.old) (state desk.new) result }
+    ensures { Adds output.Agent (joined steps.now) pending.old pending.new
+        (D.state desk.old) (D.state desk.new) result }
 {
     'each: for place in 0..steps.len() {
         add_item(pending, desk, place, u64::from(steps[place]))?;
@@ -162,9 +159,8 @@ fn add_way<D: Desk>(
     steps: &[u32],
 ) -> Result<(), Failed>
     requires { AreLinksOf net.now route.now }
-    ensures { let state = state_of D.left D.taken D.read_faults D.put_faults in
-        Adds output.Agent (way_columns (ids_of net.now route.now) steps.now) pending.old pending.new
-        (state desk.old) (state desk.new) result }
+    ensures { Adds output.Agent (way_columns (ids_of net.now route.now) steps.now)
+        pending.old pending.new (D.state desk.old) (D.state desk.new) result }
 {
     add_ids(pending, desk, net, route)?;
     pending.add(desk, Output::Agent, ",")?;
@@ -182,9 +178,9 @@ fn add_columns<D: Desk>(
     journey: &Journey,
 ) -> Result<(), Failed>
     requires { IfSome (option_copied route) (AreLinksOf net.now) }
-    ensures { let state = state_of D.left D.taken D.read_faults D.put_faults in
-        Adds output.Agent (agent_columns net.now trip.now (option_copied route.entry) journey.now)
-        pending.old pending.new (state desk.old) (state desk.new) result }
+    ensures { Adds output.Agent (agent_columns net.now trip.now
+        (option_copied route.entry) journey.now)
+        pending.old pending.new (D.state desk.old) (D.state desk.new) result }
 {
     match route {
         None => {
@@ -227,9 +223,8 @@ fn add_end<D: Desk>(
     route: Option<&Route>,
     iteration: Option<u32>,
 ) -> Result<(), Failed>
-    ensures { let state = state_of D.left D.taken D.read_faults D.put_faults in
-        Adds output.Agent (line_end (option_copied route.entry) iteration) pending.old pending.new
-        (state desk.old) (state desk.new) result }
+    ensures { Adds output.Agent (line_end (option_copied route.entry) iteration)
+        pending.old pending.new (D.state desk.old) (D.state desk.new) result }
 {
     pending.make_room(desk, Output::Agent, END)?;
     push_end(pending, route, iteration);
@@ -248,10 +243,9 @@ fn add_agent<D: Desk>(
     iteration: Option<u32>,
 ) -> Result<(), Failed>
     requires { IfSome (option_copied route) (AreLinksOf net.now) }
-    ensures { let state = state_of D.left D.taken D.read_faults D.put_faults in
-        Adds output.Agent
+    ensures { Adds output.Agent
         (agent_line net.now trip.now (option_copied route.entry) journey.now iteration)
-        pending.old pending.new (state desk.old) (state desk.new) result }
+        pending.old pending.new (D.state desk.old) (D.state desk.new) result }
 {
     add_columns(pending, desk, net, trip, route, journey)?;
     add_end(pending, desk, route, iteration)
@@ -268,6 +262,7 @@ fn iteration_of(since: Option<&Steps>, v: u32) -> Option<u32>
 }
 
 // Puts Agent, with the iterations of the routes where they are given.
+#[tactic(auto, using(pending_text::proofs::SendingFacts::starts))]
 fn put_lines<D: Desk>(
     desk: &mut D,
     net: &Net,
@@ -281,10 +276,9 @@ fn put_lines<D: Desk>(
     requires journeys { length loaded.now ≡ length trips.now }
     requires on_net { AreOnNet net.now routes.now }
     requires numbers { IfSome (option_copied since) (λ told. length told ≡ length trips.now) }
-    ensures { let state = state_of D.left D.taken D.read_faults D.put_faults in
-        Puts output.Agent
+    ensures { Puts output.Agent
         (agent_text_by net.now trips.now routes.now loaded.now (option_copied since.entry))
-        (state desk.old) (state desk.new) result }
+        (D.state desk.old) (D.state desk.new) result }
 {
     let mut pending = header(since);
     'each: for v in 0..trips.len() as u32 {
@@ -312,9 +306,8 @@ pub fn put_agents<D: Desk>(
     requires routes { length routes.now ≡ length trips.now }
     requires journeys { length loaded.now ≡ length trips.now }
     requires on_net { AreOnNet net.now routes.now }
-    ensures { let state = state_of D.left D.taken D.read_faults D.put_faults in
-        Puts output.Agent (agent_text net.now trips.now routes.now loaded.now)
-        (state desk.old) (state desk.new) result }
+    ensures { Puts output.Agent (agent_text net.now trips.now routes.now loaded.now)
+        (D.state desk.old) (D.state desk.new) result }
 {
     put_lines(desk, net, trips, routes, loaded, None)
 }
@@ -336,9 +329,8 @@ pub fn put_agents_from<D: Desk>(
     requires journeys { length loaded.now ≡ length trips.now }
     requires on_net { AreOnNet net.now routes.now }
     requires numbers { length since.now ≡ length trips.now }
-    ensures { let state = state_of D.left D.taken D.read_faults D.put_faults in
-        Puts output.Agent (agent_text_from net.now trips.now routes.now loaded.now since.now)
-        (state desk.old) (state desk.new) result }
+    ensures { Puts output.Agent (agent_text_from net.now trips.now routes.now loaded.now since.now)
+        (D.state desk.old) (D.state desk.new) result }
 {
     put_lines(desk, net, trips, routes, loaded, Some(since))
 }

@@ -1,7 +1,6 @@
 // The report of an audit.
 ghost use Rattle.std.specs.Prelude.{◌≡◌, OnOk, OnErr, option_copied};
 ghost use Rattle.desk_io.specs.declared.desk.Output.TheVariants as output;
-ghost use Rattle.desk_io.specs.State.{state_of};
 ghost use Rattle.desk_io.specs.Transfers.{Puts};
 ghost use Rattle.reports.specs.Texts.{audit_ok_text, audit_text, differs_line};
 
@@ -70,9 +69,8 @@ pub fn put_audit<D: Desk>(
     vehicles: u32,
     differs: Option<&Place>,
 ) -> Result<(), Failed>
-    ensures { let state = state_of D.left D.taken D.read_faults D.put_faults in
-        Puts output.Report (audit_text net.now vehicles (option_copied differs.entry))
-        (state desk.old) (state desk.new) result }
+    ensures { Puts output.Report (audit_text net.now vehicles (option_copied differs.entry))
+        (D.state desk.old) (D.state desk.new) result }
 {
     text(net, vehicles, differs).put_out(desk, Output::Report)
 }

@@ -1,7 +1,6 @@
 // The texts of `freeflow`.
 ghost use Rattle.std.specs.Prelude.{◌≡◌, ◌≤◌, ◌+◌, ◌++◌, length, OnOk, OnErr};
 ghost use Rattle.desk_io.specs.declared.desk.Output.TheVariants as output;
-ghost use Rattle.desk_io.specs.State.{state_of};
 ghost use Rattle.desk_io.specs.Transfers.{OnlyPuts, Puts};
 ghost use Rattle.pending_text.specs.declared.pending.TheConstants.{PIECE};
 ghost use Rattle.pending_text.specs.Sending.{Adds};
@@ -42,9 +41,8 @@ fn push_link(pending: &mut Pending, row: LinkRow)
 // Adds the line of a link.
 #[tactic(auto, using(pending_text::proofs::SendingFacts::pieces))]
 fn add_link<D: Desk>(pending: &mut Pending, desk: &mut D, row: LinkRow) -> Result<(), Failed>
-    ensures { let state = state_of D.left D.taken D.read_faults D.put_faults in
-        Adds output.LinkTime (free_link_line row) pending.old pending.new
-        (state desk.old) (state desk.new) result }
+    ensures { Adds output.LinkTime (free_link_line row) pending.old pending.new
+        (D.state desk.old) (D.state desk.new) result }
 {
     pending.make_room(desk, Output::LinkTime, LINE)?;
     push_link(pending, row);
@@ -52,10 +50,10 @@ fn add_link<D: Desk>(pending: &mut Pending, desk: &mut D, row: LinkRow) -> Resul
 }
 
 // Puts the table of the links.
+#[tactic(auto, using(pending_text::proofs::SendingFacts::starts))]
 fn put_links<D: Desk>(desk: &mut D, links: &[LinkRow]) -> Result<(), Failed>
-    ensures { let state = state_of D.left D.taken D.read_faults D.put_faults in
-        Puts output.LinkTime (free_link_time_text links.now)
-        (state desk.old) (state desk.new) result }
+    ensures { Puts output.LinkTime (free_link_time_text links.now)
+        (D.state desk.old) (D.state desk.new) result }
 {
     let mut pending = header();
     'each: for row in links {
@@ -81,9 +79,8 @@ fn report(nodes: u32, links: u32) -> Pending
 /// Puts LinkTime of `freeflow`, and then its Report. On Failed a first part of one of them went
 /// out, of Report only where LinkTime is whole. It takes no memory.
 pub fn put_free<D: Desk>(desk: &mut D, net: &Net) -> Result<(), Failed>
-    ensures { let state = state_of D.left D.taken D.read_faults D.put_faults in
-        OnlyPuts (IsFreeOut net.now) (IsFreeCut net.now)
-        (state desk.old) (state desk.new) result }
+    ensures { OnlyPuts (IsFreeOut net.now) (IsFreeCut net.now)
+        (D.state desk.old) (D.state desk.new) result }
 {
     put_links(desk, net.links())?;
     report(net.node_count(), net.link_count()).put_out(desk, Output::Report)

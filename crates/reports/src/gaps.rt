@@ -1,7 +1,6 @@
 // The text of the gaps.
 ghost use Rattle.std.specs.Prelude.{◌≡◌, ◌≤◌, ◌+◌, ◌++◌, length, OnOk, OnErr};
 ghost use Rattle.desk_io.specs.declared.desk.Output.TheVariants as output;
-ghost use Rattle.desk_io.specs.State.{state_of};
 ghost use Rattle.desk_io.specs.Transfers.{Puts};
 ghost use Rattle.pending_text.specs.declared.pending.TheConstants.{PIECE};
 ghost use Rattle.pending_text.specs.Sending.{Adds};
@@ -51,9 +50,8 @@ fn add_gap<D: Desk>(
     iteration: u64,
     line: &GapLine,
 ) -> Result<(), Failed>
-    ensures { let state = state_of D.left D.taken D.read_faults D.put_faults in
-        Adds output.Gap (gap_line iteration line.now) pending.old pending.new
-        (state desk.old) (state desk.new) result }
+    ensures { Adds output.Gap (gap_line iteration line.now) pending.old pending.new
+        (D.state desk.old) (D.state desk.new) result }
 {
     pending.make_room(desk, Output::Gap, LINE)?;
     push_gap(pending, iteration, line);
@@ -62,9 +60,9 @@ fn add_gap<D: Desk>(
 
 /// Puts Gap: a line for each iteration, from 1. On Failed a first part of it went out. It takes
 /// no memory.
+#[tactic(auto, using(pending_text::proofs::SendingFacts::starts))]
 pub fn put_gaps<D: Desk>(desk: &mut D, lines: &[GapLine]) -> Result<(), Failed>
-    ensures { let state = state_of D.left D.taken D.read_faults D.put_faults in
-        Puts output.Gap (gap_text lines.now) (state desk.old) (state desk.new) result }
+    ensures { Puts output.Gap (gap_text lines.now) (D.state desk.old) (D.state desk.new) result }
 {
     let mut pending = header();
     'each: for place in 0..lines.len() {

@@ -1,7 +1,6 @@
 // The lines of refusals.
 ghost use Rattle.std.specs.Prelude.{◌≡◌, OnOk, OnErr};
 ghost use Rattle.desk_io.specs.declared.desk.Output.TheVariants as output;
-ghost use Rattle.desk_io.specs.State.{state_of};
 ghost use Rattle.desk_io.specs.Transfers.{Puts};
 ghost use Rattle.reports.specs.declared.refusal.Refusal.TheVariants as why;
 ghost use Rattle.reports.specs.Texts.{link_steps_text, refusal_line};
@@ -134,8 +133,8 @@ fn line(refusal: &Refusal) -> Pending
 /// Puts the one line that Report has of a refusal. On Failed a first part of it went out. It takes
 /// no memory.
 pub fn put_refusal<D: Desk>(desk: &mut D, refusal: &Refusal) -> Result<(), Failed>
-    ensures { let state = state_of D.left D.taken D.read_faults D.put_faults in
-        Puts output.Report (refusal_line refusal.now) (state desk.old) (state desk.new) result }
+    ensures { Puts output.Report (refusal_line refusal.now)
+        (D.state desk.old) (D.state desk.new) result }
 {
     line(refusal).put_out(desk, Output::Report)
 }

@@ -1,7 +1,6 @@
 // The report of a run.
 ghost use Rattle.std.specs.Prelude.{◌≡◌, ◌≤◌, ◌+◌, ◌++◌, length, OnOk, OnErr};
 ghost use Rattle.desk_io.specs.declared.desk.Output.TheVariants as output;
-ghost use Rattle.desk_io.specs.State.{state_of};
 ghost use Rattle.desk_io.specs.Transfers.{Puts};
 ghost use Rattle.pending_text.specs.declared.pending.TheConstants.{PIECE};
 ghost use Rattle.reports.specs.Texts.{count_lines, last_gap_lines, report_text};
@@ -75,8 +74,8 @@ fn push_last_gap(text: &mut Pending, line: &GapLine)
 /// Puts the twelve lines of Report. On Failed a first part of it went out. It takes no memory.
 #[tactic(auto, unfolding(crate::specs::Texts::report_text))]
 pub fn put_summary<D: Desk>(desk: &mut D, summary: &Summary) -> Result<(), Failed>
-    ensures { let state = state_of D.left D.taken D.read_faults D.put_faults in
-        Puts output.Report (report_text summary.now) (state desk.old) (state desk.new) result }
+    ensures { Puts output.Report (report_text summary.now)
+        (D.state desk.old) (D.state desk.new) result }
 {
     let mut text = counts(summary);
     push_last_gap(&mut text, &summary.gap);

@@ -1,7 +1,6 @@
 // The text of the link times.
 ghost use Rattle.std.specs.Prelude.{◌≡◌, ◌<◌, ◌≤◌, ◌+◌, ◌*◌, ◌++◌, length, min, OnOk, OnErr};
 ghost use Rattle.desk_io.specs.declared.desk.Output.TheVariants as output;
-ghost use Rattle.desk_io.specs.State.{state_of};
 ghost use Rattle.desk_io.specs.Transfers.{Puts};
 ghost use Rattle.dta_model.specs.LinkTimes.{bucket_count, free_steps};
 ghost use Rattle.net_core.specs.Network.{link_at};
@@ -89,9 +88,8 @@ fn add_bucket<D: Desk>(
     requires free { times.now.free ≡ free_steps net.now }
     requires link { link.0 < length net.now.links }
     requires bucket { bucket < bucket_count times.now }
-    ensures { let state = state_of D.left D.taken D.read_faults D.put_faults in
-        Adds output.LinkTime (bucket_line net.now times.now link.0 bucket) pending.old pending.new
-        (state desk.old) (state desk.new) result }
+    ensures { Adds output.LinkTime (bucket_line net.now times.now link.0 bucket)
+        pending.old pending.new (D.state desk.old) (D.state desk.new) result }
 {
     pending.make_room(desk, Output::LinkTime, LINE)?;
     push_bucket(pending, net, times, link, bucket);
@@ -99,7 +97,7 @@ fn add_bucket<D: Desk>(
 }
 
 // Adds the lines of a link.
-#[tactic(auto, unfolding(crate::specs::Texts::link_lines))]
+#[tactic(auto, using(pending_text::proofs::SendingFacts::starts), unfolding(crate::specs::Texts::link_lines))]
 fn add_link<D: Desk>(
     pending: &mut Pending,
     desk: &mut D,
@@ -109,9 +107,8 @@ fn add_link<D: Desk>(
 ) -> Result<(), Failed>
     requires free { times.now.free ≡ free_steps net.now }
     requires link { link.0 < length net.now.links }
-    ensures { let state = state_of D.left D.taken D.read_faults D.put_faults in
-        Adds output.LinkTime (link_lines net.now times.now link.0) pending.old pending.new
-        (state desk.old) (state desk.new) result }
+    ensures { Adds output.LinkTime (link_lines net.now times.now link.0) pending.old pending.new
+        (D.state desk.old) (D.state desk.new) result }
 {
     'each: for bucket in 0..times.buckets() {
         add_bucket(pending, desk, net, times, link, bucket)?;
@@ -121,11 +118,11 @@ fn add_link<D: Desk>(
 
 /// Puts LinkTime of `assign`: for each link in table order a line for each bucket. The table has
 /// the network's links. On Failed a first part of it went out. It takes no memory.
+#[tactic(auto, using(pending_text::proofs::SendingFacts::starts))]
 pub fn put_link_times<D: Desk>(desk: &mut D, net: &Net, times: &LinkTimes) -> Result<(), Failed>
     requires { times.now.free ≡ free_steps net.now }
-    ensures { let state = state_of D.left D.taken D.read_faults D.put_faults in
-        Puts output.LinkTime (link_time_text net.now times.now)
-        (state desk.old) (state desk.new) result }
+    ensures { Puts output.LinkTime (link_time_text net.now times.now)
+        (D.state desk.old) (D.state desk.new) result }
 {
     let mut pending = header();
     'each: for link in 0..net.link_count() {

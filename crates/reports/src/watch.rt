@@ -1,7 +1,6 @@
 // The watch lines.
 ghost use Rattle.std.specs.Prelude.{◌≡◌, ◌≤◌, ◌+◌, ◌++◌, length, OnOk, OnErr};
 ghost use Rattle.desk_io.specs.declared.desk.Output.TheVariants as output;
-ghost use Rattle.desk_io.specs.State.{state_of};
 ghost use Rattle.desk_io.specs.Transfers.{Puts};
 ghost use Rattle.reports.specs.Texts.{watch_line};
 
@@ -39,9 +38,8 @@ fn line(iteration: u32, eight: &Eight) -> Pending
 /// Puts a watch line: an iteration, and a state of its loading. On Failed a first part of it went
 /// out. It takes no memory.
 pub fn put_watch<D: Desk>(desk: &mut D, iteration: u32, eight: &Eight) -> Result<(), Failed>
-    ensures { let state = state_of D.left D.taken D.read_faults D.put_faults in
-        Puts output.Watch (watch_line iteration eight.now)
-        (state desk.old) (state desk.new) result }
+    ensures { Puts output.Watch (watch_line iteration eight.now)
+        (D.state desk.old) (D.state desk.new) result }
 {
     line(iteration, eight).put_out(desk, Output::Watch)
 }

@@ -1,7 +1,6 @@
 // The texts of a skim.
 ghost use Rattle.std.specs.Prelude.{◌≡◌, ◌≤◌, ◌+◌, ◌++◌, length, OnOk, OnErr};
 ghost use Rattle.desk_io.specs.declared.desk.Output.TheVariants as output;
-ghost use Rattle.desk_io.specs.State.{state_of};
 ghost use Rattle.desk_io.specs.Transfers.{OnlyPuts, Puts};
 ghost use Rattle.pending_text.specs.declared.pending.TheConstants.{DIGITS, PIECE};
 ghost use Rattle.pending_text.specs.Sending.{Adds};
@@ -57,9 +56,8 @@ fn push_entry(pending: &mut Pending, entry: SkimEntry)
 // Adds the line of an entry.
 #[tactic(auto, using(pending_text::proofs::SendingFacts::pieces))]
 fn add_entry<D: Desk>(pending: &mut Pending, desk: &mut D, entry: SkimEntry) -> Result<(), Failed>
-    ensures { let state = state_of D.left D.taken D.read_faults D.put_faults in
-        Adds output.Skim (entry_line entry) pending.old pending.new
-        (state desk.old) (state desk.new) result }
+    ensures { Adds output.Skim (entry_line entry) pending.old pending.new
+        (D.state desk.old) (D.state desk.new) result }
 {
     pending.make_room(desk, Output::Skim, LINE)?;
     push_entry(pending, entry);
@@ -67,9 +65,10 @@ fn add_entry<D: Desk>(pending: &mut Pending, desk: &mut D, entry: SkimEntry) -> 
 }
 
 // Puts the table of the entries.
+#[tactic(auto, using(pending_text::proofs::SendingFacts::starts))]
 fn put_entries<D: Desk>(desk: &mut D, entries: &[SkimEntry]) -> Result<(), Failed>
-    ensures { let state = state_of D.left D.taken D.read_faults D.put_faults in
-        Puts output.Skim (skim_text entries.now) (state desk.old) (state desk.new) result }
+    ensures { Puts output.Skim (skim_text entries.now)
+        (D.state desk.old) (D.state desk.new) result }
 {
     let mut pending = header();
     'each: for entry in entries {
@@ -100,9 +99,8 @@ fn report(nodes: u32, links: u32, zones: u32, entries: usize) -> Pending
 /// there are. On Failed a first part of one of them went out, of Report only where Skim is whole.
 /// It takes no memory.
 pub fn put_skim<D: Desk>(desk: &mut D, net: &Net, skim: &Skim) -> Result<(), Failed>
-    ensures { let state = state_of D.left D.taken D.read_faults D.put_faults in
-        OnlyPuts (IsSkimOut net.now skim.now) (IsSkimCut net.now skim.now)
-        (state desk.old) (state desk.new) result }
+    ensures { OnlyPuts (IsSkimOut net.now skim.now) (IsSkimCut net.now skim.now)
+        (D.state desk.old) (D.state desk.new) result }
 {
     let entries = skim.as_slice();
     put_entries(desk, entries)?;

@@ -5,8 +5,8 @@ use Rattle.std.specs.declared.alloc.AllocError.{AllocError}
 use Rattle.desk_io.specs.declared.desk.Failed.{Failed}
 use Rattle.desk_io.specs.declared.desk.Output.{Output}
 use Rattle.desk_io.specs.declared.desk.Output.TheVariants as output
-use Rattle.desk_io.specs.Desk.{Taken, grown, taken_of}
-use Rattle.desk_io.specs.MemDesk.{all_taken}
+use Rattle.desk_io.specs.Desk.{Taken, grown, nothing_taken, taken_of}
+use Rattle.desk_io.proofs.DeskFacts.{taken-first}
 use Rattle.net_core.specs.declared.rows.NetRows.{NetRows}
 use Rattle.dta_model.specs.Loading.{journeys_of}
 use Rattle.dta_model.specs.declared.trip.DemandCell.{DemandCell}
@@ -61,28 +61,18 @@ scenario-over s net cells scale lent trips start it same are none scale_is texts
 
 -- ---- what a desk in memory has taken
 
-taken-new : (o : Output) (text : List ℕ) → taken_of o (grown o text (all_taken [] [] [] [] [])) ≡ Some text
-taken-new output.Agent text = refl
-taken-new output.LinkTime text = refl
-taken-new output.Gap text = refl
-taken-new output.Report text = refl
-taken-new output.Watch text = refl
-taken-new output.Skim text = refl
-taken-new output.Counts text = refl
-taken-new output.Sweep text = refl
-
 some-is : {A : Type 0} (x y : A) → Some x ≡ Some y → x ≡ y
 some-is x y e = cc
 
-taken-is : (o : Output) (text told : List ℕ) (t0 t1 : Taken) (put : Result (Unit {0}) Failed) → t0 ≡ all_taken [] [] [] [] []
+taken-is : (o : Output) (text told : List ℕ) (t0 t1 : Taken) (put : Result (Unit {0}) Failed) → t0 ≡ nothing_taken
     → OnOk put (t1 ≡ grown o text t0) → put ≡ Ok tt → taken_of o t1 ≡ Some told → told ≡ text
 taken-is o text told t0 t1 put empty whole ok taken =
     let out : t1 ≡ grown o text t0 = subst (λ (r : Result (Unit {0}) Failed). OnOk r (t1 ≡ grown o text t0)) ok whole in
-    some-is told text (sym taken ∙ ap (taken_of o) out ∙ ap (λ (t : Taken). taken_of o (grown o text t)) empty ∙ taken-new o text)
+    some-is told text (sym taken ∙ ap (taken_of o) out ∙ ap (λ (t : Taken). taken_of o (grown o text t)) empty ∙ taken-first o text)
 
 -- a text that was put to a desk that had taken nothing
 pub text-told : (o : Output) (text : List ℕ) (t0 t1 : Taken) (put : Result (Unit {0}) Failed) (r : Result (List ℕ) AllocError)
-    → t0 ≡ all_taken [] [] [] [] [] → OnOk put (t1 ≡ grown o text t0)
+    → t0 ≡ nothing_taken → OnOk put (t1 ≡ grown o text t0)
     → IfOk r (λ told. put ≡ Ok tt) → IfOk r (λ told. taken_of o t1 ≡ Some told) → IfOk r (λ told. told ≡ text)
 text-told o text t0 t1 put (Ok told) empty whole ok taken = taken-is o text told t0 t1 put empty whole ok taken
 text-told o text t0 t1 put (Err e) empty whole ok taken = tt

@@ -1,7 +1,6 @@
 // The texts of an assignment, put in memory.
-ghost use Rattle.std.specs.Prelude.{◌≡◌, [], IfOk, Ok, Some};
-ghost use Rattle.desk_io.specs.Desk.{taken_of};
-ghost use Rattle.desk_io.specs.MemDesk.{all_taken};
+ghost use Rattle.std.specs.Prelude.{◌≡◌, IfOk, Ok, Some};
+ghost use Rattle.desk_io.specs.Desk.{nothing_taken, taken_of};
 ghost use Rattle.dta_model.specs.Loading.{journeys_of};
 ghost use Rattle.reports.specs.Texts.{agent_text, gap_text, link_time_text, report_text};
 ghost use Rattle.assignment.specs.Assignment.{summary_of as summary_of_routes, times_of};
@@ -18,7 +17,7 @@ use std::alloc::{AllocError, Global};
 
 // A desk that has taken nothing.
 fn empty_desk(alloc: Global) -> MemDesk
-    ensures { result.taken ≡ all_taken [] [] [] [] [] }
+    ensures { result.taken ≡ nothing_taken }
 {
     MemDesk::new(
         alloc,

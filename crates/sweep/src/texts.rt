@@ -1,7 +1,6 @@
 // The texts of a sweep.
 ghost use Rattle.std.specs.Prelude.{◌≡◌, ◌++◌, length};
 ghost use Rattle.desk_io.specs.declared.desk.Output.TheVariants as output;
-ghost use Rattle.desk_io.specs.State.{state_of};
 ghost use Rattle.desk_io.specs.Transfers.{OnlyPuts, Puts};
 ghost use Rattle.sweep.specs.Texts.{IsSweepCut, IsSweepOut, scenario_line, scenario_text};
 ghost use Rattle.sweep.specs.Texts.{sweep_report_line, sweep_text, tables_of};
@@ -26,8 +25,8 @@ fn line(place: usize, scale: u64) -> Pending
 
 // Puts two texts to Sweep, one after the other.
 fn put_both<D: Desk>(desk: &mut D, first: &[u8], second: &[u8]) -> Result<(), Failed>
-    ensures { let state = state_of D.left D.taken D.read_faults D.put_faults in
-        Puts output.Sweep (first.now ++ second.now) (state desk.old) (state desk.new) result }
+    ensures { Puts output.Sweep (first.now ++ second.now)
+        (D.state desk.old) (D.state desk.new) result }
 {
     put_all(desk, Output::Sweep, first)?;
     put_all(desk, Output::Sweep, second)
@@ -36,8 +35,7 @@ fn put_both<D: Desk>(desk: &mut D, first: &[u8], second: &[u8]) -> Result<(), Fa
 // Puts the texts of a scenario.
 #[tactic(auto, unfolding(crate::specs::Texts::tables_of))]
 fn put_tables<D: Desk>(desk: &mut D, it: &Scenario) -> Result<(), Failed>
-    ensures { let state = state_of D.left D.taken D.read_faults D.put_faults in
-        Puts output.Sweep (tables_of it.now) (state desk.old) (state desk.new) result }
+    ensures { Puts output.Sweep (tables_of it.now) (D.state desk.old) (D.state desk.new) result }
 {
     put_both(desk, it.agent.as_slice(), it.link_time.as_slice())?;
     put_both(desk, it.gap.as_slice(), it.report.as_slice())
@@ -46,8 +44,8 @@ fn put_tables<D: Desk>(desk: &mut D, it: &Scenario) -> Result<(), Failed>
 // Puts a scenario: its line, and then its texts.
 #[tactic(auto, unfolding(crate::specs::Texts::scenario_text))]
 fn put_scenario<D: Desk>(desk: &mut D, place: usize, it: &Scenario) -> Result<(), Failed>
-    ensures { let state = state_of D.left D.taken D.read_faults D.put_faults in
-        Puts output.Sweep (scenario_text place it.now) (state desk.old) (state desk.new) result }
+    ensures { Puts output.Sweep (scenario_text place it.now) (D.state desk.old)
+        (D.state desk.new) result }
 {
     line(place, it.scale).put_out(desk, Output::Sweep)?;
     put_tables(desk, it)
@@ -55,8 +53,8 @@ fn put_scenario<D: Desk>(desk: &mut D, place: usize, it: &Scenario) -> Result<()
 
 // Puts all scenarios.
 fn put_scenarios<D: Desk>(desk: &mut D, scenarios: &[Scenario]) -> Result<(), Failed>
-    ensures { let state = state_of D.left D.taken D.read_faults D.put_faults in
-        Puts output.Sweep (sweep_text scenarios.now) (state desk.old) (state desk.new) result }
+    ensures { Puts output.Sweep (sweep_text scenarios.now)
+        (D.state desk.old) (D.state desk.new) result }
 {
     'each: for place in 0..scenarios.len() {
         put_scenario(desk, place, &scenarios[place])?;
@@ -80,9 +78,8 @@ fn report(scenarios: usize) -> Pending
 /// there are. On Failed a first part of one of them went out, of Report only where Sweep is whole.
 /// It takes no memory.
 pub fn put_sweep<D: Desk>(desk: &mut D, sweep: &Sweep) -> Result<(), Failed>
-    ensures { let state = state_of D.left D.taken D.read_faults D.put_faults in
-        OnlyPuts (IsSweepOut sweep.now) (IsSweepCut sweep.now)
-        (state desk.old) (state desk.new) result }
+    ensures { OnlyPuts (IsSweepOut sweep.now) (IsSweepCut sweep.now)
+        (D.state desk.old) (D.state desk.new) result }
 {
     let scenarios = sweep.as_slice();
     put_scenarios(desk, scenarios)?;

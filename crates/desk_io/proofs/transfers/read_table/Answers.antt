@@ -21,3 +21,12 @@ returns-then-count-limit g c = record {
   taken = search rules;
   puts = search rules;
 }
+
+pub loop-bytes-preserved : goal.loop-bytes-preserved
+loop-bytes-preserved g c = record {
+  within = search rules;
+  left = grind (arith, common_steps, desk_facts);
+  taken = search rules;
+  later = grind (arith, common_steps);
+  puts = search rules;
+}

@@ -1,6 +1,5 @@
 use Rattle.std.proofs.Common.{◌≡◌, ◌∙◌, ap, arith, length, refl, rules, subst}
 use Rattle.audit.specs.declared.verdict.Verdict.{Verdict}
-use Rattle.desk_io.specs.State.{state_of}
 use Rattle.dta_run.specs.Jobs.{JobRows}
 use Rattle.dta_run.specs.Outputs.{IsAudited}
 use Rattle.dta_run.specs.declared.status.Status.TheVariants as status
@@ -14,7 +13,7 @@ returns-in-Ok g c =
     let passes = subst (λ (v : Verdict). IsAudited s c.args.job.now v) c.in-Ok-Yes.field-0-is c.in-Ok-Yes.ensures in
     let many : c.len-vehicles.result ≡ length c.job.inside.trips.items = search rules in
     record {
-      work = audit-done s c.args.job.now c.requires.command (g.D.Desk.taken c.args.desk.now) (g.D.Desk.taken c.put_audit.new.desk) c.job.inside.net c.len-vehicles.result
+      work = audit-done s c.args.job.now c.requires.command (g.D.Desk.state c.args.desk.now).taken (g.D.Desk.state c.put_audit.new.desk).taken c.job.inside.net c.len-vehicles.result
           (ap (λ (j : JobRows). j.net) c.job.view_is) (many ∙ ap (λ (j : JobRows). length j.trips) c.job.view_is) passes o.whole;
       failed = λ (k : status.Done ≡ status.WriteFault). absurd cc;
       differs = λ (k : status.Done ≡ status.Differs). absurd cc;
@@ -30,7 +29,7 @@ returns-in-Err-put_audit g c =
     let passes = subst (λ (v : Verdict). IsAudited s c.args.job.now v) c.in-Ok-Yes.field-0-is c.in-Ok-Yes.ensures in
     let many : c.len-vehicles.result ≡ length c.job.inside.trips.items = search rules in
     record {
-      work = audit-cut s c.args.job.now c.requires.command (g.D.Desk.taken c.args.desk.now) (g.D.Desk.taken c.put_audit.new.desk) c.job.inside.net c.len-vehicles.result
+      work = audit-cut s c.args.job.now c.requires.command (g.D.Desk.state c.args.desk.now).taken (g.D.Desk.state c.put_audit.new.desk).taken c.job.inside.net c.len-vehicles.result
           (ap (λ (j : JobRows). j.net) c.job.view_is) (many ∙ ap (λ (j : JobRows). length j.trips) c.job.view_is) passes o.refused;
       failed = λ _. o.cause.failed;
       differs = λ (k : status.WriteFault ≡ status.Differs). absurd cc;
@@ -43,7 +42,6 @@ pub returns-in-Ok-No : goal.returns-in-Ok-No
 returns-in-Ok-No g c =
     let o = c.put_audit-in-Ok-No.ensures in
     let s = c.args.settings.now in
-    let state = state_of g.D.Desk.left g.D.Desk.taken g.D.Desk.read_faults g.D.Desk.put_faults in
     let n = c.in-Ok-No in
     record {
       work = tt;
@@ -53,7 +51,7 @@ returns-in-Ok-No g c =
         place = record { table = n.table; line = n.line; column = n.column };
         fails = subst (λ (v : Verdict). IsAudited s c.args.job.now v) n.field-0-is n.ensures;
         report = line-out c.put_audit-in-Ok-No.result c.job.inside.net c.len-vehicles.result
-            (record { table = n.table; line = n.line; column = n.column }) (state c.args.desk.now) (state c.put_audit-in-Ok-No.new.desk) o;
+            (record { table = n.table; line = n.line; column = n.column }) (g.D.Desk.state c.args.desk.now) (g.D.Desk.state c.put_audit-in-Ok-No.new.desk) o;
       };
       later = o.cause.later;
       left = o.left;

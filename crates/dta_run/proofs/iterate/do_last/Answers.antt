@@ -38,7 +38,7 @@ returns-clause-watches g c =
     let w = c.in_ok-loaded.ensures.watches in
     record {
       done = λ start before. assigned (settings_in a) (traffic_in a) _ c.args.it.routes c.args.it.lines.items start
-          (g.D.Desk.taken c.args.desk.now) (g.D.Desk.taken c.load_watched.new.desk) before w.done c.in_ok-last.ensures
+          (g.D.Desk.state c.args.desk.now).taken (g.D.Desk.state c.load_watched.new.desk).taken before w.done c.in_ok-last.ensures
           c.in_ok-since.ensures.told c.in_ok-counts.ensures;
       halts = tt;
       failed = tt;

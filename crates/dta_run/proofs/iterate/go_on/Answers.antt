@@ -27,7 +27,7 @@ returns-clause-watches g c =
     let w = c.in_ok-loaded.ensures.watches in
     record {
       done = λ start before. ahead (settings_in a) (traffic_in a) c.args.number c.args.it.now.routes c.advance.new.it.routes c.args.it.now.lines.items
-          c.advance.new.it.lines.items start (g.D.Desk.taken c.args.desk.now) (g.D.Desk.taken c.load_watched.new.desk) before w.done c.in_ok-advance.ensures;
+          c.advance.new.it.lines.items start (g.D.Desk.state c.args.desk.now).taken (g.D.Desk.state c.load_watched.new.desk).taken before w.done c.in_ok-advance.ensures;
       halts = tt;
       failed = tt;
       later = w.later;

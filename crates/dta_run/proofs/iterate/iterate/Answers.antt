@@ -14,7 +14,7 @@ returns-in_err-it-clause-watches g c =
     let p = err_from_is_err_and c.from_residual.result c.from_residual.ensures.1 in
     rw (p.1, p.2) (record {
       done = tt;
-      halts = halts-first (settings_in c.args.assignment.now) (traffic_in c.args.assignment.now) (g.D.Desk.taken c.args.desk.now) c.requires.is.traffic.start;
+      halts = halts-first (settings_in c.args.assignment.now) (traffic_in c.args.assignment.now) (g.D.Desk.state c.args.desk.now).taken c.requires.is.traffic.start;
       failed = λ e. absurd cc;
       later = omega arith;
       left = refl;
@@ -28,7 +28,7 @@ returns-in_err-it-clause-receipts g c =
 
 pub loop-iteration-init : goal.loop-iteration-init
 loop-iteration-init g c = record {
-  before = begun (settings_in c.args.assignment.now) (traffic_in c.args.assignment.now) c.in_ok-it.it.routes c.in_ok-it.it.lines.items (g.D.Desk.taken c.args.desk.now) c.requires.is.traffic.start c.in_ok-it.ensures;
+  before = begun (settings_in c.args.assignment.now) (traffic_in c.args.assignment.now) c.in_ok-it.it.routes c.in_ok-it.it.lines.items (g.D.Desk.state c.args.desk.now).taken c.requires.is.traffic.start c.in_ok-it.ensures;
   routes = c.in_ok-it.ensures.routed;
   left = refl;
   later = omega arith;
@@ -43,7 +43,7 @@ loop-iteration-preserved g c =
     let w = c.in_ok-go_on.ensures.watches in
     let many = i.before.as_many in
     record {
-      before = w.done (g.D.Desk.taken c.args.desk.now) i.before;
+      before = w.done (g.D.Desk.state c.args.desk.now).taken i.before;
       routes = c.in_ok-go_on.ensures.routes;
       left = w.left ∙ i.left;
       later = (let a = i.later in let b = w.later in omega (arith, a, b));
@@ -59,7 +59,7 @@ returns-in_err-go_on-clause-watches g c =
     let i = c.loop-iteration.invariant in
     rw (p.1, p.2) (record {
       done = tt;
-      halts = w.halts (g.D.Desk.taken c.args.desk.now) i.before;
+      halts = w.halts (g.D.Desk.state c.args.desk.now).taken i.before;
       failed = λ k. rose-earlier _ _ _ i.later (w.failed k);
       later = (let a = i.later in let b = w.later in omega (arith, a, b));
       left = w.left ∙ i.left;
@@ -83,7 +83,7 @@ returns-clause-watches g c =
     let last : c.loop-iteration.iteration ≡ (settings_in c.args.assignment.now).iterations = omega (arith, least) in
     let i = c.loop-iteration.invariant in
     let f = c.do_last.ensures.watches in
-    let at = subst (λ (n : ℕ). IsAt (settings_in c.args.assignment.now) (traffic_in c.args.assignment.now) n c.loop-iteration.it.routes c.loop-iteration.it.lines.items (g.D.Desk.taken c.args.desk.now) (g.D.Desk.taken c.loop-iteration.desk)) last i.before in
+    let at = subst (λ (n : ℕ). IsAt (settings_in c.args.assignment.now) (traffic_in c.args.assignment.now) n c.loop-iteration.it.routes c.loop-iteration.it.lines.items (g.D.Desk.state c.args.desk.now).taken (g.D.Desk.state c.loop-iteration.desk).taken) last i.before in
     record {
       done = all-done (settings_in c.args.assignment.now) (traffic_in c.args.assignment.now) c.do_last.result c.loop-iteration.it.routes c.loop-iteration.it.lines.items _ _ _ at f.done;
       halts = all-halts (settings_in c.args.assignment.now) (traffic_in c.args.assignment.now) c.do_last.result c.loop-iteration.it.routes c.loop-iteration.it.lines.items _ _ _ at f.halts;

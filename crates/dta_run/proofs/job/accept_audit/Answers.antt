@@ -4,7 +4,6 @@ use Rattle.std.proofs.lemmas.Result.{err_from_is_err_and}
 use Rattle.desk_io.specs.declared.desk.Table.TheVariants as table
 use Rattle.dta_words.specs.declared.command.Command.TheVariants as command
 use Rattle.dta_run.specs.Calls.{rows_in_tables, with_agent_rows, with_time_rows}
-use Rattle.dta_run.specs.Outcome.{state_of}
 use Rattle.dta_run.specs.Stops.{StopsAmong}
 use Rattle.dta_run.specs.Tables.{AreAccepted, all_tables, loading_tables, no_rows}
 use Rattle.dta_run.proofs.ChainFacts.{accepted-both, accepted-one, among-first, among-then, reads-both, reads-done, reads-stopped}
@@ -18,70 +17,65 @@ use Rattle.dta_run.proofs.job.accept_audit.Goals as goal
 pub returns-in_err-tables-clause-reads : goal.returns-in_err-tables-clause-reads
 returns-in_err-tables-clause-reads g c =
     let p = err_from_is_err_and c.from_residual.result c.from_residual.ensures.1 in
-    let state = state_of g.D.Desk.left g.D.Desk.taken g.D.Desk.read_faults g.D.Desk.put_faults in
     let s = c.args.settings.now in
     let off = unstarted s c.requires.settings command.Audit c.requires.command (λ e. absurd cc) in
     let r = c.in_err-tables.ensures.reads in
-    rw (p.1, p.2) (reads-stopped r (among-audit s c.requires.command (state c.args.desk.now) (state c.accept_all.new.desk) _
+    rw (p.1, p.2) (reads-stopped r (among-audit s c.requires.command (g.D.Desk.state c.args.desk.now) (g.D.Desk.state c.accept_all.new.desk) _
     (among-first s all_tables (table.Start ∷ table.Times ∷ []) no_rows _ _ _
-    (subst (λ (b : Bool). StopsAmong s (loading_tables b) no_rows c.in_err-tables.field-0.0 (state c.args.desk.now) (state c.accept_all.new.desk)) off r.stops))))
+    (subst (λ (b : Bool). StopsAmong s (loading_tables b) no_rows c.in_err-tables.field-0.0 (g.D.Desk.state c.args.desk.now) (g.D.Desk.state c.accept_all.new.desk)) off r.stops))))
 
 pub returns-in_err-agents-clause-reads : goal.returns-in_err-agents-clause-reads
 returns-in_err-agents-clause-reads g c =
     let p = err_from_is_err_and c.from_residual-in_err-agents.result c.from_residual-in_err-agents.ensures.1 in
-    let state = state_of g.D.Desk.left g.D.Desk.taken g.D.Desk.read_faults g.D.Desk.put_faults in
     let s = c.args.settings.now in
     let off = unstarted s c.requires.settings command.Audit c.requires.command (λ e. absurd cc) in
     let rows = rows_in_tables c.in_ok-tables.tables in
     let r = c.in_ok-tables.ensures.reads in
-    let read = subst (λ (b : Bool). AreAccepted s (loading_tables b) no_rows rows (g.D.Desk.left c.args.desk.now) (g.D.Desk.left c.accept_all.new.desk)) off r.done in
+    let read = subst (λ (b : Bool). AreAccepted s (loading_tables b) no_rows rows (g.D.Desk.state c.args.desk.now).left (g.D.Desk.state c.accept_all.new.desk).left) off r.done in
     let t = c.in_err-agents.ensures.reads s rows c.requires.command in
-    rw (p.1, p.2) (reads-stopped (reads-both r t) (among-audit s c.requires.command (state c.args.desk.now) (state c.accept_agents.new.desk) _
+    rw (p.1, p.2) (reads-stopped (reads-both r t) (among-audit s c.requires.command (g.D.Desk.state c.args.desk.now) (g.D.Desk.state c.accept_agents.new.desk) _
     (among-then s all_tables (table.Times ∷ []) table.Start no_rows rows _ _ _ _ read r.later t.stops)))
 
 pub returns-in_err-net-clause-reads : goal.returns-in_err-net-clause-reads
 returns-in_err-net-clause-reads g c =
     let p = err_from_is_err_and c.from_residual-in_err-net.result c.from_residual-in_err-net.ensures.1 in
-    let state = state_of g.D.Desk.left g.D.Desk.taken g.D.Desk.read_faults g.D.Desk.put_faults in
     let s = c.args.settings.now in
     let off = unstarted s c.requires.settings command.Audit c.requires.command (λ e. absurd cc) in
     let rows = rows_in_tables c.in_ok-tables.tables in
     let more = with_agent_rows rows c.in_ok-agents.agents in
     let r = c.in_ok-tables.ensures.reads in
-    let read = subst (λ (b : Bool). AreAccepted s (loading_tables b) no_rows rows (g.D.Desk.left c.args.desk.now) (g.D.Desk.left c.accept_all.new.desk)) off r.done in
+    let read = subst (λ (b : Bool). AreAccepted s (loading_tables b) no_rows rows (g.D.Desk.state c.args.desk.now).left (g.D.Desk.state c.accept_all.new.desk).left) off r.done in
     let t = c.in_ok-agents.ensures.reads s rows c.requires.command in
     let both = accepted-both s all_tables (table.Start ∷ []) no_rows rows more _ _ _ read
     (accepted-one s table.Start rows more _ _ t.done) in
-    rw (p.1, p.2) (reads-stopped (reads-both r t) (audit-starved s c.requires.command (state c.args.desk.now) (state c.accept_agents.new.desk) more both))
+    rw (p.1, p.2) (reads-stopped (reads-both r t) (audit-starved s c.requires.command (g.D.Desk.state c.args.desk.now) (g.D.Desk.state c.accept_agents.new.desk) more both))
 
 pub returns-in_err-times-clause-reads : goal.returns-in_err-times-clause-reads
 returns-in_err-times-clause-reads g c =
     let p = err_from_is_err_and c.from_residual-in_err-times.result c.from_residual-in_err-times.ensures.1 in
-    let state = state_of g.D.Desk.left g.D.Desk.taken g.D.Desk.read_faults g.D.Desk.put_faults in
     let s = c.args.settings.now in
     let off = unstarted s c.requires.settings command.Audit c.requires.command (λ e. absurd cc) in
     let rows = rows_in_tables c.in_ok-tables.tables in
     let more = with_agent_rows rows c.in_ok-agents.agents in
     let r = c.in_ok-tables.ensures.reads in
-    let read = subst (λ (b : Bool). AreAccepted s (loading_tables b) no_rows rows (g.D.Desk.left c.args.desk.now) (g.D.Desk.left c.accept_all.new.desk)) off r.done in
+    let read = subst (λ (b : Bool). AreAccepted s (loading_tables b) no_rows rows (g.D.Desk.state c.args.desk.now).left (g.D.Desk.state c.accept_all.new.desk).left) off r.done in
     let t = c.in_ok-agents.ensures.reads s rows c.requires.command in
     let both = accepted-both s all_tables (table.Start ∷ []) no_rows rows more _ _ _ read
     (accepted-one s table.Start rows more _ _ t.done) in
     let u = c.in_err-times.ensures.reads more (sym c.in_ok-net.ensures) in
-    rw (p.1, p.2) (reads-stopped (reads-both (reads-both r t) u) (among-audit s c.requires.command (state c.args.desk.now) (state c.accept_times.new.desk) _
+    rw (p.1, p.2) (reads-stopped (reads-both (reads-both r t) u) (among-audit s c.requires.command (g.D.Desk.state c.args.desk.now) (g.D.Desk.state c.accept_times.new.desk) _
     (among-then s (all_tables ++ table.Start ∷ []) [] table.Times no_rows more _ _ _ _ both (let a = r.later in let b = t.later in omega (arith, a, b)) u.stops)))
 
 pub returns-in_err-trips-clause-reads : goal.returns-in_err-trips-clause-reads
 returns-in_err-trips-clause-reads g c =
     let p = err_from_is_err_and c.from_residual-in_err-trips.result c.from_residual-in_err-trips.ensures.1 in
-    let state = state_of g.D.Desk.left g.D.Desk.taken g.D.Desk.read_faults g.D.Desk.put_faults in
     let s = c.args.settings.now in
     let off = unstarted s c.requires.settings command.Audit c.requires.command (λ e. absurd cc) in
     let rows = rows_in_tables c.in_ok-tables.tables in
     let more = with_agent_rows rows c.in_ok-agents.agents in
     let all = with_time_rows more c.in_ok-times.times in
     let r = c.in_ok-tables.ensures.reads in
-    let read = subst (λ (b : Bool). AreAccepted s (loading_tables b) no_rows rows (g.D.Desk.left c.args.desk.now) (g.D.Desk.left c.accept_all.new.desk)) off r.done in
+    let read = subst (λ (b : Bool). AreAccepted s (loading_tables b) no_rows rows (g.D.Desk.state c.args.desk.now).left (g.D.Desk.state c.accept_all.new.desk).left) off r.done in
     let t = c.in_ok-agents.ensures.reads s rows c.requires.command in
     let both = accepted-both s all_tables (table.Start ∷ []) no_rows rows more _ _ _ read
     (accepted-one s table.Start rows more _ _ t.done) in
@@ -90,7 +84,7 @@ returns-in_err-trips-clause-reads g c =
     (accepted-one s table.Times more all _ _ u.done) in
     let links = c.in_ok-tables.tables.network.roads.links in
     let many = link-count links (rows_of links) refl ∙ ap (λ (n : NetRows). length n.links) (sym c.in_ok-net.ensures) ∙ sym c.link_count.ensures.count in
-    rw (p.1, p.2) (reads-stopped (reads-both (reads-both r t) u) (audit-stops s c.requires.command (state c.args.desk.now) (state c.accept_times.new.desk) all _ every
+    rw (p.1, p.2) (reads-stopped (reads-both (reads-both r t) u) (audit-stops s c.requires.command (g.D.Desk.state c.args.desk.now) (g.D.Desk.state c.accept_times.new.desk) all _ every
     (c.in_err-trips.ensures.stops all many (sym c.deref.ensures.value))))
 
 pub returns-clause-reads : goal.returns-clause-reads
@@ -101,7 +95,7 @@ returns-clause-reads g c =
     let more = with_agent_rows rows c.in_ok-agents.agents in
     let all = with_time_rows more c.in_ok-times.times in
     let r = c.in_ok-tables.ensures.reads in
-    let read = subst (λ (b : Bool). AreAccepted s (loading_tables b) no_rows rows (g.D.Desk.left c.args.desk.now) (g.D.Desk.left c.accept_all.new.desk)) off r.done in
+    let read = subst (λ (b : Bool). AreAccepted s (loading_tables b) no_rows rows (g.D.Desk.state c.args.desk.now).left (g.D.Desk.state c.accept_all.new.desk).left) off r.done in
     let t = c.in_ok-agents.ensures.reads s rows c.requires.command in
     let both = accepted-both s all_tables (table.Start ∷ []) no_rows rows more _ _ _ read
     (accepted-one s table.Start rows more _ _ t.done) in

@@ -1,7 +1,6 @@
 use Rattle.std.proofs.lemmas.Result.{err_from_is_err_and}
 use Rattle.dta_words.specs.declared.command.Command.TheVariants as command
 use Rattle.dta_run.specs.Calls.{rows_in_tables}
-use Rattle.dta_run.specs.Outcome.{state_of}
 use Rattle.dta_run.proofs.ChainFacts.{reads-stopped, reads-so}
 use Rattle.dta_run.proofs.JobFacts.{among-sweep, sweep-jobs, sweep-sized, unstarted}
 use Rattle.dta_run.proofs.job.accept_sweep.Goals as goal
@@ -9,20 +8,18 @@ use Rattle.dta_run.proofs.job.accept_sweep.Goals as goal
 pub returns-in_err-tables-clause-reads : goal.returns-in_err-tables-clause-reads
 returns-in_err-tables-clause-reads g c =
     let p = err_from_is_err_and c.from_residual.result c.from_residual.ensures.1 in
-    let state = state_of g.D.Desk.left g.D.Desk.taken g.D.Desk.read_faults g.D.Desk.put_faults in
     let s = c.args.settings.now in
     let off = unstarted s c.requires.settings command.Sweep c.requires.command (λ e. absurd cc) in
     let r = c.in_err-tables.ensures.reads in
-    rw (p.1, p.2) (reads-stopped r (among-sweep s c.requires.command (state c.args.desk.now) (state c.accept_all.new.desk) _ off r.stops))
+    rw (p.1, p.2) (reads-stopped r (among-sweep s c.requires.command (g.D.Desk.state c.args.desk.now) (g.D.Desk.state c.accept_all.new.desk) _ off r.stops))
 
 pub returns-clause-reads : goal.returns-clause-reads
 returns-clause-reads g c =
     let t = c.in_ok-tables.tables in
-    let state = state_of g.D.Desk.left g.D.Desk.taken g.D.Desk.read_faults g.D.Desk.put_faults in
     let s = c.args.settings.now in
     let off = unstarted s c.requires.settings command.Sweep c.requires.command (λ e. absurd cc) in
     let r = c.in_ok-tables.ensures.reads in
     reads-so r
     (sweep-jobs s c.requires.command (rows_in_tables t) c.sweep_job_of.result _ _ off r.done c.sweep_job_of.ensures.within c.sweep_job_of.ensures.makes)
-    (sweep-sized s c.requires.command (state c.args.desk.now) (state c.accept_all.new.desk) (rows_in_tables t)
+    (sweep-sized s c.requires.command (g.D.Desk.state c.args.desk.now) (g.D.Desk.state c.accept_all.new.desk) (rows_in_tables t)
     c.sweep_job_of.result off r.done c.sweep_job_of.ensures.stops)

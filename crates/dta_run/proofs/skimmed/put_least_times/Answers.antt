@@ -10,8 +10,8 @@ pub returns-in-Ok-put_skim : goal.returns-in-Ok-put_skim
 returns-in-Ok-put_skim g c =
     let o = c.in-Ok-put_skim.ensures in
     record {
-      work = skim-done c.args.settings.now c.args.job.now c.requires.command _ c.in-Ok.ensures (g.D.Desk.taken c.args.desk.now) (g.D.Desk.taken c.put_skim.new.desk)
-          (subst (λ (n : NetRows). IsSkimOut n c.in-Ok.skim (g.D.Desk.taken c.args.desk.now) (g.D.Desk.taken c.put_skim.new.desk)) (ap (λ (j : JobRows). j.net) c.job.view_is) o.whole);
+      work = skim-done c.args.settings.now c.args.job.now c.requires.command _ c.in-Ok.ensures (g.D.Desk.state c.args.desk.now).taken (g.D.Desk.state c.put_skim.new.desk).taken
+          (subst (λ (n : NetRows). IsSkimOut n c.in-Ok.skim (g.D.Desk.state c.args.desk.now).taken (g.D.Desk.state c.put_skim.new.desk).taken) (ap (λ (j : JobRows). j.net) c.job.view_is) o.whole);
       failed = λ (k : status.Done ≡ status.WriteFault). absurd cc;
       differs = λ (k : status.Done ≡ status.Differs). absurd cc;
       later = o.cause.later;
@@ -23,8 +23,8 @@ pub returns-in-Ok : goal.returns-in-Ok
 returns-in-Ok g c =
     let o = c.in-Err-put_skim.ensures in
     record {
-      work = skim-cut c.args.settings.now c.args.job.now c.requires.command _ c.in-Ok.ensures (g.D.Desk.taken c.args.desk.now) (g.D.Desk.taken c.put_skim.new.desk)
-          (subst (λ (n : NetRows). IsSkimCut n c.in-Ok.skim (g.D.Desk.taken c.args.desk.now) (g.D.Desk.taken c.put_skim.new.desk)) (ap (λ (j : JobRows). j.net) c.job.view_is) o.refused);
+      work = skim-cut c.args.settings.now c.args.job.now c.requires.command _ c.in-Ok.ensures (g.D.Desk.state c.args.desk.now).taken (g.D.Desk.state c.put_skim.new.desk).taken
+          (subst (λ (n : NetRows). IsSkimCut n c.in-Ok.skim (g.D.Desk.state c.args.desk.now).taken (g.D.Desk.state c.put_skim.new.desk).taken) (ap (λ (j : JobRows). j.net) c.job.view_is) o.refused);
       failed = λ _. o.cause.failed;
       differs = λ (k : status.WriteFault ≡ status.Differs). absurd cc;
       later = o.cause.later;

@@ -18,7 +18,7 @@ returns-in-Ok-put_sweep g c =
     (subst (λ (cells : List DemandCell). AreScenarios s c.job.inside.net cells c.as_slice-scales.result.now c.in-Ok.sweep) c.deref.ensures.value
     c.in-Ok.ensures.scenarios)) in
     record {
-      work = sweep-done s c.args.job.now c.requires.command c.in-Ok.sweep scenarios (g.D.Desk.taken c.args.desk.now) (g.D.Desk.taken c.put_sweep.new.desk) o.whole;
+      work = sweep-done s c.args.job.now c.requires.command c.in-Ok.sweep scenarios (g.D.Desk.state c.args.desk.now).taken (g.D.Desk.state c.put_sweep.new.desk).taken o.whole;
       failed = λ (k : status.Done ≡ status.WriteFault). absurd cc;
       differs = λ (k : status.Done ≡ status.Differs). absurd cc;
       later = o.cause.later;
@@ -35,7 +35,7 @@ returns-in-Ok g c =
     (subst (λ (cells : List DemandCell). AreScenarios s c.job.inside.net cells c.as_slice-scales.result.now c.in-Ok.sweep) c.deref.ensures.value
     c.in-Ok.ensures.scenarios)) in
     record {
-      work = sweep-cut s c.args.job.now c.requires.command c.in-Ok.sweep scenarios (g.D.Desk.taken c.args.desk.now) (g.D.Desk.taken c.put_sweep.new.desk) o.refused;
+      work = sweep-cut s c.args.job.now c.requires.command c.in-Ok.sweep scenarios (g.D.Desk.state c.args.desk.now).taken (g.D.Desk.state c.put_sweep.new.desk).taken o.refused;
       failed = λ _. o.cause.failed;
       differs = λ (k : status.WriteFault ≡ status.Differs). absurd cc;
       later = o.cause.later;

@@ -2,7 +2,6 @@ use Rattle.std.proofs.Common.{refl, subst, sym}
 use Rattle.loader.specs.Gates.{gate_of}
 use Rattle.desk_io.specs.Desk.{Left}
 use Rattle.dta_run.specs.Jobs.{IsAcceptedJob}
-use Rattle.dta_run.specs.Outcome.{state_of}
 use Rattle.dta_run.specs.Stops.{Stops}
 use Rattle.dta_run.specs.declared.stop.Stop.{Stop}
 use Rattle.dta_run.proofs.ReceiptFacts.{refused-gives, work-gives}
@@ -12,29 +11,27 @@ use Rattle.dta_run.proofs.top_call.accept_and_work.Goals as goal
 
 pub returns-in-Ok-clause-means : goal.returns-in-Ok-clause-means
 returns-in-Ok-clause-means g c = λ words told.
-    let state = state_of g.D.Desk.left g.D.Desk.taken g.D.Desk.read_faults g.D.Desk.put_faults in
-    works-means words c.args.settings.now _ c.work.result (state c.args.desk.now) (state c.accept.new.desk) (state c.work.new.desk) told
+    works-means words c.args.settings.now _ c.work.result (g.D.Desk.state c.args.desk.now) (g.D.Desk.state c.accept.new.desk) (g.D.Desk.state c.work.new.desk) told
     c.in-Ok.ensures.reads.done c.in-Ok.ensures.reads.taken (sym c.in-Ok.ensures.reads.puts) c.work.ensures.works.left c.work.ensures.works.work c.work.ensures.works.failed c.work.ensures.works.differs
     (loads-soundly c.args.settings.now.command c.args.settings.now c.in-Ok.job refl c.requires.settings c.in-Ok.ensures.sound)
 
 pub returns-in-Err-Refused-clause-means : goal.returns-in-Err-Refused-clause-means
 returns-in-Err-Refused-clause-means g c = λ words told.
-    let state = state_of g.D.Desk.left g.D.Desk.taken g.D.Desk.read_faults g.D.Desk.put_faults in
-    let stops = subst (λ (stop : Stop). Stops c.args.settings.now stop (state c.args.desk.now) (state c.accept.new.desk)) c.in-Err-Refused.field-0-is c.in-Err-Refused.ensures.reads.stops in
-    rw (c.refuse.ensures.status) (refused-means words c.args.settings.now (state c.args.desk.now) (state c.accept.new.desk) (state c.refuse.new.desk) told
+    let stops = subst (λ (stop : Stop). Stops c.args.settings.now stop (g.D.Desk.state c.args.desk.now) (g.D.Desk.state c.accept.new.desk)) c.in-Err-Refused.field-0-is c.in-Err-Refused.ensures.reads.stops in
+    rw (c.refuse.ensures.status) (refused-means words c.args.settings.now (g.D.Desk.state c.args.desk.now) (g.D.Desk.state c.accept.new.desk) (g.D.Desk.state c.refuse.new.desk) told
     c.in-Err-Refused.ensures.reads.taken (sym c.in-Err-Refused.ensures.reads.puts) c.refuse.ensures.left (sym c.refuse.ensures.reads) c.in-Err-Refused.refusal
     stops.0 stops.1 c.refuse.ensures.report)
 
 pub returns-in-Ok-clause-receipts : goal.returns-in-Ok-clause-receipts
 returns-in-Ok-clause-receipts g c = λ words told.
     let shown = gate_of g.G.Gate.closes g.G.Gate.last in
-    work-gives words c.args.settings.now c.in-Ok.job c.work.result (g.D.Desk.left c.args.desk.now) (g.D.Desk.left c.work.new.desk)
-    (g.D.Desk.taken c.accept.new.desk) (g.D.Desk.taken c.work.new.desk)
+    work-gives words c.args.settings.now c.in-Ok.job c.work.result (g.D.Desk.state c.args.desk.now).left (g.D.Desk.state c.work.new.desk).left
+    (g.D.Desk.state c.accept.new.desk).taken (g.D.Desk.state c.work.new.desk).taken
     (shown c.args.gate.now) (shown c.work.new.gate) told
-    (subst (λ (rest : Left). IsAcceptedJob c.args.settings.now c.in-Ok.job (g.D.Desk.left c.args.desk.now) rest) (sym c.work.ensures.works.left) c.in-Ok.ensures.reads.done)
+    (subst (λ (rest : Left). IsAcceptedJob c.args.settings.now c.in-Ok.job (g.D.Desk.state c.args.desk.now).left rest) (sym c.work.ensures.works.left) c.in-Ok.ensures.reads.done)
     c.work.ensures.works.work (λ found. (c.work.ensures.works.differs found).asks) c.work.ensures.receipts
 
 pub returns-in-Err-Refused-clause-receipts : goal.returns-in-Err-Refused-clause-receipts
 returns-in-Err-Refused-clause-receipts g c = λ words told.
-    rw (c.refuse.ensures.status) (refused-gives words c.in-Err-Refused.refusal (g.D.Desk.left c.args.desk.now) (g.D.Desk.left c.refuse.new.desk)
+    rw (c.refuse.ensures.status) (refused-gives words c.in-Err-Refused.refusal (g.D.Desk.state c.args.desk.now).left (g.D.Desk.state c.refuse.new.desk).left
     (gate_of g.G.Gate.closes g.G.Gate.last c.args.gate.now))

@@ -13,14 +13,14 @@ pub returns : goal.returns
 unfolding agent_line
 returns g c =
     record {
-      whole = (let all : IsAdded output.Agent (line_end (option_copied c.args.route) c.args.iteration) c.add_columns.new.pending c.add_end.new.pending (g.D.Desk.taken c.add_columns.new.desk) (g.D.Desk.taken c.add_end.new.desk)
+      whole = (let all : IsAdded output.Agent (line_end (option_copied c.args.route) c.args.iteration) c.add_columns.new.pending c.add_end.new.pending (g.D.Desk.state c.add_columns.new.desk).taken (g.D.Desk.state c.add_end.new.desk).taken
           → IsAdded output.Agent (agent_line c.args.net.now c.args.trip.now (option_copied c.args.route) c.args.journey.now c.args.iteration) c.args.pending.now c.add_end.new.pending
-          (g.D.Desk.taken c.args.desk.now) (g.D.Desk.taken c.add_end.new.desk)
+          (g.D.Desk.state c.args.desk.now).taken (g.D.Desk.state c.add_end.new.desk).taken
           = λ end. added-then output.Agent (agent_columns c.args.net.now c.args.trip.now (option_copied c.args.route) c.args.journey.now) _ _ _ _ _ _ _ c.in_ok-add_columns.ensures.whole end in
           on_ok_weaker _ all c.add_end.ensures.whole);
-      refused = (let some : IsPartOut output.Agent (c.add_columns.new.pending ++ line_end (option_copied c.args.route) c.args.iteration) (g.D.Desk.taken c.add_columns.new.desk) (g.D.Desk.taken c.add_end.new.desk)
+      refused = (let some : IsPartOut output.Agent (c.add_columns.new.pending ++ line_end (option_copied c.args.route) c.args.iteration) (g.D.Desk.state c.add_columns.new.desk).taken (g.D.Desk.state c.add_end.new.desk).taken
           → IsPartOut output.Agent (c.args.pending.now ++ agent_line c.args.net.now c.args.trip.now (option_copied c.args.route) c.args.journey.now c.args.iteration)
-          (g.D.Desk.taken c.args.desk.now) (g.D.Desk.taken c.add_end.new.desk)
+          (g.D.Desk.state c.args.desk.now).taken (g.D.Desk.state c.add_end.new.desk).taken
           = λ end. part-then output.Agent (agent_columns c.args.net.now c.args.trip.now (option_copied c.args.route) c.args.journey.now) _ _ _ _ _ _ c.in_ok-add_columns.ensures.whole end in
           on_err_weaker _ some c.add_end.ensures.refused);
       cause = record { later = grind (arith, common_steps); failed = grind (arith, common_steps) };

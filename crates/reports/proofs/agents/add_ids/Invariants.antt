@@ -6,8 +6,8 @@ use Rattle.reports.proofs.agents.add_ids.Given as goal
 
 abbrev pub invariant-each : goal.invariant-each
 invariant-each g l = record {
-  added : IsAdded output.Agent (joined (take l.place (ids_of l.net l.route))) l.fn.pending l.pending (g.D.Desk.taken l.fn.desk) (g.D.Desk.taken l.desk);
-  left : g.D.Desk.left l.desk ≡ g.D.Desk.left l.fn.desk;
-  later : g.D.Desk.put_faults l.fn.desk ≤ g.D.Desk.put_faults l.desk;
-  reads : g.D.Desk.read_faults l.desk ≡ g.D.Desk.read_faults l.fn.desk;
+  added : IsAdded output.Agent (joined (take l.place (ids_of l.net l.route))) l.fn.pending l.pending (g.D.Desk.state l.fn.desk).taken (g.D.Desk.state l.desk).taken;
+  left : (g.D.Desk.state l.desk).left ≡ (g.D.Desk.state l.fn.desk).left;
+  later : (g.D.Desk.state l.fn.desk).put_faults ≤ (g.D.Desk.state l.desk).put_faults;
+  reads : (g.D.Desk.state l.desk).read_faults ≡ (g.D.Desk.state l.fn.desk).read_faults;
 }

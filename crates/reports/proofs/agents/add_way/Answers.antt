@@ -26,14 +26,14 @@ pub returns : goal.returns
 unfolding way_columns
 returns g c =
     record {
-      whole = (let all : IsAdded output.Agent (joined c.args.steps.now) c.add.new.self c.add_steps.new.pending (g.D.Desk.taken c.add.new.desk) (g.D.Desk.taken c.add_steps.new.desk)
-          → IsAdded output.Agent (way_columns (ids_of c.args.net.now c.args.route.now) c.args.steps.now) c.args.pending.now c.add_steps.new.pending (g.D.Desk.taken c.args.desk.now) (g.D.Desk.taken c.add_steps.new.desk)
+      whole = (let all : IsAdded output.Agent (joined c.args.steps.now) c.add.new.self c.add_steps.new.pending (g.D.Desk.state c.add.new.desk).taken (g.D.Desk.state c.add_steps.new.desk).taken
+          → IsAdded output.Agent (way_columns (ids_of c.args.net.now c.args.route.now) c.args.steps.now) c.args.pending.now c.add_steps.new.pending (g.D.Desk.state c.args.desk.now).taken (g.D.Desk.state c.add_steps.new.desk).taken
           = λ last. added-then output.Agent ((joined (ids_of c.args.net.now c.args.route.now)) ++ codes ",") (joined c.args.steps.now) _ _ _ _ _ _
           (added-then output.Agent (joined (ids_of c.args.net.now c.args.route.now)) (codes ",") _ _ _ _ _ _ c.in_ok-add_ids.ensures.whole c.in_ok-add.ensures.whole)
           last in
           on_ok_weaker _ all c.add_steps.ensures.whole);
-      refused = (let some : IsPartOut output.Agent (c.add.new.self ++ joined c.args.steps.now) (g.D.Desk.taken c.add.new.desk) (g.D.Desk.taken c.add_steps.new.desk)
-          → IsPartOut output.Agent (c.args.pending.now ++ (way_columns (ids_of c.args.net.now c.args.route.now) c.args.steps.now)) (g.D.Desk.taken c.args.desk.now) (g.D.Desk.taken c.add_steps.new.desk)
+      refused = (let some : IsPartOut output.Agent (c.add.new.self ++ joined c.args.steps.now) (g.D.Desk.state c.add.new.desk).taken (g.D.Desk.state c.add_steps.new.desk).taken
+          → IsPartOut output.Agent (c.args.pending.now ++ (way_columns (ids_of c.args.net.now c.args.route.now) c.args.steps.now)) (g.D.Desk.state c.args.desk.now).taken (g.D.Desk.state c.add_steps.new.desk).taken
           = λ last. part-then output.Agent ((joined (ids_of c.args.net.now c.args.route.now)) ++ codes ",") (joined c.args.steps.now) _ _ _ _ _
           (added-then output.Agent (joined (ids_of c.args.net.now c.args.route.now)) (codes ",") _ _ _ _ _ _ c.in_ok-add_ids.ensures.whole c.in_ok-add.ensures.whole)
           last in

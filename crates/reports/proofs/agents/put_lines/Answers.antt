@@ -44,14 +44,14 @@ each-preserved g c = record {
 pub returns : goal.returns
 returns g c =
     record {
-      whole = (let all : g.D.Desk.taken c.put_out.new.desk ≡ grown output.Agent c.each.pending (g.D.Desk.taken c.each.desk)
-          → g.D.Desk.taken c.put_out.new.desk ≡ grown output.Agent (agent_text_by c.args.net.now c.args.trips.now c.args.routes.now c.args.loaded.now (option_copied c.args.since)) (g.D.Desk.taken c.args.desk.now)
+      whole = (let all : (g.D.Desk.state c.put_out.new.desk).taken ≡ grown output.Agent c.each.pending (g.D.Desk.state c.each.desk).taken
+          → (g.D.Desk.state c.put_out.new.desk).taken ≡ grown output.Agent (agent_text_by c.args.net.now c.args.trips.now c.args.routes.now c.args.loaded.now (option_copied c.args.since)) (g.D.Desk.state c.args.desk.now).taken
           = λ out. rw (← text-of-lines c.args.net.now c.args.trips.now c.args.routes.now c.args.loaded.now (option_copied c.args.since))
           (lines-done output.Agent itself (agent_header_by (option_copied c.args.since)) (agent_lines c.args.net.now c.args.trips.now c.args.routes.now c.args.loaded.now (option_copied c.args.since)) c.each.v c.each.pending _ _ _
           (rw (length-lines c.args.net.now c.args.trips.now c.args.routes.now c.args.loaded.now (option_copied c.args.since) c.requires.routes c.requires.journeys c.requires.numbers) (omega arith)) c.each.invariant.added out) in
           on_ok_weaker _ all c.put_out.ensures.puts.whole);
-      refused = (let some : IsPartOut output.Agent c.each.pending (g.D.Desk.taken c.each.desk) (g.D.Desk.taken c.put_out.new.desk)
-          → IsPartOut output.Agent (agent_text_by c.args.net.now c.args.trips.now c.args.routes.now c.args.loaded.now (option_copied c.args.since)) (g.D.Desk.taken c.args.desk.now) (g.D.Desk.taken c.put_out.new.desk)
+      refused = (let some : IsPartOut output.Agent c.each.pending (g.D.Desk.state c.each.desk).taken (g.D.Desk.state c.put_out.new.desk).taken
+          → IsPartOut output.Agent (agent_text_by c.args.net.now c.args.trips.now c.args.routes.now c.args.loaded.now (option_copied c.args.since)) (g.D.Desk.state c.args.desk.now).taken (g.D.Desk.state c.put_out.new.desk).taken
           = λ part. rw (← text-of-lines c.args.net.now c.args.trips.now c.args.routes.now c.args.loaded.now (option_copied c.args.since))
           (lines-part-done output.Agent itself (agent_header_by (option_copied c.args.since)) (agent_lines c.args.net.now c.args.trips.now c.args.routes.now c.args.loaded.now (option_copied c.args.since)) c.each.v c.each.pending _ _ _
           (rw (length-lines c.args.net.now c.args.trips.now c.args.routes.now c.args.loaded.now (option_copied c.args.since) c.requires.routes c.requires.journeys c.requires.numbers) (omega arith)) c.each.invariant.added part) in

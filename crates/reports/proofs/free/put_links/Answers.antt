@@ -34,12 +34,12 @@ pub returns : goal.returns
 unfolding free_link_time_text
 returns g c =
     record {
-      whole = (let all : g.D.Desk.taken c.put_out.new.desk ≡ grown output.LinkTime c.each.pending (g.D.Desk.taken c.each.desk)
-          → g.D.Desk.taken c.put_out.new.desk ≡ grown output.LinkTime (free_link_time_text c.args.links.now) (g.D.Desk.taken c.args.desk.now)
+      whole = (let all : (g.D.Desk.state c.put_out.new.desk).taken ≡ grown output.LinkTime c.each.pending (g.D.Desk.state c.each.desk).taken
+          → (g.D.Desk.state c.put_out.new.desk).taken ≡ grown output.LinkTime (free_link_time_text c.args.links.now) (g.D.Desk.state c.args.desk.now).taken
           = λ out. lines-done output.LinkTime free_link_line free_link_time_header c.args.links.now c.each.row-index c.each.pending _ _ _ c.each-test.false c.each.invariant.added out in
           on_ok_weaker _ all c.put_out.ensures.puts.whole);
-      refused = (let some : IsPartOut output.LinkTime c.each.pending (g.D.Desk.taken c.each.desk) (g.D.Desk.taken c.put_out.new.desk)
-          → IsPartOut output.LinkTime (free_link_time_text c.args.links.now) (g.D.Desk.taken c.args.desk.now) (g.D.Desk.taken c.put_out.new.desk)
+      refused = (let some : IsPartOut output.LinkTime c.each.pending (g.D.Desk.state c.each.desk).taken (g.D.Desk.state c.put_out.new.desk).taken
+          → IsPartOut output.LinkTime (free_link_time_text c.args.links.now) (g.D.Desk.state c.args.desk.now).taken (g.D.Desk.state c.put_out.new.desk).taken
           = λ part. lines-part-done output.LinkTime free_link_line free_link_time_header c.args.links.now c.each.row-index c.each.pending _ _ _ c.each-test.false c.each.invariant.added part in
           on_err_weaker _ some c.put_out.ensures.puts.refused);
       cause = record { later = grind (arith, common_steps); failed = grind (arith, common_steps) };

@@ -37,12 +37,12 @@ pub returns : goal.returns
 unfolding gap_text
 returns g c =
     record {
-      whole = (let all : g.D.Desk.taken c.put_out.new.desk ≡ grown output.Gap c.each.pending (g.D.Desk.taken c.each.desk)
-          → g.D.Desk.taken c.put_out.new.desk ≡ grown output.Gap (gap_text c.args.lines.now) (g.D.Desk.taken c.args.desk.now)
+      whole = (let all : (g.D.Desk.state c.put_out.new.desk).taken ≡ grown output.Gap c.each.pending (g.D.Desk.state c.each.desk).taken
+          → (g.D.Desk.state c.put_out.new.desk).taken ≡ grown output.Gap (gap_text c.args.lines.now) (g.D.Desk.state c.args.desk.now).taken
           = λ out. lines-done output.Gap numbered_line gap_header (enumerate_from 1 c.args.lines.now) c.each.place c.each.pending _ _ _ (rw (length-enumerate_from 1 c.args.lines.now) c.each-test.false) c.each.invariant.added out in
           on_ok_weaker _ all c.put_out.ensures.puts.whole);
-      refused = (let some : IsPartOut output.Gap c.each.pending (g.D.Desk.taken c.each.desk) (g.D.Desk.taken c.put_out.new.desk)
-          → IsPartOut output.Gap (gap_text c.args.lines.now) (g.D.Desk.taken c.args.desk.now) (g.D.Desk.taken c.put_out.new.desk)
+      refused = (let some : IsPartOut output.Gap c.each.pending (g.D.Desk.state c.each.desk).taken (g.D.Desk.state c.put_out.new.desk).taken
+          → IsPartOut output.Gap (gap_text c.args.lines.now) (g.D.Desk.state c.args.desk.now).taken (g.D.Desk.state c.put_out.new.desk).taken
           = λ part. lines-part-done output.Gap numbered_line gap_header (enumerate_from 1 c.args.lines.now) c.each.place c.each.pending _ _ _ (rw (length-enumerate_from 1 c.args.lines.now) c.each-test.false) c.each.invariant.added part in
           on_err_weaker _ some c.put_out.ensures.puts.refused);
       cause = record { later = grind (arith, common_steps); failed = grind (arith, common_steps) };

@@ -37,12 +37,12 @@ pub returns : goal.returns
 unfolding link_time_text
 returns g c =
     record {
-      whole = (let all : g.D.Desk.taken c.put_out.new.desk ≡ grown output.LinkTime c.each.pending (g.D.Desk.taken c.each.desk)
-          → g.D.Desk.taken c.put_out.new.desk ≡ grown output.LinkTime (link_time_text c.args.net.now c.args.times.now) (g.D.Desk.taken c.args.desk.now)
+      whole = (let all : (g.D.Desk.state c.put_out.new.desk).taken ≡ grown output.LinkTime c.each.pending (g.D.Desk.state c.each.desk).taken
+          → (g.D.Desk.state c.put_out.new.desk).taken ≡ grown output.LinkTime (link_time_text c.args.net.now c.args.times.now) (g.D.Desk.state c.args.desk.now).taken
           = λ out. lines-done output.LinkTime (link_lines c.args.net.now c.args.times.now) link_time_header (numbers_below (length c.args.net.now.links)) c.each.link c.each.pending _ _ _ (rw (length-range_with_len 0 (length c.args.net.now.links)) (omega arith)) c.each.invariant.added out in
           on_ok_weaker _ all c.put_out.ensures.puts.whole);
-      refused = (let some : IsPartOut output.LinkTime c.each.pending (g.D.Desk.taken c.each.desk) (g.D.Desk.taken c.put_out.new.desk)
-          → IsPartOut output.LinkTime (link_time_text c.args.net.now c.args.times.now) (g.D.Desk.taken c.args.desk.now) (g.D.Desk.taken c.put_out.new.desk)
+      refused = (let some : IsPartOut output.LinkTime c.each.pending (g.D.Desk.state c.each.desk).taken (g.D.Desk.state c.put_out.new.desk).taken
+          → IsPartOut output.LinkTime (link_time_text c.args.net.now c.args.times.now) (g.D.Desk.state c.args.desk.now).taken (g.D.Desk.state c.put_out.new.desk).taken
           = λ part. lines-part-done output.LinkTime (link_lines c.args.net.now c.args.times.now) link_time_header (numbers_below (length c.args.net.now.links)) c.each.link c.each.pending _ _ _ (rw (length-range_with_len 0 (length c.args.net.now.links)) (omega arith)) c.each.invariant.added part in
           on_err_weaker _ some c.put_out.ensures.puts.refused);
       cause = record { later = grind (arith, common_steps); failed = grind (arith, common_steps) };

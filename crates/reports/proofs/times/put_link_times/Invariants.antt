@@ -8,8 +8,8 @@ use Rattle.reports.proofs.times.put_link_times.Given as goal
 
 abbrev pub invariant-each : goal.invariant-each
 invariant-each g l = record {
-  added : IsAdded output.LinkTime (link_time_header ++ flat_map (link_lines l.net l.times) (take l.link (numbers_below (length l.net.links)))) [] l.pending (g.D.Desk.taken l.fn.desk) (g.D.Desk.taken l.desk);
-  left : g.D.Desk.left l.desk ≡ g.D.Desk.left l.fn.desk;
-  later : g.D.Desk.put_faults l.fn.desk ≤ g.D.Desk.put_faults l.desk;
-  reads : g.D.Desk.read_faults l.desk ≡ g.D.Desk.read_faults l.fn.desk;
+  added : IsAdded output.LinkTime (link_time_header ++ flat_map (link_lines l.net l.times) (take l.link (numbers_below (length l.net.links)))) [] l.pending (g.D.Desk.state l.fn.desk).taken (g.D.Desk.state l.desk).taken;
+  left : (g.D.Desk.state l.desk).left ≡ (g.D.Desk.state l.fn.desk).left;
+  later : (g.D.Desk.state l.fn.desk).put_faults ≤ (g.D.Desk.state l.desk).put_faults;
+  reads : (g.D.Desk.state l.desk).read_faults ≡ (g.D.Desk.state l.fn.desk).read_faults;
 }

@@ -7,8 +7,8 @@ use Rattle.skims.proofs.texts.put_entries.Given as goal
 
 abbrev pub invariant-each : goal.invariant-each
 invariant-each g l = record {
-  added : IsAdded output.Skim (skim_header ++ flat_map entry_line (take l.entry-index l.entries)) [] l.pending (g.D.Desk.taken l.fn.desk) (g.D.Desk.taken l.desk);
-  left : g.D.Desk.left l.desk ≡ g.D.Desk.left l.fn.desk;
-  later : g.D.Desk.put_faults l.fn.desk ≤ g.D.Desk.put_faults l.desk;
-  reads : g.D.Desk.read_faults l.desk ≡ g.D.Desk.read_faults l.fn.desk;
+  added : IsAdded output.Skim (skim_header ++ flat_map entry_line (take l.entry-index l.entries)) [] l.pending (g.D.Desk.state l.fn.desk).taken (g.D.Desk.state l.desk).taken;
+  left : (g.D.Desk.state l.desk).left ≡ (g.D.Desk.state l.fn.desk).left;
+  later : (g.D.Desk.state l.fn.desk).put_faults ≤ (g.D.Desk.state l.desk).put_faults;
+  reads : (g.D.Desk.state l.desk).read_faults ≡ (g.D.Desk.state l.fn.desk).read_faults;
 }
