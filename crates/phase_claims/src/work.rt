@@ -3,7 +3,9 @@ ghost use Rattle.atomic_table.specs.Table.{rest, turned};
 ghost use Rattle.phase_claims.specs.PlacesHeld.{HoldsCell, HoldsMail, HoldsNothing, IsSameSeat};
 ghost use Rattle.cell_stages.specs.declared.mail.Mail.{Mail};
 ghost use Rattle.cell_stages.specs.Contents.{tells};
-ghost use Rattle.std.specs.Prelude.{◌≡◌, ◌∷◌};
+ghost use Rattle.cell_stages.specs.CellState.{CellState};
+ghost use Rattle.node_transfer.specs.Rest.{IsQuiet};
+ghost use Rattle.std.specs.Prelude.{◌≡◌, ◌∷◌, true};
 
 use crate::noted_cell::NotedCell;
 use crate::part::Part;
@@ -68,6 +70,27 @@ pub(crate) fn is_told<V, K, P: TableRule<Part, V, K>>(
     let told = tells_room(mail, room);
     seat.turn();
     told
+}
+
+/// Whether it is known that nobody of the cell in the first place that the seat holds is ready in a
+/// step. It stays there, which stays the first place.
+pub(crate) fn is_quiet<V, K, P: TableRule<Part, V, K>>(
+    shared: &Shared<Part, V, K, P>,
+    seat: &mut Seat<Part, V>,
+    slot: usize,
+    step: u32,
+) -> bool
+    requires table { seat.old.table_id ≡ shared.now.table_id }
+    requires held { HoldsCell slot seat.old.me.1 }
+    ensures seat { IsSameSeat seat.old seat.new }
+    ensures quiet { (cell : CellState) → seat.old.me.1 ≡ (slot, Part.Cell cell) ∷ rest seat.old.me.1
+        → result ≡ true → IsQuiet step cell }
+    ensures held { seat.new.me.1 ≡ seat.old.me.1 }
+{
+    let Part::Cell(cell) = seat.slot_mut(shared, slot) else {
+        unreachable!()
+    };
+    cell.is_quiet(step)
 }
 
 /// Takes the cell out of the first place that the seat holds, which stays the first one.

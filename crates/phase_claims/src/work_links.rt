@@ -4,10 +4,10 @@ ghost use Rattle.dta_model.specs.Lent.{plan_of};
 ghost use Rattle.dta_model.specs.Plans.{ins as ins_of};
 ghost use Rattle.node_transfer.specs.Halves.{IsHalf, leaving_cell, left_mail, links_of};
 ghost use Rattle.node_transfer.specs.Halves.{taken_mail, taking_cell};
-ghost use Rattle.node_transfer.specs.Rest.{AreTold, room_left_on};
+ghost use Rattle.node_transfer.specs.Rest.{AreTold};
 ghost use Rattle.phase_claims.specs.PlacesHeld.{IsSameSeat, after_cell, before_cell, empty_places};
 ghost use Rattle.phase_claims.specs.PlacesHeld.{mail_places};
-ghost use Rattle.std.specs.Prelude.{◌≡◌, ◌<◌, ℕ, Some, true, length, slice_get};
+ghost use Rattle.std.specs.Prelude.{◌≡◌, ◌∷◌, IfSome, None, true};
 
 use crate::part::Part;
 use crate::work::{give_mail, is_told, take_mail};
@@ -75,21 +75,24 @@ pub(crate) fn empty<V, K, P: TableRule<Part, V, K>>(
 }
 
 /// Whether the mail of all in-links of a node tells the rooms that these leave after the transfer
-/// of a step. It looks at each place that a seat holds after that of the cell, and so the seat
-/// turns to where it was. It looks into the cell only where links have a bound.
+/// of a step. The cell tells them, where queues have a bound; where they have none it isn't looked
+/// at, since it may be far from the processor's cache. The seat holds the mail after another place,
+/// and turns to where it was.
 pub(crate) fn are_told<V, K, P: TableRule<Part, V, K>>(
     shared: &Shared<Part, V, K, P>,
     seat: &mut Seat<Part, V>,
     loading: &Loading,
     node: NodeNo,
     step: u32,
-    cell: &NodeCell,
+    cell: Option<&NodeCell>,
 ) -> bool
     requires table { seat.old.table_id ≡ shared.now.table_id }
     requires step { IsStep (plan_of loading.now) node.0 step }
-    requires cell { cell.now ≡ cell_after (plan_of loading.now) node.0 step away away }
-    requires held { seat.old.me.1 ≡ after_cell node.0
-        (mail_places (plan_of loading.now) (batch_of (plan_of loading.now) step)
+    requires cell { IfSome cell
+        (λ cell. cell.now ≡ cell_after (plan_of loading.now) node.0 step away away) }
+    requires none { cell ≡ None → loading.now.queue ≡ Queue.Point }
+    requires held { (part : Part) × (seat.old.me.1 ≡ (node.0, part)
+        ∷ mail_places (plan_of loading.now) (batch_of (plan_of loading.now) step)
         (ins_of (plan_of loading.now) node.0)) }
     ensures seat { IsSameSeat seat.old seat.new }
     ensures told { result ≡ true → AreTold (plan_of loading.now) node.0 step }
@@ -100,23 +103,12 @@ pub(crate) fn are_told<V, K, P: TableRule<Part, V, K>>(
     let mut all = true;
     seat.turn();
     for place in 0..ins.len() {
-        let room = room_left(loading, cell, place);
+        let room = match cell {
+            None => None,
+            Some(cell) => cell.room(place),
+        };
         let here = is_told(shared, seat, nodes + ins[place].0 as usize, room);
         all = all && here;
     }
     all
-}
-
-// The room that the in-link of a place leaves. Where queues have no bound there is none, and the
-// cell isn't looked at: it may be far from the processor's cache.
-fn room_left(loading: &Loading, cell: &NodeCell, place: usize) -> Option<u32>
-    requires { place < length cell.now.ins }
-    ensures { (n t l : ℕ) → cell.now ≡ cell_after (plan_of loading.now) n t away away
-        → slice_get (ins_of (plan_of loading.now) n) place ≡ Some l
-        → result ≡ room_left_on (plan_of loading.now) n t l }
-{
-    match loading.queue {
-        Queue::Point => None,
-        _ => cell.room(place),
-    }
 }
