@@ -214,7 +214,8 @@ partly() {
 }
 ends 'a file that is cut off' 5 partly >/dev/null
 size=$(wc -c <agent.csv)
-[ "$size" -gt 0 ] && [ "$size" -lt "$(wc -c <whole)" ] || fails "a file that is cut off: $size bytes"
+[ "$size" -gt 0 ] && [ "$size" -lt "$(wc -c <whole)" ] ||
+    fails "a file that is cut off: $size bytes"
 cmp -s -n "$size" agent.csv whole || fails 'a file that is cut off has another text'
 
 # Devices that are full.

@@ -21,8 +21,8 @@ pub record IsSoundLoading (p : Plan) : Type 0 where
   pub ordered : EndInOrder p (journeys_of p)
 
 -- where the routes at a place of a list of iterations come from: the first ones are the walks of
--- the start table's rows that fit, and else chosen walks by free-flow steps; of later ones some are
--- chosen walks in the link times of the iteration before, and the others are as they were
+-- the start table's rows that fit, and else chosen walks by free-flow steps; of later ones some
+-- are chosen walks in the link times of the iteration before, and the others are as they were
 abbrev pub ComeFrom : Settings → Traffic → List VehicleRoutes → (place : ℕ) → VehicleRoutes → Type 0
 ComeFrom s traffic all zero routes =
     AreStartedRoutes traffic.net traffic.start traffic.trips routes

@@ -20,8 +20,8 @@ use std::mem;
 use std::thread::Threads;
 use time_routes::TablePool;
 
-/// An iteration that is about to be loaded: its routes, and the gaps of those before it. The labels
-/// of each are filled in the memory of the one before.
+/// An iteration that is about to be loaded: its routes, and the gaps of those before it. The
+/// labels of each are filled in the memory of the one before.
 #[derive(Drop)]
 pub struct Iteration {
     pub routes: Routes,

@@ -1,5 +1,5 @@
-//! The iterations of an assignment: routes, loadings, link times and gaps (successive averages over
-//! loadings, Zhou and Taylor 2014).
+//! The iterations of an assignment: routes, loadings, link times and gaps (successive averages
+//! over loadings, Zhou and Taylor 2014).
 //!
 //! An [`Assignment`] says what is assigned. [`begin`] gives the first [`Iteration`]. Who calls it
 //! loads, plainly or by workers, and gives the journeys to [`advance`], which measures the link

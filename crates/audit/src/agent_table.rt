@@ -75,9 +75,9 @@ impl Accepted for AgentTable {
 }
 
 /// Reads an agent table: the columns `agent_id`, `o_zone_id`, `d_zone_id` and `departure_step`,
-/// identifiers, `arrival_step`, which is empty or an identifier, `status`, any text, and `link_ids`
-/// and `entry_steps`, which are empty or have identifiers joined by semicolons. They are columns of
-/// Agent. The refusal is the table's first fault, or want of memory.
+/// identifiers, `arrival_step`, which is empty or an identifier, `status`, any text, and
+/// `link_ids` and `entry_steps`, which are empty or have identifiers joined by semicolons. They
+/// are columns of Agent. The refusal is the table's first fault, or want of memory.
 pub fn read_agents(alloc: Global, text: &[u8]) -> Result<AgentRows, TableRefusal>
     ensures { Tells (agents_verdict (records text.now)) result }
 {

@@ -49,10 +49,10 @@ fn check_loading(
 }
 
 /// Audits the agent table and the table of link times of an assignment over a network, with these
-/// trips and this plan. The first check that fails is told, by its table, line and column: the rows
-/// of the agent table against the trips and the network, then against a loading over the routes
-/// that they name, and then the rows of link times against that loading. Nothing is taken from the
-/// tables but these routes.
+/// trips and this plan. The first check that fails is told, by its table, line and column: the
+/// rows of the agent table against the trips and the network, then against a loading over the
+/// routes that they name, and then the rows of link times against that loading. Nothing is taken
+/// from the tables but these routes.
 pub fn audit(
     alloc: Global,
     net: &Net,

@@ -1,6 +1,7 @@
 // The rows of an agent table against the journeys of a loading.
 ghost use Rattle.std.specs.Prelude.{◌≡◌, ◌↔◌, ◌<◌, ◌^◌, length, IsTrue};
-ghost use Rattle.audit.specs.Audit.{all_journey_checks, journey_checks, status_text as status_text_of};
+ghost use Rattle.audit.specs.Audit.{all_journey_checks, journey_checks};
+ghost use Rattle.audit.specs.Audit.{status_text as status_text_of};
 ghost use Rattle.audit.specs.Checks.{IsVerdict};
 
 use crate::agent_rows::AgentRow;

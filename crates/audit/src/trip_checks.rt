@@ -58,7 +58,8 @@ fn number_verdict(r: usize, trip: &Trip, row: &AgentRow) -> Verdict
         ))
 }
 
-// The route that identifiers name for a trip, none where there are none; or that they name no walk.
+// The route that identifiers name for a trip, none where there are none; or that they name no
+// walk.
 fn route_told(
     alloc: Global,
     net: &Net,

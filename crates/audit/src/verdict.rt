@@ -11,8 +11,8 @@ use row_reader::Column;
 pub enum Verdict {
     /// No check fails.
     Yes,
-    /// The first check that fails is of this place. The line is the number of the record, where the
-    /// header is 1.
+    /// The first check that fails is of this place. The line is the number of the record, where
+    /// the header is 1.
     No {
         table: Table,
         line: u64,

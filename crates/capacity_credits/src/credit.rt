@@ -56,8 +56,8 @@ impl Credit {
         parts / PARTS_OF_A_VEHICLE
     }
 
-    /// Lets so many steps of one rate go by whose vehicles nobody uses. What is carried is as after
-    /// so many grants.
+    /// Lets so many steps of one rate go by whose vehicles nobody uses. What is carried is as
+    /// after so many grants.
     pub fn skip(&mut self, rate: u64, delta: u32, steps: u32)
         requires rate { rate ≤ MOST_RATE }
         requires step { delta ≤ MOST_STEP }

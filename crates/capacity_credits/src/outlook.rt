@@ -11,8 +11,8 @@ use fixed_units::MOST_STEP;
 use net_core::{Memory, Rates};
 use std::alloc::Global;
 
-/// Rates: one limit for all steps, or none, or a course. Where a step may have no limit it is noted
-/// beside whether the one that is open has none. Only a course takes memory.
+/// Rates: one limit for all steps, or none, or a course. Where a step may have no limit it is
+/// noted beside whether the one that is open has none. Only a course takes memory.
 #[derive(Drop)]
 pub(crate) enum Outlook {
     Limit(u64),

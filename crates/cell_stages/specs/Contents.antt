@@ -134,7 +134,8 @@ told t room mail = cond (tells room mail) mail (Room t room)
 abbrev pub sent : ℕ → List RiderState → Mail → Mail
 sent t riders mail = cond (nat_lt 0 (length riders)) (Batch t riders) mail
 
--- the mail of link l before the transfer of step t, which tells its room, and since when it is that
+-- the mail of link l before the transfer of step t, which tells its room, and since when it is
+-- that
 unfoldable pub room_of : Plan → ℕ → ℕ → Mail
 room_of p zero l = Room 0 (room_mail p l 0)
 room_of p (suc t) l =

@@ -33,8 +33,8 @@ abbrev pub first_due : Plan → ℕ → Option ℕ → Option ℕ
 first_due p t None = None
 first_due p t (Some v) = cond (nat_le (departure_of p v) t) (Some v) None
 
--- the first vehicle that waits for a link is the first that is left of its waiting line, if that is
--- to depart by now
+-- the first vehicle that waits for a link is the first that is left of its waiting line, if that
+-- is to depart by now
 abbrev pub FirstWaits : Type 0
 FirstWaits =
     (p : Plan) → IsSound p → (n t b : ℕ) (T0 M : List Move)
@@ -88,7 +88,8 @@ pub record OneMove (p : Plan) (T0 M : List Move) (m : Move) : Type 0 where
       → LeavesLine p T0 M (M ++ m ∷ []) l m.vehicle
   pub waiting : (b : ℕ) → slice_get (staying M (waiting_for p b T0)) 0 ≡ Some m.vehicle
       → LeavesWaiting p T0 M (M ++ m ∷ []) b m.vehicle
-  -- the batch of the link that it enters gains it at the end, as it then is, and other batches stay
+  -- the batch of the link that it enters gains it at the end, as it then is, and other batches
+  -- stay
   pub comes : (b : ℕ) → riders p (T0 ++ (M ++ m ∷ [])) (brought b (M ++ m ∷ []))
       ≡ riders p (T0 ++ M) (brought b M)
       ++ cond (leads_to b m) (rider_at p (T0 ++ (M ++ m ∷ [])) m.vehicle ∷ []) []

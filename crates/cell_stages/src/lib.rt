@@ -1,8 +1,8 @@
 //! What the cell of a node and the mail of a link hold at each stage of a loading.
 //!
 //! A cell is the in-links and the out-links of a node, with who is on them and what lets them go.
-//! In each step a node first transfers, which makes its moves and leaves batches in the mail of its
-//! out-links, and then gathers the batches of its in-links. The definitions stand in specs/:
+//! In each step a node first transfers, which makes its moves and leaves batches in the mail of
+//! its out-links, and then gathers the batches of its in-links. The definitions stand in specs/:
 //! `Stages` has the riders, rooms and batches before and after the transfer of a step, `Contents`
 //! the whole cell and the mail. Each function of `laws` does nothing; its contract is something
 //! that is true of these contents in every loading.

@@ -48,8 +48,8 @@ OpenAreOfThePhase p s =
     → (phase_start (node_count p) (finished p s) ≤ c)
     × (c < phase_end (node_count p) (finished p s))
 
--- where exactly so many whole steps are finished, all cells and mail are those of the plain loading
--- after these steps
+-- where exactly so many whole steps are finished, all cells and mail are those of the plain
+-- loading after these steps
 abbrev pub PartsAreOfWholeSteps : Plan → Claims → Type 0
 PartsAreOfWholeSteps p s =
     (t : ℕ) → IsSound p → finished p s ≡ t * step_units (node_count p)
@@ -68,8 +68,8 @@ NumbersRise =
     → flat_map number_given (outcomes_of p events (all_idle workers))
     ≡ numbers_below (min (run_machine p events (all_idle workers)).drawn (unit_count p))
 
--- two units whose phase begins at the same unit are of one phase. Where they have a place in common
--- they are one unit
+-- two units whose phase begins at the same unit are of one phase. Where they have a place in
+-- common they are one unit
 abbrev pub NoPlaceIsShared : Type 0
 NoPlaceIsShared =
     (p : Plan) (a b k : ℕ) → phase_start (node_count p) a ≡ phase_start (node_count p) b

@@ -13,8 +13,8 @@ pub enum PhaseKind {
     Posting,
 }
 
-/// The units of a step that don't wait for one another: those from the first number on, up to before
-/// the end.
+/// The units of a step that don't wait for one another: those from the first number on, up to
+/// before the end.
 #[derive(Clone, Copy, Debug, PartialEq, Eq, Drop)]
 pub struct Phase {
     pub first: u64,

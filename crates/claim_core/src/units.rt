@@ -128,8 +128,8 @@ impl Units {
         }
     }
 
-    /// The phase of a unit, which is the known one where that has the unit. So no division is needed
-    /// for a unit that comes after another one of its phase.
+    /// The phase of a unit, which is the known one where that has the unit. So no division is
+    /// needed for a unit that comes after another one of its phase.
     pub fn phase_from(self, known: Phase, number: u64) -> Phase
         requires known { IsPhase self.nodes known }
         requires small { self.horizon ≤ MOST_HORIZON }

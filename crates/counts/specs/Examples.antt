@@ -127,8 +127,8 @@ by_value :
 unfolding loadings_on_literals two_links_in_a_line both_ways three_moves through_on_literals
 by_value = refl
 
--- ---- the text of counts of the first case, over a network whose links have other identifiers than
--- their places, in buckets of fifty steps up to step 60
+-- ---- the text of counts of the first case, over a network whose links have other identifiers
+-- than their places, in buckets of fifty steps up to step 60
 abbrev tens : NetRows
 tens = in_a_line (link 10 0 1 10 125 600000000) (link 20 1 2 10 125 600000000) []
 

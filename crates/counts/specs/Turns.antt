@@ -62,8 +62,8 @@ turn_counts_in p bucket T =
 unfoldable pub turn_counts : Plan → ℕ → List TurnCount
 turn_counts p bucket = turn_counts_in p bucket (trace_after p p.horizon)
 
--- a count of a turn between links of the network, in a bucket of so many steps that begins below the
--- horizon
+-- a count of a turn between links of the network, in a bucket of so many steps that begins below
+-- the horizon
 pub record IsOfNet (net : NetRows) (horizon bucket : ℕ) (c : TurnCount) : Type 0 where
   pub first : c.a.0 < length net.links
   pub second : c.b.0 < length net.links

@@ -116,7 +116,8 @@ fn add_turn<D: Desk>(
 }
 
 // Adds the lines of turn counts.
-#[tactic(auto, using(pending_text::proofs::SendingFacts::starts), unfolding(crate::specs::Text::turn_lines))]
+#[tactic(auto, using(pending_text::proofs::SendingFacts::starts),
+    unfolding(crate::specs::Text::turn_lines))]
 fn add_turn_lines<D: Desk>(
     pending: &mut Pending,
     desk: &mut D,
@@ -136,7 +137,8 @@ fn add_turn_lines<D: Desk>(
 }
 
 // Adds the line of a through count to what is pending.
-#[tactic(auto, using(pending_text::proofs::Joins::text), unfolding(crate::specs::Text::through_line))]
+#[tactic(auto, using(pending_text::proofs::Joins::text),
+    unfolding(crate::specs::Text::through_line))]
 fn push_through(pending: &mut Pending, count: &ThroughCount, horizon: u32)
     requires { length pending.old + LINE ≤ PIECE }
     ensures { pending.new ≡ pending.old ++ through_line horizon count.now }
@@ -169,7 +171,8 @@ fn add_through<D: Desk>(
 }
 
 // Adds the lines of through counts.
-#[tactic(auto, using(pending_text::proofs::SendingFacts::starts), unfolding(crate::specs::Text::through_lines))]
+#[tactic(auto, using(pending_text::proofs::SendingFacts::starts),
+    unfolding(crate::specs::Text::through_lines))]
 fn add_through_lines<D: Desk>(
     pending: &mut Pending,
     desk: &mut D,

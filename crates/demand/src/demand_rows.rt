@@ -92,9 +92,9 @@ impl Accepted for DemandRows {
 
 /// Reads a demand table: the columns `o_zone_id` and `d_zone_id`, the identifiers of the zones
 /// where vehicles start and end, and `volume`, the vehicles in the period, of which a demand cell
-/// has thousandths. A zone may be one that the network doesn't have, and each demand cell keeps its
-/// line. The columns are this project's own. The refusal is the table's first fault, or want of
-/// memory.
+/// has thousandths. A zone may be one that the network doesn't have, and each demand cell keeps
+/// its line. The columns are this project's own. The refusal is the table's first fault, or want
+/// of memory.
 pub fn read_demand(alloc: Global, text: &[u8]) -> Result<Vec<DemandCell>, TableRefusal>
     ensures cells { IfOk result (λ cells. demand_verdict (records text.now) ≡ Ok cells.items) }
     ensures refused { IfErr result (λ refusal.

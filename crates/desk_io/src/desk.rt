@@ -8,8 +8,8 @@ pub(crate) const TABLES: usize = 6;
 /// How many outputs there are.
 pub(crate) const OUTPUTS: usize = 8;
 
-/// A table that a desk hands out. The first three have the column names of GMNS. A start is a table
-/// of agents, and the last one a table of link times, both as an assignment puts them.
+/// A table that a desk hands out. The first three have the column names of GMNS. A start is a
+/// table of agents, and the last one a table of link times, both as an assignment puts them.
 #[derive(Clone, Copy, Debug, PartialEq, Eq)]
 pub enum Table {
     Node,

@@ -19,10 +19,10 @@ enum TableFile {
 
 /// A desk over the current folder. It reads `node.csv`, `link.csv`, `movement.csv`, `demand.csv`,
 /// `start.csv` and `times.csv`, and puts to `agent.csv`, `link_performance.csv`, `gap.csv`,
-/// `skim.csv`, `counts.csv`, `sweep.txt`, a stream for Report and one for Watch: standard output and
-/// standard error. A `movement.csv` that doesn't exist reads as zero bytes; another missing file
-/// fails. A file is made, and an older one emptied, at its first put of a piece that isn't empty. It
-/// tells nothing of contents, and counts each failure.
+/// `skim.csv`, `counts.csv`, `sweep.txt`, a stream for Report and one for Watch: standard output
+/// and standard error. A `movement.csv` that doesn't exist reads as zero bytes; another missing
+/// file fails. A file is made, and an older one emptied, at its first put of a piece that isn't
+/// empty. It tells nothing of contents, and counts each failure.
 #[derive(Drop)]
 pub struct FileDesk<R, W> {
     rt: HostRuntime,
@@ -132,7 +132,8 @@ fn made<'a>(rt: &HostRuntime, file: &'a mut Option<File>, path: &str) -> io::Res
 }
 
 impl<R: Write, W: Write> FileDesk<R, W> {
-    // Writes a first part of the piece, and answers what the file or the stream says of its length.
+    // Writes a first part of the piece, and answers what the file or the stream says of its
+    // length.
     fn write(&mut self, output: Output, piece: &[u8]) -> io::Result<usize>
         ensures count { IfOk result (λ n. n ≤ length piece.now) }
         ensures reads { self.new.read_faults ≡ self.old.read_faults }

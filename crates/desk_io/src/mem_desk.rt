@@ -225,7 +225,8 @@ impl Desk for MemDesk {
         ensures puts { PutsSome output piece.now
             (desk_state self.old) (desk_state self.new) result }
 
-        // More than the trait promises: when a put fails, how much it moves, and what else changes.
+        // More than the trait promises: when a put fails, how much it moves, and what else
+        // changes.
         ensures fails { IsTrue (is_listed self.old.failing_puts self.old.next_put) → IsErr result }
         ensures many { IfOk result (λ n. n ≡ min (length piece.now) self.old.most) }
         ensures moves { OnOk result (self.new ≡ record self.old {

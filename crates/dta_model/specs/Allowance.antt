@@ -1,5 +1,5 @@
--- How many vehicles rates allow in a step. Rates are in millionths of a vehicle per hour, steps are
--- of delta seconds.
+-- How many vehicles rates allow in a step. Rates are in millionths of a vehicle per hour, steps
+-- are of delta seconds.
 use Rattle.std.specs.Prelude.{ℕ, zero, suc, ◌+◌, ◌*◌, ◌/◌, ◌-◌, ◌%◌, Option, None, Some}
 use Rattle.net_core.specs.Rates.{rate_in}
 use Rattle.net_core.specs.declared.rates.Rates.{Rates}
@@ -15,8 +15,8 @@ unfoldable pub parts : Rates → ℕ → ℕ → ℕ
 parts rates delta zero = 0
 parts rates delta (suc step) = parts rates delta step + credited (rate_in rates step) * delta
 
--- the whole vehicles that rates allow in a step: those that are full by its end, without those that
--- were by its start
+-- the whole vehicles that rates allow in a step: those that are full by its end, without those
+-- that were by its start
 unfoldable pub allowance : Rates → ℕ → ℕ → ℕ
 allowance rates delta step =
     parts rates delta (step + 1) / PARTS_OF_A_VEHICLE

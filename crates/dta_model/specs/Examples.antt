@@ -394,7 +394,8 @@ two_nodes = record two_links_in_a_line {
   horizon = 1;
 }
 
--- two workers: unit 2, of the second phase, may be opened once both units of the first are finished
+-- two workers: unit 2, of the second phase, may be opened once both units of the first are
+-- finished
 two_workers :
     outcomes_of two_nodes
     (event.Claim 0 ∷ event.Claim 1 ∷ event.Open 1 ∷ event.Finish 1 ∷ event.Claim 1 ∷ event.Open 1

@@ -82,8 +82,8 @@ StepsRise =
     (p : Plan) (t : ℕ) (A B : List Move) (a : Move) → trace_after p t ≡ A ++ a ∷ B
     → (a.step < t) × All (λ b. a.step ≤ b.step) B
 
--- in a trace links are left in the order of entry: where moves a and b enter a link, in this order,
--- and c is the next move of the vehicle of b, the vehicle of a moves on between a and c
+-- in a trace links are left in the order of entry: where moves a and b enter a link, in this
+-- order, and c is the next move of the vehicle of b, the vehicle of a moves on between a and c
 abbrev pub IsLeftInOrder : List Move → Type 0
 IsLeftInOrder T =
     (l : ℕ) (A B C R : List Move) (a b c : Move)
@@ -99,8 +99,8 @@ LinksAreLeftInOrder p = (t : ℕ) → IsLeftInOrder (trace_after p t)
 abbrev pub LeftInOrder : Type 0
 LeftInOrder = (p : Plan) → LinksAreLeftInOrder p
 
--- of two visits to one link the one that begins in an earlier step ends no later than the other, or
--- the other hasn't ended
+-- of two visits to one link the one that begins in an earlier step ends no later than the other,
+-- or the other hasn't ended
 abbrev pub VisitsEndInOrder : Type 0
 VisitsEndInOrder =
     (p : Plan) (t u v i j l : ℕ) (a b c : Move)

@@ -1,5 +1,5 @@
--- How workers claim the units of a loading. A worker is given numbers one after another, each once.
--- It may open a unit as soon as all units of earlier phases are finished.
+-- How workers claim the units of a loading. A worker is given numbers one after another, each
+-- once. It may open a unit as soon as all units of earlier phases are finished.
 use Rattle.std.specs.Prelude.{ℕ, suc, Bool, false, ◌&&◌, not, cond, nat_eq, nat_le, nat_lt, min}
 use Rattle.std.specs.Prelude.{List, [], ◌∷◌, Option, Some, slice_get, slice_set, count_by}
 use Rattle.std.specs.List.{list_any, repeat}

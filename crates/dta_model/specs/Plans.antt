@@ -40,8 +40,8 @@ turn_rates p a b = network.turn_rates p.net a b
 unfoldable pub link_allowance : Plan → ℕ → ℕ → ℕ
 link_allowance p l t = allowance (link_rates p l) p.delta t
 
--- whether a turn that was taken so often in a step may be taken once more; where it has no limit in
--- that step it always may
+-- whether a turn that was taken so often in a step may be taken once more; where it has no limit
+-- in that step it always may
 abbrev pub has_pass : Plan → Rates → ℕ → ℕ → Bool
 has_pass p rates t used = is_none (rate_in rates t) || nat_lt used (allowance rates p.delta t)
 

@@ -29,8 +29,8 @@ abbrev pub leads_out : Option Move → Bool
 leads_out None = false
 leads_out (Some m) = not (is_onto m.target)
 
--- whether a vehicle waits (it hasn't moved), runs (its last move leads onto a link), or has arrived
--- (its last move leads out)
+-- whether a vehicle waits (it hasn't moved), runs (its last move leads onto a link), or has
+-- arrived (its last move leads out)
 unfoldable pub waits : List Move → ℕ → Bool
 waits T v = not (has_moved v T)
 

@@ -66,7 +66,7 @@ abbrev pub target_at : Option ℕ → Target
 target_at None = Arrived
 target_at (Some l) = Onto l
 
--- where a vehicle goes next: to the link of its route at the place that is the number of its moves,
--- or out where the route ends
+-- where a vehicle goes next: to the link of its route at the place that is the number of its
+-- moves, or out where the route ends
 unfoldable pub next_target : Plan → List Move → ℕ → Target
 next_target p T v = target_at (slice_get (route_of p v) (moves_made v T))

@@ -54,8 +54,8 @@ phase_start n u = step_of n u * step_units n + phase_begins n (task_of n u)
 unfoldable pub phase_end : ℕ → ℕ → ℕ
 phase_end n u = step_of n u * step_units n + phase_ends n (task_of n u)
 
--- the parts of a loading are numbered: the cells of the nodes, then the mail of the links, and then
--- what posts the state
+-- the parts of a loading are numbered: the cells of the nodes, then the mail of the links, and
+-- then what posts the state
 abbrev pub mail_part : Plan → ℕ → ℕ
 mail_part p l = node_count p + l
 

@@ -1,5 +1,5 @@
-// How the units of a loading are claimed by workers, as plain data. A step with n nodes has 2 n + 1
-// units: a transfer of each node, a gather of each node, and a posting of the state.
+// How the units of a loading are claimed by workers, as plain data. A step with n nodes has 2 n +
+// 1 units: a transfer of each node, a gather of each node, and a posting of the state.
 
 /// What a worker has.
 #[derive(Clone, Copy, Debug, PartialEq, Eq, Drop)]

@@ -125,8 +125,8 @@ pub record DoesWork (s : Settings) (job : JobRows) (before after : DeskState) (a
 
 -- ---- iterations
 
--- a call that puts watch lines and does nothing else to a desk: what it gives where it is done, and
--- how it halts. A watch line is missing only where the count of failed puts rose
+-- a call that puts watch lines and does nothing else to a desk: what it gives where it is done,
+-- and how it halts. A watch line is missing only where the count of failed puts rose
 pub record OnlyWatches {T : Type 0} (Done : T → Taken → Taken → Type 0)
     (Halted : Halt → Taken → Taken → Type 0) (before after : DeskState) (result : Result T Halt)
     : Type 0 where

@@ -1,7 +1,7 @@
--- What `run` promises, the page to read first: each field is a sentence. A run has the words behind
--- the program's name, a desk from which it reads tables and to which it puts outputs, and a gate
--- that takes a receipt of each loading by workers. All of it holds for every number of workers and
--- however their steps interleave.
+-- What `run` promises, the page to read first: each field is a sentence. A run has the words
+-- behind the program's name, a desk from which it reads tables and to which it puts outputs, and a
+-- gate that takes a receipt of each loading by workers. All of it holds for every number of
+-- workers and however their steps interleave.
 --
 -- Read on in Outcome (what each answer says), Outputs (the texts), Assignment (an iteration),
 -- Verdict (what words and bytes come to), Receipts and Laws.
@@ -24,8 +24,8 @@ pub record Headline (words : List (List ℕ)) (answer : Status) (before after : 
   -- routes, a sound loading, in which vehicles are conserved and links are left in the order of
   -- entry, and its gap. Each other answer but Memory has its cause, and all say what was put
   pub means : Means words answer before after
-  -- where the desk tells the bytes of the tables, the answer and the texts are those of the verdict
-  -- over words and bytes, unless a read or a put failed or memory was wanting
+  -- where the desk tells the bytes of the tables, the answer and the texts are those of the
+  -- verdict over words and bytes, unless a read or a put failed or memory was wanting
   pub told : (texts : Table → List ℕ) → AreToldBy (settings_of words) before.left texts
       → Answers (settings_of words) (verdict words texts) answer before after
   -- with Done the gate took one receipt for each iteration that was loaded by workers, where a put
@@ -38,8 +38,8 @@ pub record Headline (words : List (List ℕ)) (answer : Status) (before after : 
   pub reads : before.read_faults ≤ after.read_faults
   pub puts : before.put_faults ≤ after.put_faults
   -- settings and a job, which are made of words and tables alone, have one list of texts but for
-  -- Watch, and where the loader is plain one list of all texts, in whatever order loadings take the
-  -- nodes of a step; a scenario has the texts that it has alone, and an audit has one verdict
+  -- Watch, and where the loader is plain one list of all texts, in whatever order loadings take
+  -- the nodes of a step; a scenario has the texts that it has alone, and an audit has one verdict
   pub one_list : OneListOfTexts
 
 -- all that is seen of a gate that tells nothing

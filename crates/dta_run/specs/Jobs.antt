@@ -24,8 +24,8 @@ use Rattle.assignment.specs.Traffic.{AreTripsBelow}
 use Rattle.audit.specs.declared.agent_rows.AgentRow.{AgentRow}
 use Rattle.route_flows.specs.Starts.{AreStartRows}
 use Rattle.route_flows.specs.declared.start_rows.StartRow.{StartRow}
-use Rattle.dta_run.specs.Tables.{AreAccepted, TableRows, loading_tables, net_of, no_rows, road_tables}
-use Rattle.dta_run.specs.Tables.{all_tables, audit_tables, skim_tables}
+use Rattle.dta_run.specs.Tables.{AreAccepted, TableRows, loading_tables, net_of, no_rows}
+use Rattle.dta_run.specs.Tables.{road_tables, all_tables, audit_tables, skim_tables}
 
 -- the tables of a command, in the order in which they are read, where a start table is asked for
 -- or not; those of a demonstration are made
@@ -118,8 +118,9 @@ abbrev pub skim_entries : Settings → TableRows → ℕ
 skim_entries s rows =
     let zones = length (zones rows.nodes) in zones * (zones - 1) * length s.starts
 
--- rows that are within the limits of a run; `freeflow` has none but those of its tables, a skim one
--- on its entries in place of that on vehicles, and a sweep its own, the last one for each scenario
+-- rows that are within the limits of a run; `freeflow` has none but those of its tables, a skim
+-- one on its entries in place of that on vehicles, and a sweep its own, the last one for each
+-- scenario
 abbrev pub AreWithin : Command → Settings → TableRows → Type 0
 AreWithin command.Freeflow s rows = ⊤
 AreWithin command.Skim s rows = HasRoom s rows × (skim_entries s rows ≤ MOST_SKIM_ENTRIES)
@@ -137,16 +138,16 @@ pub record IsJobOf (s : Settings) (job : JobRows) (before after : Left) : Type 0
 abbrev pub IsAcceptedJob : Settings → JobRows → Left → Left → Type 0
 IsAcceptedJob s job before after = Reading s.command (IsJobOf s job) before after
 
--- what is true of the job of a sweep: its demand is that of a table, its network times its steps is
--- not too much, and no scenario has too many vehicles
+-- what is true of the job of a sweep: its demand is that of a table, its network times its steps
+-- is not too much, and no scenario has too many vehicles
 pub record IsSweepJob (s : Settings) (job : JobRows) : Type 0 where
   pub cells : AreDemandCells job.demand_cells
   pub few : length job.net.links * s.horizon ≤ MOST_SWEEP_LINK_STEPS
   pub within : AreAllWithin job.demand_cells s.scales
 
 -- what is true of every job: its rows make a network, its trips depart below the horizon, the rows
--- of its start table are of different agents, and where link times are read there are those of each
--- bucket of each link
+-- of its start table are of different agents, and where link times are read there are those of
+-- each bucket of each link
 pub record IsJob (s : Settings) (job : JobRows) : Type 0 where
   pub net : IsNet job.net
   pub trips : AreTripsBelow s.horizon job.trips

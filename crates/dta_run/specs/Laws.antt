@@ -41,8 +41,8 @@ scenario_texts it =
     text_to output.Agent it.agent ∷ text_to output.LinkTime it.link_time
     ∷ text_to output.Gap it.gap ∷ text_to output.Report it.report ∷ []
 
--- a scenario of a sweep has the texts that an assignment over the demand times its scale has alone,
--- whatever the other scales, the workers of either, the watch and the loader
+-- a scenario of a sweep has the texts that an assignment over the demand times its scale has
+-- alone, whatever the other scales, the workers of either, the watch and the loader
 abbrev pub ScenariosAreAlone : Type 0
 ScenariosAreAlone =
     (s : Settings) (job : JobRows) (scale workers watch : ℕ) (plain : Bool) (it : Scenario)
@@ -64,7 +64,8 @@ TextsInAnyOrder =
     → (a b : List OutText) → AreAssignedBy s traffic order a → AreAssigned s traffic b
     → AreDetermined s a b
 
--- settings and a job have one list of texts, one verdict of an audit, and scenarios that stand alone
+-- settings and a job have one list of texts, one verdict of an audit, and scenarios that stand
+-- alone
 pub record OneListOfTexts : Type 0 where
   pub determined : TextsAreDetermined
   pub any_order : TextsInAnyOrder

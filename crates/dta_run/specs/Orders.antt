@@ -1,5 +1,6 @@
 -- Assignments whose loadings take the nodes of a step in another order.
-use Rattle.std.specs.Prelude.{ℕ, ◌≡◌, ◌+◌, ◌-◌, List, [], ◌∷◌, ◌++◌, length, Option, Some, slice_get}
+use Rattle.std.specs.Prelude.{ℕ, ◌≡◌, ◌+◌, ◌-◌, List, [], ◌∷◌, ◌++◌, length, Option, Some}
+use Rattle.std.specs.Prelude.{slice_get}
 use Rattle.desk_io.specs.declared.desk.Output.TheVariants as output
 use Rattle.dta_model.specs.LinkTimes.{TimeTable, table_in}
 use Rattle.dta_model.specs.Loading.{journeys_in}

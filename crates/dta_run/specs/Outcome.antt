@@ -124,7 +124,8 @@ pub record IsUsage (words : List (List ℕ)) (before after : DeskState) : Type 0
   pub left : after.left ≡ before.left
   pub report : ReportsLine refusal.Usage before after
 
--- an audit found a check that fails, and its place was put to Report alone, whole unless puts failed
+-- an audit found a check that fails, and its place was put to Report alone, whole unless puts
+-- failed
 pub record IsDifferent (s : Settings) (job : JobRows) (before after : DeskState) : Type 0 where
   pub asks : s.command ≡ command.Audit
   pub place : Place
@@ -146,7 +147,8 @@ Works s job _ before after = ⊥
 
 -- each loading of a command over a job is sound. In an assignment that is each of its iterations,
 -- whose routes and gaps the texts are of (`AreAssigned`), and in a sweep each for each scale
--- (`IsIteration`); in an audit where no check fails it is the loading over the agent table's routes
+-- (`IsIteration`); in an audit where no check fails it is the loading over the agent table's
+-- routes
 abbrev pub LoadsSoundly : Command → Settings → JobRows → Type 0
 LoadsSoundly command.Freeflow s job = ⊤
 LoadsSoundly command.Skim s job = ⊤
@@ -170,8 +172,8 @@ pub record IsDone (words : List (List ℕ)) (before after : DeskState) : Type 0 
   pub out : after.taken ≡ grown_by texts before.taken
   pub loadings : LoadsSoundly settings.command settings job
 
--- all tables were accepted, puts failed, and of the texts of the work some went out whole, in their
--- order, and then a first part of the next
+-- all tables were accepted, puts failed, and of the texts of the work some went out whole, in
+-- their order, and then a first part of the next
 pub record IsUnfinished (words : List (List ℕ)) (before after : DeskState) : Type 0 where
   pub settings : Settings
   pub told : settings_of words ≡ Some settings
@@ -201,8 +203,8 @@ IsCutIn s before after =
 abbrev pub EndsForMemory : Settings → Left → Left → Type 0
 EndsForMemory s before after = Reading s.command (IsCutIn s) before after
 
--- memory was wanting in the work: of all outputs only Watch grew, by whole lines of iterations, and
--- none where the command does no assignment
+-- memory was wanting in the work: of all outputs only Watch grew, by whole lines of iterations,
+-- and none where the command does no assignment
 pub record IsStopped (s : Settings) (before after : DeskState) : Type 0 where
   pub job : JobRows
   pub accepted : IsAcceptedJob s job before.left after.left

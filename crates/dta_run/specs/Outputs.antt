@@ -61,8 +61,8 @@ IsCutOff [] before after = ⊥
 IsCutOff (t ∷ others) before after =
     IsPartOut t.to t.text before after ⊎ IsCutOff others (grown t.to t.text before) after
 
--- the steps of a loading whose states go out: none without a watch, the last alone where the loader
--- is plain, and else some by the rule of watch lines
+-- the steps of a loading whose states go out: none without a watch, the last alone where the
+-- loader is plain, and else some by the rule of watch lines
 abbrev pub AreToldSteps : (every : ℕ) (plain : Bool) (horizon : ℕ) → List ℕ → Type 0
 AreToldSteps zero plain horizon steps = steps ≡ []
 AreToldSteps (suc every) true horizon steps = steps ≡ horizon ∷ []
@@ -208,8 +208,8 @@ is_watch output.Sweep = false
 abbrev pub but_watch : List OutText → List OutText
 but_watch texts = filter (λ t. not (is_watch t.to)) texts
 
--- the texts of a whole assignment, which are the watch lines of its iterations and then those after
--- the last
+-- the texts of a whole assignment, which are the watch lines of its iterations and then those
+-- after the last
 pub record AreAssigned (s : Settings) (traffic : Traffic) (texts : List OutText) : Type 0 where
   pub routes : List VehicleRoutes
   pub lines : List GapLine
@@ -234,8 +234,8 @@ pub record AreWatched (s : Settings) (traffic : Traffic) (texts : List OutText) 
   pub few : length routes ≤ s.iterations
   pub watch_lines : AreWatchTexts s traffic 1 routes texts
 
--- what a run's work has put before its outputs: the watch lines of an assignment as far as it came,
--- and nothing where the command does none
+-- what a run's work has put before its outputs: the watch lines of an assignment as far as it
+-- came, and nothing where the command does none
 abbrev pub AreWatchedSoFar : Command → Settings → JobRows → List OutText → Type 0
 AreWatchedSoFar command.Freeflow s job texts = texts ≡ []
 AreWatchedSoFar command.Skim s job texts = texts ≡ []

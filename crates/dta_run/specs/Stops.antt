@@ -19,7 +19,8 @@ use Rattle.sweep.specs.Scales.{IsFirstTooMany}
 use Rattle.sweep.specs.declared.fault.SweepFault.{SweepFault}
 use Rattle.sweep.specs.declared.fault.SweepFault.TheVariants as sweep
 use Rattle.dta_run.specs.Jobs.{HasRoom, HasSweepRoom, skim_entries, tables_of}
-use Rattle.dta_run.specs.Outcome.{DeskState, ReadsFailed, IsCause, IsCauseAmong, IsCutIn, EndsForMemory}
+use Rattle.dta_run.specs.Outcome.{DeskState, ReadsFailed, IsCause, IsCauseAmong, IsCutIn}
+use Rattle.dta_run.specs.Outcome.{EndsForMemory}
 use Rattle.dta_run.specs.Tables.{ReachedAmong, IsFaulty, TableRows}
 
 -- what a refused table stops

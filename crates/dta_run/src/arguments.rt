@@ -13,8 +13,8 @@ use std::env::Args;
 use std::sync::Wait;
 use std::thread::Threads;
 
-/// Does what the arguments ask for, of which the first is the program's name and the others are the
-/// words, with a gate that tells nothing.
+/// Does what the arguments ask for, of which the first is the program's name and the others are
+/// the words, with a gate that tells nothing.
 pub fn run_arguments<R: AllocGlobal + Threads + Wait + Sync, D: Desk + Send>(
     rt: &R,
     arguments: Args,

@@ -30,8 +30,8 @@ fn verdict_of(alloc: Global, settings: &Settings, job: &Job) -> Result<Verdict, 
     audit(alloc, &job.net, &job.trips, &job.agents, &job.times, &plan)
 }
 
-/// Does the work of `audit` over an accepted job. A difference is told also where its line can't be
-/// put.
+/// Does the work of `audit` over an accepted job. A difference is told also where its line can't
+/// be put.
 pub(crate) fn put_verdict<D: Desk>(
     alloc: Global,
     settings: &Settings,

@@ -190,8 +190,8 @@ fn accept_free<D: Desk>(alloc: Global, desk: &mut D, settings: &Settings) -> Res
     })
 }
 
-// Checks the sizes of a skim: the links times the steps, and then the entries, one for each ordered
-// pair of different zones and each start.
+// Checks the sizes of a skim: the links times the steps, and then the entries, one for each
+// ordered pair of different zones and each start.
 fn skim_sizes(net: &Net, settings: &Settings) -> Result<(), Stop>
     requires settings { AreSettings settings.now }
     ensures within { (rows : TableRows) → net_of rows ≡ net.now

@@ -12,7 +12,8 @@ use dta_words::Settings;
 use std::thread::Threads;
 use sweep::{SweepFault, put_sweep, sweep};
 
-/// Does the work of `sweep` over an accepted job. No memory is taken after the first byte of Sweep.
+/// Does the work of `sweep` over an accepted job. No memory is taken after the first byte of
+/// Sweep.
 pub(crate) fn put_scenarios<R: AllocGlobal + Threads + Sync, D: Desk>(
     rt: &R,
     settings: &Settings,

@@ -43,8 +43,8 @@ fn refusal_status(refusal: Refusal) -> Status
     }
 }
 
-// Puts the line of a refusal to Report, and answers the refusal's status, also where the put fails.
-// It takes no memory.
+// Puts the line of a refusal to Report, and answers the refusal's status, also where the put
+// fails. It takes no memory.
 fn refuse<D: Desk>(desk: &mut D, refusal: Refusal) -> Status
     ensures { Refuses refusal (D.state desk.old) (D.state desk.new) result }
 {
@@ -153,8 +153,8 @@ fn answer<R: AllocGlobal + Threads + Wait + Sync, D: Desk + Send, G: Gate + Sync
 
 /// Does what the words ask for. `words` are those after the program's name.
 ///
-/// - `freeflow` reads the node and the link table of the desk, and puts each link's free-flow steps
-///   and storage to LinkTime, and the numbers of nodes and links to Report.
+/// - `freeflow` reads the node and the link table of the desk, and puts each link's free-flow
+///   steps and storage to LinkTime, and the numbers of nodes and links to Report.
 /// - `assign` reads the node, link, movement and demand table, iterates routes, loadings, link
 ///   times and gaps (successive averages over a queue-based simulator, Zhou and Taylor 2014), and
 ///   puts Agent, LinkTime, Gap and Report, in this order. With `--start` it reads an earlier agent
@@ -166,9 +166,9 @@ fn answer<R: AllocGlobal + Threads + Wait + Sync, D: Desk + Send, G: Gate + Sync
 /// - `counts` does the work of `assign`, and puts the counts of turns over the last loading, and
 ///   through a link, to Counts, and Report.
 /// - `sweep` puts the texts of an assignment for each multiple of the demand to Sweep, and Report.
-/// - `audit` reads an agent table and a table of link times beside the tables of an assignment, and
-///   reports whether they are what the plain loading over the agents' routes gives, or the first
-///   place that differs, and then answers Differs.
+/// - `audit` reads an agent table and a table of link times beside the tables of an assignment,
+///   and reports whether they are what the plain loading over the agents' routes gives, or the
+///   first place that differs, and then answers Differs.
 ///
 /// With a watch, each iteration puts states of its loading to Watch, the last one once it is
 /// loaded. The loadings of iterations are by workers, who pass the gate, unless the words ask for

@@ -27,7 +27,8 @@ pub record IsSplit (text whole fraction rest : List ℕ) : Type 0 where
       (text ≡ whole ++ (46 ∷ (fraction ++ rest)))
       ⊎ ((text ≡ whole ++ rest) × (fraction ≡ []) × (begins_with is_point rest ≡ false))
 
--- the power of ten that the end of a quantity gives it, where it is an end: nothing, or an exponent
+-- the power of ten that the end of a quantity gives it, where it is an end: nothing, or an
+-- exponent
 abbrev pub end_of : List ℕ → Option Tens
 end_of [] = Some (record { up = 0; down = 0 })
 end_of (mark ∷ text) =

@@ -7,8 +7,8 @@ ghost use Rattle.fixed_units.specs.Reading.{IsLeading, begins_with};
 
 use crate::digits::is_digit;
 
-/// Digits are dropped once those before them write as much as this: a number with one digit more is
-/// above every range.
+/// Digits are dropped once those before them write as much as this: a number with one digit more
+/// is above every range.
 pub(crate) const ENOUGH: u64 = 1_000_000_000_000_000_000;
 
 /// What the first digits of a number write, and how many digits after them were dropped.

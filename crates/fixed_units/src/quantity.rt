@@ -55,8 +55,8 @@ fn unsigned_quantity(minus: bool, text: &[u8]) -> Result<u64, NumberFault>
     )
 }
 
-/// The law that the quantities are exactly what the grammar of specs/Spelling.antt spells, and that
-/// `milli` reads each by its exact value.
+/// The law that the quantities are exactly what the grammar of specs/Spelling.antt spells, and
+/// that `milli` reads each by its exact value.
 pub fn quantities_are_spellings()
     ensures read { SpellingsAreRead }
     ensures spelled { QuantitiesAreSpelled }

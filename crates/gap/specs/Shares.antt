@@ -19,8 +19,8 @@ IsPart number size count share part =
     (over_vehicles (cut_at size count share) number + part
     ≡ over_vehicles (cut_at size count (share + 1)) number) × (part ≤ count * 2 ^ 82)
 
--- what the time of routes is measured in: a short table of the network's links, and a walk for each
--- trip that has a route
+-- what the time of routes is measured in: a short table of the network's links, and a walk for
+-- each trip that has a route
 pub record IsMeasure (net : NetRows) (times : TimeTable) (trips : List Trip)
     (routes : List (Option (List LinkNo))) : Type 0 where
   pub table : length times.free ≡ length net.links

@@ -138,8 +138,8 @@ pub fn gap_line(
     line_of(route_steps, all_least_steps(routes, told))
 }
 
-/// The same as [`gap_line`], with the routes walked by shares of the vehicles side by side: at most
-/// four, and at most as many as there are workers.
+/// The same as [`gap_line`], with the routes walked by shares of the vehicles side by side: at
+/// most four, and at most as many as there are workers.
 pub fn gap_line_by_shares<R: AllocGlobal + Threads + Sync>(
     rt: &R,
     net: &Net,

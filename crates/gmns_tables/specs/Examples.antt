@@ -157,8 +157,8 @@ links_second : net_verdict metric (records node_text) (records (codes "link\n"))
 unfolding the_examples
 links_second = refl
 
--- ---- lenient tables: a byte order mark, further columns, quoted fields, empty fields, identifiers
--- such as 1.0
+-- ---- lenient tables: a byte order mark, further columns, quoted fields, empty fields,
+-- identifiers such as 1.0
 
 lenient_nodes : nodes_of (239 ∷ 187 ∷ 191 ∷
     codes "name,node_id,osm_node_id,osm_highway,zone_id,ctrl_type,x_coord,y_coord\n"

@@ -50,7 +50,8 @@ abbrev pub lanes_of : List ℕ → Result ℕ Complaint
 lanes_of text =
     then_with (quantity_or DEFAULT_LANES column.Lanes text) (within column.Lanes 0 MOST_LANES)
 
--- a speed of so many thousandths of a unit; where there is none, the default in kilometres per hour
+-- a speed of so many thousandths of a unit; where there is none, the default in kilometres per
+-- hour
 abbrev pub speed_or_default : SpeedUnit → Option ℕ → Result Speed Complaint
 speed_or_default unit None = Ok (speed_of DEFAULT_SPEED Kmh)
 speed_or_default unit (Some thousandths) =
@@ -71,8 +72,8 @@ steps_told (Err _) = Err (complain code.E11 column.FreeSpeed)
 abbrev pub capacity_of : List ℕ → Result ℕ Complaint
 capacity_of text = quantity_or DEFAULT_CAPACITY column.Capacity text
 
--- the link of a record after the links before it, and its windows, whose rates are by its lanes, or
--- the first check that fails
+-- the link of a record after the links before it, and its windows, whose rates are by its lanes,
+-- or the first check that fails
 unfoldable pub link_of : List NodeRow → Units → Checks (WithWindows LinkRow)
 link_of nodes units before r =
     then_with (identifier column.LinkId (text r column.LinkId)) (λ id.

@@ -108,8 +108,8 @@ impl Accepted for LinkTable<'_> {
 /// and `length`, and the optional columns `directed`, `lanes`, `free_speed`, `capacity` and
 /// `capacity_by_step`. Lengths and speeds are in the units of the run, capacities in vehicles per
 /// hour and lane. Where a field is empty there is one lane, a speed of 50 kilometres per hour in
-/// either unit of speed, a capacity of 1800, and the same capacity in all steps. The refusal is the
-/// table's first fault, or want of memory.
+/// either unit of speed, a capacity of 1800, and the same capacity in all steps. The refusal is
+/// the table's first fault, or want of memory.
 pub fn read_links(
     alloc: Global,
     nodes: &NodeRows,

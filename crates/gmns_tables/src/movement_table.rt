@@ -88,8 +88,8 @@ impl Accepted for MovementTable<'_> {
     }
 }
 
-/// Reads a movement table of GMNS over its nodes and links: the columns `node_id`, `ib_link_id` and
-/// `ob_link_id`, and the optional columns `penalty`, in seconds, and `capacity` and
+/// Reads a movement table of GMNS over its nodes and links: the columns `node_id`, `ib_link_id`
+/// and `ob_link_id`, and the optional columns `penalty`, in seconds, and `capacity` and
 /// `capacity_by_step`, in vehicles per hour. Where a field is empty there is no penalty, no limit,
 /// and the same limit in all steps. The refusal is the table's first fault, or want of memory. A
 /// text of zero bytes stands for no table, and isn't read.

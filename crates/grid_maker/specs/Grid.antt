@@ -28,8 +28,8 @@ node_line n place =
 unfoldable pub node_text : ℕ → List ℕ
 node_text n = node_header ++ flat_map (node_line n) (places n)
 
--- the link table: a line for each link. A link's identifier is its number, and all have one lane, a
--- free speed of 40 and a capacity of 900
+-- the link table: a line for each link. A link's identifier is its number, and all have one lane,
+-- a free speed of 40 and a capacity of 900
 unfoldable pub link_header : List ℕ
 link_header = codes "link_id,from_node_id,to_node_id,length,lanes,free_speed,capacity\n"
 

@@ -1,6 +1,7 @@
 -- What a rider is inside.
 use Rattle.std.specs.List.{last_or}
-use Rattle.std.specs.Prelude.{◌≡◌, ◌≤◌, ◌+◌, IsSome, None, drop, length, option_map, slice_get, take}
+use Rattle.std.specs.Prelude.{◌≡◌, ◌≤◌, ◌+◌, IsSome, None, drop, length, option_map, slice_get}
+use Rattle.std.specs.Prelude.{take}
 use Rattle.std.specs.Vec.{vec_len, vec_capacity}
 use Rattle.dta_model.specs.Riders.{RiderState}
 use Rattle.link_queues.specs.declared.rider.Rider.TheInside.{Inside}

@@ -3,9 +3,9 @@
 //! A [`Rider`] is a vehicle on its way along a route that is its own. A [`Line`] holds riders in
 //! order, and its promise is that each call is the one on a list. A move takes the first rider of
 //! a line to the end of another, whatever their lengths, and takes no memory: the room for a
-//! rider's entry steps is there from the start. [`Leavings`] are how many left a link in each of its
-//! last steps, as a list of numbers. [`Rider::new`], [`Line::push`] and [`Leavings::new`] alone take
-//! memory.
+//! rider's entry steps is there from the start. [`Leavings`] are how many left a link in each of
+//! its last steps, as a list of numbers. [`Rider::new`], [`Line::push`] and [`Leavings::new`]
+//! alone take memory.
 #![tactic(auto)]
 
 mod leavings;

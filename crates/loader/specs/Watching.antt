@@ -24,8 +24,8 @@ last_from n (m ∷ others) = last_from m others
 abbrev pub steps_of : List Eight → List ℕ
 steps_of states = map (λ (e : Eight). e.steps) states
 
--- the board showed each of these states, and the steps of each have more whole multiples of `every`
--- than those before
+-- the board showed each of these states, and the steps of each have more whole multiples of
+-- `every` than those before
 abbrev pub AreShown : List Eight → (every : ℕ) → ℕ → List Eight → Type 0
 AreShown posted every steps [] = ⊤
 AreShown posted every steps (e ∷ others) =
@@ -54,8 +54,8 @@ pub record IsSameWatch (old new : Watcher) : Type 0 where
   pub watch : new.watch ≡ old.watch
   pub board : new.monitor.board ≡ old.monitor.board
 
--- there is a watch, and the steps of a state have more whole multiples of `every` than those of the
--- last line
+-- there is a watch, and the steps of a state have more whole multiples of `every` than those of
+-- the last line
 pub record IsMore (w : Watcher) (e : Eight) : Type 0 where
   pub watches : 1 ≤ w.watch.every
   pub more : multiples w.watch.every w.last < multiples w.watch.every e.steps

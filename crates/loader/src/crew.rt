@@ -25,8 +25,8 @@ const SLEEP_WITH_UNIT: u32 = 100;
 
 const SLEEP_WITHOUT: u32 = 2000;
 
-// Waits until the next unit could be opened at once. So a worker seldom holds a unit while it waits,
-// and the others can do without it.
+// Waits until the next unit could be opened at once. So a worker seldom holds a unit while it
+// waits, and the others can do without it.
 fn wait_for_unit<R: Wait>(rt: &R, floor: &Floor, pass: &Pass) {
     let mut pauses = Pauses::up_to(SLEEP_WITHOUT);
     for _ in rt.forever() {
@@ -139,8 +139,8 @@ pub(crate) fn crew<R: Threads + Wait + Sync, G: Gate + Sync>(
     }
 }
 
-// Worker 0 of so many works until no unit is left, and puts watch lines meanwhile. Where it is alone
-// it can open each unit at once, and needn't look before it claims.
+// Worker 0 of so many works until no unit is left, and puts watch lines meanwhile. Where it is
+// alone it can open each unit at once, and needn't look before it claims.
 fn lead<R: Wait, G: Gate, D: Desk>(
     rt: &R,
     floor: &Floor,
@@ -171,8 +171,8 @@ fn lead<R: Wait, G: Gate, D: Desk>(
 }
 
 /// Performs all units of a floor, by so many workers. The calling thread is worker 0, which puts
-/// the watch lines meanwhile. If no thread can be made, the workers run one after another. It takes
-/// no memory.
+/// the watch lines meanwhile. If no thread can be made, the workers run one after another. It
+/// takes no memory.
 pub fn perform_all<R: Threads + Wait + Sync, G: Gate + Sync, D: Desk + Send>(
     rt: &R,
     floor: &Floor,

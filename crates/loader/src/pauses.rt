@@ -13,9 +13,9 @@ const YIELDS: u32 = 100;
 // The microseconds of its first sleep, by which each further one is longer.
 const FIRST_SLEEP: u32 = 50;
 
-/// The pauses of a worker between two looks at what the others have done: it spins, then lets other
-/// threads go first, then sleeps. So one that waits for a moment loses no time, and one that waits
-/// for long leaves the processors to others.
+/// The pauses of a worker between two looks at what the others have done: it spins, then lets
+/// other threads go first, then sleeps. So one that waits for a moment loses no time, and one that
+/// waits for long leaves the processors to others.
 #[derive(Clone, Copy, Debug)]
 pub struct Pauses {
     taken: u32,

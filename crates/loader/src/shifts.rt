@@ -8,8 +8,8 @@ const SHORTEST: u32 = 256;
 
 const LONGEST: u32 = 32_768;
 
-// The microseconds between two looks of a worker that stands by, and the units that the others claim
-// meanwhile where they get on fast: four in a microsecond.
+// The microseconds between two looks of a worker that stands by, and the units that the others
+// claim meanwhile where they get on fast: four in a microsecond.
 const BETWEEN_LOOKS: u32 = 2000;
 
 const FAST: u64 = 8000;
@@ -37,8 +37,8 @@ impl Shift {
         self.worked >= self.length
     }
 
-    /// The shift after standing by: a short one where the others got on fast, and else twice as long
-    /// as the last one.
+    /// The shift after standing by: a short one where the others got on fast, and else twice as
+    /// long as the last one.
     pub fn after(self, fast: bool) -> Self {
         let length = if fast {
             SHORTEST

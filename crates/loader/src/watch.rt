@@ -13,8 +13,8 @@ use monitors::{Board, MonitorPass, WriterPass};
 use reports::put_watch;
 use std::sync::Wait;
 
-/// Which watch lines a loading puts: those of an iteration, one for about every so many steps. None
-/// where `every` is 0.
+/// Which watch lines a loading puts: those of an iteration, one for about every so many steps.
+/// None where `every` is 0.
 #[derive(Clone, Copy, Debug, PartialEq, Eq)]
 pub struct Watch {
     pub iteration: u32,
@@ -47,8 +47,8 @@ impl Watcher {
         }
     }
 
-    /// Reads the board, and puts the line of its state where the steps have more whole multiples of
-    /// `every` than those of the last line. Once a put failed it does nothing.
+    /// Reads the board, and puts the line of its state where the steps have more whole multiples
+    /// of `every` than those of the last line. Once a put failed it does nothing.
     pub fn look<R: Wait, D: Desk>(&mut self, rt: &R, board: &Board, desk: &mut D)
         requires own { self.old.monitor.board ≡ board.now }
         ensures same { IsSameWatch self.old self.new }
@@ -65,8 +65,9 @@ impl Watcher {
         }
     }
 
-    /// Settles with the writer, whose states are those of all steps of a loading, and puts the line
-    /// of the last one unless it was put. Failed tells that this put failed or an earlier one.
+    /// Settles with the writer, whose states are those of all steps of a loading, and puts the
+    /// line of the last one unless it was put. Failed tells that this put failed or an earlier
+    /// one.
     pub fn end<R: Wait, D: Desk>(
         self,
         rt: &R,

@@ -20,7 +20,8 @@ rows_of net = record {
 pub record IsIndexed (net : Inside) : Type 0 where
   pub rows : IsNet (rows_of net)
   pub ins :
-      AreListed net.ins (length net.nodes.items) (end_of net.links.items) (all_links net.links.items)
+      AreListed net.ins (length net.nodes.items) (end_of net.links.items)
+      (all_links net.links.items)
   pub outs :
       AreListed net.outs (length net.nodes.items) (start_of net.links.items)
       (all_links net.links.items)

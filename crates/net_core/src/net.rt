@@ -59,8 +59,8 @@ impl Model for Net {
 }
 
 impl Net {
-    /// The network with these rows, each link and each listed turn with the same rate in all steps.
-    /// Zones are numbered in the order of their first appearance.
+    /// The network with these rows, each link and each listed turn with the same rate in all
+    /// steps. Zones are numbered in the order of their first appearance.
     pub fn of(
         alloc: Global,
         nodes: Vec<NodeRow>,

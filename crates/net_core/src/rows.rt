@@ -61,9 +61,9 @@ pub struct Turn {
     pub rate: Option<u64>,
 }
 
-/// A network as clauses see it: its rows, in the order of their tables, and the windows of links and
-/// of listed turns in the same order. A row that has no entry there has no windows. No value of it
-/// is made.
+/// A network as clauses see it: its rows, in the order of their tables, and the windows of links
+/// and of listed turns in the same order. A row that has no entry there has no windows. No value
+/// of it is made.
 pub struct NetRows {
     pub nodes: LinkedList<NodeRow>,
     pub links: LinkedList<LinkRow>,

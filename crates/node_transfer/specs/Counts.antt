@@ -10,8 +10,8 @@ use Rattle.dta_model.specs.declared.plan.Plan.{Plan}
 use Rattle.link_queues.specs.Lines.{due}
 use Rattle.node_transfer.specs.declared.cell.CellCounts.{CellCounts}
 
--- of node n after t steps: those who wait for its out-links and are due, those on its in-links, and
--- those who arrived at it
+-- of node n after t steps: those who wait for its out-links and are due, those on its in-links,
+-- and those who arrived at it
 abbrev pub counts_at : Plan → ℕ → ℕ → CellCounts
 counts_at p n t = record {
   waiting = sum_by (λ b. due t (waiting_before p t b)) (outs p n);

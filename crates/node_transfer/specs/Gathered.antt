@@ -14,8 +14,8 @@ mail_line Away = []
 mail_line (Room s room) = []
 mail_line (Batch s line) = line
 
--- the room that a storage leaves beside a line and those who left lately; there is no bound without
--- a storage
+-- the room that a storage leaves beside a line and those who left lately; there is no bound
+-- without a storage
 abbrev pub room_after : Option ℕ → List RiderState → List ℕ → Option ℕ
 room_after storage line left = option_map (λ s. s - (length line + sum left)) storage
 

@@ -60,8 +60,8 @@ CellsHoldAll =
     (p : Plan) → IsSound p → (t : ℕ) (f g : ℕ → Mail)
     → AreVehicles p t (flat_map riders_in (map (λ n. cell_before p n t f g) (all_nodes p)))
 
--- a cell in the next step is what the transfer left of it, with the batch at the end of the line of
--- each in-link and the room that is left there told
+-- a cell in the next step is what the transfer left of it, with the batch at the end of the line
+-- of each in-link and the room that is left there told
 abbrev pub CellsGather : Type 0
 CellsGather =
     (p : Plan) → IsSound p → (t n : ℕ) → n < length p.net.nodes

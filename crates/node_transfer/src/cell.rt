@@ -100,7 +100,8 @@ impl NodeCell {
         self.work(Half::Gather, step);
     }
 
-    /// Does a half of a step. The mail of its links is what that takes, and becomes what it leaves.
+    /// Does a half of a step. The mail of its links is what that takes, and becomes what it
+    /// leaves.
     pub fn work(&mut self, half: Half, step: u32)
         requires { (p : Plan) × (n : ℕ) × IsStep p n step
             × (self.old ≡ half_before half p n step (mail_before half p step)) }
@@ -117,10 +118,10 @@ impl NodeCell {
         }
     }
 
-    /// The first step in which somebody of the cell is ready, unless somebody comes: the head of an
-    /// in-link has been on it for long enough, or one who waits is due. It is 0 where somebody left
-    /// an in-link in the last steps, so that its room may grow, and [`NO_STEP`] where nobody ever
-    /// is ready.
+    /// The first step in which somebody of the cell is ready, unless somebody comes: the head of
+    /// an in-link has been on it for long enough, or one who waits is due. It is 0 where somebody
+    /// left an in-link in the last steps, so that its room may grow, and [`NO_STEP`] where nobody
+    /// ever is ready.
     pub fn next_step(&self) -> u32
         ensures quiet { (step : ℕ) → step < result → IsQuiet step self.now }
         ensures least { result < NO_STEP → IsQuiet result self.now → ⊥ }
@@ -201,7 +202,8 @@ impl NodeCell {
     pub fn on_link(&self, place: usize) -> u64
         requires { place < length self.now.ins }
         ensures line { IfSome (slice_get self.now.ins place) (λ link. result ≡ length link.line) }
-        // before the transfer of step t it is the number of the vehicles on that link after t steps
+        // before the transfer of step t it is the number of the vehicles on that link after t
+        // steps
         ensures count { (p : Plan) (n t l : ℕ)
             → self.now ≡ cell_before p n t away away → slice_get (ins p n) place ≡ Some l
             → result ≡ count_on (trace_after p t) l }

@@ -25,14 +25,14 @@ pub fn cells_hand_over()
     ensures { CellsHandOver }
 {}
 
-/// At a node where nobody is ready nobody moves: a transfer leaves its cell as it is, and so does a
-/// gather where nobody comes.
+/// At a node where nobody is ready nobody moves: a transfer leaves its cell as it is, and so does
+/// a gather where nobody comes.
 pub fn quiet_nodes_stay_idle()
     ensures { QuietNodesStayIdle }
 {}
 
-/// The counts of all cells after a number of steps add up to those of the loading: who waits and is
-/// due, who is on a link, and who has arrived.
+/// The counts of all cells after a number of steps add up to those of the loading: who waits and
+/// is due, who is on a link, and who has arrived.
 pub fn counts_add_up()
     ensures { CountsAddUp }
 {}

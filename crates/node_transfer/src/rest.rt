@@ -22,8 +22,8 @@ pub fn head_step(link: &InLink) -> u32
     }
 }
 
-// The first step in which the head of an in-link is ready, or its room may grow since somebody left
-// it in the last steps.
+// The first step in which the head of an in-link is ready, or its room may grow since somebody
+// left it in the last steps.
 fn ready_step(link: &InLink) -> u32
     ensures before { (step : ℕ) → step < result → IsQuietLink step link.now }
     ensures least { result < NO_STEP → IsQuietLink result link.now → ⊥ }

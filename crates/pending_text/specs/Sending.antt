@@ -5,7 +5,8 @@ use Rattle.desk_io.specs.Desk.{Taken, grown}
 use Rattle.desk_io.specs.State.{DeskState}
 use Rattle.desk_io.specs.Transfers.{IsPartOut, OnlyPuts}
 
--- a text was added to what was pending: some of both together went out, and the rest is pending now
+-- a text was added to what was pending: some of both together went out, and the rest is pending
+-- now
 pub record IsAdded (output : Output) (text pending pending_now : List ℕ) (before after : Taken)
     : Type 0 where
   pub sent : List ℕ

@@ -32,8 +32,8 @@ pub record AreApart (n : ℕ) (v u : View) : Type 0 where
 
 -- what holds of a floor's words, of the views of its passes and of its places by its rule
 pub record AreClaims (k : Scope) (s : State Part View) (h : Holds k s) : Type 0 where
-  -- the words and the views are claims of the claim machine: it has finished a unit exactly where a
-  -- pass has performed it, and as many units as the third word says
+  -- the words and the views are claims of the claim machine: it has finished a unit exactly where
+  -- a pass has performed it, and as many units as the third word says
   pub performed :
       (x : ℕ) → done_in k.plan (claims_of h.drawn s.views) x ≡ performed_by s.views x
   pub counted : finished k.plan (claims_of h.drawn s.views) ≡ h.finished

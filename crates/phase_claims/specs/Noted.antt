@@ -14,7 +14,8 @@ use Rattle.node_transfer.specs.declared.half.HalfStep.{HalfStep}
 abbrev pub counts_of : CellState → CellCounts
 counts_of s = counted s.ins s.outs s.arrived
 
--- what is noted of a cell: below a step nobody of it is ready, and its counts, where they are known
+-- what is noted of a cell: below a step nobody of it is ready, and its counts, where they are
+-- known
 pub record IsNoted (s : CellState) (wake : ℕ) (known : Option CellCounts) : Type 0 where
   pub quiet : (step : ℕ) → step < wake → IsQuiet step s
   pub counts : IfSome known (λ noted. noted ≡ counts_of s)

@@ -89,8 +89,8 @@ AnswersOpen old finished views answer.Yes new =
 AnswersOpen old finished views (answer.NotYet told) new =
     (finished < first_of_phase old) × (told ≡ finished) × (new ≡ seeing old finished)
 
--- what an open does: it reads how many units are finished in a state of the floor, no fewer than the
--- pass has seen before and than it has performed itself
+-- what an open does: it reads how many units are finished in a state of the floor, no fewer than
+-- the pass has seen before and than it has performed itself
 pub record Opens (old : View) (result : Open) (new : View) : Type 0 where
   pub finished : ℕ
   pub stands : StandsIn old finished

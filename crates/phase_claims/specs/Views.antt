@@ -71,7 +71,8 @@ unit_in stage.Ended = 0
 abbrev pub first_of_phase : View → ℕ
 first_of_phase v = phase_start (node_count v.scope.plan) (unit_in v.stage)
 
--- how many units a pass has performed, how often it has performed unit x, and how often it holds it
+-- how many units a pass has performed, how often it has performed unit x, and how often it holds
+-- it
 abbrev pub performed_count : View → ℕ
 performed_count v = length v.performed
 

@@ -71,8 +71,8 @@ impl<'a> Model for Floor<'a> {
 }
 
 impl<'a> Floor<'a> {
-    /// A floor of a loading, with nothing claimed, and its first pass, from which the others can be
-    /// split off. Where there isn't enough memory the writer is dropped.
+    /// A floor of a loading, with nothing claimed, and its first pass, from which the others can
+    /// be split off. Where there isn't enough memory the writer is dropped.
     pub fn new(
         alloc: Global,
         loading: &Loading<'a>,

@@ -1,9 +1,9 @@
 // Laws of the running rule. Each is the contract of a function that does nothing.
 ghost use Rattle.phase_claims.specs.Laws.{FloorsAreClaims, StatesAreShown};
 
-/// The words and the views of a floor are claims of the claim machine: no unit is held or performed
-/// by two passes, no phase begins before the earlier ones are finished, and the writer's pass has
-/// posted the states of the postings performed.
+/// The words and the views of a floor are claims of the claim machine: no unit is held or
+/// performed by two passes, no phase begins before the earlier ones are finished, and the writer's
+/// pass has posted the states of the postings performed.
 pub fn floors_are_claims()
     ensures { FloorsAreClaims }
 {}

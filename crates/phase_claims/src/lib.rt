@@ -1,13 +1,13 @@
 //! The units of a loading, claimed by passes in any threads.
 //!
 //! A [`Floor`] counts in one shared word the numbers drawn, and in another the units finished. A
-//! [`Pass`] claims the next unit, opens it as soon as all units of earlier phases are finished, and
-//! performs it. Claims and finishes are single additions and an open is one load, so no pass ever
-//! waits for another. The promise is that of the claim machine, whatever the threads do between two
-//! steps: each unit is held or performed by one pass at most, no phase begins before the earlier
-//! ones are finished, and a place that no open unit uses has what the performed units left there.
-//! specs/Running.antt is the rule that each step keeps: [`Floor::table`] says that it is the rule
-//! of the floor's table. [`Floor::new`] alone takes memory.
+//! [`Pass`] claims the next unit, opens it as soon as all units of earlier phases are finished,
+//! and performs it. Claims and finishes are single additions and an open is one load, so no pass
+//! ever waits for another. The promise is that of the claim machine, whatever the threads do
+//! between two steps: each unit is held or performed by one pass at most, no phase begins before
+//! the earlier ones are finished, and a place that no open unit uses has what the performed units
+//! left there. specs/Running.antt is the rule that each step keeps: [`Floor::table`] says that it
+//! is the rule of the floor's table. [`Floor::new`] alone takes memory.
 #![tactic(auto)]
 
 mod floor;

@@ -14,7 +14,8 @@ pub struct Key<'a> {
     pub passes: u32,
 }
 
-/// The rule of a floor's table, between any two steps, whatever the threads do: specs/Running.antt.
+/// The rule of a floor's table, between any two steps, whatever the threads do:
+/// specs/Running.antt.
 pub struct Claiming;
 
 impl<'a> TableRule<Part, View, Key<'a>> for Claiming {

@@ -72,8 +72,8 @@ pub(crate) fn is_told<V, K, P: TableRule<Part, V, K>>(
     told
 }
 
-/// Whether it is known that nobody of the cell in the first place that the seat holds is ready in a
-/// step. It stays there, which stays the first place.
+/// Whether it is known that nobody of the cell in the first place that the seat holds is ready in
+/// a step. It stays there, which stays the first place.
 pub(crate) fn is_quiet<V, K, P: TableRule<Part, V, K>>(
     shared: &Shared<Part, V, K, P>,
     seat: &mut Seat<Part, V>,

@@ -76,8 +76,8 @@ pub(crate) fn empty<V, K, P: TableRule<Part, V, K>>(
 
 /// Whether the mail of all in-links of a node tells the rooms that these leave after the transfer
 /// of a step. The cell tells them, where queues have a bound; where they have none it isn't looked
-/// at, since it may be far from the processor's cache. The seat holds the mail after another place,
-/// and turns to where it was.
+/// at, since it may be far from the processor's cache. The seat holds the mail after another
+/// place, and turns to where it was.
 pub(crate) fn are_told<V, K, P: TableRule<Part, V, K>>(
     shared: &Shared<Part, V, K, P>,
     seat: &mut Seat<Part, V>,

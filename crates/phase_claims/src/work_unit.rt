@@ -76,8 +76,8 @@ fn stays<V, K, P: TableRule<Part, V, K>>(
     }
 }
 
-// Whether the mail of all in-links of a node tells the rooms that there are. Only where queues have
-// a bound the cell is taken out and brought back.
+// Whether the mail of all in-links of a node tells the rooms that there are. Only where queues
+// have a bound the cell is taken out and brought back.
 fn tells_all<V, K, P: TableRule<Part, V, K>>(
     shared: &Shared<Part, V, K, P>,
     seat: &mut Seat<Part, V>,

@@ -1,4 +1,5 @@
--- Worked cases of the reference, computed: the texts of runs whose numbers were worked out by hand.
+-- Worked cases of the reference, computed: the texts of runs whose numbers were worked out by
+-- hand.
 use Rattle.std.specs.Prelude.{◌≡◌, ℕ, true, false, List, [], ◌∷◌, ◌++◌, None, Some, codes, map}
 use Rattle.std.specs.Prelude.{refl}
 use Rattle.desk_io.specs.declared.desk.Output.TheVariants as output
@@ -190,8 +191,8 @@ a_jam : texts_of command.Assign (record (settings command.Assign) { queue = queu
 unfolding tables_on_literals trip
 a_jam = refl
 
--- ---- a backward wave: a second link of 80 metres with room for ten of twelve vehicles, on which a
--- space is free three steps after a vehicle has left
+-- ---- a backward wave: a second link of 80 metres with room for ten of twelve vehicles, on which
+-- a space is free three steps after a vehicle has left
 abbrev behind_a_wave : NetRows
 behind_a_wave = net (link 10 0 1 10 125 3600000000
     ∷ record (link 20 1 2 1 10 3600000000) { micrometres = 80000000 } ∷ [])

@@ -24,8 +24,8 @@ chosen_route at net trip =
 
 -- ---- walks of a start table
 
--- whether links are in the table, with a turn from each to the next, and the last and no other ends
--- in the destination
+-- whether links are in the table, with a turn from each to the next, and the last and no other
+-- ends in the destination
 unfoldable pub leads_into : NetRows → (destination : ℕ) → List ℕ → Bool
 leads_into net destination [] = false
 leads_into net destination (l ∷ []) = nat_lt l (length net.links) && ends_in net destination l

@@ -61,7 +61,8 @@ three_nodes =
     ∷ record { id = 3; zone = Some 3 } ∷ []
 
 abbrev pub the_network : NetRows
-the_network = record { nodes = three_nodes; links = two_links; turns = []; link_windows = []; turn_windows = [] }
+the_network = record
+    { nodes = three_nodes; links = two_links; turns = []; link_windows = []; turn_windows = [] }
 
 free-link-times : free_link_time_text two_links
     ≡ codes "link_id,free_steps,storage\n10,10,125\n20,10,125\n"
@@ -108,8 +109,8 @@ unfolding agent_text agent_header vehicles agent_line agent_columns trip_columns
     digits
 four-vehicles = refl
 
--- the first has the route of a start table, and the others those of iterations. That of the fourth,
--- which has no route, isn't told
+-- the first has the route of a start table, and the others those of iterations. That of the
+-- fourth, which has no route, isn't told
 four-iterations : agent_text_from the_network four_trips four_routes four_journeys
     (0 ∷ 2 ∷ 1 ∷ 7 ∷ [])
     ≡ codes "agent_id,o_zone_id,d_zone_id,departure_step,arrival_step,status,link_ids,"
@@ -211,8 +212,8 @@ the-last-alone = record { before = []; ends = refl; rising = refl; apart = refl 
 a-late-line : AreWatchSteps 10 25 (13 ∷ 20 ∷ 25 ∷ [])
 a-late-line = record { before = 13 ∷ 20 ∷ []; ends = refl; rising = refl; apart = refl }
 
--- that of step 15 has no more multiples than that of step 10, nor that of step 5 than 0, and a step
--- isn't told twice
+-- that of step 15 has no more multiples than that of step 10, nor that of step 5 than 0, and a
+-- step isn't told twice
 too-soon-after-another : rises_from 0 (map (multiples 10) (10 ∷ 15 ∷ [])) ≡ false
 too-soon-after-another = refl
 

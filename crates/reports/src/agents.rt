@@ -27,7 +27,8 @@ const ITEM: usize = 24;
 const END: usize = 24;
 
 // The header of Agent, with the column of iterations where they are told.
-#[tactic(auto, unfolding(crate::specs::Texts::agent_header, crate::specs::Texts::agent_header_from))]
+#[tactic(auto, unfolding(crate::specs::Texts::agent_header,
+    crate::specs::Texts::agent_header_from))]
 fn header(since: Option<&Steps>) -> Pending
     ensures { result ≡ agent_header_by (option_copied since.entry) }
 {
@@ -54,7 +55,8 @@ fn push_step(pending: &mut Pending, step: Option<u32>)
 }
 
 // Adds the first six columns of a vehicle to what is pending.
-#[tactic(auto, using(pending_text::proofs::Joins::text), unfolding(crate::specs::Texts::trip_columns))]
+#[tactic(auto, using(pending_text::proofs::Joins::text),
+    unfolding(crate::specs::Texts::trip_columns))]
 fn push_trip(pending: &mut Pending, trip: &Trip, arrival: Option<u32>, status: AgentStatus)
     requires { length pending.old + COLUMNS ≤ PIECE }
     ensures { pending.new ≡ pending.old ++ trip_columns trip.now arrival status }

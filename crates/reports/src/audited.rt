@@ -20,7 +20,8 @@ pub struct Place {
 }
 
 // The line of a place that differs.
-#[tactic(auto, using(pending_text::proofs::Joins::text), unfolding(crate::specs::Texts::differs_line))]
+#[tactic(auto, using(pending_text::proofs::Joins::text),
+    unfolding(crate::specs::Texts::differs_line))]
 fn differs_text(place: &Place) -> Pending
     ensures { result ≡ differs_line place.now }
 {
@@ -36,7 +37,8 @@ fn differs_text(place: &Place) -> Pending
 }
 
 // The lines where no place differs.
-#[tactic(auto, using(pending_text::proofs::Joins::text), unfolding(crate::specs::Texts::audit_ok_text))]
+#[tactic(auto, using(pending_text::proofs::Joins::text),
+    unfolding(crate::specs::Texts::audit_ok_text))]
 fn ok_text(vehicles: u32, links: u32) -> Pending
     ensures { result ≡ audit_ok_text vehicles links }
 {
@@ -60,9 +62,9 @@ fn text(net: &Net, vehicles: u32, differs: Option<&Place>) -> Pending
     }
 }
 
-/// Puts Report of an audit: the one line of the first place that differs, or where none does, three
-/// lines with the numbers of vehicles and links. On Failed a first part of it went out. It takes
-/// no memory.
+/// Puts Report of an audit: the one line of the first place that differs, or where none does,
+/// three lines with the numbers of vehicles and links. On Failed a first part of it went out. It
+/// takes no memory.
 pub fn put_audit<D: Desk>(
     desk: &mut D,
     net: &Net,

@@ -25,7 +25,8 @@ fn header() -> Pending
 }
 
 // Adds the line of a link to what is pending.
-#[tactic(auto, using(pending_text::proofs::Joins::text), unfolding(crate::specs::Texts::free_link_line))]
+#[tactic(auto, using(pending_text::proofs::Joins::text),
+    unfolding(crate::specs::Texts::free_link_line))]
 fn push_link(pending: &mut Pending, row: LinkRow)
     requires { length pending.old + LINE ≤ PIECE }
     ensures { pending.new ≡ pending.old ++ free_link_line row }
@@ -63,7 +64,8 @@ fn put_links<D: Desk>(desk: &mut D, links: &[LinkRow]) -> Result<(), Failed>
 }
 
 // The report's two lines.
-#[tactic(auto, using(pending_text::proofs::Joins::text), unfolding(crate::specs::Texts::free_report_text))]
+#[tactic(auto, using(pending_text::proofs::Joins::text),
+    unfolding(crate::specs::Texts::free_report_text))]
 fn report(nodes: u32, links: u32) -> Pending
     ensures { result ≡ free_report_text nodes links }
 {

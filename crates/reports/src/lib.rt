@@ -3,8 +3,8 @@
 //!
 //! Each call puts one text (`put_free` two) to its output of a desk, in pieces of a few kilobytes,
 //! and takes no memory. Its contract names the whole text, as a function of the data that it is
-//! given (specs/Texts.antt). It answers Failed only where the desk counts one more failed put; then
-//! a first part of the text went out, and nothing after it.
+//! given (specs/Texts.antt). It answers Failed only where the desk counts one more failed put;
+//! then a first part of the text went out, and nothing after it.
 #![tactic(auto)]
 
 mod agents;

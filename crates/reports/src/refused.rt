@@ -13,7 +13,8 @@ use pending_text::Pending;
 use row_reader::TableFault;
 
 // The line of a table's first fault.
-#[tactic(auto, using(pending_text::proofs::Joins::text), unfolding(crate::specs::Texts::refusal_line))]
+#[tactic(auto, using(pending_text::proofs::Joins::text),
+    unfolding(crate::specs::Texts::refusal_line))]
 fn fault_line(fault: TableFault) -> Pending
     ensures { result ≡ refusal_line (why.Table fault) }
 {
@@ -30,7 +31,8 @@ fn fault_line(fault: TableFault) -> Pending
 }
 
 // The line of a table that couldn't be read.
-#[tactic(auto, using(pending_text::proofs::Joins::text), unfolding(crate::specs::Texts::refusal_line))]
+#[tactic(auto, using(pending_text::proofs::Joins::text),
+    unfolding(crate::specs::Texts::refusal_line))]
 fn read_line(table: Table) -> Pending
     ensures { result ≡ refusal_line (why.Read table) }
 {
@@ -42,7 +44,8 @@ fn read_line(table: Table) -> Pending
 }
 
 // The line of a table that is too long.
-#[tactic(auto, using(pending_text::proofs::Joins::text), unfolding(crate::specs::Texts::refusal_line))]
+#[tactic(auto, using(pending_text::proofs::Joins::text),
+    unfolding(crate::specs::Texts::refusal_line))]
 fn long_line(table: Table) -> Pending
     ensures { result ≡ refusal_line (why.LongTable table) }
 {
@@ -72,7 +75,8 @@ fn link_steps_line(links: u32, steps: u32, limit: u64) -> Pending
 }
 
 // The line of too many vehicles.
-#[tactic(auto, using(pending_text::proofs::Joins::text), unfolding(crate::specs::Texts::refusal_line))]
+#[tactic(auto, using(pending_text::proofs::Joins::text),
+    unfolding(crate::specs::Texts::refusal_line))]
 fn vehicles_line(at: u64, total: u64) -> Pending
     ensures { result ≡ refusal_line (why.Vehicles at total) }
 {
@@ -88,7 +92,8 @@ fn vehicles_line(at: u64, total: u64) -> Pending
 }
 
 // The line of a skim with too many entries.
-#[tactic(auto, using(pending_text::proofs::Joins::text), unfolding(crate::specs::Texts::refusal_line))]
+#[tactic(auto, using(pending_text::proofs::Joins::text),
+    unfolding(crate::specs::Texts::refusal_line))]
 fn skim_line(number: u128) -> Pending
     ensures { result ≡ refusal_line (why.SkimPairs number) }
 {

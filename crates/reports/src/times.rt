@@ -51,7 +51,8 @@ fn step_after(times: &LinkTimes, bucket: u32) -> u64
 }
 
 // Adds the line of a bucket to what is pending.
-#[tactic(auto, using(pending_text::proofs::Joins::text), unfolding(crate::specs::Texts::bucket_line))]
+#[tactic(auto, using(pending_text::proofs::Joins::text),
+    unfolding(crate::specs::Texts::bucket_line))]
 fn push_bucket(pending: &mut Pending, net: &Net, times: &LinkTimes, link: LinkNo, bucket: u32)
     requires room { length pending.old + LINE ≤ PIECE }
     requires free { times.now.free ≡ free_steps net.now }
@@ -97,7 +98,8 @@ fn add_bucket<D: Desk>(
 }
 
 // Adds the lines of a link.
-#[tactic(auto, using(pending_text::proofs::SendingFacts::starts), unfolding(crate::specs::Texts::link_lines))]
+#[tactic(auto, using(pending_text::proofs::SendingFacts::starts),
+    unfolding(crate::specs::Texts::link_lines))]
 fn add_link<D: Desk>(
     pending: &mut Pending,
     desk: &mut D,

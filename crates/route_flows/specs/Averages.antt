@@ -29,8 +29,8 @@ pub record AreChosenRoutes (at : ℕ → ℕ → ℕ) (net : NetRows) (trips : L
 abbrev pub AreFirstRoutes : NetRows → List Trip → List (Option (List LinkNo)) → Type 0
 AreFirstRoutes net trips routes = AreChosenRoutes (free_time net) net trips routes
 
--- the first route of a vehicle: the walk of a row of a start table that fits it, or its chosen walk
--- where no row does
+-- the first route of a vehicle: the walk of a row of a start table that fits it, or its chosen
+-- walk where no row does
 abbrev pub StartsOn : (ℕ → ℕ → ℕ) → NetRows → List StartRow → Trip → Option (List LinkNo) → Type 0
 StartsOn at net start trip route =
     ((walk : List LinkNo) × (route ≡ Some walk) × IsStarted net start trip walk)
@@ -57,7 +57,8 @@ pub record AreNextRoutes (at : ℕ → ℕ → ℕ) (net : NetRows) (trips : Lis
       → slice_get trips v ≡ Some trip → slice_get new v ≡ Some route → WalkOf at net trip route
   pub others : (v : ℕ) → is_selected v k ≡ false → slice_get new v ≡ slice_get old v
 
--- the iteration after k is the last one, of so many, for which a vehicle takes its chosen walk anew
+-- the iteration after k is the last one, of so many, for which a vehicle takes its chosen walk
+-- anew
 pub record IsLastRenewal (v iterations k : ℕ) : Type 0 where
   pub least : 1 ≤ k
   pub most : k < iterations

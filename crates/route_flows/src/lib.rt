@@ -12,10 +12,10 @@
 //! iteration it last took its route. Other tables that name links are read with [`ids_in`], and
 //! [`walk_named`] tells the walk that such identifiers name.
 //!
-//! Destinations are worked in groups of up to eight, by shares side by side, at most four and at most
-//! as many as there are workers, in threads where they can be made. A share takes the next group as
-//! soon as it is through with one, and the labels of a group take the place of those before. A
-//! destination to which no selected vehicle goes has none.
+//! Destinations are worked in groups of up to eight, by shares side by side, at most four and at
+//! most as many as there are workers, in threads where they can be made. A share takes the next
+//! group as soon as it is through with one, and the labels of a group take the place of those
+//! before. A destination to which no selected vehicle goes has none.
 #![tactic(auto)]
 
 mod flows;

@@ -93,7 +93,8 @@ said : text (record { header = header; fields = codes "1" ∷ codes " 7" ∷ cod
 unfolding tables_on_literals header
 said = refl
 
-unsaid : text (record { header = header; fields = codes "1" ∷ codes "7" ∷ codes "2" ∷ []; line = 2 })
+unsaid : text
+    (record { header = header; fields = codes "1" ∷ codes "7" ∷ codes "2" ∷ []; line = 2 })
     column.NodeId ≡ []
 unfolding tables_on_literals header
 unsaid = refl

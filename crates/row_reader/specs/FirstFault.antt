@@ -1,5 +1,5 @@
--- The first fault of a table: the least line at which a check fails, and there the first check that
--- fails.
+-- The first fault of a table: the least line at which a check fails, and there the first check
+-- that fails.
 use Rattle.std.specs.Prelude.{ℕ, ◌+◌, ◌≡◌, List, [], ◌∷◌, ◌++◌, length, Result, Ok, Err}
 use Rattle.std.specs.Prelude.{if◌then◌else◌, nat_le, ⊤}
 use Rattle.desk_io.specs.declared.desk.Table.{Table}

@@ -73,8 +73,11 @@ pub enum Column {
     NoColumn,
 }
 
+// How many columns there are, no column among them.
+pub(crate) const COLUMNS: usize = 29;
+
 // Each column, at its number.
-pub(crate) const ALL_COLUMNS: [Column; 29] = [
+pub(crate) const ALL_COLUMNS: [Column; COLUMNS] = [
     Column::NodeId,
     Column::ZoneId,
     Column::LinkId,

@@ -92,8 +92,8 @@ impl<'a> Fields<'a> {
         self.row.line()
     }
 
-    /// The field of a column, without the spaces and tabs at its ends. Empty where the header lacks
-    /// the column.
+    /// The field of a column, without the spaces and tabs at its ends. Empty where the header
+    /// lacks the column.
     pub fn text(&self, column: Column) -> &'a [u8]
         ensures { result.now ≡ text self.now column }
     {
@@ -142,8 +142,8 @@ impl<'a> Fields<'a> {
         thousandths(column, text)
     }
 
-    /// The thousandths of the quantity in an optional field, or none where it is empty: E4 where it
-    /// is no quantity, E5 where it is out of range.
+    /// The thousandths of the quantity in an optional field, or none where it is empty: E4 where
+    /// it is no quantity, E5 where it is out of range.
     #[tactic(auto, unfolding(crate::specs::Fields::optional_quantity))]
     pub fn optional_quantity(&self, column: Column) -> Result<Option<u64>, Complaint>
         ensures value { result ≡ optional_quantity column (text self.now column) }

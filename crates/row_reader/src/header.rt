@@ -6,7 +6,7 @@ ghost use Rattle.row_reader.specs.Fields.{has_columns};
 ghost use Rattle.row_reader.specs.Trimmed.{trimmed};
 
 use crate::blanks::trim_blanks;
-use crate::faults::{ALL_COLUMNS, Code, Column, Complaint, column_name};
+use crate::faults::{ALL_COLUMNS, COLUMNS, Code, Column, Complaint, column_name};
 use crate::fields::unless;
 use csv::StringRecord;
 use std::marker::Model;
@@ -15,7 +15,7 @@ use std::marker::Model;
 #[derive(Drop)]
 pub(crate) struct Header {
     names: StringRecord,
-    places: [Option<usize>; 29],
+    places: [Option<usize>; COLUMNS],
 }
 
 impl Model for Header {
@@ -37,8 +37,8 @@ impl Header {
     pub(crate) fn of(names: StringRecord) -> Self
         ensures { result ≡ fields_of names }
     {
-        let mut places = [None; 29];
-        for number in 0..29 {
+        let mut places = [None; COLUMNS];
+        for number in 0..COLUMNS {
             places[number] = column_in(&names, column_name(ALL_COLUMNS[number]));
         }
         Header { names, places }

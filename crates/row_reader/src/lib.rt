@@ -1,10 +1,10 @@
 //! The records of a table, one at a time, and its rows or its first fault.
 //!
-//! [`Rows`] reads a table's records in order and answers each with its line, the end exactly at the
-//! end, or the first record that isn't text or isn't as long as the header. [`read_rows`] makes
-//! rows of a table's records, or answers the first fault: the least line at which a check fails,
-//! and there the first check that fails. A table names the columns that it must have, and supplies
-//! its checks of a line as an [`Accepted`], made of the checks of [`Fields`].
+//! [`Rows`] reads a table's records in order and answers each with its line, the end exactly at
+//! the end, or the first record that isn't text or isn't as long as the header. [`read_rows`]
+//! makes rows of a table's records, or answers the first fault: the least line at which a check
+//! fails, and there the first check that fails. A table names the columns that it must have, and
+//! supplies its checks of a line as an [`Accepted`], made of the checks of [`Fields`].
 #![tactic(auto)]
 
 mod accepted;

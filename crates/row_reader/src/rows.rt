@@ -175,8 +175,8 @@ impl<'a> Rows<'a> {
     }
 }
 
-// A reader at the start of a table. It takes 34 KB, so it lies on the heap, where want of memory is
-// answered, and in no caller's frame.
+// A reader at the start of a table. It takes 34 KB, so it lies on the heap, where want of memory
+// is answered, and in no caller's frame.
 #[inline(never)]
 fn reader_of(alloc: Global, text: &[u8]) -> Result<Box<Reader<&[u8]>>, RowFault>
     ensures fresh { IfOk result (λ reader. IsFresh reader.value text.now) }

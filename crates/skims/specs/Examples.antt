@@ -97,8 +97,8 @@ past_the_queue : (steps_in without_capacity 0 ≡ 55) × (steps_in without_capac
 unfolding arrival_after time_at turn turn_at is_named link_in
 past_the_queue = (refl, refl)
 
--- ---- what rows have to tell: the second link's last bucket is cut short by the horizon, and there
--- is no fifth row
+-- ---- what rows have to tell: the second link's last bucket is cut short by the horizon, and
+-- there is no fifth row
 fourth_row : wanted_after in_a_line 50 60 3
     ≡ Some (record { link = 20; from = 50; to = 60; free = 10 })
 fourth_row = refl

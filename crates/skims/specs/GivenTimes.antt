@@ -9,7 +9,8 @@ pub record AreRowsOf (net : NetRows) (bucket horizon : ℕ) (rows : List TimeRow
   pub as_many : length rows ≡ length net.links * buckets_to bucket horizon
   pub some : All (λ row. 1 ≤ row.travel) rows
 
--- their travel steps, and the free-flow steps of the links from the horizon on. No visit is counted
+-- their travel steps, and the free-flow steps of the links from the horizon on. No visit is
+-- counted
 abbrev pub table_given : NetRows → ℕ → ℕ → List TimeRow → TimeTable
 table_given net bucket horizon rows = record {
   bucket = bucket;

@@ -1,7 +1,7 @@
 -- The rows of a times table: one for each bucket of each link of a network, link by link.
 use Rattle.std.specs.Prelude.{ℕ, ◌+◌, ◌*◌, ◌/◌, ◌%◌, min, not, nat_eq, nat_lt, if◌then◌else◌, Bool}
-use Rattle.std.specs.Prelude.{List, [], ◌∷◌, length, slice_get, Option, None, Some, option_map, Result, Ok}
-use Rattle.std.specs.Prelude.{Err}
+use Rattle.std.specs.Prelude.{List, [], ◌∷◌, length, slice_get, Option, None, Some, option_map}
+use Rattle.std.specs.Prelude.{Result, Ok, Err}
 use Rattle.std.specs.List.{list_any}
 use Rattle.desk_io.specs.declared.desk.Table.TheVariants as table
 use Rattle.row_reader.specs.Columns.{text}

@@ -38,8 +38,8 @@ impl<'a> Model for LeastTimes<'a> {
     ghost invariant = { AreLeasts };
 }
 
-// The least time from a zone to the zone at a place of a group, whose number is told too. None from
-// the zone itself.
+// The least time from a zone to the zone at a place of a group, whose number is told too. None
+// from the zone itself.
 fn least_from(labels: &GroupLabels, place: usize, zone: u32, origin: u32, start: u32) -> Option<u64>
     requires place { place < length labels.now.zones }
     requires zone { slice_index labels.now.zones place ≡ zone }
@@ -110,7 +110,8 @@ fn zones_from(alloc: Global, first: u32, count: u32) -> Result<Vec<ZoneNo>, Memo
     Ok(zones)
 }
 
-// Adds the least times to so many zones, from one on, where those to the zones before it are there.
+// Adds the least times to so many zones, from one on, where those to the zones before it are
+// there.
 fn add_group(
     alloc: Global,
     net: &Net,

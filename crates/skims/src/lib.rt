@@ -9,9 +9,9 @@
 //! text and a report.
 //!
 //! Destinations are worked up to eight at once, a group after another, in the calling thread: as
-//! many passes over the states and steps of the network as there are groups, and for each entry one
-//! look at the links out of its origin. There are labels of one group at a time. Beside them a skim
-//! takes 16 bytes for each pair of zones and each start, and 40 for each of its entries.
+//! many passes over the states and steps of the network as there are groups, and for each entry
+//! one look at the links out of its origin. There are labels of one group at a time. Beside them a
+//! skim takes 16 bytes for each pair of zones and each start, and 40 for each of its entries.
 #![tactic(auto)]
 
 mod between_zones;

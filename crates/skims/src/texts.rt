@@ -38,7 +38,8 @@ fn push_least(pending: &mut Pending, least: Option<u64>)
 }
 
 // Adds the line of an entry to what is pending.
-#[tactic(auto, using(pending_text::proofs::Joins::text), unfolding(crate::specs::Texts::entry_line))]
+#[tactic(auto, using(pending_text::proofs::Joins::text),
+    unfolding(crate::specs::Texts::entry_line))]
 fn push_entry(pending: &mut Pending, entry: SkimEntry)
     requires { length pending.old + LINE ≤ PIECE }
     ensures { pending.new ≡ pending.old ++ entry_line entry }
@@ -78,7 +79,8 @@ fn put_entries<D: Desk>(desk: &mut D, entries: &[SkimEntry]) -> Result<(), Faile
 }
 
 // The report's four lines.
-#[tactic(auto, using(pending_text::proofs::Joins::text), unfolding(crate::specs::Texts::skim_report_lines))]
+#[tactic(auto, using(pending_text::proofs::Joins::text),
+    unfolding(crate::specs::Texts::skim_report_lines))]
 fn report(nodes: u32, links: u32, zones: u32, entries: usize) -> Pending
     ensures { result ≡ skim_report_lines nodes links zones entries }
 {

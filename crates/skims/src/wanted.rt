@@ -5,8 +5,8 @@ ghost use Rattle.skims.specs.TimesTable.{has_link, row_count, wanted_after, want
 
 use net_core::{LinkRow, Net};
 
-/// What a row has to tell: the identifier of its link, the first step of its bucket, the step after
-/// the last one, and the link's free-flow steps.
+/// What a row has to tell: the identifier of its link, the first step of its bucket, the step
+/// after the last one, and the link's free-flow steps.
 #[derive(Clone, Copy)]
 pub(crate) struct Wanted {
     pub link: u64,

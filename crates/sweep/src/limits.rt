@@ -43,8 +43,8 @@ fn check_scale(cells: &[DemandCell], scale: u64) -> Result<(), Excess>
     Ok(())
 }
 
-/// Checks the vehicles of all scenarios of a sweep, one after another, and tells the first one that
-/// has too many. It takes no memory. Volumes and scales are in thousandths.
+/// Checks the vehicles of all scenarios of a sweep, one after another, and tells the first one
+/// that has too many. It takes no memory. Volumes and scales are in thousandths.
 pub fn check_scales(cells: &[DemandCell], scales: &[u64]) -> Result<(), SweepFault>
     requires volumes { All (λ cell. cell.volume ≤ MOST_THOUSANDTHS) cells.now }
     requires scales { AreScales scales.now }

@@ -17,8 +17,8 @@ use Rattle.time_routes.specs.declared.filling.no_walk.TheConstants.{FAR, NARROW_
 use Rattle.time_routes.specs.declared.reading.group_labels.TheConstants.{MOST_GROUP}
 use Rattle.time_routes.specs.declared.states.link_states.TheConstants.{NO_STATE}
 
--- ---- a loop that pays: link 1 takes 300 steps in the first bucket of fifty, and link 2 leads back
--- to its begin
+-- ---- a loop that pays: link 1 takes 300 steps in the first bucket of fifty, and link 2 leads
+-- back to its begin
 abbrev pub loop : List TurnRow → NetRows
 loop turns = record {
   nodes = node 1 (Some 1) ∷ node 2 None ∷ node 3 (Some 3) ∷ [];

@@ -6,15 +6,16 @@
 //! specs/Least.antt of `dta_model`: over all walks, also those that repeat links, and None exactly
 //! where there is none. [`GroupLabels`] does the same for up to eight zones at once.
 //!
-//! What is left is kept for each walk state and step up to the horizon. A walk state, in this crate
-//! called a state, is a node where no turn is listed, or a link that ends at another. A group takes
-//! 16 bytes for each state and step: eight zones side by side in 16 bits, or four in 32 where times
-//! may take more; where that isn't enough, 8 bytes for each of its zones. `least` looks at the links
-//! out of the origin and takes no memory; `walk` looks once at the turns of each of its links.
+//! What is left is kept for each walk state and step up to the horizon. A walk state, in this
+//! crate called a state, is a node where no turn is listed, or a link that ends at another. A
+//! group takes 16 bytes for each state and step: eight zones side by side in 16 bits, or four in
+//! 32 where times may take more; where that isn't enough, 8 bytes for each of its zones. `least`
+//! looks at the links out of the origin and takes no memory; `walk` looks once at the turns of
+//! each of its links.
 //!
 //! [`tell`] and [`tell_by_shares`] answer what is asked of vehicles, their least times and chosen
-//! walks, whatever their zones: the first in the calling thread, the second by up to four shares of
-//! the destinations side by side.
+//! walks, whatever their zones: the first in the calling thread, the second by up to four shares
+//! of the destinations side by side.
 #![tactic(auto)]
 
 mod filling;

@@ -15,8 +15,8 @@ abbrev trip : ℕ → ℕ → ℕ → Trip
 trip number destination departs =
     record { number = number; origin = 1; destination = destination; departure = departs }
 
--- a row within a zone counts nothing, a row below the limit stays below it, and the next row is the
--- first above it
+-- a row within a zone counts nothing, a row below the limit stays below it, and the next row is
+-- the first above it
 abbrev rows_above_the_limit : List DemandCell
 rows_above_the_limit = row 2 1 9000000000 ∷ row 3 5 1999999999 ∷ row 4 6 1001 ∷ []
 

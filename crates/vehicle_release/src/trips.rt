@@ -15,9 +15,9 @@ use crate::sums::{all_vehicles, with_row};
 use dta_model::{DemandCell, Trip, VOLUME_OF_A_VEHICLE};
 use std::alloc::{AllocError, Global};
 
-/// The trips of demand rows over a period of so many steps, numbered from 0 by departure, then row,
-/// then the order within the row. A volume is in thousandths of a vehicle. Rows are refused before
-/// memory is taken.
+/// The trips of demand rows over a period of so many steps, numbered from 0 by departure, then
+/// row, then the order within the row. A volume is in thousandths of a vehicle. Rows are refused
+/// before memory is taken.
 pub fn release(alloc: Global, cells: &[DemandCell], period: u32) -> Result<Vec<Trip>, ReleaseFault>
     requires lasts { 1 ≤ period }
     requires volumes { All (λ cell. cell.volume ≤ MOST_THOUSANDTHS) cells.now }

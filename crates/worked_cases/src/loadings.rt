@@ -11,8 +11,8 @@ use dta_model::{Queue, Trip};
 use net_core::{LinkRow, Memory, NodeNo, NodeRow};
 use std::alloc::Global;
 
-/// Two links of ten steps one after another, which take a vehicle in a step, and three vehicles ten
-/// steps apart.
+/// Two links of ten steps one after another, which take a vehicle in a step, and three vehicles
+/// ten steps apart.
 pub fn two_links_in_a_line(alloc: Global) -> Result<Case, Memory>
     ensures { IfOk result (λ case. case ≡ model.two_links_in_a_line) }
 {

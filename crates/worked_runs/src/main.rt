@@ -1,10 +1,10 @@
 //! Whole runs whose outputs are known: each folder of `data/` is a case.
 //!
-//! A case has the words of a command line (`words.txt`), the tables that the run reads, and what it
-//! is to put (`expected/`): its status, and each output under the name of its file. An output without
-//! a file there takes nothing. The program runs each case over a desk in memory, prints `right` and
-//! its name or what is otherwise than wanted, and then how many cases are right. It ends with 1 where
-//! one isn't.
+//! A case has the words of a command line (`words.txt`), the tables that the run reads, and what
+//! it is to put (`expected/`): its status, and each output under the name of its file. An output
+//! without a file there takes nothing. The program runs each case over a desk in memory, prints
+//! `right` and its name or what is otherwise than wanted, and then how many cases are right. It
+//! ends with 1 where one isn't.
 #![tactic(auto)]
 
 mod difference;

@@ -26,8 +26,8 @@ capped_by Away m = m
 capped_by (Room step room) m = capped_at room m
 capped_by (Batch step line) m = m
 
--- an out-link at the start of a step: its allowance is granted within its room, and all who are due
--- are known
+-- an out-link at the start of a step: its allowance is granted within its room, and all who are
+-- due are known
 abbrev pub opened_out : ℕ → OutLink → OutLink
 opened_out step o = record o {
   inflow = capped_by o.mail (granted step o.inflow);

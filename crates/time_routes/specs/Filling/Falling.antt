@@ -1,7 +1,7 @@
 -- What is left from states to a zone, while it falls to what it ought to be.
-use Rattle.std.specs.Prelude.{◌≡◌, ℕ, ◌+◌, ◌*◌, ◌<◌, ◌≤◌, ◌⊎◌, ◌∷◌, true, cond, nat_eq, List, length}
-use Rattle.std.specs.Prelude.{sum, All, slice_index, slice_index_or, slice_get, slice_set, Some}
-use Rattle.std.specs.Prelude.{Contains, IsPermutation}
+use Rattle.std.specs.Prelude.{◌≡◌, ℕ, ◌+◌, ◌*◌, ◌<◌, ◌≤◌, ◌⊎◌, ◌∷◌, true, cond, nat_eq, List}
+use Rattle.std.specs.Prelude.{length, sum, All, slice_index, slice_index_or, slice_get, slice_set}
+use Rattle.std.specs.Prelude.{Some, Contains, IsPermutation}
 use Rattle.std.specs.declared.cmp.Reverse.{Reverse}
 use Rattle.time_routes.specs.Filling.Labels.{far}
 use Rattle.time_routes.specs.Filling.FreeFlow.{AreAbove, AreShort}

@@ -1,5 +1,6 @@
 -- Ways on, told from where they lead, where link times stand still.
-use Rattle.std.specs.Prelude.{◌≡◌, ℕ, ◌+◌, ◌<◌, ◌≤◌, ◌⊎◌, List, length, slice_index, slice_get, Some}
+use Rattle.std.specs.Prelude.{◌≡◌, ℕ, ◌+◌, ◌<◌, ◌≤◌, ◌⊎◌, List, length, slice_index, slice_get}
+use Rattle.std.specs.Prelude.{Some}
 use Rattle.time_routes.specs.Filling.Labels.{most_span}
 use Rattle.time_routes.specs.States.RouterWays.{onwards}
 use Rattle.time_routes.specs.declared.filling.ways_back.WayBack.{WayBack}

@@ -39,8 +39,8 @@ pub record IsRouter (net : NetRows) (r : Router) : Type 0 where
   pub routes : (zone : ℕ) (at : ℕ → ℕ → ℕ) → zone < length (zones net.nodes)
       → AreRoutes net zone at r
 
--- what is left over a table: nothing at the zone, elsewhere the least over the ways on; where there
--- is a walk it is far from what stands for none
+-- what is left over a table: nothing at the zone, elsewhere the least over the ways on; where
+-- there is a walk it is far from what stands for none
 pub record AreLeft (at rest : ℕ → ℕ → ℕ) (r : Router) (zone : ℕ) : Type 0 where
   pub left : (s e : ℕ) → s < length r.zones.items
       → cond (is_own r zone s) (rest s e ≡ 0) (rest s e ≡ least_over at far rest e (onwards r s))

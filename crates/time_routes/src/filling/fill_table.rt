@@ -71,8 +71,8 @@ fn most_zones(steps: u64, least: usize) -> usize
     }
 }
 
-/// What is left to the first of some zones over a table of link times, to so many of them at least,
-/// where it serves in the memory of labels that are read no more.
+/// What is left to the first of some zones over a table of link times, to so many of them at
+/// least, where it serves in the memory of labels that are read no more.
 pub(crate) fn table_of(
     alloc: Global,
     router: &Router,

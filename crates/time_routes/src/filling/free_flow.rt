@@ -16,8 +16,8 @@ use std::alloc::Global;
 use std::cmp::Reverse;
 use std::collections::BinaryHeap;
 
-/// A state with what is left from it, as it waits to be looked at. The one with the least is looked
-/// at first, so that each state is mostly looked at once.
+/// A state with what is left from it, as it waits to be looked at. The one with the least is
+/// looked at first, so that each state is mostly looked at once.
 #[derive(Clone, Copy, PartialEq, Eq, PartialOrd, Ord, Drop)]
 pub(crate) struct Reached {
     left: u64,

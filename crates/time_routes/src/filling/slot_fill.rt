@@ -20,8 +20,8 @@ use crate::states::zone_numbers::NO_ZONE;
 use link_times::LinkTimes;
 use net_core::{Memory, ZoneNo};
 
-/// The row of a step: how many states it has, how many rows it stands from the horizon's, its step,
-/// the link times, and the zones of the slots.
+/// The row of a step: how many states it has, how many rows it stands from the horizon's, its
+/// step, the link times, and the zones of the slots.
 #[derive(Clone, Copy, Drop)]
 struct SlotRow<'a> {
     states: usize,
@@ -186,8 +186,8 @@ pub(crate) fn grow<S: Slots>(labels: &mut Vec<S>, count: usize) -> Result<(), Me
 }
 
 /// Writes the row of each step from the last before the horizon down to the first, behind the
-/// horizon's. A row that isn't there yet is added as its turn comes, so that it is filled while the
-/// processor's cache still holds it.
+/// horizon's. A row that isn't there yet is added as its turn comes, so that it is filled while
+/// the processor's cache still holds it.
 pub(crate) fn fill_slots<S: Slots>(
     labels: &mut Vec<S>,
     spans: &mut [Span],

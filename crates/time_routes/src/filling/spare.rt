@@ -3,8 +3,8 @@ use crate::filling::eight::Eight;
 use crate::filling::four::Four;
 use std::alloc::Global;
 
-/// Labels that are read no more, whose place the next table of the same form takes; none before the
-/// first.
+/// Labels that are read no more, whose place the next table of the same form takes; none before
+/// the first.
 #[derive(Drop)]
 pub(crate) struct Spare {
     pub(crate) short: Vec<Eight>,

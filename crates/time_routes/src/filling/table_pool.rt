@@ -5,9 +5,9 @@ use std::alloc::Global;
 use std::mem;
 use std::sync::Mutex;
 
-/// A pool of the memory of label tables: that of the tables which were filled last, one for each of
-/// at most four shares. [`tell_by_shares`](crate::tell_by_shares) fills its tables there where they
-/// are as large. What is told doesn't depend on it.
+/// A pool of the memory of label tables: that of the tables which were filled last, one for each
+/// of at most four shares. [`tell_by_shares`](crate::tell_by_shares) fills its tables there where
+/// they are as large. What is told doesn't depend on it.
 #[derive(Drop)]
 pub struct TablePool {
     alloc: Global,
@@ -28,8 +28,8 @@ impl TablePool {
         }
     }
 
-    // Puts memory in the place of a share, and takes what was there. Where there is no such place it
-    // comes back.
+    // Puts memory in the place of a share, and takes what was there. Where there is no such place
+    // it comes back.
     fn swap(&self, share: usize, spare: Spare) -> Spare {
         match self.places.get(share) {
             Some(place) => match place.try_lock() {

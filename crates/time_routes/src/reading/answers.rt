@@ -206,8 +206,8 @@ fn answer_group(
 }
 
 /// What is answered of the vehicles that go to some zones, a group after another. The labels of a
-/// group take the place of those before, those of the first the memory that is given and, once they
-/// are read no more, those of the last are given back. All walks are gathered in one list.
+/// group take the place of those before, those of the first the memory that is given and, once
+/// they are read no more, those of the last are given back. All walks are gathered in one list.
 pub(crate) fn answers_to(
     alloc: Global,
     net: &Net,

@@ -48,8 +48,8 @@ pub(crate) fn group_of(zones: &[ZoneNo], group: usize) -> &[ZoneNo]
     here
 }
 
-/// What a share answers: it takes the next group of zones until none is left. Which groups it takes
-/// depends on the other shares.
+/// What a share answers: it takes the next group of zones until none is left. Which groups it
+/// takes depends on the other shares.
 pub(crate) fn answers_of_share(
     alloc: Global,
     net: &Net,

@@ -172,7 +172,8 @@ impl<'a> GroupLabels<'a> {
     }
 
     /// The chosen walk from a zone to the zone at a place of the group, started in a step: of the
-    /// walks of the least time the first in the order of link numbers. None where there is no walk.
+    /// walks of the least time the first in the order of link numbers. None where there is no
+    /// walk.
     pub fn walk(
         &self,
         alloc: Global,

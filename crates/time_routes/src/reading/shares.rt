@@ -16,8 +16,9 @@ pub const MOST_SHARES: u32 = 4;
 // The most tables of labels that are there at once, of eight bytes for each link and step.
 const MOST_TABLES: u64 = 4;
 
-// The tables of eight bytes for each state and step that the labels of a group fill: two in 16 or 32
-// bits whatever the number of its zones, and else one for each of its zones, which are four at most.
+// The tables of eight bytes for each state and step that the labels of a group fill: two in 16 or
+// 32 bits whatever the number of its zones, and else one for each of its zones, which are four at
+// most.
 const NARROW_TABLES: u64 = 2;
 
 const WIDE_TABLES: u64 = 4;

@@ -115,10 +115,10 @@ fn destinations(alloc: Global, lists: &ByZone, zones: u32) -> Result<Vec<ZoneNo>
     Ok(found)
 }
 
-// Tells what is asked of the vehicles that go to some zones, by so many shares, each in a thread of
-// its own where one can be made. A share takes the next group of zones as soon as it has answered
-// one, so that none waits for a slower one while there are groups. The answers are then put in the
-// order of vehicles.
+// Tells what is asked of the vehicles that go to some zones, by so many shares, each in a thread
+// of its own where one can be made. A share takes the next group of zones as soon as it has
+// answered one, so that none waits for a slower one while there are groups. The answers are then
+// put in the order of vehicles.
 fn tell_shares<R: AllocGlobal + Threads + Sync>(
     rt: &R,
     net: &Net,

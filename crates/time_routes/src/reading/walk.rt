@@ -1,6 +1,7 @@
 // Chosen walks by what is left.
 ghost use Rattle.std.specs.Prelude.{◌≡◌, ◌≢◌, ℕ, ◌+◌, ◌<◌, ◌≤◌, ◌^◌, List, length, All, Option};
-ghost use Rattle.std.specs.Prelude.{None, Some, IfOk, OnOk, MatchOption, slice_get, true, false, Bool};
+ghost use Rattle.std.specs.Prelude.{None, Some, IfOk, OnOk, MatchOption, slice_get, true, false};
+ghost use Rattle.std.specs.Prelude.{Bool};
 ghost use Rattle.net_core.specs.declared.rows.NetRows.{NetRows};
 ghost use Rattle.dta_model.specs.LinkTimes.{time_at};
 ghost use Rattle.dta_model.specs.Plans.{link_numbers};

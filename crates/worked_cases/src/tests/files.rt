@@ -99,8 +99,8 @@ fn desk_over(rt: HostRuntime, report: usize, watch: usize) -> io::Result<FileDes
     Ok(FileDesk::over(rt, report, watch))
 }
 
-// Report and Watch go each to its own stream, whole also where a stream takes little at a time; one
-// that takes nothing fails.
+// Report and Watch go each to its own stream, whole also where a stream takes little at a time;
+// one that takes nothing fails.
 #[test]
 fn streams_that_take_little(rt: HostRuntime) -> Result<(), Fail> {
     let mut desk = desk_over(rt, 3, 2)?;

@@ -243,7 +243,8 @@ fn by_two<R: AllocGlobal + Threads + Wait + Sync>(
     by_two_threads(rt, loading, &board, writer, turns)
 }
 
-// Whether each can perform half of the units, waiting for the other at the beginning of each phase.
+// Whether each can perform half of the units, waiting for the other at the beginning of each
+// phase.
 fn take_half_each<R: AllocGlobal + Threads + Wait + Sync>(
     rt: &R,
     loading: &Loading,

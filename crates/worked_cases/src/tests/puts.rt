@@ -47,7 +47,8 @@ fn two_entries(alloc: Global) -> Result<Skim, Memory> {
     Ok(Skim::of(entries))
 }
 
-// What Skim and Report take of it, where a put of 20 bytes at most fails, and whether that is told.
+// What Skim and Report take of it, where a put of 20 bytes at most fails, and whether that is
+// told.
 fn put_failing(alloc: Global, call: u64) -> Result<(bool, MemDesk), Memory> {
     let net = two_links(alloc)?;
     let skim = two_entries(alloc)?;

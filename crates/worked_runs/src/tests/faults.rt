@@ -54,7 +54,8 @@ fn failing_reads(rt: HostRuntime) -> Result<(), Fail> {
     Ok(())
 }
 
-// Whether an output has a first part of this text, and the next one has nothing unless it is whole.
+// Whether an output has a first part of this text, and the next one has nothing unless it is
+// whole.
 fn is_begun(desk: &MemDesk, output: Output, text: &[u8], next: Output) -> bool {
     let taken = desk.taken(output);
     text.starts_with(taken) && (taken == text || desk.taken(next).is_empty())
