@@ -42,21 +42,27 @@ impl Course {
         Ok(Course { rates, credits })
     }
 
-    /// The allowance of a step, and whether it has no limit. It is told without the steps before
-    /// its window.
+    /// The allowance of a step. It is told without the steps before its window.
     #[cold]
-    pub(crate) fn open(&self, delta: u32, step: u32, unlimited: &mut bool) -> u32
+    pub(crate) fn allowance(&self, delta: u32, step: u32) -> u32
         requires step { delta ≤ MOST_STEP }
         requires course { IsCourse self.now.rates delta self.now.credits.items }
-        ensures allowance { result ≡ allowance self.now.rates delta step }
-        ensures unlimited { unlimited.new ≡ is_none (rate_in self.now.rates step) }
+        ensures { result ≡ allowance self.now.rates delta step }
     {
         let windows = self.rates.windows.as_slice();
         let place = latest(windows, step);
         let window = windows[place];
-        *unlimited = window.rate.is_none();
         let rate = credited_of(window.rate);
         grant_after(self.credits[place], rate, delta, step - window.from)
+    }
+
+    /// Whether a step has no limit.
+    pub(crate) fn is_unlimited(&self, step: u32) -> bool
+        requires { (delta : ℕ) × IsCourse self.now.rates delta self.now.credits.items }
+        ensures { result ≡ is_none (rate_in self.now.rates step) }
+    {
+        let windows = self.rates.windows.as_slice();
+        windows[latest(windows, step)].rate.is_none()
     }
 }
 

@@ -55,22 +55,30 @@ impl Outlook {
         }
     }
 
-    /// Opens a step: the answer is its allowance, which is told without those of the steps before.
-    pub(crate) fn open(&mut self, delta: u32, step: u32) -> u32
-        requires range { IsOutlook delta self.old }
+    /// The allowance of a step, which is told without those of the steps before.
+    pub(crate) fn allowance(&self, delta: u32, step: u32) -> u32
+        requires range { IsOutlook delta self.now }
         requires delta { delta ≤ MOST_STEP }
-        ensures allowance { result ≡ allowance (rates_of self.old) delta step }
-        ensures rates { rates_of self.new ≡ rates_of self.old }
-        ensures kept { IsOutlook delta self.new }
-        ensures unlimited { unlimited_of self.new ≡ is_none (rate_in (rates_of self.old) step) }
+        ensures { result ≡ allowance (rates_of self.now) delta step }
     {
         match self {
             Outlook::Limit(rate) => grant_after(Credit::new(), *rate, delta, step),
-            Outlook::NoLimit { unlimited } => {
-                *unlimited = true;
-                0
-            }
-            Outlook::Course { unlimited, course } => course.open(delta, step, unlimited),
+            Outlook::NoLimit { .. } => 0,
+            Outlook::Course { course, .. } => course.allowance(delta, step),
+        }
+    }
+
+    /// Opens a step, which may have no limit.
+    pub(crate) fn open(&mut self, step: u32)
+        requires range { (delta : ℕ) × IsOutlook delta self.old }
+        ensures rates { rates_of self.new ≡ rates_of self.old }
+        ensures kept { (delta : ℕ) → IsOutlook delta self.old → IsOutlook delta self.new }
+        ensures unlimited { unlimited_of self.new ≡ is_none (rate_in (rates_of self.old) step) }
+    {
+        match self {
+            Outlook::Limit(_) => {}
+            Outlook::NoLimit { unlimited } => *unlimited = true,
+            Outlook::Course { unlimited, course } => *unlimited = course.is_unlimited(step),
         }
     }
 

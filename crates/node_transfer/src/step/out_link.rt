@@ -56,7 +56,7 @@ pub fn cap_by(meter: &mut Meter, mail: &Mail)
     match mail {
         Mail::Room { room, .. } => match room {
             None => {}
-            Some(room) => meter.cap(*room as u64),
+            Some(room) => meter.cap(*room),
         },
         _ => {}
     }

@@ -50,9 +50,9 @@ pub fn may_enter(
 {
     match turn_at(turns, turn) {
         None => ready <= step as u64 && outs[place].inflow.left() > 0,
-        Some(way) => is_served(ready, way.penalty, step)
-            && has_pass(way)
-            && outs[place].inflow.left() > 0,
+        Some(way) => outs[place].inflow.left() > 0
+            && is_served(ready, way.penalty, step)
+            && has_pass(way),
     }
 }
 
@@ -63,7 +63,8 @@ pub fn is_served(ready: u64, penalty: u32, step: u32) -> bool
     ready <= step as u64 && penalty as u64 <= step as u64 - ready
 }
 
-/// What the rider does next.
+/// What the rider does next. The exit is asked last, since the allowance of a meter is told only
+/// where it is asked for.
 #[tactic(auto, unfolding(crate::specs::Inside::Pass::head_action))]
 pub fn judge(rider: &Rider, exit: &Exit, outs: &[OutLink], step: u32) -> HeadAction
     requires { Rides (out_links outs.now) rider.now }
@@ -74,21 +75,21 @@ pub fn judge(rider: &Rider, exit: &Exit, outs: &[OutLink], step: u32) -> HeadAct
         Some(entry) => entry as u64 + exit.free as u64,
         None => return HeadAction::Stays,
     };
-    if ready > step as u64 || exit.outflow.left() == 0 {
+    if ready > step as u64 {
         return HeadAction::Stays;
     }
-    match rider.next_link() {
+    let action = match rider.next_link() {
         None => HeadAction::Arrives,
         Some(link) => {
             let place = place_to(outs, link);
             let turn = place_of_turn(&exit.turns, link);
-            if may_enter(&exit.turns, outs, ready, step, place, turn) {
-                HeadAction::Enters(place, turn)
-            } else {
-                HeadAction::Stays
+            if !may_enter(&exit.turns, outs, ready, step, place, turn) {
+                return HeadAction::Stays;
             }
+            HeadAction::Enters(place, turn)
         }
-    }
+    };
+    if exit.outflow.left() > 0 { action } else { HeadAction::Stays }
 }
 
 /// One vehicle arrives at the end of the link.

@@ -1,24 +1,10 @@
-use Rattle.std.proofs.Common.{◌≡◌, ◌∙◌, ◌+◌, Some, ap, arith, refl}
-use Rattle.capacity_credits.proofs.Skips.{no_allowance}
-use Rattle.dta_model.specs.Allowance.{allowance}
-use Rattle.net_core.specs.Rates.{last_begun, steady}
+use Rattle.std.proofs.Common.{refl}
+use Rattle.net_core.specs.Rates.{last_begun}
 use Rattle.capacity_credits.proofs.outlook.Outlook.open.Goals as goal
-
-pub returns-in-Limit-clause-allowance : goal.returns-in-Limit-clause-allowance
-unfolding last_begun
-returns-in-Limit-clause-allowance c =
-    let rates = steady (Some c.in-Limit.rate) in
-    let from_zero : 0 + c.args.step ≡ c.args.step = omega arith in
-    rw c.in-Limit.is
-    (c.grant_after.ensures rates 0 (λ k b. refl) (c.new.ensures.stands rates c.args.delta)
-    ∙ ap (allowance rates c.args.delta) from_zero)
 
 pub returns-in-Limit-clause-unlimited : goal.returns-in-Limit-clause-unlimited
 unfolding last_begun
 returns-in-Limit-clause-unlimited c = rw c.in-Limit.is refl
-
-pub returns-in-NoLimit-clause-allowance : goal.returns-in-NoLimit-clause-allowance
-returns-in-NoLimit-clause-allowance c = rw c.in-NoLimit.is (no_allowance c.args.delta c.args.step)
 
 pub returns-in-NoLimit-clause-unlimited : goal.returns-in-NoLimit-clause-unlimited
 unfolding last_begun

@@ -1,11 +1,10 @@
-use Rattle.std.proofs.Common.{◌≡◌, ◌∙◌, ◌+◌, ◌-◌, arith, ap, rules, sym}
-use Rattle.std.specs.Option.{is_none}
+use Rattle.std.proofs.Common.{◌≡◌, ◌∙◌, ◌+◌, ◌-◌, arith, ap, sym}
 use Rattle.capacity_credits.proofs.Courses.{carried_there, has_begun, rate_held, window}
 use Rattle.dta_model.specs.Allowance.{allowance, credited}
-use Rattle.capacity_credits.proofs.course.Course.open.Goals as goal
+use Rattle.capacity_credits.proofs.course.Course.allowance.Goals as goal
 
-pub returns-clause-allowance : goal.returns-clause-allowance
-returns-clause-allowance c =
+pub returns : goal.returns
+returns c =
     let rates = c.args.self.now.rates in
     let step = c.args.step in
     let place = c.latest-place.result in
@@ -23,15 +22,3 @@ returns-clause-allowance c =
     ∙ carried_there rates c.args.delta place c.index.result.now c.args.self.now.credits.items
     c.requires.course is.within)
     ∙ ap (allowance rates c.args.delta) on
-
-pub returns-clause-unlimited : goal.returns-clause-unlimited
-returns-clause-unlimited c =
-    let rates = c.args.self.now.rates in
-    let step = c.args.step in
-    let place = c.latest-place.result in
-    let is = rw c.as_slice-windows.ensures at c.latest-place.ensures in
-    let same : c.is_none.result ≡ is_none (window c.as_slice-windows.result.now place).rate =
-    search rules in
-    rw (rate_held rates.usual rates.windows place step step c.requires.course.given.windows is
-    (has_begun rates.windows place step is) (omega arith))
-    (rw c.as_slice-windows.ensures at same)
