@@ -10,3 +10,4 @@ pub mod Entered
 pub mod AnyOrder
 pub mod OfNet
 pub mod TextFacts
+pub mod Sent

@@ -77,7 +77,7 @@ fn step_after(number: u32, bucket: u32, horizon: u32) -> u64
 }
 
 // Adds the line of a turn count to what is pending.
-#[tactic(auto, using(pending_text::proofs::Joins::text), unfolding(crate::specs::Text::turn_line))]
+#[tactic(auto, using(crate::proofs::Sent::text), unfolding(crate::specs::Text::turn_line))]
 fn push_turn(pending: &mut Pending, net: &Net, turn: &TurnCount, bucket: u32, horizon: u32)
     requires room { length pending.old + LINE ≤ PIECE }
     requires turn { IsOfNet net.now horizon bucket turn.now }
@@ -97,7 +97,7 @@ fn push_turn(pending: &mut Pending, net: &Net, turn: &TurnCount, bucket: u32, ho
 }
 
 // Adds the line of a turn count.
-#[tactic(auto, using(pending_text::proofs::SendingFacts::pieces))]
+#[tactic(auto, using(crate::proofs::Sent::pieces))]
 fn add_turn<D: Desk>(
     pending: &mut Pending,
     desk: &mut D,
@@ -116,8 +116,7 @@ fn add_turn<D: Desk>(
 }
 
 // Adds the lines of turn counts.
-#[tactic(auto, using(pending_text::proofs::SendingFacts::starts),
-    unfolding(crate::specs::Text::turn_lines))]
+#[tactic(auto, using(crate::proofs::Sent::starts), unfolding(crate::specs::Text::turn_lines))]
 fn add_turn_lines<D: Desk>(
     pending: &mut Pending,
     desk: &mut D,
@@ -137,8 +136,7 @@ fn add_turn_lines<D: Desk>(
 }
 
 // Adds the line of a through count to what is pending.
-#[tactic(auto, using(pending_text::proofs::Joins::text),
-    unfolding(crate::specs::Text::through_line))]
+#[tactic(auto, using(crate::proofs::Sent::text), unfolding(crate::specs::Text::through_line))]
 fn push_through(pending: &mut Pending, count: &ThroughCount, horizon: u32)
     requires { length pending.old + LINE ≤ PIECE }
     ensures { pending.new ≡ pending.old ++ through_line horizon count.now }
@@ -155,7 +153,7 @@ fn push_through(pending: &mut Pending, count: &ThroughCount, horizon: u32)
 }
 
 // Adds the line of a through count.
-#[tactic(auto, using(pending_text::proofs::SendingFacts::pieces))]
+#[tactic(auto, using(crate::proofs::Sent::pieces))]
 fn add_through<D: Desk>(
     pending: &mut Pending,
     desk: &mut D,
@@ -171,8 +169,7 @@ fn add_through<D: Desk>(
 }
 
 // Adds the lines of through counts.
-#[tactic(auto, using(pending_text::proofs::SendingFacts::starts),
-    unfolding(crate::specs::Text::through_lines))]
+#[tactic(auto, using(crate::proofs::Sent::starts), unfolding(crate::specs::Text::through_lines))]
 fn add_through_lines<D: Desk>(
     pending: &mut Pending,
     desk: &mut D,

@@ -12,7 +12,7 @@ use Rattle.counts.specs.Through.{above_zones, all_pairs, enters, goes_between, n
 use Rattle.counts.specs.Through.{pairs_from, through_counts, through_counts_in}
 use Rattle.counts.specs.Turns.{all_turns, takes, taking, times_taken, turn_counts}
 use Rattle.counts.specs.Turns.{turn_counts_in, turns_between, turns_from}
-use Rattle.reports.specs.Texts.{agent_columns, agent_header, agent_header_from, agent_line}
+use Rattle.reports.specs.Texts.{agent_columns, agent_header, since_header, agent_line}
 use Rattle.reports.specs.Texts.{agent_text, agent_text_by, agent_text_from, audit_ok_text}
 use Rattle.reports.specs.Texts.{audit_text, bucket_line, count_lines, free_link_line}
 use Rattle.reports.specs.Texts.{free_link_time_header, free_link_time_text, free_report_text}
@@ -42,7 +42,7 @@ iterations_on_literals = tt
 
 -- texts of an assignment
 unfoldable pub tables_on_literals : ⊤
-unfolding iterations_on_literals digits entered_in agent_header agent_header_from trip_columns
+unfolding iterations_on_literals digits entered_in agent_header since_header trip_columns
     way_columns agent_columns agent_line vehicles agent_text agent_text_from agent_text_by
     bucket_line link_lines link_time_header link_time_text gap_line gap_header gap_text count_lines
     last_gap_lines report_text watch_line watch_texts assigned_texts

@@ -1,1 +1,2 @@
 pub mod TextsFacts
+pub mod Sent

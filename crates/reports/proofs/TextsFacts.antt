@@ -26,7 +26,7 @@ use Rattle.dta_model.specs.declared.plan.Plan.{Plan}
 use Rattle.dta_model.specs.declared.loaded.Journey.{Journey}
 use Rattle.dta_model.specs.declared.trip.Trip.{Trip}
 use Rattle.gap.specs.declared.line.GapLine.{GapLine}
-use Rattle.reports.specs.Texts.{AreLinksOf, AreOnNet, Vehicle, agent_columns, agent_header, agent_header_by, agent_header_from, agent_line, agent_text, agent_text_by, agent_text_from, gap_line, ids_of, item, iteration_told, joined, numbered_line, routed_status, semicolon, trip_columns, vehicle_line, vehicle_line_from, vehicles, way_columns}
+use Rattle.reports.specs.Texts.{AreLinksOf, AreOnNet, Vehicle, agent_columns, agent_header, agent_header_by, since_header, agent_line, agent_text, agent_text_by, agent_text_from, gap_line, ids_of, item, iteration_told, joined, numbered_line, routed_status, semicolon, trip_columns, vehicle_line, vehicle_line_from, vehicles, way_columns}
 use Rattle.pending_text.proofs.SendingFacts.{added-then, part-first, part-then}
 
 -- ---- lists joined by `;`
@@ -218,7 +218,7 @@ pub text-of-lines : (net : NetRows) (trips : List Trip) (routes : List (Option (
 unfolding agent_lines lines_of agent_text_by agent_text agent_text_from
 text-of-lines net trips routes journeys None = ap (λ (x : List ℕ). agent_header ++ x) (flat_map-map itself (vehicle_line net) (vehicles trips routes journeys))
 text-of-lines net trips routes journeys (Some since) =
-    ap (λ (x : List ℕ). agent_header_from ++ x) (flat_map-map itself (vehicle_line_from net) (zip (vehicles trips routes journeys) since))
+    ap (λ (x : List ℕ). since_header ++ x) (flat_map-map itself (vehicle_line_from net) (zip (vehicles trips routes journeys) since))
 
 -- as many lines as vehicles
 length-lines_of : (net : NetRows) (vs : List Vehicle) (since : Option (List ℕ)) (n : ℕ) → length vs ≡ n → IfSome since (λ numbers. length numbers ≡ n)

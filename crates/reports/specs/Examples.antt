@@ -22,7 +22,7 @@ use Rattle.reports.specs.declared.refusal.Refusal.TheVariants as refusal
 use Rattle.desk_io.specs.declared.transfers.TheConstants.{MOST_TABLE_BYTES}
 use Rattle.dta_model.specs.declared.loading.TheConstants.{MOST_LINK_STEPS}
 use Rattle.reports.specs.declared.summary.Summary.{Summary}
-use Rattle.reports.specs.Texts.{agent_columns, agent_header, agent_header_from, agent_line}
+use Rattle.reports.specs.Texts.{agent_columns, agent_header, since_header, agent_line}
 use Rattle.reports.specs.Texts.{agent_text, agent_text_from, audit_ok_text, audit_text}
 use Rattle.reports.specs.Texts.{bucket_line, count_lines, differs_line}
 use Rattle.reports.specs.Texts.{free_link_line, free_link_time_header, free_link_time_text}
@@ -116,7 +116,7 @@ four-iterations : agent_text_from the_network four_trips four_routes four_journe
     ≡ codes "agent_id,o_zone_id,d_zone_id,departure_step,arrival_step,status,link_ids,"
     ++ codes "entry_steps,route_iteration\n0,1,3,0,20,arrived,10;20,0;10,0\n"
     ++ codes "1,1,3,6,,running,10;20,6,2\n2,1,3,13,,waiting,10;20,,1\n3,3,1,19,,unrouted,,,\n"
-unfolding agent_text_from agent_header_from vehicles agent_line agent_columns trip_columns
+unfolding agent_text_from since_header vehicles agent_line agent_columns trip_columns
     way_columns link_in digits
 four-iterations = refl
 

@@ -169,8 +169,8 @@ agent_header =
     codes "agent_id,o_zone_id,d_zone_id,departure_step,arrival_step,status,link_ids,entry_steps\n"
 
 -- the header with the column of iterations
-unfoldable pub agent_header_from : List ℕ
-agent_header_from =
+unfoldable pub since_header : List ℕ
+since_header =
     codes "agent_id,o_zone_id,d_zone_id,departure_step,arrival_step,status,link_ids,entry_steps"
     ++ codes ",route_iteration\n"
 
@@ -184,7 +184,7 @@ agent_text net trips routes journeys =
 unfoldable pub agent_text_from :
     NetRows → List Trip → List (Option (List LinkNo)) → List Journey → List ℕ → List ℕ
 agent_text_from net trips routes journeys since =
-    agent_header_from
+    since_header
     ++ flat_map (vehicle_line_from net) (zip (vehicles trips routes journeys) since)
 
 -- Agent with iterations where they are given
@@ -197,7 +197,7 @@ agent_text_by net trips routes journeys (Some since) =
 -- the header of either
 abbrev pub agent_header_by : Option (List ℕ) → List ℕ
 agent_header_by None = agent_header
-agent_header_by (Some since) = agent_header_from
+agent_header_by (Some since) = since_header
 
 -- the iteration that is told for a vehicle, where they are given
 abbrev pub iteration_told : Option (List ℕ) → ℕ → Option ℕ

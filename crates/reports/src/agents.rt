@@ -27,8 +27,7 @@ const ITEM: usize = 24;
 const END: usize = 24;
 
 // The header of Agent, with the column of iterations where they are told.
-#[tactic(auto, unfolding(crate::specs::Texts::agent_header,
-    crate::specs::Texts::agent_header_from))]
+#[tactic(auto, unfolding(crate::specs::Texts::agent_header, crate::specs::Texts::since_header))]
 fn header(since: Option<&Steps>) -> Pending
     ensures { result ≡ agent_header_by (option_copied since.entry) }
 {
@@ -55,8 +54,7 @@ fn push_step(pending: &mut Pending, step: Option<u32>)
 }
 
 // Adds the first six columns of a vehicle to what is pending.
-#[tactic(auto, using(pending_text::proofs::Joins::text),
-    unfolding(crate::specs::Texts::trip_columns))]
+#[tactic(auto, using(crate::proofs::Sent::text), unfolding(crate::specs::Texts::trip_columns))]
 fn push_trip(pending: &mut Pending, trip: &Trip, arrival: Option<u32>, status: AgentStatus)
     requires { length pending.old + COLUMNS ≤ PIECE }
     ensures { pending.new ≡ pending.old ++ trip_columns trip.now arrival status }
@@ -76,7 +74,7 @@ fn push_trip(pending: &mut Pending, trip: &Trip, arrival: Option<u32>, status: A
 }
 
 // Adds the first six columns of a vehicle.
-#[tactic(auto, using(pending_text::proofs::SendingFacts::pieces))]
+#[tactic(auto, using(crate::proofs::Sent::pieces))]
 fn add_trip<D: Desk>(
     pending: &mut Pending,
     desk: &mut D,
@@ -93,7 +91,7 @@ fn add_trip<D: Desk>(
 }
 
 // Adds an item of a list to what is pending.
-#[tactic(auto, using(pending_text::proofs::Joins::text))]
+#[tactic(auto, using(crate::proofs::Sent::text))]
 fn push_item(pending: &mut Pending, place: usize, number: u64)
     requires { length pending.old + ITEM ≤ PIECE }
     ensures { pending.new ≡ pending.old ++ item place number }
@@ -105,7 +103,7 @@ fn push_item(pending: &mut Pending, place: usize, number: u64)
 }
 
 // Adds an item of a list.
-#[tactic(auto, using(pending_text::proofs::SendingFacts::pieces))]
+#[tactic(auto, using(crate::proofs::Sent::pieces))]
 fn add_item<D: Desk>(
     pending: &mut Pending,
     desk: &mut D,
@@ -121,7 +119,7 @@ fn add_item<D: Desk>(
 }
 
 // Adds the identifiers of the links of a route, joined.
-#[tactic(auto, using(pending_text::proofs::SendingFacts::starts))]
+#[tactic(auto, using(crate::proofs::Sent::starts))]
 fn add_ids<D: Desk>(
     pending: &mut Pending,
     desk: &mut D,
@@ -140,7 +138,7 @@ fn add_ids<D: Desk>(
 }
 
 // Adds steps, joined.
-#[tactic(auto, using(pending_text::proofs::SendingFacts::starts))]
+#[tactic(auto, using(crate::proofs::Sent::starts))]
 fn add_steps<D: Desk>(pending: &mut Pending, desk: &mut D, steps: &[u32]) -> Result<(), Failed>
     ensures { Adds output.Agent (joined steps.now) pending.old pending.new
         (D.state desk.old) (D.state desk.new) result }
@@ -203,7 +201,7 @@ fn add_columns<D: Desk>(
 }
 
 // Ends the line of a vehicle in what is pending.
-#[tactic(auto, using(pending_text::proofs::Joins::text))]
+#[tactic(auto, using(crate::proofs::Sent::text))]
 fn push_end(pending: &mut Pending, route: Option<&Route>, iteration: Option<u32>)
     requires { length pending.old + END ≤ PIECE }
     ensures { pending.new ≡ pending.old ++ line_end (option_copied route.entry) iteration }
@@ -218,7 +216,7 @@ fn push_end(pending: &mut Pending, route: Option<&Route>, iteration: Option<u32>
 }
 
 // Adds the end of the line of a vehicle.
-#[tactic(auto, using(pending_text::proofs::SendingFacts::pieces))]
+#[tactic(auto, using(crate::proofs::Sent::pieces))]
 fn add_end<D: Desk>(
     pending: &mut Pending,
     desk: &mut D,
@@ -264,7 +262,7 @@ fn iteration_of(since: Option<&Steps>, v: u32) -> Option<u32>
 }
 
 // Puts Agent, with the iterations of the routes where they are given.
-#[tactic(auto, using(pending_text::proofs::SendingFacts::starts))]
+#[tactic(auto, using(crate::proofs::Sent::starts))]
 fn put_lines<D: Desk>(
     desk: &mut D,
     net: &Net,

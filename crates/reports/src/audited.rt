@@ -20,8 +20,7 @@ pub struct Place {
 }
 
 // The line of a place that differs.
-#[tactic(auto, using(pending_text::proofs::Joins::text),
-    unfolding(crate::specs::Texts::differs_line))]
+#[tactic(auto, using(crate::proofs::Sent::text), unfolding(crate::specs::Texts::differs_line))]
 fn differs_text(place: &Place) -> Pending
     ensures { result ≡ differs_line place.now }
 {
@@ -37,8 +36,7 @@ fn differs_text(place: &Place) -> Pending
 }
 
 // The lines where no place differs.
-#[tactic(auto, using(pending_text::proofs::Joins::text),
-    unfolding(crate::specs::Texts::audit_ok_text))]
+#[tactic(auto, using(crate::proofs::Sent::text), unfolding(crate::specs::Texts::audit_ok_text))]
 fn ok_text(vehicles: u32, links: u32) -> Pending
     ensures { result ≡ audit_ok_text vehicles links }
 {

@@ -25,8 +25,7 @@ fn header() -> Pending
 }
 
 // Adds the line of a link to what is pending.
-#[tactic(auto, using(pending_text::proofs::Joins::text),
-    unfolding(crate::specs::Texts::free_link_line))]
+#[tactic(auto, using(crate::proofs::Sent::text), unfolding(crate::specs::Texts::free_link_line))]
 fn push_link(pending: &mut Pending, row: LinkRow)
     requires { length pending.old + LINE ≤ PIECE }
     ensures { pending.new ≡ pending.old ++ free_link_line row }
@@ -40,7 +39,7 @@ fn push_link(pending: &mut Pending, row: LinkRow)
 }
 
 // Adds the line of a link.
-#[tactic(auto, using(pending_text::proofs::SendingFacts::pieces))]
+#[tactic(auto, using(crate::proofs::Sent::pieces))]
 fn add_link<D: Desk>(pending: &mut Pending, desk: &mut D, row: LinkRow) -> Result<(), Failed>
     ensures { Adds output.LinkTime (free_link_line row) pending.old pending.new
         (D.state desk.old) (D.state desk.new) result }
@@ -51,7 +50,7 @@ fn add_link<D: Desk>(pending: &mut Pending, desk: &mut D, row: LinkRow) -> Resul
 }
 
 // Puts the table of the links.
-#[tactic(auto, using(pending_text::proofs::SendingFacts::starts))]
+#[tactic(auto, using(crate::proofs::Sent::starts))]
 fn put_links<D: Desk>(desk: &mut D, links: &[LinkRow]) -> Result<(), Failed>
     ensures { Puts output.LinkTime (free_link_time_text links.now)
         (D.state desk.old) (D.state desk.new) result }
@@ -64,8 +63,7 @@ fn put_links<D: Desk>(desk: &mut D, links: &[LinkRow]) -> Result<(), Failed>
 }
 
 // The report's two lines.
-#[tactic(auto, using(pending_text::proofs::Joins::text),
-    unfolding(crate::specs::Texts::free_report_text))]
+#[tactic(auto, using(crate::proofs::Sent::text), unfolding(crate::specs::Texts::free_report_text))]
 fn report(nodes: u32, links: u32) -> Pending
     ensures { result ≡ free_report_text nodes links }
 {

@@ -25,7 +25,7 @@ fn header() -> Pending
 }
 
 // Adds the line of an iteration to what is pending.
-#[tactic(auto, using(pending_text::proofs::Joins::text), unfolding(crate::specs::Texts::gap_line))]
+#[tactic(auto, using(crate::proofs::Sent::text), unfolding(crate::specs::Texts::gap_line))]
 fn push_gap(pending: &mut Pending, iteration: u64, line: &GapLine)
     requires { length pending.old + LINE ≤ PIECE }
     ensures { pending.new ≡ pending.old ++ gap_line iteration line.now }
@@ -43,7 +43,7 @@ fn push_gap(pending: &mut Pending, iteration: u64, line: &GapLine)
 }
 
 // Adds the line of an iteration.
-#[tactic(auto, using(pending_text::proofs::SendingFacts::pieces))]
+#[tactic(auto, using(crate::proofs::Sent::pieces))]
 fn add_gap<D: Desk>(
     pending: &mut Pending,
     desk: &mut D,
@@ -60,7 +60,7 @@ fn add_gap<D: Desk>(
 
 /// Puts Gap: a line for each iteration, from 1. On Failed a first part of it went out. It takes
 /// no memory.
-#[tactic(auto, using(pending_text::proofs::SendingFacts::starts))]
+#[tactic(auto, using(crate::proofs::Sent::starts))]
 pub fn put_gaps<D: Desk>(desk: &mut D, lines: &[GapLine]) -> Result<(), Failed>
     ensures { Puts output.Gap (gap_text lines.now) (D.state desk.old) (D.state desk.new) result }
 {

@@ -13,8 +13,7 @@ use pending_text::Pending;
 use row_reader::TableFault;
 
 // The line of a table's first fault.
-#[tactic(auto, using(pending_text::proofs::Joins::text),
-    unfolding(crate::specs::Texts::refusal_line))]
+#[tactic(auto, using(crate::proofs::Sent::text), unfolding(crate::specs::Texts::refusal_line))]
 fn fault_line(fault: TableFault) -> Pending
     ensures { result ≡ refusal_line (why.Table fault) }
 {
@@ -31,8 +30,7 @@ fn fault_line(fault: TableFault) -> Pending
 }
 
 // The line of a table that couldn't be read.
-#[tactic(auto, using(pending_text::proofs::Joins::text),
-    unfolding(crate::specs::Texts::refusal_line))]
+#[tactic(auto, using(crate::proofs::Sent::text), unfolding(crate::specs::Texts::refusal_line))]
 fn read_line(table: Table) -> Pending
     ensures { result ≡ refusal_line (why.Read table) }
 {
@@ -44,8 +42,7 @@ fn read_line(table: Table) -> Pending
 }
 
 // The line of a table that is too long.
-#[tactic(auto, using(pending_text::proofs::Joins::text),
-    unfolding(crate::specs::Texts::refusal_line))]
+#[tactic(auto, using(crate::proofs::Sent::text), unfolding(crate::specs::Texts::refusal_line))]
 fn long_line(table: Table) -> Pending
     ensures { result ≡ refusal_line (why.LongTable table) }
 {
@@ -59,7 +56,7 @@ fn long_line(table: Table) -> Pending
 }
 
 // The line of too many links over too many steps.
-#[tactic(auto, using(pending_text::proofs::Joins::text))]
+#[tactic(auto, using(crate::proofs::Sent::text))]
 fn link_steps_line(links: u32, steps: u32, limit: u64) -> Pending
     ensures { result ≡ link_steps_text links steps limit }
 {
@@ -75,8 +72,7 @@ fn link_steps_line(links: u32, steps: u32, limit: u64) -> Pending
 }
 
 // The line of too many vehicles.
-#[tactic(auto, using(pending_text::proofs::Joins::text),
-    unfolding(crate::specs::Texts::refusal_line))]
+#[tactic(auto, using(crate::proofs::Sent::text), unfolding(crate::specs::Texts::refusal_line))]
 fn vehicles_line(at: u64, total: u64) -> Pending
     ensures { result ≡ refusal_line (why.Vehicles at total) }
 {
@@ -92,8 +88,7 @@ fn vehicles_line(at: u64, total: u64) -> Pending
 }
 
 // The line of a skim with too many entries.
-#[tactic(auto, using(pending_text::proofs::Joins::text),
-    unfolding(crate::specs::Texts::refusal_line))]
+#[tactic(auto, using(crate::proofs::Sent::text), unfolding(crate::specs::Texts::refusal_line))]
 fn skim_line(number: u128) -> Pending
     ensures { result ≡ refusal_line (why.SkimPairs number) }
 {

@@ -28,8 +28,7 @@ pub struct Summary {
 }
 
 // The lines of the counts.
-#[tactic(auto, using(pending_text::proofs::Joins::text),
-    unfolding(crate::specs::Texts::count_lines))]
+#[tactic(auto, using(crate::proofs::Sent::text), unfolding(crate::specs::Texts::count_lines))]
 fn counts(summary: &Summary) -> Pending
     ensures lines { result ≡ count_lines summary.now }
     ensures room { length result + GAP_LINES ≤ PIECE }
@@ -56,8 +55,7 @@ fn counts(summary: &Summary) -> Pending
 }
 
 // Adds the lines of a gap.
-#[tactic(auto, using(pending_text::proofs::Joins::text),
-    unfolding(crate::specs::Texts::last_gap_lines))]
+#[tactic(auto, using(crate::proofs::Sent::text), unfolding(crate::specs::Texts::last_gap_lines))]
 fn push_last_gap(text: &mut Pending, line: &GapLine)
     requires { length text.old + GAP_LINES ≤ PIECE }
     ensures { text.new ≡ text.old ++ last_gap_lines line.now }

@@ -51,8 +51,7 @@ fn step_after(times: &LinkTimes, bucket: u32) -> u64
 }
 
 // Adds the line of a bucket to what is pending.
-#[tactic(auto, using(pending_text::proofs::Joins::text),
-    unfolding(crate::specs::Texts::bucket_line))]
+#[tactic(auto, using(crate::proofs::Sent::text), unfolding(crate::specs::Texts::bucket_line))]
 fn push_bucket(pending: &mut Pending, net: &Net, times: &LinkTimes, link: LinkNo, bucket: u32)
     requires room { length pending.old + LINE ≤ PIECE }
     requires free { times.now.free ≡ free_steps net.now }
@@ -77,7 +76,7 @@ fn push_bucket(pending: &mut Pending, net: &Net, times: &LinkTimes, link: LinkNo
 }
 
 // Adds the line of a bucket.
-#[tactic(auto, using(pending_text::proofs::SendingFacts::pieces))]
+#[tactic(auto, using(crate::proofs::Sent::pieces))]
 fn add_bucket<D: Desk>(
     pending: &mut Pending,
     desk: &mut D,
@@ -98,8 +97,7 @@ fn add_bucket<D: Desk>(
 }
 
 // Adds the lines of a link.
-#[tactic(auto, using(pending_text::proofs::SendingFacts::starts),
-    unfolding(crate::specs::Texts::link_lines))]
+#[tactic(auto, using(crate::proofs::Sent::starts), unfolding(crate::specs::Texts::link_lines))]
 fn add_link<D: Desk>(
     pending: &mut Pending,
     desk: &mut D,
@@ -120,7 +118,7 @@ fn add_link<D: Desk>(
 
 /// Puts LinkTime of `assign`: for each link in table order a line for each bucket. The table has
 /// the network's links. On Failed a first part of it went out. It takes no memory.
-#[tactic(auto, using(pending_text::proofs::SendingFacts::starts))]
+#[tactic(auto, using(crate::proofs::Sent::starts))]
 pub fn put_link_times<D: Desk>(desk: &mut D, net: &Net, times: &LinkTimes) -> Result<(), Failed>
     requires { times.now.free ≡ free_steps net.now }
     ensures { Puts output.LinkTime (link_time_text net.now times.now)

@@ -9,8 +9,7 @@ use dta_model::Eight;
 use pending_text::Pending;
 
 // The line of a state.
-#[tactic(auto, using(pending_text::proofs::Joins::text),
-    unfolding(crate::specs::Texts::watch_line))]
+#[tactic(auto, using(crate::proofs::Sent::text), unfolding(crate::specs::Texts::watch_line))]
 fn line(iteration: u32, eight: &Eight) -> Pending
     ensures { result ≡ watch_line iteration eight.now }
 {

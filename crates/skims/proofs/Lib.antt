@@ -4,3 +4,4 @@ pub mod ZoneFacts
 pub mod EntryFacts
 pub mod Determined
 pub mod TimesFacts
+pub mod Sent

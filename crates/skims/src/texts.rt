@@ -38,8 +38,7 @@ fn push_least(pending: &mut Pending, least: Option<u64>)
 }
 
 // Adds the line of an entry to what is pending.
-#[tactic(auto, using(pending_text::proofs::Joins::text),
-    unfolding(crate::specs::Texts::entry_line))]
+#[tactic(auto, using(crate::proofs::Sent::text), unfolding(crate::specs::Texts::entry_line))]
 fn push_entry(pending: &mut Pending, entry: SkimEntry)
     requires { length pending.old + LINE ≤ PIECE }
     ensures { pending.new ≡ pending.old ++ entry_line entry }
@@ -55,7 +54,7 @@ fn push_entry(pending: &mut Pending, entry: SkimEntry)
 }
 
 // Adds the line of an entry.
-#[tactic(auto, using(pending_text::proofs::SendingFacts::pieces))]
+#[tactic(auto, using(crate::proofs::Sent::pieces))]
 fn add_entry<D: Desk>(pending: &mut Pending, desk: &mut D, entry: SkimEntry) -> Result<(), Failed>
     ensures { Adds output.Skim (entry_line entry) pending.old pending.new
         (D.state desk.old) (D.state desk.new) result }
@@ -66,7 +65,7 @@ fn add_entry<D: Desk>(pending: &mut Pending, desk: &mut D, entry: SkimEntry) -> 
 }
 
 // Puts the table of the entries.
-#[tactic(auto, using(pending_text::proofs::SendingFacts::starts))]
+#[tactic(auto, using(crate::proofs::Sent::starts))]
 fn put_entries<D: Desk>(desk: &mut D, entries: &[SkimEntry]) -> Result<(), Failed>
     ensures { Puts output.Skim (skim_text entries.now)
         (D.state desk.old) (D.state desk.new) result }
@@ -79,8 +78,7 @@ fn put_entries<D: Desk>(desk: &mut D, entries: &[SkimEntry]) -> Result<(), Faile
 }
 
 // The report's four lines.
-#[tactic(auto, using(pending_text::proofs::Joins::text),
-    unfolding(crate::specs::Texts::skim_report_lines))]
+#[tactic(auto, using(crate::proofs::Sent::text), unfolding(crate::specs::Texts::skim_report_lines))]
 fn report(nodes: u32, links: u32, zones: u32, entries: usize) -> Pending
     ensures { result ≡ skim_report_lines nodes links zones entries }
 {

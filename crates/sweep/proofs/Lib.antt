@@ -3,3 +3,4 @@ pub mod ScenarioFacts
 pub mod RoundFacts
 pub mod TextFacts
 pub mod Determined
+pub mod Sent

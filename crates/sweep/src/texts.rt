@@ -10,8 +10,7 @@ use desk_io::{Desk, Failed, Output, put_all};
 use pending_text::Pending;
 
 // The line before a scenario's texts.
-#[tactic(auto, using(pending_text::proofs::Joins::text),
-    unfolding(crate::specs::Texts::scenario_line))]
+#[tactic(auto, using(crate::proofs::Sent::text), unfolding(crate::specs::Texts::scenario_line))]
 fn line(place: usize, scale: u64) -> Pending
     ensures { result ≡ scenario_line place scale }
 {
@@ -64,8 +63,7 @@ fn put_scenarios<D: Desk>(desk: &mut D, scenarios: &[Scenario]) -> Result<(), Fa
 }
 
 // The report's line.
-#[tactic(auto, using(pending_text::proofs::Joins::text),
-    unfolding(crate::specs::Texts::sweep_report_line))]
+#[tactic(auto, using(crate::proofs::Sent::text), unfolding(crate::specs::Texts::sweep_report_line))]
 fn report(scenarios: usize) -> Pending
     ensures { result ≡ sweep_report_line scenarios }
 {

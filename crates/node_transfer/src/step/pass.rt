@@ -89,7 +89,11 @@ pub fn judge(rider: &Rider, exit: &Exit, outs: &[OutLink], step: u32) -> HeadAct
             HeadAction::Enters(place, turn)
         }
     };
-    if exit.outflow.left() > 0 { action } else { HeadAction::Stays }
+    if exit.outflow.left() > 0 {
+        action
+    } else {
+        HeadAction::Stays
+    }
 }
 
 /// One vehicle arrives at the end of the link.

@@ -1,0 +1,3 @@
+-- What a text is that is sent piece by piece.
+pub use Rattle.pending_text.proofs.Joins.{text}
+pub use Rattle.pending_text.proofs.SendingFacts.{pieces, starts}
