@@ -2,7 +2,7 @@
 use Rattle.std.proofs.lemmas.Bool.{and_parts, false_from_ne_true, not-true}
 use Rattle.std.specs.List.{range_with_len}
 use Rattle.std.specs.List.{list_any, flat_map}
-use Rattle.std.specs.Prelude.{filter, find, slice_get, All, ◌≢◌}
+use Rattle.std.specs.Prelude.{drop, filter, find, slice_get, All, ◌≢◌}
 use Rattle.std.proofs.Common.{◌≡◌, ℕ, zero, suc, ◌+◌, ◌<◌, ◌≤◌, Bool, true, false, cond, ◌||◌, not, List, [], ◌∷◌, ◌++◌, length, map, refl, ap, sym, ◌∙◌, subst, arith, Some, ◌⊎◌, inl, inr, append-nil}
 use Rattle.std.proofs.lemmas.Bool.Decides.{eqb_tells}
 use Rattle.std.proofs.lemmas.List.{map-append}
@@ -160,7 +160,7 @@ own-at p t T n v h below = own p t T (length p.net.nodes) 0 n v h (omega arith) 
 -- a rider by the moves of its vehicle
 pub rider-like : (p : Plan) (T U : List Move) (v : ℕ) → moves_of v T ≡ moves_of v U → rider_at p T v ≡ rider_at p U v
 unfolding rider_at entries_of arrival_of
-rider-like p T U v e = ap (λ L. record { number = v; departure = departure_of p v; route = route_of p v; entries = map (λ m. m.step) (filter is_entry L); arrival = step_in (find (λ m. not (is_entry m)) L) }) e
+rider-like p T U v e = ap (λ L. record { number = v; departure = departure_of p v; ahead = drop (length (map (λ m. m.step) (filter is_entry L))) (route_of p v); entries = map (λ m. m.step) (filter is_entry L); arrival = step_in (find (λ m. not (is_entry m)) L) }) e
 
 pub alone : (p : Plan) → IsSteady p → (t : ℕ) (T : List Move) (n l : ℕ) → queue_of l (node_moves p n t T) ≡ brought l (node_moves p n t T)
 unfolding queue_of brought

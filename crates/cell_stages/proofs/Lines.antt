@@ -1,10 +1,9 @@
 -- Lines at the start of a step, and the riders that leave them.
 use Rattle.std.proofs.lemmas.Bool.{not-true}
 use Rattle.std.specs.Option.{option_or}
-use Rattle.std.specs.Prelude.{filter, find, slice_get, All, nat_lt}
-use Rattle.std.proofs.Common.{◌≡◌, ℕ, zero, suc, ◌+◌, true, false, cond, not, List, [], ◌∷◌, ◌++◌, length, map, refl, ap, sym, ◌∙◌, arith, append-nil, Option, Some, None}
-use Rattle.std.proofs.lemmas.Bool.Decides.{nat_tests}
-use Rattle.std.proofs.lemmas.List.{length-map, map-append}
+use Rattle.std.specs.Prelude.{drop, filter, find, slice_get, All}
+use Rattle.std.proofs.Common.{◌≡◌, ℕ, suc, ◌+◌, true, false, cond, not, List, [], ◌∷◌, ◌++◌, length, map, refl, ap, sym, ◌∙◌, add-one, arith, append-nil, Option, Some, None}
+use Rattle.std.proofs.lemmas.List.{length-append, length-map, map-append}
 use Rattle.std.proofs.lemmas.List.Elements.{filter-append}
 use Rattle.std.proofs.lemmas.List.Folds.{find-append}
 use Rattle.dta_model.specs.declared.plan.Plan.{Plan}
@@ -21,7 +20,7 @@ use Rattle.dta_model.proofs.Standing.{in-queue}
 use Rattle.dta_model.proofs.Fuel.{last_in, has_moved-if, not_ready}
 use Rattle.cell_stages.proofs.Gathering.{queue-append, kept_at}
 use Rattle.dta_model.proofs.NoMoves.{no-moves}
-use Rattle.dta_model.proofs.Riders.{own_move, no_arrival}
+use Rattle.dta_model.proofs.Riders.{own_move, no_arrival, none_ahead, some_ahead}
 
 module _ (p : Plan) (sound : IsSteady p) (n t : ℕ) (T0 M : List Move) (now : All (λ m. m.step ≡ t) M) (l : ℕ) where
   late : (v : ℕ) (x : Move) (y : Target) → x.step ≡ t → leave_move p n t T0 M l v (Some x) y ≡ None
@@ -57,22 +56,12 @@ module _ (p : Plan) (sound : IsSteady p) (n t : ℕ) (T0 M : List Move) (now : A
 pub heads_of_lines : HeadsOfLines
 heads_of_lines p sound n t T0 M now l = head-of-line p (steady_of p sound) n t T0 M now l
 
-got_less : (xs : List ℕ) (k b : ℕ) → slice_get xs k ≡ Some b → nat_lt k (length xs) ≡ true
-got_less [] k b h = cc
-got_less (x ∷ xs) zero b h = grind (arith, nat_tests)
-got_less (x ∷ xs) (suc k) b h = let r = got_less xs k b h in grind (arith, nat_tests)
-
-got_none : (xs : List ℕ) (k : ℕ) → slice_get xs k ≡ None → nat_lt k (length xs) ≡ false
-got_none [] k h = grind (arith, nat_tests)
-got_none (x ∷ xs) zero h = cc
-got_none (x ∷ xs) (suc k) h = let r = got_none xs k h in grind (arith, nat_tests)
-
 none_or : (o q : Option Move) → o ≡ None → option_or o q ≡ q
 none_or None q h = refl
 none_or (Some x) q h = cc
 
 rider_by : Plan → ℕ → List Move → RiderState
-rider_by p v L = record { number = v; departure = departure_of p v; route = route_of p v; entries = map (λ m. m.step) (filter is_entry L); arrival = step_in (find (λ m. not (is_entry m)) L) }
+rider_by p v L = record { number = v; departure = departure_of p v; ahead = drop (length (map (λ m. m.step) (filter is_entry L))) (route_of p v); entries = map (λ m. m.step) (filter is_entry L); arrival = step_in (find (λ m. not (is_entry m)) L) }
 
 by_moves : (p : Plan) (T : List Move) (v : ℕ) → rider_at p T v ≡ rider_by p v (moves_of v T)
 unfolding rider_at entries_of arrival_of rider_by
@@ -83,22 +72,25 @@ unfolding rider_by
 one_more_by p v L m (Some b) only get to =
     let entry : is_entry m ≡ true = ap is_onto to in
     let count : length (map (λ x. x.step) (filter is_entry L)) ≡ length L = length-map (filter is_entry L) (λ x. x.step) ∙ ap (λ K. length K) only in
-    let less : nat_lt (length (map (λ x. x.step) (filter is_entry L))) (length (route_of p v)) ≡ true = ap (λ k. nat_lt k (length (route_of p v))) count ∙ got_less (route_of p v) (length L) b get in
+    let entries : List ℕ = map (λ x. x.step) (filter is_entry L) in
+    let here : drop (length entries) (route_of p v) ≡ b ∷ drop (suc (length entries)) (route_of p v) = some_ahead (length entries) (route_of p v) b (ap (λ k. slice_get (route_of p v) k) count ∙ get) in
+    let longer : length (entries ++ m.step ∷ []) ≡ suc (length entries) = length-append entries (m.step ∷ []) ∙ add-one (length entries) in
     let more : map (λ x. x.step) (filter is_entry (L ++ m ∷ [])) ≡ map (λ x. x.step) (filter is_entry L) ++ m.step ∷ [] =
     ap (λ K. map (λ x. x.step) K) (filter-append is_entry L (m ∷ []) ∙ ap (λ c. filter is_entry L ++ cond c (m ∷ []) []) entry) ∙ map-append (λ x. x.step) (filter is_entry L) (m ∷ []) in
     let none : find (λ x. not (is_entry x)) L ≡ None = no_arrival L only in
     let still : find (λ x. not (is_entry x)) (L ++ m ∷ []) ≡ find (λ x. not (is_entry x)) L =
     find-append (λ x. not (is_entry x)) L (m ∷ []) ∙ ap (λ c. option_or (find (λ x. not (is_entry x)) L) (cond (not c) (Some m) None)) entry ∙ none_or (find (λ x. not (is_entry x)) L) None none ∙ sym none in
-    rw (less, more, still) refl
+    rw (more, longer, still, here) refl
 one_more_by p v L m None only get to =
     let entry : is_entry m ≡ false = ap is_onto to in
     let count : length (map (λ x. x.step) (filter is_entry L)) ≡ length L = length-map (filter is_entry L) (λ x. x.step) ∙ ap (λ K. length K) only in
-    let less : nat_lt (length (map (λ x. x.step) (filter is_entry L))) (length (route_of p v)) ≡ false = ap (λ k. nat_lt k (length (route_of p v))) count ∙ got_none (route_of p v) (length L) get in
+    let entries : List ℕ = map (λ x. x.step) (filter is_entry L) in
+    let here : drop (length entries) (route_of p v) ≡ [] = none_ahead (length entries) (route_of p v) (ap (λ k. slice_get (route_of p v) k) count ∙ get) in
     let more : filter is_entry (L ++ m ∷ []) ≡ filter is_entry L = filter-append is_entry L (m ∷ []) ∙ ap (λ c. filter is_entry L ++ cond c (m ∷ []) []) entry ∙ append-nil (filter is_entry L) in
     let none : find (λ x. not (is_entry x)) L ≡ None = no_arrival L only in
     let now : find (λ x. not (is_entry x)) (L ++ m ∷ []) ≡ Some m =
     find-append (λ x. not (is_entry x)) L (m ∷ []) ∙ ap (λ c. option_or (find (λ x. not (is_entry x)) L) (cond (not c) (Some m) None)) entry ∙ none_or (find (λ x. not (is_entry x)) L) (Some m) none in
-    rw (less, more, now) refl
+    rw (more, now, here) refl
 
 pub riders_move : RidersMove
 unfolding next_target

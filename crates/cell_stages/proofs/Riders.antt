@@ -14,7 +14,7 @@ use Rattle.dta_model.specs.Trace.{has_moved, moves_of, next_target, target_at}
 use Rattle.cell_stages.specs.Transfers.{FirstWaits, RidersTell, first_due}
 use Rattle.std.specs.List.{last_or, range_with_len}
 use Rattle.dta_model.proofs.Pushes.{moves_made_is, has_moved-append}
-use Rattle.dta_model.proofs.Riders.{enters, last_map, last_move_is, no_arrival}
+use Rattle.dta_model.proofs.Riders.{enters, first_ahead, last_map, last_move_is, no_arrival}
 use Rattle.dta_model.proofs.Standing.{in-queue}
 use Rattle.dta_model.proofs.Conserved.{link_onto}
 use Rattle.dta_model.proofs.Steady.{departures_rise}
@@ -27,7 +27,8 @@ riders_tell p t l i v h =
     let whole : filter is_entry (moves_of v T) ≡ moves_of v T = enters p t v (ap leads_onto (x.1) ∙ link_onto l (x.0).target (x.2)) in
     record {
       entered = ap (λ L. last_or None (map (λ m. m.step) L)) whole ∙ last_map None (moves_of v T) ∙ ap (λ o. option_map (λ m. m.step) o) (sym (last_move_is v T));
-      next = ap (λ k. target_at (slice_get (route_of p v) k)) (moves_made_is v T ∙ sym (length-map (filter is_entry (moves_of v T)) (λ m. m.step) ∙ ap (λ L. length L) whole));
+      next = ap (λ k. target_at (slice_get (route_of p v) k)) (moves_made_is v T ∙ sym (length-map (filter is_entry (moves_of v T)) (λ m. m.step) ∙ ap (λ L. length L) whole))
+          ∙ ap target_at (sym (first_ahead (length (entries_of T v)) (route_of p v)));
       under_way = ap step_in (no_arrival (moves_of v T) whole);
     }
 

@@ -1,7 +1,7 @@
 -- Small worked cases of the definitions.
 use Rattle.capacity_credits.specs.Meter.{MeterState, unopened}
 use Rattle.net_core.specs.Rates.{steady}
-use Rattle.std.specs.Prelude.{◌≡◌, ℕ, List, ◌∷◌, [], None, Some, map, refl}
+use Rattle.std.specs.Prelude.{◌≡◌, ℕ, List, ◌∷◌, [], None, Some, drop, length, map, refl}
 use Rattle.dta_model.specs.Examples.{a_wave_frees_room, room_at_the_start_of_the_step, trip}
 use Rattle.dta_model.specs.Examples.{two_links_in_a_line}
 use Rattle.dta_model.specs.Riders.{RiderState}
@@ -16,7 +16,7 @@ use Rattle.cell_stages.specs.declared.mail.Mail.TheVariants.{Away, Batch, Room}
 -- two riders before their first link, who depart at steps 3 and 4
 abbrev waiting : ℕ → ℕ → RiderState
 waiting number departure =
-    record { number = number; departure = departure; route = 2 ∷ []; entries = []; arrival = None }
+    record { number = number; departure = departure; ahead = 2 ∷ []; entries = []; arrival = None }
 
 -- after four steps the first of them is due
 one_is_due : waiting_parts 4 (waiting 0 3 ∷ waiting 1 4 ∷ [])
@@ -28,7 +28,7 @@ abbrev first_rider : List ℕ → RiderState
 first_rider entries = record {
   number = 0;
   departure = 5;
-  route = 0 ∷ 1 ∷ [];
+  ahead = drop (length entries) (0 ∷ 1 ∷ []);
   entries = entries;
   arrival = None;
 }

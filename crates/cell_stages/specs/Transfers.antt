@@ -20,7 +20,7 @@ use Rattle.dta_model.specs.declared.plan.Plan.{Plan}
 pub record RiderTells (p : Plan) (T : List Move) (v : ℕ) : Type 0 where
   pub entered : last_or None (rider_at p T v).entries ≡ option_map (λ m. m.step) (last_move v T)
   pub next : next_target p T v
-      ≡ target_at (slice_get (rider_at p T v).route (length (rider_at p T v).entries))
+      ≡ target_at (slice_get (rider_at p T v).ahead 0)
   pub under_way : (rider_at p T v).arrival ≡ None
 
 abbrev pub RidersTell : Type 0

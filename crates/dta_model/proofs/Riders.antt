@@ -1,5 +1,5 @@
 -- What riders tell of their moves.
-use Rattle.std.specs.Prelude.{filter, find, ◌≢◌, option_map}
+use Rattle.std.specs.Prelude.{filter, find, ◌≢◌, drop, option_map, slice_get, suc, unwrap_or, zero}
 use Rattle.std.proofs.Common.{◌≡◌, ℕ, ◌≤◌, Bool, true, false, cond, not, List, [], ◌∷◌, ◌++◌, length, map, refl, ap, sym, ◌∙◌, subst, arith, append_assoc, append-nil, Option, Some, None, ◌⊎◌, inl, inr}
 use Rattle.std.proofs.lemmas.Bool.{eq-eqb, ne_eqb}
 use Rattle.std.proofs.lemmas.Bool.Decides.{eqb_tells}
@@ -107,3 +107,24 @@ no_arrival (m ∷ L) h = arrival_step (is_entry m) refl h (no_arrival L)
         tail_same : m ∷ filter is_entry L ≡ m ∷ L → filter is_entry L ≡ L
         tail_same e = cc
     arrival_step false r e ih = absurd (longer m (filter is_entry L) L (shorter L) e)
+
+-- what is ahead from a place on: its first is what stands at the place
+pub first_ahead : {X : Type 0} (k : ℕ) (xs : List X) → slice_get (drop k xs) 0 ≡ slice_get xs k
+first_ahead zero [] = refl
+first_ahead zero (x ∷ xs) = refl
+first_ahead (suc k) [] = refl
+first_ahead (suc k) (x ∷ xs) = first_ahead k xs
+
+-- and behind it are those from the next place on
+pub some_ahead : {X : Type 0} (k : ℕ) (xs : List X) (x : X) → slice_get xs k ≡ Some x
+    → drop k xs ≡ x ∷ drop (suc k) xs
+some_ahead zero (y ∷ xs) x h = ap (λ o. unwrap_or o y ∷ xs) h
+some_ahead (suc k) (y ∷ xs) x h = some_ahead k xs x h
+some_ahead zero [] x h = cc
+some_ahead (suc k) [] x h = cc
+
+pub none_ahead : {X : Type 0} (k : ℕ) (xs : List X) → slice_get xs k ≡ None → drop k xs ≡ []
+none_ahead zero [] h = refl
+none_ahead zero (x ∷ xs) h = cc
+none_ahead (suc k) [] h = refl
+none_ahead (suc k) (x ∷ xs) h = none_ahead k xs h

@@ -16,7 +16,7 @@ four = setting_out 4 3 (2 ∷ 5 ∷ [])
 
 -- it enters both in order, and then it arrives
 enters_enters_arrives : moved (moved (moved four 5) 15) 25
-    ≡ record four { entries = 5 ∷ 15 ∷ []; arrival = Some 25 }
+    ≡ record four { ahead = []; entries = 5 ∷ 15 ∷ []; arrival = Some 25 }
 enters_enters_arrives = refl
 
 -- a rider is due from the step after that of its departure

@@ -3,7 +3,7 @@ ghost use Rattle.dta_model.specs.Plans.{link_numbers};
 ghost use Rattle.dta_model.specs.Riders.{moved};
 ghost use Rattle.link_queues.specs.Riders.{setting_out};
 ghost use Rattle.std.specs.List.{last_or};
-ghost use Rattle.std.specs.Prelude.{◌≡◌, ◌<◌, ◌++◌, ◌∷◌, [], ◌↔◌, length, slice_get, option_map};
+ghost use Rattle.std.specs.Prelude.{◌≡◌, ◌≢◌, ◌++◌, [], ◌↔◌, length, slice_get, option_map};
 ghost use Rattle.std.specs.Prelude.{◌≤◌, ◌+◌, IfOk, IsNone, IsSome, None};
 ghost use Rattle.std.specs.Vec.{vec_len, vec_capacity};
 
@@ -20,10 +20,10 @@ pub struct Rider {
     departure: u32,
     last: Option<u32>,
     next: Option<LinkNo>,
-    // The links of the route, and behind them the steps in which they were entered.
+    // The steps in which links were entered, and behind them the links that are still ahead.
     path: Vec<u32>,
-    // How many links the route has.
-    links: usize,
+    // How many links are entered.
+    entered: usize,
     arrival: Option<u32>,
 }
 
@@ -49,9 +49,20 @@ fn put_links(path: &mut Vec<u32>, links: &[LinkNo])
     }
 }
 
+// The link at a place of a path.
+fn link_at(path: &[u32], place: usize) -> Option<LinkNo>
+    ensures { option_map (λ link. link.0) result ≡ slice_get path.now place }
+{
+    if place < path.len() {
+        Some(LinkNo(path[place]))
+    } else {
+        None
+    }
+}
+
 impl Rider {
-    /// A rider who has entered no link, with room for the entry steps of all links of the route.
-    /// The route is copied.
+    /// A rider who has entered no link. The route is copied: the step of an entry takes the place of
+    /// the link.
     pub fn new(
         alloc: Global,
         number: u32,
@@ -62,7 +73,7 @@ impl Rider {
             (λ rider. rider ≡ setting_out number departure (link_numbers route.now)) }
     {
         let links = route.as_slice();
-        let mut path = Vec::with_capacity(alloc, 2 * links.len())?;
+        let mut path = Vec::with_capacity(alloc, links.len())?;
         put_links(&mut path, links);
         Ok(Rider {
             number,
@@ -70,7 +81,7 @@ impl Rider {
             last: None,
             next: links.first().copied(),
             path,
-            links: links.len(),
+            entered: 0,
             arrival: None,
         })
     }
@@ -89,12 +100,11 @@ impl Rider {
         self.departure
     }
 
-    /// The first link of the route that isn't entered yet, and `None` exactly where all are
-    /// entered. A rider who has one hasn't arrived.
+    /// The first link that is ahead, and `None` exactly where all are entered. A rider who has one
+    /// hasn't arrived.
     pub fn next_link(&self) -> Option<LinkNo>
-        ensures link { option_map (λ link. link.0) result
-            ≡ slice_get self.now.route (length self.now.entries) }
-        ensures none { IsNone result ↔ (length self.now.entries ≡ length self.now.route) }
+        ensures link { option_map (λ link. link.0) result ≡ slice_get self.now.ahead 0 }
+        ensures none { IsNone result ↔ (self.now.ahead ≡ []) }
         ensures under_way { IsSome result → self.now.arrival ≡ None }
     {
         self.next
@@ -114,31 +124,11 @@ impl Rider {
         ensures entries { result.entries ≡ self.entries }
         ensures arrival { result.arrival ≡ self.arrival }
     {
-        let entered = self.entered();
         let mut entries = self.path;
-        entries.copy_within(self.links.., 0);
-        entries.truncate(entered);
+        entries.truncate(self.entered);
         Journey {
             entries: Steps::of(entries),
             arrival: self.arrival,
-        }
-    }
-
-    // How many links are entered.
-    fn entered(&self) -> usize
-        ensures { result ≡ length self.now.entries }
-    {
-        self.path.len() - self.links
-    }
-
-    // The link at a place of the route.
-    fn link_at(&self, place: usize) -> Option<LinkNo>
-        ensures { option_map (λ link. link.0) result ≡ slice_get self.now.route place }
-    {
-        if place < self.links {
-            Some(LinkNo(self.path[place]))
-        } else {
-            None
         }
     }
 
@@ -154,13 +144,14 @@ impl Rider {
         }
     }
 
-    // Notes a step as that of the next entry. The room is there.
+    // Notes a step as that of the next entry, in the place of the link.
     fn enter(&mut self, step: u32)
-        requires { length self.old.entries < length self.old.route }
-        ensures { self.new ≡ record self.old { entries = self.old.entries ++ step ∷ [] } }
+        requires { self.old.ahead ≢ [] }
+        ensures { self.new ≡ moved self.old step }
     {
-        self.next = self.link_at(self.entered() + 1);
-        self.path.push_reserved(step);
+        self.path[self.entered] = step;
+        self.entered += 1;
+        self.next = link_at(&self.path, self.entered);
         self.last = Some(step);
     }
 }

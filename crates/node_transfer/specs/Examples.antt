@@ -16,7 +16,7 @@ most_count = refl
 -- two riders before their first link, who depart at steps 3 and 4
 abbrev waiting : ℕ → ℕ → RiderState
 waiting number departure =
-    record { number = number; departure = departure; route = 2 ∷ []; entries = []; arrival = None }
+    record { number = number; departure = departure; ahead = 2 ∷ []; entries = []; arrival = None }
 
 -- step 4 releases the other one, behind the first
 both_are_due : released 4 (waiting 1 4 ∷ []) (waiting 0 3 ∷ [])

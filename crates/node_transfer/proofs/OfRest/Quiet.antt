@@ -38,12 +38,12 @@ unfolding head_action
 head_action-stays step exit outs r h = by_entry (last_or None r.entries) h
   where
     by_test : (c : Bool) (entry : ℕ) → step < entry + exit.free
-        → cond c (by_target step (entry + exit.free) exit.turns outs (slice_get r.route (length r.entries))) Stays ≡ Stays
-    by_test true entry later = target-stays step (entry + exit.free) exit.turns outs (slice_get r.route (length r.entries)) later
+        → cond c (by_target step (entry + exit.free) exit.turns outs (slice_get r.ahead 0)) Stays ≡ Stays
+    by_test true entry later = target-stays step (entry + exit.free) exit.turns outs (slice_get r.ahead 0) later
     by_test false entry later = refl
 
     by_entry : (o : Option ℕ) → IfSome o (λ entry. step < entry + exit.free)
-        → head_action_by step exit outs o (slice_get r.route (length r.entries)) ≡ Stays
+        → head_action_by step exit outs o (slice_get r.ahead 0) ≡ Stays
     by_entry None later = refl
     by_entry (Some entry) later = by_test (nat_lt 0 exit.outflow.left) entry later
 

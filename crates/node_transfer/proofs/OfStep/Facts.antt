@@ -23,7 +23,7 @@ use Rattle.dta_model.specs.declared.trip.Trip.{Trip}
 use Rattle.dta_model.proofs.Journeys.{routes_are_followed}
 use Rattle.dta_model.proofs.Conserved.{link_onto}
 use Rattle.dta_model.proofs.Fuel.{has_moved-if}
-use Rattle.dta_model.proofs.Riders.{last_move_is}
+use Rattle.dta_model.proofs.Riders.{first_ahead, last_move_is}
 use Rattle.cell_stages.proofs.Riders.{riders_tell}
 use Rattle.dta_model.proofs.Riders.{enters}
 use Rattle.dta_model.proofs.Standing.{in-queue}
@@ -88,12 +88,12 @@ pub record OnLink (p : Plan) (n t l v : ℕ) : Type 0 where
   pub entry : Move
   pub came : last_move v (T p n t) ≡ Some entry
   pub last : last_or None (rider_at p (T p n t) v).entries ≡ Some entry.step
-  pub next : next_target p (T p n t) v ≡ target_at (slice_get (rider_at p (T p n t) v).route (length (rider_at p (T p n t) v).entries))
+  pub next : next_target p (T p n t) v ≡ target_at (slice_get (rider_at p (T p n t) v).ahead 0)
   pub under_way : (rider_at p (T p n t) v).arrival ≡ None
   pub only : OnlyEnters (T p n t) v
   pub stood : stands_on l (T p n t) v ≡ true
   pub started : has_moved v (T p n t) ≡ true
-  pub allowed : (b : ℕ) → slice_get (rider_at p (T p n t) v).route (length (rider_at p (T p n t) v).entries) ≡ Some b → Allowed p n l b
+  pub allowed : (b : ℕ) → slice_get (rider_at p (T p n t) v).ahead 0 ≡ Some b → Allowed p n l b
 
 module _ (p : Plan) (sound : IsSound p) (n t l : ℕ) (to : (link_at p l).to.0 ≡ n) where
   out-found : (b : ℕ) → nat_eq (link_at p b).from.0 n ≡ true → b < length p.net.links → find (λ o. nat_eq o b) (outs p n) ≡ Some b
@@ -116,7 +116,7 @@ module _ (p : Plan) (sound : IsSound p) (n t l : ℕ) (to : (link_at p l).to.0 �
         only = whole;
         stood = ap (λ o. leads_there_of o) (x.1) ∙ x.2;
         started = has_moved-if v (T p n t) (x.0) (x.1);
-        allowed = λ b e. allow b (x.0) (x.2) (last_at None (moves_of v (T p n t)) (x.0) (sym (last_move_is v (T p n t)) ∙ x.1)) (ap (λ k. slice_get (route_of p v) k) (sym count) ∙ e);
+        allowed = λ b e. allow b (x.0) (x.2) (last_at None (moves_of v (T p n t)) (x.0) (sym (last_move_is v (T p n t)) ∙ x.1)) (ap (λ k. slice_get (route_of p v) k) (sym count) ∙ sym (first_ahead (length (map (λ m. m.step) (filter is_entry (moves_of v (T p n t))))) (route_of p v)) ∙ e);
       }
     where
       leads_there_of : Option Move → Bool

@@ -82,7 +82,7 @@ conds_and true false x y = refl
 conds_and false true x y = refl
 conds_and false false x y = refl
 
-head_action-of : (t : ℕ) (exit : Exit) (os : List OutLink) (r : RiderState) (entry : ℕ) (o : Option ℕ) → last_or None r.entries ≡ Some entry → slice_get r.route (length r.entries) ≡ o
+head_action-of : (t : ℕ) (exit : Exit) (os : List OutLink) (r : RiderState) (entry : ℕ) (o : Option ℕ) → last_or None r.entries ≡ Some entry → slice_get r.ahead 0 ≡ o
     → head_action t exit os r ≡ cond (nat_lt 0 exit.outflow.left) (by_target t (entry + exit.free) exit.turns os o) Stays
 unfolding head_action
 head_action-of t exit os r entry o e q = rw (e, q) refl
@@ -149,7 +149,7 @@ module _ (p : Plan) (n t : ℕ) (M : List Move) where
 
   -- what the code finds is what the definitions say
   pub head_action-head : (l v entry : ℕ) (o : Option ℕ) → last_or None (rider_at p (T p n t) v).entries ≡ Some entry
-      → slice_get (rider_at p (T p n t) v).route (length (rider_at p (T p n t) v).entries) ≡ o → ((b : ℕ) → o ≡ Some b → Allowed p n l b)
+      → slice_get (rider_at p (T p n t) v).ahead 0 ≡ o → ((b : ℕ) → o ≡ Some b → Allowed p n l b)
       → head_action t (exit_mid p n t M l) (map (out_mid p n t M) (outs p n)) (rider_at p (T p n t) v) ≡ next_head_action l (entry + (link_at p l).free) o
   unfolding may_move link_allowance
   head_action-head l v entry None e q a =

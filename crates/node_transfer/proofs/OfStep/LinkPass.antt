@@ -99,14 +99,14 @@ module _ (p : Plan) (sound : IsSound p) (n t l : ℕ) (to : (link_at p l).to.0 �
         ∙ ap (λ o. leave_move p n t (T p n t) M l v o (next_target p (T p n t) v)) F.came
 
     head-step-of : All (λ m. m.step ≡ t) M → HeadStep M
-    head-step-of now = by_next (slice_get (rider_at p (T p n t) v).route (length (rider_at p (T p n t) v).entries)) refl
+    head-step-of now = by_next (slice_get (rider_at p (T p n t) v).ahead 0) refl
       where
         by_test : (o : Option ℕ) (x : Target) (c : Bool) → next_target p (T p n t) v ≡ x → may_move p n t (T p n t) M l (F.entry.step + (link_at p l).free) x ≡ c
             → (c ≡ true → pass_of M ≡ pass_of (M ++ m0 ∷ [])) → (c ≡ false → pass_of M ≡ work_of M) → HeadStep M
         by_test o x true e q go stay = free-head m0 (head-is now ∙ ap (λ y. where_true (may_move p n t (T p n t) M l (F.entry.step + (link_at p l).free) y) m0) e ∙ ap (λ d. where_true d m0) q) refl F.stood leaves (go refl)
         by_test o x false e q go stay = stuck-head (head-is now ∙ ap (λ y. where_true (may_move p n t (T p n t) M l (F.entry.step + (link_at p l).free) y) m0) e ∙ ap (λ d. where_true d m0) q) (stay refl)
 
-        by_next : (o : Option ℕ) → slice_get (rider_at p (T p n t) v).route (length (rider_at p (T p n t) v).entries) ≡ o → HeadStep M
+        by_next : (o : Option ℕ) → slice_get (rider_at p (T p n t) v).ahead 0 ≡ o → HeadStep M
         by_next None q =
             let w = head_action-head p n t M l v F.entry.step None F.last q (λ b h. F.allowed b (q ∙ h)) in
             let e : next_target p (T p n t) v ≡ Arrived = F.next ∙ ap (λ y. target_at y) q in

@@ -127,9 +127,9 @@ module _ (p : Plan) (n t : ℕ) where
         omega (arith, l, a, b))
 
     rides-of : (l v : ℕ) → OnLink p n t l v → Rides (outs p n) (rider_at p (T p n t) v)
-    rides-of l v F = record { order = outs-order; under_way = F.under_way; placed = by_next (slice_get (rider_at p (T p n t) v).route (length (rider_at p (T p n t) v).entries)) refl }
+    rides-of l v F = record { order = outs-order; under_way = F.under_way; placed = by_next (slice_get (rider_at p (T p n t) v).ahead 0) refl }
       where
-        by_next : (o : Option ℕ) → slice_get (rider_at p (T p n t) v).route (length (rider_at p (T p n t) v).entries) ≡ o → IfSome o (λ b. place_of b (outs p n) < length (outs p n))
+        by_next : (o : Option ℕ) → slice_get (rider_at p (T p n t) v).ahead 0 ≡ o → IfSome o (λ b. place_of b (outs p n) < length (outs p n))
         by_next None e = search rules
         by_next (Some b) e = let r = placed-in b (outs p n) (F.allowed b e).there in search rules
 

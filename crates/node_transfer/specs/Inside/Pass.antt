@@ -103,7 +103,7 @@ head_action_by step exit outs (Some entry) target =
 -- what the head of the line does
 unfoldable pub head_action : ℕ → Exit → List OutLink → RiderState → HeadAction
 head_action step exit outs r =
-    head_action_by step exit outs (last_or None r.entries) (slice_get r.route (length r.entries))
+    head_action_by step exit outs (last_or None r.entries) (slice_get r.ahead 0)
 
 -- a line, its exit, the out-links and those who arrived, while heads move
 pub record Work : Type 0 where
@@ -132,7 +132,7 @@ passed step (r ∷ line) exit outs arrived = elim (head_action step exit outs r)
 pub record Rides (links : List ℕ) (r : RiderState) : Type 0 where
   pub order : IsNonDecreasing links
   pub under_way : r.arrival ≡ None
-  pub placed : IfSome (slice_get r.route (length r.entries)) (λ b. place_of b links < length links)
+  pub placed : IfSome (slice_get r.ahead 0) (λ b. place_of b links < length links)
 
 -- how many riders an out-link has
 abbrev pub held : OutLink → ℕ

@@ -34,4 +34,4 @@ put_at (Some l) r lines = changed_at (with_last r) l lines
 
 -- a rider last in the line of the first link of its route
 abbrev pub put_last : RiderState → List (List RiderState) → List (List RiderState)
-put_last r lines = put_at (slice_get r.route 0) r lines
+put_last r lines = put_at (slice_get r.ahead 0) r lines
