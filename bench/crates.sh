@@ -9,7 +9,7 @@
 # in seconds of processors (with those of the kernel), and the largest peak of memory in MB; or what
 # is said above it. Ends with 1 where a proved program and a plain one come to something else. Where
 # other work is done meanwhile the seconds say little.
-names='labels lines loading floor release tables texts iteration'
+names='fills lines loading floor release tables texts iteration'
 bench=$(dirname "$(readlink -f "$0")")
 for name in "$@"; do
     case " $names " in *" $name "*) ;; *) echo "crates.sh: names are $names" >&2; exit 2 ;; esac
@@ -64,9 +64,9 @@ heading() { printf '| %s | clock | processors | MB |\n|---|---|---|---|\n' "$1";
 # The filling of labels, ten times, for eight zones of a grid of 60 nodes a side: 14,160 links of 4
 # to 12 steps (36 km/h are 60 metres a step), 1,200 steps in buckets of 50. The corners are zones,
 # and a node of each side.
-labels() {
-    proved labels
-    plain labels
+fills() {
+    proved fills
+    plain fills
     awk -v n=60 'function link(to) {
         print ++l "," k + 1 "," to + 1 "," 60 * (4 + (l - 1) * 7 % 9) ",1,36,900" >"link.csv"
     }
@@ -84,7 +84,7 @@ labels() {
             if (r > 0) link(k - n)
         }
     }'
-    heading labels
+    heading fills
     measure 'the network read' "$program"
     beside 'ten fills' 1 2 3 4 5 6 7 8 9 10
 }

@@ -58,7 +58,7 @@ pub fn begin<R: AllocGlobal + Threads + Sync>(
         assignment.start,
     )?;
     let lines = Vec::new(rt.alloc());
-    let pool = TablePool::new(rt.alloc());
+    let pool = TablePool::new(rt.alloc(), assignment.workers);
     Ok(Iteration {
         routes,
         lines,
@@ -123,7 +123,6 @@ pub fn advance<R: AllocGlobal + Threads + Sync>(
         &times,
         old,
         number,
-        assignment.workers,
         &it.pool,
     )?;
     it.routes = next;
@@ -153,7 +152,7 @@ pub fn finish<R: AllocGlobal + Threads + Sync>(
     let times = times_of(rt.alloc(), assignment, &routes, &loaded)?;
     let end = end_of(assignment, &routes, &loaded);
     let (net, trips) = (assignment.net, assignment.trips);
-    let line = gap_by_shares(rt, net, &times, trips, &routes, assignment.workers, &pool)?;
+    let line = gap_by_shares(rt, net, &times, trips, &routes, &pool)?;
     lines.push(line)?;
     Ok(Assigned {
         routes,

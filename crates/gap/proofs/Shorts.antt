@@ -11,7 +11,7 @@ use Rattle.dta_model.specs.Plans.{link_numbers}
 use Rattle.dta_model.specs.TimedWalks.{arrival_after, penalty_steps}
 use Rattle.dta_model.specs.declared.loading.TheConstants.{MOST_HORIZON}
 use Rattle.link_times.specs.TimeTables.{IsShort}
-use Rattle.time_routes.proofs.OfStates.LongestFacts.{late_same}
+use Rattle.labels.proofs.OfStates.LongestFacts.{late_same}
 
 either : (P : ℕ → Type 0) (t : Bool) (x y : ℕ) → P x → P y → P (cond t x y)
 either P true x y p q = p

@@ -1,7 +1,7 @@
 -- Least times that are told, as numbers to be summed.
 use Rattle.std.specs.Prelude.{ℕ, List, Option, None, Some, false, is_some, map, slice_get}
 use Rattle.net_core.specs.declared.rows.LinkNo.{LinkNo}
-use Rattle.time_routes.specs.declared.reading.tell.Ask.{Ask}
+use Rattle.time_routes.specs.declared.vehicles.Ask.{Ask}
 
 -- the least time of each vehicle that has a route is asked for
 abbrev pub asks_for : List (Option (List LinkNo)) → List Ask

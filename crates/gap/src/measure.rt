@@ -199,15 +199,14 @@ pub fn gap(
     Ok(gap_line(net, times, trips, routes, &told.leasts))
 }
 
-/// The same as [`gap`], by shares of the destinations side by side, at most as many as there are
-/// workers. Labels are filled in the pool's memory.
+/// The same as [`gap`], by shares of the destinations side by side, at most as many as the pool
+/// has workers. Labels are filled in the pool's memory.
 pub fn gap_by_shares<R: AllocGlobal + Threads + Sync>(
     rt: &R,
     net: &Net,
     times: &LinkTimes,
     trips: &[Trip],
     routes: &Routes,
-    workers: u32,
     pool: &TablePool,
 ) -> Result<GapLine, Memory>
     requires table { length times.now.free ≡ length net.now.links }
@@ -215,11 +214,10 @@ pub fn gap_by_shares<R: AllocGlobal + Threads + Sync>(
     requires trips { AreTrips trips.now }
     requires each { length routes.now ≡ length trips.now }
     requires walks { AreWalks net.now trips.now routes.now }
-    requires workers { 1 ≤ workers }
     ensures { IfOk result (IsGapLine (time_at times.now) net.now trips.now routes.now) }
 {
     let asks = asks_of(rt.alloc(), routes.as_slice())?;
-    let told = tell_by_shares(rt, net, times, trips, &asks, workers, pool)?;
-    let line = gap_line_by_shares(rt, net, times, trips, routes, &told.leasts, workers)?;
+    let told = tell_by_shares(rt, net, times, trips, &asks, pool)?;
+    let line = gap_line_by_shares(rt, net, times, trips, routes, &told.leasts, pool.workers())?;
     Ok(line)
 }

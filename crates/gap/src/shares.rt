@@ -3,7 +3,7 @@ ghost use Rattle.std.specs.Prelude.{◌≡◌, ℕ, ◌+◌, ◌*◌, ◌<◌, �
 ghost use Rattle.dta_model.specs.LinkTimes.{time_at};
 ghost use Rattle.gap.specs.Gap.{over_vehicles, route_time};
 ghost use Rattle.gap.specs.Shares.{cut_at, IsMeasure, IsPart};
-ghost use Rattle.time_routes.specs.declared.reading.shares.TheConstants.{MOST_SHARES};
+ghost use Rattle.time_routes.specs.declared.shares.TheConstants.{MOST_SHARES};
 
 use crate::measure::steps_between;
 use dta_model::{Route, Trip};

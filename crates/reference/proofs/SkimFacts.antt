@@ -11,7 +11,7 @@ use Rattle.dta_model.specs.TimedWalks.{walk_time}
 use Rattle.dta_model.specs.declared.loading.TheConstants.{MOST_HORIZON}
 use Rattle.link_times.proofs.Links.{steps_least, steps_most}
 use Rattle.link_times.proofs.SoundTimes.{time_holds}
-use Rattle.time_routes.specs.ToZone.{TellsLeast}
+use Rattle.labels.specs.ToZone.{TellsLeast}
 use Rattle.dta_words.specs.Ranges.{AreSettings}
 use Rattle.dta_words.specs.declared.command.Settings.{Settings}
 use Rattle.skims.specs.GivenTimes.{AreRowsOf, table_given}

@@ -12,7 +12,7 @@ use Rattle.dta_model.specs.declared.trip.Trip.{Trip}
 use Rattle.dta_model.specs.Sound.{AreWalks}
 use Rattle.gap.specs.Gap.{has_route, routed}
 use Rattle.time_routes.specs.Destinations.{AreTold, asked_walk, asks_walk, WalkOf}
-use Rattle.time_routes.specs.declared.reading.tell.Ask.{Ask}
+use Rattle.time_routes.specs.declared.vehicles.Ask.{Ask}
 use Rattle.route_flows.specs.Asked.{AreAsked, Renews}
 use Rattle.route_flows.specs.Averages.{AreChosenRoutes, AreNextRoutes, is_selected}
 

@@ -15,7 +15,7 @@ use Rattle.dta_model.specs.declared.trip.Trip.{Trip}
 use Rattle.time_routes.specs.Destinations.{WalkOf}
 use Rattle.route_flows.specs.Averages.{is_selected}
 use Rattle.route_flows.specs.Laws.{ChosenAreDetermined, NextAreDetermined}
-use Rattle.time_routes.proofs.Basics.{some_same}
+use Rattle.labels.proofs.Basics.{some_same}
 
 -- ---- one walk comes first
 equal_both : (a b : Ordering) → is_le a ≡ true → is_le b ≡ true → a ≡ ordering_reverse b → a ≡ Equal

@@ -16,7 +16,7 @@ use Rattle.dta_model.specs.TimedWalks.{arrival_after, penalty_steps, walk_time}
 use Rattle.dta_model.specs.declared.trip.Trip.{Trip}
 use Rattle.link_times.proofs.Places.{bucket_inside, by_bucket-get, by_bucket-long}
 use Rattle.time_routes.specs.Destinations.{AreTold, asks_walk, WalkOf}
-use Rattle.time_routes.specs.declared.reading.tell.Ask.{Ask}
+use Rattle.time_routes.specs.declared.vehicles.Ask.{Ask}
 use Rattle.route_flows.specs.Averages.{AreChosenRoutes, AreFirstRoutes, AreStartedBy, AreStartedRoutes, free_time, StartsOn}
 use Rattle.route_flows.specs.Starting.{asks_for_rest, FillsIn}
 use Rattle.route_flows.specs.Starts.{IsStarted, TellsStart}

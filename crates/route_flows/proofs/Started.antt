@@ -11,7 +11,7 @@ use Rattle.dta_model.specs.Sound.{AreWalks}
 use Rattle.dta_model.specs.Walks.{IsWalk}
 use Rattle.dta_model.specs.declared.trip.Trip.{Trip}
 use Rattle.time_routes.specs.Destinations.{AreTold, asks_walk, WalkOf}
-use Rattle.time_routes.specs.declared.reading.tell.Ask.{Ask}
+use Rattle.time_routes.specs.declared.vehicles.Ask.{Ask}
 use Rattle.route_flows.specs.Averages.{AreStartedBy, StartsOn}
 use Rattle.route_flows.specs.Starting.{asks_for_rest, FillsIn, or_other}
 use Rattle.route_flows.specs.Starts.{TellsStart}

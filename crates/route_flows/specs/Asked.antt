@@ -4,7 +4,7 @@ use Rattle.std.specs.Prelude.{slice_get}
 use Rattle.net_core.specs.declared.rows.LinkNo.{LinkNo}
 use Rattle.gap.specs.Gap.{has_route}
 use Rattle.route_flows.specs.Averages.{is_selected}
-use Rattle.time_routes.specs.declared.reading.tell.Ask.{Ask}
+use Rattle.time_routes.specs.declared.vehicles.Ask.{Ask}
 
 -- the walks of the first vehicles that are selected are asked for, and the least times of those
 -- that have routes, if these are wanted

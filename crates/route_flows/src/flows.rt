@@ -55,8 +55,7 @@ pub fn first_routes<R: AllocGlobal + Threads + Sync>(
         &times,
         trips,
         &asks,
-        workers,
-        &TablePool::new(alloc),
+        &TablePool::new(alloc, workers),
     )?;
     Ok(Routes::of(told.walks))
 }
@@ -97,8 +96,7 @@ pub fn started_routes<R: AllocGlobal + Threads + Sync>(
         &times,
         trips,
         &asks,
-        workers,
-        &TablePool::new(alloc),
+        &TablePool::new(alloc, workers),
     )?;
     fill_in(&mut walks, &mut routes);
     Ok(Routes::of(routes))
@@ -138,8 +136,7 @@ pub fn next_routes<R: AllocGlobal + Threads + Sync>(
         times,
         trips,
         &asks,
-        workers,
-        &TablePool::new(alloc),
+        &TablePool::new(alloc, workers),
     )?;
     let mut next = copies(alloc, old)?;
     renew_selected(&mut walks, k, &mut next);
@@ -148,7 +145,7 @@ pub fn next_routes<R: AllocGlobal + Threads + Sync>(
 
 /// The gap of iteration k and the routes of the next one, in one pass over the destinations: what
 /// `gap` and [`next_routes`] give. Routes that are kept are moved, and none is copied. Labels
-/// are filled in the pool's memory.
+/// are filled in the pool's memory, by its workers.
 pub fn gap_and_next_routes<R: AllocGlobal + Threads + Sync>(
     rt: &R,
     net: &Net,
@@ -156,7 +153,6 @@ pub fn gap_and_next_routes<R: AllocGlobal + Threads + Sync>(
     times: &LinkTimes,
     routes: Routes,
     k: u32,
-    workers: u32,
     pool: &TablePool,
 ) -> Result<(GapLine, Routes), Memory>
     requires table { length times.now.free ≡ length net.now.links }
@@ -166,16 +162,14 @@ pub fn gap_and_next_routes<R: AllocGlobal + Threads + Sync>(
     requires walks { AreWalks net.now trips.now routes }
     requires k_least { 1 ≤ k }
     requires k_most { k ≤ MOST_ITERATION }
-    requires workers_least { 1 ≤ workers }
-    requires workers_most { workers ≤ MOST_WORKERS }
     ensures gap { IfOk result (λ r. IsGapLine (time_at times.now) net.now trips.now routes r.0) }
     ensures next { IfOk result (λ r. AreNextRoutes (time_at times.now) net.now trips.now k routes
         r.1) }
     ensures walks { IfOk result (λ r. AreWalks net.now trips.now r.1) }
 {
     let asks = asks_of(rt.alloc(), routes.as_slice(), true, k)?;
-    let Told { leasts, mut walks } = tell_by_shares(rt, net, times, trips, &asks, workers, pool)?;
-    let line = gap_line_by_shares(rt, net, times, trips, &routes, &leasts, workers)?;
+    let Told { leasts, mut walks } = tell_by_shares(rt, net, times, trips, &asks, pool)?;
+    let line = gap_line_by_shares(rt, net, times, trips, &routes, &leasts, pool.workers())?;
     let mut next = routes.into_vec();
     renew_selected(&mut walks, k, &mut next);
     Ok((line, Routes::of(next)))

@@ -4,7 +4,7 @@ use Rattle.std.specs.List.{AllZip}
 use Rattle.net_core.specs.Network.{zones}
 use Rattle.net_core.specs.declared.rows.NetRows.{NetRows}
 use Rattle.dta_model.specs.Least.{IsLeast}
-use Rattle.time_routes.specs.ToZone.{TellsLeast}
+use Rattle.labels.specs.ToZone.{TellsLeast}
 use Rattle.skims.specs.Laws.{SkimsAreDetermined}
 use Rattle.skims.specs.Skim.{Question, questions, IsEntryOf}
 use Rattle.skims.specs.declared.skim_entry.SkimEntry.{SkimEntry}

@@ -4,8 +4,8 @@ use Rattle.std.specs.Prelude.{slice_index}
 use Rattle.std.specs.declared.alloc.Global.{Global}
 use Rattle.net_core.specs.Network.{zones}
 use Rattle.net_core.specs.declared.rows.NetRows.{NetRows}
-use Rattle.time_routes.specs.Named.{zone_named}
-use Rattle.time_routes.specs.ToZone.{TellsLeast}
+use Rattle.labels.specs.Named.{zone_named}
+use Rattle.labels.specs.ToZone.{TellsLeast}
 use Rattle.skims.specs.Leasts.{AreBetween, AreFrom, AreTo, IsFrom}
 use Rattle.skims.specs.Skim.{IsEntryOf}
 use Rattle.skims.proofs.ZipFacts.{zip-at, zip-length}

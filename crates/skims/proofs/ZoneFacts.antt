@@ -11,7 +11,7 @@ use Rattle.net_core.specs.declared.rows.ZoneNo.{ZoneNo}
 use Rattle.net_core.proofs.Numbers.{numbers_grow}
 use Rattle.dta_model.specs.LinkTimes.{TimeTable}
 use Rattle.net_core.specs.declared.rows.NetRows.{NetRows}
-use Rattle.time_routes.specs.ToZone.{zone_numbers, ToZones}
+use Rattle.labels.specs.ToZone.{zone_numbers, ToZones}
 
 -- zones noted so far
 abbrev pub noted_in : List NodeRow → List ℕ

@@ -6,7 +6,7 @@ use Rattle.std.proofs.Common.{Vec}
 use Rattle.net_core.specs.Network.{zones}
 use Rattle.net_core.specs.declared.rows.NetRows.{NetRows}
 use Rattle.dta_model.specs.LinkTimes.{TimeTable}
-use Rattle.time_routes.specs.ToZone.{TellsLeast}
+use Rattle.labels.specs.ToZone.{TellsLeast}
 
 -- what least times are sought in, and for which starts
 pub record Sought : Type 0 where

@@ -3,7 +3,7 @@ use Rattle.std.specs.Prelude.{◌≡◌, ℕ, cond, nat_eq, List, [], map}
 use Rattle.std.specs.List.{AllZip, flat_map}
 use Rattle.net_core.specs.Network.{zones}
 use Rattle.net_core.specs.declared.rows.NetRows.{NetRows}
-use Rattle.time_routes.specs.ToZone.{TellsLeast}
+use Rattle.labels.specs.ToZone.{TellsLeast}
 use Rattle.skims.specs.declared.skim_entry.SkimEntry.{SkimEntry}
 
 -- what is asked of a table: the least time from a zone to another, for a start

@@ -5,14 +5,14 @@ ghost use Rattle.std.specs.List.{range_with_len};
 ghost use Rattle.net_core.specs.Network.{zones as zones_of};
 ghost use Rattle.dta_model.specs.LinkTimes.{time_at};
 ghost use Rattle.skims.specs.Leasts.{AreBetween, AreFrom, AreTo};
-ghost use Rattle.time_routes.specs.Named.{zone_named};
-ghost use Rattle.time_routes.specs.ToZone.{destination, zone_numbers, TellsLeast};
+ghost use Rattle.labels.specs.Named.{zone_named};
+ghost use Rattle.labels.specs.ToZone.{destination, zone_numbers, TellsLeast};
 
+use labels::{GroupLabels, MOST_GROUP};
 use link_times::LinkTimes;
 use net_core::{Memory, Net, ZoneNo};
 use std::alloc::Global;
 use std::marker::Model;
-use time_routes::{GroupLabels, MOST_GROUP};
 
 // The least times to a zone for a start: from each zone in order, none from the zone itself.
 type Leasts = Vec<Option<u64>>;

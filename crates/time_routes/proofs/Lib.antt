@@ -1,4 +1,4 @@
-pub mod Basics
-pub mod OfStates
-pub mod OfFilling
-pub mod OfReading
+pub mod TellFacts
+pub mod FirstFacts
+pub mod AnswerFacts
+pub mod AllTold

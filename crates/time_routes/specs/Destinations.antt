@@ -4,8 +4,8 @@ use Rattle.std.specs.Prelude.{slice_get}
 use Rattle.net_core.specs.declared.rows.LinkNo.{LinkNo}
 use Rattle.net_core.specs.declared.rows.NetRows.{NetRows}
 use Rattle.dta_model.specs.declared.trip.Trip.{Trip}
-use Rattle.time_routes.specs.ToZone.{TellsLeast, TellsWalk}
-use Rattle.time_routes.specs.declared.reading.tell.Ask.{Ask}
+use Rattle.labels.specs.ToZone.{TellsLeast, TellsWalk}
+use Rattle.time_routes.specs.declared.vehicles.Ask.{Ask}
 
 -- whether the least time of a vehicle is asked for, and whether its walk is
 abbrev pub asked_least : Option Ask → Bool

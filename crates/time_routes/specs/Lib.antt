@@ -1,7 +1,5 @@
-pub mod Named
-pub mod ToZone
-pub mod States
-pub mod Filling
-pub mod Reading
 pub mod Destinations
-pub mod Examples
+pub mod Tell
+pub mod Answers
+pub mod Searches
+pub mod Groups

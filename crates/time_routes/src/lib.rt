@@ -1,29 +1,21 @@
-//! Least times and chosen walks from every zone to a zone, by a table of link times.
-//!
-//! [`Labels::to_zone`] fills, from the horizon down, the steps that are left from where each link
-//! ends, over the free-flow times from the horizon on. [`Labels::least`] then tells the least time
-//! from a zone at a step, and [`Labels::walk`] the chosen walk, in the words of
-//! specs/Least.antt of `dta_model`: over all walks, also those that repeat links, and None exactly
-//! where there is none. [`GroupLabels`] does the same for up to eight zones at once.
-//!
-//! What is left is kept for each walk state and step up to the horizon. A walk state, in this
-//! crate called a state, is a node where no turn is listed, or a link that ends at another. A
-//! group takes 16 bytes for each state and step: eight zones side by side in 16 bits, or four in
-//! 32 where times may take more; where that isn't enough, 8 bytes for each of its zones. `least`
-//! looks at the links out of the origin and takes no memory; `walk` looks once at the turns of
-//! each of its links.
+//! Least times and chosen walks of vehicles, by a table of link times.
 //!
 //! [`tell`] and [`tell_by_shares`] answer what is asked of vehicles, their least times and chosen
-//! walks, whatever their zones: the first in the calling thread, the second by up to four shares
-//! of the destinations side by side.
+//! walks from their departures, whatever their zones, by the labels of a group of destinations
+//! after another: the first in the calling thread, the second by up to four shares of the groups
+//! side by side. None is told exactly where there is no walk, or where it wasn't asked.
 #![tactic(auto)]
 
-mod filling;
-mod reading;
-mod states;
+mod answers;
+mod destination;
+mod groups;
+mod put_answers;
+mod search;
+mod shares;
+mod table_pool;
+mod vehicles;
 
-pub use filling::table_pool::TablePool;
-pub use reading::group_labels::{GroupLabels, MOST_GROUP};
-pub use reading::labels::Labels;
-pub use reading::shares::MOST_SHARES;
-pub use reading::tell::{Ask, Told, tell, tell_by_shares};
+pub use labels::{GroupLabels, Labels, MOST_GROUP};
+pub use shares::MOST_SHARES;
+pub use table_pool::TablePool;
+pub use vehicles::{Ask, Told, tell, tell_by_shares};

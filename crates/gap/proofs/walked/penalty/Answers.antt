@@ -1,5 +1,5 @@
 use Rattle.std.proofs.Common.{sym}
-use Rattle.time_routes.proofs.OfStates.RouterFacts.{penalty-in}
+use Rattle.labels.proofs.OfStates.RouterFacts.{penalty-in}
 use Rattle.gap.proofs.walked.penalty.Goals as goal
 
 pub returns-in-Some-clause-short : goal.returns-in-Some-clause-short

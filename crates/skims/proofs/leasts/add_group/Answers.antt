@@ -3,9 +3,9 @@ use Rattle.std.specs.Prelude.{slice_index, All}
 use Rattle.std.proofs.lemmas.List.{length-map}
 use Rattle.net_core.specs.Network.{zones}
 use Rattle.dta_model.specs.LinkTimes.{time_at}
-use Rattle.time_routes.specs.Named.{zone_named}
-use Rattle.time_routes.specs.ToZone.{destination}
-use Rattle.time_routes.specs.declared.reading.group_labels.TheConstants.{MOST_GROUP}
+use Rattle.labels.specs.Named.{zone_named}
+use Rattle.labels.specs.ToZone.{destination}
+use Rattle.labels.specs.declared.reading.group_labels.TheConstants.{MOST_GROUP}
 use Rattle.skims.specs.Leasts.{AreBetween, AreTo}
 use Rattle.skims.proofs.ZoneFacts.{labels-of, number-at, numbers-below, numbers-many}
 use Rattle.skims.proofs.ZipFacts.{zip-more}

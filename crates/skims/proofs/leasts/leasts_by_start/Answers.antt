@@ -1,7 +1,7 @@
 use Rattle.std.proofs.Common.{◌+◌, sym, subst, take}
 use Rattle.net_core.specs.Network.{zones}
 use Rattle.dta_model.specs.LinkTimes.{time_at}
-use Rattle.time_routes.specs.ToZone.{destination}
+use Rattle.labels.specs.ToZone.{destination}
 use Rattle.skims.specs.Leasts.{AreFrom, AreTo}
 use Rattle.skims.proofs.ZipFacts.{zip-more}
 use Rattle.skims.proofs.leasts.leasts_by_start.Goals as goal

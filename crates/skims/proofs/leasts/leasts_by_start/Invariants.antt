@@ -1,6 +1,6 @@
 use Rattle.std.proofs.Common.{take}
 use Rattle.dta_model.specs.LinkTimes.{time_at}
-use Rattle.time_routes.specs.ToZone.{destination}
+use Rattle.labels.specs.ToZone.{destination}
 use Rattle.skims.specs.Leasts.{AreTo}
 use Rattle.skims.proofs.leasts.leasts_by_start.Given as goal
 

@@ -1,8 +1,8 @@
 use Rattle.std.proofs.Common.{◌+◌, ◌<◌, ap, sym, subst, take, ◌∙◌}
 use Rattle.net_core.specs.Network.{zones}
 use Rattle.dta_model.specs.LinkTimes.{time_at}
-use Rattle.time_routes.specs.Named.{zone_named}
-use Rattle.time_routes.specs.ToZone.{destination}
+use Rattle.labels.specs.Named.{zone_named}
+use Rattle.labels.specs.ToZone.{destination}
 use Rattle.skims.specs.Leasts.{AreFrom, IsFrom}
 use Rattle.skims.proofs.ZipFacts.{zip-more}
 use Rattle.skims.proofs.leasts.leasts_from_each.Goals as goal

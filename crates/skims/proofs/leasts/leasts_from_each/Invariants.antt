@@ -1,7 +1,7 @@
 use Rattle.std.proofs.Common.{take}
 use Rattle.net_core.specs.Network.{zones}
 use Rattle.dta_model.specs.LinkTimes.{time_at}
-use Rattle.time_routes.specs.ToZone.{destination}
+use Rattle.labels.specs.ToZone.{destination}
 use Rattle.skims.specs.Leasts.{AreFrom}
 use Rattle.skims.proofs.leasts.leasts_from_each.Given as goal
 

@@ -1,6 +1,6 @@
 use Rattle.std.proofs.Common.{◌≡◌, ◌+◌, refl, sym, subst}
 use Rattle.std.specs.List.{range_with_len}
-use Rattle.time_routes.specs.ToZone.{zone_numbers}
+use Rattle.labels.specs.ToZone.{zone_numbers}
 use Rattle.skims.proofs.ZoneFacts.{numbers-more}
 use Rattle.skims.proofs.leasts.zones_from.Goals as goal
 

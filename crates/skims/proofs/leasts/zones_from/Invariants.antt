@@ -1,6 +1,6 @@
 use Rattle.std.proofs.Common.{◌≡◌}
 use Rattle.std.specs.List.{range_with_len}
-use Rattle.time_routes.specs.ToZone.{zone_numbers}
+use Rattle.labels.specs.ToZone.{zone_numbers}
 use Rattle.skims.proofs.leasts.zones_from.Given as goal
 
 abbrev pub invariant-loop-place : goal.invariant-loop-place

@@ -2,8 +2,8 @@ use Rattle.std.proofs.Common.{◌≡◌, ◌≢◌, ◌<◌, arith, length, rule
 use Rattle.std.specs.Prelude.{slice_index, vec_len}
 use Rattle.net_core.specs.Network.{zones}
 use Rattle.dta_model.specs.LinkTimes.{time_at}
-use Rattle.time_routes.specs.Named.{zone_named}
-use Rattle.time_routes.specs.ToZone.{TellsLeast}
+use Rattle.labels.specs.Named.{zone_named}
+use Rattle.labels.specs.ToZone.{TellsLeast}
 use Rattle.skims.proofs.EntryFacts.{all-many, from-many, least-at, to-many}
 use Rattle.skims.proofs.leasts.LeastTimes.get.Goals as goal
 

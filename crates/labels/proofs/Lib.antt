@@ -1,0 +1,4 @@
+pub mod Basics
+pub mod OfStates
+pub mod OfFilling
+pub mod OfReading

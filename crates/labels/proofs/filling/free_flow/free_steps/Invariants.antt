@@ -1,0 +1,5 @@
+use Rattle.std.proofs.Common.{◌≡◌, ◌<◌, ℕ, length, get_or}
+use Rattle.labels.proofs.filling.free_flow.free_steps.Given as goal
+
+abbrev pub invariant-loop-link : goal.invariant-loop-link
+invariant-loop-link l = (length l.free.items ≡ l.link) × ((k : ℕ) → k < l.link → get_or l.free.items k 0 ≡ get_or l.times.free k 0)

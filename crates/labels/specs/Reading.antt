@@ -1,0 +1,8 @@
+-- What labels tell: least times and chosen walks.
+pub mod FirstLinks
+pub mod Follows
+pub mod GroupsTo
+pub mod LabelsTo
+pub mod OfZone
+pub mod Paths
+pub mod Serves

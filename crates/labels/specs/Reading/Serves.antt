@@ -1,0 +1,106 @@
+-- When what is left serves walks to a zone.
+use Rattle.std.specs.Prelude.{◌≡◌, ◌≢◌, ℕ, ◌+◌, ◌<◌, ◌≤◌, cond, nat_lt, List, [], ◌∷◌}
+use Rattle.std.specs.Prelude.{length, get_or, slice_index, slice_index_or, slice_get, Option, Some}
+use Rattle.std.specs.Prelude.{None}
+use Rattle.net_core.specs.Network.{zones}
+use Rattle.net_core.specs.declared.rows.NetRows.{NetRows}
+use Rattle.dta_model.specs.LinkTimes.{TimeTable}
+use Rattle.labels.specs.Filling.Labels.{most_left, far, rest_in}
+use Rattle.labels.specs.Reading.Follows.{Follows}
+use Rattle.labels.specs.Reading.Paths.{Ways}
+use Rattle.labels.specs.Filling.Rests.{least_over, AreTurns, AreOrdered, label_of}
+use Rattle.labels.specs.States.Routers.{ways_to}
+use Rattle.labels.specs.Filling.Tables.{places, rests, states_in}
+use Rattle.labels.specs.States.RouterWays.{is_own, onwards, state_of}
+use Rattle.labels.specs.declared.states.onward.Onward.{Onward}
+use Rattle.labels.specs.declared.states.router.Router.{Router}
+use Rattle.labels.specs.declared.filling.label_table.LabelTable.{LabelTable}
+
+-- a place of what is left, and ways on and times of as many states and links
+pub record Fit (l : LabelTable) (place : ℕ) (r : Router) (t : TimeTable) : Type 0 where
+  pub within : place < places l
+  pub states : states_in l ≡ length r.zones.items
+  pub links : length r.states.items ≡ length t.free
+
+-- the label of a link at a step
+abbrev pub label_in : (ℕ → ℕ → ℕ) → (ℕ → ℕ → ℕ) → Router → ℕ → ℕ → Option ℕ
+label_in at rest r = label_of at (length r.states.items) (state_of r) rest far
+
+-- the ways on are the turns of a network, in the order of their links
+pub record AreRoutes (net : NetRows) (zone : ℕ) (at : ℕ → ℕ → ℕ) (r : Router) : Type 0 where
+  pub turns : AreTurns (ways_to at net zone) (length r.states.items) (is_own r zone) (state_of r)
+      (onwards r) (length r.zones.items)
+  pub ordered : (s : ℕ) → s < length r.zones.items → AreOrdered (onwards r s)
+
+-- the ways on are those of a network, whatever the zone and the table are
+pub record IsRouter (net : NetRows) (r : Router) : Type 0 where
+  pub many : length r.states.items ≡ length net.links
+  pub few : length r.zones.items ≤ length net.links
+  pub routes : (zone : ℕ) (at : ℕ → ℕ → ℕ) → zone < length (zones net.nodes)
+      → AreRoutes net zone at r
+
+-- what is left over a table: nothing at the zone, elsewhere the least over the ways on; where
+-- there is a walk it is far from what stands for none
+pub record AreLeft (at rest : ℕ → ℕ → ℕ) (r : Router) (zone : ℕ) : Type 0 where
+  pub left : (s e : ℕ) → s < length r.zones.items
+      → cond (is_own r zone s) (rest s e ≡ 0) (rest s e ≡ least_over at far rest e (onwards r s))
+  pub near : (s e : ℕ) → s < length r.zones.items → rest s e < far → rest s e ≤ most_left
+
+-- what is left to each zone of a list, in a row for each of them
+abbrev pub AreRowsLeft : (ℕ → ℕ → ℕ) → Router → ℕ → List (List ℕ) → List ℕ → Type 0
+AreRowsLeft at r horizon rows zones = (j : ℕ) → j < length rows
+    → AreLeft at (rest_in (length r.zones.items) horizon (get_or rows j [])) r (slice_index zones j)
+
+-- what is left to each zone of a list
+pub record AreAllLeft (at : ℕ → ℕ → ℕ) (r : Router) (t : LabelTable) (zones : List ℕ) : Type 0 where
+  pub states : states_in t ≡ length r.zones.items
+  pub places : length zones ≤ places t
+  pub each : (j : ℕ) → j < length zones → AreLeft at (rests t j) r (slice_index zones j)
+
+-- what is left is that of walks to a zone
+pub record Serves (net : NetRows) (zone : ℕ) (at : ℕ → ℕ → ℕ) (rest : ℕ → ℕ → ℕ)
+    (r : Router) : Type 0 where
+  pub routes : AreRoutes net zone at r
+  pub rests : (s e : ℕ) → s < length r.zones.items
+      → cond (is_own r zone s) (rest s e ≡ 0) (rest s e ≡ least_over at far rest e (onwards r s))
+  pub most : ℕ
+  pub longest : ℕ
+  pub near : (s e : ℕ) → s < length r.zones.items → rest s e < far → rest s e ≤ most
+  pub short : (l e b wait : ℕ) → (ways_to at net zone).turn l b ≡ Some wait
+      → wait + at b e ≤ longest
+  pub room : most + longest < far
+  pub takes_time : (l e : ℕ) → l < length r.states.items → 0 < at l e
+
+-- the smaller of two times, where there is one
+abbrev pub lesser : Option ℕ → Option ℕ → Option ℕ
+lesser None b = b
+lesser (Some m) None = Some m
+lesser (Some m) (Some x) = cond (nat_lt x m) (Some x) (Some m)
+
+-- the least label of the first links
+abbrev pub LeastSoFar : (ℕ → Option ℕ) → List ℕ → ℕ → Option ℕ → Type 0
+LeastSoFar label firsts count None = (k l : ℕ) → k < count → slice_get firsts k ≡ Some l
+    → label l ≡ None
+LeastSoFar label firsts count (Some m) = ((k : ℕ) × (l : ℕ) × (k < count)
+    × (slice_get firsts k ≡ Some l) × (label l ≡ Some m))
+    × ((k l x : ℕ) → k < count → slice_get firsts k ≡ Some l → label l ≡ Some x → m ≤ x)
+
+-- the first way on that takes a time, where there is one
+abbrev pub FirstOver : (Onward → ℕ) → List Onward → ℕ → Option Onward → Type 0
+FirstOver over ways left None = (k : ℕ) (d : Onward) → k < length ways
+    → over (slice_index_or ways k d) ≢ left
+FirstOver over ways left (Some w) = (over w ≡ left)
+    × ((k : ℕ) × (slice_get ways k ≡ Some w) × ((i : ℕ) (d : Onward) → i < k
+    → over (slice_index_or ways i d) ≢ left))
+
+-- a route follows the labels from a link at a step
+abbrev pub IsFollowed : Ways → (ℕ → ℕ → Option ℕ) → ℕ → ℕ → List ℕ → Type 0
+IsFollowed g label l e route = (r : List ℕ) × (route ≡ l ∷ r) × Follows g label l e r
+
+-- the first link with a time, where there is one
+abbrev pub FirstWith : (ℕ → Option ℕ) → List ℕ → ℕ → Option ℕ → Type 0
+FirstWith label firsts time None = (k d : ℕ) → k < length firsts
+    → label (slice_index_or firsts k d) ≢ Some time
+FirstWith label firsts time (Some l) = (label l ≡ Some time)
+    × ((k : ℕ) × (slice_get firsts k ≡ Some l)
+    × ((i d : ℕ) → i < k → label (slice_index_or firsts i d) ≢ Some time))

@@ -1,0 +1,81 @@
+// Least free-flow times to each zone of a group.
+ghost use Rattle.std.specs.Prelude.{ℕ, ◌+◌, ◌^◌, ◌<◌, ◌≤◌, length, map, slice_index, IfOk};
+ghost use Rattle.labels.specs.Filling.Labels.{far};
+ghost use Rattle.labels.specs.Filling.Tails.{AreTails, FitsBelow};
+ghost use Rattle.labels.specs.ToZone.{zone_numbers};
+
+use crate::filling::free_flow::{free_steps, tail_of};
+use crate::filling::no_walk::FAR;
+use crate::filling::timed_router::TimedRouter;
+use crate::filling::ways_back::ways_back;
+use crate::states::longest_way::{most_time, most_wait};
+use net_core::{Memory, ZoneNo};
+use std::alloc::Global;
+
+/// Least free-flow times to each of some zones, a list of states for each, and the greatest number
+/// of a walk among them.
+#[derive(Drop)]
+pub(crate) struct Tails {
+    pub(crate) zones: Vec<Vec<u64>>,
+    pub(crate) most: u64,
+}
+
+// The greater of two numbers, where the second stands for a walk.
+fn greater(most: u64, left: u64) -> u64
+    requires { most < far }
+    ensures old { most ≤ result }
+    ensures new { left < far → left ≤ result }
+    ensures low { result < far }
+{
+    if left < FAR { most.max(left) } else { most }
+}
+
+// The greatest number of a walk in a tail, and one before it.
+fn most_in(tail: &[u64], before: u64) -> u64
+    requires { before < far }
+    ensures old { before ≤ result }
+    ensures near { (s : ℕ) → s < length tail.now → slice_index tail.now s < far
+        → slice_index tail.now s ≤ result }
+    ensures low { result < far }
+{
+    let mut most = before;
+    for state in 0..tail.len() {
+        most = greater(most, tail[state]);
+    }
+    most
+}
+
+/// The tail of each zone over a table of link times.
+pub(crate) fn tails_of(
+    alloc: Global,
+    timed: &TimedRouter,
+    zones: &[ZoneNo],
+) -> Result<Tails, Memory>
+    ensures tails { IfOk result (λ tails. AreTails timed.now.times.now.free timed.now.router.now
+        tails.most (map (λ tail. tail.items) tails.zones.items) (zone_numbers zones.now)) }
+    ensures low { IfOk result (λ tails. tails.most < far) }
+{
+    let free = free_steps(alloc, timed.times, timed.links)?;
+    let steps = free.as_slice();
+    let back = ways_back(alloc, timed.router, steps)?;
+    let mut tails = Vec::new(alloc);
+    let mut most = 0u64;
+    for zone in zones {
+        let tail = tail_of(alloc, timed.router, &back, steps, zone.0)?;
+        most = most_in(tail.as_slice(), most);
+        tails.push(tail)?;
+    }
+    Ok(Tails { zones: tails, most })
+}
+
+/// The most steps by which what is left may pass the most that a tail has, with one way on before
+/// it: those up to the horizon, and twice those of the longest way on.
+pub(crate) fn reach_of(timed: &TimedRouter) -> u64
+    ensures fits { (most beyond : ℕ) → result + most < beyond → FitsBelow timed.now.times.now
+        timed.now.router.now most beyond }
+    ensures low { result < 2 ^ 40 }
+{
+    let wait = most_wait(timed.router) as u64;
+    let longest = wait + most_time(timed.times, timed.links) as u64;
+    timed.times.horizon() as u64 + 2 * longest
+}

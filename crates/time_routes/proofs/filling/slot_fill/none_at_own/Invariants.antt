@@ -1,6 +1,0 @@
-use Rattle.time_routes.specs.ToZone.{zone_numbers}
-use Rattle.time_routes.proofs.OfFilling.SlotFacts.{AreOwnTo}
-use Rattle.time_routes.proofs.filling.slot_fill.none_at_own.Given as goal
-
-abbrev pub invariant-loop-place : goal.invariant-loop-place
-invariant-loop-place g l = AreOwnTo l.zone (zone_numbers l.zones) g.S.Slots.SLOTS (g.S.Slots.slot l.fn.least) (g.S.Slots.slot l.own) l.place

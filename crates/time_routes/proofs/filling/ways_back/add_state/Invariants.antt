@@ -1,5 +1,0 @@
-use Rattle.time_routes.specs.Filling.WaysBack.{AreWaysBack}
-use Rattle.time_routes.proofs.filling.ways_back.add_state.Given as goal
-
-abbrev pub invariant-loop-way : goal.invariant-loop-way
-invariant-loop-way l = AreWaysBack l.router l.free l.ways.items l.lasts l.state l.way-index

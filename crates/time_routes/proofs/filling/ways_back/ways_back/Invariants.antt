@@ -1,5 +1,0 @@
-use Rattle.time_routes.specs.Filling.WaysBack.{AreWaysBack}
-use Rattle.time_routes.proofs.filling.ways_back.ways_back.Given as goal
-
-abbrev pub invariant-loop-state : goal.invariant-loop-state
-invariant-loop-state l = AreWaysBack l.router l.free l.ways.items l.lasts.items l.state 0
