@@ -25,7 +25,7 @@ use Rattle.link_times.specs.TimeTables.{IsShort}
 use Rattle.gap.specs.Gap.{IsGapLine}
 use Rattle.gap.specs.declared.line.GapLine.{GapLine}
 use Rattle.route_flows.specs.Averages.{AreNextRoutes, AreStartedRoutes}
-use Rattle.route_flows.specs.Starts.{AreStartRows}
+use Rattle.start_table.specs.Starts.{AreStartRows}
 use Rattle.reports.specs.Texts.{AreOnNet}
 use Rattle.reports.proofs.TextsFacts.{walks-on-net}
 use Rattle.dta_words.specs.Ranges.{AreSettings}

@@ -11,8 +11,8 @@ use Rattle.dta_model.specs.declared.trip.Trip.{Trip}
 use Rattle.gap.specs.Gap.{IsGapLine}
 use Rattle.gap.specs.declared.line.GapLine.{GapLine}
 use Rattle.route_flows.specs.Averages.{AreNextRoutes, AreStartedRoutes}
-use Rattle.route_flows.specs.Starts.{AreStartRows}
-use Rattle.route_flows.specs.declared.start_rows.StartRow.{StartRow}
+use Rattle.start_table.specs.Starts.{AreStartRows}
+use Rattle.start_table.specs.declared.rows.StartRow.{StartRow}
 use Rattle.reports.specs.declared.summary.Summary.{Summary}
 use Rattle.dta_words.specs.declared.command.Settings.{Settings}
 

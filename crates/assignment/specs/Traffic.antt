@@ -4,7 +4,7 @@ use Rattle.std.specs.List.Sorted.{IsNonDecreasingBy}
 use Rattle.net_core.specs.Network.{IsNet}
 use Rattle.dta_model.specs.Sound.{AreTrips, AreWalks}
 use Rattle.dta_model.specs.declared.trip.Trip.{Trip}
-use Rattle.route_flows.specs.Starts.{AreStartRows}
+use Rattle.start_table.specs.Starts.{AreStartRows}
 use Rattle.assignment.specs.Assignment.{Traffic, VehicleRoutes}
 
 -- trips in order that depart before the horizon

@@ -8,7 +8,7 @@ ghost use Rattle.assignment.specs.Traffic.{AreRoutesOf};
 use dta_model::{Loading, Routes, Trip};
 use dta_words::Settings;
 use net_core::Net;
-use route_flows::StartRows;
+use start_table::StartRows;
 
 /// What is assigned: trips over a network, under settings, and the rows of a start table, of which
 /// there may be none. It lends its parts.

@@ -15,7 +15,7 @@ use Rattle.dta_model.specs.Plans.{link_numbers}
 use Rattle.dta_model.specs.Sound.{AreWalks}
 use Rattle.dta_model.specs.Walks.{IsWalk}
 use Rattle.dta_model.specs.declared.trip.Trip.{Trip}
-use Rattle.route_flows.specs.Starts.{IsNamedWalk}
+use Rattle.start_table.specs.Starts.{IsNamedWalk}
 use Rattle.audit.specs.Audit.{all_trip_checks, missing_checks, number_checks, of_agent, one_link, route_named, routes_named, trip_checks, trip_checks_at}
 use Rattle.audit.specs.Checks.{Check, Holds, IsVerdict, names_route, never}
 use Rattle.audit.specs.declared.agent_rows.AgentRow.{AgentRow}

@@ -10,7 +10,7 @@ use Rattle.row_reader.specs.declared.faults.Column.{Column}
 use Rattle.row_reader.specs.declared.faults.Column.TheVariants as column
 use Rattle.row_reader.specs.declared.faults.Complaint.{Complaint}
 use Rattle.row_reader.specs.declared.faults.TableFault.{TableFault}
-use Rattle.route_flows.specs.StartTable.{ids_in}
+use Rattle.start_table.specs.StartTable.{ids_in}
 use Rattle.audit.specs.declared.agent_rows.AgentRow.{AgentRow}
 use Rattle.audit.specs.declared.agent_rows.TheConstants.{MOST_AGENT_ROWS}
 

@@ -5,7 +5,7 @@ use Rattle.row_reader.specs.declared.faults.Column.{Column}
 use Rattle.net_core.specs.declared.rows.LinkNo.{LinkNo}
 use Rattle.net_core.specs.declared.rows.NetRows.{NetRows}
 use Rattle.dta_model.specs.declared.trip.Trip.{Trip}
-use Rattle.route_flows.specs.Starts.{IsNamedWalk}
+use Rattle.start_table.specs.Starts.{IsNamedWalk}
 use Rattle.audit.specs.declared.verdict.Verdict.{Verdict}
 use Rattle.audit.specs.declared.verdict.Verdict.TheVariants.{Yes, No}
 

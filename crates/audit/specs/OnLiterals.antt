@@ -3,7 +3,7 @@ use Rattle.std.specs.Prelude.{⊤}
 use Rattle.fixed_units.specs.Quantity.{number}
 use Rattle.row_reader.specs.Fields.{identifier}
 use Rattle.row_reader.specs.OnLiterals.{tables_on_literals}
-use Rattle.route_flows.specs.StartTable.{ids_in}
+use Rattle.start_table.specs.StartTable.{ids_in}
 use Rattle.audit.specs.Agents.{agent_row_of, optional_identifier}
 
 unfoldable pub agents_on_literals : ⊤

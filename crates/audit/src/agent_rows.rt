@@ -1,7 +1,7 @@
 // The rows of an agent table.
 use desk_io::Text;
 use item_list::List;
-use route_flows::Ids;
+use start_table::Ids;
 
 /// The most rows of an agent table.
 pub const MOST_AGENT_ROWS: usize = 2_000_000;

@@ -9,8 +9,8 @@ ghost use Rattle.audit.specs.declared.agent_rows.TheConstants.{MOST_AGENT_ROWS};
 
 use crate::agent_rows::{AgentRow, AgentRows, MOST_AGENT_ROWS};
 use desk_io::{Table, Text};
-use route_flows::ids_in;
 use row_reader::{Accepted, Column, Complaint, Fields, RowRefusal, TableRefusal, read_rows};
+use start_table::ids_in;
 use std::alloc::{AllocError, Global};
 
 // The identifier in a field, or none where the field is empty.

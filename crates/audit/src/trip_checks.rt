@@ -1,8 +1,6 @@
 // The rows of an agent table against the trips.
 ghost use Rattle.std.specs.Prelude.{◌≡◌, ◌++◌, ◌∷◌, [], ◌+◌, ◌<◌, ◌≤◌, ◌^◌, length, slice_get};
 ghost use Rattle.std.specs.Prelude.{IfOk, Ok, option_copied};
-ghost use Rattle.net_core.specs.Rows.{link_ids};
-ghost use Rattle.net_core.specs.declared.rows.TheConstants.{MOST_LINKS};
 ghost use Rattle.audit.specs.Audit.{all_trip_checks, missing_checks, number_checks, route_named};
 ghost use Rattle.audit.specs.Audit.{routes_named, trip_checks};
 ghost use Rattle.audit.specs.Checks.{IsVerdict};
@@ -15,8 +13,8 @@ use crate::verdict::Verdict;
 use desk_io::Table;
 use dta_model::{Route, Trip};
 use net_core::{Memory, Net};
-use route_flows::{link_index, walk_named};
 use row_reader::Column;
+use start_table::LinkIndex;
 use std::alloc::Global;
 
 // The verdict of a check of a row that fails.
@@ -62,19 +60,16 @@ fn number_verdict(r: usize, trip: &Trip, row: &AgentRow) -> Verdict
 // walk.
 fn route_told(
     alloc: Global,
-    net: &Net,
-    index: &net_core::Ids,
+    index: &LinkIndex,
     trip: &Trip,
     ids: &[u64],
 ) -> Result<Option<Option<Route>>, Memory>
-    requires index { index.now ≡ link_ids net.now.links }
-    requires few { length index.now ≤ MOST_LINKS }
-    ensures { IfOk result (TellsRoute net.now trip.now ids.now) }
+    ensures { IfOk result (TellsRoute index.now trip.now ids.now) }
 {
     if ids.is_empty() {
         return Ok(Some(None));
     }
-    match walk_named(alloc, net, index, trip.origin, trip.destination, ids)? {
+    match index.walk_named(alloc, trip.origin, trip.destination, ids)? {
         Some(walk) => Ok(Some(Some(walk))),
         None => Ok(None),
     }
@@ -83,20 +78,17 @@ fn route_told(
 // The verdict of a row. Where it is yes, its route is added.
 fn check_row(
     alloc: Global,
-    net: &Net,
-    index: &net_core::Ids,
+    index: &LinkIndex,
     trip: Option<&Trip>,
     r: usize,
     row: &AgentRow,
     routes: &mut Vec<Option<Route>>,
 ) -> Result<Verdict, Memory>
-    requires index { index.now ≡ link_ids net.now.links }
-    requires few { length index.now ≤ MOST_LINKS }
-    requires place { r < 2 ^ 63 }
+    requires { r < 2 ^ 63 }
     ensures verdict { IfOk result (IsVerdict
-        (trip_checks net.now r (option_copied trip.entry) row.now)) }
+        (trip_checks index.now r (option_copied trip.entry) row.now)) }
     ensures route { result ≡ Ok Yes
-        → routes.new.items ≡ routes.old.items ++ route_named net.now row.now.links ∷ [] }
+        → routes.new.items ≡ routes.old.items ++ route_named index.now row.now.links ∷ [] }
 {
     let line = r as u64 + 2;
     let trip = match trip {
@@ -108,7 +100,7 @@ fn check_row(
         Verdict::Yes => {}
         Verdict::No { .. } => return Ok(numbers),
     }
-    match route_told(alloc, net, index, trip, row.links.as_slice())? {
+    match route_told(alloc, index, trip, row.links.as_slice())? {
         Some(route) => {
             routes.push(route)?;
             Ok(Verdict::Yes)
@@ -130,9 +122,9 @@ fn check_rows(
     ensures verdict { IfOk result (IsVerdict (all_trip_checks net.now trips.now agents.now)) }
     ensures routes { result ≡ Ok Yes → routes.new.items ≡ routes_named net.now agents.now }
 {
-    let index = link_index(alloc, net)?;
+    let index = LinkIndex::of(alloc, net)?;
     for r in 0..agents.len() {
-        let verdict = check_row(alloc, net, &index, trips.get(r), r, &agents[r], routes)?;
+        let verdict = check_row(alloc, &index, trips.get(r), r, &agents[r], routes)?;
         match verdict {
             Verdict::Yes => {}
             Verdict::No { .. } => return Ok(verdict),

@@ -17,8 +17,8 @@ use Rattle.net_core.specs.declared.rows.NetRows.{NetRows}
 use Rattle.net_core.specs.declared.rows.NodeRow.{NodeRow}
 use Rattle.gmns_tables.specs.Net.{net_rows}
 use Rattle.gmns_tables.specs.RowsWithWindows.{rows_of}
-use Rattle.route_flows.specs.Starts.{AreStartRows}
-use Rattle.route_flows.specs.declared.start_rows.StartRow.{StartRow}
+use Rattle.start_table.specs.Starts.{AreStartRows}
+use Rattle.start_table.specs.declared.rows.StartRow.{StartRow}
 use Rattle.gmns_tables.specs.declared.with_windows.WithWindows.{WithWindows}
 use Rattle.dta_model.specs.Release.{in_order_of_departure, released, Released, trips_of}
 use Rattle.vehicle_release.specs.Limits.{IsFirstAbove, IsWithin}

@@ -29,7 +29,7 @@ use Rattle.skims.specs.Skim.{IsSkim}
 use Rattle.skims.specs.Texts.{IsSkimCut, IsSkimOut}
 use Rattle.skims.specs.declared.skim_entry.SkimEntry.{SkimEntry}
 use Rattle.dta_model.specs.LinkTimes.{time_at}
-use Rattle.route_flows.specs.Starts.{AreStartRows}
+use Rattle.start_table.specs.Starts.{AreStartRows}
 use Rattle.assignment.specs.Assignment.{Traffic}
 use Rattle.dta_run.specs.Jobs.{IsAcceptedJob, JobRows, Assigns, traffic_of}
 use Rattle.dta_run.specs.Outcome.{DeskState, IsCause, IsDifferent, IsRefused, LoadsSoundly, Means, ReportsLine, Works}

@@ -35,14 +35,14 @@ use Rattle.net_core.specs.Rows.{AreNodes, IsBetween, IsTurning}
 use Rattle.gmns_tables.specs.declared.with_windows.WithWindows.{WithWindows}
 use Rattle.gmns_tables.specs.Nodes.{node_of, node_verdict}
 use Rattle.demand.specs.DemandRows.{demand_cell_of, demand_columns, demand_verdict}
-use Rattle.route_flows.specs.StartTable.{start_columns, start_row_of, start_verdict}
+use Rattle.start_table.specs.StartTable.{start_columns, start_row_of, start_verdict}
 use Rattle.audit.specs.Agents.{agent_columns, agent_row_of, agents_verdict}
 use Rattle.audit.specs.declared.agent_rows.AgentRow.{AgentRow}
 use Rattle.audit.specs.declared.agent_rows.TheConstants.{MOST_AGENT_ROWS}
 use Rattle.dta_words.specs.declared.command.Command.{Command}
 use Rattle.dta_words.specs.declared.command.Command.TheVariants as command
-use Rattle.route_flows.specs.declared.start_rows.StartRow.{StartRow}
-use Rattle.route_flows.specs.declared.start_rows.TheConstants.{MOST_START_ROWS}
+use Rattle.start_table.specs.declared.rows.StartRow.{StartRow}
+use Rattle.start_table.specs.declared.rows.TheConstants.{MOST_START_ROWS}
 use Rattle.demand.specs.declared.demand_rows.TheConstants.{MOST_DEMAND_CELLS}
 use Rattle.desk_io.specs.declared.transfers.TheConstants.{MOST_TABLE_BYTES}
 use Rattle.dta_run.specs.Outcome.{DeskState}

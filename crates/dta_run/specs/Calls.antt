@@ -10,7 +10,7 @@ use Rattle.dta_model.specs.declared.trip.DemandCell.{DemandCell}
 use Rattle.gap.specs.declared.line.GapLine.{GapLine}
 use Rattle.gmns_tables.specs.Net.{listed_turns}
 use Rattle.gmns_tables.specs.declared.with_windows.WithWindows.{WithWindows}
-use Rattle.route_flows.specs.declared.start_rows.StartRow.{StartRow}
+use Rattle.start_table.specs.declared.rows.StartRow.{StartRow}
 use Rattle.reports.specs.declared.refusal.Refusal.{Refusal}
 use Rattle.desk_io.specs.declared.transfers.TheConstants.{MOST_TABLE_BYTES}
 use Rattle.dta_words.specs.declared.command.Settings.{Settings}

@@ -22,8 +22,8 @@ use Rattle.assignment.specs.Assignment.{Traffic}
 use Rattle.sweep.specs.Scales.{AreAllWithin}
 use Rattle.assignment.specs.Traffic.{AreTripsBelow}
 use Rattle.audit.specs.declared.agent_rows.AgentRow.{AgentRow}
-use Rattle.route_flows.specs.Starts.{AreStartRows}
-use Rattle.route_flows.specs.declared.start_rows.StartRow.{StartRow}
+use Rattle.start_table.specs.Starts.{AreStartRows}
+use Rattle.start_table.specs.declared.rows.StartRow.{StartRow}
 use Rattle.dta_run.specs.Tables.{AreAccepted, TableRows, loading_tables, net_of, no_rows}
 use Rattle.dta_run.specs.Tables.{road_tables, all_tables, audit_tables, skim_tables}
 

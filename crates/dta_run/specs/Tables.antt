@@ -20,8 +20,8 @@ use Rattle.gmns_tables.specs.Net.{net_rows}
 use Rattle.gmns_tables.specs.RowsWithWindows.{rows_of}
 use Rattle.gmns_tables.specs.declared.with_windows.WithWindows.{WithWindows}
 use Rattle.demand.specs.DemandRows.{demand_verdict}
-use Rattle.route_flows.specs.StartTable.{start_verdict}
-use Rattle.route_flows.specs.declared.start_rows.StartRow.{StartRow}
+use Rattle.start_table.specs.StartTable.{start_verdict}
+use Rattle.start_table.specs.declared.rows.StartRow.{StartRow}
 use Rattle.audit.specs.Agents.{agents_verdict}
 use Rattle.audit.specs.declared.agent_rows.AgentRow.{AgentRow}
 use Rattle.skims.specs.TimesTable.{times_verdict}

@@ -9,7 +9,7 @@ ghost use Rattle.dta_words.specs.declared.command.Command.TheVariants as command
 ghost use Rattle.dta_words.specs.declared.command.Settings.{Settings};
 ghost use Rattle.net_core.specs.Network.{IsNet};
 ghost use Rattle.net_core.specs.Rows.{AreNodes, IsBetween, IsTurning};
-ghost use Rattle.route_flows.specs.Starts.{AreStartRows};
+ghost use Rattle.start_table.specs.Starts.{AreStartRows};
 ghost use Rattle.row_reader.specs.FirstFault.{Tells};
 ghost use Rattle.dta_run.specs.Calls.{Accepts, AcceptsAll, IsWhole, OnlyReads};
 ghost use Rattle.dta_run.specs.Calls.{rows_in_roads, rows_in_tables, rows_with_turns};
@@ -29,9 +29,9 @@ use dta_words::Settings;
 use gmns_tables::{LinkRows, NodeRows, TurnRows, read_links, read_movements, read_nodes};
 use net_core::Net;
 use reports::Refusal;
-use route_flows::{StartRows, read_start};
 use row_reader::TableRefusal;
 use skims::{TimeRows, read_times};
+use start_table::{StartRows, read_start};
 use std::alloc::Global;
 
 /// The rows of a network's nodes and links.

@@ -1,23 +1,21 @@
 -- What is known of a vehicle of a sound loading.
-use Rattle.std.specs.Prelude.{slice_get, slice_index, All, filter, find, option_map, option_to_list}
+use Rattle.std.specs.Prelude.{slice_get, slice_index, All, filter, find, option_to_list}
 use Rattle.std.proofs.Common.{◌≡◌, ℕ, zero, suc, ◌+◌, ◌<◌, ◌≤◌, Bool, true, false, cond, not, List, [], ◌∷◌, ◌++◌, length, map, refl, ap, sym, ◌∙◌, subst, arith, Some, Option, None}
 use Rattle.std.proofs.lemmas.Bool.{eqb-true}
 use Rattle.std.proofs.lemmas.List.{length-map}
 use Rattle.std.proofs.lemmas.List.Elements.{All-head, All-tail, All-weaker, filter_passes}
-use Rattle.std.proofs.lemmas.List.FromFn.{length-range_with_len}
-use Rattle.std.proofs.lemmas.Option.{slice_get-map, slice_get_past, none-some, same_Some}
+use Rattle.std.proofs.lemmas.Option.{slice_get_past}
 use Rattle.net_core.specs.declared.rows.LinkNo.{LinkNo}
 use Rattle.dta_model.specs.declared.loaded.Journey.{Journey}
 use Rattle.dta_model.specs.declared.plan.Plan.{Plan}
 use Rattle.dta_model.specs.TimedWalks.{penalty_steps}
 use Rattle.dta_model.specs.Loading.{arrival_of, entries_of, is_entry, journey_of, journeys_of, step_in, trace_after}
-use Rattle.dta_model.specs.Plans.{link_at, link_numbers, route_in, route_of, turn, vehicle_count, vehicles_of}
+use Rattle.dta_model.specs.Plans.{link_at, link_numbers, route_in, route_of, turn}
 use Rattle.dta_model.specs.Sound.{IsSound}
 use Rattle.dta_model.specs.State.{is_due, is_routed, waits, some_route}
 use Rattle.dta_model.specs.Trace.{Move, has_moved, is_of, moves_of, target_at}
 use Rattle.dta_model.proofs.Arrivals.{arrival_is_last}
 use Rattle.dta_model.proofs.Onward.{vehicles_are_conserved}
-use Rattle.dta_model.proofs.Ends.{got_number}
 use Rattle.dta_model.proofs.NoMoves.{no-moves}
 use Rattle.dta_model.proofs.Ends.{found_fails, journey_is}
 use Rattle.dta_model.proofs.Journeys.{routes_are_followed, steps_rise}

@@ -1,10 +1,9 @@
 -- A link takes its free-flow steps at least, and the turn at its end its penalty.
-use Rattle.std.specs.List.{last_or, range_with_len, flat_map}
-use Rattle.std.specs.Prelude.{All, ◌≢◌, ⊤, nat_le}
-use Rattle.std.proofs.Common.{◌≡◌, ◌&&◌, ℕ, zero, suc, ◌+◌, ◌<◌, ◌≤◌, Bool, true, false, not, List, [], ◌∷◌, ◌++◌, length, refl, ap, sym, ◌∙◌, subst, arith, Some, ◌⊎◌, inl, inr, append_assoc, append-nil, Option, None}
-use Rattle.std.proofs.lemmas.Bool.Decides.{eqb_tells, nat_tests}
+use Rattle.std.specs.List.{last_or}
+use Rattle.std.specs.Prelude.{◌≢◌, ⊤}
+use Rattle.std.proofs.Common.{◌≡◌, ℕ, ◌+◌, ◌≤◌, true, false, List, [], ◌∷◌, ◌++◌, refl, ap, sym, ◌∙◌, subst, arith, Some, ◌⊎◌, inl, inr, append_assoc, append-nil, Option, None}
+use Rattle.std.proofs.lemmas.Bool.Decides.{eqb_tells}
 use Rattle.std.proofs.lemmas.Bool.{and_parts, not-true}
-use Rattle.std.proofs.lemmas.List.Elements.{All-head, All-tail, All-push, All-nil, All-append, All-weaker}
 use Rattle.std.proofs.Math.Dec.{eqb}
 use Rattle.std.proofs.lemmas.Option.{same_Some}
 use Rattle.net_core.proofs.Orders.{le_holds}
@@ -12,16 +11,14 @@ use Rattle.net_core.specs.declared.rows.Turn.{Turn}
 use Rattle.dta_model.specs.declared.plan.Plan.{Plan}
 use Rattle.dta_model.specs.LinkTimes.{penalty_to}
 use Rattle.dta_model.specs.TimedWalks.{penalty_steps}
-use Rattle.dta_model.specs.Loading.{after_step, step_moves, trace_after}
-use Rattle.dta_model.specs.NodeMoves.{may_move, may_turn, turn_test, next_move, node_moves, waits_for}
-use Rattle.dta_model.specs.Plans.{all_nodes, link_at, turn}
+use Rattle.dta_model.specs.Loading.{trace_after}
+use Rattle.dta_model.specs.NodeMoves.{may_move, may_turn, turn_test, waits_for}
+use Rattle.dta_model.specs.Plans.{link_at, turn}
 use Rattle.dta_model.specs.Trace.{Arrived, Move, Onto, Target, is_link, last_move, moves_of}
 use Rattle.dta_model.proofs.Pushes.{last_move-other, moves_of-append}
 use Rattle.dta_model.proofs.Standing.{in-queue, no-last}
-use Rattle.dta_model.proofs.NextMoves.{Kind, head, waiting, next_cases, moves-keep, OfHead}
-use Rattle.dta_model.proofs.Same.{Same, Same-blocks, Apart}
-use Rattle.dta_model.proofs.Places.{AtNode, at-node, kind_at}
-use Rattle.dta_model.proofs.AnyOrder.{apart_of}
+use Rattle.dta_model.proofs.NextMoves.{Kind, head, waiting, OfHead}
+use Rattle.dta_model.proofs.Same.{Same}
 use Rattle.dta_model.proofs.Following.{Follows, whole-follows}
 use Rattle.dta_model.proofs.Onward.{onto_one}
 use Rattle.dta_model.proofs.Riders.{last_move_is, own_move, other_move}

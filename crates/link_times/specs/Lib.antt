@@ -5,4 +5,5 @@ pub mod Rows
 pub mod Tables
 pub mod TimeTables
 pub mod Orders
+pub mod Buckets
 pub mod Examples

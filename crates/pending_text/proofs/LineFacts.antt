@@ -1,13 +1,14 @@
 -- Texts of a head and then a line for each element of a list, one after another.
-use Rattle.std.proofs.Common.{◌≡◌, ℕ, ◌+◌, ◌<◌, ◌≤◌, List, [], ◌∷◌, ◌++◌, length, take, drop, get_or, sym, ap, ◌∙◌, append_assoc}
+use Rattle.std.proofs.Common.{◌≡◌, ℕ, ◌+◌, ◌<◌, ◌≤◌, List, [], ◌∷◌, ◌++◌, length, take, drop, get_or, sym, ap, ◌∙◌, append_assoc, arith, Ok, Err, Result}
 use Rattle.std.specs.List.{flat_map}
 use Rattle.std.proofs.lemmas.List.{take_more, append-nil, take-append-drop, take_all}
 use Rattle.std.proofs.lemmas.Grind.{flat_map-append}
 use Rattle.desk_io.specs.declared.desk.Output.{Output}
-use Rattle.desk_io.specs.Desk.{Taken, grown}
-use Rattle.desk_io.specs.Transfers.{IsPartOut}
-use Rattle.pending_text.specs.Sending.{IsAdded}
-use Rattle.pending_text.proofs.SendingFacts.{added-then, added-done, part-first, part-then, part-done}
+use Rattle.desk_io.specs.Desk.{Taken}
+use Rattle.desk_io.specs.State.{DeskState}
+use Rattle.desk_io.specs.Transfers.{IsPartOut, OnlyPuts, Puts}
+use Rattle.pending_text.specs.Sending.{Adds}
+use Rattle.pending_text.proofs.SendingFacts.{added-done, part-done, HasAdded, has-adds, has-then, has-refused}
 
 -- one more line
 pub lines-more : {X : Type 0} (f : X → List ℕ) (h : List ℕ) (xs : List X) (i : ℕ) (d : X) → i < length xs
@@ -24,34 +25,47 @@ lines-split {X} f h xs i =
     ∙ ap (λ (x : List ℕ). h ++ x) (flat_map-append f (take i xs) (drop i xs))
     ∙ sym (append_assoc h (flat_map f (take i xs)) (flat_map f (drop i xs)))
 
--- the line of one more element was added
-pub added-line : {X : Type 0} (o : Output) (f : X → List ℕ) (h : List ℕ) (xs : List X) (i : ℕ) (d : X) (line p0 p q : List ℕ) (t0 t1 t2 : Taken)
-    → i < length xs → line ≡ f (get_or xs i d) → IsAdded o (h ++ flat_map f (take i xs)) p0 p t0 t1 → IsAdded o line p q t1 t2
-    → IsAdded o (h ++ flat_map f (take (i + 1) xs)) p0 q t0 t2
-added-line o f h xs i d line p0 p q t0 t1 t2 k e a b =
-    rw (lines-more f h xs i d k, ← e) (added-then o (h ++ flat_map f (take i xs)) line p0 p q t0 t1 t2 a b)
+-- ---- a loop that adds a line for each element
+-- the head and the lines of the first elements were added, and nothing else was done to the desk
+abbrev pub AreAdded : {X : Type 0} → Output → (X → List ℕ) → List ℕ → List X → ℕ → List ℕ → List ℕ → DeskState → DeskState → Type 0
+AreAdded o f h xs i p0 p before after = HasAdded o (h ++ flat_map f (take i xs)) p0 p before after
 
--- a first part of it went out, and so a first part of the whole text did
-pub part-line : {X : Type 0} (o : Output) (f : X → List ℕ) (h : List ℕ) (xs : List X) (i : ℕ) (d : X) (line p0 p : List ℕ) (t0 t1 t2 : Taken)
-    → i < length xs → line ≡ f (get_or xs i d) → IsAdded o (h ++ flat_map f (take i xs)) p0 p t0 t1 → IsPartOut o (p ++ line) t1 t2
-    → IsPartOut o (p0 ++ (h ++ flat_map f xs)) t0 t2
-part-line o f h xs i d line p0 p t0 t1 t2 k e a b =
-    let c : IsPartOut o (p0 ++ ((h ++ flat_map f (take i xs)) ++ line)) t0 t2
-    = part-then o (h ++ flat_map f (take i xs)) line p0 p t0 t1 t2 a b in
-    let r : IsPartOut o (p0 ++ (h ++ flat_map f (take (i + 1) xs))) t0 t2 = rw (lines-more f h xs i d k, ← e) c in
-    rw (lines-split f h xs (i + 1)) (part-first o (h ++ flat_map f (take (i + 1) xs)) (flat_map f (drop (i + 1) xs)) p0 t0 t2 r)
+-- the line of the next one was added too
+pub line-added : {X T E : Type 0} (o : Output) (f : X → List ℕ) (h : List ℕ) (xs : List X) (i : ℕ) (d : X) (line p0 p q : List ℕ) (s0 s1 s2 : DeskState) (t : T)
+    → i < length xs → line ≡ f (get_or xs i d) → AreAdded o f h xs i p0 p s0 s1 → Adds {T = T} {E = E} o line p q s1 s2 (Ok t) → AreAdded o f h xs (i + 1) p0 q s0 s2
+line-added o f h xs i d line p0 p q s0 s1 s2 t k e a b =
+    rw (lines-more f h xs i d k, ← e) (has-then o (h ++ flat_map f (take i xs)) line p0 p q s0 s1 s2 t a b)
+
+-- or it was refused, and with it the whole text
+pub line-refused : {X T S E : Type 0} (Done : Taken → Taken → Type 0) (o : Output) (f : X → List ℕ) (h : List ℕ) (xs : List X) (i : ℕ) (d : X) (line p0 p q : List ℕ) (s0 s1 s2 : DeskState) (e e2 : E)
+    → i < length xs → line ≡ f (get_or xs i d) → AreAdded o f h xs i p0 p s0 s1 → Adds {T = T} o line p q s1 s2 (Err e)
+    → OnlyPuts {T = S} Done (IsPartOut o (p0 ++ (h ++ flat_map f xs))) s0 s2 (Err e2)
+line-refused Done o f h xs i d line p0 p q s0 s1 s2 e e2 k is a b =
+    rw (lines-split f h xs (i + 1), lines-more f h xs i d k, ← is)
+    (has-refused Done o (h ++ flat_map f (take i xs)) line (flat_map f (drop (i + 1) xs)) p0 p q s0 s1 s2 e e2 a b)
 
 -- the lines of all elements were added
-pub added-lines : {X : Type 0} (o : Output) (f : X → List ℕ) (h : List ℕ) (xs : List X) (i : ℕ) (p0 p : List ℕ) (t0 t1 : Taken)
-    → length xs ≤ i → IsAdded o (h ++ flat_map f (take i xs)) p0 p t0 t1 → IsAdded o (h ++ flat_map f xs) p0 p t0 t1
-added-lines o f h xs i p0 p t0 t1 k a = rw (take_all i xs k) at a
+pub lines-added : {X T E : Type 0} (o : Output) (f : X → List ℕ) (h : List ℕ) (xs : List X) (i : ℕ) (p0 p : List ℕ) (s0 s1 : DeskState) (t : T)
+    → length xs ≤ i → AreAdded o f h xs i p0 p s0 s1 → Adds {T = T} {E = E} o (h ++ flat_map f xs) p0 p s0 s1 (Ok t)
+lines-added o f h xs i p0 p s0 s1 t k a = has-adds o (h ++ flat_map f xs) p0 p s0 s1 t (rw (take_all i xs k) at a)
 
--- and what was pending went out
-pub lines-done : {X : Type 0} (o : Output) (f : X → List ℕ) (h : List ℕ) (xs : List X) (i : ℕ) (p : List ℕ) (t0 t1 t2 : Taken)
-    → length xs ≤ i → IsAdded o (h ++ flat_map f (take i xs)) [] p t0 t1 → t2 ≡ grown o p t1 → t2 ≡ grown o (h ++ flat_map f xs) t0
-lines-done o f h xs i p t0 t1 t2 k a e = added-done o (h ++ flat_map f xs) p t0 t1 t2 (added-lines o f h xs i [] p t0 t1 k a) e
-
--- or a first part of it
-pub lines-part-done : {X : Type 0} (o : Output) (f : X → List ℕ) (h : List ℕ) (xs : List X) (i : ℕ) (p : List ℕ) (t0 t1 t2 : Taken)
-    → length xs ≤ i → IsAdded o (h ++ flat_map f (take i xs)) [] p t0 t1 → IsPartOut o p t1 t2 → IsPartOut o (h ++ flat_map f xs) t0 t2
-lines-part-done o f h xs i p t0 t1 t2 k a b = part-done o (h ++ flat_map f xs) p t0 t1 t2 (added-lines o f h xs i [] p t0 t1 k a) b
+-- and what was pending was put
+pub lines-put : {X T E : Type 0} (o : Output) (f : X → List ℕ) (h : List ℕ) (xs : List X) (i : ℕ) (p : List ℕ) (s0 s1 s2 : DeskState) (r : Result T E)
+    → length xs ≤ i → AreAdded o f h xs i [] p s0 s1 → Puts o p s1 s2 r → Puts o (h ++ flat_map f xs) s0 s2 r
+lines-put o f h xs i p s0 s1 s2 (Ok t) k a b = record {
+  whole = added-done o (h ++ flat_map f xs) p s0.taken s1.taken s2.taken (rw (take_all i xs k) at a.added) b.whole;
+  refused = tt;
+  cause = record { later = (let x = a.later in let y = b.cause.later in omega (arith, x, y)); failed = tt };
+  left = b.left ∙ a.left;
+  reads = b.reads ∙ a.reads;
+}
+lines-put o f h xs i p s0 s1 s2 (Err e) k a b = record {
+  whole = tt;
+  refused = part-done o (h ++ flat_map f xs) p s0.taken s1.taken s2.taken (rw (take_all i xs k) at a.added) b.refused;
+  cause = record {
+    later = (let x = a.later in let y = b.cause.later in omega (arith, x, y));
+    failed = (let x = a.later in let y = b.cause.failed in omega (arith, x, y));
+  };
+  left = b.left ∙ a.left;
+  reads = b.reads ∙ a.reads;
+}

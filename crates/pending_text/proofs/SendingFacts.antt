@@ -1,12 +1,13 @@
 -- Texts that go out by way of a buffer, one piece after another.
-use Rattle.std.proofs.Common.{◌≡◌, ℕ, ◌+◌, ◌≤◌, List, [], ◌++◌, length, take, refl, sym, ap, ◌∙◌, arith, append_assoc, length-append}
+use Rattle.std.proofs.Common.{◌≡◌, ℕ, ◌+◌, ◌≤◌, List, [], ◌++◌, length, take, refl, sym, ap, ◌∙◌, arith, append_assoc, length-append, Ok, Err, Result}
 use Rattle.std.proofs.lemmas.List.{take-append-le, append-nil}
 use Rattle.std.proofs.Math.Seq.{take-append-add}
 use Rattle.desk_io.specs.declared.desk.Output.{Output}
 use Rattle.desk_io.specs.Desk.{Taken, grown}
-use Rattle.desk_io.specs.Transfers.{IsPartOut}
+use Rattle.desk_io.specs.State.{DeskState}
+use Rattle.desk_io.specs.Transfers.{IsPartOut, OnlyPuts}
 use Rattle.desk_io.proofs.DeskFacts.{grown-grown, grown-empty}
-use Rattle.pending_text.specs.Sending.{IsAdded}
+use Rattle.pending_text.specs.Sending.{Adds, IsAdded}
 
 -- nothing was added, and nothing went out
 pub added-none : (o : Output) (p : List ℕ) (t : Taken) → IsAdded o [] p p t t
@@ -80,6 +81,59 @@ part-done o text p t0 t1 t2 a b = rw a.rest (part-later o a.sent p t0 t1 t2 a.ou
 -- text
 pub part-of-room : (o : Output) (text p : List ℕ) (t0 t1 : Taken) → IsPartOut o (p ++ []) t0 t1 → IsPartOut o (p ++ text) t0 t1
 part-of-room o text p t0 t1 b = part-longer o p text t0 t1 (rw (← append-nil p) b)
+
+-- ---- whole calls
+-- a text was added, and nothing else was done to the desk
+pub record HasAdded (o : Output) (text p q : List ℕ) (before after : DeskState) : Type 0 where
+  pub added : IsAdded o text p q before.taken after.taken
+  pub left : after.left ≡ before.left
+  pub later : before.put_faults ≤ after.put_faults
+  pub reads : after.read_faults ≡ before.read_faults
+
+-- it is what a call does that adds the text
+pub has-adds : {T E : Type 0} (o : Output) (text p q : List ℕ) (s0 s1 : DeskState) (t : T) → HasAdded o text p q s0 s1 → Adds {T = T} {E = E} o text p q s0 s1 (Ok t)
+has-adds o text p q s0 s1 t a = record { whole = a.added; refused = tt; cause = record { later = a.later; failed = tt }; left = a.left; reads = a.reads }
+
+pub adds-has : {T E : Type 0} (o : Output) (text p q : List ℕ) (s0 s1 : DeskState) (t : T) → Adds {T = T} {E = E} o text p q s0 s1 (Ok t) → HasAdded o text p q s0 s1
+adds-has o text p q s0 s1 t a = record { added = a.whole; left = a.left; later = a.cause.later; reads = a.reads }
+
+-- and then another text
+pub has-then : {T E : Type 0} (o : Output) (a b p q r : List ℕ) (s0 s1 s2 : DeskState) (t : T) → HasAdded o a p q s0 s1 → Adds {T = T} {E = E} o b q r s1 s2 (Ok t) → HasAdded o (a ++ b) p r s0 s2
+has-then o a b p q r s0 s1 s2 t x y = record {
+  added = added-then o a b p q r s0.taken s1.taken s2.taken x.added y.whole;
+  left = y.left ∙ x.left;
+  later = (let k = x.later in let n = y.cause.later in omega (arith, k, n));
+  reads = y.reads ∙ x.reads;
+}
+
+-- or that was refused, and with it any text that begins with both
+pub has-refused : {T S E : Type 0} (Done : Taken → Taken → Type 0) (o : Output) (a b more p q r : List ℕ) (s0 s1 s2 : DeskState) (e e2 : E) → HasAdded o a p q s0 s1 → Adds {T = T} o b q r s1 s2 (Err e)
+    → OnlyPuts {T = S} Done (IsPartOut o (p ++ ((a ++ b) ++ more))) s0 s2 (Err e2)
+has-refused Done o a b more p q r s0 s1 s2 e e2 x y = record {
+  whole = tt;
+  refused = part-first o (a ++ b) more p s0.taken s2.taken (part-then o a b p q s0.taken s1.taken s2.taken x.added y.refused);
+  cause = record {
+    later = (let k = x.later in let n = y.cause.later in omega (arith, k, n));
+    failed = (let k = x.later in let n = y.cause.failed in omega (arith, k, n));
+  };
+  left = y.left ∙ x.left;
+  reads = y.reads ∙ x.reads;
+}
+
+-- one text was added, and then a call added another or was refused
+pub adds-then : {T S E F : Type 0} (o : Output) (a b p q r : List ℕ) (s0 s1 s2 : DeskState) (t : T) (result : Result S F) → Adds {T = T} {E = E} o a p q s0 s1 (Ok t) → Adds o b q r s1 s2 result → Adds o (a ++ b) p r s0 s2 result
+adds-then o a b p q r s0 s1 s2 t (Ok s) x y =
+    has-adds o (a ++ b) p r s0 s2 s (has-then o a b p q r s0 s1 s2 s (adds-has o a p q s0 s1 t x) y)
+adds-then o a b p q r s0 s1 s2 t (Err e) x y = record {
+  whole = tt;
+  refused = part-then o a b p q s0.taken s1.taken s2.taken x.whole y.refused;
+  cause = record {
+    later = (let k = x.cause.later in let n = y.cause.later in omega (arith, k, n));
+    failed = (let k = x.cause.later in let n = y.cause.failed in omega (arith, k, n));
+  };
+  left = y.left ∙ x.left;
+  reads = y.reads ∙ x.reads;
+}
 
 -- making room
 pub ruleset rooms = (added-none, added-all, part-longer)

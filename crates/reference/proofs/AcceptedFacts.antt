@@ -27,8 +27,8 @@ use Rattle.gmns_tables.specs.declared.with_windows.WithWindows.{WithWindows}
 use Rattle.gmns_tables.proofs.NetFacts.{no-turns}
 use Rattle.demand.specs.DemandRows.{AreDemandCells, demand_verdict}
 use Rattle.vehicle_release.specs.Limits.{IsWithin}
-use Rattle.route_flows.specs.Starts.{AreStartRows}
-use Rattle.route_flows.specs.StartTable.{start_verdict}
+use Rattle.start_table.specs.Starts.{AreStartRows}
+use Rattle.start_table.specs.StartTable.{start_verdict}
 use Rattle.audit.specs.Agents.{agents_verdict}
 use Rattle.skims.specs.GivenTimes.{AreRowsOf}
 use Rattle.skims.specs.TimesTable.{times_verdict}

@@ -6,7 +6,7 @@ use Rattle.std.proofs.lemmas.Bool.Decides.{nat_tests}
 use Rattle.net_core.specs.declared.rows.LinkNo.{LinkNo}
 use Rattle.net_core.specs.declared.rows.NetRows.{NetRows}
 use Rattle.dta_model.specs.declared.trip.Trip.{Trip}
-use Rattle.route_flows.specs.Starts.{TellsWalk}
+use Rattle.start_table.specs.Starts.{TellsWalk}
 use Rattle.dta_words.specs.declared.command.Settings.{Settings}
 use Rattle.audit.specs.Audit.{checks_of}
 use Rattle.audit.specs.Checks.{Check, Statement, Holds, IsVerdict, names_route, never, same_if_any, same_list, same_number}

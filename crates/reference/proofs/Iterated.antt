@@ -7,7 +7,7 @@ use Rattle.net_core.specs.Network.{IsNet, numbers_below}
 use Rattle.dta_model.specs.LinkTimes.{time_at}
 use Rattle.gap.specs.Gap.{IsGapLine}
 use Rattle.route_flows.specs.Averages.{AreNextRoutes, AreStartedRoutes, free_time}
-use Rattle.route_flows.specs.Starts.{AreStartRows}
+use Rattle.start_table.specs.Starts.{AreStartRows}
 use Rattle.route_flows.proofs.Averaged.{next_walk}
 use Rattle.route_flows.proofs.Started.{started_walk}
 use Rattle.dta_words.specs.Ranges.{AreSettings}

@@ -20,10 +20,10 @@ use Rattle.dta_model.specs.declared.trip.DemandCell.{DemandCell}
 use Rattle.gmns_tables.proofs.ChainFacts.{unless-ok}
 use Rattle.demand.specs.DemandRows.{AreDemandCells, demand_cell_of, demand_columns, demand_verdict}
 use Rattle.demand.specs.declared.demand_rows.TheConstants.{MOST_DEMAND_CELLS}
-use Rattle.route_flows.specs.Starts.{AreStartRows, agents_of}
-use Rattle.route_flows.specs.StartTable.{ids_in, start_columns, start_row_of, start_verdict}
-use Rattle.route_flows.specs.declared.start_rows.StartRow.{StartRow}
-use Rattle.route_flows.specs.declared.start_rows.TheConstants.{MOST_START_ROWS}
+use Rattle.start_table.specs.Starts.{AreStartRows, agents_of}
+use Rattle.start_table.specs.StartTable.{ids_in, start_columns, start_row_of, start_verdict}
+use Rattle.start_table.specs.declared.rows.StartRow.{StartRow}
+use Rattle.start_table.specs.declared.rows.TheConstants.{MOST_START_ROWS}
 use Rattle.skims.specs.GivenTimes.{AreRowsOf}
 use Rattle.skims.specs.TimesTable.{row_count, time_row_of, times_columns, times_verdict}
 use Rattle.skims.specs.declared.time_rows.TimeRow.{TimeRow}

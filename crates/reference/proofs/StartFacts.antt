@@ -19,9 +19,9 @@ use Rattle.dta_model.specs.declared.loading.TheConstants.{MOST_HORIZON}
 use Rattle.dta_model.specs.declared.trip.Trip.{Trip}
 use Rattle.route_flows.specs.Averages.{AreNextRoutes, AreSince, AreStartedRoutes, IsSince, StartsOn, free_time, is_selected}
 use Rattle.route_flows.specs.Starting.{IsNumbered, TellsRenewal, or_other}
-use Rattle.route_flows.specs.Starts.{AreNamed, AreStartRows, TellsFit, TellsStart, TellsWalk, row_of}
-use Rattle.route_flows.specs.declared.start_rows.StartRow.{StartRow}
-use Rattle.route_flows.proofs.Named.{no_row_tells, row_found, row_tells}
+use Rattle.start_table.specs.Starts.{AreNamed, AreStartRows, TellsFit, TellsStart, TellsWalk, row_of}
+use Rattle.start_table.specs.declared.rows.StartRow.{StartRow}
+use Rattle.start_table.proofs.Named.{no_row_tells, row_found, row_tells}
 use Rattle.route_flows.proofs.Numbered.{numbered_since}
 use Rattle.time_routes.specs.Destinations.{WalkOf}
 use Rattle.reference.specs.Routes.{all_since, chosen_route, first_and, first_route, first_routes, if_walk, is_walk, last_renewal, links_named, next_route, next_routes, number_of, since, started_route, walk_in, walk_named}

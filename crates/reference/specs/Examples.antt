@@ -16,7 +16,7 @@ use Rattle.dta_model.specs.declared.trip.Trip.{Trip}
 use Rattle.dta_words.specs.declared.command.Command.{Command}
 use Rattle.dta_words.specs.declared.command.Command.TheVariants as command
 use Rattle.dta_words.specs.declared.command.Settings.{Settings}
-use Rattle.route_flows.specs.declared.start_rows.StartRow.{StartRow}
+use Rattle.start_table.specs.declared.rows.StartRow.{StartRow}
 use Rattle.skims.specs.declared.time_rows.TimeRow.{TimeRow}
 use Rattle.audit.specs.declared.agent_rows.AgentRow.{AgentRow}
 use Rattle.audit.specs.declared.verdict.Verdict.TheVariants as verdict

@@ -13,8 +13,8 @@ use Rattle.dta_model.specs.Walks.{begins_in, ends_in}
 use Rattle.dta_model.specs.declared.trip.Trip.{Trip}
 use Rattle.route_flows.specs.Averages.{free_time, is_selected}
 use Rattle.route_flows.specs.Starting.{first_number, or_other}
-use Rattle.route_flows.specs.Starts.{row_of}
-use Rattle.route_flows.specs.declared.start_rows.StartRow.{StartRow}
+use Rattle.start_table.specs.Starts.{row_of}
+use Rattle.start_table.specs.declared.rows.StartRow.{StartRow}
 use Rattle.reference.specs.Search.{search}
 
 -- the chosen walk of a trip from its departure, where there is a walk

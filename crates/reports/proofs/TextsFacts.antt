@@ -1,5 +1,5 @@
 -- Texts of lines, and lists joined by `;`, one after another.
-use Rattle.std.proofs.Common.{◌≡◌, ℕ, zero, suc, ◌+◌, ◌<◌, ◌≤◌, List, [], ◌∷◌, ◌++◌, length, take, drop, get_or, map, refl, sym, ap, ◌∙◌, subst, arith, append_assoc}
+use Rattle.std.proofs.Common.{◌≡◌, ℕ, zero, suc, ◌+◌, ◌<◌, ◌≤◌, List, [], ◌∷◌, ◌++◌, length, take, drop, get_or, map, refl, sym, ap, ◌∙◌, subst, arith, append_assoc, Ok, Err, Result}
 use Rattle.std.specs.List.{enumerate_from, flat_map, join_with_byte, zip}
 use Rattle.std.specs.Prelude.{decimal}
 use Rattle.std.proofs.lemmas.List.{take_more, append-nil, take-append-drop, take_all, map-append, get_or-map, length-map}
@@ -7,14 +7,14 @@ use Rattle.std.proofs.lemmas.List.Folds.{flat_map-map}
 use Rattle.std.proofs.lemmas.Slice.Zip.{firsts-zip, get_or-zip}
 use Rattle.desk_io.specs.declared.desk.Output.{Output}
 use Rattle.desk_io.specs.Desk.{Taken}
-use Rattle.desk_io.specs.Transfers.{IsPartOut}
-use Rattle.pending_text.specs.Sending.{IsAdded}
+use Rattle.desk_io.specs.State.{DeskState}
+use Rattle.desk_io.specs.Transfers.{IsPartOut, OnlyPuts}
+use Rattle.pending_text.specs.Sending.{Adds}
 use Rattle.std.specs.Prelude.{Option, None, Some, IfSome, slice_get}
 use Rattle.std.proofs.lemmas.Option.{slice_get-get_or}
 use Rattle.std.proofs.Math.ListN.{get_or-map as get_or-map_same}
 use Rattle.desk_io.specs.declared.desk.Output.TheVariants.{Agent}
 use Rattle.reports.specs.declared.status.AgentStatus.{AgentStatus}
-use Rattle.reports.specs.declared.status.AgentStatus.TheVariants.{Unrouted}
 use Rattle.std.proofs.lemmas.List.FromFn.{get_or-enumerate_from, get_or-range_with_len}
 use Rattle.net_core.specs.Network.{link_at, numbers_below}
 use Rattle.net_core.specs.Rows.{link_in}
@@ -27,7 +27,7 @@ use Rattle.dta_model.specs.declared.loaded.Journey.{Journey}
 use Rattle.dta_model.specs.declared.trip.Trip.{Trip}
 use Rattle.gap.specs.declared.line.GapLine.{GapLine}
 use Rattle.reports.specs.Texts.{AreLinksOf, AreOnNet, Vehicle, agent_columns, agent_header, agent_header_by, since_header, agent_line, agent_text, agent_text_by, agent_text_from, gap_line, ids_of, item, iteration_told, joined, numbered_line, routed_status, semicolon, trip_columns, vehicle_line, vehicle_line_from, vehicles, way_columns}
-use Rattle.pending_text.proofs.SendingFacts.{added-then, part-first, part-then}
+use Rattle.pending_text.proofs.SendingFacts.{HasAdded, adds-then, has-adds, has-refused, has-then}
 
 -- ---- lists joined by `;`
 
@@ -63,26 +63,25 @@ joined-split ns i =
     (r.0, ap joined (sym (take-append-drop i ns)) ∙ ap (join_with_byte semicolon) (map-append decimal (take i ns) (drop i ns)) ∙ r.1)
 
 -- one more number was added
-pub added-item : (o : Output) (ns : List ℕ) (i n : ℕ) (p0 p q : List ℕ) (t0 t1 t2 : Taken) → i < length ns → n ≡ get_or ns i 0
-    → IsAdded o (joined (take i ns)) p0 p t0 t1 → IsAdded o (item i n) p q t1 t2 → IsAdded o (joined (take (i + 1) ns)) p0 q t0 t2
-added-item o ns i n p0 p q t0 t1 t2 k e a b =
-    subst (λ text. IsAdded o text p0 q t0 t2) (ap (λ m. joined (take i ns) ++ item i m) e ∙ sym (joined-more ns i 0 k))
-    (added-then o (joined (take i ns)) (item i n) p0 p q t0 t1 t2 a b)
+pub item-added : {T E : Type 0} (o : Output) (ns : List ℕ) (i n : ℕ) (p0 p q : List ℕ) (s0 s1 s2 : DeskState) (t : T) → i < length ns → n ≡ get_or ns i 0
+    → HasAdded o (joined (take i ns)) p0 p s0 s1 → Adds {T = T} {E = E} o (item i n) p q s1 s2 (Ok t) → HasAdded o (joined (take (i + 1) ns)) p0 q s0 s2
+item-added o ns i n p0 p q s0 s1 s2 t k e a b =
+    subst (λ text. HasAdded o text p0 q s0 s2) (ap (λ m. joined (take i ns) ++ item i m) e ∙ sym (joined-more ns i 0 k))
+    (has-then o (joined (take i ns)) (item i n) p0 p q s0 s1 s2 t a b)
 
--- a first part of it went out
-pub part-item : (o : Output) (ns : List ℕ) (i n : ℕ) (p0 p : List ℕ) (t0 t1 t2 : Taken) → i < length ns → n ≡ get_or ns i 0
-    → IsAdded o (joined (take i ns)) p0 p t0 t1 → IsPartOut o (p ++ item i n) t1 t2 → IsPartOut o (p0 ++ joined ns) t0 t2
-part-item o ns i n p0 p t0 t1 t2 k e a b =
-    let c : IsPartOut o (p0 ++ joined (take (i + 1) ns)) t0 t2
-    = subst (λ text. IsPartOut o (p0 ++ text) t0 t2) (ap (λ m. joined (take i ns) ++ item i m) e ∙ sym (joined-more ns i 0 k))
-    (part-then o (joined (take i ns)) (item i n) p0 p t0 t1 t2 a b) in
+-- or it was refused, and with it all numbers
+pub item-refused : {T S E : Type 0} (Done : Taken → Taken → Type 0) (o : Output) (ns : List ℕ) (i n : ℕ) (p0 p q : List ℕ) (s0 s1 s2 : DeskState) (e e2 : E) → i < length ns → n ≡ get_or ns i 0
+    → HasAdded o (joined (take i ns)) p0 p s0 s1 → Adds {T = T} o (item i n) p q s1 s2 (Err e) → OnlyPuts {T = S} Done (IsPartOut o (p0 ++ joined ns)) s0 s2 (Err e2)
+item-refused {T} {S} Done o ns i n p0 p q s0 s1 s2 e e2 k is a b =
     let r = joined-split ns (i + 1) in
-    subst (λ text. IsPartOut o (p0 ++ text) t0 t2) (sym r.1) (part-first o (joined (take (i + 1) ns)) r.0 p0 t0 t2 c)
+    let more : joined (take i ns) ++ item i n ≡ joined (take (i + 1) ns) = ap (λ m. joined (take i ns) ++ item i m) is ∙ sym (joined-more ns i 0 k) in
+    subst (λ text. OnlyPuts {T = S} Done (IsPartOut o (p0 ++ text)) s0 s2 (Err e2)) (ap (λ text. text ++ r.0) more ∙ sym r.1)
+    (has-refused Done o (joined (take i ns)) (item i n) r.0 p0 p q s0 s1 s2 e e2 a b)
 
 -- all numbers were added
-pub added-items : (o : Output) (ns : List ℕ) (i : ℕ) (p0 p : List ℕ) (t0 t1 : Taken) → length ns ≤ i
-    → IsAdded o (joined (take i ns)) p0 p t0 t1 → IsAdded o (joined ns) p0 p t0 t1
-added-items o ns i p0 p t0 t1 k a = rw (take_all i ns k) at a
+pub items-added : {T E : Type 0} (o : Output) (ns : List ℕ) (i : ℕ) (p0 p : List ℕ) (s0 s1 : DeskState) (t : T) → length ns ≤ i
+    → HasAdded o (joined (take i ns)) p0 p s0 s1 → Adds {T = T} {E = E} o (joined ns) p0 p s0 s1 (Ok t)
+items-added o ns i p0 p s0 s1 t k a = has-adds o (joined ns) p0 p s0 s1 t (rw (take_all i ns k) at a)
 
 -- ---- what stands at a place
 
@@ -162,40 +161,16 @@ vehicle-there (t ∷ trips) (r ∷ routes) (j ∷ journeys) (suc i) trip route j
 -- ---- the columns of a vehicle
 
 -- one that has a route, piece by piece
-pub added-columns : (net : NetRows) (trip : Trip) (route links : List LinkNo) (journey : Journey) (named : AgentStatus) (entries p q r : List ℕ) (t0 t1 t2 : Taken)
+pub columns-added : {T S E F : Type 0} (net : NetRows) (trip : Trip) (route links : List LinkNo) (journey : Journey) (named : AgentStatus) (entries p q r : List ℕ) (s0 s1 s2 : DeskState) (t : T) (result : Result S F)
     → named ≡ routed_status journey → links ≡ route → entries ≡ journey.entries
-    → IsAdded Agent (trip_columns trip journey.arrival named) p q t0 t1 → IsAdded Agent (way_columns (ids_of net links) entries) q r t1 t2
-    → IsAdded Agent (agent_columns net trip (Some route) journey) p r t0 t2
+    → Adds {T = T} {E = E} Agent (trip_columns trip journey.arrival named) p q s0 s1 (Ok t) → Adds Agent (way_columns (ids_of net links) entries) q r s1 s2 result
+    → Adds Agent (agent_columns net trip (Some route) journey) p r s0 s2 result
 unfolding agent_columns
-added-columns net trip route links journey named entries p q r t0 t1 t2 e f g a b =
-    added-then Agent _ _ p q r t0 t1 t2
-    (subst (λ s. IsAdded Agent (trip_columns trip journey.arrival s) p q t0 t1) e a)
-    (subst (λ s. IsAdded Agent (way_columns (ids_of net route) s) q r t1 t2) g
-    (subst (λ l. IsAdded Agent (way_columns (ids_of net l) entries) q r t1 t2) f b))
-
-pub part-columns : (net : NetRows) (trip : Trip) (route links : List LinkNo) (journey : Journey) (named : AgentStatus) (entries p q : List ℕ) (t0 t1 t2 : Taken)
-    → named ≡ routed_status journey → links ≡ route → entries ≡ journey.entries
-    → IsAdded Agent (trip_columns trip journey.arrival named) p q t0 t1 → IsPartOut Agent (q ++ way_columns (ids_of net links) entries) t1 t2
-    → IsPartOut Agent (p ++ agent_columns net trip (Some route) journey) t0 t2
-unfolding agent_columns
-part-columns net trip route links journey named entries p q t0 t1 t2 e f g a b =
-    part-then Agent _ _ p q t0 t1 t2
-    (subst (λ s. IsAdded Agent (trip_columns trip journey.arrival s) p q t0 t1) e a)
-    (subst (λ s. IsPartOut Agent (q ++ way_columns (ids_of net route) s) t1 t2) g
-    (subst (λ l. IsPartOut Agent (q ++ way_columns (ids_of net l) entries) t1 t2) f b))
-
--- one that has none
-pub added-unrouted : (net : NetRows) (trip : Trip) (journey : Journey) (p q r : List ℕ) (t0 t1 t2 : Taken)
-    → IsAdded Agent (trip_columns trip None Unrouted) p q t0 t1 → IsAdded Agent (way_columns [] []) q r t1 t2
-    → IsAdded Agent (agent_columns net trip None journey) p r t0 t2
-unfolding agent_columns
-added-unrouted net trip journey p q r t0 t1 t2 a b = added-then Agent _ _ p q r t0 t1 t2 a b
-
-pub part-unrouted : (net : NetRows) (trip : Trip) (journey : Journey) (p q : List ℕ) (t0 t1 t2 : Taken)
-    → IsAdded Agent (trip_columns trip None Unrouted) p q t0 t1 → IsPartOut Agent (q ++ way_columns [] []) t1 t2
-    → IsPartOut Agent (p ++ agent_columns net trip None journey) t0 t2
-unfolding agent_columns
-part-unrouted net trip journey p q t0 t1 t2 a b = part-then Agent _ _ p q t0 t1 t2 a b
+columns-added {T} {S} {E} {F} net trip route links journey named entries p q r s0 s1 s2 t result e f g a b =
+    adds-then Agent _ _ p q r s0 s1 s2 t result
+    (subst (λ s. Adds {T = T} {E = E} Agent (trip_columns trip journey.arrival s) p q s0 s1 (Ok t)) e a)
+    (subst (λ s. Adds Agent (way_columns (ids_of net route) s) q r s1 s2 result) g
+    (subst (λ l. Adds Agent (way_columns (ids_of net l) entries) q r s1 s2 result) f b))
 
 -- ---- the lines of vehicles
 

@@ -26,6 +26,16 @@ const ITEM: usize = 24;
 /// No end of a line is longer: a comma, a number and a line feed.
 const END: usize = 24;
 
+// A vehicle's trip, its route if it has one, its journey, and the iteration of its route, where
+// that is told.
+#[derive(Clone, Copy, Drop)]
+struct Agent<'a> {
+    trip: &'a Trip,
+    route: Option<&'a Route>,
+    journey: &'a Journey,
+    iteration: Option<u32>,
+}
+
 // The header of Agent, with the column of iterations where they are told.
 #[tactic(auto, unfolding(crate::specs::Texts::agent_header, crate::specs::Texts::since_header))]
 fn header(since: Option<&Steps>) -> Pending
@@ -173,22 +183,27 @@ fn add_columns<D: Desk>(
     pending: &mut Pending,
     desk: &mut D,
     net: &Net,
-    trip: &Trip,
-    route: Option<&Route>,
-    journey: &Journey,
+    agent: &Agent,
 ) -> Result<(), Failed>
-    requires { IfSome (option_copied route) (AreLinksOf net.now) }
-    ensures { Adds output.Agent (agent_columns net.now trip.now
-        (option_copied route.entry) journey.now)
+    requires { IfSome (option_copied agent.now.route) (AreLinksOf net.now) }
+    ensures { Adds output.Agent (agent_columns net.now agent.now.trip.now
+        (option_copied agent.now.route) agent.now.journey.now)
         pending.old pending.new (D.state desk.old) (D.state desk.new) result }
 {
-    match route {
+    let journey = agent.journey;
+    match agent.route {
         None => {
-            add_trip(pending, desk, trip, None, AgentStatus::Unrouted)?;
+            add_trip(pending, desk, agent.trip, None, AgentStatus::Unrouted)?;
             add_way(pending, desk, net, &[], &[])
         }
         Some(route) => {
-            add_trip(pending, desk, trip, journey.arrival, status_of(journey))?;
+            add_trip(
+                pending,
+                desk,
+                agent.trip,
+                journey.arrival,
+                status_of(journey),
+            )?;
             add_way(
                 pending,
                 desk,
@@ -237,18 +252,15 @@ fn add_agent<D: Desk>(
     pending: &mut Pending,
     desk: &mut D,
     net: &Net,
-    trip: &Trip,
-    route: Option<&Route>,
-    journey: &Journey,
-    iteration: Option<u32>,
+    agent: &Agent,
 ) -> Result<(), Failed>
-    requires { IfSome (option_copied route) (AreLinksOf net.now) }
-    ensures { Adds output.Agent
-        (agent_line net.now trip.now (option_copied route.entry) journey.now iteration)
+    requires { IfSome (option_copied agent.now.route) (AreLinksOf net.now) }
+    ensures { Adds output.Agent (agent_line net.now agent.now.trip.now
+        (option_copied agent.now.route) agent.now.journey.now agent.now.iteration)
         pending.old pending.new (D.state desk.old) (D.state desk.new) result }
 {
-    add_columns(pending, desk, net, trip, route, journey)?;
-    add_end(pending, desk, route, iteration)
+    add_columns(pending, desk, net, agent)?;
+    add_end(pending, desk, agent.route, agent.iteration)
 }
 
 // The iteration of a vehicle's route, where iterations are told.
@@ -282,11 +294,13 @@ fn put_lines<D: Desk>(
 {
     let mut pending = header(since);
     'each: for v in 0..trips.len() as u32 {
-        let trip = &trips[v as usize];
-        let route = routes.get(v);
-        let journey = loaded.get(v);
-        let iteration = iteration_of(since, v);
-        add_agent(&mut pending, desk, net, trip, route, journey, iteration)?;
+        let agent = Agent {
+            trip: &trips[v as usize],
+            route: routes.get(v),
+            journey: loaded.get(v),
+            iteration: iteration_of(since, v),
+        };
+        add_agent(&mut pending, desk, net, &agent)?;
     }
     pending.put_out(desk, Output::Agent)
 }

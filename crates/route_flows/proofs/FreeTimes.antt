@@ -19,8 +19,8 @@ use Rattle.time_routes.specs.Destinations.{AreTold, asks_walk, WalkOf}
 use Rattle.time_routes.specs.declared.vehicles.Ask.{Ask}
 use Rattle.route_flows.specs.Averages.{AreChosenRoutes, AreFirstRoutes, AreStartedBy, AreStartedRoutes, free_time, StartsOn}
 use Rattle.route_flows.specs.Starting.{asks_for_rest, FillsIn}
-use Rattle.route_flows.specs.Starts.{IsStarted, TellsStart}
-use Rattle.route_flows.specs.declared.start_rows.StartRow.{StartRow}
+use Rattle.start_table.specs.Starts.{IsStarted, TellsStart}
+use Rattle.start_table.specs.declared.rows.StartRow.{StartRow}
 use Rattle.route_flows.proofs.Started.{started_are}
 use Rattle.route_flows.proofs.Averaged.{chosen_are}
 

@@ -8,10 +8,10 @@ use Rattle.dta_model.specs.declared.trip.Trip.{Trip}
 use Rattle.route_flows.specs.Averages.{IsFirstNumber, IsLastRenewal, IsSince, is_selected, StartsOn}
 use Rattle.route_flows.specs.Laws.{SinceAreDetermined, StartedAreDetermined}
 use Rattle.route_flows.specs.Starting.{IsNumbered}
-use Rattle.route_flows.specs.Starts.{AreNamed, AreStartRows, IsStarted, TellsStart}
-use Rattle.route_flows.specs.declared.start_rows.StartRow.{StartRow}
+use Rattle.start_table.specs.Starts.{AreNamed, AreStartRows, IsStarted, TellsStart}
+use Rattle.start_table.specs.declared.rows.StartRow.{StartRow}
 use Rattle.route_flows.proofs.Determined.{in_list, same_lists, trip_at, walk_once}
-use Rattle.route_flows.proofs.Named.{named_once, one_row}
+use Rattle.start_table.proofs.Named.{named_once, one_row}
 
 pub numbered_since : (net : NetRows) (start : List StartRow) (iterations v : ℕ) (trip : Trip) (walk : Option (List LinkNo)) (n : ℕ) → TellsStart net start trip walk → IsNumbered v iterations walk n → IsSince net start iterations v trip n
 numbered_since net start iterations v trip walk n tells (inl renewed) = inl renewed

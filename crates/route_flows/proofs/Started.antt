@@ -14,8 +14,8 @@ use Rattle.time_routes.specs.Destinations.{AreTold, asks_walk, WalkOf}
 use Rattle.time_routes.specs.declared.vehicles.Ask.{Ask}
 use Rattle.route_flows.specs.Averages.{AreStartedBy, StartsOn}
 use Rattle.route_flows.specs.Starting.{asks_for_rest, FillsIn, or_other}
-use Rattle.route_flows.specs.Starts.{TellsStart}
-use Rattle.route_flows.specs.declared.start_rows.StartRow.{StartRow}
+use Rattle.start_table.specs.Starts.{TellsStart}
+use Rattle.start_table.specs.declared.rows.StartRow.{StartRow}
 
 abbrev Walks : Type 0
 Walks = List (Option (List LinkNo))

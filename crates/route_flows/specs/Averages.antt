@@ -6,8 +6,8 @@ use Rattle.net_core.specs.declared.rows.NetRows.{NetRows}
 use Rattle.dta_model.specs.LinkTimes.{free_steps}
 use Rattle.dta_model.specs.declared.trip.Trip.{Trip}
 use Rattle.time_routes.specs.Destinations.{WalkOf}
-use Rattle.route_flows.specs.Starts.{HasNoStart, IsStarted}
-use Rattle.route_flows.specs.declared.start_rows.StartRow.{StartRow}
+use Rattle.start_table.specs.Starts.{HasNoStart, IsStarted}
+use Rattle.start_table.specs.declared.rows.StartRow.{StartRow}
 
 -- whether a vehicle takes a new route after iteration k: it is one in k + 1 of all vehicles, and
 -- each iteration begins to count at another one

@@ -5,8 +5,8 @@ use Rattle.net_core.specs.declared.rows.NetRows.{NetRows}
 use Rattle.dta_model.specs.declared.trip.Trip.{Trip}
 use Rattle.route_flows.specs.Averages.{AreChosenRoutes, AreFirstRoutes, AreNextRoutes, AreSince}
 use Rattle.route_flows.specs.Averages.{AreStartedBy, AreStartedRoutes}
-use Rattle.route_flows.specs.Starts.{AreStartRows}
-use Rattle.route_flows.specs.declared.start_rows.StartRow.{StartRow}
+use Rattle.start_table.specs.Starts.{AreStartRows}
+use Rattle.start_table.specs.declared.rows.StartRow.{StartRow}
 
 -- trips and a table have one list of chosen walks
 abbrev pub ChosenAreDetermined : Type 0

@@ -1,5 +1,3 @@
-pub mod Starts
-pub mod StartTable
 pub mod Starting
 pub mod Averages
 pub mod Asked

@@ -12,12 +12,12 @@ ghost use Rattle.route_flows.specs.declared.selection.TheConstants.{MOST_ITERATI
 
 use crate::kept::{copies, fill_in, renew_selected};
 use crate::selection::{all_walks, asks_of, rest_of};
-use crate::start_rows::StartRows;
 use crate::starts::start_walks;
 use dta_model::{Routes, Trip};
 use gap::{GapLine, gap_line_by_shares};
 use link_times::LinkTimes;
 use net_core::{Memory, Net};
+use start_table::StartRows;
 use std::thread::Threads;
 use time_routes::{TablePool, Told, tell_by_shares};
 

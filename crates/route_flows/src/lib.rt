@@ -6,11 +6,9 @@
 //! averages (specs/Averages.antt), for every number of workers. [`gap_and_next_routes`] measures
 //! the gap of the iteration with the same labels.
 //!
-//! [`read_start`] reads a start table, an earlier table of agents, and answers exactly its rows or
-//! exactly its first fault. From it [`started_routes`] gives a vehicle that a row fits the row's
-//! walk and any other its chosen one, and [`route_iterations`] tells for each vehicle in which
-//! iteration it last took its route. Other tables that name links are read with [`ids_in`], and
-//! [`walk_named`] tells the walk that such identifiers name.
+//! From the rows of a start table [`started_routes`] gives a vehicle that a row fits the row's walk
+//! and any other its chosen one, and [`route_iterations`] tells for each vehicle in which iteration
+//! it last took its route.
 //!
 //! Destinations are worked in groups of up to eight, by shares side by side, at most four and at
 //! most as many as there are workers, in threads where they can be made. A share takes the next
@@ -24,8 +22,6 @@ mod laws;
 mod routeless;
 mod selection;
 mod since;
-mod start_rows;
-mod start_table;
 mod starts;
 
 pub use flows::{MOST_WORKERS, first_routes, gap_and_next_routes, next_routes, started_routes};
@@ -33,6 +29,4 @@ pub use laws::{iterations_are_determined, no_row_starts_nobody, routes_are_deter
 pub use routeless::unrouted;
 pub use selection::{MOST_ITERATION, is_selected};
 pub use since::route_iterations;
-pub use start_rows::{Ids, MOST_START_ROWS, StartRow, StartRows};
-pub use start_table::{ids_in, read_start};
-pub use starts::{link_index, walk_named};
+pub use start_table::{Ids, StartRow, StartRows, read_start};

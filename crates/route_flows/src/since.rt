@@ -7,10 +7,10 @@ ghost use Rattle.route_flows.specs.Starting.{first_number as first_number_of};
 ghost use Rattle.route_flows.specs.declared.selection.TheConstants.{MOST_ITERATION};
 
 use crate::selection::is_selected;
-use crate::start_rows::StartRows;
 use crate::starts::start_walks;
 use dta_model::{Route, Steps, Trip};
 use net_core::{Memory, Net};
+use start_table::StartRows;
 use std::alloc::Global;
 
 // The last of so many iterations after which a vehicle takes a new route for a later one of them,

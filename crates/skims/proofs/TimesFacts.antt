@@ -1,6 +1,6 @@
 -- A times table that is accepted has a row for each bucket of each link, and in each row the link takes time.
-use Rattle.std.proofs.Common.{◌≡◌, ℕ, ◌+◌, ◌*◌, ◌/◌, ◌%◌, ◌<◌, ◌≤◌, List, [], ◌∷◌, ◌++◌, length, length-append, refl, ap, sym, arith, Bool, true, false, nat_eq}
-use Rattle.std.specs.Prelude.{Option, None, Some, Result, Ok, Err, IfOk, All, option_map, nat_le, nat_lt, slice_get, if◌then◌else◌, ◌&&◌, not, min}
+use Rattle.std.proofs.Common.{◌≡◌, ℕ, ◌/◌, ◌<◌, ◌≤◌, List, [], ◌∷◌, ◌++◌, length, length-append, refl, arith, true, false, nat_eq}
+use Rattle.std.specs.Prelude.{Option, None, Some, Result, Ok, Err, IfOk, All, nat_le, nat_lt, slice_get, if◌then◌else◌, not}
 use Rattle.std.proofs.lemmas.List.Elements.{All-nil, All-push}
 use Rattle.std.proofs.lemmas.Bool.{leb-true, ltb-false}
 use Rattle.std.proofs.lemmas.Option.{slice_get_within}
@@ -23,7 +23,7 @@ use Rattle.row_reader.specs.declared.faults.TableRefusal.{TableRefusal}
 use Rattle.dta_model.specs.LinkTimes.{buckets_to}
 use Rattle.link_times.proofs.Places.{bucket_inside}
 use Rattle.skims.specs.GivenTimes.{AreRowsOf}
-use Rattle.skims.specs.TimesTable.{has_link, link_of, none_missing, own_link, row_count, same_number, time_row_of, times_columns, times_verdict, travel_of, wanted_after, wanted_in}
+use Rattle.skims.specs.TimesTable.{has_link, link_of, none_missing, own_link, row_count, same_number, time_row_of, times_columns, travel_of, wanted_after}
 use Rattle.skims.specs.declared.time_rows.TimeRow.{TimeRow}
 use Rattle.skims.specs.declared.times_table.TheConstants.{MOST_TIME_ROWS, MOST_TRAVEL_STEPS}
 use Rattle.skims.specs.declared.wanted.Wanted.{Wanted}

@@ -1,6 +1,6 @@
 // The least times between all zones, by labels of a group of destinations after another.
 ghost use Rattle.std.specs.Prelude.{◌≡◌, ◌≢◌, ◌+◌, ◌<◌, ◌≤◌, ◌^◌, length, slice_index, take};
-ghost use Rattle.std.specs.Prelude.{IfOk, OnOk};
+ghost use Rattle.std.specs.Prelude.{IfOk};
 ghost use Rattle.std.specs.List.{range_with_len};
 ghost use Rattle.net_core.specs.Network.{zones as zones_of};
 ghost use Rattle.dta_model.specs.LinkTimes.{time_at};
@@ -110,34 +110,34 @@ fn zones_from(alloc: Global, first: u32, count: u32) -> Result<Vec<ZoneNo>, Memo
     Ok(zones)
 }
 
-// Adds the least times to so many zones, from one on, where those to the zones before it are
-// there.
+// Adds the least times to the next zones, from one on, where those to the zones before it are
+// there: as many as a group has, or all that are left. The result is the zone after them.
 fn add_group(
     alloc: Global,
     net: &Net,
     times: &LinkTimes,
     starts: &[u32],
     first: u32,
-    count: u32,
     to_each: &mut Vec<Vec<Leasts>>,
-) -> Result<(), Memory>
+) -> Result<u32, Memory>
     requires table { length times.now.free ≡ length net.now.links }
-    requires some { 1 ≤ count }
-    requires few { count ≤ MOST_GROUP }
-    requires within { first + count ≤ length (zones_of net.now.nodes) }
+    requires first { first < length (zones_of net.now.nodes) }
     requires before { AreBetween (time_at times.now) net.now starts.now
         (take first (zones_of net.now.nodes)) to_each.old.items }
-    ensures { OnOk result (AreBetween (time_at times.now) net.now starts.now
-        (take (first + count) (zones_of net.now.nodes)) to_each.new.items) }
+    ensures between { IfOk result (λ next. AreBetween (time_at times.now) net.now starts.now
+        (take next (zones_of net.now.nodes)) to_each.new.items) }
+    ensures more { IfOk result (λ next. first < next) }
+    ensures within { IfOk result (λ next. next ≤ length (zones_of net.now.nodes)) }
 {
     let zones = net.zone_count();
+    let count = (zones - first).min(MOST_GROUP as u32);
     let group = zones_from(alloc, first, count)?;
     let labels = GroupLabels::to_zones(alloc, net, times, &group)?;
     for place in 0..count {
         let zone = first + place;
         to_each.push(leasts_by_start(alloc, &labels, place as usize, zone, zones, starts)?)?;
     }
-    Ok(())
+    Ok(first + count)
 }
 
 // Those to all zones.
@@ -155,9 +155,7 @@ fn leasts_to_each(
     let mut to_each = Vec::with_capacity(alloc, zones as usize)?;
     let mut first = 0;
     while first < zones {
-        let count = (zones - first).min(MOST_GROUP as u32);
-        add_group(alloc, net, times, starts, first, count, &mut to_each)?;
-        first += count;
+        first = add_group(alloc, net, times, starts, first, &mut to_each)?;
     }
     Ok(to_each)
 }

@@ -11,7 +11,7 @@ use Rattle.net_core.specs.declared.rows.NetRows.{NetRows}
 use Rattle.dta_model.specs.Loading.{journeys_of}
 use Rattle.dta_model.specs.declared.trip.DemandCell.{DemandCell}
 use Rattle.dta_model.specs.declared.trip.Trip.{Trip}
-use Rattle.route_flows.specs.declared.start_rows.StartRow.{StartRow}
+use Rattle.start_table.specs.declared.rows.StartRow.{StartRow}
 use Rattle.reports.specs.Texts.{agent_text, gap_text, link_time_text, report_text}
 use Rattle.dta_words.specs.declared.command.Settings.{Settings}
 use Rattle.assignment.specs.Assignment.{Traffic, plan_of, summary_of, times_of}

@@ -8,7 +8,7 @@ use Rattle.audit.proofs.trip_checks.check_row.Goals as goal
 
 pub returns-in-None-2-clause-verdict : goal.returns-in-None-2-clause-verdict
 returns-in-None-2-clause-verdict c =
-    let net = c.args.net.now in
+    let net = c.args.index.now in
     let row = c.args.row.now in
     let trip = c.in-Some.trip.now in
     let none = subst (λ o. TellsRoute net trip c.as_slice.result.now o) c.in-None-2.is c.in_ok-route.ensures in

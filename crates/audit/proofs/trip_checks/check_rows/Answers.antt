@@ -14,7 +14,7 @@ returns-in-No-clause-verdict c =
     let r = c.loop-r.r in
     let row = c.index-agents-r.result in
     row_fails (trip_checks_at net trips) agents r row c.in_ok-verdict.verdict c.in-No.table c.in-No.line c.in-No.column c.loop-r-test.true c.index-agents-r.is c.in-No.is
-    (subst (λ o. IsVerdict (trip_checks net r o row) c.in_ok-verdict.verdict) (looked_up c.get.result trips r c.get.ensures.lookup.0 c.get.ensures.lookup.1) c.in_ok-verdict.ensures.verdict)
+    (subst (λ o. IsVerdict (trip_checks net r o row) c.in_ok-verdict.verdict) (looked_up c.get.result trips r c.get.ensures.lookup.0 c.get.ensures.lookup.1) (rw (← c.in_ok-index.ensures) c.in_ok-verdict.ensures.verdict))
     c.loop-r.invariant.checks
 
 pub loop-r-preserved : goal.loop-r-preserved
@@ -27,9 +27,9 @@ loop-r-preserved c =
     record {
       checks =
           row_holds (trip_checks_at net trips) agents r row c.in_ok-verdict.verdict c.loop-r-test.true c.index-agents-r.is c.in-Yes.is
-          (subst (λ o. IsVerdict (trip_checks net r o row) c.in_ok-verdict.verdict) (looked_up c.get.result trips r c.get.ensures.lookup.0 c.get.ensures.lookup.1) c.in_ok-verdict.ensures.verdict)
+          (subst (λ o. IsVerdict (trip_checks net r o row) c.in_ok-verdict.verdict) (looked_up c.get.result trips r c.get.ensures.lookup.0 c.get.ensures.lookup.1) (rw (← c.in_ok-index.ensures) c.in_ok-verdict.ensures.verdict))
           c.loop-r.invariant.checks;
       routes =
           routes_more net agents r row c.loop-r.routes.items c.check_row.new.routes.items c.loop-r-test.true c.index-agents-r.is c.loop-r.invariant.routes
-          (c.in_ok-verdict.ensures.route (ap Ok c.in-Yes.is));
+          (rw (← c.in_ok-index.ensures) (c.in_ok-verdict.ensures.route (ap Ok c.in-Yes.is)));
     }

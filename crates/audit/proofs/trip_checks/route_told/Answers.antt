@@ -1,11 +1,11 @@
 use Rattle.std.proofs.Common.{inr, subst}
-use Rattle.route_flows.specs.Starts.{IsNamedWalk, TellsWalk}
+use Rattle.start_table.specs.Starts.{IsNamedWalk, TellsWalk}
 use Rattle.audit.proofs.Routed.{walk_is_route}
 use Rattle.audit.proofs.trip_checks.route_told.Goals as goal
 
 pub returns-in-Some : goal.returns-in-Some
 returns-in-Some c =
-    let net = c.args.net.now in
+    let net = c.args.index.now in
     let trip = c.args.trip.now in
     let ids = c.args.ids.now in
     let named : IsNamedWalk net trip.origin trip.destination ids c.in-Some.walk =

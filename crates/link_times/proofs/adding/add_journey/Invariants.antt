@@ -7,5 +7,5 @@ use Rattle.link_times.proofs.adding.add_journey.Given as goal
 
 abbrev pub invariant-loop-place : goal.invariant-loop-place
 invariant-loop-place l = (length l.sums ≡ length l.initial.sums) × (length l.counts ≡ length l.sums)
-    × AreLeft (plan_of l.loading) l.bucket l.buckets (moves_along l.vehicle l.route l.entries l.arrival) (drop l.place (moves_along l.vehicle l.route l.entries l.arrival)) l.initial.sums l.initial.counts l.sums l.counts
+    × AreLeft (plan_of l.buckets.loading) l.buckets.steps l.buckets.count (moves_along l.vehicle l.route l.entries l.journey.arrival) (drop l.place (moves_along l.vehicle l.route l.entries l.journey.arrival)) l.initial.sums l.initial.counts l.sums l.counts
     × AreWithin (l.vehicle * MOST_HORIZON + l.place) l.sums l.counts

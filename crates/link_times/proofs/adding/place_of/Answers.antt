@@ -4,5 +4,5 @@ use Rattle.link_times.proofs.adding.place_of.Goals as goal
 
 pub returns-clause-inside : goal.returns-clause-inside
 returns-clause-inside c =
-    place_inside c.args.links c.args.buckets c.args.link.0 (c.args.entry / c.args.bucket) c.requires.link
-    (subst (λ n. c.args.entry / c.args.bucket < n) (sym c.requires.buckets) (bucket_inside c.args.bucket c.args.horizon c.args.entry c.requires.bucket c.requires.entry))
+    place_inside _ c.args.buckets.now.count c.args.link.0 (c.args.entry / c.args.buckets.now.steps) c.requires.link
+    (subst (λ n. c.args.entry / c.args.buckets.now.steps < n) (sym c.requires.buckets.all) (bucket_inside c.args.buckets.now.steps c.args.buckets.now.loading.horizon c.args.entry c.requires.buckets.some c.requires.entry))

@@ -1,9 +1,7 @@
-use Rattle.std.proofs.Common.{rules, arith}
-use Rattle.std.proofs.lemmas.Grind.{common_steps}
 use Rattle.std.proofs.lemmas.Result.{err_from_is_err_and}
 use Rattle.desk_io.specs.declared.desk.Output.TheVariants as output
 use Rattle.reports.specs.Texts.{ids_of}
-use Rattle.reports.proofs.TextsFacts.{added-item, part-item, added-items, id-there, length-ids_of}
+use Rattle.reports.proofs.TextsFacts.{item-added, item-refused, items-added, id-there, length-ids_of}
 use Rattle.reports.proofs.agents.add_ids.Goals as goal
 
 pub link-row-requires : goal.link-row-requires
@@ -11,31 +9,14 @@ link-row-requires g c = c.requires c.each.place _ c.each-test.true
 
 pub returns-in_err-add_item : goal.returns-in_err-add_item
 returns-in_err-add_item g c =
-    let p = err_from_is_err_and c.from_residual.result c.from_residual.ensures.1 in
-    rw p.1 (record {
-      whole = tt;
-      refused = (part-item output.Agent (ids_of c.args.net.now c.args.route.now) c.each.place _ c.args.pending.now c.each.pending _ _ _
-          (rw (length-ids_of c.args.net.now c.args.route.now) c.each-test.true) (id-there c.args.net.now c.args.route.now c.each.place _ c.link-row.result c.each-test.true c.link-row.ensures) c.each.invariant.added c.in_err-add_item.ensures.refused);
-      cause = record { later = grind (arith, common_steps); failed = grind (arith, common_steps) };
-      left = grind (arith, common_steps);
-      reads = grind (arith, common_steps);
-    })
+    rw (err_from_is_err_and c.from_residual.result c.from_residual.ensures.1).1
+    (item-refused _ output.Agent (ids_of c.args.net.now c.args.route.now) c.each.place _ c.args.pending.now c.each.pending _ _ _ _ _ _
+    (rw (length-ids_of c.args.net.now c.args.route.now) c.each-test.true) (id-there c.args.net.now c.args.route.now c.each.place _ c.link-row.result c.each-test.true c.link-row.ensures) c.each.invariant c.in_err-add_item.ensures)
 
 pub each-preserved : goal.each-preserved
-each-preserved g c = record {
-  added = added-item output.Agent (ids_of c.args.net.now c.args.route.now) c.each.place _ c.args.pending.now c.each.pending c.add_item.new.pending _ _ _
-      (rw (length-ids_of c.args.net.now c.args.route.now) c.each-test.true) (id-there c.args.net.now c.args.route.now c.each.place _ c.link-row.result c.each-test.true c.link-row.ensures) c.each.invariant.added c.in_ok-add_item.ensures.whole;
-  left = search rules;
-  later = grind (arith, common_steps);
-  reads = search rules;
-}
+each-preserved g c =
+    item-added output.Agent (ids_of c.args.net.now c.args.route.now) c.each.place _ c.args.pending.now c.each.pending c.add_item.new.pending _ _ _ _
+    (rw (length-ids_of c.args.net.now c.args.route.now) c.each-test.true) (id-there c.args.net.now c.args.route.now c.each.place _ c.link-row.result c.each-test.true c.link-row.ensures) c.each.invariant c.in_ok-add_item.ensures
 
 pub returns : goal.returns
-returns g c =
-    record {
-      whole = added-items output.Agent (ids_of c.args.net.now c.args.route.now) c.each.place c.args.pending.now c.each.pending _ _ (rw (length-ids_of c.args.net.now c.args.route.now) c.each-test.false) c.each.invariant.added;
-      refused = search rules;
-      cause = record { later = grind (arith, common_steps); failed = grind (arith, common_steps) };
-      left = search rules;
-      reads = search rules;
-    }
+returns g c = items-added output.Agent (ids_of c.args.net.now c.args.route.now) c.each.place c.args.pending.now c.each.pending _ _ _ (rw (length-ids_of c.args.net.now c.args.route.now) c.each-test.false) c.each.invariant

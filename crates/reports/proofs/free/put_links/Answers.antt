@@ -1,48 +1,19 @@
-use Rattle.std.proofs.Common.{◌≡◌, rules, arith, refl, []}
-use Rattle.std.proofs.lemmas.Grind.{common_steps}
-use Rattle.std.proofs.lemmas.Result.{on_err_weaker, on_ok_weaker, err_from_is_err_and}
+use Rattle.std.proofs.Common.{refl, []}
+use Rattle.std.proofs.lemmas.Result.{err_from_is_err_and}
 use Rattle.desk_io.specs.declared.desk.Output.TheVariants as output
-use Rattle.desk_io.specs.Desk.{grown}
-use Rattle.desk_io.specs.Transfers.{IsPartOut}
 use Rattle.reports.specs.Texts.{free_link_line, free_link_time_header, free_link_time_text}
-use Rattle.pending_text.proofs.LineFacts.{added-line, part-line, lines-done, lines-part-done}
+use Rattle.pending_text.proofs.LineFacts.{line-added, line-refused, lines-put}
 use Rattle.reports.proofs.free.put_links.Goals as goal
 
 pub returns-in_err-add_link : goal.returns-in_err-add_link
 unfolding free_link_time_text
 returns-in_err-add_link g c =
-    let p = err_from_is_err_and c.from_residual.result c.from_residual.ensures.1 in
-    rw p.1 (record {
-      whole = tt;
-      refused = (part-line output.LinkTime free_link_line free_link_time_header c.args.links.now c.each.row-index _ _ [] c.each.pending _ _ _
-          c.each-test.true refl c.each.invariant.added c.in_err-add_link.ensures.refused);
-      cause = record { later = grind (arith, common_steps); failed = grind (arith, common_steps) };
-      left = grind (arith, common_steps);
-      reads = grind (arith, common_steps);
-    })
+    rw (err_from_is_err_and c.from_residual.result c.from_residual.ensures.1).1
+    (line-refused _ output.LinkTime free_link_line free_link_time_header c.args.links.now c.each.row-index _ _ [] c.each.pending _ _ _ _ _ _ c.each-test.true refl c.each.invariant c.in_err-add_link.ensures)
 
 pub each-preserved : goal.each-preserved
-each-preserved g c = record {
-  added = added-line output.LinkTime free_link_line free_link_time_header c.args.links.now c.each.row-index _ _ [] c.each.pending c.add_link.new.pending _ _ _
-      c.each-test.true refl c.each.invariant.added c.in_ok-add_link.ensures.whole;
-  left = search rules;
-  later = grind (arith, common_steps);
-  reads = search rules;
-}
+each-preserved g c = line-added output.LinkTime free_link_line free_link_time_header c.args.links.now c.each.row-index _ _ [] c.each.pending c.add_link.new.pending _ _ _ _ c.each-test.true refl c.each.invariant c.in_ok-add_link.ensures
 
 pub returns : goal.returns
 unfolding free_link_time_text
-returns g c =
-    record {
-      whole = (let all : (g.D.Desk.state c.put_out.new.desk).taken ≡ grown output.LinkTime c.each.pending (g.D.Desk.state c.each.desk).taken
-          → (g.D.Desk.state c.put_out.new.desk).taken ≡ grown output.LinkTime (free_link_time_text c.args.links.now) (g.D.Desk.state c.args.desk.now).taken
-          = λ out. lines-done output.LinkTime free_link_line free_link_time_header c.args.links.now c.each.row-index c.each.pending _ _ _ c.each-test.false c.each.invariant.added out in
-          on_ok_weaker _ all c.put_out.ensures.puts.whole);
-      refused = (let some : IsPartOut output.LinkTime c.each.pending (g.D.Desk.state c.each.desk).taken (g.D.Desk.state c.put_out.new.desk).taken
-          → IsPartOut output.LinkTime (free_link_time_text c.args.links.now) (g.D.Desk.state c.args.desk.now).taken (g.D.Desk.state c.put_out.new.desk).taken
-          = λ part. lines-part-done output.LinkTime free_link_line free_link_time_header c.args.links.now c.each.row-index c.each.pending _ _ _ c.each-test.false c.each.invariant.added part in
-          on_err_weaker _ some c.put_out.ensures.puts.refused);
-      cause = record { later = grind (arith, common_steps); failed = grind (arith, common_steps) };
-      left = search rules;
-      reads = search rules;
-    }
+returns g c = lines-put output.LinkTime free_link_line free_link_time_header c.args.links.now c.each.row-index c.each.pending _ _ _ c.put_out.result c.each-test.false c.each.invariant c.put_out.ensures.puts

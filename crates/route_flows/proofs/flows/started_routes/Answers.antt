@@ -1,7 +1,7 @@
 use Rattle.std.proofs.Common.{◌∙◌, ap, length, rules, subst, sym, true}
 use Rattle.time_routes.specs.Destinations.{AreTold}
 use Rattle.route_flows.specs.Averages.{AreStartedRoutes, free_time}
-use Rattle.route_flows.specs.Starts.{TellsStart}
+use Rattle.start_table.specs.Starts.{TellsStart}
 use Rattle.route_flows.proofs.Averaged.{lent}
 use Rattle.route_flows.proofs.FreeTimes.{free-many, from_start, started_table}
 use Rattle.route_flows.proofs.Started.{started_walk}

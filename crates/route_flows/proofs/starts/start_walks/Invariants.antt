@@ -1,4 +1,4 @@
-use Rattle.route_flows.specs.Starts.{TellsStart}
+use Rattle.start_table.specs.Starts.{TellsStart}
 use Rattle.route_flows.proofs.Started.{Begun}
 use Rattle.route_flows.proofs.starts.start_walks.Given as goal
 

@@ -1,6 +1,6 @@
 use Rattle.std.proofs.Common.{List, arith, subst, sym}
 use Rattle.dta_model.specs.declared.trip.Trip.{Trip}
-use Rattle.route_flows.specs.Starts.{AreStartRows}
+use Rattle.start_table.specs.Starts.{AreStartRows}
 use Rattle.assignment.proofs.AssignmentFacts.{no-start-rows}
 use Rattle.assignment.specs.Traffic.{AreTripsBelow}
 use Rattle.sweep.proofs.ScenarioFacts.{scenario-over}

@@ -1,6 +1,0 @@
-use Rattle.std.proofs.Common.{◌≡◌, take}
-use Rattle.net_core.specs.Rows.{link_ids}
-use Rattle.route_flows.proofs.starts.ids_of.Given as goal
-
-abbrev pub invariant-loop-link : goal.invariant-loop-link
-invariant-loop-link l = l.ids ≡ link_ids (take l.link-index l.links)

@@ -1,0 +1,4 @@
+pub mod Starts
+pub mod StartTable
+pub mod Names
+pub mod Examples
