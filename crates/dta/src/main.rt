@@ -4,7 +4,7 @@
 
 ghost use Rattle.std.specs.Prelude.{◌≡◌, ◌≢◌, OnErr, OnOk};
 ghost use Rattle.std.specs.declared.io.ErrorKind.TheVariants as kind;
-ghost use Rattle.dta_run.specs.declared.status.Status.TheVariants as run;
+ghost use Rattle.commands.specs.declared.status.Status.TheVariants as run;
 
 use desk_io::{Failed, FileDesk};
 use dta_run::{Status, run_arguments};

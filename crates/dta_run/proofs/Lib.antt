@@ -1,13 +1,3 @@
-pub mod TableFacts
-pub mod ChainFacts
-pub mod JobFacts
-pub mod VerdictFacts
-pub mod OutputFacts
-pub mod IterateFacts
+pub mod AnswerFacts
 pub mod RunFacts
-pub mod SoundFacts
-pub mod WatchFacts
 pub mod ReceiptFacts
-pub mod LoadFacts
-pub mod Determined
-pub mod AnyOrder

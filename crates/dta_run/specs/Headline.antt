@@ -9,11 +9,12 @@ use Rattle.std.specs.Prelude.{ℕ, ◌≤◌, List, None}
 use Rattle.desk_io.specs.declared.desk.Table.{Table}
 use Rattle.dta_words.specs.Grammar.{settings_of}
 use Rattle.loader.specs.Gates.{GateState}
-use Rattle.dta_run.specs.Laws.{OneListOfTexts}
-use Rattle.dta_run.specs.Outcome.{Answers, DeskState, Means}
+use Rattle.commands.specs.Laws.{OneListOfTexts}
+use Rattle.dta_run.specs.Outcome.{Answers, Means}
+use Rattle.desk_io.specs.State.{DeskState}
 use Rattle.dta_run.specs.Receipts.{RunGives, ToldGives}
-use Rattle.dta_run.specs.Verdict.{AreToldBy, verdict}
-use Rattle.dta_run.specs.declared.status.Status.{Status}
+use Rattle.jobs.specs.Verdict.{AreToldBy, verdict}
+use Rattle.commands.specs.declared.status.Status.{Status}
 
 -- what a run with these words answered, and its desk and its gate before and after it
 pub record Headline (words : List (List ℕ)) (answer : Status) (before after : DeskState)

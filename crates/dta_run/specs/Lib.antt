@@ -1,14 +1,4 @@
-pub mod Status
-pub mod Tables
-pub mod Jobs
-pub mod Outputs
-pub mod Orders
-pub mod Verdict
 pub mod Outcome
-pub mod Stops
-pub mod Progress
-pub mod Calls
 pub mod Receipts
-pub mod Examples
-pub mod Laws
+pub mod Calls
 pub mod Headline

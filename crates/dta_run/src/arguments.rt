@@ -4,9 +4,8 @@ ghost use Rattle.std.specs.Vec.Iter.{into_iter_items};
 ghost use Rattle.dta_run.specs.Headline.{Headline, silent};
 
 use crate::NoGate;
-use crate::laws::texts_are_one;
-use crate::status::Status;
 use crate::top_call::run;
+use commands::{Status, texts_are_one};
 use desk_io::Desk;
 use dta_words::Words;
 use std::env::Args;

@@ -8,24 +8,10 @@
 #![tactic(auto)]
 
 mod arguments;
-mod audited;
-mod counted;
-mod halt;
-mod iterate;
-mod job;
-mod laws;
-mod limits;
-mod load;
-mod outputs;
-mod skimmed;
-mod status;
-mod stop;
-mod swept;
-mod tables;
 mod top_call;
 
 pub use arguments::run_arguments;
-pub use limits::{TooBig, sizes};
+pub use commands::Status;
+pub use jobs::{TooBig, sizes};
 pub use loader::{CountGate, Gate, NoGate};
-pub use status::Status;
 pub use top_call::run;

@@ -1,27 +1,23 @@
 // The public call.
-ghost use Rattle.std.specs.Prelude.{◌≡◌, ◌≢◌, ◌≤◌, ℕ, List, Some};
+ghost use Rattle.std.specs.Prelude.{◌≡◌, ◌≤◌, ℕ, List, Some};
 ghost use Rattle.dta_words.specs.Ranges.{AreSettings};
-ghost use Rattle.dta_run.specs.Jobs.{IsJob, Assigns};
+ghost use Rattle.jobs.specs.Jobs.{IsJob};
+ghost use Rattle.jobs.specs.Kinds.{IsFor, rows_in_job};
 ghost use Rattle.dta_words.specs.Grammar.{settings_of};
 ghost use Rattle.loader.specs.Gates.{gate_of};
-ghost use Rattle.dta_run.specs.Status.{refusal_status as status_of_refusal};
-ghost use Rattle.dta_run.specs.Calls.{DoesWork, Refuses};
+ghost use Rattle.commands.specs.Status.{refusal_status as status_of_refusal};
+ghost use Rattle.commands.specs.Calls.{DoesWork};
+ghost use Rattle.dta_run.specs.Calls.{Refuses};
 ghost use Rattle.dta_run.specs.Headline.{Headline};
 ghost use Rattle.dta_run.specs.Outcome.{Means};
-ghost use Rattle.dta_run.specs.Receipts.{RunGives, WorkGives};
+ghost use Rattle.dta_run.specs.Receipts.{RunGives};
+ghost use Rattle.iterations.specs.Receipts.{WorkGives};
 
-use crate::audited::put_verdict;
-use crate::halt::Halt;
-use crate::iterate::iterate;
-use crate::job::{Job, accept};
-use crate::laws::texts_are_one;
-use crate::outputs::put_assigned;
-use crate::skimmed::put_least_times;
-use crate::status::Status;
-use crate::stop::Stop;
-use crate::swept::put_scenarios;
+use commands::{Status, put_least_times, put_scenarios, put_verdict, texts_are_one};
 use desk_io::{Desk, Failed};
-use dta_words::{Command, Settings, Words, WordsRefusal, settings};
+use dta_words::{Settings, Words, WordsRefusal, settings};
+use iterations::assign;
+use jobs::{Job, Stop, accept};
 use loader::Gate;
 use reports::{Refusal, put_free, put_refusal};
 use std::sync::Wait;
@@ -52,32 +48,6 @@ fn refuse<D: Desk>(desk: &mut D, refusal: Refusal) -> Status
     refusal_status(refusal)
 }
 
-// Does the iterations of an assignment and puts its outputs.
-fn assign<R: AllocGlobal + Threads + Wait + Sync, D: Desk + Send, G: Gate + Sync>(
-    rt: &R,
-    settings: &Settings,
-    job: &Job,
-    gate: &mut G,
-    desk: &mut D,
-) -> Status
-    requires settings { AreSettings settings.now }
-    requires job { IsJob settings.now job.now }
-    requires command { Assigns settings.now.command }
-    ensures works { DoesWork settings.now job.now (D.state desk.old) (D.state desk.new) result }
-    ensures receipts { let shown = gate_of G.closes G.last in
-        WorkGives settings.now job.now result (shown gate.old) (shown gate.new) }
-{
-    let assignment = job.assignment(settings);
-    match iterate(rt, &assignment, gate, desk) {
-        Ok(assigned) => match put_assigned(desk, &assignment, &assigned) {
-            Ok(()) => Status::Done,
-            Err(Failed) => Status::WriteFault,
-        },
-        Err(Halt::Watch) => Status::WriteFault,
-        Err(Halt::Memory) => Status::Memory,
-    }
-}
-
 // Does the work over an accepted job.
 fn work<R: AllocGlobal + Threads + Wait + Sync, D: Desk + Send, G: Gate + Sync>(
     rt: &R,
@@ -87,22 +57,22 @@ fn work<R: AllocGlobal + Threads + Wait + Sync, D: Desk + Send, G: Gate + Sync>(
     desk: &mut D,
 ) -> Status
     requires settings { AreSettings settings.now }
-    requires job { IsJob settings.now job.now }
-    ensures works { DoesWork settings.now job.now (D.state desk.old) (D.state desk.new) result }
+    requires job { IsJob settings.now (rows_in_job job.now) }
+    requires own { IsFor settings.now.command job.now }
+    ensures works { DoesWork settings.now (rows_in_job job.now)
+        (D.state desk.old) (D.state desk.new) result }
     ensures receipts { let shown = gate_of G.closes G.last in
-        WorkGives settings.now job.now result (shown gate.old) (shown gate.new) }
+        WorkGives settings.now (rows_in_job job.now) result (shown gate.old) (shown gate.new) }
 {
-    match settings.command {
-        Command::Freeflow => match put_free(desk, &job.net) {
+    match job {
+        Job::Freeflow(net) => match put_free(desk, net) {
             Ok(()) => Status::Done,
             Err(Failed) => Status::WriteFault,
         },
-        Command::Skim => put_least_times(rt.alloc(), settings, job, desk),
-        Command::Sweep => put_scenarios(rt, settings, job, desk),
-        Command::Audit => put_verdict(rt.alloc(), settings, job, desk),
-        Command::Assign | Command::Demo(_) | Command::Counts => {
-            assign(rt, settings, job, gate, desk)
-        }
+        Job::Assign(job) => assign(rt, settings, job, gate, desk),
+        Job::Skim(job) => put_least_times(rt.alloc(), settings, job, desk),
+        Job::Sweep(job) => put_scenarios(rt, settings, job, desk),
+        Job::Audit(job) => put_verdict(rt.alloc(), settings, job, desk),
     }
 }
 

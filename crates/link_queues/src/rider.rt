@@ -61,8 +61,8 @@ fn link_at(path: &[u32], place: usize) -> Option<LinkNo>
 }
 
 impl Rider {
-    /// A rider who has entered no link. The route is copied: the step of an entry takes the place of
-    /// the link.
+    /// A rider who has entered no link. The route is copied: the step of an entry takes the place
+    /// of the link.
     pub fn new(
         alloc: Global,
         number: u32,

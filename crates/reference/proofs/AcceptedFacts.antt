@@ -39,12 +39,12 @@ use Rattle.dta_words.specs.Ranges.{AreSettings}
 use Rattle.dta_words.specs.declared.command.Command.{Command}
 use Rattle.dta_words.specs.declared.command.Command.TheVariants as command
 use Rattle.dta_words.specs.declared.command.Settings.{Settings}
-use Rattle.dta_run.specs.Jobs.{IsJob, IsSweepJob, JobRows, TakesTimes, job_of, released_cells, swept_cells, tables_of}
-use Rattle.dta_run.specs.Tables.{TableRows, loading_tables, net_of, no_rows, road_rows, start_tables, turns_of, with_agents, with_table}
-use Rattle.dta_run.specs.Verdict.{Accepted, Refused, Verdict, after_table, first_above, texts_of, verdict, verdict_by, verdict_on, verdict_on_rows}
-use Rattle.dta_run.specs.Verdict.{verdict_on_scales, verdict_on_scenario, verdict_on_sizes, verdict_on_trips}
+use Rattle.jobs.specs.Jobs.{IsJob, IsSweepJob, JobRows, TakesTimes, job_of, released_cells, swept_cells, tables_of}
+use Rattle.jobs.specs.Tables.{TableRows, loading_tables, net_of, no_rows, road_rows, start_tables, turns_of, with_agents, with_table}
+use Rattle.jobs.specs.Verdict.{Accepted, Refused, Verdict, after_table, first_above, texts_of, verdict, verdict_by, verdict_on, verdict_on_rows}
+use Rattle.jobs.specs.Verdict.{verdict_on_scales, verdict_on_scenario, verdict_on_sizes, verdict_on_trips}
 use Rattle.assignment.proofs.AssignmentFacts.{no-start-rows}
-use Rattle.dta_run.proofs.TableFacts.{joined-net}
+use Rattle.jobs.proofs.TableFacts.{joined-net}
 use Rattle.reference.specs.Laws.{IsAccepted}
 use Rattle.row_reader.proofs.Kept.{next_ok, same_Ok}
 use Rattle.reference.proofs.NetTables.{are-between, are-links, are-nodes, are-turning, are-turns}

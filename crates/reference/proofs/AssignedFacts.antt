@@ -8,7 +8,7 @@ use Rattle.dta_words.specs.Ranges.{AreSettings}
 use Rattle.dta_words.specs.declared.command.Settings.{Settings}
 use Rattle.assignment.specs.Assignment.{Traffic, VehicleRoutes, end_of}
 use Rattle.assignment.specs.Traffic.{IsTraffic}
-use Rattle.dta_run.specs.Outputs.{AreAssigned, AreSinceTold, AreToldSteps, AreWatchTexts, end_lines, watch_text}
+use Rattle.commands.specs.Outputs.{AreAssigned, AreSinceTold, AreToldSteps, AreWatchTexts, end_lines, watch_text}
 use Rattle.reference.specs.Reference.{all_gaps, all_routes, assigned_texts, gap_at, routes_at, since_told, watch_texts}
 use Rattle.reference.proofs.Iterated.{iterated, place-of}
 use Rattle.reference.proofs.StartFacts.{since-are}

@@ -11,8 +11,8 @@ use Rattle.dta_words.specs.declared.command.Settings.{Settings}
 use Rattle.audit.specs.Audit.{checks_of}
 use Rattle.audit.specs.Checks.{Check, Statement, Holds, IsVerdict, names_route, never, same_if_any, same_list, same_number}
 use Rattle.audit.specs.declared.verdict.Verdict.TheVariants.{No}
-use Rattle.dta_run.specs.Jobs.{JobRows}
-use Rattle.dta_run.specs.Outputs.{IsAudited, audit_plan}
+use Rattle.jobs.specs.Jobs.{JobRows}
+use Rattle.commands.specs.Outputs.{IsAudited, audit_plan}
 use Rattle.reference.specs.Audits.{holds, is_same_if_any, is_same_list, verdict_of, verdict_on}
 use Rattle.reference.specs.Routes.{walk_named}
 use Rattle.reference.proofs.StartFacts.{tells-walk}

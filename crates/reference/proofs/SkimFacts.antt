@@ -17,8 +17,8 @@ use Rattle.dta_words.specs.declared.command.Settings.{Settings}
 use Rattle.skims.specs.GivenTimes.{AreRowsOf, table_given}
 use Rattle.skims.specs.Skim.{IsEntryOf, IsSkim, Question, questions}
 use Rattle.skims.specs.declared.time_rows.TimeRow.{TimeRow}
-use Rattle.dta_run.specs.Jobs.{IsJob, JobRows}
-use Rattle.dta_run.specs.Outputs.{AreSkimmed, skim_texts}
+use Rattle.jobs.specs.Jobs.{IsJob, JobRows}
+use Rattle.commands.specs.Outputs.{AreSkimmed, skim_texts}
 use Rattle.reference.specs.Search.{AreTimesWithin, Finds, search_within}
 use Rattle.reference.specs.Skims.{entries_of, entry_of, most_steps}
 use Rattle.reference.proofs.Searched.{walks_are_found}

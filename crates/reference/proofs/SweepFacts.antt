@@ -12,8 +12,8 @@ use Rattle.dta_words.specs.declared.command.Settings.{Settings}
 use Rattle.sweep.specs.Scales.{AreAllWithin, scaled}
 use Rattle.sweep.specs.Scenarios.{AreScenarios, IsScenario, traffic_at}
 use Rattle.assignment.specs.Traffic.{AreTripsBelow}
-use Rattle.dta_run.specs.Jobs.{IsJob, IsSweepJob, JobRows}
-use Rattle.dta_run.specs.Outputs.{AreSwept, sweep_texts}
+use Rattle.jobs.specs.Jobs.{IsJob, IsSweepJob, JobRows}
+use Rattle.commands.specs.Outputs.{AreSwept, sweep_texts}
 use Rattle.assignment.proofs.AssignmentFacts.{no-start-rows}
 use Rattle.reference.specs.Reference.{all_gaps, all_routes, gap_at, routes_at}
 use Rattle.reference.specs.Sweeps.{scenario_over, scenarios_of}

@@ -12,9 +12,9 @@ use Rattle.skims.specs.GivenTimes.{AreRowsOf}
 use Rattle.assignment.proofs.Determined.{RouteLaws}
 use Rattle.sweep.proofs.Determined.{scenarios_stand_alone}
 use Rattle.assignment.specs.Traffic.{IsTraffic}
-use Rattle.dta_run.specs.Jobs.{IsJob, JobRows, TakesTimes, traffic_of}
-use Rattle.dta_run.specs.Outputs.{AreAudited, AreTexts, IsAudited, OutText, audit_plan}
-use Rattle.dta_run.proofs.Determined.{texts_are_determined}
+use Rattle.jobs.specs.Jobs.{IsJob, JobRows, TakesTimes, traffic_of}
+use Rattle.commands.specs.Outputs.{AreAudited, AreTexts, IsAudited, OutText, audit_plan}
+use Rattle.commands.proofs.Determined.{texts_are_determined}
 use Rattle.reference.specs.Audits.{verdict_of}
 use Rattle.reference.specs.Laws.{EachJobHasItsTexts, IsAccepted, Passes}
 use Rattle.reference.specs.Texts.{texts_of}

@@ -7,8 +7,8 @@ use Rattle.audit.specs.Checks.{Check, Statement, names_route, never, same_if_any
 use Rattle.audit.specs.Checks.{same_number}
 use Rattle.audit.specs.declared.verdict.Verdict.{Verdict}
 use Rattle.audit.specs.declared.verdict.Verdict.TheVariants.{No, Yes}
-use Rattle.dta_run.specs.Jobs.{JobRows}
-use Rattle.dta_run.specs.Outputs.{audit_plan}
+use Rattle.jobs.specs.Jobs.{JobRows}
+use Rattle.commands.specs.Outputs.{audit_plan}
 use Rattle.reference.specs.Routes.{walk_named}
 
 -- whether two numbers are the same, or both are missing; and whether two lists are the same

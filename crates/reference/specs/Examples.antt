@@ -20,8 +20,8 @@ use Rattle.start_table.specs.declared.rows.StartRow.{StartRow}
 use Rattle.skims.specs.declared.time_rows.TimeRow.{TimeRow}
 use Rattle.audit.specs.declared.agent_rows.AgentRow.{AgentRow}
 use Rattle.audit.specs.declared.verdict.Verdict.TheVariants as verdict
-use Rattle.dta_run.specs.Jobs.{JobRows}
-use Rattle.dta_run.specs.Outputs.{text_to}
+use Rattle.jobs.specs.Jobs.{JobRows}
+use Rattle.commands.specs.Outputs.{text_to}
 use Rattle.reference.specs.Audits.{verdict_of}
 use Rattle.reference.specs.OnLiterals.{counts_on_literals, others_on_literals, tables_on_literals}
 use Rattle.reference.specs.Texts.{texts_of}

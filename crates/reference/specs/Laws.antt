@@ -5,10 +5,10 @@ use Rattle.audit.specs.declared.verdict.Verdict.TheVariants as verdict
 use Rattle.dta_words.specs.Ranges.{AreSettings}
 use Rattle.dta_words.specs.declared.command.Command.TheVariants as command
 use Rattle.dta_words.specs.declared.command.Settings.{Settings}
-use Rattle.dta_run.specs.Jobs.{IsJob, JobRows}
-use Rattle.dta_run.specs.Laws.{AreDetermined}
-use Rattle.dta_run.specs.Outputs.{AreTexts, IsAudited, OutText}
-use Rattle.dta_run.specs.Verdict.{Accepted, verdict as comes_to}
+use Rattle.jobs.specs.Jobs.{IsJob, JobRows}
+use Rattle.commands.specs.Laws.{AreDetermined}
+use Rattle.commands.specs.Outputs.{AreTexts, IsAudited, OutText}
+use Rattle.jobs.specs.Verdict.{Accepted, verdict as comes_to}
 use Rattle.reference.specs.Audits.{verdict_of}
 use Rattle.reference.specs.Texts.{texts_of}
 

@@ -6,7 +6,7 @@ use Rattle.dta_model.specs.LinkTimes.{time_at}
 use Rattle.gap.specs.declared.line.GapLine.{GapLine}
 use Rattle.dta_words.specs.declared.command.Settings.{Settings}
 use Rattle.assignment.specs.Assignment.{Traffic, VehicleRoutes, end_of, times_of}
-use Rattle.dta_run.specs.Outputs.{OutText, end_lines, last_texts}
+use Rattle.commands.specs.Outputs.{OutText, end_lines, last_texts}
 use Rattle.reference.specs.Gaps.{gap_of}
 use Rattle.reference.specs.Routes.{all_since, first_routes, next_routes}
 

@@ -11,7 +11,7 @@ use Rattle.skims.specs.GivenTimes.{table_given}
 use Rattle.skims.specs.Skim.{Question, questions}
 use Rattle.skims.specs.declared.skim_entry.SkimEntry.{SkimEntry}
 use Rattle.skims.specs.declared.time_rows.TimeRow.{TimeRow}
-use Rattle.dta_run.specs.Jobs.{JobRows}
+use Rattle.jobs.specs.Jobs.{JobRows}
 use Rattle.reference.specs.Search.{search_within}
 
 -- rows may tell more steps than a horizon has: no link takes more than these

@@ -6,7 +6,7 @@ use Rattle.dta_words.specs.declared.command.Settings.{Settings}
 use Rattle.assignment.specs.Assignment.{Traffic, VehicleRoutes, plan_of, summary_of, times_of}
 use Rattle.sweep.specs.Scenarios.{traffic_at}
 use Rattle.sweep.specs.declared.scenario.Scenario.{Scenario}
-use Rattle.dta_run.specs.Jobs.{JobRows}
+use Rattle.jobs.specs.Jobs.{JobRows}
 use Rattle.reference.specs.Reference.{all_gaps, gap_at, routes_at}
 
 -- the routes of the last iteration

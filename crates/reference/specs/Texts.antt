@@ -3,8 +3,8 @@ use Rattle.std.specs.Prelude.{List}
 use Rattle.dta_words.specs.declared.command.Command.{Command}
 use Rattle.dta_words.specs.declared.command.Command.TheVariants as command
 use Rattle.dta_words.specs.declared.command.Settings.{Settings}
-use Rattle.dta_run.specs.Jobs.{JobRows, traffic_of}
-use Rattle.dta_run.specs.Outputs.{OutText, audit_texts, free_texts, skim_texts, sweep_texts}
+use Rattle.jobs.specs.Jobs.{JobRows, traffic_of}
+use Rattle.commands.specs.Outputs.{OutText, audit_texts, free_texts, skim_texts, sweep_texts}
 use Rattle.reference.specs.Reference.{assigned_texts}
 use Rattle.reference.specs.Skims.{entries_of}
 use Rattle.reference.specs.Sweeps.{scenarios_of}

@@ -1,19 +1,20 @@
 use Rattle.std.proofs.Common.{refl, subst, sym}
 use Rattle.loader.specs.Gates.{gate_of}
 use Rattle.desk_io.specs.Desk.{Left}
-use Rattle.dta_run.specs.Jobs.{IsAcceptedJob}
-use Rattle.dta_run.specs.Stops.{Stops}
-use Rattle.dta_run.specs.declared.stop.Stop.{Stop}
+use Rattle.jobs.specs.Jobs.{IsAcceptedJob}
+use Rattle.jobs.specs.Kinds.{rows_in_job}
+use Rattle.jobs.specs.Stops.{Stops}
+use Rattle.jobs.specs.declared.stop.Stop.{Stop}
 use Rattle.dta_run.proofs.ReceiptFacts.{refused-gives, work-gives}
 use Rattle.dta_run.proofs.RunFacts.{refused-means, works-means}
-use Rattle.dta_run.proofs.SoundFacts.{loads-soundly}
+use Rattle.commands.proofs.SoundFacts.{loads-soundly}
 use Rattle.dta_run.proofs.top_call.accept_and_work.Goals as goal
 
 pub returns-in-Ok-clause-means : goal.returns-in-Ok-clause-means
 returns-in-Ok-clause-means g c = λ words told.
     works-means words c.args.settings.now _ c.work.result (g.D.Desk.state c.args.desk.now) (g.D.Desk.state c.accept.new.desk) (g.D.Desk.state c.work.new.desk) told
     c.in-Ok.ensures.reads.done c.in-Ok.ensures.reads.taken (sym c.in-Ok.ensures.reads.puts) c.work.ensures.works.left c.work.ensures.works.work c.work.ensures.works.failed c.work.ensures.works.differs
-    (loads-soundly c.args.settings.now.command c.args.settings.now c.in-Ok.job refl c.requires.settings c.in-Ok.ensures.sound)
+    (loads-soundly c.args.settings.now.command c.args.settings.now (rows_in_job c.in-Ok.job) refl c.requires.settings c.in-Ok.ensures.sound)
 
 pub returns-in-Err-Refused-clause-means : goal.returns-in-Err-Refused-clause-means
 returns-in-Err-Refused-clause-means g c = λ words told.
@@ -25,10 +26,10 @@ returns-in-Err-Refused-clause-means g c = λ words told.
 pub returns-in-Ok-clause-receipts : goal.returns-in-Ok-clause-receipts
 returns-in-Ok-clause-receipts g c = λ words told.
     let shown = gate_of g.G.Gate.closes g.G.Gate.last in
-    work-gives words c.args.settings.now c.in-Ok.job c.work.result (g.D.Desk.state c.args.desk.now).left (g.D.Desk.state c.work.new.desk).left
+    work-gives words c.args.settings.now (rows_in_job c.in-Ok.job) c.work.result (g.D.Desk.state c.args.desk.now).left (g.D.Desk.state c.work.new.desk).left
     (g.D.Desk.state c.accept.new.desk).taken (g.D.Desk.state c.work.new.desk).taken
     (shown c.args.gate.now) (shown c.work.new.gate) told
-    (subst (λ (rest : Left). IsAcceptedJob c.args.settings.now c.in-Ok.job (g.D.Desk.state c.args.desk.now).left rest) (sym c.work.ensures.works.left) c.in-Ok.ensures.reads.done)
+    (subst (λ (rest : Left). IsAcceptedJob c.args.settings.now (rows_in_job c.in-Ok.job) (g.D.Desk.state c.args.desk.now).left rest) (sym c.work.ensures.works.left) c.in-Ok.ensures.reads.done)
     c.work.ensures.works.work (λ found. (c.work.ensures.works.differs found).asks) c.work.ensures.receipts
 
 pub returns-in-Err-Refused-clause-receipts : goal.returns-in-Err-Refused-clause-receipts

@@ -1,48 +1,56 @@
-use Rattle.std.proofs.Common.{◌≡◌, refl, rules}
-use Rattle.dta_run.specs.declared.status.Status.TheVariants as status
+use Rattle.std.proofs.Common.{◌≡◌, refl, subst}
+use Rattle.commands.specs.declared.status.Status.TheVariants as status
 use Rattle.dta_words.specs.declared.command.Command.TheVariants as command
-use Rattle.dta_run.proofs.ReceiptFacts.{free-none, none-given, took-none}
-use Rattle.dta_run.proofs.RunFacts.{free-cut, free-done}
+use Rattle.jobs.specs.Kinds.{IsFor, free_rows, rows_in_job}
+use Rattle.iterations.proofs.ReceiptFacts.{free-none, none-given, took-none}
+use Rattle.commands.proofs.WorkFacts.{free-cut, free-done}
 use Rattle.dta_run.proofs.top_call.work.Goals as goal
 
 pub returns-in-Ok-clause-works : goal.returns-in-Ok-clause-works
 returns-in-Ok-clause-works g c =
     let o = c.in-Ok.ensures in
-    record {
-      work = rw (← c.job.view_is) (free-done c.args.settings.now _ (search rules) _ _ o.whole);
+    let own : c.args.settings.now.command ≡ command.Freeflow = subst (IsFor c.args.settings.now.command) c.in-Freeflow.is c.requires.own in
+    rw (c.in-Freeflow.is) (record {
+      work = free-done c.args.settings.now (free_rows c.in-Freeflow.net) own _ _ o.whole;
       failed = λ (k : status.Done ≡ status.WriteFault). absurd cc;
       differs = λ (k : status.Done ≡ status.Differs). absurd cc;
       later = o.cause.later;
       left = o.left;
       reads = o.reads;
-    }
+    })
 
 pub returns-in-Err-clause-works : goal.returns-in-Err-clause-works
 returns-in-Err-clause-works g c =
     let o = c.in-Err.ensures in
-    record {
-      work = rw (← c.job.view_is) (free-cut c.args.settings.now _ (search rules) _ _ o.refused);
+    let own : c.args.settings.now.command ≡ command.Freeflow = subst (IsFor c.args.settings.now.command) c.in-Freeflow.is c.requires.own in
+    rw (c.in-Freeflow.is) (record {
+      work = free-cut c.args.settings.now (free_rows c.in-Freeflow.net) own _ _ o.refused;
       failed = λ _. o.cause.failed;
       differs = λ (k : status.WriteFault ≡ status.Differs). absurd cc;
       later = o.cause.later;
       left = o.left;
       reads = o.reads;
-    }
+    })
 
 pub returns-in-Ok-clause-receipts : goal.returns-in-Ok-clause-receipts
-returns-in-Ok-clause-receipts g c = free-none c.args.settings.now c.args.job.now _ _ (search rules) refl
+returns-in-Ok-clause-receipts g c =
+    let own : c.args.settings.now.command ≡ command.Freeflow = subst (IsFor c.args.settings.now.command) c.in-Freeflow.is c.requires.own in
+    free-none c.args.settings.now (rows_in_job c.args.job.now) _ _ own refl
 
 pub returns-in-Err-clause-receipts : goal.returns-in-Err-clause-receipts
-returns-in-Err-clause-receipts g c = took-none c.args.settings.now c.args.job.now _ _ refl
+returns-in-Err-clause-receipts g c = took-none c.args.settings.now (rows_in_job c.args.job.now) _ _ refl
 
 pub returns-in-Skim-clause-receipts : goal.returns-in-Skim-clause-receipts
 returns-in-Skim-clause-receipts g c =
-    none-given command.Skim c.args.settings.now refl (search rules) c.args.job.now c.put_least_times.result _
+    let own : c.args.settings.now.command ≡ command.Skim = subst (IsFor c.args.settings.now.command) c.in-Skim.is c.requires.own in
+    none-given command.Skim c.args.settings.now refl own (rows_in_job c.args.job.now) c.put_least_times.result _
 
 pub returns-in-Sweep-clause-receipts : goal.returns-in-Sweep-clause-receipts
 returns-in-Sweep-clause-receipts g c =
-    none-given command.Sweep c.args.settings.now refl (search rules) c.args.job.now c.put_scenarios.result _
+    let own : c.args.settings.now.command ≡ command.Sweep = subst (IsFor c.args.settings.now.command) c.in-Sweep.is c.requires.own in
+    none-given command.Sweep c.args.settings.now refl own (rows_in_job c.args.job.now) c.put_scenarios.result _
 
 pub returns-in-Audit-clause-receipts : goal.returns-in-Audit-clause-receipts
 returns-in-Audit-clause-receipts g c =
-    none-given command.Audit c.args.settings.now refl (search rules) c.args.job.now c.put_verdict.result _
+    let own : c.args.settings.now.command ≡ command.Audit = subst (IsFor c.args.settings.now.command) c.in-Audit.is c.requires.own in
+    none-given command.Audit c.args.settings.now refl own (rows_in_job c.args.job.now) c.put_verdict.result _

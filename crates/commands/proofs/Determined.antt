@@ -1,0 +1,208 @@
+-- Settings and a job have one list of texts but for Watch, and with the plain loader of all texts.
+use Rattle.std.proofs.Common.{◌≡◌, ℕ, zero, suc, ◌+◌, ◌-◌, Bool, false, true, List, [], ◌∷◌, ◌++◌, map, refl, sym, ap, subst, ◌∙◌}
+use Rattle.std.specs.Prelude.{Option, None, Some, not, slice_get}
+use Rattle.std.proofs.lemmas.List.Elements.{filter-append}
+use Rattle.dta_model.specs.LinkTimes.{time_at}
+use Rattle.gap.specs.declared.line.GapLine.{GapLine}
+use Rattle.dta_words.specs.declared.command.Command.{Command}
+use Rattle.dta_words.specs.declared.command.Command.TheVariants as command
+use Rattle.dta_words.specs.declared.command.Settings.{Settings}
+use Rattle.assignment.specs.Assignment.{Traffic, VehicleRoutes, times_of}
+use Rattle.jobs.specs.Jobs.{JobRows, traffic_of}
+use Rattle.commands.specs.Laws.{AreDetermined, ScenariosAreAlone, TextsAreDetermined, alone, scenario_texts}
+use Rattle.reports.specs.Texts.{agent_text_by}
+use Rattle.net_core.specs.declared.rows.NetRows.{NetRows}
+use Rattle.dta_model.specs.declared.trip.DemandCell.{DemandCell}
+use Rattle.assignment.proofs.Determined.{RouteLaws, same-lines, same-routes}
+use Rattle.sweep.specs.Laws.{Agree, ScenariosStandAlone}
+use Rattle.sweep.specs.Scenarios.{AreScenarios, HasTexts, traffic_at}
+use Rattle.sweep.specs.declared.scenario.Scenario.{Scenario}
+use Rattle.commands.specs.Outputs.{AreAssigned, AreSinceTold, AreTexts, AreToldSteps, AreWatchLines, AreWatchTexts, OutText, but_watch, is_watch, last_texts, skim_texts, sweep_texts, watch_text}
+use Rattle.skims.specs.GivenTimes.{table_given}
+use Rattle.skims.proofs.Determined.{skims_are_determined}
+
+some-is : {A : Type 0} (x y : A) → Some x ≡ Some y → x ≡ y
+some-is x y e = cc
+
+-- the iterations of the routes, where they are told
+pub same-since : RouteLaws → (s : Settings) (traffic : Traffic) (start : Bool) (a b : Option (List ℕ))
+    → AreSinceTold start s traffic a → AreSinceTold start s traffic b → a ≡ b
+same-since laws s traffic false a b x y = x ∙ sym y
+same-since laws s traffic true None b x y = absurd x
+same-since laws s traffic true (Some a) None x y = absurd y
+same-since laws s traffic true (Some a) (Some b) x y =
+    ap Some (laws.since traffic.net traffic.start traffic.trips s.iterations a b x y)
+
+-- ---- watch lines
+
+-- no watch line is left among the other texts
+module _ (s : Settings) (traffic : Traffic) where
+  no-line-left : (number : ℕ) (r : VehicleRoutes) (steps : List ℕ)
+      → but_watch (map (watch_text s traffic number r) steps) ≡ []
+  no-line-left number r [] = refl
+  no-line-left number r (t ∷ steps) = no-line-left number r steps
+
+  none-left : (number : ℕ) (routes : List VehicleRoutes) (texts : List OutText)
+      → AreWatchTexts s traffic number routes texts → but_watch texts ≡ []
+  none-left number [] texts told = rw told refl
+  none-left number (r ∷ routes) texts told =
+      let lines : but_watch told.0 ≡ [] =
+      ap but_watch told.2.lines_are ∙ no-line-left number r told.2.steps in
+      let more : but_watch told.1 ≡ [] = none-left (number + 1) routes told.1 told.3 in
+      ap but_watch told.4 ∙ filter-append (λ t. not (is_watch t.to)) told.0 told.1
+      ∙ ap (λ (xs : List OutText). xs ++ but_watch told.1) lines ∙ more
+
+  -- with the plain loader an iteration has one list of lines
+  same-steps : (every horizon : ℕ) (xs ys : List ℕ) → AreToldSteps every true horizon xs
+      → AreToldSteps every true horizon ys → xs ≡ ys
+  same-steps zero horizon xs ys a b = a ∙ sym b
+  same-steps (suc every) horizon xs ys a b = a ∙ sym b
+
+  pub plain-by : (steps : List ℕ) → s.plain ≡ true → AreToldSteps s.watch s.plain s.horizon steps
+      → AreToldSteps s.watch true s.horizon steps
+  plain-by steps plain by = subst (λ (b : Bool). AreToldSteps s.watch b s.horizon steps) plain by
+
+  lines-same : (number : ℕ) (r : VehicleRoutes) (xs ys : List OutText) → s.plain ≡ true
+      → AreWatchLines s traffic number r xs → AreWatchLines s traffic number r ys → xs ≡ ys
+  lines-same number r xs ys plain a b =
+      let steps : a.steps ≡ b.steps = same-steps s.watch s.horizon a.steps b.steps
+      (plain-by a.steps plain a.by_rule) (plain-by b.steps plain b.by_rule) in
+      a.lines_are ∙ ap (map (watch_text s traffic number r)) steps ∙ sym b.lines_are
+
+  watched-same : (number : ℕ) (routes : List VehicleRoutes) (xs ys : List OutText) → s.plain ≡ true
+      → AreWatchTexts s traffic number routes xs → AreWatchTexts s traffic number routes ys → xs ≡ ys
+  watched-same number [] xs ys plain a b = a ∙ sym b
+  watched-same number (r ∷ routes) xs ys plain a b =
+      let lines : a.0 ≡ b.0 = lines-same number r a.0 b.0 plain a.2 b.2 in
+      let more : a.1 ≡ b.1 = watched-same (number + 1) routes a.1 b.1 plain a.3 b.3 in
+      a.4 ∙ ap (λ (x : List OutText). x ++ a.1) lines
+      ∙ ap (λ (x : List OutText). b.0 ++ x) more ∙ sym b.4
+
+-- ---- all texts
+
+-- the texts after the last iteration, over the same routes and gaps
+pub lasts-by : (s : Settings) (traffic : Traffic) (ra rb : List VehicleRoutes) (la lb : List GapLine)
+    (last_a last_b : VehicleRoutes) (line_a line_b : GapLine) (since_a since_b : Option (List ℕ)) → ra ≡ rb → la ≡ lb → since_a ≡ since_b
+    → slice_get ra (s.iterations - 1) ≡ Some last_a → slice_get rb (s.iterations - 1) ≡ Some last_b
+    → slice_get la (s.iterations - 1) ≡ Some line_a → slice_get lb (s.iterations - 1) ≡ Some line_b
+    → last_texts s.command s traffic last_a since_a la line_a ≡ last_texts s.command s traffic last_b since_b lb line_b
+lasts-by s traffic ra rb la lb last_a last_b line_a line_b since_a since_b routes lines since at_a at_b on_a on_b =
+    let last : last_a ≡ last_b = some-is last_a last_b (sym at_a
+    ∙ ap (λ (rs : List VehicleRoutes). slice_get rs (s.iterations - 1)) routes ∙ at_b) in
+    let line : line_a ≡ line_b = some-is line_a line_b (sym on_a
+    ∙ ap (λ (ls : List GapLine). slice_get ls (s.iterations - 1)) lines ∙ on_b) in
+    ap (λ (r : VehicleRoutes). last_texts s.command s traffic r since_a la line_a) last
+    ∙ ap (λ (o : Option (List ℕ)). last_texts s.command s traffic last_b o la line_a) since
+    ∙ ap (λ (ls : List GapLine). last_texts s.command s traffic last_b since_b ls line_a) lines
+    ∙ ap (λ (l : GapLine). last_texts s.command s traffic last_b since_b lb l) line
+
+-- the texts of an assignment but for Watch are those after its last iteration
+pub but-watch-is : (texts watched last : List OutText) → texts ≡ watched ++ last
+    → but_watch watched ≡ [] → but_watch texts ≡ but_watch last
+but-watch-is texts watched last are none =
+    ap but_watch are ∙ filter-append (λ t. not (is_watch t.to)) watched last
+    ∙ ap (λ (xs : List OutText). xs ++ but_watch last) none
+
+pub but-watch-assigned : (s : Settings) (traffic : Traffic) (xs : List OutText) (a : AreAssigned s traffic xs)
+    → but_watch xs ≡ but_watch (last_texts s.command s traffic a.last a.since a.lines a.line)
+but-watch-assigned s traffic xs a =
+    but-watch-is xs a.watched (last_texts s.command s traffic a.last a.since a.lines a.line) a.texts_are
+    (none-left s traffic 1 a.routes a.watched a.watch_lines)
+
+module _ (laws : RouteLaws) (s : Settings) (traffic : Traffic) (xs ys : List OutText) (a : AreAssigned s traffic xs)
+    (b : AreAssigned s traffic ys) where
+  routes-same : a.routes ≡ b.routes
+  routes-same = same-routes laws (times_of s traffic) traffic a.routes b.routes a.lines b.lines a.iterations b.iterations
+      (a.as_many ∙ sym b.as_many)
+
+  lasts-same : last_texts s.command s traffic a.last a.since a.lines a.line
+      ≡ last_texts s.command s traffic b.last b.since b.lines b.line
+  lasts-same =
+      lasts-by s traffic a.routes b.routes a.lines b.lines a.last b.last a.line b.line a.since b.since routes-same
+      (same-lines laws (times_of s traffic) traffic a.routes b.routes a.lines b.lines a.iterations b.iterations routes-same
+      (a.with_gaps ∙ sym a.as_many) (a.with_gaps ∙ sym b.with_gaps))
+      (same-since laws s traffic s.start a.since b.since a.since_told b.since_told)
+      a.last_routes b.last_routes a.last_line b.last_line
+
+  both-assigned : AreDetermined s xs ys
+  both-assigned = record {
+    but_watch_lines =
+        but-watch-assigned s traffic xs a ∙ ap but_watch lasts-same ∙ sym (but-watch-assigned s traffic ys b);
+    plain = λ plain.
+        let watched : a.watched ≡ b.watched = watched-same s traffic 1 b.routes a.watched b.watched plain
+        (subst (λ (rs : List VehicleRoutes). AreWatchTexts s traffic 1 rs a.watched) routes-same
+        a.watch_lines) b.watch_lines in
+        a.texts_are
+        ∙ ap (λ (w : List OutText). w ++ last_texts s.command s traffic a.last a.since a.lines a.line) watched
+        ∙ ap (λ (l : List OutText). b.watched ++ l) lasts-same ∙ sym b.texts_are;
+  }
+
+both-free : (s : Settings) (xs ys : List OutText) → xs ≡ ys → AreDetermined s xs ys
+both-free s xs ys same = record { but_watch_lines = ap but_watch same; plain = λ plain. same }
+
+-- the scenarios of a sweep
+scenarios-same : ScenariosStandAlone → (s : Settings) (net : NetRows) (cells : List DemandCell) (scales : List ℕ) (xs ys : List Scenario)
+    → AreScenarios s net cells scales xs → AreScenarios s net cells scales ys → xs ≡ ys
+scenarios-same one s net cells [] [] [] h k = refl
+scenarios-same one s net cells [] (x ∷ xs) ys h k = absurd h
+scenarios-same one s net cells [] [] (y ∷ ys) h k = absurd k
+scenarios-same one s net cells (scale ∷ scales) [] ys h k = absurd h
+scenarios-same one s net cells (scale ∷ scales) (x ∷ xs) [] h k = absurd k
+scenarios-same one s net cells (scale ∷ scales) (x ∷ xs) (y ∷ ys) h k =
+    let agree : Agree s s = record { step = refl; horizon = refl; period = refl; iterations = refl; bucket = refl; queue = refl } in
+    ap (λ (a : Scenario). a ∷ xs) (one s s net cells scale x y agree h.0 k.0)
+    ∙ ap (λ (as' : List Scenario). y ∷ as') (scenarios-same one s net cells scales xs ys h.1 k.1)
+
+determined-by : RouteLaws → ScenariosStandAlone → (c : Command) (s : Settings) (job : JobRows) (xs ys : List OutText) → AreTexts c s job xs
+    → AreTexts c s job ys → AreDetermined s xs ys
+determined-by laws one command.Freeflow s job xs ys a b = both-free s xs ys (a ∙ sym b)
+determined-by laws one command.Assign s job xs ys a b = both-assigned laws s (traffic_of job) xs ys a b
+determined-by laws one (command.Demo n) s job xs ys a b = both-assigned laws s (traffic_of job) xs ys a b
+determined-by laws one command.Skim s job xs ys a b =
+    both-free s xs ys (a.texts_are
+    ∙ ap (skim_texts job.net) (skims_are_determined (time_at (table_given job.net s.bucket s.horizon job.times)) job.net s.starts a.entries b.entries a.skim b.skim)
+    ∙ sym b.texts_are)
+determined-by laws one command.Counts s job xs ys a b = both-assigned laws s (traffic_of job) xs ys a b
+determined-by laws one command.Sweep s job xs ys a b =
+    both-free s xs ys (a.texts_are
+    ∙ ap sweep_texts (scenarios-same one s job.net job.demand_cells s.scales a.scenarios b.scenarios a.sweep b.sweep)
+    ∙ sym b.texts_are)
+determined-by laws one command.Audit s job xs ys a b = both-free s xs ys (a.texts_are ∙ sym b.texts_are)
+
+pub texts_are_determined : RouteLaws → ScenariosStandAlone → TextsAreDetermined
+texts_are_determined laws one s job xs ys a b = determined-by laws one s.command s job xs ys a b
+
+-- ---- a scenario of a sweep, and the assignment over the demand times its scale
+
+module _ (laws : RouteLaws) (s : Settings) (job : JobRows) (scale workers watch : ℕ) (plain : Bool) (it : Scenario)
+    (h : HasTexts s (traffic_at s job.net job.demand_cells scale) it) where
+  abbrev own : Settings
+  own = alone s workers watch plain
+
+  abbrev by_itself : Traffic
+  by_itself = traffic_at s job.net job.demand_cells scale
+
+  -- the texts after its last iteration are those of the scenario
+  told-alone : last_texts command.Assign own by_itself h.last None h.lines h.line ≡ scenario_texts it
+  unfolding agent_text_by
+  told-alone = rw (h.agent, h.link_time, h.gap, h.report) refl
+
+  module _ (texts : List OutText) (a : AreAssigned own by_itself texts) where
+    routes-alone : a.routes ≡ h.routes
+    routes-alone = same-routes laws (times_of own by_itself) by_itself a.routes h.routes a.lines h.lines a.iterations h.iterations (a.as_many ∙ sym h.as_many)
+
+    lines-alone : a.lines ≡ h.lines
+    lines-alone =
+        same-lines laws (times_of own by_itself) by_itself a.routes h.routes a.lines h.lines a.iterations h.iterations routes-alone
+        (a.with_gaps ∙ sym a.as_many) (a.with_gaps ∙ sym h.with_gaps)
+
+    pub scenario-alone : but_watch texts ≡ scenario_texts it
+    scenario-alone =
+        but-watch-assigned own by_itself texts a
+        ∙ ap but_watch (lasts-by own by_itself a.routes h.routes a.lines h.lines a.last h.last a.line h.line a.since None routes-alone lines-alone
+        a.since_told a.last_routes h.last_routes a.last_line h.last_line)
+        ∙ ap but_watch told-alone
+
+pub scenarios_are_alone : RouteLaws → ScenariosAreAlone
+scenarios_are_alone laws s job scale workers watch plain it texts h a =
+    scenario-alone laws s job scale workers watch plain it h.texts texts a

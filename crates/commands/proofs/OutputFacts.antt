@@ -1,0 +1,219 @@
+-- Texts that go out one after another.
+use Rattle.std.proofs.Common.{◌≡◌, ℕ, zero, suc, ◌+◌, ◌≤◌, Bool, true, false, List, [], ◌∷◌, ◌++◌, length, refl, ap, sym, subst, ◌∙◌, arith, rules, inl, inr}
+use Rattle.std.specs.Prelude.{Option, nat_lt}
+use Rattle.std.proofs.lemmas.List.{append_assoc, append-nil}
+use Rattle.desk_io.specs.declared.desk.Output.{Output}
+use Rattle.desk_io.specs.declared.desk.Output.TheVariants as output
+use Rattle.desk_io.specs.Desk.{Taken, grown}
+use Rattle.desk_io.specs.Transfers.{IsPartOut}
+use Rattle.dta_model.specs.declared.eight.Eight.{Eight}
+use Rattle.gap.specs.declared.line.GapLine.{GapLine}
+use Rattle.reports.specs.Texts.{report_text, watch_line}
+use Rattle.reports.specs.Watch.{AreWatchSteps}
+use Rattle.dta_words.specs.Ranges.{AreSettings}
+use Rattle.dta_words.specs.declared.command.Command.{Command}
+use Rattle.dta_words.specs.declared.command.Command.TheVariants as command
+use Rattle.dta_words.specs.declared.command.Settings.{Settings}
+use Rattle.assignment.specs.Assignment.{Traffic, VehicleRoutes, end_of, plan_of, summary_of}
+use Rattle.counts.specs.Through.{through_counts}
+use Rattle.counts.specs.Turns.{turn_counts}
+use Rattle.commands.specs.Outputs.{AreToldSteps, AreWatchLines, AreWatchTexts, IsCutOff, OutText, end_lines, counts_out, grown_by, last_texts, table_texts, text_to}
+
+-- some texts went out, and then others
+pub grown-append : (xs ys : List OutText) (t : Taken) → grown_by (xs ++ ys) t ≡ grown_by ys (grown_by xs t)
+grown-append [] ys t = refl
+grown-append (x ∷ xs) ys t = grown-append xs ys (grown x.to x.text t)
+
+-- the second of two parts was cut off
+pub cut-later : (xs ys : List OutText) (t after : Taken) → IsCutOff ys (grown_by xs t) after → IsCutOff (xs ++ ys) t after
+cut-later [] ys t after cut = cut
+cut-later (x ∷ xs) ys t after cut = inr (cut-later xs ys (grown x.to x.text t) after cut)
+
+-- the first was
+pub cut-sooner : (xs ys : List OutText) (t after : Taken) → IsCutOff xs t after → IsCutOff (xs ++ ys) t after
+cut-sooner [] ys t after cut = absurd cut
+cut-sooner (x ∷ xs) ys t after (inl part) = inl part
+cut-sooner (x ∷ xs) ys t after (inr cut) = inr (cut-sooner xs ys (grown x.to x.text t) after cut)
+
+-- ---- watch lines
+
+zero-and : (number last : ℕ) → 0 + number ≡ last → last ≡ number
+zero-and number last e = omega (arith, e)
+
+-- the watch lines of iterations, and of one more
+pub watch-more : (s : Settings) (traffic : Traffic) (number last : ℕ) (done : List VehicleRoutes)
+    (r : VehicleRoutes) (texts lines : List OutText) → length done + number ≡ last
+    → AreWatchTexts s traffic number done texts → AreWatchLines s traffic last r lines
+    → AreWatchTexts s traffic number (done ++ r ∷ []) (texts ++ lines)
+watch-more s traffic number last [] r texts lines e told own = (
+  lines,
+  [],
+  subst (λ (n : ℕ). AreWatchLines s traffic n r lines) (zero-and number last e) own,
+  refl,
+  ap (λ (t : List OutText). t ++ lines) told ∙ sym (append-nil lines),
+)
+watch-more s traffic number last (x ∷ done) r texts lines e told own =
+    let k : length done + (number + 1) ≡ last = omega (arith, e) in (
+      told.0,
+      told.1 ++ lines,
+      told.2,
+      watch-more s traffic (number + 1) last done r told.1 lines k told.3 own,
+      ap (λ (t : List OutText). t ++ lines) told.4 ∙ append_assoc told.0 told.1 lines,
+    )
+
+-- what the outputs have taken after the lines of one more iteration
+pub grown-more : (texts lines : List OutText) (start before now : Taken) → before ≡ grown_by texts start
+    → now ≡ grown_by lines before → now ≡ grown_by (texts ++ lines) start
+grown-more texts lines start before now old new =
+    new ∙ ap (grown_by lines) old ∙ sym (grown-append texts lines start)
+
+-- the lines of one more iteration were cut off
+pub cut-more : (texts lines : List OutText) (start before now : Taken) → before ≡ grown_by texts start
+    → IsCutOff lines before now → IsCutOff (texts ++ lines) start now
+cut-more texts lines start before now old cut =
+    cut-later texts lines start now (subst (λ (t : Taken). IsCutOff lines t now) old cut)
+
+-- the line of the state at the horizon alone meets the rule
+last-alone : (every horizon : ℕ) → 1 ≤ horizon → AreWatchSteps every horizon (horizon ∷ [])
+last-alone every horizon h =
+    let above : nat_lt 0 horizon ≡ true = search rules in
+    record { before = []; ends = refl; rising = rw above refl; apart = refl }
+
+-- and is what the plain loader tells
+end-told : (every : ℕ) (plain : Bool) (horizon : ℕ) → 1 ≤ horizon
+    → AreToldSteps (suc every) plain horizon (horizon ∷ [])
+end-told every true horizon h = refl
+end-told every false horizon h = last-alone (suc every) horizon h
+
+-- the line that is put after the last step is what the rule asks of an iteration
+end-by : (s : Settings) (traffic : Traffic) (iteration : ℕ) (r : VehicleRoutes) (end : Eight) (every : ℕ)
+    → s.watch ≡ every → 1 ≤ s.horizon → end ≡ end_of s traffic r
+    → AreWatchLines s traffic iteration r (end_lines every iteration end)
+end-by s traffic iteration r end zero e h is = record {
+  steps = [];
+  by_rule = rw e refl;
+  lines_are = refl;
+}
+end-by s traffic iteration r end (suc every) e h is = record {
+  steps = s.horizon ∷ [];
+  by_rule = rw e (end-told every s.plain s.horizon h);
+  lines_are = ap (λ (x : Eight). text_to output.Watch (watch_line iteration x) ∷ []) is;
+}
+
+pub end-lines : (s : Settings) (traffic : Traffic) (iteration : ℕ) (r : VehicleRoutes) (end : Eight)
+    → AreSettings s → end ≡ end_of s traffic r
+    → AreWatchLines s traffic iteration r (end_lines s.watch iteration end)
+end-lines s traffic iteration r end settings is =
+    end-by s traffic iteration r end s.watch refl settings.horizon.0 is
+
+-- one text went out, or was cut off
+pub grown-one : (o : Output) (text : List ℕ) (before now : Taken) → now ≡ grown o text before → now ≡ grown_by (text_to o text ∷ []) before
+grown-one o text before now e = e
+
+pub cut-one : (o : Output) (text : List ℕ) (before now : Taken) → IsPartOut o text before now → IsCutOff (text_to o text ∷ []) before now
+cut-one o text before now part = inl part
+
+pub ruleset parts = (grown-append, cut-later, grown-one, cut-one)
+
+-- the texts after the last iteration
+module _ (s : Settings) (traffic : Traffic) (r : VehicleRoutes) (since : Option (List ℕ)) (lines : List GapLine) (line : GapLine) where
+  -- the tables and then the report went out
+  pub tables-reported : (k : Command) (before mid now : Taken) → k ≡ command.Assign
+      → mid ≡ grown_by (table_texts s traffic r since lines) before
+      → now ≡ grown output.Report (report_text (summary_of s traffic r line)) mid
+      → now ≡ grown_by (last_texts k s traffic r since lines line) before
+  tables-reported k before mid now e tables report =
+      rw e (report ∙ ap (grown output.Report (report_text (summary_of s traffic r line))) tables
+      ∙ sym (grown-append (table_texts s traffic r since lines) (text_to output.Report (report_text (summary_of s traffic r line)) ∷ []) before))
+
+  -- the report was cut off after the tables
+  pub report-cut : (k : Command) (before mid now : Taken) → k ≡ command.Assign
+      → mid ≡ grown_by (table_texts s traffic r since lines) before
+      → IsPartOut output.Report (report_text (summary_of s traffic r line)) mid now
+      → IsCutOff (last_texts k s traffic r since lines line) before now
+  report-cut k before mid now e tables part =
+      rw e (cut-later (table_texts s traffic r since lines) (text_to output.Report (report_text (summary_of s traffic r line)) ∷ []) before now
+      (rw (← tables) (cut-one output.Report (report_text (summary_of s traffic r line)) mid now part)))
+
+  -- the tables were cut off
+  pub tables-cut : (k : Command) (before now : Taken) → k ≡ command.Assign
+      → IsCutOff (table_texts s traffic r since lines) before now
+      → IsCutOff (last_texts k s traffic r since lines line) before now
+  tables-cut k before now e cut =
+      rw e (cut-sooner (table_texts s traffic r since lines) (text_to output.Report (report_text (summary_of s traffic r line)) ∷ []) before now cut)
+
+  -- the report of a demonstration went out, or was cut off
+  pub demo-reported : (k : Command) (n : ℕ) (before now : Taken) → k ≡ command.Demo n
+      → now ≡ grown output.Report (report_text (summary_of s traffic r line)) before
+      → now ≡ grown_by (last_texts k s traffic r since lines line) before
+  demo-reported k n before now e report = rw e report
+
+  pub demo-cut : (k : Command) (n : ℕ) (before now : Taken) → k ≡ command.Demo n
+      → IsPartOut output.Report (report_text (summary_of s traffic r line)) before now
+      → IsCutOff (last_texts k s traffic r since lines line) before now
+  demo-cut k n before now e part = rw e (cut-one output.Report (report_text (summary_of s traffic r line)) before now part)
+
+  -- the counts and then the report went out
+  module _ (k : Command) (before mid now : Taken) (asks : k ≡ command.Counts) where
+    abbrev counted : List OutText
+    counted = counts_out s traffic (turn_counts (plan_of s traffic r) s.bucket) (through_counts (plan_of s traffic r)) ∷ []
+
+    pub counts-reported : mid ≡ grown_by counted before
+        → now ≡ grown output.Report (report_text (summary_of s traffic r line)) mid
+        → now ≡ grown_by (last_texts k s traffic r since lines line) before
+    counts-reported counts report =
+        rw asks (report ∙ ap (grown output.Report (report_text (summary_of s traffic r line))) counts)
+
+    -- the report was cut off after the counts
+    pub counts-report-cut : mid ≡ grown_by counted before
+        → IsPartOut output.Report (report_text (summary_of s traffic r line)) mid now
+        → IsCutOff (last_texts k s traffic r since lines line) before now
+    counts-report-cut counts part =
+        rw asks (cut-later counted (text_to output.Report (report_text (summary_of s traffic r line)) ∷ []) before now
+        (rw (← counts) (cut-one output.Report (report_text (summary_of s traffic r line)) mid now part)))
+
+  -- the counts were cut off
+  pub counts-cut : (k : Command) (before now : Taken) → k ≡ command.Counts
+      → IsCutOff (counts_out s traffic (turn_counts (plan_of s traffic r) s.bucket) (through_counts (plan_of s traffic r)) ∷ []) before now
+      → IsCutOff (last_texts k s traffic r since lines line) before now
+  counts-cut k before now e cut =
+      rw e (cut-sooner (counts_out s traffic (turn_counts (plan_of s traffic r) s.bucket) (through_counts (plan_of s traffic r)) ∷ [])
+      (text_to output.Report (report_text (summary_of s traffic r line)) ∷ []) before now cut)
+
+  -- and so of another command
+  pub skim-reported : (k : Command) (before now : Taken) → k ≡ command.Skim
+      → now ≡ grown output.Report (report_text (summary_of s traffic r line)) before
+      → now ≡ grown_by (last_texts k s traffic r since lines line) before
+  skim-reported k before now e report = rw e report
+
+  pub skim-cut : (k : Command) (before now : Taken) → k ≡ command.Skim
+      → IsPartOut output.Report (report_text (summary_of s traffic r line)) before now
+      → IsCutOff (last_texts k s traffic r since lines line) before now
+  skim-cut k before now e part =
+      rw e (cut-one output.Report (report_text (summary_of s traffic r line)) before now part)
+
+  pub free-reported : (k : Command) (before now : Taken) → k ≡ command.Freeflow
+      → now ≡ grown output.Report (report_text (summary_of s traffic r line)) before
+      → now ≡ grown_by (last_texts k s traffic r since lines line) before
+  free-reported k before now e report = rw e report
+
+  pub free-cut : (k : Command) (before now : Taken) → k ≡ command.Freeflow
+      → IsPartOut output.Report (report_text (summary_of s traffic r line)) before now
+      → IsCutOff (last_texts k s traffic r since lines line) before now
+  free-cut k before now e part =
+      rw e (cut-one output.Report (report_text (summary_of s traffic r line)) before now part)
+
+pub ruleset lasts = (
+  tables-reported,
+  report-cut,
+  tables-cut,
+  demo-reported,
+  demo-cut,
+  counts-reported,
+  counts-report-cut,
+  counts-cut,
+  skim-reported,
+  skim-cut,
+  free-reported,
+  free-cut,
+)

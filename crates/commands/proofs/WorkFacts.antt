@@ -1,0 +1,153 @@
+-- The work of a command, from what its parts say.
+use Rattle.std.proofs.Common.{◌≡◌, ℕ, zero, suc, ◌+◌, ◌<◌, ◌-◌, List, [], ◌∷◌, length, refl, sym, ap, subst, arith, inl, inr, ◌∙◌}
+use Rattle.std.specs.Prelude.{All, None, Some, Result, Ok, Err, slice_get}
+use Rattle.std.proofs.lemmas.List.Elements.{All-head, All-tail}
+use Rattle.std.proofs.lemmas.Option.{slice_get_within}
+use Rattle.desk_io.specs.declared.desk.Output.TheVariants as output
+use Rattle.desk_io.specs.Desk.{Taken, grown}
+use Rattle.desk_io.specs.Transfers.{IsOut, IsPartOut, Puts}
+use Rattle.net_core.specs.declared.rows.NetRows.{NetRows}
+use Rattle.reports.specs.declared.audited.Place.{Place}
+use Rattle.reports.specs.Texts.{IsFreeCut, IsFreeOut, audit_text, differs_line}
+use Rattle.audit.specs.declared.verdict.Verdict.TheVariants as verdict
+use Rattle.dta_model.specs.Release.{vehicles_before}
+use Rattle.dta_model.specs.declared.trip.DemandCell.{DemandCell}
+use Rattle.vehicle_release.specs.Limits.{IsWithin}
+use Rattle.sweep.specs.Scales.{AreAllWithin, IsFirstTooMany, scaled}
+use Rattle.sweep.specs.Scenarios.{AreScenarios}
+use Rattle.sweep.specs.Texts.{IsSweepCut, IsSweepOut}
+use Rattle.sweep.specs.declared.scenario.Scenario.{Scenario}
+use Rattle.dta_words.specs.declared.command.Command.{Command}
+use Rattle.dta_words.specs.declared.command.Command.TheVariants as command
+use Rattle.dta_words.specs.declared.command.Settings.{Settings}
+use Rattle.skims.specs.GivenTimes.{table_given}
+use Rattle.skims.specs.Skim.{IsSkim}
+use Rattle.skims.specs.Texts.{IsSkimCut, IsSkimOut}
+use Rattle.skims.specs.declared.skim_entry.SkimEntry.{SkimEntry}
+use Rattle.dta_model.specs.LinkTimes.{time_at}
+use Rattle.start_table.specs.Starts.{AreStartRows}
+use Rattle.assignment.specs.Assignment.{Traffic}
+use Rattle.jobs.specs.Jobs.{JobRows, traffic_of}
+use Rattle.desk_io.specs.State.{DeskState}
+use Rattle.commands.specs.Works.{Works}
+use Rattle.commands.specs.Outputs.{AreAudited, AreSkimmed, AreSwept, AreTexts, AreTextsSoFar, AreWatched, AreWatchedSoFar, IsAudited, audit_texts, free_texts, skim_texts, sweep_texts}
+use Rattle.commands.specs.declared.status.Status.TheVariants as status
+
+-- the work of `freeflow`
+module _ (s : Settings) (job : JobRows) (asks : s.command ≡ command.Freeflow) (before after : Taken) where
+  pub free-done : IsFreeOut job.net before after → Works s job status.Done before after
+  free-done out = (free_texts job.net, subst (λ (c : Command). AreTexts c s job (free_texts job.net)) (sym asks) refl, out)
+
+  pub free-cut : IsFreeCut job.net before after → Works s job status.WriteFault before after
+  free-cut (inl part) = (free_texts job.net, subst (λ (c : Command). AreTextsSoFar c s job (free_texts job.net)) (sym asks) refl, inl part)
+  free-cut (inr part) = (free_texts job.net, subst (λ (c : Command). AreTextsSoFar c s job (free_texts job.net)) (sym asks) refl, inr (inl part))
+
+-- the work of `skim`
+module _ (s : Settings) (job : JobRows) (asks : s.command ≡ command.Skim) (entries : List SkimEntry)
+    (skim : IsSkim (time_at (table_given job.net s.bucket s.horizon job.times)) job.net s.starts entries) (before after : Taken) where
+  skimmed : AreSkimmed s job (skim_texts job.net entries)
+  skimmed = record { entries = entries; skim = skim; texts_are = refl }
+
+  pub skim-done : IsSkimOut job.net entries before after → Works s job status.Done before after
+  skim-done out =
+      (skim_texts job.net entries, subst (λ (c : Command). AreTexts c s job (skim_texts job.net entries)) (sym asks) skimmed, out)
+
+  pub skim-cut : IsSkimCut job.net entries before after → Works s job status.WriteFault before after
+  skim-cut (inl part) =
+      (skim_texts job.net entries, subst (λ (c : Command). AreTextsSoFar c s job (skim_texts job.net entries)) (sym asks) skimmed, inl part)
+  skim-cut (inr part) =
+      (skim_texts job.net entries, subst (λ (c : Command). AreTextsSoFar c s job (skim_texts job.net entries)) (sym asks) skimmed, inr (inl part))
+
+-- the work of `sweep`
+module _ (s : Settings) (job : JobRows) (asks : s.command ≡ command.Sweep) (scenarios : List Scenario)
+    (sweep : AreScenarios s job.net job.demand_cells s.scales scenarios) (before after : Taken) where
+  swept : AreSwept s job (sweep_texts scenarios)
+  swept = record { scenarios = scenarios; sweep = sweep; texts_are = refl }
+
+  pub sweep-done : IsSweepOut scenarios before after → Works s job status.Done before after
+  sweep-done out =
+      (sweep_texts scenarios, subst (λ (c : Command). AreTexts c s job (sweep_texts scenarios)) (sym asks) swept, out)
+
+  pub sweep-cut : IsSweepCut scenarios before after → Works s job status.WriteFault before after
+  sweep-cut (inl part) =
+      (sweep_texts scenarios, subst (λ (c : Command). AreTextsSoFar c s job (sweep_texts scenarios)) (sym asks) swept, inl part)
+  sweep-cut (inr part) =
+      (sweep_texts scenarios, subst (λ (c : Command). AreTextsSoFar c s job (sweep_texts scenarios)) (sym asks) swept, inr (inl part))
+
+-- what is so of all is so at a place
+pub all-at : {A : Type 0} (P : A → Type 0) (xs : List A) (i : ℕ) (x : A) → All P xs → slice_get xs i ≡ Some x → P x
+all-at P [] i x h e = absurd cc
+all-at P (y ∷ ys) zero x h e = let e : Some y ≡ Some x = e in let same : y ≡ x = cc in subst P same (All-head P y ys h)
+all-at P (y ∷ ys) (suc i) x h e = all-at P ys i x (All-tail P y ys h) e
+
+-- scenarios that have no more vehicles than there may be aren't refused
+pub none-too-many : (cells : List DemandCell) (scales : List ℕ) (scenario line total : ℕ) → AreAllWithin cells scales
+    → IsFirstTooMany cells scales scenario line total → ⊥
+none-too-many cells scales scenario line total within h =
+    let a = h.above in
+    let w : IsWithin (scaled h.scale cells) = all-at (λ (scale : ℕ). IsWithin (scaled scale cells)) scales scenario h.scale within h.at in
+    let there : a.row < length (scaled h.scale cells) = slice_get_within (scaled h.scale cells) a.row a.cell a.at in
+    let few = w a.row there in
+    let many = a.above in
+    let so_many : vehicles_before (scaled h.scale cells) (a.row + 1) ≡ total = a.so_many in
+    omega (arith, few, many, so_many)
+
+-- the work of `audit`
+module _ (s : Settings) (job : JobRows) (asks : s.command ≡ command.Audit) (before after : Taken) where
+  audited : IsAudited s job verdict.Yes → AreAudited s job (audit_texts job)
+  audited passes = record { passes = passes; texts_are = refl }
+
+  pub audit-done : (net : NetRows) (vehicles : ℕ) → net ≡ job.net → vehicles ≡ length job.trips → IsAudited s job verdict.Yes
+      → after ≡ grown output.Report (audit_text net vehicles None) before → Works s job status.Done before after
+  audit-done net vehicles over many passes out = (
+    audit_texts job,
+    subst (λ (c : Command). AreTexts c s job (audit_texts job)) (sym asks) (audited passes),
+    subst (λ (n : ℕ). after ≡ grown output.Report (audit_text job.net n None) before) many
+        (subst (λ (n : NetRows). after ≡ grown output.Report (audit_text n vehicles None) before) over out),
+  )
+
+  pub audit-cut : (net : NetRows) (vehicles : ℕ) → net ≡ job.net → vehicles ≡ length job.trips → IsAudited s job verdict.Yes
+      → IsPartOut output.Report (audit_text net vehicles None) before after → Works s job status.WriteFault before after
+  audit-cut net vehicles over many passes part = (
+    audit_texts job,
+    subst (λ (c : Command). AreTextsSoFar c s job (audit_texts job)) (sym asks) (audited passes),
+    inl (subst (λ (n : ℕ). IsPartOut output.Report (audit_text job.net n None) before after) many
+        (subst (λ (n : NetRows). IsPartOut output.Report (audit_text n vehicles None) before after) over part)),
+  )
+
+-- the report of a difference is its line
+line-told : (net : NetRows) (vehicles : ℕ) (place : Place) → audit_text net vehicles (Some place) ≡ differs_line place
+unfolding audit_text
+line-told net vehicles place = refl
+
+-- and it went out, whole unless puts failed
+pub line-out : {T E : Type 0} (r : Result T E) (net : NetRows) (vehicles : ℕ) (place : Place) (before after : DeskState)
+    → Puts output.Report (audit_text net vehicles (Some place)) before after r
+    → IsOut output.Report (differs_line place) before.taken after.taken before.put_faults after.put_faults
+line-out (Ok x) net vehicles place before after p =
+    inl (p.whole ∙ ap (λ (t : List ℕ). grown output.Report t before.taken) (line-told net vehicles place))
+line-out (Err e) net vehicles place before after p =
+    inr (subst (λ (t : List ℕ). IsPartOut output.Report t before.taken after.taken) (line-told net vehicles place) p.refused, p.cause.failed)
+
+-- no iteration, and so no watch line
+nothing-watched : (s : Settings) (traffic : Traffic) → AreStartRows traffic.start → AreWatched s traffic []
+nothing-watched s traffic rows = record {
+  routes = [];
+  lines = [];
+  iterations = record { start = rows; first = λ r e. absurd cc; next = λ i old new e f. absurd cc; gaps = λ i r line e f. absurd cc };
+  few = omega arith;
+  watch_lines = refl;
+}
+
+nothing-so-far : (c : Command) (s : Settings) (job : JobRows) → AreStartRows job.start → AreWatchedSoFar c s job []
+nothing-so-far command.Freeflow s job rows = refl
+nothing-so-far command.Assign s job rows = nothing-watched s (traffic_of job) rows
+nothing-so-far (command.Demo n) s job rows = nothing-watched s (traffic_of job) rows
+nothing-so-far command.Skim s job rows = refl
+nothing-so-far command.Counts s job rows = nothing-watched s (traffic_of job) rows
+nothing-so-far command.Sweep s job rows = refl
+nothing-so-far command.Audit s job rows = refl
+
+-- nothing was put
+pub nothing-put : (s : Settings) (job : JobRows) (taken : Taken) → AreStartRows job.start → Works s job status.Memory taken taken
+nothing-put s job taken rows = ([], nothing-so-far s.command s job rows, refl)

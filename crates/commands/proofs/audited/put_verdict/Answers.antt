@@ -1,0 +1,69 @@
+use Rattle.std.proofs.Common.{◌≡◌, arith, length, refl, rules, subst}
+use Rattle.audit.specs.declared.verdict.Verdict.{Verdict}
+use Rattle.jobs.specs.Kinds.{audit_rows}
+use Rattle.commands.specs.Outputs.{IsAudited}
+use Rattle.commands.specs.declared.status.Status.TheVariants as status
+use Rattle.commands.proofs.WorkFacts.{audit-cut, audit-done, line-out, nothing-put}
+use Rattle.commands.proofs.audited.put_verdict.Goals as goal
+
+pub returns-in-Ok : goal.returns-in-Ok
+returns-in-Ok g c =
+    let o = c.in-Ok.ensures in
+    let s = c.args.settings.now in
+    let passes = subst (λ (v : Verdict). IsAudited s (audit_rows c.args.job.now) v) c.in-Ok-Yes.field-0-is c.in-Ok-Yes.ensures in
+    let many : c.len-vehicles.result ≡ length c.args.job.now.trips.items = search rules in
+    record {
+      work = audit-done s (audit_rows c.args.job.now) c.requires.command (g.D.Desk.state c.args.desk.now).taken (g.D.Desk.state c.put_audit.new.desk).taken c.args.job.now.net c.len-vehicles.result
+          refl many passes o.whole;
+      failed = λ (k : status.Done ≡ status.WriteFault). absurd cc;
+      differs = λ (k : status.Done ≡ status.Differs). absurd cc;
+      later = o.cause.later;
+      left = o.left;
+      reads = o.reads;
+    }
+
+pub returns-in-Err-put_audit : goal.returns-in-Err-put_audit
+returns-in-Err-put_audit g c =
+    let o = c.in-Err-put_audit.ensures in
+    let s = c.args.settings.now in
+    let passes = subst (λ (v : Verdict). IsAudited s (audit_rows c.args.job.now) v) c.in-Ok-Yes.field-0-is c.in-Ok-Yes.ensures in
+    let many : c.len-vehicles.result ≡ length c.args.job.now.trips.items = search rules in
+    record {
+      work = audit-cut s (audit_rows c.args.job.now) c.requires.command (g.D.Desk.state c.args.desk.now).taken (g.D.Desk.state c.put_audit.new.desk).taken c.args.job.now.net c.len-vehicles.result
+          refl many passes o.refused;
+      failed = λ _. o.cause.failed;
+      differs = λ (k : status.WriteFault ≡ status.Differs). absurd cc;
+      later = o.cause.later;
+      left = o.left;
+      reads = o.reads;
+    }
+
+pub returns-in-Ok-No : goal.returns-in-Ok-No
+returns-in-Ok-No g c =
+    let o = c.put_audit-in-Ok-No.ensures in
+    let s = c.args.settings.now in
+    let n = c.in-Ok-No in
+    record {
+      work = tt;
+      failed = λ (k : status.Differs ≡ status.WriteFault). absurd cc;
+      differs = λ _. record {
+        asks = c.requires.command;
+        place = record { table = n.table; line = n.line; column = n.column };
+        fails = subst (λ (v : Verdict). IsAudited s (audit_rows c.args.job.now) v) n.field-0-is n.ensures;
+        report = line-out c.put_audit-in-Ok-No.result c.args.job.now.net c.len-vehicles.result
+            (record { table = n.table; line = n.line; column = n.column }) (g.D.Desk.state c.args.desk.now) (g.D.Desk.state c.put_audit-in-Ok-No.new.desk) o;
+      };
+      later = o.cause.later;
+      left = o.left;
+      reads = o.reads;
+    }
+
+pub returns-in-Err : goal.returns-in-Err
+returns-in-Err g c = record {
+  work = nothing-put c.args.settings.now (audit_rows c.args.job.now) _ c.requires.job.start;
+  failed = λ (k : status.Memory ≡ status.WriteFault). absurd cc;
+  differs = λ (k : status.Memory ≡ status.Differs). absurd cc;
+  later = omega arith;
+  left = refl;
+  reads = refl;
+}

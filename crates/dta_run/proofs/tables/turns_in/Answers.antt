@@ -1,5 +1,0 @@
-use Rattle.gmns_tables.proofs.NetFacts.{no-turns}
-use Rattle.dta_run.proofs.tables.turns_in.Goals as goal
-
-pub returns-then-is_empty-clause-sound : goal.returns-then-is_empty-clause-sound
-returns-then-is_empty-clause-sound c = no-turns

@@ -1,0 +1,5 @@
+pub mod WatchFacts
+pub mod ReceiptFacts
+pub mod LoadFacts
+pub mod IterateFacts
+pub mod AssignFacts

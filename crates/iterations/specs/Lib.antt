@@ -1,0 +1,4 @@
+pub mod Progress
+pub mod Receipts
+pub mod Calls
+pub mod Examples

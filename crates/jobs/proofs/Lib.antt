@@ -1,0 +1,4 @@
+pub mod TableFacts
+pub mod ChainFacts
+pub mod JobFacts
+pub mod VerdictFacts

@@ -1,0 +1,23 @@
+use Rattle.std.proofs.lemmas.Result.{err_from_is_err_and}
+use Rattle.jobs.proofs.ChainFacts.{reads-stopped, reads-done}
+use Rattle.jobs.proofs.TableFacts.{times-accepted, times-stop}
+use Rattle.jobs.proofs.tables.accept_times.Goals as goal
+
+pub returns-in_err-bytes-clause-reads : goal.returns-in_err-bytes-clause-reads
+returns-in_err-bytes-clause-reads g c = λ rows over.
+    let p = err_from_is_err_and c.from_residual.result c.from_residual.ensures.1 in
+    let r = c.in_err-bytes.ensures.reads c.args.settings.now rows in
+    rw (p.1, p.2) (reads-stopped r r.stops)
+
+pub returns-in_err-read_times-clause-reads : goal.returns-in_err-read_times-clause-reads
+returns-in_err-read_times-clause-reads g c = λ rows over.
+    let p = err_from_is_err_and c.from_residual-in_err-read_times.result c.from_residual-in_err-read_times.ensures.1 in
+    let r = c.in_ok-bytes.ensures.reads c.args.settings.now rows in
+    rw (p.1, p.2) (reads-stopped r (times-stop c.args.settings.now rows c.args.net.now c.in_ok-bytes.bytes.items c.deref.result.now _ _ c.in_err-read_times.field-0.0
+    over r.done.read r.done.short c.deref.ensures.value c.in_err-read_times.ensures.refused))
+
+pub returns-clause-reads : goal.returns-clause-reads
+returns-clause-reads g c = λ rows over.
+    let r = c.in_ok-bytes.ensures.reads c.args.settings.now rows in
+    reads-done r (times-accepted c.args.settings.now rows c.args.net.now c.in_ok-bytes.bytes.items c.deref.result.now c.in_ok-read_times.field-0 _ _
+    over r.done.read r.done.short c.deref.ensures.value c.in_ok-read_times.ensures.rows)

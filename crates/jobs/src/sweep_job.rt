@@ -1,0 +1,95 @@
+// The job of a sweep: its network, and the demand that it multiplies.
+ghost use Rattle.std.specs.Prelude.{◌≡◌, length, IfOk, IfErr, OnOk};
+ghost use Rattle.demand.specs.DemandRows.{AreDemandCells};
+ghost use Rattle.dta_words.specs.Ranges.{AreSettings};
+ghost use Rattle.dta_words.specs.declared.command.Command.TheVariants as command;
+ghost use Rattle.gmns_tables.specs.Net.{net_of as joined};
+ghost use Rattle.net_core.specs.Network.{IsNet};
+ghost use Rattle.jobs.specs.Calls.{OnlyReads, rows_in_tables};
+ghost use Rattle.jobs.specs.Jobs.{AreWithin, IsJob, IsJobOf, job_of as job_of_rows};
+ghost use Rattle.jobs.specs.Kinds.{IsFor, rows_in_job};
+ghost use Rattle.jobs.specs.Stops.{StopsIn, StopsSweep};
+ghost use Rattle.jobs.specs.Tables.{TableRows};
+
+use crate::job::Job;
+use crate::stop::Stop;
+use crate::tables::{NetworkTables, Tables, accept_all};
+use desk_io::Desk;
+use dta_model::DemandCell;
+use dta_words::Settings;
+use gmns_tables::join_net;
+use net_core::Net;
+use reports::{MOST_SWEEP_LINK_STEPS, Refusal};
+use std::alloc::Global;
+use sweep::check_scales;
+
+/// The network of a sweep, and its demand.
+#[derive(Drop)]
+pub struct SweepJob {
+    /// The network.
+    pub net: Net,
+    /// The demand that each scale multiplies.
+    pub demand_cells: Vec<DemandCell>,
+}
+
+// Checks the sizes of a sweep: the links times the steps, and then the vehicles of each scenario.
+fn sweep_sizes(links: u32, demand_cells: &[DemandCell], settings: &Settings) -> Result<(), Stop>
+    requires settings { AreSettings settings.now }
+    requires command { settings.now.command ≡ command.Sweep }
+    requires demand_cells { AreDemandCells demand_cells.now }
+    ensures within { (rows : TableRows)
+        → length rows.links ≡ links → rows.demand_cells ≡ demand_cells.now
+        → OnOk result (AreWithin command.Sweep settings.now rows) }
+    ensures stops { (rows : TableRows)
+        → length rows.links ≡ links → rows.demand_cells ≡ demand_cells.now
+        → IfErr result (StopsSweep settings.now rows) }
+{
+    let steps = settings.horizon;
+    if u64::from(links) * u64::from(steps) > MOST_SWEEP_LINK_STEPS {
+        return Err(Stop::Refused(Refusal::SweepCells { links, steps }));
+    }
+    check_scales(demand_cells, settings.scales.as_slice())?;
+    Ok(())
+}
+
+// The job of the accepted tables of a sweep. Its demand is released by scenario.
+fn sweep_job_of(alloc: Global, tables: Tables, settings: &Settings) -> Result<Job, Stop>
+    requires settings { AreSettings settings.now }
+    requires command { settings.now.command ≡ command.Sweep }
+    requires net { let network = tables.network in
+        IsNet (joined network.roads.nodes network.roads.links network.turns) }
+    requires demand_cells { AreDemandCells tables.demand_cells.items }
+    ensures makes { IfOk result (λ job.
+        rows_in_job job ≡ job_of_rows settings.now (rows_in_tables tables)) }
+    ensures sound { IfOk result (λ job. IsJob settings.now (rows_in_job job)) }
+    ensures own { IfOk result (IsFor settings.now.command) }
+    ensures within { OnOk result (AreWithin command.Sweep settings.now (rows_in_tables tables)) }
+    ensures stops { IfErr result (StopsSweep settings.now (rows_in_tables tables)) }
+{
+    let Tables {
+        network,
+        demand_cells,
+    } = tables;
+    let NetworkTables { roads, turns } = network;
+    let links = roads.links.as_slice().len() as u32;
+    sweep_sizes(links, &demand_cells, settings)?;
+    let net = join_net(alloc, roads.nodes, roads.links, turns)?;
+    Ok(Job::Sweep(SweepJob { net, demand_cells }))
+}
+
+/// Reads and checks all tables of a sweep, and makes its job.
+pub(crate) fn accept_sweep<D: Desk>(
+    alloc: Global,
+    desk: &mut D,
+    settings: &Settings,
+) -> Result<Job, Stop>
+    requires settings { AreSettings settings.now }
+    requires command { settings.now.command ≡ command.Sweep }
+    ensures reads { OnlyReads (λ job. IsJobOf settings.now (rows_in_job job))
+        (StopsIn settings.now) (D.state desk.old) (D.state desk.new) result }
+    ensures sound { IfOk result (λ job. IsJob settings.now (rows_in_job job)) }
+    ensures own { IfOk result (IsFor settings.now.command) }
+{
+    let tables = accept_all(alloc, desk, settings)?;
+    sweep_job_of(alloc, tables, settings)
+}
