@@ -1,5 +1,5 @@
 // The rows of an agent table against the trips.
-ghost use Rattle.std.specs.Prelude.{◌≡◌, ◌++◌, ◌∷◌, [], ◌+◌, ◌<◌, ◌≤◌, ◌^◌, length, slice_get};
+ghost use Rattle.std.specs.Prelude.{◌≡◌, ◌++◌, ◌∷◌, [], ◌+◌, ◌<◌, ◌^◌};
 ghost use Rattle.std.specs.Prelude.{IfOk, Ok, option_copied};
 ghost use Rattle.audit.specs.Audit.{all_trip_checks, missing_checks, number_checks, route_named};
 ghost use Rattle.audit.specs.Audit.{routes_named, trip_checks};

@@ -15,7 +15,7 @@ use Rattle.jobs.specs.Jobs.{IsAcceptedJob, JobRows, traffic_of}
 use Rattle.commands.specs.Laws.{OneListOfTexts}
 use Rattle.desk_io.specs.State.{DeskState}
 use Rattle.commands.specs.Works.{Works}
-use Rattle.iterations.specs.Receipts.{TookAtMost, WorkGives, numbers_in, receipts_in, taking_all}
+use Rattle.assign_command.specs.Receipts.{TookAtMost, WorkGives, numbers_in, receipts_in, taking_all}
 use Rattle.dta_run.specs.Receipts.{HasWorked, RunGives, ToldGives}
 use Rattle.commands.specs.Status.{refusal_status}
 use Rattle.jobs.specs.Verdict.{Verdict, Accepted, Refused, AreToldBy, verdict, verdict_by}

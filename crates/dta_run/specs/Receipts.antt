@@ -8,7 +8,7 @@ use Rattle.jobs.specs.Jobs.{IsAcceptedJob, JobRows}
 use Rattle.jobs.specs.Verdict.{Verdict, Refused, Accepted}
 use Rattle.commands.specs.declared.status.Status.{Status}
 use Rattle.commands.specs.declared.status.Status.TheVariants as status
-use Rattle.iterations.specs.Receipts.{WorkGives}
+use Rattle.assign_command.specs.Receipts.{WorkGives}
 
 -- the words have settings, and their tables were accepted and make a job, whose work ended with
 -- this status and gave the gate its receipts

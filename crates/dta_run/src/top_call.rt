@@ -11,12 +11,12 @@ ghost use Rattle.dta_run.specs.Calls.{Refuses};
 ghost use Rattle.dta_run.specs.Headline.{Headline};
 ghost use Rattle.dta_run.specs.Outcome.{Means};
 ghost use Rattle.dta_run.specs.Receipts.{RunGives};
-ghost use Rattle.iterations.specs.Receipts.{WorkGives};
+ghost use Rattle.assign_command.specs.Receipts.{WorkGives};
 
+use assign_command::assign;
 use commands::{Status, put_least_times, put_scenarios, put_verdict, texts_are_one};
 use desk_io::{Desk, Failed};
 use dta_words::{Settings, Words, WordsRefusal, settings};
-use iterations::assign;
 use jobs::{Job, Stop, accept};
 use loader::Gate;
 use reports::{Refusal, put_free, put_refusal};

@@ -1,5 +1,5 @@
 -- Jobs of accepted tables, and what stops a run before its work.
-use Rattle.std.proofs.Common.{◌≡◌, ◌≢◌, ◌<◌, ℕ, Bool, false, true, List, [], ◌∷◌, ◌++◌, length, refl, sym, ap, subst, arith, rules, inl, inr, ◌⊎◌, ◌∙◌}
+use Rattle.std.proofs.Common.{◌≡◌, ◌≢◌, ◌<◌, ℕ, Bool, List, [], ◌∷◌, ◌++◌, length, refl, sym, ap, subst, arith, rules, inl, inr, ◌⊎◌, ◌∙◌}
 use Rattle.std.specs.Prelude.{◌↔◌, ⊤, Result, Ok, Err, OnOk, IfOk, IfErr, filter, nat_eq}
 use Rattle.std.specs.List.{flat_map}
 use Rattle.std.proofs.lemmas.List.{length-map}
@@ -24,7 +24,6 @@ use Rattle.dta_model.specs.Release.{in_order_of_departure, released, Released, t
 use Rattle.vehicle_release.specs.Limits.{IsFirstAbove, IsWithin}
 use Rattle.dta_model.specs.declared.trip.DemandCell.{DemandCell}
 use Rattle.dta_model.specs.declared.trip.Trip.{Trip}
-use Rattle.dta_words.specs.Ranges.{AreSettings}
 use Rattle.grid_maker.specs.Grid.{node_text, link_text, demand_text}
 use Rattle.reports.specs.declared.refusal.Refusal.{Refusal}
 use Rattle.reports.specs.declared.refusal.Refusal.TheVariants as refusal

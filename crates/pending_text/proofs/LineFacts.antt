@@ -1,5 +1,5 @@
 -- Texts of a head and then a line for each element of a list, one after another.
-use Rattle.std.proofs.Common.{◌≡◌, ℕ, ◌+◌, ◌<◌, ◌≤◌, List, [], ◌∷◌, ◌++◌, length, take, drop, get_or, sym, ap, ◌∙◌, append_assoc, arith, Ok, Err, Result}
+use Rattle.std.proofs.Common.{◌≡◌, ℕ, ◌+◌, ◌<◌, ◌≤◌, List, [], ◌∷◌, ◌++◌, length, take, drop, get_or, sym, ap, ◌∙◌, append_assoc, Ok, Err, Result}
 use Rattle.std.specs.List.{flat_map}
 use Rattle.std.proofs.lemmas.List.{take_more, append-nil, take-append-drop, take_all}
 use Rattle.std.proofs.lemmas.Grind.{flat_map-append}
@@ -8,7 +8,7 @@ use Rattle.desk_io.specs.Desk.{Taken}
 use Rattle.desk_io.specs.State.{DeskState}
 use Rattle.desk_io.specs.Transfers.{IsPartOut, OnlyPuts, Puts}
 use Rattle.pending_text.specs.Sending.{Adds}
-use Rattle.pending_text.proofs.SendingFacts.{added-done, part-done, HasAdded, has-adds, has-then, has-refused}
+use Rattle.pending_text.proofs.SendingFacts.{HasAdded, has-adds, has-put, has-refused, has-then}
 
 -- one more line
 pub lines-more : {X : Type 0} (f : X → List ℕ) (h : List ℕ) (xs : List X) (i : ℕ) (d : X) → i < length xs
@@ -52,20 +52,4 @@ lines-added o f h xs i p0 p s0 s1 t k a = has-adds o (h ++ flat_map f xs) p0 p s
 -- and what was pending was put
 pub lines-put : {X T E : Type 0} (o : Output) (f : X → List ℕ) (h : List ℕ) (xs : List X) (i : ℕ) (p : List ℕ) (s0 s1 s2 : DeskState) (r : Result T E)
     → length xs ≤ i → AreAdded o f h xs i [] p s0 s1 → Puts o p s1 s2 r → Puts o (h ++ flat_map f xs) s0 s2 r
-lines-put o f h xs i p s0 s1 s2 (Ok t) k a b = record {
-  whole = added-done o (h ++ flat_map f xs) p s0.taken s1.taken s2.taken (rw (take_all i xs k) at a.added) b.whole;
-  refused = tt;
-  cause = record { later = (let x = a.later in let y = b.cause.later in omega (arith, x, y)); failed = tt };
-  left = b.left ∙ a.left;
-  reads = b.reads ∙ a.reads;
-}
-lines-put o f h xs i p s0 s1 s2 (Err e) k a b = record {
-  whole = tt;
-  refused = part-done o (h ++ flat_map f xs) p s0.taken s1.taken s2.taken (rw (take_all i xs k) at a.added) b.refused;
-  cause = record {
-    later = (let x = a.later in let y = b.cause.later in omega (arith, x, y));
-    failed = (let x = a.later in let y = b.cause.failed in omega (arith, x, y));
-  };
-  left = b.left ∙ a.left;
-  reads = b.reads ∙ a.reads;
-}
+lines-put o f h xs i p s0 s1 s2 r k a b = has-put o (h ++ flat_map f xs) p s0 s1 s2 r (rw (take_all i xs k) at a) b

@@ -5,7 +5,7 @@ use Rattle.std.proofs.Math.Seq.{take-append-add}
 use Rattle.desk_io.specs.declared.desk.Output.{Output}
 use Rattle.desk_io.specs.Desk.{Taken, grown}
 use Rattle.desk_io.specs.State.{DeskState}
-use Rattle.desk_io.specs.Transfers.{IsPartOut, OnlyPuts}
+use Rattle.desk_io.specs.Transfers.{IsPartOut, OnlyPuts, Puts}
 use Rattle.desk_io.proofs.DeskFacts.{grown-grown, grown-empty}
 use Rattle.pending_text.specs.Sending.{Adds, IsAdded}
 
@@ -106,12 +106,12 @@ has-then o a b p q r s0 s1 s2 t x y = record {
   reads = y.reads ∙ x.reads;
 }
 
--- or that was refused, and with it any text that begins with both
-pub has-refused : {T S E : Type 0} (Done : Taken → Taken → Type 0) (o : Output) (a b more p q r : List ℕ) (s0 s1 s2 : DeskState) (e e2 : E) → HasAdded o a p q s0 s1 → Adds {T = T} o b q r s1 s2 (Err e)
-    → OnlyPuts {T = S} Done (IsPartOut o (p ++ ((a ++ b) ++ more))) s0 s2 (Err e2)
-has-refused Done o a b more p q r s0 s1 s2 e e2 x y = record {
+-- or that was refused, and with it both
+pub has-failed : {T S E F : Type 0} (Done : Taken → Taken → Type 0) (o : Output) (a b p q r : List ℕ) (s0 s1 s2 : DeskState) (e : E) (e2 : F) → HasAdded o a p q s0 s1 → Adds {T = T} o b q r s1 s2 (Err e)
+    → OnlyPuts {T = S} Done (IsPartOut o (p ++ (a ++ b))) s0 s2 (Err e2)
+has-failed Done o a b p q r s0 s1 s2 e e2 x y = record {
   whole = tt;
-  refused = part-first o (a ++ b) more p s0.taken s2.taken (part-then o a b p q s0.taken s1.taken s2.taken x.added y.refused);
+  refused = part-then o a b p q s0.taken s1.taken s2.taken x.added y.refused;
   cause = record {
     later = (let k = x.later in let n = y.cause.later in omega (arith, k, n));
     failed = (let k = x.later in let n = y.cause.failed in omega (arith, k, n));
@@ -120,20 +120,41 @@ has-refused Done o a b more p q r s0 s1 s2 e e2 x y = record {
   reads = y.reads ∙ x.reads;
 }
 
+-- and with them any text that begins with both
+pub has-refused : {T S E F : Type 0} (Done : Taken → Taken → Type 0) (o : Output) (a b more p q r : List ℕ) (s0 s1 s2 : DeskState) (e : E) (e2 : F) → HasAdded o a p q s0 s1 → Adds {T = T} o b q r s1 s2 (Err e)
+    → OnlyPuts {T = S} Done (IsPartOut o (p ++ ((a ++ b) ++ more))) s0 s2 (Err e2)
+has-refused {T} {S} {E} {F} Done o a b more p q r s0 s1 s2 e e2 x y =
+    let f : OnlyPuts {T = S} Done (IsPartOut o (p ++ (a ++ b))) s0 s2 (Err e2) = has-failed {T = T} Done o a b p q r s0 s1 s2 e e2 x y in
+    record { whole = tt; refused = part-first o (a ++ b) more p s0.taken s2.taken f.refused; cause = f.cause; left = f.left; reads = f.reads }
+
 -- one text was added, and then a call added another or was refused
 pub adds-then : {T S E F : Type 0} (o : Output) (a b p q r : List ℕ) (s0 s1 s2 : DeskState) (t : T) (result : Result S F) → Adds {T = T} {E = E} o a p q s0 s1 (Ok t) → Adds o b q r s1 s2 result → Adds o (a ++ b) p r s0 s2 result
-adds-then o a b p q r s0 s1 s2 t (Ok s) x y =
-    has-adds o (a ++ b) p r s0 s2 s (has-then o a b p q r s0 s1 s2 s (adds-has o a p q s0 s1 t x) y)
-adds-then o a b p q r s0 s1 s2 t (Err e) x y = record {
-  whole = tt;
-  refused = part-then o a b p q s0.taken s1.taken s2.taken x.whole y.refused;
-  cause = record {
-    later = (let k = x.cause.later in let n = y.cause.later in omega (arith, k, n));
-    failed = (let k = x.cause.later in let n = y.cause.failed in omega (arith, k, n));
-  };
-  left = y.left ∙ x.left;
-  reads = y.reads ∙ x.reads;
+adds-then o a b p q r s0 s1 s2 t (Ok s) x y = has-adds o (a ++ b) p r s0 s2 s (has-then o a b p q r s0 s1 s2 s (adds-has o a p q s0 s1 t x) y)
+adds-then {T} {S} {E} {F} o a b p q r s0 s1 s2 t (Err e) x y = has-failed {T = S} _ o a b p q r s0 s1 s2 e e (adds-has o a p q s0 s1 t x) y
+
+-- the text was added to nothing, and what was pending was put
+pub has-put : {T E : Type 0} (o : Output) (text p : List ℕ) (s0 s1 s2 : DeskState) (result : Result T E) → HasAdded o text [] p s0 s1 → Puts o p s1 s2 result → Puts o text s0 s2 result
+has-put o text p s0 s1 s2 (Ok t) a b = record {
+  whole = added-done o text p s0.taken s1.taken s2.taken a.added b.whole;
+  refused = tt;
+  cause = record { later = (let x = a.later in let y = b.cause.later in omega (arith, x, y)); failed = tt };
+  left = b.left ∙ a.left;
+  reads = b.reads ∙ a.reads;
 }
+has-put o text p s0 s1 s2 (Err e) a b = record {
+  whole = tt;
+  refused = part-done o text p s0.taken s1.taken s2.taken a.added b.refused;
+  cause = record {
+    later = (let x = a.later in let y = b.cause.later in omega (arith, x, y));
+    failed = (let x = a.later in let y = b.cause.failed in omega (arith, x, y));
+  };
+  left = b.left ∙ a.left;
+  reads = b.reads ∙ a.reads;
+}
+
+-- what is pending is the text itself, before anything else is done
+pub has-text : (o : Output) (text : List ℕ) (s : DeskState) → HasAdded o text [] text s s
+has-text o text s = record { added = added-text o text s.taken; left = refl; later = omega arith; reads = refl }
 
 -- making room
 pub ruleset rooms = (added-none, added-all, part-longer)

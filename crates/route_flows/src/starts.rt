@@ -1,5 +1,5 @@
 // The walks by which the rows of a start table fit vehicles.
-ghost use Rattle.std.specs.Prelude.{◌≡◌, IfOk, true};
+ghost use Rattle.std.specs.Prelude.{IfOk, true};
 ghost use Rattle.time_routes.specs.Destinations.{AreTold};
 ghost use Rattle.start_table.specs.Starts.{TellsStart};
 

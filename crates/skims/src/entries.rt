@@ -1,9 +1,9 @@
 // The entries of a skim, in order.
-ghost use Rattle.std.specs.Prelude.{◌≡◌, ◌≢◌, ◌<◌, length, slice_index, IfOk, OnOk};
+ghost use Rattle.std.specs.Prelude.{◌≡◌, ◌<◌, length, slice_index, IfOk, OnOk};
 ghost use Rattle.net_core.specs.Network.{zones as zones_of};
 ghost use Rattle.dta_model.specs.LinkTimes.{time_at};
 ghost use Rattle.skims.specs.Growing.{Adds};
-ghost use Rattle.skims.specs.Skim.{questions_at, questions_between, questions_from, IsEntryOf};
+ghost use Rattle.skims.specs.Skim.{questions_between, questions_from, IsEntryOf};
 ghost use Rattle.skims.specs.Skim.{IsSkim};
 
 use crate::leasts::LeastTimes;
@@ -11,36 +11,8 @@ use crate::skim_entry::SkimEntry;
 use net_core::Memory;
 use std::alloc::Global;
 
-// Adds the entries from a zone to another, one for each start. The zones are told by their places.
-fn add_starts(
-    entries: &mut Vec<SkimEntry>,
-    leasts: &LeastTimes,
-    zones: &[u64],
-    starts: &[u32],
-    origin: usize,
-    destination: usize,
-) -> Result<(), Memory>
-    requires zones { zones.now ≡ zones_of leasts.now.net.nodes }
-    requires starts { starts.now ≡ leasts.now.starts }
-    requires origin { origin < length zones.now }
-    requires destination { destination < length zones.now }
-    requires apart { slice_index zones.now origin ≢ slice_index zones.now destination }
-    ensures { OnOk result (Adds (IsEntryOf (time_at leasts.now.times) leasts.now.net)
-        (questions_at starts.now (slice_index zones.now origin)
-        (slice_index zones.now destination)) entries.old.items entries.new.items) }
-{
-    for start in 0..starts.len() {
-        entries.push(SkimEntry {
-            origin: zones[origin],
-            destination: zones[destination],
-            start: starts[start],
-            least: leasts.get(origin, destination, start),
-        })?;
-    }
-    Ok(())
-}
-
-// The same where the two zones may be one: then it adds none.
+// Adds the entries from a zone to another, one for each start, and none where the two are one. The
+// zones are told by their places.
 fn add_pair(
     entries: &mut Vec<SkimEntry>,
     leasts: &LeastTimes,
@@ -58,10 +30,17 @@ fn add_pair(
         (slice_index zones.now destination)) entries.old.items entries.new.items) }
 {
     if zones[origin] == zones[destination] {
-        Ok(())
-    } else {
-        add_starts(entries, leasts, zones, starts, origin, destination)
+        return Ok(());
     }
+    for start in 0..starts.len() {
+        entries.push(SkimEntry {
+            origin: zones[origin],
+            destination: zones[destination],
+            start: starts[start],
+            least: leasts.get(origin, destination, start),
+        })?;
+    }
+    Ok(())
 }
 
 // Adds the entries from a zone to each other one.

@@ -1,10 +1,9 @@
 -- The texts of an assignment.
-use Rattle.std.proofs.Common.{◌≡◌, ℕ, ◌-◌, List, [], ◌∷◌, ◌++◌, sym, ap, subst, arith, refl, ◌∙◌, length-append}
+use Rattle.std.proofs.Common.{◌≡◌, ℕ, ◌-◌, List, [], ◌∷◌, ◌++◌, sym, ap, subst, arith, ◌∙◌, length-append}
 use Rattle.std.specs.Prelude.{Some, Result, Ok, Err, IfOk, OnOk}
 use Rattle.std.specs.declared.alloc.AllocError.{AllocError}
 use Rattle.desk_io.specs.declared.desk.Failed.{Failed}
 use Rattle.desk_io.specs.declared.desk.Output.{Output}
-use Rattle.desk_io.specs.declared.desk.Output.TheVariants as output
 use Rattle.desk_io.specs.Desk.{Taken, grown, nothing_taken, taken_of}
 use Rattle.desk_io.proofs.DeskFacts.{taken-first}
 use Rattle.net_core.specs.declared.rows.NetRows.{NetRows}

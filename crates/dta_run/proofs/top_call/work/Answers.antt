@@ -2,7 +2,7 @@ use Rattle.std.proofs.Common.{◌≡◌, refl, subst}
 use Rattle.commands.specs.declared.status.Status.TheVariants as status
 use Rattle.dta_words.specs.declared.command.Command.TheVariants as command
 use Rattle.jobs.specs.Kinds.{IsFor, free_rows, rows_in_job}
-use Rattle.iterations.proofs.ReceiptFacts.{free-none, none-given, took-none}
+use Rattle.assign_command.proofs.ReceiptFacts.{free-none, none-given, took-none}
 use Rattle.commands.proofs.WorkFacts.{free-cut, free-done}
 use Rattle.dta_run.proofs.top_call.work.Goals as goal
 

@@ -1,0 +1,105 @@
+-- The work of an assignment, from what its iterations say.
+use Rattle.std.proofs.Common.{◌≡◌, ◌+◌, ◌-◌, List, [], ◌∷◌, ◌++◌, length, refl, sym, ap, subst, arith, inl, inr, ◌∙◌, length-append}
+use Rattle.std.specs.Prelude.{Some, slice_get}
+use Rattle.desk_io.specs.Desk.{Taken}
+use Rattle.dta_words.specs.declared.command.Command.{Command}
+use Rattle.dta_words.specs.declared.command.Settings.{Settings}
+use Rattle.assignment.specs.Assignment.{Traffic}
+use Rattle.jobs.specs.Jobs.{JobRows, Assigns, traffic_of}
+use Rattle.commands.specs.Works.{Works}
+use Rattle.commands.specs.Outputs.{AreAssigned, AreTexts, AreTextsSoFar, AreWatched, AreWatchedSoFar, IsCutOff, OutText, grown_by, last_texts}
+use Rattle.assign_command.specs.Progress.{Halts, IsAssigned}
+use Rattle.assign_command.specs.declared.halt.Halt.{Halt}
+use Rattle.assign_command.specs.declared.halt.Halt.TheVariants as halt
+use Rattle.commands.specs.declared.iterated.Iterated.{Iterated}
+use Rattle.commands.specs.declared.status.Status.TheVariants as status
+use Rattle.jobs.proofs.JobFacts.{by-assigning}
+use Rattle.commands.proofs.OutputFacts.{cut-later, grown-append}
+
+-- what was added to a list stands after it
+get-seam : {A : Type 0} → (xs : List A) (y : A) → slice_get (xs ++ y ∷ []) (length xs) ≡ Some y
+get-seam [] y = refl
+get-seam (x ∷ xs) y = get-seam xs y
+
+module _ (c : Command) (s : Settings) (job : JobRows) (texts : List OutText) (loads : Assigns c) where
+  abbrev Assignments : Type 0
+  Assignments = AreAssigned s (traffic_of job) texts
+
+  abbrev Watches : Type 0
+  Watches = AreWatched s (traffic_of job) texts
+
+  texts-are : Assignments → AreTexts c s job texts
+  texts-are = by-assigning (λ (k : Command). Assignments → AreTexts k s job texts) (λ a. a) (λ n a. a) (λ a. a) c loads
+
+  so-far-assigned : Assignments → AreTextsSoFar c s job texts
+  so-far-assigned = by-assigning (λ (k : Command). Assignments → AreTextsSoFar k s job texts) inl (λ n. inl) inl c loads
+
+  so-far-watched : Watches → AreTextsSoFar c s job texts
+  so-far-watched = by-assigning (λ (k : Command). Watches → AreTextsSoFar k s job texts) inr (λ n. inr) inr c loads
+
+  watched-so-far : Watches → AreWatchedSoFar c s job texts
+  watched-so-far = by-assigning (λ (k : Command). Watches → AreWatchedSoFar k s job texts) (λ w. w) (λ n w. w) (λ w. w) c loads
+
+-- an assignment of what a job and its settings say
+module _ (s : Settings) (job : JobRows) (loads : Assigns s.command) (own : Settings) (traffic : Traffic) (same : own ≡ s)
+    (over : traffic ≡ traffic_of job) where
+  -- all texts of one whose iterations are done
+  module _ (x : Iterated) (start now : Taken) (done : IsAssigned own traffic x start now) where
+    abbrev last_by : Settings → Traffic → List OutText
+    last_by z t = last_texts z.command z t x.last.routes x.since x.last.lines.items x.last.line
+
+    abbrev last : List OutText
+    last = last_by s (traffic_of job)
+
+    last-is : last_by own traffic ≡ last
+    last-is = ap (λ (z : Settings). last_by z traffic) same ∙ ap (last_by s) over
+
+    a : IsAssigned s (traffic_of job) x start now
+    a = subst (λ (t : Traffic). IsAssigned s t x start now) over (subst (λ (z : Settings). IsAssigned z traffic x start now) same done)
+
+    assigned-texts : AreAssigned s (traffic_of job) (a.texts ++ last)
+    assigned-texts = record {
+      routes = a.done ++ x.last.routes ∷ [];
+      lines = x.last.lines.items;
+      last = x.last.routes;
+      line = x.last.line;
+      iterations = a.iterations;
+      as_many = length-append a.done (x.last.routes ∷ []) ∙ a.as_many;
+      with_gaps = ap length a.lines_are ∙ length-append a.before (x.last.line ∷ []) ∙ ap (λ n. n + 1) a.with_gaps ∙ a.as_many;
+      last_routes = ap (λ n. slice_get (a.done ++ x.last.routes ∷ []) n) (omega (arith, a.as_many)) ∙ get-seam a.done x.last.routes;
+      last_line = ap (λ xs. slice_get xs (s.iterations - 1)) a.lines_are ∙ ap (λ n. slice_get (a.before ++ x.last.line ∷ []) n) (omega (arith, a.as_many, a.with_gaps)) ∙ get-seam a.before x.last.line;
+      since = x.since;
+      since_told = a.since_told;
+      watched = a.texts;
+      watch_lines = a.watch_lines;
+      texts_are = refl;
+    }
+
+    pub assigned-done : (after : Taken) → after ≡ grown_by (last_by own traffic) now → Works s job status.Done start after
+    assigned-done after out = (
+      a.texts ++ last,
+      texts-are s.command s job (a.texts ++ last) loads assigned-texts,
+      out ∙ ap (λ (texts : List OutText). grown_by texts now) last-is ∙ ap (grown_by last) a.watched ∙ sym (grown-append a.texts last start),
+    )
+
+    pub assigned-cut : (after : Taken) → IsCutOff (last_by own traffic) now after → Works s job status.WriteFault start after
+    assigned-cut after cut = (
+      a.texts ++ last,
+      so-far-assigned s.command s job (a.texts ++ last) loads assigned-texts,
+      cut-later a.texts last start after (subst (λ t. IsCutOff last t after) a.watched (subst (λ (texts : List OutText). IsCutOff texts now after) last-is cut)),
+    )
+
+  -- one that ended before its last iteration was done
+  abbrev halted : (why : Halt) (start now : Taken) → Halts own traffic why start now → Halts s (traffic_of job) why start now
+  halted why start now h =
+      subst (λ (t : Traffic). Halts s t why start now) over (subst (λ (z : Settings). Halts z traffic why start now) same h)
+
+  pub halted-watch : (why : Halt) (start now : Taken) → why ≡ halt.Watch → Halts own traffic why start now → Works s job status.WriteFault start now
+  halted-watch why start now is h =
+      let k = subst (λ (w : Halt). Halts s (traffic_of job) w start now) is (halted why start now h) in
+      (k.0, so-far-watched s.command s job k.0 loads k.1, k.2)
+
+  pub halted-memory : (why : Halt) (start now : Taken) → why ≡ halt.Memory → Halts own traffic why start now → Works s job status.Memory start now
+  halted-memory why start now is h =
+      let k = subst (λ (w : Halt). Halts s (traffic_of job) w start now) is (halted why start now h) in
+      (k.0, watched-so-far s.command s job k.0 loads k.1, k.2)

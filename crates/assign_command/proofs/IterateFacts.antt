@@ -1,0 +1,228 @@
+-- The iterations of an assignment, one after another, with what goes out.
+use Rattle.std.specs.Prelude.{Result, Ok, Err, IfOk, IfErr}
+use Rattle.std.proofs.Common.{◌≡◌, ℕ, ◌+◌, ◌≤◌, List, [], ◌∷◌, ◌++◌, refl, sym, subst, ◌∙◌, arith, length-append, inl, inr}
+use Rattle.std.proofs.lemmas.Result.{IfErr-weaker, IfOk-weaker}
+use Rattle.std.proofs.lemmas.Option.{slice_get_within}
+use Rattle.desk_io.specs.Desk.{Taken}
+use Rattle.desk_io.specs.Faults.{Rose}
+use Rattle.desk_io.specs.State.{DeskState}
+use Rattle.dta_model.specs.LinkTimes.{time_at}
+use Rattle.dta_model.specs.declared.eight.Eight.{Eight}
+use Rattle.gap.specs.declared.line.GapLine.{GapLine}
+use Rattle.route_flows.specs.Averages.{AreNextRoutes}
+use Rattle.start_table.specs.Starts.{AreStartRows}
+use Rattle.dta_words.specs.Ranges.{AreSettings}
+use Rattle.dta_words.specs.declared.command.Settings.{Settings}
+use Rattle.assignment.specs.Assignment.{AreIterations, Traffic, VehicleRoutes, end_of, times_of}
+use Rattle.assignment.specs.Progress.{HasBegun, HasEnded, HasNext}
+use Rattle.assignment.proofs.AssignmentFacts.{get-kept, only-first, with-gap, with-next}
+use Rattle.assign_command.specs.Calls.{HaltsFrom, IsFinished, OnlyWatches}
+use Rattle.commands.specs.Outputs.{AreSinceTold, AreWatchLines, IsCutOff, end_lines}
+use Rattle.assign_command.specs.Progress.{Halts, HaltsIn, IsAssigned, IsAt, IsWatched}
+use Rattle.commands.specs.Counted.{HasCounts}
+use Rattle.commands.specs.declared.iterated.Iterated.{Iterated}
+use Rattle.assign_command.specs.declared.halt.Halt.{Halt}
+use Rattle.assign_command.specs.declared.halt.Halt.TheVariants as halt
+use Rattle.jobs.proofs.ChainFacts.{rose-earlier}
+use Rattle.commands.proofs.OutputFacts.{cut-more, end-lines, grown-more, watch-more}
+
+-- the line of the last state was cut off
+pub watch-halts : (s : Settings) (traffic : Traffic) (iteration : ℕ) (r : VehicleRoutes) (end : Eight)
+    (why : Halt) (before now : Taken) → AreSettings s → end ≡ end_of s traffic r → why ≡ halt.Watch
+    → IsCutOff (end_lines s.watch iteration end) before now → HaltsIn s traffic iteration r why before now
+watch-halts s traffic iteration r end why before now settings is watch cut =
+    rw watch (end_lines s.watch iteration end, end-lines s traffic iteration r end settings is, cut)
+
+-- a count that rose in a call rose since an earlier moment
+pub rose-since : {T : Type 0} (r : Result T Halt) (earlier before now : ℕ) → earlier ≤ before
+    → IfErr r (λ why. why ≡ halt.Watch → Rose before now)
+    → IfErr r (λ why. why ≡ halt.Watch → Rose earlier now)
+rose-since r earlier before now h rose =
+    IfErr-weaker r (λ why. why ≡ halt.Watch → Rose before now)
+    (λ why. why ≡ halt.Watch → Rose earlier now)
+    (λ why k watch. rose-earlier earlier before now h (k watch)) rose
+
+-- the last iteration, where those before it were done
+module _ (s : Settings) (traffic : Traffic) (r : Result Iterated Halt) (routes : VehicleRoutes)
+    (lines : List GapLine) (start before now : Taken)
+    (at : IsAt s traffic s.iterations routes lines start before) where
+  pub all-done : IfOk r (λ a. IsFinished s traffic routes lines a before now)
+      → IfOk r (λ a. IsAssigned s traffic a start now)
+  all-done h = IfOk-weaker r (λ a. IsFinished s traffic routes lines a before now)
+      (λ a. IsAssigned s traffic a start now) (λ a k. k start at) h
+
+  pub all-halts : IfErr r (λ why. HaltsFrom s traffic s.iterations routes lines why before now)
+      → IfErr r (λ why. Halts s traffic why start now)
+  all-halts h = IfErr-weaker r (λ why. HaltsFrom s traffic s.iterations routes lines why before now)
+      (λ why. Halts s traffic why start now) (λ why k. k start at) h
+
+-- the iterations of a traffic
+module _ (s : Settings) (traffic : Traffic) where
+  -- the first iteration is about to be loaded
+  pub begun : (r : VehicleRoutes) (lines : List GapLine) (start : Taken) → AreStartRows traffic.start → HasBegun traffic r lines → IsAt s traffic 1 r lines start start
+  begun r lines start rows has = rw has.none record {
+    done = [];
+    as_many = refl;
+    with_gaps = refl;
+    iterations = only-first s traffic r rows has.started;
+    texts = [];
+    watch_lines = refl;
+    watched = refl;
+  }
+
+  -- the iterations before one of them
+  but-last : (done : List VehicleRoutes) (r : VehicleRoutes) (lines : List GapLine) → AreIterations s traffic (done ++ r ∷ []) lines → AreIterations s traffic done lines
+  but-last done r lines it = record {
+    start = it.start;
+    first = λ z e. it.first z (get-kept done (r ∷ []) 0 z e);
+    next = λ i old new e f. it.next i old new (get-kept done (r ∷ []) i old e) (get-kept done (r ∷ []) (i + 1) new f);
+    gaps = λ i z line e f. it.gaps i z line (get-kept done (r ∷ []) i z e) f;
+  }
+
+  -- an iteration that isn't the last is done
+  pub ahead : (number : ℕ) (r next : VehicleRoutes) (lines more : List GapLine) (start before now : Taken)
+      → IsAt s traffic number r lines start before
+      → IsWatched s traffic number r before now
+      → HasNext s traffic number r next lines more
+      → IsAt s traffic (number + 1) next more start now
+  ahead number r next lines more start before now at put has =
+      let many = at.as_many in
+      let gaps = at.with_gaps in
+      let long = length-append at.done (r ∷ []) in
+      let added = length-append lines (has.line ∷ []) in
+      rw has.pushed record {
+        done = at.done ++ r ∷ [];
+        as_many = omega (arith, many, long);
+        with_gaps = omega (arith, gaps, long, added);
+        iterations = with-next s traffic at.done r next (lines ++ has.line ∷ []) (omega (arith, gaps, added))
+            (subst (λ (n : ℕ). AreNextRoutes (time_at (times_of s traffic r)) traffic.net traffic.trips n r next) (sym many) has.next_are)
+            (with-gap s traffic at.done r lines has.line gaps has.gap at.iterations);
+        texts = at.texts ++ put.0;
+        watch_lines = watch-more s traffic 1 number at.done r at.texts put.0 many at.watch_lines put.1;
+        watched = grown-more at.texts put.0 start before now at.watched put.2;
+      }
+
+  -- memory was wanting after the watch lines
+  pub halts-after : (why : Halt) (number : ℕ) (r : VehicleRoutes) (lines : List GapLine) (start before now : Taken)
+      → IsAt s traffic number r lines start before → number ≤ s.iterations
+      → IsWatched s traffic number r before now
+      → why ≡ halt.Memory
+      → Halts s traffic why start now
+  halts-after why number r lines start before now at few put memory =
+      let many = at.as_many in
+      let long = length-append at.done (r ∷ []) in
+      rw memory (
+        at.texts ++ put.0,
+        record {
+          routes = at.done ++ r ∷ [];
+          lines = lines;
+          iterations = at.iterations;
+          few = omega (arith, many, few, long);
+          watch_lines = watch-more s traffic 1 number at.done r at.texts put.0 many at.watch_lines put.1;
+        },
+        grown-more at.texts put.0 start before now at.watched put.2,
+      )
+
+  -- memory was wanting in an iteration, or a watch line was cut off
+  pub halts-in : (why : Halt) (number : ℕ) (r : VehicleRoutes) (lines : List GapLine) (start before now : Taken)
+      → IsAt s traffic number r lines start before → number ≤ s.iterations
+      → HaltsIn s traffic number r why before now
+      → Halts s traffic why start now
+  halts-in halt.Memory number r lines start before now at few (inl same) =
+      let many = at.as_many in (
+        at.texts,
+        record {
+          routes = at.done;
+          lines = lines;
+          iterations = but-last at.done r lines at.iterations;
+          few = omega (arith, many, few);
+          watch_lines = at.watch_lines;
+        },
+        same ∙ at.watched,
+      )
+  halts-in halt.Memory number r lines start before now at few (inr put) =
+      halts-after halt.Memory number r lines start before now at few put refl
+  halts-in halt.Watch number r lines start before now at few cut =
+      let many = at.as_many in
+      let long = length-append at.done (r ∷ []) in (
+        at.texts ++ cut.0,
+        record {
+          routes = at.done ++ r ∷ [];
+          lines = lines;
+          iterations = at.iterations;
+          few = omega (arith, many, few, long);
+          watch_lines = watch-more s traffic 1 number at.done r at.texts cut.0 many at.watch_lines cut.1;
+        },
+        cut-more at.texts cut.0 start before now at.watched cut.2,
+      )
+
+  -- the last iteration is done
+  pub assigned : (a : Iterated) (r : VehicleRoutes) (lines : List GapLine) (start before now : Taken)
+      → IsAt s traffic s.iterations r lines start before
+      → IsWatched s traffic s.iterations r before now
+      → HasEnded s traffic r lines a.last
+      → AreSinceTold s.start s traffic a.since → HasCounts s traffic a.last.routes a.counts
+      → IsAssigned s traffic a start now
+  assigned a r lines start before now at put has since counted =
+      let routes = a.last.routes in
+      let own : AreIterations s traffic (at.done ++ routes ∷ []) lines =
+      subst (λ (x : VehicleRoutes). AreIterations s traffic (at.done ++ x ∷ []) lines) (sym has.same) at.iterations in
+      let told : AreWatchLines s traffic s.iterations routes put.0 =
+      subst (λ (x : VehicleRoutes). AreWatchLines s traffic s.iterations x put.0) (sym has.same) put.1 in record {
+        done = at.done;
+        as_many = at.as_many;
+        before = lines;
+        with_gaps = at.with_gaps;
+        lines_are = has.pushed;
+        iterations = rw has.pushed (with-gap s traffic at.done routes lines a.last.line at.with_gaps has.gap own);
+        texts = at.texts ++ put.0;
+        watch_lines = watch-more s traffic 1 s.iterations at.done routes at.texts put.0 at.as_many at.watch_lines told;
+        watched = grown-more at.texts put.0 start before now at.watched put.2;
+        last = has.last;
+        since_told = since;
+        counted = counted;
+      }
+
+  -- memory was wanting for the first routes
+  pub halts-first : (start : Taken) → AreStartRows traffic.start → Halts s traffic halt.Memory start start
+  halts-first start rows = (
+    [],
+    record {
+      routes = [];
+      lines = [];
+      iterations = record {
+        start = rows;
+        first = λ r e. let h = slice_get_within {A = VehicleRoutes} [] 0 r e in absurd (omega (arith, h));
+        next = λ i old new e f. let h = slice_get_within {A = VehicleRoutes} [] i old e in absurd (omega (arith, h));
+        gaps = λ i r line e f. let h = slice_get_within {A = VehicleRoutes} [] i r e in absurd (omega (arith, h));
+      };
+      few = omega arith;
+      watch_lines = refl;
+    },
+    refl,
+  )
+
+  -- a loading halted, or memory was wanting once it was done
+  module _ {T U : Type 0} {Done : U → Taken → Taken → Type 0} (number : ℕ) (r : VehicleRoutes) (lines : List GapLine)
+      (few : number ≤ s.iterations) (before after : DeskState) where
+    pub load-halts : (why : Halt) → OnlyWatches {T = T} (λ _. IsWatched s traffic number r) (HaltsIn s traffic number r) before after (Err why)
+        → OnlyWatches {T = U} Done (HaltsFrom s traffic number r lines) before after (Err why)
+    load-halts why w = record {
+      done = tt;
+      halts = λ start at. halts-in why number r lines start before.taken after.taken at few w.halts;
+      failed = w.failed;
+      later = w.later;
+      left = w.left;
+      reads = w.reads;
+    }
+
+    pub memory-halts : (x : T) → OnlyWatches {T = T} (λ _. IsWatched s traffic number r) (HaltsIn s traffic number r) before after (Ok x)
+        → OnlyWatches {T = U} Done (HaltsFrom s traffic number r lines) before after (Err halt.Memory)
+    memory-halts x w = record {
+      done = tt;
+      halts = λ start at. halts-after halt.Memory number r lines start before.taken after.taken at few w.done refl;
+      failed = λ e. absurd cc;
+      later = w.later;
+      left = w.left;
+      reads = w.reads;
+    }
