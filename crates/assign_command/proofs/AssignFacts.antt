@@ -3,17 +3,18 @@ use Rattle.std.proofs.Common.{◌≡◌, ◌+◌, ◌-◌, List, [], ◌∷◌, 
 use Rattle.std.specs.Prelude.{Some, slice_get}
 use Rattle.desk_io.specs.Desk.{Taken}
 use Rattle.dta_words.specs.declared.command.Command.{Command}
+use Rattle.dta_words.specs.declared.command.Command.TheVariants as command
 use Rattle.dta_words.specs.declared.command.Settings.{Settings}
 use Rattle.assignment.specs.Assignment.{Traffic}
-use Rattle.jobs.specs.Jobs.{JobRows, Assigns, traffic_of}
-use Rattle.commands.specs.Works.{Works}
-use Rattle.commands.specs.Outputs.{AreAssigned, AreTexts, AreTextsSoFar, AreWatched, AreWatchedSoFar, IsCutOff, OutText, grown_by, last_texts}
+use Rattle.jobs.specs.Inputs.{Assigns}
+use Rattle.jobs.specs.Jobs.{JobRows, traffic_of}
+use Rattle.commands.specs.Works.{AreTexts, AreTextsSoFar, AreWatchedSoFar, CommandWork, Works, assignment_work, work_of}
+use Rattle.commands.specs.Outputs.{AreAssigned, AreWatched, IsCutOff, OutText, grown_by, last_texts}
 use Rattle.assign_command.specs.Progress.{Halts, IsAssigned}
 use Rattle.assign_command.specs.declared.halt.Halt.{Halt}
 use Rattle.assign_command.specs.declared.halt.Halt.TheVariants as halt
 use Rattle.commands.specs.declared.iterated.Iterated.{Iterated}
 use Rattle.commands.specs.declared.status.Status.TheVariants as status
-use Rattle.jobs.proofs.JobFacts.{by-assigning}
 use Rattle.commands.proofs.OutputFacts.{cut-later, grown-append}
 
 -- what was added to a list stands after it
@@ -21,24 +22,31 @@ get-seam : {A : Type 0} → (xs : List A) (y : A) → slice_get (xs ++ y ∷ [])
 get-seam [] y = refl
 get-seam (x ∷ xs) y = get-seam xs y
 
+-- the work of a command that assigns
+pub assigned-work : (c : Command) → Assigns c → work_of c ≡ assignment_work
+assigned-work command.Freeflow assigns = absurd assigns
+assigned-work command.Assign assigns = refl
+assigned-work (command.Demo n) assigns = refl
+assigned-work command.Skim assigns = absurd assigns
+assigned-work command.Counts assigns = refl
+assigned-work command.Sweep assigns = absurd assigns
+assigned-work command.Audit assigns = absurd assigns
+
 module _ (c : Command) (s : Settings) (job : JobRows) (texts : List OutText) (loads : Assigns c) where
-  abbrev Assignments : Type 0
-  Assignments = AreAssigned s (traffic_of job) texts
+  is-work : assignment_work ≡ work_of c
+  is-work = sym (assigned-work c loads)
 
-  abbrev Watches : Type 0
-  Watches = AreWatched s (traffic_of job) texts
+  texts-are : AreAssigned s (traffic_of job) texts → AreTexts c s job texts
+  texts-are a = subst (λ (w : CommandWork). w.texts s job texts) is-work a
 
-  texts-are : Assignments → AreTexts c s job texts
-  texts-are = by-assigning (λ (k : Command). Assignments → AreTexts k s job texts) (λ a. a) (λ n a. a) (λ a. a) c loads
+  so-far-assigned : AreAssigned s (traffic_of job) texts → AreTextsSoFar c s job texts
+  so-far-assigned a = subst (λ (w : CommandWork). w.so_far s job texts) is-work (inl a)
 
-  so-far-assigned : Assignments → AreTextsSoFar c s job texts
-  so-far-assigned = by-assigning (λ (k : Command). Assignments → AreTextsSoFar k s job texts) inl (λ n. inl) inl c loads
+  so-far-watched : AreWatched s (traffic_of job) texts → AreTextsSoFar c s job texts
+  so-far-watched w = subst (λ (w : CommandWork). w.so_far s job texts) is-work (inr w)
 
-  so-far-watched : Watches → AreTextsSoFar c s job texts
-  so-far-watched = by-assigning (λ (k : Command). Watches → AreTextsSoFar k s job texts) inr (λ n. inr) inr c loads
-
-  watched-so-far : Watches → AreWatchedSoFar c s job texts
-  watched-so-far = by-assigning (λ (k : Command). Watches → AreWatchedSoFar k s job texts) (λ w. w) (λ n w. w) (λ w. w) c loads
+  watched-so-far : AreWatched s (traffic_of job) texts → AreWatchedSoFar c s job texts
+  watched-so-far w = subst (λ (w : CommandWork). w.watched s job texts) is-work w
 
 -- an assignment of what a job and its settings say
 module _ (s : Settings) (job : JobRows) (loads : Assigns s.command) (own : Settings) (traffic : Traffic) (same : own ≡ s)

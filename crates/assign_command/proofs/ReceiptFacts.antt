@@ -7,11 +7,13 @@ use Rattle.dta_words.specs.declared.command.Command.TheVariants as command
 use Rattle.dta_words.specs.declared.command.Settings.{Settings}
 use Rattle.loader.specs.Gates.{GateState, Numbers, numbers_by, taking}
 use Rattle.assignment.specs.Assignment.{Traffic, VehicleRoutes, plan_of}
-use Rattle.jobs.specs.Jobs.{JobRows, Assigns, traffic_of}
-use Rattle.assign_command.specs.Receipts.{Gives, TookAtMost, WorkGives, numbers_in, receipts_in, receipts_of, taking_all}
+use Rattle.jobs.specs.Inputs.{Assigns}
+use Rattle.jobs.specs.Jobs.{JobRows, traffic_of}
+use Rattle.assign_command.specs.Receipts.{Gives, TookAtMost, WorkGives, numbers_in, receipts_in, taking_all}
+use Rattle.commands.specs.Works.{CommandWork, by_workers}
 use Rattle.commands.specs.declared.status.Status.{Status}
 use Rattle.commands.specs.declared.status.Status.TheVariants as status
-use Rattle.jobs.proofs.JobFacts.{by-assigning}
+use Rattle.assign_command.proofs.AssignFacts.{assigned-work}
 
 -- the numbers of a loading are those of its traffic
 pub numbers-are : (s : Settings) (traffic : Traffic) (routes : VehicleRoutes)
@@ -29,49 +31,49 @@ taking-more (suc n) m numbers gate =
     let e : suc (n + m) ≡ suc n + m = omega arith in
     ap (taking numbers) (taking-more n m numbers gate) ∙ ap (λ (k : ℕ). taking_all k numbers gate) e
 
-receipts-more : (plain : Bool) (n m k : ℕ) → n + m ≡ k → receipts_of plain m + receipts_of plain n ≡ receipts_of plain k
+receipts-more : (plain : Bool) (n m k : ℕ) → n + m ≡ k → by_workers plain m + by_workers plain n ≡ by_workers plain k
 receipts-more true n m k e = refl
 receipts-more false n m k e = omega (arith, e)
 
-receipts-least : (plain : Bool) (n k : ℕ) → n ≤ k → receipts_of plain n ≤ receipts_of plain k
+receipts-least : (plain : Bool) (n k : ℕ) → n ≤ k → by_workers plain n ≤ by_workers plain k
 receipts-least true n k h = omega arith
 receipts-least false n k h = h
 
 -- the receipts of so many loadings
 module _ (plain : Bool) (numbers : Numbers) (gate : GateState) where
   -- none so far
-  pub no-loadings : gate ≡ taking_all (receipts_of plain 0) numbers gate
-  no-loadings = elim plain as (λ b. gate ≡ taking_all (receipts_of b 0) numbers gate) [ true ↦ refl | false ↦ refl ]
+  pub no-loadings : gate ≡ taking_all (by_workers plain 0) numbers gate
+  no-loadings = elim plain as (λ b. gate ≡ taking_all (by_workers b 0) numbers gate) [ true ↦ refl | false ↦ refl ]
 
   -- and of more
   pub all-more : (n m k : ℕ) (between now : GateState) → n + m ≡ k
-      → between ≡ taking_all (receipts_of plain n) numbers gate
-      → now ≡ taking_all (receipts_of plain m) numbers between
-      → now ≡ taking_all (receipts_of plain k) numbers gate
+      → between ≡ taking_all (by_workers plain n) numbers gate
+      → now ≡ taking_all (by_workers plain m) numbers between
+      → now ≡ taking_all (by_workers plain k) numbers gate
   all-more n m k between now e old new =
-      new ∙ ap (taking_all (receipts_of plain m) numbers) old
-      ∙ taking-more (receipts_of plain m) (receipts_of plain n) numbers gate
+      new ∙ ap (taking_all (by_workers plain m) numbers) old
+      ∙ taking-more (by_workers plain m) (by_workers plain n) numbers gate
       ∙ ap (λ (i : ℕ). taking_all i numbers gate) (receipts-more plain n m k e)
 
   -- so many, and then at most more
   pub some-more : (n m k : ℕ) (between now : GateState) → n + m ≤ k
-      → between ≡ taking_all (receipts_of plain n) numbers gate
-      → TookAtMost (receipts_of plain m) numbers between now
-      → TookAtMost (receipts_of plain k) numbers gate now
+      → between ≡ taking_all (by_workers plain n) numbers gate
+      → TookAtMost (by_workers plain m) numbers between now
+      → TookAtMost (by_workers plain k) numbers gate now
   some-more n m k between now h old new =
       let few = new.1 in
       let sum = receipts-more plain n m (n + m) refl in
       let most = receipts-least plain (n + m) k h in (
-        new.0 + receipts_of plain n,
+        new.0 + by_workers plain n,
         omega (arith, few, sum, most),
-        new.2 ∙ ap (taking_all new.0 numbers) old ∙ taking-more new.0 (receipts_of plain n) numbers gate,
+        new.2 ∙ ap (taking_all new.0 numbers) old ∙ taking-more new.0 (by_workers plain n) numbers gate,
       )
 
   -- so many loadings, and then a call
   pub gives-more : {T E : Type 0} (r : Result T E) (n m k : ℕ) (between now : GateState) → n + m ≡ k
-      → between ≡ taking_all (receipts_of plain n) numbers gate
-      → Gives (receipts_of plain m) numbers between now r
-      → Gives (receipts_of plain k) numbers gate now r
+      → between ≡ taking_all (by_workers plain n) numbers gate
+      → Gives (by_workers plain m) numbers between now r
+      → Gives (by_workers plain k) numbers gate now r
   gives-more (Ok x) n m k between now e old new = record { all = all-more n m k between now e old new.all; some = tt }
   gives-more (Err x) n m k between now e old new =
       record { all = tt; some = some-more n m k between now (omega (arith, e)) old new.some }
@@ -79,21 +81,21 @@ module _ (plain : Bool) (numbers : Numbers) (gate : GateState) where
 -- ---- the receipts of a run
 
 -- a command that assigns gives one for each iteration
-receipts-are : (c : Command) (s : Settings) → Assigns c → receipts_of s.plain s.iterations ≡ receipts_in c s
-receipts-are c s loads = by-assigning (λ (k : Command). receipts_of s.plain s.iterations ≡ receipts_in k s) refl (λ n. refl) refl c loads
+receipts-are : (c : Command) (s : Settings) → Assigns c → by_workers s.plain s.iterations ≡ receipts_in c s
+receipts-are c s loads = ap (λ (w : CommandWork). w.loaded_by_workers s) (sym (assigned-work c loads))
 
 -- work that gave all receipts, at most as many, or none
 module _ (s : Settings) (job : JobRows) (gate now : GateState) where
-  work-all-own : Assigns s.command → now ≡ taking_all (receipts_of s.plain s.iterations) (numbers_in s (traffic_of job)) gate
+  work-all-own : Assigns s.command → now ≡ taking_all (by_workers s.plain s.iterations) (numbers_in s (traffic_of job)) gate
       → now ≡ taking_all (receipts_in s.command s) (numbers_in s (traffic_of job)) gate
   work-all-own loads took = took ∙ ap (λ (n : ℕ). taking_all n (numbers_in s (traffic_of job)) gate) (receipts-are s.command s loads)
 
   pub work-all : Assigns s.command → (own : Settings) (traffic : Traffic) → own ≡ s → traffic ≡ traffic_of job
-      → now ≡ taking_all (receipts_of own.plain own.iterations) (numbers_in own traffic) gate
+      → now ≡ taking_all (by_workers own.plain own.iterations) (numbers_in own traffic) gate
       → now ≡ taking_all (receipts_in s.command s) (numbers_in s (traffic_of job)) gate
   work-all loads own traffic same over took =
-      work-all-own loads (subst (λ (t : Traffic). now ≡ taking_all (receipts_of s.plain s.iterations) (numbers_in s t) gate) over
-      (subst (λ (z : Settings). now ≡ taking_all (receipts_of z.plain z.iterations) (numbers_in z traffic) gate) same took))
+      work-all-own loads (subst (λ (t : Traffic). now ≡ taking_all (by_workers s.plain s.iterations) (numbers_in s t) gate) over
+      (subst (λ (z : Settings). now ≡ taking_all (by_workers z.plain z.iterations) (numbers_in z traffic) gate) same took))
 
   pub free-none : s.command ≡ command.Freeflow → now ≡ gate → now ≡ taking_all (receipts_in s.command s) (numbers_in s (traffic_of job)) gate
   free-none asks same = rw asks same

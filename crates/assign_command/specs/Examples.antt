@@ -1,7 +1,8 @@
 -- Worked cases of the definitions, computed.
 use Rattle.std.specs.Prelude.{◌≡◌, refl, false, true, Some}
 use Rattle.loader.specs.Gates.{GateState, Numbers}
-use Rattle.assign_command.specs.Receipts.{receipts_of, taking_all}
+use Rattle.assign_command.specs.Receipts.{taking_all}
+use Rattle.commands.specs.Works.{by_workers}
 
 -- two iterations by four workers, over three nodes and 60 steps, with four vehicles: the gate took
 -- two receipts, and tells the numbers of the last one
@@ -14,10 +15,10 @@ no_receipts = record {
   last = Some (record { units = 0; passes = 0; vehicles = 0 });
 }
 
-two-receipts : taking_all (receipts_of false 2) four_workers no_receipts
+two-receipts : taking_all (by_workers false 2) four_workers no_receipts
     ≡ record { closes = Some 2; last = Some four_workers }
 two-receipts = refl
 
 -- with the plain loader it took none
-no-receipt : taking_all (receipts_of true 2) four_workers no_receipts ≡ no_receipts
+no-receipt : taking_all (by_workers true 2) four_workers no_receipts ≡ no_receipts
 no-receipt = refl

@@ -1,13 +1,12 @@
 -- The receipts that the loadings of a run give its gate.
-use Rattle.std.specs.Prelude.{ℕ, ◌≡◌, ◌≤◌, ◌*◌, suc, zero, Bool, true, false, length, Result, OnOk}
-use Rattle.std.specs.Prelude.{OnErr}
+use Rattle.std.specs.Prelude.{ℕ, ◌≡◌, ◌≤◌, ◌*◌, suc, zero, length, Result, OnOk, OnErr}
 use Rattle.dta_model.specs.Units.{step_units}
 use Rattle.dta_words.specs.declared.command.Command.{Command}
-use Rattle.dta_words.specs.declared.command.Command.TheVariants as command
 use Rattle.dta_words.specs.declared.command.Settings.{Settings}
 use Rattle.loader.specs.Gates.{GateState, Numbers, taking}
 use Rattle.assignment.specs.Assignment.{Traffic}
 use Rattle.jobs.specs.Jobs.{JobRows, traffic_of}
+use Rattle.commands.specs.Works.{work_of}
 use Rattle.commands.specs.declared.status.Status.{Status}
 use Rattle.commands.specs.declared.status.Status.TheVariants as status
 
@@ -20,19 +19,9 @@ numbers_in s traffic = record {
   vehicles = length traffic.trips;
 }
 
--- how many receipts so many loadings give: one each, and none where the loader is plain
-abbrev pub receipts_of : (plain : Bool) → ℕ → ℕ
-receipts_of true loadings = 0
-receipts_of false loadings = loadings
-
--- how many the whole work of a command gives: one for each iteration that is loaded by workers;
--- a sweep and an audit load plainly, and `freeflow` and `skim` not at all
+-- how many the whole work of a command gives: one for each loading by workers
 abbrev pub receipts_in : Command → Settings → ℕ
-receipts_in command.Freeflow s = 0
-receipts_in command.Skim s = 0
-receipts_in command.Sweep s = 0
-receipts_in command.Audit s = 0
-receipts_in c s = receipts_of s.plain s.iterations
+receipts_in c s = (work_of c).loaded_by_workers s
 
 -- the gate took so many receipts with these numbers, one after another
 abbrev pub taking_all : ℕ → Numbers → GateState → GateState

@@ -1,7 +1,8 @@
 // The work of an assignment: its iterations, and then its outputs.
 ghost use Rattle.dta_words.specs.Ranges.{AreSettings};
 ghost use Rattle.loader.specs.Gates.{gate_of};
-ghost use Rattle.jobs.specs.Jobs.{Assigns, IsJob};
+ghost use Rattle.jobs.specs.Inputs.{Assigns};
+ghost use Rattle.jobs.specs.Jobs.{IsJob};
 ghost use Rattle.jobs.specs.Kinds.{assign_rows};
 ghost use Rattle.commands.specs.Calls.{DoesWork};
 ghost use Rattle.assign_command.specs.Receipts.{WorkGives};

@@ -6,7 +6,8 @@ ghost use Rattle.assignment.specs.Traffic.{AreRoutesOf};
 ghost use Rattle.assign_command.specs.Calls.{HaltsFrom, IsAhead, IsFinished, OnlyWatches};
 ghost use Rattle.commands.specs.Outputs.{AreSinceTold};
 ghost use Rattle.assign_command.specs.Progress.{Halts, IsAssigned};
-ghost use Rattle.assign_command.specs.Receipts.{Gives, numbers_in, receipts_of};
+ghost use Rattle.assign_command.specs.Receipts.{Gives, numbers_in};
+ghost use Rattle.commands.specs.Works.{by_workers};
 ghost use Rattle.assign_command.specs.declared.halt.Halt.TheVariants as halt;
 
 use crate::halt::Halt;
@@ -57,7 +58,7 @@ fn go_on<R: AllocGlobal + Threads + Wait + Sync, D: Desk + Send, G: Gate + Sync>
         (D.state desk.old) (D.state desk.new) result }
     ensures receipts { let shown = gate_of G.closes G.last in
         let s = settings_in assignment.now in
-        Gives (receipts_of s.plain 1) (numbers_in s (traffic_in assignment.now))
+        Gives (by_workers s.plain 1) (numbers_in s (traffic_in assignment.now))
         (shown gate.old) (shown gate.new) result }
 {
     let loaded = load_watched(rt, assignment, &it.routes, number, gate, desk)?;
@@ -83,7 +84,7 @@ fn do_last<R: AllocGlobal + Threads + Wait + Sync, D: Desk + Send, G: Gate + Syn
         (D.state desk.old) (D.state desk.new) result }
     ensures receipts { let shown = gate_of G.closes G.last in
         let s = settings_in assignment.now in
-        Gives (receipts_of s.plain 1) (numbers_in s (traffic_in assignment.now))
+        Gives (by_workers s.plain 1) (numbers_in s (traffic_in assignment.now))
         (shown gate.old) (shown gate.new) result }
 {
     let number = assignment.settings.iterations;
@@ -113,7 +114,7 @@ pub(crate) fn iterate<R: AllocGlobal + Threads + Wait + Sync, D: Desk + Send, G:
         (D.state desk.old) (D.state desk.new) result }
     ensures receipts { let shown = gate_of G.closes G.last in
         let s = settings_in assignment.now in
-        Gives (receipts_of s.plain s.iterations) (numbers_in s (traffic_in assignment.now))
+        Gives (by_workers s.plain s.iterations) (numbers_in s (traffic_in assignment.now))
         (shown gate.old) (shown gate.new) result }
 {
     let mut it = begin(rt, assignment)?;

@@ -8,7 +8,8 @@ ghost use Rattle.assign_command.specs.Calls.{OnlyWatches};
 ghost use Rattle.commands.specs.Calls.{PutsAll};
 ghost use Rattle.commands.specs.Outputs.{end_lines};
 ghost use Rattle.assign_command.specs.Progress.{HaltsIn, IsWatched};
-ghost use Rattle.assign_command.specs.Receipts.{Gives, numbers_in, receipts_of};
+ghost use Rattle.assign_command.specs.Receipts.{Gives, numbers_in};
+ghost use Rattle.commands.specs.Works.{by_workers};
 
 use crate::halt::Halt;
 use assignment::Assignment;
@@ -115,7 +116,7 @@ pub(crate) fn load_watched<R: AllocGlobal + Threads + Wait + Sync, D: Desk + Sen
         (HaltsIn s traffic iteration routes.now) (D.state desk.old) (D.state desk.new) result }
     ensures receipts { let shown = gate_of G.closes G.last in
         let s = settings_in assignment.now in
-        Gives (receipts_of s.plain 1) (numbers_in s (traffic_in assignment.now))
+        Gives (by_workers s.plain 1) (numbers_in s (traffic_in assignment.now))
         (shown gate.old) (shown gate.new) result }
 {
     if assignment.settings.plain {

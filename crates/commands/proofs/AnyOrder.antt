@@ -8,16 +8,14 @@ use Rattle.dta_model.specs.declared.loaded.Journey.{Journey}
 use Rattle.dta_model.proofs.AnyOrder.{any_order, same_journeys}
 use Rattle.link_times.proofs.AnyOrder.{same_times}
 use Rattle.gap.specs.declared.line.GapLine.{GapLine}
-use Rattle.reports.specs.Texts.{agent_text_by, gap_text, link_time_text, report_text}
-use Rattle.dta_words.specs.declared.command.Command.{Command}
-use Rattle.dta_words.specs.declared.command.Command.TheVariants as command
 use Rattle.dta_words.specs.declared.command.Settings.{Settings}
 use Rattle.desk_io.specs.declared.desk.Output.TheVariants as output
 use Rattle.assignment.specs.Assignment.{AreIterations, Traffic, VehicleRoutes, end_of, plan_of, summary_of, times_of}
 use Rattle.assignment.proofs.Determined.{RouteLaws, by-same-times, same-lines, same-routes}
+use Rattle.reports.specs.declared.summary.Summary.{Summary}
 use Rattle.commands.specs.Laws.{TextsInAnyOrder}
-use Rattle.commands.specs.Orders.{AreNodeOrders, NodeOrders, counts_by, end_by, journeys_by, summary_by, texts_by, times_by, trace_by, watched_by}
-use Rattle.commands.specs.Outputs.{AreToldSteps, AreWatchLines, AreWatchTexts, OutText, asked_link, but_watch, counts_out, end_lines, is_watch, last_texts, text_to, through_asked, watch_text}
+use Rattle.commands.specs.Orders.{AreNodeOrders, NodeOrders, counts_by, end_by, journeys_by, summary_by, times_by, told_by, trace_by, watched_by}
+use Rattle.commands.specs.Outputs.{AreToldSteps, AreWatchLines, AreWatchTexts, OutText, Told, asked_link, but_watch, counts_out, end_lines, is_watch, last_texts, text_to, texts_told, through_asked, told_of, watch_text}
 use Rattle.counts.specs.Text.{counts_text}
 use Rattle.counts.specs.Through.{through_counts, through_counts_in}
 use Rattle.counts.specs.Turns.{turn_counts}
@@ -74,36 +72,14 @@ module _ (s : Settings) (traffic : Traffic) (order : NodeOrders) (all : AreNodeO
       ∙ ap (λ (t : List ThroughCount). text_to output.Counts (counts_text traffic.net (turn_counts (plan_of s traffic last) s.bucket) t s.bucket s.horizon))
       (through-same last (asked_link traffic.net s.link))
 
-  texts-same : (c : Command) (last : VehicleRoutes) (since : Option (List ℕ)) (lines : List GapLine) (line : GapLine)
-      → texts_by c s traffic order last since lines line ≡ last_texts c s traffic last since lines line
-  texts-same command.Assign last since lines line =
-      ap (λ (j : List Journey). text_to output.Agent (agent_text_by traffic.net traffic.trips last j since)
-      ∷ text_to output.LinkTime (link_time_text traffic.net (times_by s traffic order last))
-      ∷ text_to output.Gap (gap_text lines)
-      ∷ text_to output.Report (report_text (summary_by s traffic order last line)) ∷ []) (journeys-same last)
-      ∙ ap (λ (t : TimeTable).
-      text_to output.Agent (agent_text_by traffic.net traffic.trips last (journeys_of (plan_of s traffic last)) since)
-      ∷ text_to output.LinkTime (link_time_text traffic.net t) ∷ text_to output.Gap (gap_text lines)
-      ∷ text_to output.Report (report_text (summary_by s traffic order last line)) ∷ []) (times-same last)
-      ∙ ap (λ x.
-      text_to output.Agent (agent_text_by traffic.net traffic.trips last (journeys_of (plan_of s traffic last)) since)
-      ∷ text_to output.LinkTime (link_time_text traffic.net (times_of s traffic last))
-      ∷ text_to output.Gap (gap_text lines) ∷ text_to output.Report (report_text x) ∷ [])
-      (summary-same last line)
-  texts-same (command.Demo n) last since lines line =
-      ap (λ x. text_to output.Report (report_text x) ∷ []) (summary-same last line)
-  texts-same command.Freeflow last since lines line =
-      ap (λ x. text_to output.Report (report_text x) ∷ []) (summary-same last line)
-  texts-same command.Skim last since lines line =
-      ap (λ x. text_to output.Report (report_text x) ∷ []) (summary-same last line)
-  texts-same command.Sweep last since lines line =
-      ap (λ x. text_to output.Report (report_text x) ∷ []) (summary-same last line)
-  texts-same command.Audit last since lines line =
-      ap (λ x. text_to output.Report (report_text x) ∷ []) (summary-same last line)
-  texts-same command.Counts last since lines line =
-      ap (λ x. x ∷ text_to output.Report (report_text (summary_by s traffic order last line)) ∷ []) (counts-same last)
-      ∙ ap (λ x. counts_out s traffic (turn_counts (plan_of s traffic last) s.bucket) (through_counts (plan_of s traffic last))
-      ∷ text_to output.Report (report_text x) ∷ []) (summary-same last line)
+  told-same : (last : VehicleRoutes) (line : GapLine) → told_by s traffic order last line ≡ told_of s traffic last line
+  told-same last line =
+      let by = told_by s traffic order last line in
+      let is = told_of s traffic last line in
+      ap (λ (x : List Journey). record by { journeys = x }) (journeys-same last)
+      ∙ ap (λ (x : TimeTable). record by { journeys = is.journeys; times = x }) (times-same last)
+      ∙ ap (λ (x : OutText). record is { counts = x; summary = by.summary }) (counts-same last)
+      ∙ ap (λ (x : Summary). record is { summary = x }) (summary-same last line)
 
   none-left-by : (number : ℕ) (routes : List VehicleRoutes) → but_watch (watched_by s traffic order number routes) ≡ []
   none-left-by number [] = refl
@@ -135,18 +111,18 @@ texts_in_any_order laws s traffic order all xs ys a b =
     let lines : a.lines ≡ b.lines = same-lines laws (times_of s traffic) traffic a.routes b.routes a.lines b.lines it b.iterations
     routes (a.with_gaps ∙ sym a.as_many) (a.with_gaps ∙ sym b.with_gaps) in
     let since : a.since ≡ b.since = same-since laws s traffic s.start a.since b.since a.since_told b.since_told in
-    let last : texts_by s.command s traffic order a.last a.since a.lines a.line ≡ last_texts s.command s traffic b.last b.since b.lines b.line =
-    texts-same s traffic order all s.command a.last a.since a.lines a.line
+    let last : texts_told s.command traffic a.last (told_by s traffic order a.last a.line) a.since a.lines ≡ last_texts s.command s traffic b.last b.since b.lines b.line =
+    ap (λ (t : Told). texts_told s.command traffic a.last t a.since a.lines) (told-same s traffic order all a.last a.line)
     ∙ lasts-by s traffic a.routes b.routes a.lines b.lines a.last b.last a.line b.line a.since b.since routes
     lines since a.last_routes b.last_routes a.last_line b.last_line in
     record {
       but_watch_lines =
-          but-watch-is xs (watched_by s traffic order 1 a.routes) (texts_by s.command s traffic order a.last a.since a.lines a.line) a.texts_are
+          but-watch-is xs (watched_by s traffic order 1 a.routes) (texts_told s.command traffic a.last (told_by s traffic order a.last a.line) a.since a.lines) a.texts_are
           (none-left-by s traffic order all 1 a.routes)
           ∙ ap but_watch last ∙ sym (but-watch-assigned s traffic ys b);
       plain = λ plain.
           let watched : watched_by s traffic order 1 a.routes ≡ b.watched =
           ap (watched_by s traffic order 1) routes ∙ watched-same-by s traffic order all 1 b.routes b.watched plain b.watch_lines in
-          a.texts_are ∙ ap (λ (w : List OutText). w ++ texts_by s.command s traffic order a.last a.since a.lines a.line) watched
+          a.texts_are ∙ ap (λ (w : List OutText). w ++ texts_told s.command traffic a.last (told_by s traffic order a.last a.line) a.since a.lines) watched
           ∙ ap (λ (l : List OutText). b.watched ++ l) last ∙ sym b.texts_are;
     }

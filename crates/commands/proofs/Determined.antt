@@ -17,7 +17,8 @@ use Rattle.assignment.proofs.Determined.{RouteLaws, same-lines, same-routes}
 use Rattle.sweep.specs.Laws.{Agree, ScenariosStandAlone}
 use Rattle.sweep.specs.Scenarios.{AreScenarios, HasTexts, traffic_at}
 use Rattle.sweep.specs.declared.scenario.Scenario.{Scenario}
-use Rattle.commands.specs.Outputs.{AreAssigned, AreSinceTold, AreTexts, AreToldSteps, AreWatchLines, AreWatchTexts, OutText, but_watch, is_watch, last_texts, skim_texts, sweep_texts, watch_text}
+use Rattle.commands.specs.Outputs.{AreAssigned, AreSinceTold, AreToldSteps, AreWatchLines, AreWatchTexts, OutText, but_watch, is_watch, last_texts, skim_texts, sweep_texts, watch_text}
+use Rattle.commands.specs.Works.{AreTexts}
 use Rattle.skims.specs.GivenTimes.{table_given}
 use Rattle.skims.proofs.Determined.{skims_are_determined}
 

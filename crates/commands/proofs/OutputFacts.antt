@@ -17,7 +17,7 @@ use Rattle.dta_words.specs.declared.command.Settings.{Settings}
 use Rattle.assignment.specs.Assignment.{Traffic, VehicleRoutes, end_of, plan_of, summary_of}
 use Rattle.counts.specs.Through.{through_counts}
 use Rattle.counts.specs.Turns.{turn_counts}
-use Rattle.commands.specs.Outputs.{AreToldSteps, AreWatchLines, AreWatchTexts, IsCutOff, OutText, end_lines, counts_out, grown_by, last_texts, table_texts, text_to}
+use Rattle.commands.specs.Outputs.{AreToldSteps, AreWatchLines, AreWatchTexts, IsCutOff, OutText, end_lines, counts_out, grown_by, last_texts, table_texts, text_to, told_of}
 
 -- some texts went out, and then others
 pub grown-append : (xs ys : List OutText) (t : Taken) → grown_by (xs ++ ys) t ≡ grown_by ys (grown_by xs t)
@@ -119,39 +119,28 @@ pub ruleset parts = (grown-append, cut-later, grown-one, cut-one)
 module _ (s : Settings) (traffic : Traffic) (r : VehicleRoutes) (since : Option (List ℕ)) (lines : List GapLine) (line : GapLine) where
   -- the tables and then the report went out
   pub tables-reported : (k : Command) (before mid now : Taken) → k ≡ command.Assign
-      → mid ≡ grown_by (table_texts s traffic r since lines) before
+      → mid ≡ grown_by (table_texts traffic r (told_of s traffic r line) since lines) before
       → now ≡ grown output.Report (report_text (summary_of s traffic r line)) mid
       → now ≡ grown_by (last_texts k s traffic r since lines line) before
   tables-reported k before mid now e tables report =
       rw e (report ∙ ap (grown output.Report (report_text (summary_of s traffic r line))) tables
-      ∙ sym (grown-append (table_texts s traffic r since lines) (text_to output.Report (report_text (summary_of s traffic r line)) ∷ []) before))
+      ∙ sym (grown-append (table_texts traffic r (told_of s traffic r line) since lines) (text_to output.Report (report_text (summary_of s traffic r line)) ∷ []) before))
 
   -- the report was cut off after the tables
   pub report-cut : (k : Command) (before mid now : Taken) → k ≡ command.Assign
-      → mid ≡ grown_by (table_texts s traffic r since lines) before
+      → mid ≡ grown_by (table_texts traffic r (told_of s traffic r line) since lines) before
       → IsPartOut output.Report (report_text (summary_of s traffic r line)) mid now
       → IsCutOff (last_texts k s traffic r since lines line) before now
   report-cut k before mid now e tables part =
-      rw e (cut-later (table_texts s traffic r since lines) (text_to output.Report (report_text (summary_of s traffic r line)) ∷ []) before now
+      rw e (cut-later (table_texts traffic r (told_of s traffic r line) since lines) (text_to output.Report (report_text (summary_of s traffic r line)) ∷ []) before now
       (rw (← tables) (cut-one output.Report (report_text (summary_of s traffic r line)) mid now part)))
 
   -- the tables were cut off
   pub tables-cut : (k : Command) (before now : Taken) → k ≡ command.Assign
-      → IsCutOff (table_texts s traffic r since lines) before now
+      → IsCutOff (table_texts traffic r (told_of s traffic r line) since lines) before now
       → IsCutOff (last_texts k s traffic r since lines line) before now
   tables-cut k before now e cut =
-      rw e (cut-sooner (table_texts s traffic r since lines) (text_to output.Report (report_text (summary_of s traffic r line)) ∷ []) before now cut)
-
-  -- the report of a demonstration went out, or was cut off
-  pub demo-reported : (k : Command) (n : ℕ) (before now : Taken) → k ≡ command.Demo n
-      → now ≡ grown output.Report (report_text (summary_of s traffic r line)) before
-      → now ≡ grown_by (last_texts k s traffic r since lines line) before
-  demo-reported k n before now e report = rw e report
-
-  pub demo-cut : (k : Command) (n : ℕ) (before now : Taken) → k ≡ command.Demo n
-      → IsPartOut output.Report (report_text (summary_of s traffic r line)) before now
-      → IsCutOff (last_texts k s traffic r since lines line) before now
-  demo-cut k n before now e part = rw e (cut-one output.Report (report_text (summary_of s traffic r line)) before now part)
+      rw e (cut-sooner (table_texts traffic r (told_of s traffic r line) since lines) (text_to output.Report (report_text (summary_of s traffic r line)) ∷ []) before now cut)
 
   -- the counts and then the report went out
   module _ (k : Command) (before mid now : Taken) (asks : k ≡ command.Counts) where
@@ -180,40 +169,11 @@ module _ (s : Settings) (traffic : Traffic) (r : VehicleRoutes) (since : Option 
       rw e (cut-sooner (counts_out s traffic (turn_counts (plan_of s traffic r) s.bucket) (through_counts (plan_of s traffic r)) ∷ [])
       (text_to output.Report (report_text (summary_of s traffic r line)) ∷ []) before now cut)
 
-  -- and so of another command
-  pub skim-reported : (k : Command) (before now : Taken) → k ≡ command.Skim
-      → now ≡ grown output.Report (report_text (summary_of s traffic r line)) before
-      → now ≡ grown_by (last_texts k s traffic r since lines line) before
-  skim-reported k before now e report = rw e report
-
-  pub skim-cut : (k : Command) (before now : Taken) → k ≡ command.Skim
-      → IsPartOut output.Report (report_text (summary_of s traffic r line)) before now
-      → IsCutOff (last_texts k s traffic r since lines line) before now
-  skim-cut k before now e part =
-      rw e (cut-one output.Report (report_text (summary_of s traffic r line)) before now part)
-
-  pub free-reported : (k : Command) (before now : Taken) → k ≡ command.Freeflow
-      → now ≡ grown output.Report (report_text (summary_of s traffic r line)) before
-      → now ≡ grown_by (last_texts k s traffic r since lines line) before
-  free-reported k before now e report = rw e report
-
-  pub free-cut : (k : Command) (before now : Taken) → k ≡ command.Freeflow
-      → IsPartOut output.Report (report_text (summary_of s traffic r line)) before now
-      → IsCutOff (last_texts k s traffic r since lines line) before now
-  free-cut k before now e part =
-      rw e (cut-one output.Report (report_text (summary_of s traffic r line)) before now part)
-
 pub ruleset lasts = (
   tables-reported,
   report-cut,
   tables-cut,
-  demo-reported,
-  demo-cut,
   counts-reported,
   counts-report-cut,
   counts-cut,
-  skim-reported,
-  skim-cut,
-  free-reported,
-  free-cut,
 )

@@ -1,5 +1,5 @@
 -- The work of a command, from what its parts say.
-use Rattle.std.proofs.Common.{◌≡◌, ℕ, zero, suc, ◌+◌, ◌<◌, ◌-◌, List, [], ◌∷◌, length, refl, sym, ap, subst, arith, inl, inr, ◌∙◌}
+use Rattle.std.proofs.Common.{◌≡◌, ℕ, zero, suc, ◌+◌, ◌<◌, List, [], ◌∷◌, length, refl, sym, ap, subst, arith, inl, inr, ◌∙◌}
 use Rattle.std.specs.Prelude.{All, None, Some, Result, Ok, Err, slice_get}
 use Rattle.std.proofs.lemmas.List.Elements.{All-head, All-tail}
 use Rattle.std.proofs.lemmas.Option.{slice_get_within}
@@ -29,8 +29,8 @@ use Rattle.start_table.specs.Starts.{AreStartRows}
 use Rattle.assignment.specs.Assignment.{Traffic}
 use Rattle.jobs.specs.Jobs.{JobRows, traffic_of}
 use Rattle.desk_io.specs.State.{DeskState}
-use Rattle.commands.specs.Works.{Works}
-use Rattle.commands.specs.Outputs.{AreAudited, AreSkimmed, AreSwept, AreTexts, AreTextsSoFar, AreWatched, AreWatchedSoFar, IsAudited, audit_texts, free_texts, skim_texts, sweep_texts}
+use Rattle.commands.specs.Works.{AreTexts, AreTextsSoFar, AreWatchedSoFar, Works}
+use Rattle.commands.specs.Outputs.{AreAudited, AreSkimmed, AreSwept, AreWatched, IsAudited, audit_texts, free_texts, skim_texts, sweep_texts}
 use Rattle.commands.specs.declared.status.Status.TheVariants as status
 
 -- the work of `freeflow`

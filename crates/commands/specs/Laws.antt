@@ -9,7 +9,8 @@ use Rattle.dta_words.specs.declared.command.Command.TheVariants as command
 use Rattle.dta_words.specs.declared.command.Settings.{Settings}
 use Rattle.jobs.specs.Jobs.{JobRows}
 use Rattle.commands.specs.Orders.{AreAssignedBy, AreNodeOrders, NodeOrders}
-use Rattle.commands.specs.Outputs.{AreAssigned, AreTexts, IsAudited, OutText, but_watch, text_to}
+use Rattle.commands.specs.Outputs.{AreAssigned, IsAudited, OutText, but_watch, text_to}
+use Rattle.commands.specs.Works.{AreTexts}
 
 -- two lists of texts of a job are the same but for Watch, and where the loader is plain altogether
 pub record AreDetermined (s : Settings) (a b : List OutText) : Type 0 where

@@ -1,7 +1,6 @@
 -- Assignments whose loadings take the nodes of a step in another order.
 use Rattle.std.specs.Prelude.{ℕ, ◌≡◌, ◌+◌, ◌-◌, List, [], ◌∷◌, ◌++◌, length, Option, Some}
 use Rattle.std.specs.Prelude.{slice_get}
-use Rattle.desk_io.specs.declared.desk.Output.TheVariants as output
 use Rattle.dta_model.specs.LinkTimes.{TimeTable, table_in}
 use Rattle.dta_model.specs.Loading.{journeys_in}
 use Rattle.dta_model.specs.Orders.{AreOrders, trace_in}
@@ -10,16 +9,13 @@ use Rattle.dta_model.specs.Trace.{Move}
 use Rattle.dta_model.specs.declared.eight.Eight.{Eight}
 use Rattle.dta_model.specs.declared.loaded.Journey.{Journey}
 use Rattle.gap.specs.declared.line.GapLine.{GapLine}
-use Rattle.reports.specs.Texts.{agent_text_by, gap_text, link_time_text, report_text}
 use Rattle.reports.specs.declared.summary.Summary.{Summary}
-use Rattle.dta_words.specs.declared.command.Command.{Command}
-use Rattle.dta_words.specs.declared.command.Command.TheVariants as command
 use Rattle.dta_words.specs.declared.command.Settings.{Settings}
 use Rattle.assignment.specs.Assignment.{AreIterationsBy, Traffic, VehicleRoutes, plan_of}
 use Rattle.assignment.specs.Assignment.{summary_of}
 use Rattle.counts.specs.Through.{through_counts_in}
 use Rattle.counts.specs.Turns.{turn_counts_in}
-use Rattle.commands.specs.Outputs.{AreSinceTold, OutText, counts_out, end_lines, text_to}
+use Rattle.commands.specs.Outputs.{AreSinceTold, OutText, Told, counts_out, end_lines, texts_told}
 
 -- for the loading over each routes an order of the nodes, for each of its steps
 abbrev pub NodeOrders : Type 0
@@ -63,21 +59,14 @@ counts_by s traffic order routes =
     counts_out s traffic (turn_counts_in loading s.bucket trace)
     (λ link. through_counts_in loading link trace)
 
--- the texts after the last iteration
-abbrev pub texts_by :
-    Command → Settings → Traffic → NodeOrders → VehicleRoutes → Option (List ℕ) → List GapLine
-    → GapLine → List OutText
-texts_by command.Assign s traffic order last since lines line =
-    text_to output.Agent
-    (agent_text_by traffic.net traffic.trips last (journeys_by s traffic order last) since)
-    ∷ text_to output.LinkTime (link_time_text traffic.net (times_by s traffic order last))
-    ∷ text_to output.Gap (gap_text lines)
-    ∷ text_to output.Report (report_text (summary_by s traffic order last line)) ∷ []
-texts_by command.Counts s traffic order last since lines line =
-    counts_by s traffic order last
-    ∷ text_to output.Report (report_text (summary_by s traffic order last line)) ∷ []
-texts_by c s traffic order last since lines line =
-    text_to output.Report (report_text (summary_by s traffic order last line)) ∷ []
+-- what the texts after the last iteration tell of that loading
+abbrev pub told_by : Settings → Traffic → NodeOrders → VehicleRoutes → GapLine → Told
+told_by s traffic order last line = record {
+  journeys = journeys_by s traffic order last;
+  times = times_by s traffic order last;
+  counts = counts_by s traffic order last;
+  summary = summary_by s traffic order last line;
+}
 
 -- the watch lines of iterations, the first of which has this number, as the plain loader tells
 -- them: where there is a watch, that of each last state
@@ -104,4 +93,4 @@ pub record AreAssignedBy (s : Settings) (traffic : Traffic) (order : NodeOrders)
   pub since_told : AreSinceTold s.start s traffic since
   pub texts_are : texts
       ≡ watched_by s traffic order 1 routes
-      ++ texts_by s.command s traffic order last since lines line
+      ++ texts_told s.command traffic last (told_by s traffic order last line) since lines

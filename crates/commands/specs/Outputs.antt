@@ -9,10 +9,11 @@ use Rattle.desk_io.specs.Desk.{Taken, grown}
 use Rattle.desk_io.specs.Transfers.{IsPartOut}
 use Rattle.net_core.specs.declared.rows.LinkNo.{LinkNo}
 use Rattle.net_core.specs.declared.rows.NetRows.{NetRows}
-use Rattle.dta_model.specs.LinkTimes.{time_at}
+use Rattle.dta_model.specs.LinkTimes.{TimeTable, time_at}
 use Rattle.dta_model.specs.Loading.{journeys_of}
 use Rattle.dta_model.specs.State.{eight_after}
 use Rattle.dta_model.specs.declared.eight.Eight.{Eight}
+use Rattle.dta_model.specs.declared.loaded.Journey.{Journey}
 use Rattle.gap.specs.declared.line.GapLine.{GapLine}
 use Rattle.route_flows.specs.Averages.{AreSince}
 use Rattle.counts.specs.Text.{counts_text}
@@ -36,10 +37,11 @@ use Rattle.sweep.specs.declared.scenario.Scenario.{Scenario}
 use Rattle.reports.specs.Texts.{agent_text_by, free_link_time_text, free_report_text, gap_text}
 use Rattle.reports.specs.Texts.{audit_text, link_time_text, report_text, watch_line}
 use Rattle.reports.specs.Watch.{AreWatchSteps}
+use Rattle.reports.specs.declared.summary.Summary.{Summary}
 use Rattle.dta_words.specs.declared.command.Command.{Command}
 use Rattle.dta_words.specs.declared.command.Command.TheVariants as command
 use Rattle.dta_words.specs.declared.command.Settings.{Settings}
-use Rattle.jobs.specs.Jobs.{JobRows, traffic_of}
+use Rattle.jobs.specs.Jobs.{JobRows}
 
 -- a text for an output
 pub record OutText : Type 0 where
@@ -100,16 +102,6 @@ AreSinceTold true s traffic None = ⊥
 AreSinceTold true s traffic (Some numbers) =
     AreSince traffic.net traffic.start traffic.trips s.iterations numbers
 
--- Agent, LinkTime and Gap after the last iteration, Agent with the iterations of the routes where
--- these are told
-abbrev pub table_texts :
-    Settings → Traffic → VehicleRoutes → Option (List ℕ) → List GapLine → List OutText
-table_texts s traffic last since lines =
-    text_to output.Agent
-    (agent_text_by traffic.net traffic.trips last (journeys_of (plan_of s traffic last)) since)
-    ∷ text_to output.LinkTime (link_time_text traffic.net (times_of s traffic last))
-    ∷ text_to output.Gap (gap_text lines) ∷ []
-
 -- the link with this identifier, if one is asked for and the network has it
 abbrev pub asked_link : NetRows → Option ℕ → Option LinkNo
 asked_link net None = None
@@ -128,20 +120,56 @@ counts_out s traffic turns through =
     text_to output.Counts (counts_text traffic.net turns
     (through_asked through (asked_link traffic.net s.link)) s.bucket s.horizon)
 
--- the texts after the last iteration: `assign` has its tables and the report, `counts` its counts
--- and the report, and any other command that comes there the report alone
+-- what the texts after the last iteration tell of its loading
+pub record Told : Type 0 where
+  pub journeys : List Journey
+  pub times : TimeTable
+  pub counts : OutText
+  pub summary : Summary
+
+abbrev pub told_of : Settings → Traffic → VehicleRoutes → GapLine → Told
+told_of s traffic last line = record {
+  journeys = journeys_of (plan_of s traffic last);
+  times = times_of s traffic last;
+  counts = counts_out s traffic (turn_counts (plan_of s traffic last) s.bucket)
+      (through_counts (plan_of s traffic last));
+  summary = summary_of s traffic last line;
+}
+
+-- Agent, LinkTime and Gap after the last iteration, Agent with the iterations of the routes where
+-- these are told
+abbrev pub table_texts :
+    Traffic → VehicleRoutes → Told → Option (List ℕ) → List GapLine → List OutText
+table_texts traffic last told since lines =
+    text_to output.Agent (agent_text_by traffic.net traffic.trips last told.journeys since)
+    ∷ text_to output.LinkTime (link_time_text traffic.net told.times)
+    ∷ text_to output.Gap (gap_text lines) ∷ []
+
+-- what goes out after the last iteration, before the report: the tables of `assign`, the counts of
+-- `counts`, and nothing of another command
+abbrev pub texts_before_report :
+    Command → Traffic → VehicleRoutes → Told → Option (List ℕ) → List GapLine → List OutText
+texts_before_report command.Freeflow traffic last told since lines = []
+texts_before_report command.Assign traffic last told since lines =
+    table_texts traffic last told since lines
+texts_before_report (command.Demo n) traffic last told since lines = []
+texts_before_report command.Skim traffic last told since lines = []
+texts_before_report command.Counts traffic last told since lines = told.counts ∷ []
+texts_before_report command.Sweep traffic last told since lines = []
+texts_before_report command.Audit traffic last told since lines = []
+
+abbrev pub texts_told :
+    Command → Traffic → VehicleRoutes → Told → Option (List ℕ) → List GapLine → List OutText
+texts_told c traffic last told since lines =
+    texts_before_report c traffic last told since lines
+    ++ text_to output.Report (report_text told.summary) ∷ []
+
+-- the texts after the last iteration
 abbrev pub last_texts :
     Command → Settings → Traffic → VehicleRoutes → Option (List ℕ) → List GapLine → GapLine
     → List OutText
-last_texts command.Assign s traffic last since lines line =
-    table_texts s traffic last since lines
-    ++ text_to output.Report (report_text (summary_of s traffic last line)) ∷ []
-last_texts command.Counts s traffic last since lines line =
-    counts_out s traffic (turn_counts (plan_of s traffic last) s.bucket)
-    (through_counts (plan_of s traffic last))
-    ∷ text_to output.Report (report_text (summary_of s traffic last line)) ∷ []
 last_texts c s traffic last since lines line =
-    text_to output.Report (report_text (summary_of s traffic last line)) ∷ []
+    texts_told c traffic last (told_of s traffic last line) since lines
 
 -- the texts of `freeflow`
 abbrev pub free_texts : NetRows → List OutText
@@ -232,29 +260,3 @@ pub record AreWatched (s : Settings) (traffic : Traffic) (texts : List OutText) 
   pub iterations : AreIterations s traffic routes lines
   pub few : length routes ≤ s.iterations
   pub watch_lines : AreWatchTexts s traffic 1 routes texts
-
--- what a run's work has put before its outputs: the watch lines of an assignment as far as it
--- came, and nothing where the command does none
-abbrev pub AreWatchedSoFar : Command → Settings → JobRows → List OutText → Type 0
-AreWatchedSoFar command.Freeflow s job texts = texts ≡ []
-AreWatchedSoFar command.Skim s job texts = texts ≡ []
-AreWatchedSoFar command.Sweep s job texts = texts ≡ []
-AreWatchedSoFar command.Audit s job texts = texts ≡ []
-AreWatchedSoFar c s job texts = AreWatched s (traffic_of job) texts
-
--- the texts of a run's whole work
-abbrev pub AreTexts : Command → Settings → JobRows → List OutText → Type 0
-AreTexts command.Freeflow s job texts = texts ≡ free_texts job.net
-AreTexts command.Skim s job texts = AreSkimmed s job texts
-AreTexts command.Sweep s job texts = AreSwept s job texts
-AreTexts command.Audit s job texts = AreAudited s job texts
-AreTexts c s job texts = AreAssigned s (traffic_of job) texts
-
--- texts of a run's work as far as it came
-abbrev pub AreTextsSoFar : Command → Settings → JobRows → List OutText → Type 0
-AreTextsSoFar command.Freeflow s job texts = texts ≡ free_texts job.net
-AreTextsSoFar command.Skim s job texts = AreSkimmed s job texts
-AreTextsSoFar command.Sweep s job texts = AreSwept s job texts
-AreTextsSoFar command.Audit s job texts = AreAudited s job texts
-AreTextsSoFar c s job texts =
-    AreAssigned s (traffic_of job) texts ⊎ AreWatched s (traffic_of job) texts

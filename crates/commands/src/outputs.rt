@@ -10,6 +10,7 @@ ghost use Rattle.assignment.specs.Lent.{IsAssignment, plan_in, settings_in, traf
 ghost use Rattle.assignment.specs.Progress.{IsLast};
 ghost use Rattle.commands.specs.Calls.{PutsAll};
 ghost use Rattle.commands.specs.Outputs.{AreSinceTold, counts_out, last_texts, table_texts};
+ghost use Rattle.commands.specs.Outputs.{told_of};
 ghost use Rattle.commands.specs.Counted.{AreCountsOf, HasCounts};
 
 use crate::iterated::Iterated;
@@ -47,8 +48,9 @@ fn put_tables<D: Desk>(desk: &mut D, assignment: &Assignment, it: &Iterated) -> 
     requires last { IsLast (settings_in assignment.now) (traffic_in assignment.now) it.now.last }
     requires since { let s = settings_in assignment.now in
         AreSinceTold s.start s (traffic_in assignment.now) it.now.since }
-    ensures { PutsAll (table_texts (settings_in assignment.now) (traffic_in assignment.now)
-        it.now.last.routes it.now.since it.now.last.lines.items)
+    ensures { let traffic = traffic_in assignment.now in let last = it.now.last in
+        let told = told_of (settings_in assignment.now) traffic last.routes last.line in
+        PutsAll (table_texts traffic last.routes told it.now.since last.lines.items)
         (D.state desk.old) (D.state desk.new) result }
 {
     put_vehicles(desk, assignment, it)?;

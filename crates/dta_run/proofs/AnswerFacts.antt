@@ -10,13 +10,14 @@ use Rattle.dta_words.specs.Grammar.{settings_of}
 use Rattle.dta_words.specs.declared.command.Settings.{Settings}
 use Rattle.commands.specs.declared.status.Status.{Status}
 use Rattle.commands.specs.declared.status.Status.TheVariants as status
-use Rattle.jobs.specs.Jobs.{read_tables, source}
+use Rattle.jobs.specs.TableRows.{TableRows, no_rows}
+use Rattle.jobs.specs.Inputs.{read_tables, source_of}
 use Rattle.jobs.specs.Causes.{ReadsFailed}
+use Rattle.jobs.specs.Tables.{ReachedAmong}
+use Rattle.jobs.specs.Verdict.{Accepted, AreToldBy, Refused, Verdict, verdict, verdict_by}
 use Rattle.dta_run.specs.Outcome.{Answers, IsHindered, IsReadBy, IsRefused, IsUnread, Means}
 use Rattle.desk_io.specs.State.{DeskState}
 use Rattle.commands.specs.Status.{refusal_status}
-use Rattle.jobs.specs.Tables.{ReachedAmong, TableRows, no_rows}
-use Rattle.jobs.specs.Verdict.{Verdict, Refused, Accepted, AreToldBy, verdict, verdict_by}
 use Rattle.jobs.proofs.VerdictFacts.{IsShown, all-told, verdict-job, verdict-refused}
 
 -- a run that was hindered may have any verdict
@@ -54,7 +55,7 @@ unread : (words : List (List ℕ)) (t : Table) (before after : DeskState)
 unread words t before after h failed =
     let s = h.settings in
     let one : IsReadBy (Some s) t = reached-one s (read_tables s.command s.start) t (λ _. IsBegun t) no_rows
-    (source s.command before.left) h.cause.rest h.cause.part in
+    ((source_of s.command).left before.left) h.cause.rest h.cause.part in
     (t, subst (λ (o : Option Settings). IsReadBy o t) (sym h.told) one, h.report, failed)
 
 answers-refused : (words : List (List ℕ)) (texts : Table → List ℕ) (r : Refusal) (before after : DeskState) → IsShown r

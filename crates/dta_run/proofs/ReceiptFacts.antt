@@ -12,13 +12,13 @@ use Rattle.reports.specs.declared.refusal.Refusal.{Refusal}
 use Rattle.reports.specs.declared.refusal.Refusal.TheVariants as refusal
 use Rattle.dta_run.specs.Headline.{Headline}
 use Rattle.jobs.specs.Jobs.{IsAcceptedJob, JobRows, traffic_of}
+use Rattle.jobs.specs.Verdict.{Accepted, AreToldBy, Refused, Verdict, verdict, verdict_by}
 use Rattle.commands.specs.Laws.{OneListOfTexts}
 use Rattle.desk_io.specs.State.{DeskState}
 use Rattle.commands.specs.Works.{Works}
 use Rattle.assign_command.specs.Receipts.{TookAtMost, WorkGives, numbers_in, receipts_in, taking_all}
 use Rattle.dta_run.specs.Receipts.{HasWorked, RunGives, ToldGives}
 use Rattle.commands.specs.Status.{refusal_status}
-use Rattle.jobs.specs.Verdict.{Verdict, Accepted, Refused, AreToldBy, verdict, verdict_by}
 use Rattle.commands.specs.declared.status.Status.{Status}
 use Rattle.commands.specs.declared.status.Status.TheVariants as status
 use Rattle.jobs.proofs.VerdictFacts.{all-told, verdict-job}

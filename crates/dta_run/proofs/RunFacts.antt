@@ -1,5 +1,5 @@
 -- What a run's answer says, from what its parts say.
-use Rattle.std.proofs.Common.{◌≡◌, ℕ, ◌-◌, List, refl, sym, ap, subst, inl, inr, ◌∙◌}
+use Rattle.std.proofs.Common.{◌≡◌, ℕ, List, refl, sym, ap, subst, inl, inr, ◌∙◌}
 use Rattle.std.specs.Prelude.{Some}
 use Rattle.desk_io.specs.declared.desk.Output.TheVariants as output
 use Rattle.desk_io.specs.Faults.{Rose}
@@ -10,13 +10,13 @@ use Rattle.reports.specs.declared.refusal.Refusal.TheVariants as refusal
 use Rattle.dta_words.specs.Grammar.{settings_of}
 use Rattle.dta_words.specs.declared.command.Settings.{Settings}
 use Rattle.jobs.specs.Jobs.{IsAcceptedJob, JobRows}
-use Rattle.desk_io.specs.State.{DeskState}
 use Rattle.jobs.specs.Causes.{IsCause}
+use Rattle.jobs.specs.Stops.{HasFault}
+use Rattle.desk_io.specs.State.{DeskState}
 use Rattle.commands.specs.Works.{IsDifferent, LoadsSoundly, Works}
 use Rattle.dta_run.specs.Outcome.{IsRefused, Means, ReportsLine}
 use Rattle.commands.specs.Outputs.{IsCutOff, grown_by}
 use Rattle.commands.specs.Status.{refusal_status}
-use Rattle.jobs.specs.Stops.{HasFault}
 use Rattle.commands.specs.declared.status.Status.{Status}
 use Rattle.commands.specs.declared.status.Status.TheVariants as status
 

@@ -12,13 +12,14 @@ use Rattle.dta_words.specs.Grammar.{settings_of}
 use Rattle.dta_words.specs.declared.command.Settings.{Settings}
 use Rattle.commands.specs.declared.status.Status.{Status}
 use Rattle.commands.specs.declared.status.Status.TheVariants as status
-use Rattle.jobs.specs.Jobs.{IsAcceptedJob, JobRows, read_tables}
-use Rattle.commands.specs.Outputs.{AreTexts, AreTextsSoFar, AreWatchedSoFar, IsCutOff, OutText}
-use Rattle.commands.specs.Outputs.{grown_by}
-use Rattle.commands.specs.Status.{refusal_status}
-use Rattle.jobs.specs.Verdict.{Verdict, Refused, Accepted}
+use Rattle.jobs.specs.Inputs.{read_tables}
+use Rattle.jobs.specs.Jobs.{IsAcceptedJob, JobRows}
 use Rattle.jobs.specs.Causes.{EndsForMemory, IsCause, ReadsFailed}
-use Rattle.commands.specs.Works.{IsDifferent, LoadsSoundly, PutsFailed}
+use Rattle.jobs.specs.Verdict.{Accepted, Refused, Verdict}
+use Rattle.commands.specs.Outputs.{IsCutOff, OutText, grown_by}
+use Rattle.commands.specs.Status.{refusal_status}
+use Rattle.commands.specs.Works.{AreTexts, AreTextsSoFar, AreWatchedSoFar, IsDifferent}
+use Rattle.commands.specs.Works.{LoadsSoundly, PutsFailed}
 
 -- Report alone was put: the line of a refusal, whole unless puts failed
 abbrev pub ReportsLine : Refusal → DeskState → DeskState → Type 0

@@ -5,7 +5,7 @@ use Rattle.dta_words.specs.Grammar.{settings_of}
 use Rattle.dta_words.specs.declared.command.Settings.{Settings}
 use Rattle.loader.specs.Gates.{GateState}
 use Rattle.jobs.specs.Jobs.{IsAcceptedJob, JobRows}
-use Rattle.jobs.specs.Verdict.{Verdict, Refused, Accepted}
+use Rattle.jobs.specs.Verdict.{Accepted, Refused, Verdict}
 use Rattle.commands.specs.declared.status.Status.{Status}
 use Rattle.commands.specs.declared.status.Status.TheVariants as status
 use Rattle.assign_command.specs.Receipts.{WorkGives}

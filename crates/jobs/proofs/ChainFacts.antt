@@ -9,8 +9,9 @@ use Rattle.desk_io.specs.Faults.{Rose}
 use Rattle.reports.specs.declared.refusal.Refusal.TheVariants as refusal
 use Rattle.jobs.specs.Calls.{OnlyReads}
 use Rattle.desk_io.specs.State.{DeskState}
+use Rattle.jobs.specs.TableRows.{TableRows, all_tables, loading_tables, no_rows}
 use Rattle.jobs.specs.Stops.{StopsAmong, StopsAt}
-use Rattle.jobs.specs.Tables.{AreAccepted, ReachedAmong, IsAccepted, TableRows, all_tables, loading_tables, no_rows}
+use Rattle.jobs.specs.Tables.{AreAccepted, IsAccepted, ReachedAmong}
 use Rattle.jobs.specs.declared.stop.Stop.{Stop}
 use Rattle.jobs.specs.declared.stop.Stop.TheVariants.{Refused, Memory}
 use Rattle.dta_words.specs.declared.command.Settings.{Settings}

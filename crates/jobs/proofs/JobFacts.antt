@@ -6,7 +6,6 @@ use Rattle.std.proofs.lemmas.List.{length-map}
 use Rattle.std.proofs.lemmas.List.Elements.{All-nil}
 use Rattle.std.proofs.lemmas.Result.{IfErr-weaker, IfOk-weaker}
 use Rattle.desk_io.specs.declared.desk.Table.{Table}
-use Rattle.desk_io.specs.declared.desk.Table.TheVariants as table
 use Rattle.desk_io.specs.Desk.{Left}
 use Rattle.desk_io.specs.Faults.{Rose}
 use Rattle.desk_io.specs.MemDesk.{all_left}
@@ -21,7 +20,6 @@ use Rattle.start_table.specs.Starts.{AreStartRows}
 use Rattle.start_table.specs.declared.rows.StartRow.{StartRow}
 use Rattle.gmns_tables.specs.declared.with_windows.WithWindows.{WithWindows}
 use Rattle.dta_model.specs.Release.{in_order_of_departure, released, Released, trips_of}
-use Rattle.vehicle_release.specs.Limits.{IsFirstAbove, IsWithin}
 use Rattle.dta_model.specs.declared.trip.DemandCell.{DemandCell}
 use Rattle.dta_model.specs.declared.trip.Trip.{Trip}
 use Rattle.grid_maker.specs.Grid.{node_text, link_text, demand_text}
@@ -32,16 +30,19 @@ use Rattle.dta_words.specs.declared.command.Command.{Command}
 use Rattle.dta_words.specs.declared.command.Command.TheVariants as command
 use Rattle.dta_words.specs.declared.command.Settings.{Settings}
 use Rattle.assignment.specs.Traffic.{AreTripsBelow, IsTraffic}
-use Rattle.jobs.specs.Jobs.{AreWithin, HasRoom, HasSweepRoom, IsAcceptedJob, IsJob, IsJobOf, JobRows, LeavesOf, Assigns, Reading, TakesTimes, job_of, read_tables, released_cells, source, swept_cells, tables_of}
-use Rattle.jobs.specs.Causes.{AreCounted, HasSizes, HasTooMany, IsCauseAmong, IsCauseIn, IsCutIn, ReadsFailed}
+use Rattle.jobs.specs.TableRows.{TableRows, loading_tables, net_of, no_rows, road_rows}
+use Rattle.jobs.specs.Limits.{HasSweepRoom, Limits, loading_limits, sweep_limits}
+use Rattle.jobs.specs.Inputs.{Assigns, Inputs, TakesTimes, assignment_inputs, inputs_of, limits_of, read_tables, source_of, tables_of}
+use Rattle.jobs.specs.Jobs.{IsAcceptedJob, IsJob, IsJobOf, JobRows, Reading, job_of}
+use Rattle.jobs.specs.Causes.{AreCounted, IsCauseAmong, IsCauseIn, IsCutIn, IsPast, ReadsFailed}
+use Rattle.jobs.specs.Stops.{HasFault, Stops, StopsAmong, StopsAt, StopsIn, StopsPast, stop_at_scale}
+use Rattle.jobs.specs.Tables.{AreAccepted, IsFaulty, ReachedAmong}
 use Rattle.desk_io.specs.State.{DeskState}
 use Rattle.sweep.specs.Scales.{IsFirstTooMany}
 use Rattle.sweep.specs.declared.fault.SweepFault.{SweepFault}
 use Rattle.sweep.specs.declared.fault.SweepFault.TheVariants as sweep
-use Rattle.jobs.specs.Stops.{stop_at_scale, HasFault, Stops, StopsAmong, StopsIn, StopsJob, StopsSkim, StopsSweep, StopsAt}
 use Rattle.desk_io.proofs.DeskFacts.{before_left-empty}
 use Rattle.jobs.proofs.ChainFacts.{reached-then}
-use Rattle.jobs.specs.Tables.{AreAccepted, ReachedAmong, IsFaulty, TableRows, all_tables, audit_tables, loading_tables, net_of, network_tables, no_rows, road_rows, skim_tables}
 use Rattle.jobs.specs.declared.stop.Stop.{Stop}
 use Rattle.jobs.specs.declared.stop.Stop.TheVariants.{Refused, Memory}
 
@@ -92,54 +93,28 @@ module _ (settings : Settings) where
   reached-holds t Part P (u ∷ tables) rows left rest f (inl h) = f rows left rest h.1
   reached-holds t Part P (u ∷ tables) rows left rest f (inr h) = reached-holds t Part P tables h.0 h.1 rest f h.3
 
--- what is so of each command that assigns
-pub by-assigning : (P : Command → Type 0) → P command.Assign → ((n : ℕ) → P (command.Demo n)) → P command.Counts → (c : Command) → Assigns c → P c
-by-assigning P assign demo counts command.Freeflow assigns = absurd assigns
-by-assigning P assign demo counts command.Assign assigns = assign
-by-assigning P assign demo counts (command.Demo n) assigns = demo n
-by-assigning P assign demo counts command.Skim assigns = absurd assigns
-by-assigning P assign demo counts command.Counts assigns = counts
-by-assigning P assign demo counts command.Sweep assigns = absurd assigns
-by-assigning P assign demo counts command.Audit assigns = absurd assigns
+-- what a command takes that assigns
+pub assigned-inputs : (c : Command) → Assigns c → inputs_of c ≡ record assignment_inputs { source = source_of c }
+assigned-inputs command.Freeflow assigns = absurd assigns
+assigned-inputs command.Assign assigns = refl
+assigned-inputs (command.Demo n) assigns = refl
+assigned-inputs command.Skim assigns = absurd assigns
+assigned-inputs command.Counts assigns = refl
+assigned-inputs command.Sweep assigns = absurd assigns
+assigned-inputs command.Audit assigns = absurd assigns
 
 pub assigned-no-times : (c : Command) → Assigns c → TakesTimes c → ⊥
-assigned-no-times = by-assigning (λ c. TakesTimes c → ⊥) (λ takes. takes) (λ n takes. takes) (λ takes. takes)
+assigned-no-times c assigns takes = subst (λ (i : Inputs). i.takes_times) (assigned-inputs c assigns) takes
 
 pub assigned-no-sweep : (c : Command) → Assigns c → c ≡ command.Sweep → ⊥
 assigned-no-sweep c assigns e = subst (λ (x : Command). Assigns x) e assigns
 
 -- its demand is released once
-pub assigned-released : (c : Command) → Assigns c → (cells : List DemandCell) → released_cells c cells ≡ cells
-assigned-released = by-assigning (λ c. (cells : List DemandCell) → released_cells c cells ≡ cells) (λ cells. refl) (λ n cells. refl) (λ cells. refl)
+pub assigned-released : (c : Command) → Assigns c → (cells : List DemandCell) → (inputs_of c).released cells ≡ cells
+assigned-released c assigns cells = ap (λ (i : Inputs). i.released cells) (assigned-inputs c assigns)
 
-pub assigned-unswept : (c : Command) → Assigns c → (cells : List DemandCell) → swept_cells c cells ≡ []
-assigned-unswept = by-assigning (λ c. (cells : List DemandCell) → swept_cells c cells ≡ []) (λ cells. refl) (λ n cells. refl) (λ cells. refl)
-
--- no demand is none, whatever the command
-released-none : (c : Command) → released_cells c [] ≡ []
-released-none command.Freeflow = refl
-released-none command.Assign = refl
-released-none (command.Demo n) = refl
-released-none command.Skim = refl
-released-none command.Counts = refl
-released-none command.Sweep = refl
-released-none command.Audit = refl
-
-swept-none : (c : Command) → swept_cells c [] ≡ []
-swept-none command.Freeflow = refl
-swept-none command.Assign = refl
-swept-none (command.Demo n) = refl
-swept-none command.Skim = refl
-swept-none command.Counts = refl
-swept-none command.Sweep = refl
-swept-none command.Audit = refl
-
--- a command whose limits are those of a loading: on the links times the steps, and on the vehicles
-abbrev HasLoadingLimits : Settings → Command → Type 0
-HasLoadingLimits s c = HasSizes c × ((line total : ℕ) (rows : TableRows) → HasRoom s rows × IsFirstAbove rows.demand_cells line total → HasTooMany c s line total rows)
-
-assigned-limits : (s : Settings) (c : Command) → Assigns c → HasLoadingLimits s c
-assigned-limits s = by-assigning (HasLoadingLimits s) (tt, λ line total rows h. h) (λ n. (tt, λ line total rows h. h)) (tt, λ line total rows h. h)
+pub assigned-unswept : (c : Command) → Assigns c → (cells : List DemandCell) → (inputs_of c).swept cells ≡ []
+assigned-unswept c assigns cells = ap (λ (i : Inputs). i.swept cells) (assigned-inputs c assigns)
 
 -- the table at which reading stopped, as the cause of the stop
 module _ (s : Settings) (before after : DeskState) where
@@ -172,51 +147,27 @@ module _ (s : Settings) (before after : DeskState) where
   among-in (Refused (refusal.SweepCells links steps)) h =
       absurd (reached-holds s h.0 (Ends h.0 (Refused (refusal.SweepCells links steps))) ⊥ (tables_of s.command s.start) no_rows before.left after.left (λ r a b k. k) h.1)
 
-  -- the sizes of accepted tables, as the cause of the stop
-  job-in : (rows : TableRows) (stop : Stop) → HasLoadingLimits s s.command → AreAccepted s (tables_of s.command s.start) no_rows rows before.left after.left
-      → StopsJob s rows stop → StopsIn s stop before after
-  job-in rows Memory limits read h = inr (inr (record { rows = rows; read = read; part = tt }))
-  job-in rows (Refused refusal.Usage) limits read h = absurd h
-  job-in rows (Refused (refusal.Table fault)) limits read h = absurd h
-  job-in rows (Refused (refusal.Read u)) limits read h = absurd h
-  job-in rows (Refused (refusal.LongTable u)) limits read h = absurd h
-  job-in rows (Refused (refusal.Cells links steps)) limits read h = ((limits.0, record { rows = rows; read = read; part = h }), tt)
-  job-in rows (Refused (refusal.Vehicles line total)) limits read h = (record { rows = rows; read = read; part = limits.1 line total rows h }, tt)
-  job-in rows (Refused (refusal.SkimPairs number)) limits read h = absurd h
-  job-in rows (Refused (refusal.SweepCells links steps)) limits read h = absurd h
+  -- a limit that the rows of accepted tables are past, as the cause of the stop
+  past-counted : (limits : Limits) → limits_of s.command ≡ limits → (rows : TableRows) (r : Refusal)
+      → AreAccepted s (tables_of s.command s.start) no_rows rows before.left after.left → limits.past s rows r → IsPast s r before.left after.left
+  past-counted limits are rows r read h = record { rows = rows; read = read; part = subst (λ (l : Limits). l.past s rows r) (sym are) h }
 
-  -- and those of a skim's tables
-  pub skim-in : (rows : TableRows) (stop : Stop) → s.command ≡ command.Skim → AreAccepted s (tables_of s.command s.start) no_rows rows before.left after.left
-      → StopsSkim s rows stop → StopsIn s stop before after
-  skim-in rows Memory asks read h = inr (inr (record { rows = rows; read = read; part = tt }))
-  skim-in rows (Refused refusal.Usage) asks read h = absurd h
-  skim-in rows (Refused (refusal.Table fault)) asks read h = absurd h
-  skim-in rows (Refused (refusal.Read u)) asks read h = absurd h
-  skim-in rows (Refused (refusal.LongTable u)) asks read h = absurd h
-  skim-in rows (Refused (refusal.Cells links steps)) asks read h =
-      ((subst HasSizes (sym asks) tt, record { rows = rows; read = read; part = h }), tt)
-  skim-in rows (Refused (refusal.Vehicles line total)) asks read h = absurd h
-  skim-in rows (Refused (refusal.SkimPairs number)) asks read h = ((asks, record { rows = rows; read = read; part = h }), tt)
-  skim-in rows (Refused (refusal.SweepCells links steps)) asks read h = absurd h
-
-  -- those of a sweep's
-  pub sweep-in : (rows : TableRows) (stop : Stop) → s.command ≡ command.Sweep → AreAccepted s (tables_of s.command s.start) no_rows rows before.left after.left
-      → StopsSweep s rows stop → StopsIn s stop before after
-  sweep-in rows Memory asks read h = inr (inr (record { rows = rows; read = read; part = tt }))
-  sweep-in rows (Refused refusal.Usage) asks read h = absurd h
-  sweep-in rows (Refused (refusal.Table fault)) asks read h = absurd h
-  sweep-in rows (Refused (refusal.Read u)) asks read h = absurd h
-  sweep-in rows (Refused (refusal.LongTable u)) asks read h = absurd h
-  sweep-in rows (Refused (refusal.Cells links steps)) asks read h = absurd h
-  sweep-in rows (Refused (refusal.Vehicles line total)) asks read h =
-      (record { rows = rows; read = read; part = subst (λ (c : Command). HasTooMany c s line total rows) (sym asks) h }, tt)
-  sweep-in rows (Refused (refusal.SkimPairs number)) asks read h = absurd h
-  sweep-in rows (Refused (refusal.SweepCells links steps)) asks read h = ((asks, record { rows = rows; read = read; part = h }), tt)
+  pub past-in : (limits : Limits) → limits_of s.command ≡ limits → (rows : TableRows) (stop : Stop)
+      → AreAccepted s (tables_of s.command s.start) no_rows rows before.left after.left → StopsPast limits s rows stop → StopsIn s stop before after
+  past-in limits are rows Memory read h = inr (inr (record { rows = rows; read = read; part = tt }))
+  past-in limits are rows (Refused refusal.Usage) read h = absurd h
+  past-in limits are rows (Refused (refusal.Table fault)) read h = absurd h
+  past-in limits are rows (Refused (refusal.Read u)) read h = absurd h
+  past-in limits are rows (Refused (refusal.LongTable u)) read h = absurd h
+  past-in limits are rows (Refused (refusal.Cells links steps)) read h = (past-counted limits are rows (refusal.Cells links steps) read h, tt)
+  past-in limits are rows (Refused (refusal.Vehicles line total)) read h = (past-counted limits are rows (refusal.Vehicles line total) read h, tt)
+  past-in limits are rows (Refused (refusal.SkimPairs number)) read h = (past-counted limits are rows (refusal.SkimPairs number) read h, tt)
+  past-in limits are rows (Refused (refusal.SweepCells links steps)) read h = (past-counted limits are rows (refusal.SweepCells links steps) read h, tt)
 
 -- the same at a desk that is the source itself
 pub own-stops : (s : Settings) (stop : Stop) (before after : DeskState)
-    → read_tables s.command s.start ≡ tables_of s.command s.start → source s.command before.left ≡ before.left
-    → LeavesOf s.command after.left before.left after.left → StopsIn s stop before after → Stops s stop before after
+    → read_tables s.command s.start ≡ tables_of s.command s.start → (source_of s.command).left before.left ≡ before.left
+    → (source_of s.command).leaves after.left before.left after.left → StopsIn s stop before after → Stops s stop before after
 own-stops s Memory before after all from leaves h = record { rest = after.left; leaves = leaves; part = subst (λ l. IsCutIn s l after.left) (sym from) h }
 own-stops s (Refused r) before after all from leaves h =
     let own : IsCauseIn s r before.left after.left =
@@ -230,7 +181,7 @@ IsAtDesk c = ⊤
 
 -- what it reads, from where, and what it leaves
 abbrev ReadsDesk : Command → Type 0
-ReadsDesk c = ((start : Bool) → read_tables c start ≡ tables_of c start) × ((left : Left) → source c left ≡ left) × ((rest before : Left) → LeavesOf c rest before rest)
+ReadsDesk c = ((start : Bool) → read_tables c start ≡ tables_of c start) × ((left : Left) → (source_of c).left left ≡ left) × ((rest before : Left) → (source_of c).leaves rest before rest)
 
 reads-desk : (c : Command) → IsAtDesk c → ReadsDesk c
 reads-desk command.Freeflow is = (λ start. refl, λ left. refl, λ rest before. refl)
@@ -295,11 +246,11 @@ module _ (s : Settings) (n : ℕ) (asks : s.command ≡ command.Demo n) where
   abbrev grid_left : Left
   grid_left = all_left (node_text n) (link_text n) [] (demand_text n)
 
-  grid-source : (left : Left) → source s.command left ≡ grid_left
-  grid-source left = ap (λ (c : Command). source c left) asks
+  grid-source : (left : Left) → (source_of s.command).left left ≡ grid_left
+  grid-source left = ap (λ (c : Command). (source_of c).left left) asks
 
-  grid-leaves : (rest before after : Left) → after ≡ before → LeavesOf s.command rest before after
-  grid-leaves rest before after same = subst (λ (c : Command). LeavesOf c rest before after) (sym asks) same
+  grid-leaves : (rest before after : Left) → after ≡ before → (source_of s.command).leaves rest before after
+  grid-leaves rest before after same = subst (λ (c : Command). (source_of c).leaves rest before after) (sym asks) same
 
   pub grid-reading : (Part : Left → Left → Type 0) (rest before after : Left) → after ≡ before → Part grid_left rest → Reading s.command Part before after
   grid-reading Part rest before after same part = record {
@@ -319,93 +270,92 @@ module _ (s : Settings) (n : ℕ) (asks : s.command ≡ command.Demo n) where
 
 -- ---- jobs
 
-pub full-tables : (c : Command) (start : Bool) → Assigns c → tables_of c start ≡ loading_tables start
-full-tables c start assigns = by-assigning (λ c. tables_of c start ≡ loading_tables start) refl (λ n. refl) refl c assigns
-
-within-of : (s : Settings) (rows : TableRows) (c : Command) → Assigns c → HasRoom s rows × IsWithin rows.demand_cells → AreWithin c s rows
-within-of s rows = by-assigning (λ c. HasRoom s rows × IsWithin rows.demand_cells → AreWithin c s rows) (λ w. w) (λ n w. w) (λ w. w)
-
--- the job of all tables
-pub full-job : (s : Settings) (rows : TableRows) (job : JobRows) (left rest : Left) → Assigns s.command
-    → AreAccepted s (loading_tables s.start) no_rows rows left rest
-    → HasRoom s rows × IsWithin rows.demand_cells → job ≡ job_of s rows → IsJobOf s job left rest
-full-job s rows job left rest loads read within makes = record {
-  rows = rows;
-  read = subst (λ (ts : List Table). AreAccepted s ts no_rows rows left rest) (sym (full-tables s.command s.start loads)) read;
-  within = within-of s rows s.command loads within;
-  makes = makes;
-}
-
 full-made : {T E : Type 0} (r : Result T E) (P Q : T → Type 0) (K : Type 0) → ((x : T) → K → P x → Q x) → OnOk r K → IfOk r P → IfOk r Q
 full-made (Ok x) P Q K f k p = f x k p
 full-made (Err e) P Q K f k p = tt
 
-pub full-jobs : {T E : Type 0} (s : Settings) (rows_in : T → JobRows) (rows : TableRows) (r : Result T E) (left rest : Left) → Assigns s.command
-    → AreAccepted s (loading_tables s.start) no_rows rows left rest
-    → OnOk r (HasRoom s rows × IsWithin rows.demand_cells) → IfOk r (λ job. rows_in job ≡ job_of s rows) → IfOk r (λ job. IsJobOf s (rows_in job) left rest)
-full-jobs s rows_in rows r left rest loads read within makes =
-    full-made r (λ job. rows_in job ≡ job_of s rows) (λ job. IsJobOf s (rows_in job) left rest) (HasRoom s rows × IsWithin rows.demand_cells)
-    (λ job w m. full-job s rows (rows_in job) left rest loads read w m) within makes
+-- the settings' command has these tables and these limits
+pub record HasInputs (s : Settings) (tables : List Table) (limits : Limits) : Type 1 where
+  pub same : tables_of s.command s.start ≡ tables
+  pub under : limits_of s.command ≡ limits
 
--- what stopped the reading of all tables, or was over their rows
-module _ (s : Settings) (loads : Assigns s.command) (before after : DeskState) where
-  pub among-full : (stop : Stop) → StopsAmong s (loading_tables s.start) no_rows stop before after → StopsIn s stop before after
-  among-full stop h = among-in s before after stop (subst (λ (ts : List Table). StopsAmong s ts no_rows stop before after) (sym (full-tables s.command s.start loads)) h)
+-- where this command is asked for, and where one that assigns is
+pub asked : (s : Settings) (c : Command) → s.command ≡ c → HasInputs s (tables_of c s.start) (limits_of c)
+asked s c asks = record { same = ap (λ k. tables_of k s.start) asks; under = ap limits_of asks }
 
-  pub sized : {T : Type 0} (rows : TableRows) (r : Result T Stop)
-      → AreAccepted s (loading_tables s.start) no_rows rows before.left after.left
-      → IfErr r (StopsJob s rows) → IfErr r (λ stop. StopsIn s stop before after)
-  sized rows r read h = IfErr-weaker r (StopsJob s rows) (λ stop. StopsIn s stop before after)
-      (λ stop k. job-in s before after rows stop (assigned-limits s s.command loads) (subst (λ (ts : List Table). AreAccepted s ts no_rows rows before.left after.left) (sym (full-tables s.command s.start loads)) read) k) h
+pub assigned : (s : Settings) → Assigns s.command → HasInputs s (loading_tables s.start) loading_limits
+assigned s loads =
+    let is = assigned-inputs s.command loads in
+    record { same = ap (λ (i : Inputs). i.tables s.start) is; under = ap (λ (i : Inputs). i.limits) is }
 
--- the tables of `freeflow`
-module _ (s : Settings) (asks : s.command ≡ command.Freeflow) (nodes : List NodeRow) (links : List (WithWindows LinkRow)) (left rest : Left)
-    (read : AreAccepted s (table.Node ∷ table.Link ∷ []) no_rows (road_rows nodes links) left rest) where
-  free-read : AreAccepted s (tables_of s.command s.start) no_rows (road_rows nodes links) left rest
-  free-read = subst (λ (c : Command). AreAccepted s (tables_of c s.start) no_rows (road_rows nodes links) left rest) (sym asks) read
+module _ (s : Settings) {tables : List Table} {limits : Limits} (has : HasInputs s tables limits) where
+  read-own : (rows : TableRows) (left rest : Left) → AreAccepted s tables no_rows rows left rest → AreAccepted s (tables_of s.command s.start) no_rows rows left rest
+  read-own rows left rest read = subst (λ (ts : List Table). AreAccepted s ts no_rows rows left rest) (sym has.same) read
 
-  pub free-job : IsJobOf s (record { net = net_rows nodes links []; trips = []; start = []; times = []; demand_cells = []; agents = [] }) left rest
-  free-job = record {
-    rows = road_rows nodes links;
-    read = free-read;
-    within = subst (λ (c : Command). AreWithin c s (road_rows nodes links)) (sym asks) tt;
-    makes = rw (released-none s.command, swept-none s.command, trips_of-none s.period) refl;
-  }
-
-  pub free-counted : AreCounted s (λ rows. ⊤) left rest
-  free-counted = record { rows = road_rows nodes links; read = free-read; part = tt }
-
--- the tables of a skim
-module _ (s : Settings) (asks : s.command ≡ command.Skim) where
-  pub skim-read : (rows : TableRows) (left rest : Left) → AreAccepted s skim_tables no_rows rows left rest → AreAccepted s (tables_of s.command s.start) no_rows rows left rest
-  skim-read rows left rest read = subst (λ (c : Command). AreAccepted s (tables_of c s.start) no_rows rows left rest) (sym asks) read
-
-  pub skim-job : (rows : TableRows) (left rest : Left) → AreAccepted s skim_tables no_rows rows left rest → AreWithin command.Skim s rows
-      → rows.demand_cells ≡ [] → rows.start ≡ [] → rows.agents ≡ []
-      → IsJobOf s (record { net = net_of rows; trips = []; start = []; times = rows.times; demand_cells = []; agents = [] }) left rest
-  skim-job rows left rest read within none unstarted unaudited = record {
+  -- the job of the rows
+  pub own-job : (rows : TableRows) (job : JobRows) (left rest : Left) → AreAccepted s tables no_rows rows left rest
+      → limits.within s rows → job ≡ job_of s rows → IsJobOf s job left rest
+  own-job rows job left rest read within makes = record {
     rows = rows;
-    read = skim-read rows left rest read;
-    within = subst (λ (c : Command). AreWithin c s rows) (sym asks) within;
-    makes = rw (none, unstarted, unaudited, released-none s.command, swept-none s.command, trips_of-none s.period) refl;
+    read = read-own rows left rest read;
+    within = subst (λ (l : Limits). l.within s rows) (sym has.under) within;
+    makes = makes;
   }
 
-  module _ (before after : DeskState) where
-    -- memory was wanting before the link times were read
-    pub skim-starved : (rows : TableRows) → AreAccepted s network_tables no_rows rows before.left after.left → IsCutIn s before.left after.left
-    skim-starved rows read =
-        let reached = reached-then s table.Times (λ _. IsBegun table.Times) network_tables (table.Times ∷ []) no_rows rows before.left after.left after.left read
-        (inl (refl, record { bytes = []; read = sym (before_left-empty table.Times after.left) })) in
-        inr (inl (table.Times, subst (λ (c : Command). ReachedAmong s (tables_of c s.start) table.Times (λ _. IsBegun table.Times) no_rows before.left after.left) (sym asks) reached))
+  pub own-jobs : {T E : Type 0} (rows_in : T → JobRows) (rows : TableRows) (r : Result T E) (left rest : Left) → AreAccepted s tables no_rows rows left rest
+      → OnOk r (limits.within s rows) → IfOk r (λ job. rows_in job ≡ job_of s rows) → IfOk r (λ job. IsJobOf s (rows_in job) left rest)
+  own-jobs rows_in rows r left rest read within makes =
+      full-made r (λ job. rows_in job ≡ job_of s rows) (λ job. IsJobOf s (rows_in job) left rest) (limits.within s rows)
+      (λ job w m. own-job rows (rows_in job) left rest read w m) within makes
 
-    pub among-skim : (stop : Stop) → StopsAmong s skim_tables no_rows stop before after → StopsIn s stop before after
-    among-skim stop h = among-in s before after stop (subst (λ (c : Command). StopsAmong s (tables_of c s.start) no_rows stop before after) (sym asks) h)
+  pub counted : (rows : TableRows) (left rest : Left) → AreAccepted s tables no_rows rows left rest → AreCounted s (λ rows. ⊤) left rest
+  counted rows left rest read = record { rows = rows; read = read-own rows left rest read; part = tt }
+
+  -- what stopped the reading of the tables, or was over their rows
+  module _ (before after : DeskState) where
+    pub among : (stop : Stop) → StopsAmong s tables no_rows stop before after → StopsIn s stop before after
+    among stop h = among-in s before after stop (subst (λ (ts : List Table). StopsAmong s ts no_rows stop before after) (sym has.same) h)
+
+    pub past : (rows : TableRows) (stop : Stop) → AreAccepted s tables no_rows rows before.left after.left → StopsPast limits s rows stop → StopsIn s stop before after
+    past rows stop read h = past-in s before after limits has.under rows stop (read-own rows before.left after.left read) h
+
+    pub sized : {T : Type 0} (rows : TableRows) (r : Result T Stop) → AreAccepted s tables no_rows rows before.left after.left
+        → IfErr r (StopsPast limits s rows) → IfErr r (λ stop. StopsIn s stop before after)
+    sized rows r read h = IfErr-weaker r (StopsPast limits s rows) (λ stop. StopsIn s stop before after) (λ stop k. past rows stop read k) h
+
+    -- memory was wanting after some of the tables, before the next was read
+    pub starved : (some : List Table) (t : Table) (others : List Table) (rows : TableRows) → tables ≡ some ++ t ∷ others
+        → AreAccepted s some no_rows rows before.left after.left → IsCutIn s before.left after.left
+    starved some t others rows are read =
+        let reached = reached-then s t (λ _. IsBegun t) some (t ∷ others) no_rows rows before.left after.left after.left read
+        (inl (refl, record { bytes = []; read = sym (before_left-empty t after.left) })) in
+        inr (inl (t, subst (λ (ts : List Table). ReachedAmong s ts t (λ _. IsBegun t) no_rows before.left after.left) (sym (has.same ∙ are)) reached))
+
+-- the jobs of some commands, made of rows of which some are missing
+pub free-job : (s : Settings) (nodes : List NodeRow) (links : List (WithWindows LinkRow)) → s.command ≡ command.Freeflow
+    → record { net = net_rows nodes links []; trips = []; start = []; times = []; demand_cells = []; agents = [] } ≡ job_of s (road_rows nodes links)
+free-job s nodes links asks = rw (asks, trips_of-none s.period) refl
+
+pub skim-job : (s : Settings) (rows : TableRows) → s.command ≡ command.Skim → rows.demand_cells ≡ [] → rows.start ≡ [] → rows.agents ≡ []
+    → record { net = net_of rows; trips = []; start = []; times = rows.times; demand_cells = []; agents = [] } ≡ job_of s rows
+skim-job s rows asks none unstarted unaudited = rw (asks, none, unstarted, unaudited, trips_of-none s.period) refl
+
+pub audit-job : (s : Settings) (rows : TableRows) → s.command ≡ command.Audit
+    → record {
+      net = net_of rows;
+      trips = trips_of rows.demand_cells s.period;
+      start = rows.start;
+      times = rows.times;
+      demand_cells = [];
+      agents = rows.agents;
+    } ≡ job_of s rows
+audit-job s rows asks = rw asks refl
 
 -- the first scenario that has too many vehicles, as the stop
 pub scale-stops : {T : Type 0} (s : Settings) (rows : TableRows) (cells : List DemandCell) (scales : List ℕ) (r : Result T SweepFault) (why : SweepFault)
     → r ≡ Err why → HasSweepRoom s rows → rows.demand_cells ≡ cells → scales ≡ s.scales
     → ((scenario line total : ℕ) → (r ≡ Err (sweep.TooMany scenario line total)) ↔ IsFirstTooMany cells scales scenario line total)
-    → StopsSweep s rows (stop_at_scale why)
+    → StopsPast sweep_limits s rows (stop_at_scale why)
 scale-stops s rows cells scales r (sweep.TooMany scenario line total) is room same are tells = (
   room,
   (
@@ -415,67 +365,3 @@ scale-stops s rows cells scales r (sweep.TooMany scenario line total) is room sa
   ),
 )
 scale-stops s rows cells scales r sweep.Memory is room same are tells = tt
-
--- the tables of a sweep, and what is over their rows
-module _ (s : Settings) (asks : s.command ≡ command.Sweep) where
-  sweep-read : (rows : TableRows) (left rest : Left) → AreAccepted s all_tables no_rows rows left rest → AreAccepted s (tables_of s.command s.start) no_rows rows left rest
-  sweep-read rows left rest read = subst (λ (c : Command). AreAccepted s (tables_of c s.start) no_rows rows left rest) (sym asks) read
-
-  pub sweep-jobs : {T E : Type 0} (rows_in : T → JobRows) (rows : TableRows) (r : Result T E) (left rest : Left) → AreAccepted s all_tables no_rows rows left rest
-      → OnOk r (AreWithin command.Sweep s rows) → IfOk r (λ job. rows_in job ≡ job_of s rows) → IfOk r (λ job. IsJobOf s (rows_in job) left rest)
-  sweep-jobs rows_in rows r left rest read within makes =
-      full-made r (λ job. rows_in job ≡ job_of s rows) (λ job. IsJobOf s (rows_in job) left rest) (AreWithin command.Sweep s rows)
-      (λ job w m. record {
-        rows = rows;
-        read = sweep-read rows left rest read;
-        within = subst (λ (c : Command). AreWithin c s rows) (sym asks) w;
-        makes = m;
-      }) within makes
-
-  module _ (before after : DeskState) where
-    pub among-sweep : (stop : Stop) → StopsAmong s all_tables no_rows stop before after → StopsIn s stop before after
-    among-sweep stop h = among-in s before after stop (subst (λ (c : Command). StopsAmong s (tables_of c s.start) no_rows stop before after) (sym asks) h)
-
-    pub sweep-sized : {T : Type 0} (rows : TableRows) (r : Result T Stop) → AreAccepted s all_tables no_rows rows before.left after.left
-        → IfErr r (StopsSweep s rows) → IfErr r (λ stop. StopsIn s stop before after)
-    sweep-sized rows r read h = IfErr-weaker r (StopsSweep s rows) (λ stop. StopsIn s stop before after)
-        (λ stop k. sweep-in s before after rows stop asks (sweep-read rows before.left after.left read) k) h
-
--- the tables of an audit
-module _ (s : Settings) (asks : s.command ≡ command.Audit) where
-  audit-read : (rows : TableRows) (left rest : Left) → AreAccepted s audit_tables no_rows rows left rest
-      → AreAccepted s (tables_of s.command s.start) no_rows rows left rest
-  audit-read rows left rest read = subst (λ (c : Command). AreAccepted s (tables_of c s.start) no_rows rows left rest) (sym asks) read
-
-  pub audit-job : (rows : TableRows) (left rest : Left) → AreAccepted s audit_tables no_rows rows left rest → AreWithin command.Audit s rows
-      → IsJobOf s (record {
-        net = net_of rows;
-        trips = trips_of rows.demand_cells s.period;
-        start = rows.start;
-        times = rows.times;
-        demand_cells = [];
-        agents = rows.agents;
-      }) left rest
-  audit-job rows left rest read within = record {
-    rows = rows;
-    read = audit-read rows left rest read;
-    within = subst (λ (c : Command). AreWithin c s rows) (sym asks) within;
-    makes = rw asks refl;
-  }
-
-  module _ (before after : DeskState) where
-    pub among-audit : (stop : Stop) → StopsAmong s audit_tables no_rows stop before after → StopsIn s stop before after
-    among-audit stop h = among-in s before after stop (subst (λ (c : Command). StopsAmong s (tables_of c s.start) no_rows stop before after) (sym asks) h)
-
-    -- memory was wanting before the link times were read
-    pub audit-starved : (rows : TableRows) → AreAccepted s (all_tables ++ table.Start ∷ []) no_rows rows before.left after.left → IsCutIn s before.left after.left
-    audit-starved rows read =
-        let reached = reached-then s table.Times (λ _. IsBegun table.Times) (all_tables ++ table.Start ∷ []) (table.Times ∷ []) no_rows rows before.left after.left after.left read
-        (inl (refl, record { bytes = []; read = sym (before_left-empty table.Times after.left) })) in
-        inr (inl (table.Times, subst (λ (c : Command). ReachedAmong s (tables_of c s.start) table.Times (λ _. IsBegun table.Times) no_rows before.left after.left) (sym asks) reached))
-
-    pub audit-stops : (rows : TableRows) (stop : Stop) → AreAccepted s audit_tables no_rows rows before.left after.left
-        → StopsJob s rows stop → StopsIn s stop before after
-    audit-stops rows stop read h =
-        let limits : HasLoadingLimits s command.Audit = (tt, λ line total rows h. h) in
-        job-in s before after rows stop (subst (HasLoadingLimits s) (sym asks) limits) (audit-read rows before.left after.left read) h

@@ -45,12 +45,14 @@ use Rattle.start_table.specs.declared.rows.TheConstants.{MOST_START_ROWS}
 use Rattle.demand.specs.declared.demand_rows.TheConstants.{MOST_DEMAND_CELLS}
 use Rattle.desk_io.specs.declared.transfers.TheConstants.{MOST_TABLE_BYTES}
 use Rattle.desk_io.specs.State.{DeskState}
+use Rattle.jobs.specs.TableRows.{TableRows, net_of, no_rows, road_rows}
+use Rattle.jobs.specs.Inputs.{inputs_of}
 use Rattle.jobs.specs.Stops.{StopsAt, stop_of}
+use Rattle.jobs.specs.Tables.{IsAccepted, turns_of, with_table}
 use Rattle.jobs.specs.Calls.{rows_in_roads, rows_with_turns, with_agent_rows, with_demand_cells, with_start_rows, with_time_rows}
 use Rattle.skims.specs.TimesTable.{none_missing, row_count, time_row_of, times_columns, times_verdict}
 use Rattle.skims.specs.declared.times_table.TheConstants.{MOST_TIME_ROWS}
 use Rattle.skims.specs.declared.time_rows.TimeRow.{TimeRow}
-use Rattle.jobs.specs.Tables.{IsAccepted, TableRows, net_of, no_rows, road_rows, turns_of, with_agents, with_table}
 use Rattle.jobs.specs.declared.tables.Roads.{Roads}
 use Rattle.dta_words.specs.declared.command.Settings.{Settings}
 
@@ -120,11 +122,11 @@ demand_cells-told settings rows bytes refusal.Memory told = tt
 -- what a start table of an assignment gives, and the agent table of an audit
 start-with : (settings : Settings) (rows : TableRows) (bytes : List ℕ) → settings.command ≡ command.Assign
     → with_table settings rows table.Start bytes ≡ then_with (start_verdict (records bytes)) (λ start. Ok (record rows { start = start }))
-start-with settings rows bytes asks = ap (λ (c : Command). with_agents c rows bytes) asks
+start-with settings rows bytes asks = ap (λ (c : Command). (inputs_of c).with_agents rows bytes) asks
 
 agents-with : (settings : Settings) (rows : TableRows) (bytes : List ℕ) → settings.command ≡ command.Audit
     → with_table settings rows table.Start bytes ≡ then_with (agents_verdict (records bytes)) (λ agents. Ok (record rows { agents = agents }))
-agents-with settings rows bytes asks = ap (λ (c : Command). with_agents c rows bytes) asks
+agents-with settings rows bytes asks = ap (λ (c : Command). (inputs_of c).with_agents rows bytes) asks
 
 start-told : (settings : Settings) (rows : TableRows) (bytes : List ℕ) (why : TableRefusal) → settings.command ≡ command.Assign
     → Tells (start_verdict (records bytes)) (Err why) → IsToldBy settings table.Start rows bytes why

@@ -21,13 +21,16 @@ use Rattle.dta_words.specs.Grammar.{settings_of}
 use Rattle.dta_words.specs.declared.command.Command.{Command}
 use Rattle.dta_words.specs.declared.command.Command.TheVariants as command
 use Rattle.dta_words.specs.declared.command.Settings.{Settings}
-use Rattle.reports.specs.declared.refusal.TheConstants.{MOST_SKIM_ENTRIES, MOST_SWEEP_LINK_STEPS}
+use Rattle.reports.specs.declared.refusal.TheConstants.{MOST_SWEEP_LINK_STEPS}
 use Rattle.std.proofs.lemmas.List.Elements.{All-head, All-tail}
 use Rattle.sweep.specs.Scales.{AreAllWithin, IsFirstTooMany, scaled}
-use Rattle.jobs.specs.Jobs.{AreWithin, HasRoom, HasSweepRoom, IsAcceptedJob, JobRows, job_of, read_tables, skim_entries, source, tables_of}
-use Rattle.jobs.specs.Causes.{AreCounted, HasSizes, HasTooMany, IsCause}
-use Rattle.jobs.specs.Tables.{AreAccepted, AreTold, ReachedAmong, IsAccepted, IsFaulty, TableRows, loading_tables, no_rows, with_table}
-use Rattle.jobs.specs.Verdict.{AreToldBy, Verdict, Refused, Accepted, first_above, texts_of, verdict, verdict_by, verdict_on, verdict_on_rows, verdict_on_scales, verdict_on_scenario, verdict_on_sizes, verdict_on_skim, verdict_on_sweep}
+use Rattle.jobs.specs.TableRows.{TableRows, loading_tables, no_rows}
+use Rattle.jobs.specs.Limits.{AreAbove, Limits, first_above, loading_limits, scales_past, skim_entries, skim_limits, sweep_limits, vehicles_past}
+use Rattle.jobs.specs.Inputs.{limits_of, read_tables, source_of, tables_of}
+use Rattle.jobs.specs.Jobs.{IsAcceptedJob, JobRows}
+use Rattle.jobs.specs.Causes.{IsCause, IsPast}
+use Rattle.jobs.specs.Tables.{AreAccepted, AreTold, IsAccepted, IsFaulty, ReachedAmong, with_table}
+use Rattle.jobs.specs.Verdict.{Accepted, AreToldBy, Refused, Verdict, verdict_by, verdict_on, verdict_on_rows, verdict_past}
 
 -- ---- what was read is what is told
 
@@ -184,130 +187,114 @@ row-above demand_cells line total h =
     (λ row below. within-is (vehicles_before demand_cells (row + 1)) MOST_TRIPS (h.first row below))
 
 -- no scenario has too many vehicles
-on-scales-within : (demand_cells : List DemandCell) (scales : List ℕ) (next : Verdict) → AreAllWithin demand_cells scales
-    → verdict_on_scales demand_cells scales next ≡ next
-on-scales-within demand_cells [] next w = refl
-on-scales-within demand_cells (scale ∷ scales) next w =
+on-scales-within : (demand_cells : List DemandCell) (scales : List ℕ) → AreAllWithin demand_cells scales → scales_past demand_cells scales ≡ None
+on-scales-within demand_cells [] w = refl
+on-scales-within demand_cells (scale ∷ scales) w =
     let here : IsWithin (scaled scale demand_cells) = All-head (λ m. IsWithin (scaled m demand_cells)) scale scales w in
     let none : first_above (scaled scale demand_cells) ≡ None = no-row-above (scaled scale demand_cells) here in
-    ap (λ (o : Option ℕ). verdict_on_scenario (scaled scale demand_cells) o (verdict_on_scales demand_cells scales next)) none
-    ∙ on-scales-within demand_cells scales next (All-tail (λ m. IsWithin (scaled m demand_cells)) scale scales w)
+    ap (λ (o : Option ℕ). vehicles_past (scaled scale demand_cells) o (scales_past demand_cells scales)) none
+    ∙ on-scales-within demand_cells scales (All-tail (λ m. IsWithin (scaled m demand_cells)) scale scales w)
 
 -- or one is the first that has
-on-scenario-above : (demand_cells : List DemandCell) (next : Verdict) (line total : ℕ) (h : IsFirstAbove demand_cells line total)
-    → verdict_on_scenario demand_cells (first_above demand_cells) next ≡ Refused (refusal.Vehicles line total)
-on-scenario-above demand_cells next line total h =
+on-above : (demand_cells : List DemandCell) (next : Option Refusal) (line total : ℕ) (h : IsFirstAbove demand_cells line total)
+    → vehicles_past demand_cells (first_above demand_cells) next ≡ Some (refusal.Vehicles line total)
+on-above demand_cells next line total h =
     let f : first_above demand_cells ≡ Some h.row = row-above demand_cells line total h in
     let at : slice_get demand_cells h.row ≡ Some h.cell = h.at in
     let on : h.cell.line ≡ line = h.on in
     let many : vehicles_before demand_cells (h.row + 1) ≡ total = h.so_many in
     rw (f, at, on, many) refl
 
-on-scales-above : (demand_cells : List DemandCell) (scales : List ℕ) (next : Verdict) (scenario line total : ℕ)
-    → IsFirstTooMany demand_cells scales scenario line total → verdict_on_scales demand_cells scales next ≡ Refused (refusal.Vehicles line total)
-on-scales-above demand_cells [] next scenario line total h = let e = h.at in absurd cc
-on-scales-above demand_cells (scale ∷ scales) next zero line total h =
+on-scales-above : (demand_cells : List DemandCell) (scales : List ℕ) (scenario line total : ℕ)
+    → IsFirstTooMany demand_cells scales scenario line total → scales_past demand_cells scales ≡ Some (refusal.Vehicles line total)
+on-scales-above demand_cells [] scenario line total h = let e = h.at in absurd cc
+on-scales-above demand_cells (scale ∷ scales) zero line total h =
     let e : Some scale ≡ Some h.scale = h.at in
     let same : h.scale ≡ scale = cc in
-    on-scenario-above (scaled scale demand_cells) (verdict_on_scales demand_cells scales next) line total
+    on-above (scaled scale demand_cells) (scales_past demand_cells scales) line total
     (subst (λ m. IsFirstAbove (scaled m demand_cells) line total) same h.above)
-on-scales-above demand_cells (scale ∷ scales) next (suc scenario) line total h =
+on-scales-above demand_cells (scale ∷ scales) (suc scenario) line total h =
     let here : IsWithin (scaled scale demand_cells) = h.before 0 scale (omega arith) refl in
     let none : first_above (scaled scale demand_cells) ≡ None = no-row-above (scaled scale demand_cells) here in
-    ap (λ (o : Option ℕ). verdict_on_scenario (scaled scale demand_cells) o (verdict_on_scales demand_cells scales next)) none
-    ∙ on-scales-above demand_cells scales next scenario line total (record {
+    ap (λ (o : Option ℕ). vehicles_past (scaled scale demand_cells) o (scales_past demand_cells scales)) none
+    ∙ on-scales-above demand_cells scales scenario line total (record {
       scale = h.scale;
       at = h.at;
       above = h.above;
       before = λ earlier other below there. h.before (suc earlier) other (omega (arith, below)) there;
     })
 
-on-sweep : (s : Settings) (rows : TableRows) → HasSweepRoom s rows → AreAllWithin rows.demand_cells s.scales
-    → verdict_on_sweep s rows ≡ Accepted s (job_of s rows)
-on-sweep s rows room w =
-    let r : nat_le (length rows.links * s.horizon) MOST_SWEEP_LINK_STEPS ≡ true = short-is (length rows.links * s.horizon) MOST_SWEEP_LINK_STEPS room in
-    rw r (on-scales-within rows.demand_cells s.scales (Accepted s (job_of s rows)) w)
+-- links and steps within a limit, and above it
+in-room : (o : Option Refusal) (n limit : ℕ) (r : Refusal) → n ≤ limit → cond (nat_le n limit) o (Some r) ≡ o
+in-room o n limit r h = let is : nat_le n limit ≡ true = short-is n limit h in rw is refl
 
-on-sweep-above : (s : Settings) (rows : TableRows) (scenario line total : ℕ) → HasSweepRoom s rows
-    → IsFirstTooMany rows.demand_cells s.scales scenario line total → verdict_on_sweep s rows ≡ Refused (refusal.Vehicles line total)
-on-sweep-above s rows scenario line total room h =
-    let r : nat_le (length rows.links * s.horizon) MOST_SWEEP_LINK_STEPS ≡ true = short-is (length rows.links * s.horizon) MOST_SWEEP_LINK_STEPS room in
-    rw r (on-scales-above rows.demand_cells s.scales (Accepted s (job_of s rows)) scenario line total h)
+not-in-room : (o : Option Refusal) (n limit : ℕ) (r : Refusal) → limit < n → cond (nat_le n limit) o (Some r) ≡ Some r
+not-in-room o n limit r h = let is : nat_le n limit ≡ false = long-is n limit h in rw is refl
 
-on-many-sweep-steps : (s : Settings) (rows : TableRows) (links steps : ℕ) → links ≡ length rows.links → steps ≡ s.horizon
-    → MOST_SWEEP_LINK_STEPS < links * steps → verdict_on_sweep s rows ≡ Refused (refusal.SweepCells links steps)
-on-many-sweep-steps s rows links steps l t m =
-    let n : MOST_SWEEP_LINK_STEPS < length rows.links * s.horizon = rw (l, t) at m in
-    let r : nat_le (length rows.links * s.horizon) MOST_SWEEP_LINK_STEPS ≡ false = long-is (length rows.links * s.horizon) MOST_SWEEP_LINK_STEPS n in
-    rw (l, t, r) refl
+-- ---- the limits of each kind
 
-on-sizes : (s : Settings) (rows : TableRows) → HasRoom s rows → IsWithin rows.demand_cells → verdict_on_sizes s rows ≡ Accepted s (job_of s rows)
-on-sizes s rows room w =
-    let r : nat_le (length rows.links * s.horizon) MOST_LINK_STEPS ≡ true = short-is (length rows.links * s.horizon) MOST_LINK_STEPS room in
-    let n : first_above rows.demand_cells ≡ None = no-row-above rows.demand_cells w in
-    rw (r, n) refl
+abbrev OnWithin : Limits → Type 0
+OnWithin limits = (s : Settings) (rows : TableRows) → limits.within s rows → limits.first_past s rows ≡ None
 
-on-within : (c : Command) (s : Settings) (rows : TableRows) → AreWithin c s rows → verdict_on_rows c s rows ≡ Accepted s (job_of s rows)
-on-within command.Freeflow s rows w = refl
-on-within command.Assign s rows w = on-sizes s rows w.0 w.1
-on-within (command.Demo size) s rows w = on-sizes s rows w.0 w.1
-on-within command.Skim s rows w =
-    let r : nat_le (length rows.links * s.horizon) MOST_LINK_STEPS ≡ true = short-is (length rows.links * s.horizon) MOST_LINK_STEPS w.0 in
-    let n : nat_le (skim_entries s rows) MOST_SKIM_ENTRIES ≡ true = short-is (skim_entries s rows) MOST_SKIM_ENTRIES w.1 in
-    rw (r, n) refl
-on-within command.Counts s rows w = on-sizes s rows w.0 w.1
-on-within command.Sweep s rows w = on-sweep s rows w.0 w.1
-on-within command.Audit s rows w = on-sizes s rows w.0 w.1
+abbrev OnPast : Limits → Type 0
+OnPast limits = (s : Settings) (rows : TableRows) (r : Refusal) → limits.past s rows r → limits.first_past s rows ≡ Some r
 
-on-many-link-steps : (s : Settings) (rows : TableRows) (links steps : ℕ) → links ≡ length rows.links → steps ≡ s.horizon → MOST_LINK_STEPS < links * steps
-    → verdict_on_sizes s rows ≡ Refused (refusal.Cells links steps)
-on-many-link-steps s rows links steps l t m =
-    let n : MOST_LINK_STEPS < length rows.links * s.horizon = rw (l, t) at m in
-    let r : nat_le (length rows.links * s.horizon) MOST_LINK_STEPS ≡ false = long-is (length rows.links * s.horizon) MOST_LINK_STEPS n in
-    rw (l, t, r) refl
+-- links times steps that are above the limit
+on-many-steps : (limit : ℕ) (s : Settings) (rows : TableRows) (links steps : ℕ) (o : Option Refusal) (tells : ℕ → ℕ → Refusal) → AreAbove limit s rows links steps
+    → cond (nat_le (length rows.links * s.horizon) limit) o (Some (tells (length rows.links) s.horizon)) ≡ Some (tells links steps)
+on-many-steps limit s rows links steps o tells (l, t, m) =
+    let n : limit < length rows.links * s.horizon = rw (l, t) at m in
+    rw (l, t) (not-in-room o (length rows.links * s.horizon) limit (tells (length rows.links) s.horizon) n)
 
-on-many-cells : (c : Command) (s : Settings) (rows : TableRows) (links steps : ℕ) → HasSizes c
-    → links ≡ length rows.links → steps ≡ s.horizon → MOST_LINK_STEPS < links * steps
-    → verdict_on_rows c s rows ≡ Refused (refusal.Cells links steps)
-on-many-cells command.Freeflow s rows links steps n l t m = absurd n
-on-many-cells command.Sweep s rows links steps n l t m = absurd n
-on-many-cells command.Audit s rows links steps n l t m = on-many-link-steps s rows links steps l t m
-on-many-cells command.Assign s rows links steps n l t m = on-many-link-steps s rows links steps l t m
-on-many-cells (command.Demo size) s rows links steps n l t m = on-many-link-steps s rows links steps l t m
-on-many-cells command.Counts s rows links steps n l t m = on-many-link-steps s rows links steps l t m
-on-many-cells command.Skim s rows links steps n l t m =
-    let n : MOST_LINK_STEPS < length rows.links * s.horizon = rw (l, t) at m in
-    let r : nat_le (length rows.links * s.horizon) MOST_LINK_STEPS ≡ false = long-is (length rows.links * s.horizon) MOST_LINK_STEPS n in
-    rw (l, t, r) refl
+on-loading : OnWithin loading_limits
+on-loading s rows (room, w) = in-room _ _ _ _ room ∙ ap (λ (o : Option ℕ). vehicles_past rows.demand_cells o None) (no-row-above rows.demand_cells w)
 
-on-many-entries : (s : Settings) (rows : TableRows) (number : ℕ) → HasRoom s rows → number ≡ skim_entries s rows → MOST_SKIM_ENTRIES < number
-    → verdict_on_skim s rows ≡ Refused (refusal.SkimPairs number)
-on-many-entries s rows number room e m =
-    let r : nat_le (length rows.links * s.horizon) MOST_LINK_STEPS ≡ true = short-is (length rows.links * s.horizon) MOST_LINK_STEPS room in
-    let many : MOST_SKIM_ENTRIES < skim_entries s rows = rw e at m in
-    let n : nat_le (skim_entries s rows) MOST_SKIM_ENTRIES ≡ false = long-is (skim_entries s rows) MOST_SKIM_ENTRIES many in
-    rw (r, n, e) refl
+past-loading : OnPast loading_limits
+past-loading s rows refusal.Usage h = absurd h
+past-loading s rows (refusal.Table fault) h = absurd h
+past-loading s rows (refusal.Read t) h = absurd h
+past-loading s rows (refusal.LongTable t) h = absurd h
+past-loading s rows (refusal.Cells links steps) h = on-many-steps MOST_LINK_STEPS s rows links steps _ refusal.Cells h
+past-loading s rows (refusal.Vehicles line total) (room, h) = in-room _ _ _ _ room ∙ on-above rows.demand_cells None line total h
+past-loading s rows (refusal.SkimPairs number) h = absurd h
+past-loading s rows (refusal.SweepCells links steps) h = absurd h
 
-on-many-vehicles : (s : Settings) (rows : TableRows) (line total : ℕ) → HasRoom s rows → IsFirstAbove rows.demand_cells line total
-    → verdict_on_sizes s rows ≡ Refused (refusal.Vehicles line total)
-on-many-vehicles s rows line total room h =
-    let r : nat_le (length rows.links * s.horizon) MOST_LINK_STEPS ≡ true = short-is (length rows.links * s.horizon) MOST_LINK_STEPS room in
-    let f : first_above rows.demand_cells ≡ Some h.row = row-above rows.demand_cells line total h in
-    let at : slice_get rows.demand_cells h.row ≡ Some h.cell = h.at in
-    let on : h.cell.line ≡ line = h.on in
-    let many : vehicles_before rows.demand_cells (h.row + 1) ≡ total = h.so_many in
-    rw (r, f, at, on, many) refl
+on-skim : OnWithin skim_limits
+on-skim s rows (room, few) = in-room _ _ _ _ room ∙ in-room None _ _ _ few
 
--- too many vehicles of the demand, or of a scenario
-on-too-many : (c : Command) (s : Settings) (rows : TableRows) (line total : ℕ) → HasTooMany c s line total rows
-    → verdict_on_rows c s rows ≡ Refused (refusal.Vehicles line total)
-on-too-many command.Freeflow s rows line total h = absurd h
-on-too-many command.Assign s rows line total h = on-many-vehicles s rows line total h.0 h.1
-on-too-many (command.Demo size) s rows line total h = on-many-vehicles s rows line total h.0 h.1
-on-too-many command.Skim s rows line total h = absurd h
-on-too-many command.Counts s rows line total h = on-many-vehicles s rows line total h.0 h.1
-on-too-many command.Sweep s rows line total h = on-sweep-above s rows h.1.0 line total h.0 h.1.1
-on-too-many command.Audit s rows line total h = on-many-vehicles s rows line total h.0 h.1
+past-skim : OnPast skim_limits
+past-skim s rows refusal.Usage h = absurd h
+past-skim s rows (refusal.Table fault) h = absurd h
+past-skim s rows (refusal.Read t) h = absurd h
+past-skim s rows (refusal.LongTable t) h = absurd h
+past-skim s rows (refusal.Cells links steps) h = on-many-steps MOST_LINK_STEPS s rows links steps _ refusal.Cells h
+past-skim s rows (refusal.Vehicles line total) h = absurd h
+past-skim s rows (refusal.SkimPairs number) (room, e, m) =
+    in-room _ _ _ _ room ∙ not-in-room None (skim_entries s rows) _ _ (rw e at m) ∙ ap (λ n. Some (refusal.SkimPairs n)) (sym e)
+past-skim s rows (refusal.SweepCells links steps) h = absurd h
+
+on-sweep : OnWithin sweep_limits
+on-sweep s rows (room, w) = in-room _ _ _ _ room ∙ on-scales-within rows.demand_cells s.scales w
+
+past-sweep : OnPast sweep_limits
+past-sweep s rows refusal.Usage h = absurd h
+past-sweep s rows (refusal.Table fault) h = absurd h
+past-sweep s rows (refusal.Read t) h = absurd h
+past-sweep s rows (refusal.LongTable t) h = absurd h
+past-sweep s rows (refusal.Cells links steps) h = absurd h
+past-sweep s rows (refusal.Vehicles line total) (room, (scenario, h)) =
+    in-room _ _ _ _ room ∙ on-scales-above rows.demand_cells s.scales scenario line total h
+past-sweep s rows (refusal.SkimPairs number) h = absurd h
+past-sweep s rows (refusal.SweepCells links steps) h = on-many-steps MOST_SWEEP_LINK_STEPS s rows links steps _ refusal.SweepCells h
+
+on-limits : (c : Command) → OnWithin (limits_of c) × OnPast (limits_of c)
+on-limits command.Freeflow = (λ s rows w. refl, λ s rows r h. absurd h)
+on-limits command.Assign = (on-loading, past-loading)
+on-limits (command.Demo n) = (on-loading, past-loading)
+on-limits command.Skim = (on-skim, past-skim)
+on-limits command.Counts = (on-loading, past-loading)
+on-limits command.Sweep = (on-sweep, past-sweep)
+on-limits command.Audit = (on-loading, past-loading)
 
 -- ---- the verdict of a run whose words are in the grammar
 
@@ -339,7 +326,7 @@ distinct command.Audit start = (
 )
 
 source-told : (c : Command) (start : Bool) (left : Left) (texts : Table → List ℕ) → AreTold (read_tables c start) left texts
-    → AreTold (tables_of c start) (source c left) (texts_of c texts)
+    → AreTold (tables_of c start) ((source_of c).left left) ((source_of c).texts texts)
 source-told command.Freeflow start left texts h = h
 source-told command.Assign start left texts h = h
 source-told (command.Demo n) false left texts h = (refl, (refl, (refl, (refl, tt))))
@@ -351,7 +338,7 @@ source-told command.Audit start left texts h = h
 
 -- the texts that these settings read are told
 abbrev pub AreAllTold : Settings → Left → (Table → List ℕ) → Type 0
-AreAllTold s left texts = AreTold (tables_of s.command s.start) (source s.command left) (texts_of s.command texts)
+AreAllTold s left texts = AreTold (tables_of s.command s.start) ((source_of s.command).left left) ((source_of s.command).texts texts)
 
 pub all-told : (words : List (List ℕ)) (s : Settings) (left : Left) (texts : Table → List ℕ) → settings_of words ≡ Some s
     → AreToldBy (settings_of words) left texts → AreAllTold s left texts
@@ -361,17 +348,16 @@ all-told words s left texts e told =
 pub verdict-job : (s : Settings) (job : JobRows) (texts : Table → List ℕ) (before after : Left) → AreAllTold s before texts
     → IsAcceptedJob s job before after → verdict_by (Some s) texts ≡ Accepted s job
 verdict-job s job texts before after told h =
-    on-all s (tables_of s.command s.start) (texts_of s.command texts) no_rows h.part.rows (source s.command before) h.rest
+    on-all s (tables_of s.command s.start) ((source_of s.command).texts texts) no_rows h.part.rows ((source_of s.command).left before) h.rest
     (verdict_on_rows s.command s) (distinct s.command s.start) told h.part.read
-    ∙ on-within s.command s h.part.rows h.part.within ∙ ap (Accepted s) (sym h.part.makes)
+    ∙ ap (λ (o : Option Refusal). verdict_past o s h.part.rows) ((on-limits s.command).0 s h.part.rows h.part.within) ∙ ap (Accepted s) (sym h.part.makes)
 
-verdict-counted : (s : Settings) (Part : TableRows → Type 0) (texts : Table → List ℕ) (before after : Left) (v : Verdict) → AreTold (tables_of s.command s.start) before (texts_of s.command texts)
-    → AreCounted s Part before after → ((rows : TableRows) → Part rows → verdict_on_rows s.command s rows ≡ v)
-    → verdict_by (Some s) texts ≡ v
-verdict-counted s Part texts before after v told h step =
-    on-all s (tables_of s.command s.start) (texts_of s.command texts) no_rows h.rows before after
+verdict-on-past : (s : Settings) (r : Refusal) (texts : Table → List ℕ) (before after : Left) → AreTold (tables_of s.command s.start) before ((source_of s.command).texts texts)
+    → IsPast s r before after → verdict_by (Some s) texts ≡ Refused r
+verdict-on-past s r texts before after told h =
+    on-all s (tables_of s.command s.start) ((source_of s.command).texts texts) no_rows h.rows before after
     (verdict_on_rows s.command s) (distinct s.command s.start) told h.read
-    ∙ step h.rows h.part
+    ∙ ap (λ (o : Option Refusal). verdict_past o s h.rows) ((on-limits s.command).1 s h.rows r h.part)
 
 -- a refusal whose cause the bytes of the tables show
 abbrev pub IsShown : Refusal → Type 0
@@ -389,26 +375,18 @@ pub verdict-refused : (s : Settings) (r : Refusal) (texts : Table → List ℕ) 
 verdict-refused s refusal.Usage texts before after i told h = absurd i
 verdict-refused s (refusal.Read t) texts before after i told h = absurd i
 verdict-refused s (refusal.Table fault) texts before after i told h =
-    on-reached s (tables_of s.command s.start) fault.table (IsFaulty s fault fault.table) (texts_of s.command texts) no_rows
-    (source s.command before) h.rest (verdict_on_rows s.command s) (Refused (refusal.Table fault)) (distinct s.command s.start) told h.part
-    (λ others rows left turn e. on-faulty s fault fault.table others (texts_of s.command texts) rows left h.rest (verdict_on_rows s.command s) turn e)
+    on-reached s (tables_of s.command s.start) fault.table (IsFaulty s fault fault.table) ((source_of s.command).texts texts) no_rows
+    ((source_of s.command).left before) h.rest (verdict_on_rows s.command s) (Refused (refusal.Table fault)) (distinct s.command s.start) told h.part
+    (λ others rows left turn e. on-faulty s fault fault.table others ((source_of s.command).texts texts) rows left h.rest (verdict_on_rows s.command s) turn e)
 verdict-refused s (refusal.LongTable t) texts before after i told h =
-    on-reached s (tables_of s.command s.start) t (λ _. IsLong t MOST_TABLE_BYTES) (texts_of s.command texts) no_rows
-    (source s.command before) h.rest (verdict_on_rows s.command s) (Refused (refusal.LongTable t)) (distinct s.command s.start) told h.part
-    (λ others rows left turn e. on-long s t others (texts_of s.command texts) rows left h.rest (verdict_on_rows s.command s) turn e)
+    on-reached s (tables_of s.command s.start) t (λ _. IsLong t MOST_TABLE_BYTES) ((source_of s.command).texts texts) no_rows
+    ((source_of s.command).left before) h.rest (verdict_on_rows s.command s) (Refused (refusal.LongTable t)) (distinct s.command s.start) told h.part
+    (λ others rows left turn e. on-long s t others ((source_of s.command).texts texts) rows left h.rest (verdict_on_rows s.command s) turn e)
 verdict-refused s (refusal.Cells links steps) texts before after i told h =
-    verdict-counted s (λ rows. (links ≡ length rows.links) × (steps ≡ s.horizon) × (MOST_LINK_STEPS < links * steps)) texts
-    (source s.command before) h.rest (Refused (refusal.Cells links steps)) told h.part.1
-    (λ rows p. on-many-cells s.command s rows links steps h.part.0 p.0 p.1 p.2)
+    verdict-on-past s (refusal.Cells links steps) texts ((source_of s.command).left before) h.rest told h.part
 verdict-refused s (refusal.Vehicles line total) texts before after i told h =
-    verdict-counted s (HasTooMany s.command s line total) texts
-    (source s.command before) h.rest (Refused (refusal.Vehicles line total)) told h.part
-    (λ rows p. on-too-many s.command s rows line total p)
+    verdict-on-past s (refusal.Vehicles line total) texts ((source_of s.command).left before) h.rest told h.part
 verdict-refused s (refusal.SkimPairs number) texts before after i told h =
-    verdict-counted s (λ rows. HasRoom s rows × (number ≡ skim_entries s rows) × (MOST_SKIM_ENTRIES < number)) texts
-    (source s.command before) h.rest (Refused (refusal.SkimPairs number)) told h.part.1
-    (λ rows p. ap (λ (c : Command). verdict_on_rows c s rows) h.part.0 ∙ on-many-entries s rows number p.0 p.1 p.2)
+    verdict-on-past s (refusal.SkimPairs number) texts ((source_of s.command).left before) h.rest told h.part
 verdict-refused s (refusal.SweepCells links steps) texts before after i told h =
-    verdict-counted s (λ rows. (links ≡ length rows.links) × (steps ≡ s.horizon) × (MOST_SWEEP_LINK_STEPS < links * steps)) texts
-    (source s.command before) h.rest (Refused (refusal.SweepCells links steps)) told h.part.1
-    (λ rows p. ap (λ (c : Command). verdict_on_rows c s rows) h.part.0 ∙ on-many-sweep-steps s rows links steps p.0 p.1 p.2)
+    verdict-on-past s (refusal.SweepCells links steps) texts ((source_of s.command).left before) h.rest told h.part

@@ -13,8 +13,9 @@ use Rattle.start_table.specs.declared.rows.StartRow.{StartRow}
 use Rattle.desk_io.specs.declared.transfers.TheConstants.{MOST_TABLE_BYTES}
 use Rattle.dta_words.specs.declared.command.Settings.{Settings}
 use Rattle.desk_io.specs.State.{DeskState}
+use Rattle.jobs.specs.TableRows.{TableRows, road_rows}
 use Rattle.jobs.specs.Stops.{StopsAmong, StopsAt}
-use Rattle.jobs.specs.Tables.{AreAccepted, IsAccepted, TableRows, road_rows}
+use Rattle.jobs.specs.Tables.{AreAccepted, IsAccepted}
 use Rattle.jobs.specs.declared.stop.Stop.{Stop}
 use Rattle.jobs.specs.declared.tables.Roads.{Roads}
 use Rattle.jobs.specs.declared.tables.NetworkTables.{NetworkTables}

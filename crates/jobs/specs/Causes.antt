@@ -1,22 +1,18 @@
 -- The causes for which a run is refused, and where memory was wanting before its work.
-use Rattle.std.specs.Prelude.{ℕ, ◌≡◌, ◌<◌, ◌*◌, ◌⊎◌, ⊤, List, length}
+use Rattle.std.specs.Prelude.{◌≡◌, ◌⊎◌, ⊤, List}
 use Rattle.desk_io.specs.declared.desk.Table.{Table}
 use Rattle.desk_io.specs.Desk.{Left}
 use Rattle.desk_io.specs.Faults.{Rose}
 use Rattle.desk_io.specs.State.{DeskState}
 use Rattle.desk_io.specs.Transfers.{IsBegun, IsLong}
-use Rattle.vehicle_release.specs.Limits.{IsFirstAbove}
-use Rattle.sweep.specs.Scales.{IsFirstTooMany}
 use Rattle.reports.specs.declared.refusal.Refusal.{Refusal}
 use Rattle.reports.specs.declared.refusal.Refusal.TheVariants as refusal
 use Rattle.desk_io.specs.declared.transfers.TheConstants.{MOST_TABLE_BYTES}
-use Rattle.dta_model.specs.declared.loading.TheConstants.{MOST_LINK_STEPS}
-use Rattle.dta_words.specs.declared.command.Command.{Command}
-use Rattle.dta_words.specs.declared.command.Command.TheVariants as command
 use Rattle.dta_words.specs.declared.command.Settings.{Settings}
-use Rattle.reports.specs.declared.refusal.TheConstants.{MOST_SKIM_ENTRIES, MOST_SWEEP_LINK_STEPS}
-use Rattle.jobs.specs.Jobs.{HasRoom, HasSweepRoom, Reading, read_tables, skim_entries, tables_of}
-use Rattle.jobs.specs.Tables.{AreAccepted, ReachedAmong, IsFaulty, TableRows, no_rows}
+use Rattle.jobs.specs.TableRows.{TableRows, no_rows}
+use Rattle.jobs.specs.Inputs.{limits_of, read_tables, tables_of}
+use Rattle.jobs.specs.Jobs.{Reading}
+use Rattle.jobs.specs.Tables.{AreAccepted, IsFaulty, ReachedAmong}
 
 -- the count of failed reads rose
 abbrev pub ReadsFailed : DeskState → DeskState → Type 0
@@ -34,21 +30,10 @@ abbrev pub Reached : Settings → Table → (TableRows → Left → Left → Typ
 Reached s t Part before after =
     ReachedAmong s (tables_of s.command s.start) t Part no_rows before after
 
--- a command has the size of a loading; `freeflow` has none, and a sweep its own
-abbrev pub HasSizes : Command → Type 0
-HasSizes command.Freeflow = ⊥
-HasSizes command.Sweep = ⊥
-HasSizes c = ⊤
-
--- the vehicles of accepted rows are too many, first at this line, where so many are: those of the
--- demand, or those of the first scenario of a sweep that has too many
-abbrev pub HasTooMany : Command → Settings → ℕ → ℕ → TableRows → Type 0
-HasTooMany command.Freeflow s line total rows = ⊥
-HasTooMany command.Skim s line total rows = ⊥
-HasTooMany command.Sweep s line total rows =
-    HasSweepRoom s rows
-    × ((scenario : ℕ) × IsFirstTooMany rows.demand_cells s.scales scenario line total)
-HasTooMany c s line total rows = HasRoom s rows × IsFirstAbove rows.demand_cells line total
+-- all tables were accepted, and their rows are past the limit that this refusal tells
+abbrev pub IsPast : Settings → Refusal → Left → Left → Type 0
+IsPast s r before after =
+    AreCounted s (λ rows. (limits_of s.command).past s rows r) before after
 
 -- the cause of a refusal, as the reading of the tables until then shows it, where reads of these
 -- tables can fail
@@ -61,22 +46,13 @@ IsCauseAmong tables s (refusal.Read t) before after =
 IsCauseAmong tables s (refusal.LongTable t) before after =
     Reached s t (λ _. IsLong t MOST_TABLE_BYTES) before after
 IsCauseAmong tables s (refusal.Cells links steps) before after =
-    HasSizes s.command
-    × AreCounted s (λ rows. (links ≡ length rows.links) × (steps ≡ s.horizon)
-    × (MOST_LINK_STEPS < links * steps))
-    before after
+    IsPast s (refusal.Cells links steps) before after
 IsCauseAmong tables s (refusal.Vehicles line total) before after =
-    AreCounted s (HasTooMany s.command s line total) before after
+    IsPast s (refusal.Vehicles line total) before after
 IsCauseAmong tables s (refusal.SkimPairs number) before after =
-    (s.command ≡ command.Skim)
-    × AreCounted s (λ rows. HasRoom s rows × (number ≡ skim_entries s rows)
-    × (MOST_SKIM_ENTRIES < number))
-    before after
+    IsPast s (refusal.SkimPairs number) before after
 IsCauseAmong tables s (refusal.SweepCells links steps) before after =
-    (s.command ≡ command.Sweep)
-    × AreCounted s (λ rows. (links ≡ length rows.links) × (steps ≡ s.horizon)
-    × (MOST_SWEEP_LINK_STEPS < links * steps))
-    before after
+    IsPast s (refusal.SweepCells links steps) before after
 
 -- the same where only reads of the desk can fail: `demo` reads nothing of it
 abbrev pub IsCauseIn : Settings → Refusal → Left → Left → Type 0

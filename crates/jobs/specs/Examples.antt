@@ -6,7 +6,7 @@ use Rattle.row_reader.specs.declared.faults.Code.TheVariants as code
 use Rattle.row_reader.specs.declared.faults.Column.TheVariants as column
 use Rattle.gmns_tables.specs.OnLiterals.{networks_on_literals}
 use Rattle.reports.specs.declared.refusal.Refusal.TheVariants as refusal
-use Rattle.jobs.specs.Verdict.{verdict, Refused}
+use Rattle.jobs.specs.Verdict.{Refused, verdict}
 
 abbrev tables : List ℕ → List ℕ → List ℕ → List ℕ → Table → List ℕ
 tables node link movement demand table.Node = node

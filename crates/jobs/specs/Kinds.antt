@@ -3,7 +3,8 @@ use Rattle.std.specs.Prelude.{◌≡◌, []}
 use Rattle.dta_words.specs.declared.command.Command.{Command}
 use Rattle.dta_words.specs.declared.command.Command.TheVariants as command
 use Rattle.net_core.specs.declared.rows.NetRows.{NetRows}
-use Rattle.jobs.specs.Jobs.{Assigns, JobRows}
+use Rattle.jobs.specs.Inputs.{Assigns}
+use Rattle.jobs.specs.Jobs.{JobRows}
 use Rattle.jobs.specs.declared.assign_job.AssignJob.{AssignJob}
 use Rattle.jobs.specs.declared.audit_job.AuditJob.{AuditJob}
 use Rattle.jobs.specs.declared.job.Job.{Job}

@@ -1,3 +1,6 @@
+pub mod TableRows
+pub mod Limits
+pub mod Inputs
 pub mod Tables
 pub mod Jobs
 pub mod Verdict

@@ -1,5 +1,5 @@
 -- What stops a run before its work.
-use Rattle.std.specs.Prelude.{ℕ, ◌≡◌, ◌<◌, ◌*◌, ⊤, List, length}
+use Rattle.std.specs.Prelude.{◌≡◌, ⊤, List}
 use Rattle.desk_io.specs.declared.desk.Table.{Table}
 use Rattle.desk_io.specs.Transfers.{IsBegun, IsLong}
 use Rattle.row_reader.specs.declared.faults.TableRefusal.{TableRefusal}
@@ -7,21 +7,19 @@ use Rattle.row_reader.specs.declared.faults.TableRefusal.TheVariants as table_re
 use Rattle.reports.specs.declared.refusal.Refusal.{Refusal}
 use Rattle.reports.specs.declared.refusal.Refusal.TheVariants as refusal
 use Rattle.desk_io.specs.declared.transfers.TheConstants.{MOST_TABLE_BYTES}
-use Rattle.dta_model.specs.declared.loading.TheConstants.{MOST_LINK_STEPS}
 use Rattle.dta_words.specs.declared.command.Settings.{Settings}
 use Rattle.jobs.specs.declared.stop.Stop.{Stop}
 use Rattle.jobs.specs.declared.stop.Stop.TheVariants.{Refused, Memory}
-use Rattle.vehicle_release.specs.Limits.{IsFirstAbove}
 use Rattle.vehicle_release.specs.declared.fault.ReleaseFault.{ReleaseFault}
 use Rattle.vehicle_release.specs.declared.fault.ReleaseFault.TheVariants as release
-use Rattle.reports.specs.declared.refusal.TheConstants.{MOST_SKIM_ENTRIES, MOST_SWEEP_LINK_STEPS}
-use Rattle.sweep.specs.Scales.{IsFirstTooMany}
 use Rattle.sweep.specs.declared.fault.SweepFault.{SweepFault}
 use Rattle.sweep.specs.declared.fault.SweepFault.TheVariants as sweep
-use Rattle.jobs.specs.Jobs.{HasRoom, HasSweepRoom, skim_entries, tables_of}
+use Rattle.jobs.specs.TableRows.{TableRows}
+use Rattle.jobs.specs.Limits.{Limits}
+use Rattle.jobs.specs.Inputs.{tables_of}
+use Rattle.jobs.specs.Causes.{EndsForMemory, IsCause, IsCauseAmong, IsCutIn, ReadsFailed}
+use Rattle.jobs.specs.Tables.{IsFaulty, ReachedAmong}
 use Rattle.desk_io.specs.State.{DeskState}
-use Rattle.jobs.specs.Causes.{ReadsFailed, IsCause, IsCauseAmong, IsCutIn, EndsForMemory}
-use Rattle.jobs.specs.Tables.{ReachedAmong, IsFaulty, TableRows}
 
 -- what a refused table stops
 abbrev pub stop_of : TableRefusal → Stop
@@ -60,33 +58,18 @@ StopsAmong settings tables rows stop before after =
     StopsAt settings t rows stop (record before { left = left }) (record after { left = rest }))
     rows before.left after.left
 
--- the rows of an assignment's tables are past a limit, or memory was wanting for their job
-abbrev pub StopsJob : Settings → TableRows → Stop → Type 0
-StopsJob s rows Memory = ⊤
-StopsJob s rows (Refused (refusal.Cells links steps)) =
-    (links ≡ length rows.links) × (steps ≡ s.horizon) × (MOST_LINK_STEPS < links * steps)
-StopsJob s rows (Refused (refusal.Vehicles line total)) =
-    HasRoom s rows × IsFirstAbove rows.demand_cells line total
-StopsJob s rows (Refused _) = ⊥
-
--- the same of a skim's tables
-abbrev pub StopsSkim : Settings → TableRows → Stop → Type 0
-StopsSkim s rows Memory = ⊤
-StopsSkim s rows (Refused (refusal.Cells links steps)) =
-    (links ≡ length rows.links) × (steps ≡ s.horizon) × (MOST_LINK_STEPS < links * steps)
-StopsSkim s rows (Refused (refusal.SkimPairs number)) =
-    HasRoom s rows × (number ≡ skim_entries s rows) × (MOST_SKIM_ENTRIES < number)
-StopsSkim s rows (Refused _) = ⊥
-
--- the same of a sweep's tables
-abbrev pub StopsSweep : Settings → TableRows → Stop → Type 0
-StopsSweep s rows Memory = ⊤
-StopsSweep s rows (Refused (refusal.SweepCells links steps)) =
-    (links ≡ length rows.links) × (steps ≡ s.horizon) × (MOST_SWEEP_LINK_STEPS < links * steps)
-StopsSweep s rows (Refused (refusal.Vehicles line total)) =
-    HasSweepRoom s rows
-    × ((scenario : ℕ) × IsFirstTooMany rows.demand_cells s.scales scenario line total)
-StopsSweep s rows (Refused _) = ⊥
+-- the rows of a command's tables are past one of these limits, or memory was wanting for their job
+abbrev pub StopsPast : Limits → Settings → TableRows → Stop → Type 0
+StopsPast limits s rows Memory = ⊤
+StopsPast limits s rows (Refused (refusal.Cells links steps)) =
+    limits.past s rows (refusal.Cells links steps)
+StopsPast limits s rows (Refused (refusal.Vehicles line total)) =
+    limits.past s rows (refusal.Vehicles line total)
+StopsPast limits s rows (Refused (refusal.SkimPairs number)) =
+    limits.past s rows (refusal.SkimPairs number)
+StopsPast limits s rows (Refused (refusal.SweepCells links steps)) =
+    limits.past s rows (refusal.SweepCells links steps)
+StopsPast limits s rows (Refused _) = ⊥
 
 -- a count of failed reads rose where a table couldn't be read
 abbrev pub HasFault : Refusal → DeskState → DeskState → Type 0

@@ -14,11 +14,12 @@ ghost use Rattle.assignment.specs.Lent.{IsAssignment, settings_in, traffic_in};
 ghost use Rattle.assignment.specs.Traffic.{AreTripsBelow};
 ghost use Rattle.desk_io.specs.State.{DeskState};
 ghost use Rattle.jobs.specs.Calls.{OnlyReads, rows_in_tables, with_start_rows};
-ghost use Rattle.jobs.specs.Jobs.{Assigns, HasRoom, IsAcceptedJob, IsJob, IsJobOf};
-ghost use Rattle.jobs.specs.Jobs.{job_of as job_of_rows, traffic_of};
+ghost use Rattle.jobs.specs.TableRows.{TableRows};
+ghost use Rattle.jobs.specs.Limits.{HasRoom, loading_limits};
+ghost use Rattle.jobs.specs.Inputs.{Assigns};
+ghost use Rattle.jobs.specs.Jobs.{IsAcceptedJob, IsJob, IsJobOf, job_of as job_of_rows, traffic_of};
+ghost use Rattle.jobs.specs.Stops.{Stops, StopsIn, StopsPast};
 ghost use Rattle.jobs.specs.Kinds.{IsFor, assign_rows, rows_in_job};
-ghost use Rattle.jobs.specs.Stops.{Stops, StopsIn, StopsJob};
-ghost use Rattle.jobs.specs.Tables.{TableRows};
 
 use crate::job::Job;
 use crate::limits::sizes;
@@ -83,7 +84,7 @@ pub(crate) fn trips_within(
         (links * settings.now.horizon ≤ MOST_LINK_STEPS) × IsWithin demand_cells.now) }
     ensures stops { (rows : TableRows)
         → length rows.links ≡ links → rows.demand_cells ≡ demand_cells.now
-        → IfErr result (StopsJob settings.now rows) }
+        → IfErr result (StopsPast loading_limits settings.now rows) }
 {
     if sizes(links, settings.horizon).is_err() {
         return Err(Stop::Refused(Refusal::Cells {
@@ -116,7 +117,7 @@ fn assign_job_of(
         HasRoom settings.now (with_start_rows (rows_in_tables tables) start)
         × IsWithin tables.demand_cells.items) }
     ensures stops { IfErr result (
-        StopsJob settings.now (with_start_rows (rows_in_tables tables) start)) }
+        StopsPast loading_limits settings.now (with_start_rows (rows_in_tables tables) start)) }
 {
     let Tables {
         network,

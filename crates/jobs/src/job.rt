@@ -4,8 +4,8 @@ ghost use Rattle.dta_words.specs.Ranges.{AreSettings};
 ghost use Rattle.dta_words.specs.declared.command.Command.TheVariants as command;
 ghost use Rattle.jobs.specs.Calls.{OnlyReads};
 ghost use Rattle.jobs.specs.Jobs.{IsAcceptedJob, IsJob, IsJobOf};
-ghost use Rattle.jobs.specs.Kinds.{IsFor, rows_in_job};
 ghost use Rattle.jobs.specs.Stops.{Stops, StopsIn};
+ghost use Rattle.jobs.specs.Kinds.{IsFor, rows_in_job};
 
 use crate::assign_job::{AssignJob, accept_grid, accept_tables};
 use crate::audit_job::{AuditJob, accept_audit};

@@ -3,10 +3,11 @@ ghost use Rattle.std.specs.Prelude.{◌≡◌, IfOk, IfErr, OnOk};
 ghost use Rattle.dta_words.specs.Ranges.{AreSettings};
 ghost use Rattle.dta_words.specs.declared.command.Command.TheVariants as command;
 ghost use Rattle.jobs.specs.Calls.{OnlyReads};
-ghost use Rattle.jobs.specs.Jobs.{AreWithin, IsJob, IsJobOf};
+ghost use Rattle.jobs.specs.TableRows.{TableRows, net_of};
+ghost use Rattle.jobs.specs.Limits.{skim_limits};
+ghost use Rattle.jobs.specs.Jobs.{IsJob, IsJobOf};
+ghost use Rattle.jobs.specs.Stops.{StopsIn, StopsPast};
 ghost use Rattle.jobs.specs.Kinds.{IsFor, rows_in_job};
-ghost use Rattle.jobs.specs.Stops.{StopsIn, StopsSkim};
-ghost use Rattle.jobs.specs.Tables.{TableRows, net_of};
 
 use crate::job::Job;
 use crate::limits::sizes;
@@ -34,9 +35,9 @@ pub struct SkimJob {
 fn skim_sizes(net: &Net, settings: &Settings) -> Result<(), Stop>
     requires settings { AreSettings settings.now }
     ensures within { (rows : TableRows) → net_of rows ≡ net.now
-        → OnOk result (AreWithin command.Skim settings.now rows) }
+        → OnOk result (skim_limits.within settings.now rows) }
     ensures stops { (rows : TableRows) → net_of rows ≡ net.now
-        → IfErr result (StopsSkim settings.now rows) }
+        → IfErr result (StopsPast skim_limits settings.now rows) }
 {
     let links = net.link_count();
     let steps = settings.horizon;

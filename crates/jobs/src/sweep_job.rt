@@ -6,10 +6,11 @@ ghost use Rattle.dta_words.specs.declared.command.Command.TheVariants as command
 ghost use Rattle.gmns_tables.specs.Net.{net_of as joined};
 ghost use Rattle.net_core.specs.Network.{IsNet};
 ghost use Rattle.jobs.specs.Calls.{OnlyReads, rows_in_tables};
-ghost use Rattle.jobs.specs.Jobs.{AreWithin, IsJob, IsJobOf, job_of as job_of_rows};
+ghost use Rattle.jobs.specs.TableRows.{TableRows};
+ghost use Rattle.jobs.specs.Limits.{sweep_limits};
+ghost use Rattle.jobs.specs.Jobs.{IsJob, IsJobOf, job_of as job_of_rows};
+ghost use Rattle.jobs.specs.Stops.{StopsIn, StopsPast};
 ghost use Rattle.jobs.specs.Kinds.{IsFor, rows_in_job};
-ghost use Rattle.jobs.specs.Stops.{StopsIn, StopsSweep};
-ghost use Rattle.jobs.specs.Tables.{TableRows};
 
 use crate::job::Job;
 use crate::stop::Stop;
@@ -39,10 +40,10 @@ fn sweep_sizes(links: u32, demand_cells: &[DemandCell], settings: &Settings) -> 
     requires demand_cells { AreDemandCells demand_cells.now }
     ensures within { (rows : TableRows)
         → length rows.links ≡ links → rows.demand_cells ≡ demand_cells.now
-        → OnOk result (AreWithin command.Sweep settings.now rows) }
+        → OnOk result (sweep_limits.within settings.now rows) }
     ensures stops { (rows : TableRows)
         → length rows.links ≡ links → rows.demand_cells ≡ demand_cells.now
-        → IfErr result (StopsSweep settings.now rows) }
+        → IfErr result (StopsPast sweep_limits settings.now rows) }
 {
     let steps = settings.horizon;
     if u64::from(links) * u64::from(steps) > MOST_SWEEP_LINK_STEPS {
@@ -63,8 +64,8 @@ fn sweep_job_of(alloc: Global, tables: Tables, settings: &Settings) -> Result<Jo
         rows_in_job job ≡ job_of_rows settings.now (rows_in_tables tables)) }
     ensures sound { IfOk result (λ job. IsJob settings.now (rows_in_job job)) }
     ensures own { IfOk result (IsFor settings.now.command) }
-    ensures within { OnOk result (AreWithin command.Sweep settings.now (rows_in_tables tables)) }
-    ensures stops { IfErr result (StopsSweep settings.now (rows_in_tables tables)) }
+    ensures within { OnOk result (sweep_limits.within settings.now (rows_in_tables tables)) }
+    ensures stops { IfErr result (StopsPast sweep_limits settings.now (rows_in_tables tables)) }
 {
     let Tables {
         network,

@@ -16,9 +16,10 @@ ghost use Rattle.jobs.specs.Calls.{rows_in_tables, rows_with_turns, rows_in_netw
 ghost use Rattle.jobs.specs.Calls.{with_agent_rows, with_demand_cells, with_start_rows};
 ghost use Rattle.jobs.specs.Calls.{with_time_rows};
 ghost use Rattle.skims.specs.GivenTimes.{AreRowsOf};
+ghost use Rattle.jobs.specs.TableRows.{TableRows, all_tables, net_of, network_tables, no_rows};
+ghost use Rattle.jobs.specs.TableRows.{road_rows, road_tables};
 ghost use Rattle.jobs.specs.Stops.{StopsAt};
-ghost use Rattle.jobs.specs.Tables.{TableRows, all_tables, no_rows, road_rows, road_tables, net_of};
-ghost use Rattle.jobs.specs.Tables.{network_tables, turns_of};
+ghost use Rattle.jobs.specs.Tables.{turns_of};
 
 use crate::stop::Stop;
 use audit::{AgentRows, read_agents};

@@ -39,10 +39,12 @@ use Rattle.dta_words.specs.Ranges.{AreSettings}
 use Rattle.dta_words.specs.declared.command.Command.{Command}
 use Rattle.dta_words.specs.declared.command.Command.TheVariants as command
 use Rattle.dta_words.specs.declared.command.Settings.{Settings}
-use Rattle.jobs.specs.Jobs.{IsJob, IsSweepJob, JobRows, TakesTimes, job_of, released_cells, swept_cells, tables_of}
-use Rattle.jobs.specs.Tables.{TableRows, loading_tables, net_of, no_rows, road_rows, start_tables, turns_of, with_agents, with_table}
-use Rattle.jobs.specs.Verdict.{Accepted, Refused, Verdict, after_table, first_above, texts_of, verdict, verdict_by, verdict_on, verdict_on_rows}
-use Rattle.jobs.specs.Verdict.{verdict_on_scales, verdict_on_scenario, verdict_on_sizes, verdict_on_trips}
+use Rattle.jobs.specs.TableRows.{TableRows, loading_tables, net_of, no_rows, road_rows, start_tables}
+use Rattle.jobs.specs.Limits.{first_above, loading_limits, scales_past, vehicles_past}
+use Rattle.jobs.specs.Inputs.{TakesTimes, inputs_of, source_of, tables_of}
+use Rattle.jobs.specs.Jobs.{IsJob, IsSweepJob, JobRows, job_of}
+use Rattle.jobs.specs.Tables.{turns_of, with_table}
+use Rattle.jobs.specs.Verdict.{Accepted, Refused, Verdict, after_table, verdict, verdict_by, verdict_on, verdict_on_rows, verdict_past}
 use Rattle.assignment.proofs.AssignmentFacts.{no-start-rows}
 use Rattle.jobs.proofs.TableFacts.{joined-net}
 use Rattle.reference.specs.Laws.{IsAccepted}
@@ -92,25 +94,28 @@ module _ (given : Settings) (job : JobRows) where
   after (Ok rows) next e then = then rows refl e
   after (Err fault) next e then = absurd cc
 
-  on-trips : (s : Settings) (rows : TableRows) (o : Option ℕ) → Accepts (verdict_on_trips s rows o) → (o ≡ None) × Accepts (Accepted s (job_of s rows))
-  on-trips s rows None e = (refl, e)
-  on-trips s rows (Some row) e = absurd cc
+  -- no limit is passed
+  unlimited : (o : Option Refusal) (s : Settings) (rows : TableRows) → Accepts (verdict_past o s rows) → (o ≡ None) × Accepts (Accepted s (job_of s rows))
+  unlimited None s rows e = (refl, e)
+  unlimited (Some r) s rows e = absurd cc
 
-  on-sizes : (s : Settings) (rows : TableRows) → Accepts (verdict_on_sizes s rows) → IsWithin rows.demand_cells × Accepts (Accepted s (job_of s rows))
-  on-sizes s rows e =
-      let is = on-trips s rows (first_above rows.demand_cells) (passed _ _ _ e).1 in
-      (within rows.demand_cells is.0, is.1)
+-- of two answers of which the second tells a limit, the first was made
+in-room : (b : Bool) (o : Option Refusal) (r : Refusal) → cond b o (Some r) ≡ None → (b ≡ true) × (o ≡ None)
+in-room true o r e = (refl, e)
+in-room false o r e = absurd cc
 
-  on-scenario : (cells : List DemandCell) (o : Option ℕ) (next : Verdict) → Accepts (verdict_on_scenario cells o next) → (o ≡ None) × Accepts next
-  on-scenario cells None next e = (refl, e)
-  on-scenario cells (Some row) next e = absurd cc
+no-row : (cells : List DemandCell) (row : Option ℕ) (next : Option Refusal) → vehicles_past cells row next ≡ None → (row ≡ None) × (next ≡ None)
+no-row cells None next e = (refl, e)
+no-row cells (Some row) next e = absurd cc
 
-  on-scales : (cells : List DemandCell) (scales : List ℕ) (next : Verdict) → Accepts (verdict_on_scales cells scales next) → AreAllWithin cells scales × Accepts next
-  on-scales cells [] next e = (All-nil (λ scale. IsWithin (scaled scale cells)), e)
-  on-scales cells (scale ∷ scales) next e =
-      let here = on-scenario (scaled scale cells) (first_above (scaled scale cells)) (verdict_on_scales cells scales next) e in
-      let there = on-scales cells scales next here.1 in
-      (All-cons (λ scale. IsWithin (scaled scale cells)) scale scales (within (scaled scale cells) here.0) there.0, there.1)
+on-sizes : (s : Settings) (rows : TableRows) → loading_limits.first_past s rows ≡ None → IsWithin rows.demand_cells
+on-sizes s rows e = within rows.demand_cells (no-row rows.demand_cells (first_above rows.demand_cells) None (in-room _ _ _ e).1).0
+
+on-scales : (cells : List DemandCell) (scales : List ℕ) → scales_past cells scales ≡ None → AreAllWithin cells scales
+on-scales cells [] e = All-nil (λ scale. IsWithin (scaled scale cells))
+on-scales cells (scale ∷ scales) e =
+    let here = no-row (scaled scale cells) (first_above (scaled scale cells)) (scales_past cells scales) e in
+    All-cons (λ scale. IsWithin (scaled scale cells)) scale scales (within (scaled scale cells) here.0) (on-scales cells scales here.1)
 
 -- ---- the job of accepted tables
 
@@ -118,7 +123,7 @@ module _ (s : Settings) (in_range : AreSettings s) (given : Settings) (job : Job
   -- what is true of the rows of all tables
   record AreSound (rows : TableRows) : Type 0 where
     net : IsNet (net_of rows)
-    few : IsWithin (released_cells c rows.demand_cells)
+    few : IsWithin ((inputs_of c).released rows.demand_cells)
     start : AreStartRows rows.start
     times : TakesTimes c → AreRowsOf (net_of rows) s.bucket s.horizon rows.times
     sweep : c ≡ command.Sweep → IsSweepJob s (job_of s rows)
@@ -129,7 +134,7 @@ module _ (s : Settings) (in_range : AreSettings s) (given : Settings) (job : Job
       let made : job_of s rows ≡ job = cc in
       let is : IsJob s (job_of s rows) = record {
         net = sound.net;
-        trips = trips-below s in_range (released_cells s.command rows.demand_cells) (subst (λ (k : Command). IsWithin (released_cells k rows.demand_cells)) (sym asks) sound.few);
+        trips = trips-below s in_range ((inputs_of s.command).released rows.demand_cells) (subst (λ (k : Command). IsWithin ((inputs_of k).released rows.demand_cells)) (sym asks) sound.few);
         start = sound.start;
         times = subst (λ (k : Command). TakesTimes k → AreRowsOf (net_of rows) s.bucket s.horizon rows.times) (sym asks) sound.times;
         sweep = λ k. sound.sweep (sym asks ∙ k);
@@ -226,42 +231,46 @@ module _ (s : Settings) (in_range : AreSettings s) (given : Settings) (job : Job
         start = no-start-rows;
         times = λ k. are;
         sweep = λ k. absurd cc;
-      }) (passed given job _ _ _ (passed given job _ _ _ e3).1).1)))
+      }) (unlimited given job _ s _ e3).1)))
 
   -- what makes the rows of a command that loads once
   record Loads (c : Command) : Type 0 where
     none_swept : c ≡ command.Sweep → ⊥
     untimed : TakesTimes c → ⊥
-    all_released : (cells : List DemandCell) → released_cells c cells ≡ cells
-    starts : (rows : TableRows) (bytes : List ℕ) → with_agents c rows bytes ≡ then_with (start_verdict (records bytes)) (λ start. Ok (record rows { start = start }))
+    all_released : (cells : List DemandCell) → (inputs_of c).released cells ≡ cells
+    starts : (rows : TableRows) (bytes : List ℕ) → (inputs_of c).with_agents rows bytes ≡ then_with (start_verdict (records bytes)) (λ start. Ok (record rows { start = start }))
 
-  loading : (c : Command) → s.command ≡ c → Loads c → Accepts given job (verdict_on s (loading_tables s.start) texts no_rows (verdict_on_sizes s)) → IsAccepted given job
+  -- the verdict on the rows of such a command
+  abbrev sized : TableRows → Verdict
+  sized = verdict_on_rows command.Assign s
+
+  loading : (c : Command) → s.command ≡ c → Loads c → Accepts given job (verdict_on s (loading_tables s.start) texts no_rows sized) → IsAccepted given job
   loading c asks loads e =
-      let next = verdict_on_sizes s in
+      let next = sized in
       roads s in_range given job c asks texts next (table.Movement ∷ table.Demand ∷ start_tables s.start) e (λ nodes links net e1.
       with-turns s in_range given job c asks texts next (table.Demand ∷ start_tables s.start) (road_rows nodes links) net e1 (λ turns whole e2.
       with-cells s in_range given job c asks texts next (start_tables s.start) (record (road_rows nodes links) { turns = turns }) e2 (λ cells cells-are e3.
       rest nodes links turns cells whole s.start e3)))
     where
-      finish : (rows : TableRows) → IsNet (net_of rows) → AreStartRows rows.start → Accepts given job (verdict_on_sizes s rows) → IsAccepted given job
+      finish : (rows : TableRows) → IsNet (net_of rows) → AreStartRows rows.start → Accepts given job (sized rows) → IsAccepted given job
       finish rows net start e =
-          let sized = on-sizes given job s rows e in
+          let loaded = unlimited given job _ s rows e in
           accepted s in_range given job c asks rows (record {
             net = net;
-            few = subst IsWithin (sym (loads.all_released rows.demand_cells)) sized.0;
+            few = subst IsWithin (sym (loads.all_released rows.demand_cells)) (on-sizes s rows loaded.0);
             start = start;
             times = λ k. absurd (loads.untimed k);
             sweep = λ k. absurd (loads.none_swept k);
-          }) sized.1
+          }) loaded.1
 
       rest : (nodes : List NodeRow) (links : List (WithWindows LinkRow)) (turns : List (WithWindows TurnRow)) (cells : List DemandCell)
           → IsNet (net_of (record (road_rows nodes links) { turns = turns })) → (start : Bool)
-          → Accepts given job (verdict_on s (start_tables start) texts (record (road_rows nodes links) { turns = turns; demand_cells = cells }) (verdict_on_sizes s)) → IsAccepted given job
+          → Accepts given job (verdict_on s (start_tables start) texts (record (road_rows nodes links) { turns = turns; demand_cells = cells }) sized) → IsAccepted given job
       rest nodes links turns cells whole false e = finish (record (road_rows nodes links) { turns = turns; demand_cells = cells }) whole no-start-rows e
       rest nodes links turns cells whole true e =
           let rows : TableRows = record (road_rows nodes links) { turns = turns; demand_cells = cells } in
-          one-table s in_range given job c asks texts (verdict_on_sizes s) table.Start [] rows (start_verdict (records (texts table.Start))) (λ start. record rows { start = start })
-          (ap (λ (k : Command). with_agents k rows (texts table.Start)) asks ∙ loads.starts rows (texts table.Start)) e (λ start is e1.
+          one-table s in_range given job c asks texts sized table.Start [] rows (start_verdict (records (texts table.Start))) (λ start. record rows { start = start })
+          (ap (λ (k : Command). (inputs_of k).with_agents rows (texts table.Start)) asks ∙ loads.starts rows (texts table.Start)) e (λ start is e1.
           finish (record rows { start = start }) whole (are-starts _ start is) e1)
 
   sweep : s.command ≡ command.Sweep → Comes command.Sweep → IsAccepted given job
@@ -271,9 +280,9 @@ module _ (s : Settings) (in_range : AreSettings s) (given : Settings) (job : Job
       with-turns s in_range given job command.Sweep asks texts next (table.Demand ∷ []) (road_rows nodes links) net e1 (λ turns whole e2.
       with-cells s in_range given job command.Sweep asks texts next [] (record (road_rows nodes links) { turns = turns }) e2 (λ cells cells-are e3.
       let rows : TableRows = record (road_rows nodes links) { turns = turns; demand_cells = cells } in
-      let sized = passed given job _ _ _ e3 in
-      let scaled = on-scales given job cells s.scales (Accepted s (job_of s rows)) sized.1 in
-      let same : swept_cells s.command cells ≡ cells = ap (λ (k : Command). swept_cells k cells) asks in
+      let loaded = unlimited given job _ s rows e3 in
+      let roomy = in-room _ _ _ loaded.0 in
+      let same : (inputs_of s.command).swept cells ≡ cells = ap (λ (k : Command). (inputs_of k).swept cells) asks in
       accepted s in_range given job command.Sweep asks rows (record {
         net = whole;
         few = none-within;
@@ -281,10 +290,10 @@ module _ (s : Settings) (in_range : AreSettings s) (given : Settings) (job : Job
         times = λ k. absurd k;
         sweep = λ k. record {
           cells = subst AreDemandCells (sym same) cells-are;
-          few = rw (length-map links (λ (link : WithWindows LinkRow). link.row)) (leb-true _ _ sized.0);
-          within = subst (λ (cs : List DemandCell). AreAllWithin cs s.scales) (sym same) scaled.0;
+          few = rw (length-map links (λ (link : WithWindows LinkRow). link.row)) (leb-true _ _ roomy.0);
+          within = subst (λ (cs : List DemandCell). AreAllWithin cs s.scales) (sym same) (on-scales cells s.scales roomy.1);
         };
-      }) scaled.1)))
+      }) loaded.1)))
 
   audit : s.command ≡ command.Audit → Comes command.Audit → IsAccepted given job
   audit asks e =
@@ -294,25 +303,25 @@ module _ (s : Settings) (in_range : AreSettings s) (given : Settings) (job : Job
       with-cells s in_range given job command.Audit asks texts next (table.Start ∷ table.Times ∷ []) (record (road_rows nodes links) { turns = turns }) e2 (λ cells cells-are e3.
       let rows : TableRows = record (road_rows nodes links) { turns = turns; demand_cells = cells } in
       one-table s in_range given job command.Audit asks texts next table.Start (table.Times ∷ []) rows (agents_verdict (records (texts table.Start))) (λ agents. record rows { agents = agents })
-      (ap (λ (k : Command). with_agents k rows (texts table.Start)) asks) e3 (λ agents _ e4.
+      (ap (λ (k : Command). (inputs_of k).with_agents rows (texts table.Start)) asks) e3 (λ agents _ e4.
       with-times s in_range given job command.Audit asks texts next [] (record rows { agents = agents }) e4 (λ times are e5.
       let all : TableRows = record rows { agents = agents; times = times } in
-      let sized = on-sizes given job s all e5 in
+      let loaded = unlimited given job _ s all e5 in
       accepted s in_range given job command.Audit asks all (record {
         net = whole;
-        few = sized.0;
+        few = on-sizes s all loaded.0;
         start = no-start-rows;
         times = λ k. are;
         sweep = λ k. absurd cc;
-      }) sized.1)))))
+      }) loaded.1)))))
 
 by-command : (c : Command) (s : Settings) → s.command ≡ c → AreSettings s → (texts : Table → List ℕ) (given : Settings) (job : JobRows)
-    → Accepts given job (verdict_on s (tables_of c s.start) (texts_of c texts) no_rows (verdict_on_rows c s)) → IsAccepted given job
+    → Accepts given job (verdict_on s (tables_of c s.start) ((source_of c).texts texts) no_rows (verdict_on_rows c s)) → IsAccepted given job
 by-command command.Freeflow s asks in_range texts given job e = free s in_range given job texts asks e
 by-command command.Assign s asks in_range texts given job e =
     loading s in_range given job texts command.Assign asks (record { none_swept = λ k. absurd cc; untimed = λ k. k; all_released = λ cells. refl; starts = λ rows bytes. refl }) e
 by-command (command.Demo n) s asks in_range texts given job e =
-    loading s in_range given job (texts_of (command.Demo n) texts) (command.Demo n) asks
+    loading s in_range given job ((source_of (command.Demo n)).texts texts) (command.Demo n) asks
     (record { none_swept = λ k. absurd cc; untimed = λ k. k; all_released = λ cells. refl; starts = λ rows bytes. refl }) e
 by-command command.Skim s asks in_range texts given job e = skim s in_range given job texts asks e
 by-command command.Counts s asks in_range texts given job e =

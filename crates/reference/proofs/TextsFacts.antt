@@ -12,8 +12,10 @@ use Rattle.skims.specs.GivenTimes.{AreRowsOf}
 use Rattle.assignment.proofs.Determined.{RouteLaws}
 use Rattle.sweep.proofs.Determined.{scenarios_stand_alone}
 use Rattle.assignment.specs.Traffic.{IsTraffic}
-use Rattle.jobs.specs.Jobs.{IsJob, JobRows, TakesTimes, traffic_of}
-use Rattle.commands.specs.Outputs.{AreAudited, AreTexts, IsAudited, OutText, audit_plan}
+use Rattle.jobs.specs.Inputs.{TakesTimes}
+use Rattle.jobs.specs.Jobs.{IsJob, JobRows, traffic_of}
+use Rattle.commands.specs.Outputs.{AreAudited, IsAudited, OutText, audit_plan}
+use Rattle.commands.specs.Works.{AreTexts}
 use Rattle.commands.proofs.Determined.{texts_are_determined}
 use Rattle.reference.specs.Audits.{verdict_of}
 use Rattle.reference.specs.Laws.{EachJobHasItsTexts, IsAccepted, Passes}

@@ -6,9 +6,10 @@ use Rattle.dta_words.specs.Ranges.{AreSettings}
 use Rattle.dta_words.specs.declared.command.Command.TheVariants as command
 use Rattle.dta_words.specs.declared.command.Settings.{Settings}
 use Rattle.jobs.specs.Jobs.{IsJob, JobRows}
-use Rattle.commands.specs.Laws.{AreDetermined}
-use Rattle.commands.specs.Outputs.{AreTexts, IsAudited, OutText}
 use Rattle.jobs.specs.Verdict.{Accepted, verdict as comes_to}
+use Rattle.commands.specs.Laws.{AreDetermined}
+use Rattle.commands.specs.Outputs.{IsAudited, OutText}
+use Rattle.commands.specs.Works.{AreTexts}
 use Rattle.reference.specs.Audits.{verdict_of}
 use Rattle.reference.specs.Texts.{texts_of}
 

@@ -12,7 +12,9 @@ use Rattle.reference.specs.Sweeps.{scenarios_of}
 -- those of an audit are what it puts where its verdict is yes
 abbrev pub texts_of : Command → Settings → JobRows → List OutText
 texts_of command.Freeflow s job = free_texts job.net
+texts_of command.Assign s job = assigned_texts s (traffic_of job)
+texts_of (command.Demo n) s job = assigned_texts s (traffic_of job)
 texts_of command.Skim s job = skim_texts job.net (entries_of s job)
+texts_of command.Counts s job = assigned_texts s (traffic_of job)
 texts_of command.Sweep s job = sweep_texts (scenarios_of s job)
 texts_of command.Audit s job = audit_texts job
-texts_of c s job = assigned_texts s (traffic_of job)

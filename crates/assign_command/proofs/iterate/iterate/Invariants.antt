@@ -3,7 +3,8 @@ use Rattle.loader.specs.Gates.{gate_of}
 use Rattle.assignment.specs.Lent.{settings_in, traffic_in}
 use Rattle.assignment.specs.Traffic.{AreRoutesOf}
 use Rattle.assign_command.specs.Progress.{IsAt}
-use Rattle.assign_command.specs.Receipts.{numbers_in, receipts_of, taking_all}
+use Rattle.assign_command.specs.Receipts.{numbers_in, taking_all}
+use Rattle.commands.specs.Works.{by_workers}
 use Rattle.assign_command.proofs.iterate.iterate.Given as goal
 
 abbrev pub invariant-loop-iteration : goal.invariant-loop-iteration
@@ -14,6 +15,6 @@ invariant-loop-iteration g l = record {
   later : (g.D.Desk.state l.fn.desk).put_faults ≤ (g.D.Desk.state l.desk).put_faults;
   reads : (g.D.Desk.state l.desk).read_faults ≡ (g.D.Desk.state l.fn.desk).read_faults;
   receipts : gate_of g.G.Gate.closes g.G.Gate.last l.gate
-      ≡ taking_all (receipts_of (settings_in l.assignment).plain (l.iteration - 1)) (numbers_in (settings_in l.assignment) (traffic_in l.assignment))
+      ≡ taking_all (by_workers (settings_in l.assignment).plain (l.iteration - 1)) (numbers_in (settings_in l.assignment) (traffic_in l.assignment))
       (gate_of g.G.Gate.closes g.G.Gate.last l.fn.gate);
 }

@@ -2,8 +2,8 @@ use Rattle.std.proofs.Common.{refl, subst, sym}
 use Rattle.loader.specs.Gates.{gate_of}
 use Rattle.desk_io.specs.Desk.{Left}
 use Rattle.jobs.specs.Jobs.{IsAcceptedJob}
-use Rattle.jobs.specs.Kinds.{rows_in_job}
 use Rattle.jobs.specs.Stops.{Stops}
+use Rattle.jobs.specs.Kinds.{rows_in_job}
 use Rattle.jobs.specs.declared.stop.Stop.{Stop}
 use Rattle.dta_run.proofs.ReceiptFacts.{refused-gives, work-gives}
 use Rattle.dta_run.proofs.RunFacts.{refused-means, works-means}

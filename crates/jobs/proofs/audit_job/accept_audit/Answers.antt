@@ -3,14 +3,14 @@ use Rattle.std.proofs.lemmas.Result.{err_from_is_err_and}
 use Rattle.desk_io.specs.declared.desk.Table.TheVariants as table
 use Rattle.dta_words.specs.declared.command.Command.TheVariants as command
 use Rattle.jobs.specs.Calls.{rows_in_tables, with_agent_rows, with_time_rows}
-use Rattle.jobs.specs.Tables.{all_tables, no_rows}
+use Rattle.jobs.specs.TableRows.{all_tables, no_rows}
 use Rattle.jobs.proofs.ChainFacts.{accepted-both, accepted-one, among-first, among-then, reads-both, reads-done, reads-stopped}
 use Rattle.dta_model.specs.declared.loading.TheConstants.{MOST_LINK_STEPS}
 use Rattle.gmns_tables.specs.RowsWithWindows.{rows_of}
 use Rattle.net_core.specs.declared.rows.NetRows.{NetRows}
 use Rattle.vehicle_release.specs.Limits.{IsWithin}
 use Rattle.assignment.proofs.AssignmentFacts.{no-start-rows}
-use Rattle.jobs.proofs.JobFacts.{among-audit, audit-job, audit-starved, audit-stops, link-count}
+use Rattle.jobs.proofs.JobFacts.{among, asked, audit-job, link-count, own-job, past, starved}
 use Rattle.jobs.proofs.audit_job.accept_audit.Goals as goal
 
 pub returns-in_err-tables-clause-reads : goal.returns-in_err-tables-clause-reads
@@ -18,7 +18,7 @@ returns-in_err-tables-clause-reads g c =
     let p = err_from_is_err_and c.from_residual.result c.from_residual.ensures.1 in
     let s = c.args.settings.now in
     let r = c.in_err-tables.ensures.reads in
-    rw (p.1, p.2) (reads-stopped r (among-audit s c.requires.command (g.D.Desk.state c.args.desk.now) (g.D.Desk.state c.accept_all.new.desk) _
+    rw (p.1, p.2) (reads-stopped r (among s (asked s command.Audit c.requires.command) (g.D.Desk.state c.args.desk.now) (g.D.Desk.state c.accept_all.new.desk) _
     (among-first s all_tables (table.Start ∷ table.Times ∷ []) no_rows _ _ _ r.stops)))
 
 pub returns-in_err-agents-clause-reads : goal.returns-in_err-agents-clause-reads
@@ -29,7 +29,7 @@ returns-in_err-agents-clause-reads g c =
     let r = c.in_ok-tables.ensures.reads in
     let read = r.done in
     let t = c.in_err-agents.ensures.reads s rows c.requires.command in
-    rw (p.1, p.2) (reads-stopped (reads-both r t) (among-audit s c.requires.command (g.D.Desk.state c.args.desk.now) (g.D.Desk.state c.accept_agents.new.desk) _
+    rw (p.1, p.2) (reads-stopped (reads-both r t) (among s (asked s command.Audit c.requires.command) (g.D.Desk.state c.args.desk.now) (g.D.Desk.state c.accept_agents.new.desk) _
     (among-then s all_tables (table.Times ∷ []) table.Start no_rows rows _ _ _ _ read r.later t.stops)))
 
 pub returns-in_err-net-clause-reads : goal.returns-in_err-net-clause-reads
@@ -43,7 +43,8 @@ returns-in_err-net-clause-reads g c =
     let t = c.in_ok-agents.ensures.reads s rows c.requires.command in
     let both = accepted-both s all_tables (table.Start ∷ []) no_rows rows more _ _ _ read
     (accepted-one s table.Start rows more _ _ t.done) in
-    rw (p.1, p.2) (reads-stopped (reads-both r t) (audit-starved s c.requires.command (g.D.Desk.state c.args.desk.now) (g.D.Desk.state c.accept_agents.new.desk) more both))
+    rw (p.1, p.2) (reads-stopped (reads-both r t) (starved s (asked s command.Audit c.requires.command) (g.D.Desk.state c.args.desk.now) (g.D.Desk.state c.accept_agents.new.desk)
+    (all_tables ++ table.Start ∷ []) table.Times [] more refl both))
 
 pub returns-in_err-times-clause-reads : goal.returns-in_err-times-clause-reads
 returns-in_err-times-clause-reads g c =
@@ -57,7 +58,7 @@ returns-in_err-times-clause-reads g c =
     let both = accepted-both s all_tables (table.Start ∷ []) no_rows rows more _ _ _ read
     (accepted-one s table.Start rows more _ _ t.done) in
     let u = c.in_err-times.ensures.reads more (sym c.in_ok-net.ensures) in
-    rw (p.1, p.2) (reads-stopped (reads-both (reads-both r t) u) (among-audit s c.requires.command (g.D.Desk.state c.args.desk.now) (g.D.Desk.state c.accept_times.new.desk) _
+    rw (p.1, p.2) (reads-stopped (reads-both (reads-both r t) u) (among s (asked s command.Audit c.requires.command) (g.D.Desk.state c.args.desk.now) (g.D.Desk.state c.accept_times.new.desk) _
     (among-then s (all_tables ++ table.Start ∷ []) [] table.Times no_rows more _ _ _ _ both (let a = r.later in let b = t.later in omega (arith, a, b)) u.stops)))
 
 pub returns-in_err-trips-clause-reads : goal.returns-in_err-trips-clause-reads
@@ -77,7 +78,7 @@ returns-in_err-trips-clause-reads g c =
     (accepted-one s table.Times more all _ _ u.done) in
     let links = c.in_ok-tables.tables.network.roads.links in
     let many = link-count links (rows_of links) refl ∙ ap (λ (n : NetRows). length n.links) (sym c.in_ok-net.ensures) ∙ sym c.link_count.ensures.count in
-    rw (p.1, p.2) (reads-stopped (reads-both (reads-both r t) u) (audit-stops s c.requires.command (g.D.Desk.state c.args.desk.now) (g.D.Desk.state c.accept_times.new.desk) all _ every
+    rw (p.1, p.2) (reads-stopped (reads-both (reads-both r t) u) (past s (asked s command.Audit c.requires.command) (g.D.Desk.state c.args.desk.now) (g.D.Desk.state c.accept_times.new.desk) all _ every
     (c.in_err-trips.ensures.stops all many (sym c.deref.ensures.value))))
 
 pub returns-clause-reads : goal.returns-clause-reads
@@ -99,7 +100,7 @@ returns-clause-reads g c =
     let room = subst (λ (n : ℕ). n * s.horizon ≤ MOST_LINK_STEPS) (sym many) c.in_ok-trips.ensures.within.0 in
     let within = subst IsWithin c.deref.ensures.value c.in_ok-trips.ensures.within.1 in
     reads-done (reads-both (reads-both r t) u) (rw (c.in_ok-net.ensures, c.in_ok-trips.ensures.trips, c.deref.ensures.value)
-    (audit-job s c.requires.command all _ _ every (room, within)))
+    (own-job s (asked s command.Audit c.requires.command) all _ _ _ every (room, within) (audit-job s all c.requires.command)))
 
 pub returns-clause-sound : goal.returns-clause-sound
 returns-clause-sound g c = record {

@@ -1,5 +1,6 @@
 use Rattle.std.proofs.Common.{[], ◌≡◌, ◌∙◌, inr, subst, sym}
-use Rattle.jobs.specs.Jobs.{TakesTimes}
+use Rattle.jobs.specs.Calls.{rows_in_roads}
+use Rattle.jobs.specs.Inputs.{TakesTimes}
 use Rattle.dta_words.specs.declared.command.Command.TheVariants as command
 use Rattle.std.proofs.lemmas.List.Elements.{All-nil}
 use Rattle.std.proofs.lemmas.Result.{err_from_is_err_and}
@@ -8,7 +9,7 @@ use Rattle.gmns_tables.proofs.NetFacts.{no-turns}
 use Rattle.gmns_tables.specs.RowsWithWindows.{rows_of}
 use Rattle.jobs.proofs.ChainFacts.{reads-stopped, reads-done}
 use Rattle.assignment.proofs.AssignmentFacts.{no-start-rows}
-use Rattle.jobs.proofs.JobFacts.{free-counted, free-job, no-trips}
+use Rattle.jobs.proofs.JobFacts.{asked, counted, free-job, no-trips, own-job}
 use Rattle.jobs.proofs.TableFacts.{joined-net}
 use Rattle.jobs.proofs.job.accept_free.Goals as goal
 
@@ -21,13 +22,14 @@ pub returns-in_err-net-clause-reads : goal.returns-in_err-net-clause-reads
 returns-in_err-net-clause-reads g c =
     let p = err_from_is_err_and c.from_residual-in_err-net.result c.from_residual-in_err-net.ensures.1 in
     let r = c.in_ok-roads.ensures.reads in
-    rw (p.1, p.2) (reads-stopped r (inr (inr (free-counted c.args.settings.now c.requires.command c.in_ok-roads.roads.nodes c.in_ok-roads.roads.links _ _ r.done))))
+    rw (p.1, p.2) (reads-stopped r (inr (inr (counted c.args.settings.now (asked c.args.settings.now command.Freeflow c.requires.command) (rows_in_roads c.in_ok-roads.roads) _ _ r.done))))
 
 pub returns-clause-reads : goal.returns-clause-reads
 returns-clause-reads g c =
     let r = c.in_ok-roads.ensures.reads in
     reads-done r (rw (c.in_ok-net.ensures)
-    (free-job c.args.settings.now c.requires.command c.in_ok-roads.roads.nodes c.in_ok-roads.roads.links _ _ r.done))
+    (own-job c.args.settings.now (asked c.args.settings.now command.Freeflow c.requires.command) (rows_in_roads c.in_ok-roads.roads) _ _ _ r.done tt
+    (free-job c.args.settings.now c.in_ok-roads.roads.nodes c.in_ok-roads.roads.links c.requires.command)))
 
 pub returns-clause-sound : goal.returns-clause-sound
 returns-clause-sound g c = record {

@@ -4,7 +4,7 @@ use Rattle.net_core.specs.declared.rows.NetRows.{NetRows}
 use Rattle.std.proofs.lemmas.Result.{err_from_is_err_and}
 use Rattle.reports.specs.declared.refusal.TheConstants.{MOST_SWEEP_LINK_STEPS}
 use Rattle.jobs.specs.Calls.{rows_in_tables}
-use Rattle.jobs.specs.Jobs.{TakesTimes}
+use Rattle.jobs.specs.Inputs.{TakesTimes}
 use Rattle.assignment.proofs.AssignmentFacts.{no-start-rows}
 use Rattle.jobs.proofs.JobFacts.{link-count, no-trips, trips_of-none}
 use Rattle.jobs.proofs.sweep_job.sweep_job_of.Goals as goal

@@ -2,7 +2,7 @@ use Rattle.std.proofs.Common.{[], ◌∷◌}
 use Rattle.std.proofs.lemmas.Result.{err_from_is_err_and}
 use Rattle.desk_io.specs.declared.desk.Table.TheVariants as table
 use Rattle.jobs.specs.Calls.{rows_in_network, with_demand_cells}
-use Rattle.jobs.specs.Tables.{network_tables, no_rows}
+use Rattle.jobs.specs.TableRows.{network_tables, no_rows}
 use Rattle.jobs.proofs.ChainFacts.{accepted-both, accepted-one, among-first, among-then, reads-both, reads-done, reads-stopped}
 use Rattle.jobs.proofs.tables.accept_all.Goals as goal
 

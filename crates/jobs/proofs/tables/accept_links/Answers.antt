@@ -1,6 +1,6 @@
 use Rattle.std.proofs.Common.{[]}
 use Rattle.std.proofs.lemmas.Result.{err_from_is_err_and}
-use Rattle.jobs.specs.Tables.{road_rows}
+use Rattle.jobs.specs.TableRows.{road_rows}
 use Rattle.jobs.proofs.ChainFacts.{reads-stopped, reads-done}
 use Rattle.jobs.proofs.TableFacts.{links-accepted, links-stop}
 use Rattle.jobs.proofs.tables.accept_links.Goals as goal

@@ -2,7 +2,7 @@ use Rattle.std.proofs.Common.{[], ◌∷◌}
 use Rattle.std.proofs.lemmas.Result.{err_from_is_err_and}
 use Rattle.desk_io.specs.declared.desk.Table.TheVariants as table
 use Rattle.jobs.specs.Calls.{rows_in_roads}
-use Rattle.jobs.specs.Tables.{no_rows, road_tables}
+use Rattle.jobs.specs.TableRows.{no_rows, road_tables}
 use Rattle.gmns_tables.specs.Net.{listed_turns}
 use Rattle.jobs.proofs.TableFacts.{joined-net}
 use Rattle.jobs.proofs.ChainFacts.{accepted-both, accepted-one, among-first, among-then, reads-both, reads-done, reads-stopped}

@@ -1,5 +1,5 @@
 use Rattle.std.proofs.lemmas.Result.{err_from_is_err_and}
-use Rattle.jobs.specs.Tables.{no_rows}
+use Rattle.jobs.specs.TableRows.{no_rows}
 use Rattle.jobs.proofs.ChainFacts.{reads-stopped, reads-done}
 use Rattle.jobs.proofs.TableFacts.{nodes-accepted, nodes-stop}
 use Rattle.jobs.proofs.tables.accept_nodes.Goals as goal

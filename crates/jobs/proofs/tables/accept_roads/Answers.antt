@@ -1,7 +1,7 @@
 use Rattle.std.proofs.Common.{[], ◌∷◌}
 use Rattle.std.proofs.lemmas.Result.{err_from_is_err_and}
 use Rattle.desk_io.specs.declared.desk.Table.TheVariants as table
-use Rattle.jobs.specs.Tables.{no_rows, road_rows}
+use Rattle.jobs.specs.TableRows.{no_rows, road_rows}
 use Rattle.jobs.proofs.ChainFacts.{accepted-both, accepted-one, among-now, among-then, reads-both, reads-done, reads-stopped}
 use Rattle.jobs.proofs.tables.accept_roads.Goals as goal
 
