@@ -6,6 +6,7 @@ use Rattle.std.specs.Option.{option_map_or}
 use Rattle.std.specs.List.{list_all, list_any, fold}
 use Rattle.std.specs.Prelude.{unwrap_or}
 use Rattle.std.specs.Str.{bytes_eq}
+use Rattle.std.proofs.lemmas.Option.{cond_some, option_and_then_some}
 use Rattle.clap.specs.Kinds.{Kinds, or_else}
 use Rattle.clap.specs.Walk.{Row, Rule, Walk, finished, first_of, has_row, idle, more_values, nothing_held, one_of, row_text, rows_after, rows_of, settled, walk, with_default, with_values}
 use Rattle.clap.specs.Simple.{App, Shape, entered, matches_of, names_of}
@@ -20,8 +21,8 @@ use Rattle.clap.proofs.WalkLemmas.{both, first_value-rows, one_text-rows}
 use Rattle.dta_words.specs.Uses.{Meaning, Takes, Text, Use, after_dash, dashed, each_once, gives, has_name, is_given, is_short_after, is_short_rest, joined_value, long_option, meaning_of, named, names, refused, uses_by, value_of, as_value, is_short, number_name, once_after, uses_in, uses_of, value_in}
 use Rattle.dta_words.specs.Asked.{asked_app}
 use Rattle.dta_words.specs.Reading.{Reads, flag_text}
-use Rattle.dta_words.proofs.ClapRules.{built_app, built_shape, flag_rule, is_same, numbers, option_rule, rules_of, same_name}
-use Rattle.dta_words.proofs.ClapWalk.{Agrees, Fails, IsSound, all_words, at_missing, faults, held, nothing_settles, not_number, or_false, row_with, rows_at_end, rows_for, stand}
+use Rattle.dta_words.proofs.ClapRules.{built_app, built_shape, flag_rule, is_same, numbers, option_rule, passed, rules_of, same_name}
+use Rattle.dta_words.proofs.ClapWalk.{Agrees, Fails, IsSound, all_words, at_missing, faults, held, nothing_settles, or_false, row_with, rows_at_end, rows_for, rows_have, stand}
 
 -- ---- after the walk
 
@@ -43,25 +44,15 @@ option_default rows name = same_both (has_row name rows || true) []
 flag_default : (rows : List Row) (name : Text) → default_fault rows (flag_rule name) ≡ []
 flag_default rows name = same_both (has_row name rows || false) []
 
-options_default : (texts : List Text) (rest : List Rule) (rows : List Row)
+names_default : (rule : Text → Rule) → ((rows : List Row) (n : Text) → default_fault rows (rule n) ≡ [])
+    → (texts : List Text) (rest : List Rule) (rows : List Row)
     → ((rs : List Row) → defaults_fault rs rest ≡ [])
-    → defaults_fault rows (map option_rule texts ++ rest) ≡ []
+    → defaults_fault rows (map rule texts ++ rest) ≡ []
 unfolding defaults_fault
-options_default [] rest rows h = h rows
-options_default (n ∷ texts) rest rows h =
-    ap (λ k. or_else k (defaults_fault (with_default rows (option_rule n))
-    (map option_rule texts ++ rest))) (option_default rows n)
-    ∙ options_default texts rest (with_default rows (option_rule n)) h
-
-flags_default : (texts : List Text) (rest : List Rule) (rows : List Row)
-    → ((rs : List Row) → defaults_fault rs rest ≡ [])
-    → defaults_fault rows (map flag_rule texts ++ rest) ≡ []
-unfolding defaults_fault
-flags_default [] rest rows h = h rows
-flags_default (n ∷ texts) rest rows h =
-    ap (λ k. or_else k (defaults_fault (with_default rows (flag_rule n))
-    (map flag_rule texts ++ rest))) (flag_default rows n)
-    ∙ flags_default texts rest (with_default rows (flag_rule n)) h
+names_default rule none [] rest rows h = h rows
+names_default rule none (n ∷ texts) rest rows h =
+    ap (λ k. or_else k (defaults_fault (with_default rows (rule n)) (map rule texts ++ rest))) (none rows n)
+    ∙ names_default rule none texts rest (with_default rows (rule n)) h
 
 numbers_default : (b : Bool) (rows : List Row) → defaults_fault rows (numbers b) ≡ []
 unfolding defaults_fault
@@ -70,20 +61,8 @@ numbers_default true rows =
     ap (λ k. or_else k []) (same_both {X = Kinds} (has_row number_name rows || true) [])
 
 no_default_fails : (takes : Takes) (rows : List Row) → defaults_fault rows (rules_of takes) ≡ []
-no_default_fails takes rows = options_default takes.options _ rows
-    (λ rs. flags_default takes.flags _ rs (λ r. numbers_default takes.number r))
-
-options_required : (texts : List Text) (rest : List Rule) (rows : List Row)
-    → list_any (λ a. a.required && not (has_use a.id rows)) (map option_rule texts ++ rest)
-    ≡ list_any (λ a. a.required && not (has_use a.id rows)) rest
-options_required [] rest rows = refl
-options_required (n ∷ texts) rest rows = options_required texts rest rows
-
-flags_required : (texts : List Text) (rest : List Rule) (rows : List Row)
-    → list_any (λ a. a.required && not (has_use a.id rows)) (map flag_rule texts ++ rest)
-    ≡ list_any (λ a. a.required && not (has_use a.id rows)) rest
-flags_required [] rest rows = refl
-flags_required (n ∷ texts) rest rows = flags_required texts rest rows
+no_default_fails takes rows = names_default option_rule option_default takes.options _ rows
+    (λ rs. names_default flag_rule flag_default takes.flags _ rs (numbers_default takes.number))
 
 numbers_required : (b : Bool) (rows : List Row)
     → list_any (λ a. a.required && not (has_use a.id rows)) (numbers b) ≡ false
@@ -93,7 +72,10 @@ numbers_required false rows = refl
 no_check_fails : (takes : Takes) (command : Text) (rows : List Row)
     → check_fault (built_shape command takes) rows false ≡ []
 no_check_fails takes command rows = ap (λ b. cond b (kind.MissingRequiredArgument ∷ []) [])
-    (options_required takes.options _ rows ∙ flags_required takes.flags _ rows
+    (passed (list_any (λ a. a.required && not (has_use a.id rows))) option_rule (λ n rs. refl)
+    takes.options _
+    ∙ passed (list_any (λ a. a.required && not (has_use a.id rows))) flag_rule (λ n rs. refl)
+    takes.flags _
     ∙ numbers_required takes.number rows)
 
 -- ---- the whole parse
@@ -151,9 +133,8 @@ with_option rows name = same_both (has_row name rows) rows
 
 with_options : (texts : List Text) (rest : List Rule) (rows : List Row)
     → fold with_default rows (map option_rule texts ++ rest) ≡ fold with_default rows rest
-with_options [] rest rows = refl
-with_options (n ∷ texts) rest rows = with_options texts rest (with_default rows (option_rule n))
-    ∙ ap (λ rs. fold with_default rs rest) (with_option rows n)
+with_options texts rest rows = passed (fold with_default rows) option_rule
+    (λ n rs. ap (λ r. fold with_default r rs) (with_option rows n)) texts rest
 
 with_numbers : (b : Bool) (rows : List Row) → fold with_default rows (numbers b) ≡ rows
 with_numbers false rows = refl
@@ -419,6 +400,51 @@ read_flag takes name none other (u ∷ uses) kept =
     go n None false e k h =
         ap (λ b. flag_read name (cond b (Some (row_with n None)) (row_at name (rows_for uses)))) e ∙ h
 
+-- a name that is neither an option nor the number is given where it is a flag alone
+given_taken : (takes : Takes) (name : Text) → has_name takes.options name ≡ false
+    → bytes_eq name number_name ≡ false → (uses : List Use)
+    → list_all (λ u. has_kind takes u.0 u.1) uses ≡ true → is_given uses name ≡ true
+    → has_name takes.flags name ≡ true
+given_taken takes name none other [] kept e = absurd (true≢false (sym e))
+given_taken takes name none other (u ∷ uses) kept e =
+    let parts = both _ _ kept in
+    go u.0 u.1 (bytes_eq u.0 name) refl parts.0 e (given_taken takes name none other uses parts.1)
+  where
+    go : (n : Text) (v : Option Text) (b : Bool) → bytes_eq n name ≡ b → has_kind takes n v ≡ true
+        → (b || is_given uses name) ≡ true
+        → (is_given uses name ≡ true → has_name takes.flags name ≡ true) → has_name takes.flags name ≡ true
+    go n None true is k e h = ap (has_name takes.flags) (sym (same_name n name is)) ∙ k
+    go n (Some v) true is k e h = absurd (true≢false (sym k
+        ∙ ap (λ m. has_name takes.options m || bytes_eq m number_name) (same_name n name is)
+        ∙ ap₂ (λ a b. a || b) none other))
+    go n None false is k e h = h e
+    go n (Some v) false is k e h = h e
+
+pub taken_where_given : (takes : Takes) (words : List Text) (uses : List Use)
+    → uses_of takes words ≡ Some uses → (name : Text) → has_name takes.options name ≡ false
+    → bytes_eq name number_name ≡ false → is_given uses name ≡ true → has_name takes.flags name ≡ true
+taken_where_given takes words uses e name none other =
+    option_and_then_some each_once (uses_in takes words None) uses e (λ found is once.
+    given_taken takes name none other uses
+    (kept_in takes words uses (is ∙ ap Some (cond_some (once_after [] found) found uses once).1)))
+
+-- the text of a flag that the command takes, and none of one that it doesn't
+flag_or_none : (takes : Takes) (uses : List Use) (name : Text) → has_name takes.options name ≡ false
+    → bytes_eq name number_name ≡ false → list_all (λ u. has_kind takes u.0 u.1) uses ≡ true
+    → (b : Bool) → has_name takes.flags name ≡ b
+    → option_and_then row_text (row_at name (fold with_default (rows_for uses) (rules_of takes)))
+    ≡ cond b (Some (flag_text (is_given uses name))) None
+flag_or_none takes uses name none other kept true has =
+    ap (option_and_then row_text) (flag_row_is takes (rows_for uses) name has)
+    ∙ read_flag takes name none other uses kept
+flag_or_none takes uses name none other kept false lacks =
+    ap (option_and_then row_text) (value_row takes (rows_for uses) name lacks
+    ∙ found_or_none (rows_for uses) name false (rows_have uses name ∙ go (is_given uses name) refl))
+  where
+    go : (b : Bool) → is_given uses name ≡ b → b ≡ false
+    go true e = absurd (true≢false (sym (given_taken takes name none other uses kept e) ∙ lacks))
+    go false e = refl
+
 -- ---- the whole
 
 record Accepted (rows : List Row) (o : Option (List Use)) : Type 0 where
@@ -474,9 +500,8 @@ reads takes command first sound words read found passes rows =
       values = λ name none. first_value-rows found name ∙ ap (first_of name) is
           ∙ ap (option_and_then (λ (r : Row). slice_get r.values 0)) (value_row takes (rows_for a.uses) name none)
           ∙ read_value takes name none a.uses kept;
-      flags = λ name has none. one_text-rows found name ∙ ap (one_of name) is
-          ∙ ap (option_and_then row_text) (flag_row_is takes (rows_for a.uses) name has)
-          ∙ read_flag takes name none (not_number takes.flags name has sound.no_flag) a.uses kept;
+      flags = λ name none other. one_text-rows found name ∙ ap (one_of name) is
+          ∙ flag_or_none takes a.uses name none other kept _ refl;
     }
 
 pub no_uses : (takes : Takes) (command first : Text) → IsSound takes → (words : List Text)

@@ -7,7 +7,7 @@ use Rattle.clap.specs.Simple.{Shape, built, filled_from, new_rule, new_shape}
 use Rattle.clap.specs.declared.builder.action.ArgAction.TheVariants.{Set, SetTrue}
 use Rattle.clap.specs.declared.builder.value_parser.ValueParser.TheVariants as vp
 use Rattle.dta_words.specs.Uses.{Takes, Text, has_name, number_name}
-use Rattle.dta_words.specs.Asked.{asked_app, asked_flag, asked_numbers, asked_option, asked_rules}
+use Rattle.dta_words.specs.Asked.{asked, asked_app, asked_numbers, asked_rules}
 
 -- ---- as clap builds them
 
@@ -54,23 +54,22 @@ built_shape name takes = record (new_shape name) {
   is_built = true;
 }
 
-filled_options : (names : List Text) (rest : List Rule)
-    → filled_from 1 (map asked_option names ++ rest) ≡ map option_rule names ++ filled_from 1 rest
-filled_options [] rest = refl
-filled_options (n ∷ names) rest = ap (λ rs. option_rule n ∷ rs) (filled_options names rest)
-
-filled_flags : (names : List Text) (rest : List Rule)
-    → filled_from 1 (map asked_flag names ++ rest) ≡ map flag_rule names ++ filled_from 1 rest
-filled_flags [] rest = refl
-filled_flags (n ∷ names) rest = ap (λ rs. flag_rule n ∷ rs) (filled_flags names rest)
+filled_names : (asks rule : Text → Rule)
+    → ((n : Text) (rs : List Rule) → filled_from 1 (asks n ∷ rs) ≡ rule n ∷ filled_from 1 rs)
+    → (names : List Text) (rest : List Rule)
+    → filled_from 1 (map asks names ++ rest) ≡ map rule names ++ filled_from 1 rest
+filled_names asks rule one [] rest = refl
+filled_names asks rule one (n ∷ names) rest =
+    one n (map asks names ++ rest) ∙ ap (λ rs. rule n ∷ rs) (filled_names asks rule one names rest)
 
 filled_numbers : (b : Bool) → filled_from 1 (asked_numbers b) ≡ numbers b
 filled_numbers true = refl
 filled_numbers false = refl
 
 pub filled_rules : (takes : Takes) → filled_from 1 (asked_rules takes) ≡ rules_of takes
-filled_rules takes = filled_options takes.options _
-    ∙ ap (λ rs. map option_rule takes.options ++ rs) (filled_flags takes.flags _
+filled_rules takes = filled_names (asked Set) option_rule (λ n rs. refl) takes.options _
+    ∙ ap (λ rs. map option_rule takes.options ++ rs)
+    (filled_names (asked SetTrue) flag_rule (λ n rs. refl) takes.flags _
     ∙ ap (λ rs. map flag_rule takes.flags ++ rs) (filled_numbers takes.number))
 
 pub built_app : (name : Text) (takes : Takes)
@@ -100,50 +99,46 @@ picked : (rule : Text → Rule) (n name : Text) (b c : Bool) (here past : Option
 picked rule n name true c here past e rest = ap (λ m. Some (rule m)) (same_name n name e)
 picked rule n name false c here past e rest = rest
 
-picked_long : (rule : Text → Rule) (n name : Text) (b c : Bool) (here past : Option Rule)
-    → bytes_eq n name ≡ b → here ≡ cond c (Some (rule name)) past
-    → cond (b || false) (Some (rule n)) here ≡ cond (b || c) (Some (rule name)) past
-picked_long rule n name true c here past e rest = ap (λ m. Some (rule m)) (same_name n name e)
-picked_long rule n name false c here past e rest = rest
+-- what a look-up finds among the arguments of some names, and past them
+found_in : (look : List Rule → Text → Option Rule) (rule : Text → Rule)
+    → ((n : Text) (rs : List Rule) (name : Text)
+    → look (rule n ∷ rs) name ≡ cond (bytes_eq n name) (Some (rule n)) (look rs name))
+    → (names : List Text) (rest : List Rule) (name : Text)
+    → look (map rule names ++ rest) name
+    ≡ cond (has_name names name) (Some (rule name)) (look rest name)
+found_in look rule one [] rest name = refl
+found_in look rule one (n ∷ names) rest name =
+    one n (map rule names ++ rest) name
+    ∙ picked rule n name (bytes_eq n name) _ _ _ refl (found_in look rule one names rest name)
 
-long_in_options : (names : List Text) (rest : List Rule) (name : Text)
-    → arg_by_long (map option_rule names ++ rest) name
-    ≡ cond (has_name names name) (Some (option_rule name)) (arg_by_long rest name)
-long_in_options [] rest name = refl
-long_in_options (n ∷ names) rest name =
-    picked_long option_rule n name (bytes_eq n name) _ _ _ refl (long_in_options names rest name)
+-- what passes each argument of some names passes them all
+pub passed : {X : Type 0} (f : List Rule → X) (rule : Text → Rule)
+    → ((n : Text) (rs : List Rule) → f (rule n ∷ rs) ≡ f rs) → (names : List Text) (rest : List Rule)
+    → f (map rule names ++ rest) ≡ f rest
+passed f rule one [] rest = refl
+passed f rule one (n ∷ names) rest = one n (map rule names ++ rest) ∙ passed f rule one names rest
 
-long_in_flags : (names : List Text) (rest : List Rule) (name : Text)
-    → arg_by_long (map flag_rule names ++ rest) name
-    ≡ cond (has_name names name) (Some (flag_rule name)) (arg_by_long rest name)
-long_in_flags [] rest name = refl
-long_in_flags (n ∷ names) rest name =
-    picked_long flag_rule n name (bytes_eq n name) _ _ _ refl (long_in_flags names rest name)
+pub or_comm_false : (b : Bool) → (b || false) ≡ b
+or_comm_false true = refl
+or_comm_false false = refl
+
+first_long : (n name : Text) (r : Rule) (past : Option Rule)
+    → cond (bytes_eq n name || false) (Some r) past ≡ cond (bytes_eq n name) (Some r) past
+first_long n name r past = ap (λ b. cond b (Some r) past) (or_comm_false (bytes_eq n name))
 
 long_in_numbers : (b : Bool) (name : Text) → arg_by_long (numbers b) name ≡ None
 long_in_numbers true name = refl
 long_in_numbers false name = refl
 
 pub by_long : (takes : Takes) (name : Text) → arg_by_long (rules_of takes) name ≡ rule_named takes name
-by_long takes name = long_in_options takes.options _ name
+by_long takes name =
+    found_in arg_by_long option_rule (λ n rs m. first_long n m (option_rule n) (arg_by_long rs m))
+    takes.options _ name
     ∙ ap (λ (o : Option Rule). cond (has_name takes.options name) (Some (option_rule name)) o)
-    (long_in_flags takes.flags _ name
+    (found_in arg_by_long flag_rule (λ n rs m. first_long n m (flag_rule n) (arg_by_long rs m))
+    takes.flags _ name
     ∙ ap (λ (o : Option Rule). cond (has_name takes.flags name) (Some (flag_rule name)) o)
     (long_in_numbers takes.number name))
-
-id_in_options : (names : List Text) (rest : List Rule) (name : Text)
-    → arg_by_id (map option_rule names ++ rest) name
-    ≡ cond (has_name names name) (Some (option_rule name)) (arg_by_id rest name)
-id_in_options [] rest name = refl
-id_in_options (n ∷ names) rest name =
-    picked option_rule n name (bytes_eq n name) _ _ _ refl (id_in_options names rest name)
-
-id_in_flags : (names : List Text) (rest : List Rule) (name : Text)
-    → arg_by_id (map flag_rule names ++ rest) name
-    ≡ cond (has_name names name) (Some (flag_rule name)) (arg_by_id rest name)
-id_in_flags [] rest name = refl
-id_in_flags (n ∷ names) rest name =
-    picked flag_rule n name (bytes_eq n name) _ _ _ refl (id_in_flags names rest name)
 
 -- clap finds an argument with a value under this name
 pub record IsText (takes : Takes) (name : Text) : Type 0 where
@@ -156,7 +151,7 @@ pub option_is_text : (takes : Takes) (name : Text) → has_name takes.options na
 option_is_text takes name has = record {
   long = Some name;
   index = None;
-  found = id_in_options takes.options _ name
+  found = found_in arg_by_id option_rule (λ n rs m. refl) takes.options _ name
       ∙ ap (λ b. cond b (Some (option_rule name)) (arg_by_id (map flag_rule takes.flags
       ++ numbers takes.number) name)) has;
 }
@@ -166,25 +161,17 @@ pub number_is_text : (takes : Takes) → has_name takes.options number_name ≡ 
 number_is_text takes no_option no_flag has = record {
   long = None;
   index = Some 1;
-  found = id_in_options takes.options _ number_name
+  found = found_in arg_by_id option_rule (λ n rs m. refl) takes.options _ number_name
       ∙ ap (λ b. cond b (Some (option_rule number_name)) (arg_by_id (map flag_rule takes.flags
       ++ numbers takes.number) number_name)) no_option
-      ∙ id_in_flags takes.flags _ number_name
+      ∙ found_in arg_by_id flag_rule (λ n rs m. refl) takes.flags _ number_name
       ∙ ap (λ b. cond b (Some (flag_rule number_name)) (arg_by_id (numbers takes.number)
       number_name)) no_flag
       ∙ ap (λ b. arg_by_id (numbers b) number_name) has;
 }
 
-index_in_options : (names : List Text) (rest : List Rule) (i : ℕ)
-    → arg_by_index (map option_rule names ++ rest) i ≡ arg_by_index rest i
-index_in_options [] rest i = refl
-index_in_options (n ∷ names) rest i = index_in_options names rest i
-
-index_in_flags : (names : List Text) (rest : List Rule) (i : ℕ)
-    → arg_by_index (map flag_rule names ++ rest) i ≡ arg_by_index rest i
-index_in_flags [] rest i = refl
-index_in_flags (n ∷ names) rest i = index_in_flags names rest i
-
 pub by_index : (takes : Takes) (i : ℕ)
     → arg_by_index (rules_of takes) i ≡ arg_by_index (numbers takes.number) i
-by_index takes i = index_in_options takes.options _ i ∙ index_in_flags takes.flags _ i
+by_index takes i =
+    passed (λ rs. arg_by_index rs i) option_rule (λ n rs. refl) takes.options _
+    ∙ passed (λ rs. arg_by_index rs i) flag_rule (λ n rs. refl) takes.flags _

@@ -19,7 +19,7 @@ use Rattle.clap.specs.declared.builder.value_parser.ValueParser.TheVariants as v
 use Rattle.clap.specs.declared.builder.value_parser.Reading.{Reading}
 use Rattle.clap.specs.declared.parser.matches.ValueSource.TheVariants.{CommandLine}
 use Rattle.dta_words.specs.Uses.{Takes, Text, Use, Meaning, gives, names, refused, after_dash, as_value, dashed, has_name, is_equals, is_given, is_short, is_short_after, is_short_rest, joined_value, named, number_name, once_after, uses_by, uses_in}
-use Rattle.dta_words.proofs.ClapRules.{IsText, built_shape, by_index, by_long, flag_rule, is_same, number_rule, numbers, number_is_text, option_is_text, option_rule, rule_named, rules_of, same_name, text_rule}
+use Rattle.dta_words.proofs.ClapRules.{IsText, built_shape, by_index, by_long, flag_rule, is_same, number_rule, numbers, number_is_text, option_is_text, option_rule, or_comm_false, rule_named, rules_of, same_name, text_rule}
 
 -- ---- rows
 
@@ -137,6 +137,11 @@ put_flag name done none =
     put_row name (reading_of vp.Bool) (codes "true" ∷ []) done none
     ∙ sym (map-append row_for done ((name, None) ∷ []))
 
+conflict_alone : (b : Bool) → or_else (cond (b && true) (kind.ArgumentConflict ∷ []) []) []
+    ≡ cond b (kind.ArgumentConflict ∷ []) []
+conflict_alone true = refl
+conflict_alone false = refl
+
 -- the kinds of a use, by whether its name is there already
 value_fault : (name value : Text) (long : Option Text) (index : Option ℕ) (done : List Use) (b : Bool)
     → is_given done name ≡ b
@@ -144,23 +149,13 @@ value_fault : (name value : Text) (long : Option Text) (index : Option ℕ) (don
     ≡ cond b (kind.ArgumentConflict ∷ []) []
 value_fault name value long index done b e =
     ap (λ x. or_else (cond (x && true) (kind.ArgumentConflict ∷ []) []) []) (rows_have done name ∙ e)
-    ∙ same b
-  where
-    same : (x : Bool) → or_else (cond (x && true) (kind.ArgumentConflict ∷ []) []) []
-        ≡ cond x (kind.ArgumentConflict ∷ []) []
-    same true = refl
-    same false = refl
+    ∙ conflict_alone b
 
 flag_fault : (name : Text) (done : List Use) (b : Bool) → is_given done name ≡ b
     → use_fault false (flag_rule name) [] (rows_for done) ≡ cond b (kind.ArgumentConflict ∷ []) []
 flag_fault name done b e =
     ap (λ x. or_else (cond (x && true) (kind.ArgumentConflict ∷ []) []) []) (rows_have done name ∙ e)
-    ∙ same b
-  where
-    same : (x : Bool) → or_else (cond (x && true) (kind.ArgumentConflict ∷ []) []) []
-        ≡ cond x (kind.ArgumentConflict ∷ []) []
-    same true = refl
-    same false = refl
+    ∙ conflict_alone b
 
 -- what a walk settles of a value that is pending
 pub settle_of : (takes : Takes) (done : List Use) (name value : Text) (b : Bool)
@@ -350,10 +345,6 @@ pub record IsSound (takes : Takes) : Type 0 where
 -- where the number would go
 abbrev pub place : List Use → ℕ
 place done = cond (is_given done number_name) 2 1
-
-pub or_comm_false : (b : Bool) → (b || false) ≡ b
-or_comm_false true = refl
-or_comm_false false = refl
 
 or_regroup : (a b c d : Bool) → d ≡ (b || c) → (a || d) ≡ ((a || b) || c)
 or_regroup true b c d e = refl

@@ -5,5 +5,5 @@ pub mod NumberFacts
 pub mod AskedFacts
 pub mod ReadFacts
 pub mod SettingsFacts
-pub mod StartFacts
-pub mod ScaleFacts
+pub mod PieceFacts
+pub mod RangeFacts

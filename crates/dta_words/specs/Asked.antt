@@ -1,29 +1,31 @@
 -- What the product asks of clap for a command.
-use Rattle.std.specs.Prelude.{Bool, true, false, List, [], ◌∷◌, ◌++◌, map, Some}
-use Rattle.clap.specs.Walk.{Rule}
+use Rattle.std.specs.Prelude.{Bool, true, false, List, [], ◌∷◌, ◌++◌, flat_map, map, Some}
+use Rattle.std.specs.Borrow.{Bor}
+use Rattle.clap.specs.Walk.{Rule, texts}
 use Rattle.clap.specs.Simple.{App, new_rule, new_shape, on_top}
+use Rattle.clap.specs.declared.builder.action.ArgAction.{ArgAction}
 use Rattle.clap.specs.declared.builder.action.ArgAction.TheVariants.{Set, SetTrue}
 use Rattle.dta_words.specs.Uses.{Takes, Text, number_name}
 
--- an option with a value
-abbrev pub asked_option : Text → Rule
-asked_option name = record (new_rule name) { long = Some name; action = Some Set }
-
--- a flag
-abbrev pub asked_flag : Text → Rule
-asked_flag name = record (new_rule name) { long = Some name; action = Some SetTrue }
+-- an argument with a name: an option with a value is set, and a flag is set true
+abbrev pub asked : ArgAction → Text → Rule
+asked what name = record (new_rule name) { long = Some name; action = Some what }
 
 -- the number that stands alone
 abbrev pub asked_number : Rule
 asked_number = record (new_rule number_name) { action = Some Set }
+
+-- the names in groups of names
+abbrev pub names_in : List (Bor (List (Bor Text))) → List Text
+names_in groups = flat_map (λ group. texts group.now) groups
 
 abbrev pub asked_numbers : Bool → List Rule
 asked_numbers true = asked_number ∷ []
 asked_numbers false = []
 
 abbrev pub asked_rules : Takes → List Rule
-asked_rules takes = map asked_option takes.options
-    ++ (map asked_flag takes.flags ++ asked_numbers takes.number)
+asked_rules takes = map (asked Set) takes.options
+    ++ (map (asked SetTrue) takes.flags ++ asked_numbers takes.number)
 
 -- the command, with clap's own flags for help and version switched off
 abbrev pub asked_app : Text → Takes → App

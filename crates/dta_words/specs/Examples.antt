@@ -1,7 +1,7 @@
 -- Small lists of words, computed by the grammar.
-use Rattle.std.specs.Prelude.{◌≡◌, ◌∷◌, [], ℕ, Some, None, false, true, codes, refl}
-use Rattle.std.specs.Prelude.{replicate}
-use Rattle.std.specs.List.{join_with_byte}
+use Rattle.std.specs.Prelude.{◌≡◌, ◌==◌, ◌∷◌, [], ℕ, List, Option, Some, None, false, true, codes}
+use Rattle.std.specs.Prelude.{map, refl, replicate}
+use Rattle.std.specs.List.{join_with_byte, slice_split}
 use Rattle.fixed_units.specs.declared.measure.LengthUnit.TheVariants as length_unit
 use Rattle.fixed_units.specs.declared.measure.SpeedUnit.TheVariants as speed_unit
 use Rattle.dta_model.specs.declared.queue.Queue.TheVariants as queue
@@ -9,6 +9,7 @@ use Rattle.fixed_units.specs.Quantity.{number}
 use Rattle.dta_words.specs.Grammar.{link_given, settings_of}
 use Rattle.dta_words.specs.Numbers.{number_of}
 use Rattle.dta_words.specs.Pieces.{pieces_of}
+use Rattle.dta_words.specs.Uses.{Text}
 use Rattle.dta_words.specs.Starts.{starts_given, starts_of}
 use Rattle.dta_words.specs.Scales.{scale_of, scales_given, scales_in}
 use Rattle.dta_words.specs.declared.command.Command.{Command}
@@ -25,42 +26,34 @@ use Rattle.dta_words.specs.declared.options.TheConstants.{WORKERS}
 
 -- ---- the numbers of the options
 
-bounds : ℕ → ℕ → ℕ → Bounds
+abbrev bounds : ℕ → ℕ → ℕ → Bounds
 bounds least most default = record { least = least; most = most; default = default }
 
 step_is : STEP ≡ bounds 1 60 6
-unfolding bounds
 step_is = refl
 
 jam_is : JAM ≡ bounds 1 1000 125
-unfolding bounds
 jam_is = refl
 
 horizon_is : HORIZON ≡ bounds 1 86400 1200
-unfolding bounds
 horizon_is = refl
 
 default_period_is : DEFAULT_PERIOD ≡ 600
 default_period_is = refl
 
 iterations_is : ITERATIONS ≡ bounds 1 1000 1
-unfolding bounds
 iterations_is = refl
 
 workers_is : WORKERS ≡ bounds 1 16 4
-unfolding bounds
 workers_is = refl
 
 bucket_is : BUCKET ≡ bounds 1 86400 50
-unfolding bounds
 bucket_is = refl
 
 wave_is : WAVE ≡ bounds 1 100 20
-unfolding bounds
 wave_is = refl
 
 watch_is : WATCH ≡ bounds 0 86400 0
-unfolding bounds
 watch_is = refl
 
 least_side_is : LEAST_SIDE ≡ 2
@@ -223,8 +216,12 @@ link_with_a_blank = refl
 
 -- ---- words that have settings
 
+-- the settings of words that stand between blanks (32)
+abbrev asked : Text → Option Settings
+asked text = settings_of (slice_split (λ byte. byte == 32) text)
+
 -- what a command alone asks for
-defaults : Command → Settings
+abbrev pub defaults : Command → Settings
 defaults what = record {
   command = what;
   units = record { delta = 6; jam = 125; length = length_unit.Metre; speed = speed_unit.Kmh };
@@ -242,105 +239,73 @@ defaults what = record {
   scales = [];
 }
 
-freeflow_alone : settings_of (codes "freeflow" ∷ []) ≡ Some (defaults command.Freeflow)
-unfolding defaults
-freeflow_alone = refl
+alone : map asked (codes "freeflow" ∷ codes "assign" ∷ codes "skim" ∷ codes "counts"
+    ∷ codes "audit" ∷ [])
+    ≡ map (λ what. Some (defaults what)) (command.Freeflow ∷ command.Assign ∷ command.Skim
+    ∷ command.Counts ∷ command.Audit ∷ [])
+alone = refl
 
-assign_alone : settings_of (codes "assign" ∷ []) ≡ Some (defaults command.Assign)
-unfolding defaults
-assign_alone = refl
-
-demo_twelve : settings_of (codes "demo" ∷ codes "012" ∷ []) ≡ Some (defaults (command.Demo 12))
-unfolding defaults
+demo_twelve : asked (codes "demo 012") ≡ Some (defaults (command.Demo 12))
 demo_twelve = refl
 
-skim_alone : settings_of (codes "skim" ∷ []) ≡ Some (defaults command.Skim)
-unfolding defaults
-skim_alone = refl
-
-counts_alone : settings_of (codes "counts" ∷ []) ≡ Some (defaults command.Counts)
-unfolding defaults
-counts_alone = refl
-
-skim_two_starts :
-    settings_of (codes "skim" ∷ codes "--at" ∷ codes "0;55" ∷ codes "--horizon=60" ∷ [])
+skim_two_starts : asked (codes "skim --at 0;55 --horizon=60")
     ≡ Some (record (defaults command.Skim) { horizon = 60; period = 60; starts = 0 ∷ 55 ∷ [] })
-unfolding defaults
 skim_two_starts = refl
 
-counts_of_a_link :
-    settings_of (codes "counts" ∷ codes "--link=20" ∷ codes "--plain" ∷ codes "--period=30" ∷ [])
+counts_of_a_link : asked (codes "counts --link=20 --plain --period=30")
     ≡ Some (record (defaults command.Counts) { period = 30; plain = true; link = Some 20 })
-unfolding defaults number
+unfolding number
 counts_of_a_link = refl
 
-audit_alone : settings_of (codes "audit" ∷ []) ≡ Some (defaults command.Audit)
-unfolding defaults
-audit_alone = refl
-
-audit_of_a_period : settings_of (codes "audit" ∷ codes "--period=30" ∷ codes "--queue=newell" ∷ [])
+audit_of_a_period : asked (codes "audit --period=30 --queue=newell")
     ≡ Some (record (defaults command.Audit) { period = 30; queue = queue.Newell 20 })
-unfolding defaults
 audit_of_a_period = refl
 
-sweep_of_three : settings_of (codes "sweep" ∷ codes "--scales" ∷ codes "0.8;1;1.2" ∷ [])
+sweep_of_three : asked (codes "sweep --scales 0.8;1;1.2")
     ≡ Some (record (defaults command.Sweep) { scales = 800 ∷ 1000 ∷ 1200 ∷ [] })
-unfolding defaults number
+unfolding number
 sweep_of_three = refl
 
-sweep_by_workers :
-    settings_of (codes "sweep" ∷ codes "--workers=2" ∷ codes "--scales=2" ∷ codes "--wave=7" ∷ [])
+sweep_by_workers : asked (codes "sweep --workers=2 --scales=2 --wave=7")
     ≡ Some (record (defaults command.Sweep) { workers = 2; scales = 2000 ∷ [] })
-unfolding defaults number
+unfolding number
 sweep_by_workers = refl
 
 -- a backward wave goes 20 kilometres an hour where no option says it
-newell_alone : settings_of (codes "assign" ∷ codes "--queue" ∷ codes "newell" ∷ [])
+newell_alone : asked (codes "assign --queue newell")
     ≡ Some (record (defaults command.Assign) { queue = queue.Newell 20 })
-unfolding defaults
 newell_alone = refl
 
-newell_of_a_wave : settings_of (codes "counts" ∷ codes "--wave=60" ∷ codes "--queue=newell" ∷ [])
+newell_of_a_wave : asked (codes "counts --wave=60 --queue=newell")
     ≡ Some (record (defaults command.Counts) { queue = queue.Newell 60 })
-unfolding defaults
 newell_of_a_wave = refl
 
 -- with another queue the wave has no effect
-wave_of_no_queue : settings_of (codes "demo" ∷ codes "7" ∷ codes "--wave" ∷ codes "100" ∷ [])
-    ≡ Some (defaults (command.Demo 7))
-unfolding defaults
+wave_of_no_queue : asked (codes "demo 7 --wave 100") ≡ Some (defaults (command.Demo 7))
 wave_of_no_queue = refl
 
 -- the first routes from an earlier agent table
-assign_from_a_start : settings_of (codes "assign" ∷ codes "--start" ∷ codes "--plain" ∷ [])
+assign_from_a_start : asked (codes "assign --start --plain")
     ≡ Some (record (defaults command.Assign) { plain = true; start = true })
-unfolding defaults
 assign_from_a_start = refl
 
 -- a horizon below 600 steps is the period too
-short_horizon : settings_of (codes "assign" ∷ codes "--horizon" ∷ codes "60" ∷ [])
+short_horizon : asked (codes "assign --horizon 60")
     ≡ Some (record (defaults command.Assign) { horizon = 60; period = 60 })
-unfolding defaults
 short_horizon = refl
 
-in_any_order :
-    settings_of (codes "assign" ∷ codes "--period" ∷ codes "30" ∷ codes "--horizon=60" ∷ [])
+in_any_order : asked (codes "assign --period 30 --horizon=60")
     ≡ Some (record (defaults command.Assign) { horizon = 60; period = 30 })
-unfolding defaults
 in_any_order = refl
 
-number_between_options : settings_of (codes "demo" ∷ codes "--workers" ∷ codes "2" ∷ codes "7"
-    ∷ codes "--plain" ∷ codes "--queue=spatial" ∷ [])
+number_between_options : asked (codes "demo --workers 2 7 --plain --queue=spatial")
     ≡ Some (record (defaults (command.Demo 7)) { workers = 2; queue = queue.Spatial; plain = true })
-unfolding defaults
 number_between_options = refl
 
-other_units : settings_of (codes "freeflow" ∷ codes "--length-unit" ∷ codes "mi"
-    ∷ codes "--speed-unit=mph" ∷ codes "--step=60" ∷ codes "--jam=1" ∷ [])
+other_units : asked (codes "freeflow --length-unit mi --speed-unit=mph --step=60 --jam=1")
     ≡ Some (record (defaults command.Freeflow) {
       units = record { delta = 60; jam = 1; length = length_unit.Mile; speed = speed_unit.Mph };
     })
-unfolding defaults
 other_units = refl
 
 -- ---- words that have none
@@ -348,129 +313,43 @@ other_units = refl
 no_words : settings_of [] ≡ None
 no_words = refl
 
-step_too_long : settings_of (codes "assign" ∷ codes "--step" ∷ codes "61" ∷ []) ≡ None
-step_too_long = refl
+abbrev HaveNone : List Text → Type 0
+HaveNone texts = map asked texts ≡ map (λ _. None) texts
 
-period_past_the_horizon : settings_of (codes "assign" ∷ codes "--horizon" ∷ codes "60"
-    ∷ codes "--period" ∷ codes "61" ∷ []) ≡ None
-period_past_the_horizon = refl
-
-twice : settings_of (codes "assign" ∷ codes "--step" ∷ codes "6" ∷ codes "--step" ∷ codes "6" ∷ [])
-    ≡ None
-twice = refl
-
-side_too_long : settings_of (codes "demo" ∷ codes "61" ∷ []) ≡ None
-side_too_long = refl
-
-no_side : settings_of (codes "demo" ∷ []) ≡ None
-no_side = refl
-
-two_sides : settings_of (codes "demo" ∷ codes "7" ∷ codes "7" ∷ []) ≡ None
-two_sides = refl
-
-flag_with_nothing : settings_of (codes "assign" ∷ codes "--plain=" ∷ []) ≡ None
-flag_with_nothing = refl
-
-flag_with_a_text : settings_of (codes "assign" ∷ codes "--plain=x" ∷ []) ≡ None
-flag_with_a_text = refl
-
-start_with_nothing : settings_of (codes "assign" ∷ codes "--start=" ∷ []) ≡ None
-start_with_nothing = refl
-
-start_with_a_text : settings_of (codes "assign" ∷ codes "--start=start.csv" ∷ []) ≡ None
-start_with_a_text = refl
-
-start_twice : settings_of (codes "assign" ∷ codes "--start" ∷ codes "--start" ∷ []) ≡ None
-start_twice = refl
-
-demo_with_a_start : settings_of (codes "demo" ∷ codes "7" ∷ codes "--start" ∷ []) ≡ None
-demo_with_a_start = refl
-
-counts_with_a_start : settings_of (codes "counts" ∷ codes "--start" ∷ []) ≡ None
-counts_with_a_start = refl
-
-no_wave : settings_of (codes "assign" ∷ codes "--queue=newell" ∷ codes "--wave=0" ∷ []) ≡ None
-no_wave = refl
-
--- with another queue the wave is checked in the same way
-wave_too_fast :
-    settings_of (codes "assign" ∷ codes "--queue=point" ∷ codes "--wave=101" ∷ []) ≡ None
-wave_too_fast = refl
-
-skim_with_a_wave : settings_of (codes "skim" ∷ codes "--wave=20" ∷ []) ≡ None
-skim_with_a_wave = refl
-
-freeflow_with_a_wave : settings_of (codes "freeflow" ∷ codes "--wave=20" ∷ []) ≡ None
-freeflow_with_a_wave = refl
-
-short_option : settings_of (codes "assign" ∷ codes "-s" ∷ codes "6" ∷ []) ≡ None
-short_option = refl
-
-shortened_name : settings_of (codes "assign" ∷ codes "--ste" ∷ codes "6" ∷ []) ≡ None
-shortened_name = refl
-
-help : settings_of (codes "assign" ∷ codes "--help" ∷ []) ≡ None
-help = refl
-
-two_dashes : settings_of (codes "demo" ∷ codes "--" ∷ codes "7" ∷ []) ≡ None
-two_dashes = refl
-
-option_of_another_command :
-    settings_of (codes "freeflow" ∷ codes "--horizon" ∷ codes "5" ∷ []) ≡ None
-option_of_another_command = refl
-
-no_value : settings_of (codes "assign" ∷ codes "--step" ∷ []) ≡ None
-no_value = refl
-
-option_for_a_value : settings_of (codes "assign" ∷ codes "--step" ∷ codes "--plain" ∷ []) ≡ None
-option_for_a_value = refl
-
-start_past_the_horizon : settings_of (codes "skim" ∷ codes "--at=0;1200" ∷ []) ≡ None
-start_past_the_horizon = refl
-
-skim_with_a_flag : settings_of (codes "skim" ∷ codes "--plain" ∷ []) ≡ None
-skim_with_a_flag = refl
-
-skim_with_a_period : settings_of (codes "skim" ∷ codes "--period" ∷ codes "5" ∷ []) ≡ None
-skim_with_a_period = refl
-
-counts_with_a_watch : settings_of (codes "counts" ∷ codes "--watch" ∷ codes "5" ∷ []) ≡ None
-counts_with_a_watch = refl
-
-counts_with_starts : settings_of (codes "counts" ∷ codes "--at" ∷ codes "0" ∷ []) ≡ None
-counts_with_starts = refl
-
-assign_with_a_link : settings_of (codes "assign" ∷ codes "--link" ∷ codes "20" ∷ []) ≡ None
-assign_with_a_link = refl
-
-sweep_without_scales : settings_of (codes "sweep" ∷ codes "--period" ∷ codes "30" ∷ []) ≡ None
-sweep_without_scales = refl
-
-sweep_of_zero : settings_of (codes "sweep" ∷ codes "--scales" ∷ codes "0" ∷ []) ≡ None
+-- numbers out of their bounds; a wave has them with any queue
+out_of_bounds : HaveNone (codes "assign --step 61" ∷ codes "assign --horizon 60 --period 61"
+    ∷ codes "demo 61" ∷ codes "assign --queue=newell --wave=0"
+    ∷ codes "assign --queue=point --wave=101" ∷ codes "skim --at=0;1200" ∷ codes "sweep --scales 0"
+    ∷ [])
 unfolding number
-sweep_of_zero = refl
+out_of_bounds = refl
 
-sweep_twice : settings_of (codes "sweep" ∷ codes "--scales=1" ∷ codes "--scales=1" ∷ []) ≡ None
-sweep_twice = refl
+-- a name that is given twice
+given_twice : HaveNone (codes "assign --step 6 --step 6" ∷ codes "assign --start --start"
+    ∷ codes "demo 7 7" ∷ codes "sweep --scales=1 --scales=1" ∷ [])
+given_twice = refl
 
-sweep_with_a_watch :
-    settings_of (codes "sweep" ∷ codes "--scales=1" ∷ codes "--watch=5" ∷ []) ≡ None
-sweep_with_a_watch = refl
+-- what has to be given, and an option without its value
+wanting : HaveNone (codes "demo" ∷ codes "sweep --period 30" ∷ codes "assign --step"
+    ∷ codes "assign --step --plain" ∷ [])
+wanting = refl
 
-sweep_with_a_flag : settings_of (codes "sweep" ∷ codes "--scales=1" ∷ codes "--plain" ∷ []) ≡ None
-sweep_with_a_flag = refl
+-- a flag with a text
+flags_with_texts : HaveNone (codes "assign --plain=" ∷ codes "assign --plain=x"
+    ∷ codes "assign --start=" ∷ codes "assign --start=start.csv" ∷ [])
+flags_with_texts = refl
 
-sweep_with_a_start : settings_of (codes "sweep" ∷ codes "--scales=1" ∷ codes "--start" ∷ []) ≡ None
-sweep_with_a_start = refl
+-- a short option, a shortened name, clap's own flag, and two dashes alone
+other_forms : HaveNone (codes "assign -s 6" ∷ codes "assign --ste 6" ∷ codes "assign --help"
+    ∷ codes "demo -- 7" ∷ [])
+other_forms = refl
 
-assign_with_scales : settings_of (codes "assign" ∷ codes "--scales=1" ∷ []) ≡ None
-assign_with_scales = refl
-
-audit_with_workers : settings_of (codes "audit" ∷ codes "--workers" ∷ codes "2" ∷ []) ≡ None
-audit_with_workers = refl
-
-audit_with_iterations : settings_of (codes "audit" ∷ codes "--iterations" ∷ codes "2" ∷ []) ≡ None
-audit_with_iterations = refl
-
-audit_with_a_flag : settings_of (codes "audit" ∷ codes "--plain" ∷ []) ≡ None
-audit_with_a_flag = refl
+-- what another command takes
+of_another_command : HaveNone (codes "demo 7 --start" ∷ codes "counts --start"
+    ∷ codes "skim --wave=20" ∷ codes "freeflow --wave=20" ∷ codes "freeflow --horizon 5"
+    ∷ codes "skim --plain" ∷ codes "skim --period 5" ∷ codes "counts --watch 5"
+    ∷ codes "counts --at 0" ∷ codes "assign --link 20" ∷ codes "sweep --scales=1 --watch=5"
+    ∷ codes "sweep --scales=1 --plain" ∷ codes "sweep --scales=1 --start"
+    ∷ codes "assign --scales=1" ∷ codes "audit --workers 2" ∷ codes "audit --iterations 2"
+    ∷ codes "audit --plain" ∷ [])
+of_another_command = refl

@@ -1,5 +1,5 @@
 -- The grammar of the words: the settings of a list of words, if it has any.
-use Rattle.std.specs.Prelude.{ℕ, Bool, false, List, [], ◌∷◌, min, codes, Option, Some, None}
+use Rattle.std.specs.Prelude.{ℕ, List, [], ◌∷◌, min, codes, Option, Some, None}
 use Rattle.std.specs.Prelude.{if◌then◌else◌, option_and_then, option_map}
 use Rattle.std.specs.Result.{result_ok}
 use Rattle.std.specs.Str.{bytes_eq}
@@ -137,31 +137,13 @@ settings_by first value flags = do
   scales ← scales_given first (value (codes "scales"))
   settings_over horizon starts scales first value flags
 
--- whether a command's uses have the flag for the plain loader; four commands have no such flag
-abbrev pub is_plain : CommandWord → List Use → Bool
-is_plain word.Freeflow uses = false
-is_plain word.Assign uses = is_given uses (codes "plain")
-is_plain word.Demo uses = is_given uses (codes "plain")
-is_plain word.Skim uses = false
-is_plain word.Counts uses = is_given uses (codes "plain")
-is_plain word.Sweep uses = false
-is_plain word.Audit uses = false
-
--- whether a command's uses have the flag for a start table; `assign` alone has it
-abbrev pub has_start : CommandWord → List Use → Bool
-has_start word.Freeflow uses = false
-has_start word.Assign uses = is_given uses (codes "start")
-has_start word.Demo uses = false
-has_start word.Skim uses = false
-has_start word.Counts uses = false
-has_start word.Sweep uses = false
-has_start word.Audit uses = false
-
-abbrev pub flags_in : CommandWord → List Use → Flags
-flags_in first uses = record { plain = is_plain first uses; start = has_start first uses }
+-- the flags that the uses have
+abbrev pub flags_in : List Use → Flags
+flags_in uses =
+    record { plain = is_given uses (codes "plain"); start = is_given uses (codes "start") }
 
 abbrev pub settings_from : CommandWord → List Use → Option Settings
-settings_from first uses = settings_by first (value_in uses) (flags_in first uses)
+settings_from first uses = settings_by first (value_in uses) (flags_in uses)
 
 -- the settings that a list of words asks for
 abbrev pub settings_of : List Text → Option Settings

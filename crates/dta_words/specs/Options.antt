@@ -1,52 +1,61 @@
 -- The options of the commands.
-use Rattle.std.specs.Prelude.{true, false, [], ◌∷◌, codes}
-use Rattle.dta_words.specs.Uses.{Takes}
+use Rattle.std.specs.Prelude.{true, false, List, [], ◌∷◌, ◌++◌, codes}
+use Rattle.dta_words.specs.Uses.{Takes, Text}
 use Rattle.dta_words.specs.declared.options.CommandWord.{CommandWord}
 use Rattle.dta_words.specs.declared.options.CommandWord.TheVariants as word
 
--- what each command takes, by name; a name's values stand in `Grammar`
+-- options that commands take together; a name's values stand in `Grammar`
+abbrev everywhere : List Text
+everywhere = codes "step" ∷ codes "jam" ∷ []
+
+abbrev units : List Text
+units = codes "length-unit" ∷ codes "speed-unit" ∷ []
+
+abbrev times : List Text
+times = codes "horizon" ∷ codes "bucket" ∷ []
+
+abbrev loading : List Text
+loading = codes "period" ∷ codes "queue" ∷ codes "wave" ∷ []
+
+abbrev iterated : List Text
+iterated = codes "iterations" ∷ codes "workers" ∷ []
+
+abbrev watched : List Text
+watched = codes "watch" ∷ []
+
+abbrev plain : List Text
+plain = codes "plain" ∷ []
+
+-- what each command takes, by name
 abbrev pub takes_of : CommandWord → Takes
-takes_of word.Freeflow = record {
-  options = codes "step" ∷ codes "jam" ∷ codes "length-unit" ∷ codes "speed-unit" ∷ [];
-  flags = [];
-  number = false;
-}
+takes_of word.Freeflow = record { options = everywhere ++ units; flags = []; number = false }
 takes_of word.Assign = record {
-  options = codes "step" ∷ codes "jam" ∷ codes "length-unit" ∷ codes "speed-unit"
-      ∷ codes "horizon" ∷ codes "period" ∷ codes "iterations" ∷ codes "workers"
-      ∷ codes "bucket" ∷ codes "queue" ∷ codes "wave" ∷ codes "watch" ∷ [];
-  flags = codes "plain" ∷ codes "start" ∷ [];
+  options = everywhere ++ units ++ times ++ loading ++ iterated ++ watched;
+  flags = plain ++ codes "start" ∷ [];
   number = false;
 }
 takes_of word.Demo = record {
-  options = codes "step" ∷ codes "jam" ∷ codes "horizon" ∷ codes "period" ∷ codes "iterations"
-      ∷ codes "workers" ∷ codes "bucket" ∷ codes "queue" ∷ codes "wave" ∷ codes "watch" ∷ [];
-  flags = codes "plain" ∷ [];
+  options = everywhere ++ times ++ loading ++ iterated ++ watched;
+  flags = plain;
   number = true;
 }
 takes_of word.Skim = record {
-  options = codes "step" ∷ codes "jam" ∷ codes "length-unit" ∷ codes "speed-unit"
-      ∷ codes "horizon" ∷ codes "bucket" ∷ codes "at" ∷ [];
+  options = everywhere ++ units ++ times ++ codes "at" ∷ [];
   flags = [];
   number = false;
 }
 takes_of word.Counts = record {
-  options = codes "step" ∷ codes "jam" ∷ codes "length-unit" ∷ codes "speed-unit"
-      ∷ codes "horizon" ∷ codes "period" ∷ codes "iterations" ∷ codes "workers"
-      ∷ codes "bucket" ∷ codes "queue" ∷ codes "wave" ∷ codes "link" ∷ [];
-  flags = codes "plain" ∷ [];
+  options = everywhere ++ units ++ times ++ loading ++ iterated ++ codes "link" ∷ [];
+  flags = plain;
   number = false;
 }
 takes_of word.Sweep = record {
-  options = codes "step" ∷ codes "jam" ∷ codes "length-unit" ∷ codes "speed-unit"
-      ∷ codes "horizon" ∷ codes "period" ∷ codes "iterations" ∷ codes "workers"
-      ∷ codes "bucket" ∷ codes "queue" ∷ codes "wave" ∷ codes "scales" ∷ [];
+  options = everywhere ++ units ++ times ++ loading ++ iterated ++ codes "scales" ∷ [];
   flags = [];
   number = false;
 }
 takes_of word.Audit = record {
-  options = codes "step" ∷ codes "jam" ∷ codes "length-unit" ∷ codes "speed-unit"
-      ∷ codes "horizon" ∷ codes "period" ∷ codes "bucket" ∷ codes "queue" ∷ codes "wave" ∷ [];
+  options = everywhere ++ units ++ times ++ loading;
   flags = [];
   number = false;
 }

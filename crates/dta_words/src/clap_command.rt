@@ -2,8 +2,8 @@
 ghost use Rattle.std.specs.Prelude.{◌≡◌, IfOk, codes, map};
 ghost use Rattle.clap.specs.Walk.{texts};
 ghost use Rattle.clap.specs.Simple.{app_of, with_rule};
-ghost use Rattle.dta_words.specs.Asked.{asked_app, asked_flag, asked_number, asked_option};
-ghost use Rattle.dta_words.specs.Asked.{bare_app, with_rules};
+ghost use Rattle.dta_words.specs.Asked.{asked, asked_app, asked_numbers, bare_app, names_in};
+ghost use Rattle.dta_words.specs.Asked.{with_rules};
 ghost use Rattle.dta_words.specs.Options.{takes_of};
 
 use crate::options::{CommandWord, flags_of, options_of, takes_number};
@@ -16,68 +16,66 @@ const PROGRAM: &str = "dta";
 /// The name under which clap keeps the number that stands alone.
 pub(crate) const NUMBER: &str = "number";
 
-/// The command with an option that has a value behind what it has.
-fn with_option<'a>(
+/// The command with an argument of a name behind what it has.
+fn with_name<'a>(
     alloc: Global,
     command: Command<'a>,
+    action: ArgAction,
     name: &'a str,
 ) -> Result<Command<'a>, AllocError>
     ensures { IfOk result (λ r. app_of r
-        ≡ with_rule (app_of command.entry) (asked_option name.entry.now)) }
+        ≡ with_rule (app_of command.entry) (asked action name.entry.now)) }
 {
-    let option = Arg::new(alloc, name).long(name).action(ArgAction::Set);
-    command.arg(option)
+    let argument = Arg::new(alloc, name).long(name).action(action);
+    command.arg(argument)
 }
 
-/// The command with a flag behind what it has.
-fn with_flag<'a>(
+/// The command with an argument of each name behind what it has.
+fn with_names<'a>(
     alloc: Global,
     command: Command<'a>,
-    name: &'a str,
+    action: ArgAction,
+    names: &[&'a str],
 ) -> Result<Command<'a>, AllocError>
     ensures { IfOk result (λ r. app_of r
-        ≡ with_rule (app_of command.entry) (asked_flag name.entry.now)) }
-{
-    let flag = Arg::new(alloc, name).long(name).action(ArgAction::SetTrue);
-    command.arg(flag)
-}
-
-/// The command with an option of each name behind what it has.
-fn with_options<'a>(
-    alloc: Global,
-    command: Command<'a>,
-    names: &'a [&'a str],
-) -> Result<Command<'a>, AllocError>
-    ensures { IfOk result (λ r. app_of r
-        ≡ with_rules (map asked_option (texts names.entry.now)) (app_of command.entry)) }
+        ≡ with_rules (map (asked action) (texts names.entry.now)) (app_of command.entry)) }
 {
     let mut command = command;
     for name in names {
-        command = with_option(alloc, command, *name)?;
+        command = with_name(alloc, command, action, *name)?;
     }
     Ok(command)
 }
 
-/// The command with a flag of each name behind what it has.
-fn with_flags<'a>(
+/// The command with an argument of each name of the groups behind what it has.
+fn with_groups<'a>(
     alloc: Global,
     command: Command<'a>,
-    names: &'a [&'a str],
+    action: ArgAction,
+    groups: &[&[&'a str]],
 ) -> Result<Command<'a>, AllocError>
     ensures { IfOk result (λ r. app_of r
-        ≡ with_rules (map asked_flag (texts names.entry.now)) (app_of command.entry)) }
+        ≡ with_rules (map (asked action) (names_in groups.entry.now)) (app_of command.entry)) }
 {
     let mut command = command;
-    for name in names {
-        command = with_flag(alloc, command, *name)?;
+    for names in groups {
+        command = with_names(alloc, command, action, *names)?;
     }
     Ok(command)
 }
 
-/// The command with the number that stands alone behind what it has.
-fn with_number<'a>(alloc: Global, command: Command<'a>) -> Result<Command<'a>, AllocError>
-    ensures { IfOk result (λ r. app_of r ≡ with_rule (app_of command.entry) asked_number) }
+/// The command with the number that stands alone behind what it has, where there is to be one.
+fn with_number<'a>(
+    alloc: Global,
+    command: Command<'a>,
+    takes: bool,
+) -> Result<Command<'a>, AllocError>
+    ensures { IfOk result (λ r.
+        app_of r ≡ with_rules (asked_numbers takes) (app_of command.entry)) }
 {
+    if !takes {
+        return Ok(command);
+    }
     let number = Arg::new(alloc, NUMBER).action(ArgAction::Set);
     command.arg(number)
 }
@@ -95,11 +93,7 @@ fn bare_command<'a>(alloc: Global) -> Command<'a>
 pub(crate) fn clap_command<'a>(alloc: Global, word: CommandWord) -> Result<Command<'a>, AllocError>
     ensures { IfOk result (λ r. app_of r ≡ asked_app (codes "dta") (takes_of word)) }
 {
-    let with_values = with_options(alloc, bare_command(alloc), options_of(word))?;
-    let with_all = with_flags(alloc, with_values, flags_of(word))?;
-    if takes_number(word) {
-        with_number(alloc, with_all)
-    } else {
-        Ok(with_all)
-    }
+    let with_values = with_groups(alloc, bare_command(alloc), ArgAction::Set, options_of(word))?;
+    let with_all = with_groups(alloc, with_values, ArgAction::SetTrue, flags_of(word))?;
+    with_number(alloc, with_all, takes_number(word))
 }

@@ -2,9 +2,7 @@
 ghost use Rattle.std.specs.Prelude.{◌≡◌, ◌<◌, IfErr, IfOk, List, None, Some, drop, length};
 ghost use Rattle.std.specs.Prelude.{option_and_then, true};
 ghost use Rattle.clap.specs.Matches.{found_of};
-ghost use Rattle.dta_words.specs.Grammar.{flags_in, has_start as has_start_of};
-ghost use Rattle.dta_words.specs.Grammar.{is_plain as is_plain_of, settings_from};
-ghost use Rattle.dta_words.specs.Grammar.{settings_of, word_of};
+ghost use Rattle.dta_words.specs.Grammar.{flags_in, settings_from, settings_of, word_of};
 ghost use Rattle.dta_words.specs.Options.{takes_of};
 ghost use Rattle.dta_words.specs.Ranges.{AreSettings};
 ghost use Rattle.dta_words.specs.Reading.{Reads};
@@ -24,63 +22,26 @@ use std::alloc::Global;
 fn command_word(text: &str) -> Option<CommandWord>
     ensures { result ≡ word_of text.now }
 {
-    if text == "freeflow" {
-        Some(CommandWord::Freeflow)
-    } else if text == "assign" {
-        Some(CommandWord::Assign)
-    } else if text == "demo" {
-        Some(CommandWord::Demo)
-    } else if text == "skim" {
-        Some(CommandWord::Skim)
-    } else if text == "counts" {
-        Some(CommandWord::Counts)
-    } else if text == "sweep" {
-        Some(CommandWord::Sweep)
-    } else if text == "audit" {
-        Some(CommandWord::Audit)
-    } else {
-        None
+    match text {
+        "freeflow" => Some(CommandWord::Freeflow),
+        "assign" => Some(CommandWord::Assign),
+        "demo" => Some(CommandWord::Demo),
+        "skim" => Some(CommandWord::Skim),
+        "counts" => Some(CommandWord::Counts),
+        "sweep" => Some(CommandWord::Sweep),
+        "audit" => Some(CommandWord::Audit),
+        _ => None,
     }
 }
 
-/// Whether the flag for the plain loader is given.
-fn is_plain(word: CommandWord, found: &ArgMatches) -> bool
-    ensures { (words : List Text) → (r : Reads (takes_of word) words (found_of found.now))
-        → result ≡ is_plain_of word r.uses }
-{
-    match word {
-        CommandWord::Assign | CommandWord::Demo | CommandWord::Counts => found.get_flag("plain"),
-        CommandWord::Freeflow | CommandWord::Skim | CommandWord::Sweep | CommandWord::Audit =>
-            false,
-    }
-}
-
-/// Whether the flag for a start table is given.
-fn has_start(word: CommandWord, found: &ArgMatches) -> bool
-    ensures value { (words : List Text) → (r : Reads (takes_of word) words (found_of found.now))
-        → result ≡ has_start_of word r.uses }
-    ensures assign { result ≡ true → word ≡ CommandWord.Assign }
-{
-    match word {
-        CommandWord::Assign => found.get_flag("start"),
-        CommandWord::Freeflow
-        | CommandWord::Demo
-        | CommandWord::Skim
-        | CommandWord::Counts
-        | CommandWord::Sweep
-        | CommandWord::Audit => false,
-    }
-}
-
-/// The flags that are given.
+/// The flags that are given. A command has none that it doesn't take.
 fn flags(word: CommandWord, found: &ArgMatches) -> Flags
-    ensures value { (words : List Text) → (r : Reads (takes_of word) words (found_of found.now))
-        → result ≡ flags_in word r.uses }
-    ensures assign { result.start ≡ true → word ≡ CommandWord.Assign }
+    ensures { (words : List Text) → (r : Reads (takes_of word) words (found_of found.now))
+        → result ≡ flags_in r.uses }
 {
     Flags {
-        plain: is_plain(word, found),
-        start: has_start(word, found),
+        plain: found.get_flag("plain"),
+        start: found.get_flag("start"),
     }
 }
 

@@ -1,5 +1,5 @@
 // Whole numbers in words.
-ghost use Rattle.std.specs.Prelude.{◌≡◌, ◌≤◌, IfSome};
+ghost use Rattle.std.specs.Prelude.{◌≡◌};
 ghost use Rattle.std.specs.List.{list_all};
 ghost use Rattle.std.specs.Char.{is_ascii_digit};
 ghost use Rattle.dta_words.specs.Numbers.{is_number as is_number_of};
@@ -26,7 +26,7 @@ fn is_number(text: &str) -> bool
 
 /// The number that a word writes.
 #[tactic(auto, using(crate::proofs::NumberFacts::parsed))]
-fn number_of(text: &str) -> Option<u32>
+pub(crate) fn number_of(text: &str) -> Option<u32>
     ensures { result ≡ number_written text.now }
 {
     if is_number(text) {
@@ -38,8 +38,7 @@ fn number_of(text: &str) -> Option<u32>
 
 /// The number that a word writes, if it is within the bounds.
 pub(crate) fn number_between(least: u32, most: u32, text: &str) -> Option<u32>
-    ensures value { result ≡ number_between_of least most text.now }
-    ensures within { IfSome result (λ n. (least ≤ n) × (n ≤ most)) }
+    ensures { result ≡ number_between_of least most text.now }
 {
     let number = number_of(text)?;
     if least <= number && number <= most {

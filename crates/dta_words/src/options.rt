@@ -1,6 +1,6 @@
 // The options of the commands: names, bounds, and what stands where one isn't given.
 ghost use Rattle.std.specs.Prelude.{◌≡◌};
-ghost use Rattle.clap.specs.Walk.{texts};
+ghost use Rattle.dta_words.specs.Asked.{names_in};
 ghost use Rattle.dta_words.specs.Options.{takes_of};
 
 use dta_model::{MOST_HORIZON, MOST_WAVE};
@@ -111,118 +111,48 @@ pub(crate) const LEAST_SIDE: u32 = 2;
 /// The nodes on a side of the grid of `demo`, at most.
 pub(crate) const MOST_SIDE: u32 = 60;
 
-static FREEFLOW_OPTIONS: [&str; 4] = ["step", "jam", "length-unit", "speed-unit"];
+/// What every command takes.
+const EVERYWHERE: &[&str] = &["step", "jam"];
 
-static ASSIGN_OPTIONS: [&str; 12] = [
-    "step",
-    "jam",
-    "length-unit",
-    "speed-unit",
-    "horizon",
-    "period",
-    "iterations",
-    "workers",
-    "bucket",
-    "queue",
-    "wave",
-    "watch",
-];
+/// The units of tables, which a demonstration has none of.
+const UNITS: &[&str] = &["length-unit", "speed-unit"];
 
-static DEMO_OPTIONS: [&str; 10] = [
-    "step",
-    "jam",
-    "horizon",
-    "period",
-    "iterations",
-    "workers",
-    "bucket",
-    "queue",
-    "wave",
-    "watch",
-];
+/// The steps of a loading, and of its link times.
+const TIMES: &[&str] = &["horizon", "bucket"];
 
-static SKIM_OPTIONS: [&str; 7] = [
-    "step",
-    "jam",
-    "length-unit",
-    "speed-unit",
-    "horizon",
-    "bucket",
-    "at",
-];
+/// What is loaded, and by which queue.
+const LOADING: &[&str] = &["period", "queue", "wave"];
 
-static COUNTS_OPTIONS: [&str; 12] = [
-    "step",
-    "jam",
-    "length-unit",
-    "speed-unit",
-    "horizon",
-    "period",
-    "iterations",
-    "workers",
-    "bucket",
-    "queue",
-    "wave",
-    "link",
-];
+/// How often is loaded, and by how many workers.
+const ITERATED: &[&str] = &["iterations", "workers"];
 
-static SWEEP_OPTIONS: [&str; 12] = [
-    "step",
-    "jam",
-    "length-unit",
-    "speed-unit",
-    "horizon",
-    "period",
-    "iterations",
-    "workers",
-    "bucket",
-    "queue",
-    "wave",
-    "scales",
-];
+const WATCHED: &[&str] = &["watch"];
 
-static AUDIT_OPTIONS: [&str; 9] = [
-    "step",
-    "jam",
-    "length-unit",
-    "speed-unit",
-    "horizon",
-    "period",
-    "bucket",
-    "queue",
-    "wave",
-];
+const PLAIN: &[&str] = &["plain"];
 
-static ASSIGN_FLAGS: [&str; 2] = ["plain", "start"];
-
-static PLAIN_ALONE: [&str; 1] = ["plain"];
-
-static NO_FLAGS: [&str; 0] = [];
-
-/// The names of the options with a value that a command takes.
-pub(crate) fn options_of(word: CommandWord) -> &'static [&'static str]
-    ensures { texts result.now ≡ (takes_of word).options }
+/// The names of the options with a value that a command takes, in groups.
+pub(crate) fn options_of(word: CommandWord) -> &'static [&'static [&'static str]]
+    ensures { names_in result.now ≡ (takes_of word).options }
 {
     match word {
-        CommandWord::Freeflow => FREEFLOW_OPTIONS.as_slice(),
-        CommandWord::Assign => ASSIGN_OPTIONS.as_slice(),
-        CommandWord::Demo => DEMO_OPTIONS.as_slice(),
-        CommandWord::Skim => SKIM_OPTIONS.as_slice(),
-        CommandWord::Counts => COUNTS_OPTIONS.as_slice(),
-        CommandWord::Sweep => SWEEP_OPTIONS.as_slice(),
-        CommandWord::Audit => AUDIT_OPTIONS.as_slice(),
+        CommandWord::Freeflow => &[EVERYWHERE, UNITS],
+        CommandWord::Assign => &[EVERYWHERE, UNITS, TIMES, LOADING, ITERATED, WATCHED],
+        CommandWord::Demo => &[EVERYWHERE, TIMES, LOADING, ITERATED, WATCHED],
+        CommandWord::Skim => &[EVERYWHERE, UNITS, TIMES, &["at"]],
+        CommandWord::Counts => &[EVERYWHERE, UNITS, TIMES, LOADING, ITERATED, &["link"]],
+        CommandWord::Sweep => &[EVERYWHERE, UNITS, TIMES, LOADING, ITERATED, &["scales"]],
+        CommandWord::Audit => &[EVERYWHERE, UNITS, TIMES, LOADING],
     }
 }
 
-/// The names of the flags that a command takes.
-pub(crate) fn flags_of(word: CommandWord) -> &'static [&'static str]
-    ensures { texts result.now ≡ (takes_of word).flags }
+/// The names of the flags that a command takes, in groups.
+pub(crate) fn flags_of(word: CommandWord) -> &'static [&'static [&'static str]]
+    ensures { names_in result.now ≡ (takes_of word).flags }
 {
     match word {
-        CommandWord::Assign => ASSIGN_FLAGS.as_slice(),
-        CommandWord::Demo | CommandWord::Counts => PLAIN_ALONE.as_slice(),
-        CommandWord::Freeflow | CommandWord::Skim | CommandWord::Sweep | CommandWord::Audit =>
-            NO_FLAGS.as_slice(),
+        CommandWord::Assign => &[PLAIN, &["start"]],
+        CommandWord::Demo | CommandWord::Counts => &[PLAIN],
+        CommandWord::Freeflow | CommandWord::Skim | CommandWord::Sweep | CommandWord::Audit => &[],
     }
 }
 

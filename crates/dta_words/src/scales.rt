@@ -1,9 +1,8 @@
 // Multiples of a demand.
-ghost use Rattle.std.specs.Prelude.{◌≡◌, [], IfOk, IfSome, option_map};
+ghost use Rattle.std.specs.Prelude.{◌≡◌, [], IfOk, option_map};
 ghost use Rattle.clap.specs.Walk.{texts};
-ghost use Rattle.dta_words.specs.Ranges.{AreScales};
-ghost use Rattle.dta_words.specs.Scales.{scales_in as scales_in_text};
-ghost use Rattle.dta_words.specs.Scales.{scale_of as scale_written, scales_of as scales_written};
+ghost use Rattle.dta_words.specs.Pieces.{values_of};
+ghost use Rattle.dta_words.specs.Scales.{scale_of as scale_written, scales_in as scales_in_text};
 
 use crate::options::{GREATEST_SCALE, LEAST_SCALE, MOST_SCALES};
 use crate::pieces::pieces;
@@ -30,7 +29,7 @@ fn scale_of(piece: &str) -> Option<u64>
 /// The multiples that pieces write, if each of them writes one.
 fn scales_of(alloc: Global, pieces: &[&str]) -> Result<Option<Vec<u64>>, Memory>
     ensures { IfOk result (λ scales.
-        option_map (λ s. s.items) scales ≡ scales_written (texts pieces.now)) }
+        option_map (λ s. s.items) scales ≡ values_of scale_written (texts pieces.now)) }
 {
     let mut scales = Vec::new(alloc);
     for piece in pieces {
@@ -44,8 +43,7 @@ fn scales_of(alloc: Global, pieces: &[&str]) -> Result<Option<Vec<u64>>, Memory>
 
 /// The multiples that a text writes, if they are 1 to 16 and each is within the bounds.
 pub(crate) fn scales_in(alloc: Global, text: &str) -> Result<Option<Scales>, Memory>
-    ensures value { IfOk result (λ scales. scales ≡ scales_in_text text.now) }
-    ensures within { IfOk result (λ scales. IfSome scales AreScales) }
+    ensures { IfOk result (λ scales. scales ≡ scales_in_text text.now) }
 {
     let pieces = pieces(alloc, text)?;
     if pieces.len() > MOST_SCALES {

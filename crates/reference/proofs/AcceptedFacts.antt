@@ -51,7 +51,7 @@ use Rattle.reference.specs.Laws.{IsAccepted}
 use Rattle.row_reader.proofs.Kept.{next_ok, same_Ok}
 use Rattle.reference.proofs.NetTables.{are-between, are-links, are-nodes, are-turning, are-turns}
 use Rattle.reference.proofs.OtherTables.{are-cells, are-starts, are-times}
-use Rattle.reference.proofs.SettingsInRange.{settings-in-range}
+use Rattle.dta_words.proofs.RangeFacts.{settings_in_range}
 use Rattle.reference.proofs.SweepFacts.{trips-below}
 
 -- ---- the vehicles of a demand
@@ -335,4 +335,4 @@ by-settings None texts given job in_range e = absurd cc
 by-settings (Some s) texts given job in_range e = by-command s.command s refl (in_range s refl) texts given job e
 
 pub accepted_are_sound : (words : List (List ℕ)) (texts : Table → List ℕ) (s : Settings) (job : JobRows) → verdict words texts ≡ Accepted s job → IsAccepted s job
-accepted_are_sound words texts s job e = by-settings (settings_of words) texts s job (λ given is. settings-in-range words given is) e
+accepted_are_sound words texts s job e = by-settings (settings_of words) texts s job (λ given is. settings_in_range words given is) e

@@ -13,7 +13,6 @@ pub mod SkimFacts
 pub mod SweepFacts
 pub mod AuditFacts
 pub mod TextsFacts
-pub mod SettingsInRange
 pub mod FieldsInRange
 pub mod NetTables
 pub mod OtherTables

@@ -1,18 +1,17 @@
 -- Worked cases of the reference, computed: the texts of runs whose numbers were worked out by
 -- hand.
-use Rattle.std.specs.Prelude.{◌≡◌, ℕ, true, false, List, [], ◌∷◌, ◌++◌, None, Some, codes, map}
+use Rattle.std.specs.Prelude.{◌≡◌, ℕ, true, List, [], ◌∷◌, ◌++◌, None, Some, codes, map}
 use Rattle.std.specs.Prelude.{refl}
 use Rattle.desk_io.specs.declared.desk.Output.TheVariants as output
 use Rattle.desk_io.specs.declared.desk.Table.TheVariants as table
 use Rattle.row_reader.specs.declared.faults.Column.TheVariants as column
-use Rattle.fixed_units.specs.declared.measure.LengthUnit.TheVariants as length_unit
-use Rattle.fixed_units.specs.declared.measure.SpeedUnit.TheVariants as speed_unit
 use Rattle.net_core.specs.Network.{numbers_below}
 use Rattle.net_core.specs.declared.rows.LinkRow.{LinkRow}
 use Rattle.net_core.specs.declared.rows.NetRows.{NetRows}
 use Rattle.dta_model.specs.Examples.{link, trip}
 use Rattle.dta_model.specs.declared.queue.Queue.TheVariants as queue
 use Rattle.dta_model.specs.declared.trip.Trip.{Trip}
+use Rattle.dta_words.specs.Examples.{defaults}
 use Rattle.dta_words.specs.declared.command.Command.{Command}
 use Rattle.dta_words.specs.declared.command.Command.TheVariants as command
 use Rattle.dta_words.specs.declared.command.Settings.{Settings}
@@ -28,22 +27,7 @@ use Rattle.reference.specs.Texts.{texts_of}
 
 -- a run of one iteration up to step 60, by steps of six seconds
 abbrev settings : Command → Settings
-settings what = record {
-  command = what;
-  units = record { delta = 6; jam = 125; length = length_unit.Metre; speed = speed_unit.Kmh };
-  horizon = 60;
-  period = 30;
-  iterations = 1;
-  workers = 4;
-  bucket = 50;
-  queue = queue.Point;
-  watch = 0;
-  plain = false;
-  start = false;
-  starts = 0 ∷ [];
-  link = None;
-  scales = [];
-}
+settings what = record (defaults what) { horizon = 60; period = 30 }
 
 abbrev job : NetRows → List Trip → JobRows
 job net trips = record {

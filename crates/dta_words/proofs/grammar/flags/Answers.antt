@@ -1,5 +1,12 @@
-use Rattle.std.proofs.Common.{refl}
+use Rattle.std.proofs.Common.{codes, refl}
+use Rattle.clap.specs.Matches.{found_of}
+use Rattle.dta_words.proofs.SettingsFacts.{flag_read}
 use Rattle.dta_words.proofs.grammar.flags.Goals as goal
 
-pub returns-clause-value : goal.returns-clause-value
-returns-clause-value c = λ words r. rw (c.is_plain.ensures words r, c.has_start.ensures.value words r) refl
+pub returns : goal.returns
+returns c = λ words r. rw (
+  flag_read c.args.word words (found_of c.args.found.now) r (codes "plain") c.get_flag.result refl refl
+      c.get_flag.ensures.none c.get_flag.ensures.value c.get_flag.ensures.other,
+  flag_read c.args.word words (found_of c.args.found.now) r (codes "start") c.get_flag-2.result refl refl
+      c.get_flag-2.ensures.none c.get_flag-2.ensures.value c.get_flag-2.ensures.other,
+) refl
