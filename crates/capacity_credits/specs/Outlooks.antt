@@ -1,12 +1,10 @@
 -- Rates in range, and how a meter keeps rates.
 use Rattle.capacity_credits.specs.Course.{IsCourse}
-use Rattle.capacity_credits.specs.declared.meter.Left.{Left}
 use Rattle.capacity_credits.specs.declared.outlook.Outlook.{Outlook}
-use Rattle.dta_model.specs.Allowance.{allowance}
 use Rattle.fixed_units.specs.declared.link.TheConstants.{MOST_RATE}
 use Rattle.net_core.specs.Rates.{steady}
 use Rattle.net_core.specs.declared.rates.Rates.{Rates}
-use Rattle.std.specs.Prelude.{ℕ, ◌≤◌, ⊤, Bool, IfSome, None, Option, Some, false, min}
+use Rattle.std.specs.Prelude.{ℕ, ◌≤◌, ⊤, Bool, IfSome, None, Option, Some, false}
 
 -- a rate that a link or a turn may have
 abbrev pub IsInRange : Option ℕ → Type 0
@@ -30,9 +28,3 @@ IsOutlook delta (Outlook.Limit rate) = rate ≤ MOST_RATE
 IsOutlook delta (Outlook.NoLimit unlimited) = ⊤
 IsOutlook delta (Outlook.Course unlimited course) =
     IsCourse course.value.rates delta course.value.credits.items
-
--- what is left in a step that is open, by how a meter keeps it
-abbrev pub left_in : Rates → ℕ → Left → ℕ
-left_in rates delta (Left.Known left) = left
-left_in rates delta (Left.Granted step) = allowance rates delta step
-left_in rates delta (Left.Capped step most) = min (allowance rates delta step) most

@@ -9,26 +9,17 @@ use net_core::{Memory, Rates};
 use std::alloc::Global;
 use std::marker::Model;
 
-// What is left in the step that is open: so many, or its whole allowance, or no more of it than a
-// bound. So an allowance is told where somebody asks for it, and not in each step.
-#[derive(Clone, Copy, Drop)]
-enum Left {
-    Known(u32),
-    Granted(u32),
-    Capped { step: u32, most: u32 },
-}
-
 /// Rates in steps of some seconds, and what is left of the allowance of the step that is open.
 #[derive(Drop)]
 pub struct Meter {
     outlook: Outlook,
     delta: u32,
-    left: Left,
+    left: u32,
 }
 
 impl Model for Meter {
     ghost use Rattle.capacity_credits.specs.Meter.{MeterState};
-    ghost use Rattle.capacity_credits.specs.Outlooks.{IsOutlook, left_in, rates_of, unlimited_of};
+    ghost use Rattle.capacity_credits.specs.Outlooks.{IsOutlook, rates_of, unlimited_of};
     ghost use Rattle.fixed_units.specs.declared.link.TheConstants.{MOST_STEP};
     ghost use Rattle.std.specs.Prelude.{◌≤◌};
 
@@ -37,7 +28,7 @@ impl Model for Meter {
     ghost view = { λ m. record {
       rates = rates_of m.outlook;
       delta = m.delta;
-      left = left_in (rates_of m.outlook) m.delta m.left;
+      left = m.left;
       unlimited = unlimited_of m.outlook;
     } };
 
@@ -55,7 +46,7 @@ impl Meter {
         Ok(Meter {
             outlook: Outlook::of(alloc, rates, delta)?,
             delta,
-            left: Left::Known(0),
+            left: 0,
         })
     }
 
@@ -63,11 +54,7 @@ impl Meter {
     pub fn left(&self) -> u32
         ensures { result ≡ self.now.left }
     {
-        match self.left {
-            Left::Known(left) => left,
-            Left::Granted(step) => self.outlook.allowance(self.delta, step),
-            Left::Capped { step, most } => self.outlook.allowance(self.delta, step).min(most),
-        }
+        self.left
     }
 
     /// Whether the step has no limit.
@@ -82,22 +69,22 @@ impl Meter {
     pub fn open(&mut self, step: u32)
         ensures { self.new ≡ granted step self.old }
     {
+        self.left = self.outlook.allowance(self.delta, step);
         self.outlook.open(step);
-        self.left = Left::Granted(step);
     }
 
     /// One vehicle passes.
     pub fn pass(&mut self)
         ensures { self.new ≡ passed_one self.old }
     {
-        self.left = Left::Known(self.left().saturating_sub(1));
+        self.left = self.left.saturating_sub(1);
     }
 
     /// The step is over.
     pub fn close(&mut self)
         ensures { self.new ≡ closed self.old }
     {
-        self.left = Left::Known(0);
+        self.left = 0;
         self.outlook.close();
     }
 
@@ -105,14 +92,6 @@ impl Meter {
     pub fn cap(&mut self, room: u32)
         ensures { self.new ≡ capped room self.old }
     {
-        self.left = match self.left {
-            _ if room == 0 => Left::Known(0),
-            Left::Known(left) => Left::Known(left.min(room)),
-            Left::Granted(step) => Left::Capped { step, most: room },
-            Left::Capped { step, most } => Left::Capped {
-                step,
-                most: most.min(room),
-            },
-        };
+        self.left = self.left.min(room);
     }
 }
