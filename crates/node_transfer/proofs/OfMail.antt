@@ -9,3 +9,5 @@ pub mod Exchanges
 pub mod Lending
 pub mod Halves
 pub mod Finished
+pub mod Gathers
+pub mod Rooms

@@ -1,7 +1,20 @@
 -- Mail that goes between the list of all links and the places of a node's cell.
 use Rattle.std.specs.List.{list_any}
-use Rattle.std.specs.Prelude.{◌≡◌, ℕ, Bool, true, false, nat_eq, List, length, Some, slice_get}
+use Rattle.std.specs.Prelude.{◌≡◌, ℕ, ⊤, Bool, true, false, nat_eq, List, length, Some, slice_get}
 use Rattle.cell_stages.specs.declared.mail.Mail.{Mail}
+use Rattle.cell_stages.specs.declared.mail.Mail.TheVariants.{Away, Room, Batch}
+
+-- whether a mail tells a room
+abbrev pub is_room : Mail → Bool
+is_room Away = false
+is_room (Room s room) = true
+is_room (Batch s riders) = false
+
+-- a mail is another one, unless it is a batch
+abbrev pub IsKept : Mail → Mail → Type 0
+IsKept (Batch s riders) other = ⊤
+IsKept Away other = other ≡ Away
+IsKept (Room s room) other = other ≡ Room s room
 
 -- whether link l is one of these
 abbrev pub is_among : List ℕ → ℕ → Bool

@@ -34,6 +34,14 @@ with_batch step link line = record link {
 abbrev pub gathered_link : ℕ → InLink → InLink
 gathered_link step link = with_batch step link (link.line ++ mail_line link.mail)
 
+-- an in-link on which those stand last who come with a mail, and that mail once the room for the
+-- next step is told
+abbrev pub grown_by : Mail → InLink → InLink
+grown_by mail link = record link { line = link.line ++ mail_line mail }
+
+abbrev pub room_told : ℕ → Mail → InLink → Mail
+room_told step mail link = told (step + 1) (room_on (grown_by mail link)) mail
+
 -- the cell after the gather of a step
 abbrev pub gathered : ℕ → CellState → CellState
 gathered step s = record s { ins = map (gathered_link step) s.ins }

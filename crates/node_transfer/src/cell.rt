@@ -3,26 +3,30 @@ ghost use Rattle.dta_model.specs.Loading.{trace_after};
 ghost use Rattle.dta_model.specs.Plans.{ins};
 ghost use Rattle.dta_model.specs.State.{count_on};
 ghost use Rattle.dta_model.specs.declared.plan.Plan.{Plan};
-ghost use Rattle.node_transfer.specs.Places.{in_mail, out_mail, with_in_mail, with_out_mail};
+ghost use Rattle.node_transfer.specs.Places.{changed_at, in_mail, out_mail, with_in_mail};
+ghost use Rattle.node_transfer.specs.Places.{with_out_mail};
 ghost use Rattle.cell_stages.specs.Contents.{IsStep, away, batch_of, cell_after, cell_before};
 ghost use Rattle.cell_stages.specs.Contents.{room_of};
 ghost use Rattle.node_transfer.specs.Counts.{counts_at};
 ghost use Rattle.node_transfer.specs.Halves.{half_after, half_before, mail_after, mail_before};
 ghost use Rattle.node_transfer.specs.Halves.{mail_in, with_mail};
-ghost use Rattle.node_transfer.specs.Gathered.{room_on};
+ghost use Rattle.node_transfer.specs.Exchange.{IsKept, is_room};
+ghost use Rattle.node_transfer.specs.Gathered.{grown_by, mail_line, room_on, room_told};
 ghost use Rattle.node_transfer.specs.Hand.{Within, handed, riders_in};
 ghost use Rattle.dta_model.specs.Sound.{IsSound};
 ghost use Rattle.node_transfer.specs.Rest.{IsQuiet};
 ghost use Rattle.node_transfer.specs.declared.rest.TheConstants.{NO_STEP};
 ghost use Rattle.std.specs.Prelude.{◌≡◌, ℕ, suc, ◌<◌, ◌≤◌, [], All, length, slice_get, IfOk};
-ghost use Rattle.std.specs.Prelude.{IfSome, IsSome, Some};
+ghost use Rattle.std.specs.Prelude.{IfSome, IsSome, IsSomeAnd, Some, ◌+◌, true};
+ghost use Rattle.link_queues.specs.declared.line.TheConstants.{MOST_RIDERS};
+ghost use Rattle.dta_model.specs.declared.loading.TheConstants.{MOST_HORIZON};
 
 use crate::Half;
 use crate::counts::count_parts;
 use crate::hand_over::hand_parts;
-use crate::mail::{put_in_mail, put_out_mail, swap_in_mail, swap_out_mail};
+use crate::mail::{copy_room, give_batch, put_in_mail, put_out_mail, swap_in_mail, swap_out_mail};
 use crate::rest::first_step;
-use crate::step::in_link::{gather_links, room_left};
+use crate::step::in_link::{gather_at, gather_links, room_left};
 use crate::step::transfer::transfer_links;
 use cell_stages::{InLink, Mail, OutLink};
 use dta_model::Loaded;
@@ -164,6 +168,39 @@ impl NodeCell {
         ensures away { self.new ≡ with_in_mail place Mail.Away self.old }
     {
         swap_in_mail(&mut self.parts.ins, place)
+    }
+
+    /// Tells an out-link the room that a mail tells, which stays where it is.
+    pub fn tell_room(&mut self, place: usize, mail: &Mail)
+        requires there { IsSome (out_mail place self.old) }
+        requires room { is_room mail.now ≡ true }
+        ensures { self.new ≡ with_out_mail place mail.now self.old }
+    {
+        copy_room(&mut self.parts.outs, place, mail);
+    }
+
+    /// Writes the batch of an out-link over its mail, which tells its room, where somebody enters.
+    pub fn send_batch(&mut self, place: usize, mail: &mut Mail)
+        requires { IsSomeAnd (out_mail place self.old) (λ there. IsKept there mail.old) }
+        ensures mail { out_mail place self.old ≡ Some mail.new }
+        ensures away { self.new ≡ with_out_mail place Mail.Away self.old }
+    {
+        give_batch(&mut self.parts.outs, place, mail);
+    }
+
+    /// Puts those who come with a mail in a step last on an in-link, and tells there the room of
+    /// the next step.
+    pub fn gather_link(&mut self, place: usize, mail: &mut Mail, step: u32)
+        requires step { step < MOST_HORIZON }
+        requires fits { IsSomeAnd (slice_get self.old.ins place)
+            (λ link. length link.line + length (mail_line mail.old) ≤ MOST_RIDERS) }
+        ensures link { self.new ≡ record self.old {
+          ins = changed_at (grown_by mail.old) place self.old.ins;
+        } }
+        ensures mail { IfSome (slice_get self.old.ins place)
+            (λ link. mail.new ≡ room_told step mail.old link) }
+    {
+        gather_at(&mut self.parts.ins, place, mail, step);
     }
 
     /// Fills the place of a link's mail that a half takes.

@@ -6,9 +6,9 @@
 //! its links. In each step it first transfers, which makes the node's moves and writes the batch
 //! of each out-link that is entered; then it gathers the batches of its in-links. The promise of
 //! each call is the content of the cell at the next stage, for every loading of which it has the
-//! content before. [`exchange`] lends the cell of a node the mail of its links, lets it work and
-//! collects the mail. [`opening`] alone takes memory. A cell can go to another thread and come
-//! back. What cells and mail hold at each stage is said in `cell_stages`.
+//! content before. [`exchange`] does each half of a step over the list of all mail. [`opening`]
+//! alone takes memory. A cell can go to another thread and come back. What cells and mail hold at
+//! each stage is said in `cell_stages`.
 #![tactic(auto)]
 
 mod cell;

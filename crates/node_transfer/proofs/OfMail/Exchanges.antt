@@ -1,33 +1,32 @@
 -- Mail that is lent to the places of a cell, and collected from them.
-use Rattle.std.specs.Prelude.{nat_eq, slice_get, slice_set, ◌≢◌}
-use Rattle.std.proofs.Common.{◌≡◌, ℕ, suc, ◌+◌, ◌<◌, ◌≤◌, Bool, true, false, cond, ◌||◌, List, length, refl, ap, sym, ◌∙◌, Option, Some, take, add-one}
+use Rattle.std.specs.Prelude.{nat_eq, slice_get, ◌≢◌}
+use Rattle.std.proofs.Common.{◌≡◌, ℕ, suc, ◌+◌, ◌≤◌, Bool, true, false, cond, ◌||◌, List, length, refl, ap, sym, ◌∙◌, Option, Some, take, add-one}
 use Rattle.std.proofs.lemmas.Bool.{eq-eqb, ne_eqb}
 use Rattle.dta_model.specs.declared.plan.Plan.{Plan}
 use Rattle.cell_stages.specs.CellState.{CellState}
 use Rattle.cell_stages.specs.Contents.{away}
-use Rattle.node_transfer.specs.Exchange.{AreMail, ArePut, is_among}
+use Rattle.node_transfer.specs.Exchange.{is_among}
 use Rattle.cell_stages.specs.declared.mail.Mail.{Mail}
 use Rattle.cell_stages.specs.declared.mail.Mail.TheVariants.{Away}
 use Rattle.node_transfer.proofs.OfMail.ListPlaces.{among-next, not-before, take-all}
 use Rattle.node_transfer.proofs.OfMail.Parts.{IsMadeOf}
-use Rattle.node_transfer.proofs.OfMail.Puts.{among-links, put-next}
 
--- the mail of the links of a list by one rule, and that of the others by another
-abbrev pub replaced : List ℕ → (ℕ → Mail) → (ℕ → Mail) → ℕ → Mail
+-- what belongs to the links of a list by one rule, and what to the others by another
+abbrev pub replaced : {X : Type 0} → List ℕ → (ℕ → X) → (ℕ → X) → ℕ → X
 replaced links there others l = cond (is_among links l) (there l) (others l)
 
 -- one more link whose mail is replaced
-replaced-next : (links : List ℕ) (there others : ℕ → Mail) (j b l : ℕ) → slice_get links j ≡ Some b → replaced (take (suc j) links) there others l ≡ cond (nat_eq b l) (there l) (replaced (take j links) there others l)
+replaced-next : {X : Type 0} (links : List ℕ) (there others : ℕ → X) (j b l : ℕ) → slice_get links j ≡ Some b → replaced (take (suc j) links) there others l ≡ cond (nat_eq b l) (there l) (replaced (take j links) there others l)
 replaced-next links there others j b l e = ap (λ c. cond c (there l) (others l)) (among-next links j b l e) ∙ by_two (nat_eq b l) (is_among (take j links) l)
   where
     by_two : (c d : Bool) → cond (c || d) (there l) (others l) ≡ cond c (there l) (cond d (there l) (others l))
     by_two true d = refl
     by_two false d = refl
 
-replaced-here : (links : List ℕ) (there others : ℕ → Mail) (j b : ℕ) → slice_get links j ≡ Some b → there b ≡ replaced (take (suc j) links) there others b
+pub replaced-here : {X : Type 0} (links : List ℕ) (there others : ℕ → X) (j b : ℕ) → slice_get links j ≡ Some b → there b ≡ replaced (take (suc j) links) there others b
 replaced-here links there others j b e = sym (replaced-next links there others j b b e ∙ ap (λ c. cond c (there b) (replaced (take j links) there others b)) (eq-eqb b b refl))
 
-replaced-other : (links : List ℕ) (there others : ℕ → Mail) (j b l : ℕ) → slice_get links j ≡ Some b → l ≢ b → replaced (take j links) there others l ≡ replaced (take (suc j) links) there others l
+pub replaced-other : {X : Type 0} (links : List ℕ) (there others : ℕ → X) (j b l : ℕ) → slice_get links j ≡ Some b → l ≢ b → replaced (take j links) there others l ≡ replaced (take (suc j) links) there others l
 replaced-other links there others j b l e ne = sym (replaced-next links there others j b l e ∙ ap (λ c. cond c (there l) (replaced (take j links) there others l)) (ne_eqb b l (λ q. ne (sym q))))
 
 module _ (p : Plan) (n : ℕ) (ends : ℕ → ℕ) (links : List ℕ) (cell : (ℕ → Mail) → CellState) (put : ℕ → Mail → CellState → CellState) (told : ℕ → CellState → Option Mail)
@@ -56,34 +55,7 @@ module _ (p : Plan) (n : ℕ) (ends : ℕ → ℕ) (links : List ℕ) (cell : (�
   emptied-next j b c c' e is now = rw add-one (now ∙ ap (λ x. put j Away x) is ∙ cell-next away F j b e)
 
   -- where all are filled, or emptied
-  all-places : (there others : ℕ → Mail) (j : ℕ) → length links ≤ j → cell (replaced (take j links) there others) ≡ cell there
+  pub all-places : (there others : ℕ → Mail) (j : ℕ) → length links ≤ j → cell (replaced (take j links) there others) ≡ cell there
   all-places there others j over =
       made.same (replaced (take j links) there others) there
       (λ x below at. ap (λ xs. replaced xs there others x) (take-all links j over) ∙ ap (λ c. cond c (there x) (others x)) (made.member x below ∙ eq-eqb (ends x) n at))
-
-  pub all-filled : (j : ℕ) → length links ≤ j → cell (replaced (take j links) F away) ≡ cell F
-  all-filled j over = all-places F away j over
-
-  pub all-emptied : (j : ℕ) → length links ≤ j → cell (replaced (take j links) away F) ≡ cell away
-  all-emptied j over = all-places away F j over
-
-  -- the mail of one more link is lent
-  pub lent-next : (j b : ℕ) (m m' : Mail) (c c' : CellState) (old ms : List Mail) → slice_get links j ≡ Some b → slice_get ms b ≡ Some m → b < length ms
-      → c ≡ cell (replaced (take j links) F away) → ArePut away (take j links) old ms → AreMail F links old → c' ≡ put j m c → m' ≡ Away
-      → (c' ≡ cell (replaced (take (j + 1) links) F away)) × ArePut away (take (j + 1) links) old (slice_set ms b m')
-  lent-next j b m m' c c' old ms e got inside is puts own now gone =
-      let there : m ≡ F b = some_mail m (F b) (sym got ∙ puts.others.others b (not-before links j b made.once e) ∙ own b (among-links links j b e)) in
-      (filled-next j b m c c' e is there now, put-next away links j b m' old ms e inside gone puts)
-    where
-      some_mail : (x y : Mail) → Some x ≡ Some y → x ≡ y
-      some_mail x y h = cc
-
-  -- the mail of one more link is collected
-  pub collected-next : (j b : ℕ) (m' : Mail) (c c' : CellState) (old ms : List Mail) → slice_get links j ≡ Some b → b < length ms
-      → c ≡ cell (replaced (take j links) away F) → ArePut F (take j links) old ms → c' ≡ put j Away c → told j c ≡ Some m'
-      → (c' ≡ cell (replaced (take (j + 1) links) away F)) × ArePut F (take (j + 1) links) old (slice_set ms b m')
-  collected-next j b m' c c' old ms e inside is puts now tells =
-      (emptied-next j b c c' e is now, put-next F links j b m' old ms e inside (some_mail m' (F b) (sym tells ∙ told-next j b c e is)) puts)
-    where
-      some_mail : (x y : Mail) → Some x ≡ Some y → x ≡ y
-      some_mail x y h = cc

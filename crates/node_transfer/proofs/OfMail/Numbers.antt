@@ -1,9 +1,8 @@
 -- Lists that are made of the numbers of a range.
 use Rattle.std.specs.List.{list_any, range_with_len}
-use Rattle.std.specs.Prelude.{filter, nat_eq, nat_lt, slice_get, ◌≢◌}
+use Rattle.std.specs.Prelude.{filter, nat_eq, slice_get, ◌≢◌}
 use Rattle.std.proofs.Common.{◌≡◌, ℕ, zero, suc, ◌+◌, ◌<◌, ◌≤◌, Bool, true, false, cond, ◌&&◌, ◌||◌, ◌∷◌, length, map, refl, ap, sym, ◌∙◌, arith, Some, get_or}
 use Rattle.std.proofs.lemmas.Bool.{eqb-true, eq-eqb}
-use Rattle.std.proofs.lemmas.Bool.Decides.{nat_tests}
 use Rattle.std.proofs.lemmas.List.FromFn.{get_or-map-range_with_len, length-map-range_with_len}
 use Rattle.std.proofs.lemmas.Map.Views.{any-filter_same}
 use Rattle.std.proofs.lemmas.Option.{slice_get-get_or}
@@ -77,10 +76,6 @@ kept-range q (suc n) a j b e = by_test (q a) j e (λ i f. kept-range q n (a + 1)
 
 pub kept-below : (q : ℕ → Bool) (n j b : ℕ) → slice_get (filter q (numbers_below n)) j ≡ Some b → b < n
 kept-below q n j b e = let high = kept-range q n 0 j b e in omega (arith, high)
-
--- a number below a bound
-pub below-all : (x n : ℕ) → x < n → nat_lt x n ≡ true
-below-all x n h = grind (arith, nat_tests)
 
 -- there is a cell for each node
 pub cell-count : (p : Plan) (cell : ℕ → CellState) → length (map cell (all_nodes p)) ≡ length p.net.nodes

@@ -29,7 +29,7 @@ pub record IsMadeOf (p : Plan) (n : ℕ) (ends : ℕ → ℕ) (links : List ℕ)
   pub tells : (mail : ℕ → Mail) (j b : ℕ) → slice_get links j ≡ Some b → told j (cell mail) ≡ Some (mail b)
   pub same : (mail mail' : ℕ → Mail) → ((x : ℕ) → x < length p.net.links → ends x ≡ n → mail x ≡ mail' x) → cell mail ≡ cell mail'
 
-got-map : {X Y : Type 0} (f : X → Y) (xs : List X) (j : ℕ) (b : X) → slice_get xs j ≡ Some b → slice_get (map f xs) j ≡ Some (f b)
+pub got-map : {X Y : Type 0} (f : X → Y) (xs : List X) (j : ℕ) (b : X) → slice_get xs j ≡ Some b → slice_get (map f xs) j ≡ Some (f b)
 got-map f [] j b e = cc
 got-map f (x ∷ xs) zero b e = ap (λ o. option_map f o) e
 got-map f (x ∷ xs) (suc j) b e = got-map f xs j b e

@@ -1,12 +1,12 @@
 -- The mail of a node's links, put one link after another.
 use Rattle.std.specs.Prelude.{nat_eq, slice_get, slice_set, ◌≢◌}
-use Rattle.std.proofs.Common.{◌≡◌, ℕ, zero, suc, ◌+◌, ◌<◌, ◌≤◌, Bool, true, false, ◌||◌, List, [], ◌∷◌, length, refl, ap, sym, ◌∙◌, subst, Some, take, add-one, ◌⊎◌, inl, inr}
+use Rattle.std.proofs.Common.{◌≡◌, ℕ, zero, suc, ◌+◌, ◌<◌, Bool, true, false, ◌||◌, List, [], ◌∷◌, length, refl, ap, sym, ◌∙◌, Some, take, add-one, ◌⊎◌, inl, inr}
 use Rattle.std.proofs.lemmas.Bool.{eq-eqb, ne_eqb}
 use Rattle.std.proofs.lemmas.Bool.Decides.{eqb_tells}
 use Rattle.std.proofs.Math.Dec.{eqb}
 use Rattle.node_transfer.specs.Exchange.{ArePut, ChangesOnly, is_among}
 use Rattle.cell_stages.specs.declared.mail.Mail.{Mail}
-use Rattle.node_transfer.proofs.OfMail.ListPlaces.{among-next, take-all}
+use Rattle.node_transfer.proofs.OfMail.ListPlaces.{among-next}
 use Rattle.node_transfer.proofs.OfMail.Sets.{count-set, set-here, set-other}
 
 -- a link among those up to a place
@@ -32,20 +32,19 @@ among-links (x ∷ xs) (suc j) b e = or_true (nat_eq x b) (is_among xs b) (among
     or_true true d h = refl
     or_true false d h = h
 
--- changes of mail
-pub same-mail : (links : List ℕ) (j b : ℕ) (old mid : List Mail) → slice_get links j ≡ Some b → ChangesOnly (take j links) old mid → ChangesOnly (take (suc j) links) old mid
-same-mail links j b old mid e f = record { count = f.count; others = λ l not_in. f.others l (sym (among-other links j b l e (not-among links j b l e not_in)) ∙ not_in) }
-
 pub set-mail : (links : List ℕ) (j b : ℕ) (m : Mail) (old mid : List Mail) → slice_get links j ≡ Some b → ChangesOnly (take j links) old mid → ChangesOnly (take (suc j) links) old (slice_set mid b m)
 set-mail links j b m old mid e f = record {
   count = count-set mid b m ∙ f.count;
   others = λ l not_in. set-other mid b l m (not-among links j b l e not_in) ∙ f.others l (sym (among-other links j b l e (not-among links j b l e not_in)) ∙ not_in);
 }
 
-pub changed-again : (links : List ℕ) (old mid new : List Mail) → ChangesOnly links old mid → ChangesOnly links mid new → ChangesOnly links old new
-changed-again links old mid new f g = record { count = g.count ∙ f.count; others = λ l not_in. g.others l not_in ∙ f.others l not_in }
+pub unchanged : (links : List ℕ) (ms : List Mail) → ChangesOnly links ms ms
+unchanged links ms = record { count = refl; others = λ l not_in. refl }
 
 -- mail that is put by a rule
+pub none-put : (rule : ℕ → Mail) (ms : List Mail) → ArePut rule [] ms ms
+none-put rule ms = record { own = λ l is_in. cc; others = unchanged [] ms }
+
 module _ (rule : ℕ → Mail) (links : List ℕ) where
   pub put-next : (j b : ℕ) (m : Mail) (old mid : List Mail) → slice_get links j ≡ Some b → b < length mid → m ≡ rule b
       → ArePut rule (take j links) old mid → ArePut rule (take (j + 1) links) old (slice_set mid b m)
@@ -55,9 +54,3 @@ module _ (rule : ℕ → Mail) (links : List ℕ) where
       by_place : (l : ℕ) → is_among (take (suc j) links) l ≡ true → ((eqb l b ≡ true) × (l ≡ b)) ⊎ ((eqb l b ≡ false) × (l ≢ b)) → slice_get (slice_set mid b m) l ≡ Some (rule l)
       by_place l is_in (inl (s, same)) = ap (λ k. slice_get (slice_set mid b m) k) same ∙ set-here mid b m inside ∙ ap (λ x. Some x) (is ∙ ap rule (sym same))
       by_place l is_in (inr (s, other)) = set-other mid b l m other ∙ f.own l (sym (among-other links j b l e other) ∙ is_in)
-
-  pub all-put : (j : ℕ) (old new : List Mail) → length links ≤ j → ArePut rule (take j links) old new → ArePut rule links old new
-  all-put j old new over f = subst (λ xs. ArePut rule xs old new) (take-all links j over) f
-
-  pub put-again : (first : ℕ → Mail) (old mid new : List Mail) → ArePut first links old mid → ArePut rule links mid new → ArePut rule links old new
-  put-again first old mid new f g = record { own = g.own; others = changed-again links old mid new f.others g.others }

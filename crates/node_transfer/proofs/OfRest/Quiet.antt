@@ -65,13 +65,19 @@ nobody-pushed (x ∷ xs) h =
     let rest : sum xs ≡ 0 = omega (arith, sum_by-cons (λ y. y) x xs, h) in
     ap (λ y. 0 ∷ take (length xs) (y ∷ xs)) here ∙ ap (λ ys. 0 ∷ ys) (nobody-pushed xs rest) ∙ ap (λ y. y ∷ xs) (sym here)
 
--- a link whose head isn't ready: nobody leaves
-pub link-waits : (step : ℕ) (link : InLink) (outs : List OutLink) (arrived : List RiderState) → HeadIsLater step link → IsShut link.exit
+-- a link whose head doesn't move: nobody leaves
+pub nobody-leaves : (step : ℕ) (link : InLink) (outs : List OutLink) (arrived : List RiderState)
+    → passed step link.line (opened_exit step link.exit) outs arrived ≡ record { line = link.line; exit = opened_exit step link.exit; outs = outs; arrived = arrived } → IsShut link.exit
     → passed_link step link outs arrived ≡ record { link = record link { left = pushed 0 link.left }; outs = outs; arrived = arrived }
-link-waits step link outs arrived later shut =
-    ap (link_after link) (passed-stays step link.line (opened_exit step link.exit) outs arrived later)
+nobody-leaves step link outs arrived stays shut =
+    ap (link_after link) stays
     ∙ ap (λ g. record { link = record link { left = pushed (length link.line - length link.line) link.left; exit = g }; outs = outs; arrived = arrived }) (closed-opened step link.exit ∙ shut)
     ∙ ap (λ k. record { link = record link { left = pushed k link.left }; outs = outs; arrived = arrived }) (none_less (length link.line))
+
+-- as that of a link whose head isn't ready
+pub link-waits : (step : ℕ) (link : InLink) (outs : List OutLink) (arrived : List RiderState) → HeadIsLater step link → IsShut link.exit
+    → passed_link step link outs arrived ≡ record { link = record link { left = pushed 0 link.left }; outs = outs; arrived = arrived }
+link-waits step link outs arrived later shut = nobody-leaves step link outs arrived (passed-stays step link.line (opened_exit step link.exit) outs arrived later) shut
 
 -- a link that is quiet, and whose exit is shut
 pub record StaysShut (step : ℕ) (link : InLink) : Type 0 where

@@ -36,13 +36,13 @@ module _ (p : Plan) (sound : IsSound p) (n t : ℕ) where
       (λ b below from. ap (λ w. record (out_link p (suc t) (waiting_after p n t) away b) { waiting = waiting_parts (suc t) w })
       (sym (waiting_lines_stay p sound t b below ∙ ap (λ k. waiting_after p k t b) from)))
 
-  abbrev in_after : ℕ → InLink
+  abbrev pub in_after : ℕ → InLink
   in_after = in_link p n (line_after p n t) (left_after p n t) (batch_of p t)
 
-  abbrev in_next : ℕ → InLink
+  abbrev pub in_next : ℕ → InLink
   in_next = in_link p n (line_before p (suc t)) (left_before p (suc t)) (room_of p (suc t))
 
-  in-gathers : (l : ℕ) → l < length p.net.links → (link_at p l).to.0 ≡ n → gathered_link t (in_after l) ≡ in_next l
+  pub in-gathers : (l : ℕ) → l < length p.net.links → (link_at p l).to.0 ≡ n → gathered_link t (in_after l) ≡ in_next l
   unfolding room_of
   in-gathers l below to =
       ap (λ come. with_batch t (in_after l) (line_after p n t l ++ come)) (batch-line p t l)
@@ -68,7 +68,7 @@ module _ (p : Plan) (sound : IsSound p) (n t : ℕ) where
       omega (arith, few, same, count, most)
 
   -- the line of an in-link has room for the batch
-  in-can : (l : ℕ) → l < length p.net.links → (link_at p l).to.0 ≡ n → CanGather (in_after l)
+  pub in-can : (l : ℕ) → l < length p.net.links → (link_at p l).to.0 ≡ n → CanGather (in_after l)
   in-can l below to =
       let few = few-before l in
       let e = ap (λ L. length L) (line-next l below to) in

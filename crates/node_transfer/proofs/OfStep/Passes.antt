@@ -1,17 +1,18 @@
 -- Steps of a pass.
 use Rattle.link_queues.specs.declared.line.TheConstants.{MOST_RIDERS}
-use Rattle.std.proofs.Common.{◌≡◌, ℕ, zero, suc, ◌+◌, ◌<◌, ◌≤◌, List, [], ◌∷◌, ◌++◌, length, length-append, refl, ap, sym, ◌∙◌, subst, arith, rules, Option, Some, None, drop}
-use Rattle.std.specs.Prelude.{slice_get, slice_index_or, slice_set, All, IfSome}
-use Rattle.std.specs.List.{sum_by}
+use Rattle.std.proofs.Common.{◌≡◌, ℕ, zero, suc, ◌+◌, ◌<◌, ◌≤◌, Bool, true, false, cond, ◌&&◌, List, [], ◌∷◌, ◌++◌, length, length-append, refl, ap, sym, ◌∙◌, subst, arith, rules, Option, Some, None, drop}
+use Rattle.std.specs.Prelude.{nat_le, nat_lt, slice_get, slice_index_or, slice_set, All, IfSome}
+use Rattle.std.specs.List.{last_or, sum_by}
 use Rattle.std.proofs.lemmas.List.Sums.{sum_by-cons}
 use Rattle.std.proofs.lemmas.List.Elements.{All-head, All-tail}
 use Rattle.std.proofs.lemmas.Grind.{common_steps}
 use Rattle.std.proofs.lemmas.Option.{slice_get-get_or}
 use Rattle.capacity_credits.specs.Meter.{MeterState, passed_one}
 use Rattle.dta_model.specs.Riders.{RiderState, moved}
-use Rattle.node_transfer.specs.Inside.Pass.{head_action, passed, CanPass, Rides, FitsAll, total, held, out_links, waitings, entered_at, entered_in, after_arrival, after_entry}
+use Rattle.node_transfer.specs.Inside.Pass.{head_action, head_action_by, entry_at, out_open, penalty_of, place_of, turn_links, turn_open, passed, CanPass, NobodyPasses, Rides, FitsAll, total, held, out_links, waitings, entered_at, entered_in, after_arrival, after_entry}
 use Rattle.cell_stages.specs.declared.exit.Exit.{Exit}
 use Rattle.cell_stages.specs.declared.out_link.OutLink.{OutLink}
+use Rattle.node_transfer.specs.declared.step.pass.HeadAction.{HeadAction}
 use Rattle.node_transfer.specs.declared.step.pass.HeadAction.TheVariants.{Stays, Arrives, Enters}
 
 pub passed-none : (step : ℕ) (line : List RiderState) (exit : Exit) (outs : List OutLink) (arrived : List RiderState) → slice_get line 0 ≡ None → passed step line exit outs arrived ≡ record { line = line; exit = exit; outs = outs; arrived = arrived }
@@ -23,6 +24,28 @@ pub passed-stays : (step : ℕ) (line : List RiderState) (exit : Exit) (outs : L
 unfolding passed
 passed-stays step [] exit outs arrived r h v = cc
 passed-stays step (x ∷ line) exit outs arrived r h v = let same : x ≡ r = cc in rw (ap (λ y. head_action step exit outs y) same ∙ v, passed) refl
+
+-- where nobody may enter the link that the head goes to, nobody passes
+pub shut-out : (line : List RiderState) (outs : List OutLink) (r : RiderState) (b : ℕ) → slice_get line 0 ≡ Some r → slice_get r.ahead 0 ≡ Some b
+    → out_open (slice_get outs (place_of b (out_links outs))) ≡ false → NobodyPasses line outs
+unfolding head_action
+shut-out line outs r b first next shut step exit arrived = passed-stays step line exit outs arrived r first (rw next (by_entry (last_or None r.entries)))
+  where
+    and_false : (c d : Bool) → (c && (d && false)) ≡ false
+    and_false true true = refl
+    and_false true false = refl
+    and_false false d = refl
+
+    stays : (ready : ℕ) → entry_at step ready exit.turns outs (place_of b (out_links outs)) (place_of b (turn_links exit.turns)) ≡ Stays
+    stays ready = rw shut (ap (λ c. cond c (Enters (place_of b (out_links outs)) (place_of b (turn_links exit.turns))) Stays) (and_false (nat_le (ready + penalty_of (slice_get exit.turns (place_of b (turn_links exit.turns)))) step) (turn_open (slice_get exit.turns (place_of b (turn_links exit.turns))))))
+
+    either : (c : Bool) (a : HeadAction) → a ≡ Stays → cond c a Stays ≡ Stays
+    either true a h = h
+    either false a h = refl
+
+    by_entry : (o : Option ℕ) → head_action_by step exit outs o (Some b) ≡ Stays
+    by_entry None = refl
+    by_entry (Some entry) = either (nat_lt 0 exit.outflow.left) (entry_at step (entry + exit.free) exit.turns outs (place_of b (out_links outs)) (place_of b (turn_links exit.turns))) (stays (entry + exit.free))
 
 pub passed-arrives : (step : ℕ) (line : List RiderState) (exit : Exit) (outs : List OutLink) (arrived : List RiderState) (r : RiderState) → slice_get line 0 ≡ Some r → head_action step exit outs r ≡ Arrives → passed step line exit outs arrived ≡ passed step (drop 1 line) (after_arrival exit) outs (arrived ++ moved r step ∷ [])
 unfolding passed

@@ -128,6 +128,13 @@ passed step (r ∷ line) exit outs arrived = elim (head_action step exit outs r)
   | Enters p k ↦ passed step line (after_entry k exit) (entered_at p step r outs) arrived
 ]
 
+-- no head of a line moves, in whichever step and through whichever exit
+abbrev pub NobodyPasses : List RiderState → List OutLink → Type 0
+NobodyPasses line outs =
+    (step : ℕ) (exit : Exit) (arrived : List RiderState)
+    → passed step line exit outs arrived
+    ≡ record { line = line; exit = exit; outs = outs; arrived = arrived }
+
 -- a rider on its way to one of the links, which stand in order
 pub record Rides (links : List ℕ) (r : RiderState) : Type 0 where
   pub order : IsNonDecreasing links

@@ -1,20 +1,24 @@
 // An in-link of a node.
-ghost use Rattle.std.specs.Prelude.{◌≡◌, ◌+◌, ◌-◌, ◌<◌, ◌≤◌, length, map, All, Option, None, Some};
-ghost use Rattle.cell_stages.specs.Contents.{tells};
+ghost use Rattle.std.specs.Prelude.{◌≡◌, ◌+◌, ◌++◌, ◌-◌, ◌<◌, ◌≤◌, length, map, All, Option};
+ghost use Rattle.std.specs.Prelude.{IfSome, IsSomeAnd, None, Some, slice_get};
+ghost use Rattle.cell_stages.specs.Contents.{tells, told};
 ghost use Rattle.std.specs.List.{sum_by};
 ghost use Rattle.node_transfer.specs.Inside.Pass.{CanPass, total, out_links, waitings, held};
 ghost use Rattle.node_transfer.specs.Inside.Cells.{passed_link, passed_links};
 ghost use Rattle.node_transfer.specs.Inside.Cells.{CanCross, IsShut, cell_total, CanGather};
-ghost use Rattle.node_transfer.specs.Gathered.{mail_line, room_after, gathered_link};
+ghost use Rattle.node_transfer.specs.Gathered.{grown_by, mail_line, room_after, room_told};
+ghost use Rattle.node_transfer.specs.Gathered.{gathered_link};
+ghost use Rattle.node_transfer.specs.Places.{changed_at};
 
 use crate::rest::head_step;
-use crate::step::pass::{advance, close_exit, open_exit};
+use crate::step::pass::{advance, close_exit, is_kept_out, open_exit};
 use cell_stages::{InLink, Mail, OutLink};
 use dta_model::MOST_HORIZON;
 use link_queues::{Leavings, Line, MOST_RIDERS};
 
 /// Moves the heads of an in-link that may move in the step, and notes how many left it. Where its
-/// first vehicle isn't ready no allowance is granted.
+/// first vehicle isn't ready, or nobody may enter the link that it goes to, no allowance is
+/// granted.
 #[inline(always)]
 pub fn pass_link(link: &mut InLink, outs: &mut [OutLink], arrived: &mut Line, step: u32)
     requires can { CanPass link.old.line outs.old arrived.old }
@@ -28,7 +32,7 @@ pub fn pass_link(link: &mut InLink, outs: &mut [OutLink], arrived: &mut Line, st
     ensures done { passed_link step link.old outs.old arrived.old
         ≡ record { link = link.new; outs = outs.new; arrived = arrived.new } }
 {
-    if step < head_step(link) {
+    if step < head_step(link) || is_kept_out(&link.line, outs) {
         link.left.push(0);
         return;
     }
@@ -56,25 +60,55 @@ pub fn pass_links(ins: &mut [InLink], outs: &mut [OutLink], arrived: &mut Line, 
     }
 }
 
-/// Puts those that came last in the line, and tells the room that is left for the next step, where
-/// that isn't told already.
-pub fn gather_link(link: &mut InLink, step: u32)
+/// Puts those who come with a mail last in the line, and tells there the room that is left for the
+/// next step, where it isn't told already.
+fn gather_mail(line: &mut Line, left: &Leavings, storage: Option<u32>, mail: &mut Mail, step: u32)
     requires step { step < MOST_HORIZON }
-    requires fits { length link.old.line + length (mail_line link.old.mail) ≤ MOST_RIDERS }
-    ensures { link.new ≡ gathered_link step link.old }
+    requires fits { length line.old + length (mail_line mail.old) ≤ MOST_RIDERS }
+    ensures line { line.new ≡ line.old ++ mail_line mail.old }
+    ensures mail { mail.new
+        ≡ told (step + 1) (room_after storage line.new left.now) mail.old }
 {
-    if let Mail::Batch { line, .. } = &mut link.mail {
-        link.line.append(line);
+    if let Mail::Batch { line: batch, .. } = &mut *mail {
+        line.append(batch);
     }
-    let room = room_left(&link.line, &link.left, link.storage);
-    if !tells_room(&link.mail, room) {
+    let room = room_left(line, left, storage);
+    if !tells_room(mail, room) {
         let told = Mail::Room {
             step: step + 1,
             room,
         };
         // The riders of the batch are in the line now, so that it has nothing to drop.
-        std::mem::forget(std::mem::replace(&mut link.mail, told));
+        std::mem::forget(std::mem::replace(mail, told));
     }
+}
+
+/// Gathers on an in-link over the mail in its place.
+pub fn gather_link(link: &mut InLink, step: u32)
+    requires step { step < MOST_HORIZON }
+    requires fits { length link.old.line + length (mail_line link.old.mail) ≤ MOST_RIDERS }
+    ensures { link.new ≡ gathered_link step link.old }
+{
+    gather_mail(
+        &mut link.line,
+        &link.left,
+        link.storage,
+        &mut link.mail,
+        step,
+    );
+}
+
+/// Gathers on the in-link of a place over a mail.
+pub fn gather_at(ins: &mut [InLink], place: usize, mail: &mut Mail, step: u32)
+    requires step { step < MOST_HORIZON }
+    requires fits { IsSomeAnd (slice_get ins.old place)
+        (λ link. length link.line + length (mail_line mail.old) ≤ MOST_RIDERS) }
+    ensures link { ins.new ≡ changed_at (grown_by mail.old) place ins.old }
+    ensures mail { IfSome (slice_get ins.old place)
+        (λ link. mail.new ≡ room_told step mail.old link) }
+{
+    let link = &mut ins[place];
+    gather_mail(&mut link.line, &link.left, link.storage, mail, step);
 }
 
 /// Whether a mail tells this room.

@@ -1,8 +1,8 @@
 // One pass over one in-link.
 ghost use Rattle.std.specs.Prelude.{◌≡◌, ℕ, ◌+◌, ◌-◌, ◌<◌, ◌≤◌, length, IfSome, IsSomeAnd, nat_le};
-ghost use Rattle.std.specs.Prelude.{slice_get, drop, IsTrue, true, false, None, Some};
-ghost use Rattle.node_transfer.specs.Inside.Pass.{head_action, passed, CanPass, Rides, total};
-ghost use Rattle.node_transfer.specs.Inside.Pass.{out_links, waitings, entered_at, turn_open};
+ghost use Rattle.std.specs.Prelude.{All, slice_get, drop, IsTrue, true, false, None, Some};
+ghost use Rattle.node_transfer.specs.Inside.Pass.{head_action, passed, CanPass, NobodyPasses, Rides};
+ghost use Rattle.node_transfer.specs.Inside.Pass.{out_links, total, waitings, entered_at, turn_open};
 ghost use Rattle.node_transfer.specs.Inside.Pass.{out_open, is_entry, after_arrival, after_entry};
 ghost use Rattle.node_transfer.specs.Exits.{opened_exit, closed_exit};
 
@@ -35,6 +35,21 @@ pub fn close_exit(exit: &mut Exit)
     close_all(&mut exit.turns);
 }
 
+/// Whether it is seen at once that the head of a line doesn't move: nobody more may enter the link
+/// that it goes to.
+pub fn is_kept_out(line: &Line, outs: &[OutLink]) -> bool
+    requires { All (Rides (out_links outs.now)) line.now }
+    ensures { result ≡ true → NobodyPasses line.now outs.now }
+{
+    match line.front() {
+        None => false,
+        Some(rider) => match rider.next_link() {
+            None => false,
+            Some(link) => outs[place_to(outs, link)].inflow.left() == 0,
+        },
+    }
+}
+
 /// Whether a rider that is ready at a step may take the turn at a place into the out-link at a
 /// place.
 pub fn may_enter(
@@ -63,8 +78,7 @@ pub fn is_served(ready: u64, penalty: u32, step: u32) -> bool
     ready <= step as u64 && penalty as u64 <= step as u64 - ready
 }
 
-/// What the rider does next. The exit is asked last, since the allowance of a meter is told only
-/// where it is asked for.
+/// What the rider does next.
 #[tactic(auto, unfolding(crate::specs::Inside::Pass::head_action))]
 pub fn judge(rider: &Rider, exit: &Exit, outs: &[OutLink], step: u32) -> HeadAction
     requires { Rides (out_links outs.now) rider.now }
