@@ -9,7 +9,6 @@ use Rattle.dta_model.specs.Plans.{all_nodes}
 use Rattle.dta_model.specs.Sound.{IsSound}
 use Rattle.dta_model.specs.Units.{mail_part, node_count, unit_count}
 use Rattle.dta_model.specs.declared.plan.Plan.{Plan}
-use Rattle.dta_model.specs.declared.machine.Stage.{Stage}
 use Rattle.dta_model.specs.declared.machine.Stage.TheVariants as stage
 use Rattle.cell_stages.specs.CellState.{CellState}
 use Rattle.cell_stages.specs.Contents.{away, cell_at, cell_before, mail_at, room_of}
@@ -56,11 +55,9 @@ module _ (p : Plan) (workers : ℕ) where
   unfolding run_machine
   reached_at_start = record { workers = workers; events = []; claims = refl }
 
-  pub starts_machine : IsSound p → workers < 2 ^ 32 → (stages : List Stage) (cells : List CellState) (mail : List Mail) → stages ≡ (all_idle workers).stages → cells ≡ cells_at_start p → mail ≡ rooms_at_start p
-      → IsMachine (record { plan = p; claims = record { drawn = 0; stages = stages }; parts = record { cells = cells; mail = mail } }) 0
-  starts_machine sound few stages cells mail idle first rooms =
-      let s : Claims = record { drawn = 0; stages = stages } in
-      let is : s ≡ all_idle workers = ap (λ (xs : List Stage). record { drawn = 0; stages = xs }) idle in
+  pub starts_machine : IsSound p → workers < 2 ^ 32 → (s : Claims) (cells : List CellState) (mail : List Mail) → s ≡ all_idle workers → cells ≡ cells_at_start p → mail ≡ rooms_at_start p
+      → IsMachine (record { plan = p; claims = s; parts = record { cells = cells; mail = mail } }) 0
+  starts_machine sound few s cells mail is first rooms =
       let at : (part : ℕ) → 2 * 0 ≡ stage_in p s part = λ part. (let z : 2 * 0 ≡ 0 = omega arith in z ∙ sym (ap (λ x. stage_in p x part) is ∙ no_stage part)) in
       record {
         sound = sound;
@@ -74,7 +71,7 @@ module _ (p : Plan) (workers : ℕ) where
           mail = λ l h. ap (λ xs. slice_get xs l) rooms ∙ got_below (room_of p 0) (length p.net.links) l h ∙ ap (λ x. Some x) (sym ((steps_have_two_stages p 0).0.mail l) ∙ ap (λ x. mail_at p l x) (at (mail_part p l)));
         };
         counted = sym (ap (λ x. finished p x) is ∙ none_finished);
-        few = let c = ap (λ xs. length xs) idle in let i = idle_count workers in omega (arith, c, i, few);
+        few = let c = ap (λ x. length x.stages) is in let i = idle_count workers in omega (arith, c, i, few);
       }
 
 -- one more worker without a unit

@@ -33,8 +33,8 @@ use Rattle.claim_core.proofs.Sums.{once_in}
 pub kept_of : (p : Plan) (s : Claims) → AreReached p s → Kept p s
 kept_of p s r = subst (λ x. Kept p x) (sym r.claims) (always_kept p r.workers r.events)
 
-pub has : (stages : List Stage) (w : ℕ) (x : Stage) → w < length stages → slice_index_or stages w stage.Idle ≡ x → slice_get stages w ≡ Some x
-has stages w x h e = slice_get-get_or stages w stage.Idle h ∙ ap (λ y. Some y) e
+pub has : (stages : List Stage) (w : ℕ) (x y : Stage) → w < length stages → x ≡ slice_index_or stages w x → x ≡ y → slice_get stages w ≡ Some y
+has stages w x y h e is = slice_get-get_or stages w x h ∙ ap (λ z. Some z) (sym e ∙ is)
 
 module _ (p : Plan) (s : Claims) (w : ℕ) where
   abbrev given : Effect
@@ -61,9 +61,9 @@ module _ (p : Plan) (s : Claims) (w : ℕ) where
       ap (λ (d : ℕ). record { claims = record (with_stage s w stage.Ended) { drawn = d }; outcome = outcomes.Over s.drawn }) (add-one s.drawn)
       ∙ sym (ap (λ o. claim_by p s w o) idle ∙ ap (λ b. cond b given over) (not_lt s.drawn (unit_count p) all))
 
-  pub claim_misplaced : (slice_index_or s.stages w stage.Idle ≡ stage.Idle → ⊥) → misplaced s ≡ effect_of p s (event.Claim w)
+  pub claim_misplaced : (x : Stage) → x ≡ slice_index_or s.stages w x → (x ≡ stage.Idle → ⊥) → misplaced s ≡ effect_of p s (event.Claim w)
   unfolding effect_of
-  claim_misplaced other = by (slice_get s.stages w) (λ e. other (index_of s.stages w stage.Idle stage.Idle e))
+  claim_misplaced x is other = by (slice_get s.stages w) (λ e. other (is ∙ index_of s.stages w stage.Idle x e))
     where
       by : (o : Option Stage) → (o ≡ Some stage.Idle → ⊥) → misplaced s ≡ claim_by p s w o
       by None h = refl
@@ -88,9 +88,9 @@ module _ (p : Plan) (s : Claims) (w : ℕ) where
       ap (λ (x : ℕ). record { claims = s; outcome = outcomes.NotYet x }) count
       ∙ sym (ap (λ o. open_by p s w o) held ∙ ap (λ b. cond b (opens c) waits) (not_le (phase_start (node_count p) c) (finished p s) may))
 
-  pub open_misplaced : ((c : ℕ) → slice_index_or s.stages w stage.Idle ≡ stage.Held c → ⊥) → misplaced s ≡ effect_of p s (event.Open w)
+  pub open_misplaced : (x : Stage) → x ≡ slice_index_or s.stages w x → ((c : ℕ) → x ≡ stage.Held c → ⊥) → misplaced s ≡ effect_of p s (event.Open w)
   unfolding effect_of
-  open_misplaced other = by (slice_get s.stages w) (λ c e. other c (index_of s.stages w (stage.Held c) stage.Idle e))
+  open_misplaced x is other = by (slice_get s.stages w) (λ c e. other c (is ∙ index_of s.stages w (stage.Held c) x e))
     where
       by : (o : Option Stage) → ((c : ℕ) → o ≡ Some (stage.Held c) → ⊥) → misplaced s ≡ open_by p s w o
       by None h = refl
@@ -103,9 +103,9 @@ module _ (p : Plan) (s : Claims) (w : ℕ) where
   unfolding effect_of
   finish_done c out = sym (ap (λ o. finish_by s w o) out)
 
-  pub finish_misplaced : ((c : ℕ) → slice_index_or s.stages w stage.Idle ≡ stage.Open c → ⊥) → misplaced s ≡ effect_of p s (event.Finish w)
+  pub finish_misplaced : (x : Stage) → x ≡ slice_index_or s.stages w x → ((c : ℕ) → x ≡ stage.Open c → ⊥) → misplaced s ≡ effect_of p s (event.Finish w)
   unfolding effect_of
-  finish_misplaced other = by (slice_get s.stages w) (λ c e. other c (index_of s.stages w (stage.Open c) stage.Idle e))
+  finish_misplaced x is other = by (slice_get s.stages w) (λ c e. other c (is ∙ index_of s.stages w (stage.Open c) x e))
     where
       by : (o : Option Stage) → ((c : ℕ) → o ≡ Some (stage.Open c) → ⊥) → misplaced s ≡ finish_by s w o
       by None h = refl

@@ -11,9 +11,7 @@ use Rattle.dta_model.specs.declared.machine.Outcome.{Outcome}
 use Rattle.dta_model.specs.declared.machine.Outcome.TheVariants as outcomes
 use Rattle.dta_model.specs.declared.machine.Stage.{Stage}
 use Rattle.dta_model.specs.declared.machine.Stage.TheVariants as stage
-use Rattle.cell_stages.specs.CellState.{CellState}
 use Rattle.cell_stages.specs.Contents.{cell_at, mail_at}
-use Rattle.cell_stages.specs.declared.mail.Mail.{Mail}
 use Rattle.node_transfer.proofs.OfMail.Sets.{count-set}
 use Rattle.claim_core.specs.Machine.{AreReached, IsMachine}
 use Rattle.claim_core.specs.Parts.{done_in, moves, stage_in, stage_of}
@@ -92,6 +90,9 @@ module _ (p : Plan) (s : Claims) where
   step_count (event.Open w) = open_count w (slice_get s.stages w)
   step_count (event.Finish w) = finish_count w (slice_get s.stages w)
 
+pub workers_stay : (p : Plan) (s new : Claims) (outcome : Outcome) (e : Event) → record { claims = new; outcome = outcome } ≡ effect_of p s e → length new.stages ≡ length s.stages
+workers_stay p s new outcome e made = ap (λ (x : Effect). length x.claims.stages) made ∙ step_count p s e
+
 run_snoc : (p : Plan) (events : List Event) (s : Claims) (e : Event) → run_machine p (events ++ e ∷ []) s ≡ step_machine p (run_machine p events s) e
 unfolding run_machine
 run_snoc p [] s e = refl
@@ -122,8 +123,8 @@ module _ (p : Plan) (s s' : Claims) (same : (x : ℕ) → done_in p s' x ≡ don
   }
 
 module _ (p : Plan) (s : Claims) (parts : PartsState) (n : ℕ) (m : IsMachine (record { plan = p; claims = s; parts = parts }) n) where
-  pub room_left : (w : ℕ) → s.drawn ≤ unit_count p + 2 ^ 32
-  room_left w = omega (arith, drawn_most p s m.reached, m.few)
+  pub room_left : s.drawn ≤ unit_count p + 2 ^ 32
+  room_left = omega (arith, drawn_most p s m.reached, m.few)
 
   keeps : (e : Event) (new : Claims) (outcome : Outcome) (parts' : PartsState) (n' : ℕ) → record { claims = new; outcome = outcome } ≡ effect_of p s e
       → AreAtStages p (stage_in p new) parts' → n' ≡ finished p new → IsMachine (record { plan = p; claims = new; parts = parts' }) n'
@@ -134,12 +135,8 @@ module _ (p : Plan) (s : Claims) (parts : PartsState) (n : ℕ) (m : IsMachine (
         reached = subst (λ x. AreReached p x) (sym is) (next_reached p s m.reached e);
         parts = at;
         counted = count;
-        few = let q = ap (λ (x : Claims). length x.stages) is in let c = step_count p s e in let f = m.few in omega (arith, q, c, f);
+        few = let q = workers_stay p s new outcome e made in let f = m.few in omega (arith, q, f);
       }
-
-  pub finish_keeps : (w : ℕ) (new : Claims) (outcome : Outcome) (parts' : PartsState) (n' : ℕ) → record { claims = new; outcome = outcome } ≡ effect_of p s (event.Finish w)
-      → AreAtStages p (stage_in p new) parts' → n' ≡ finished p new → IsMachine (record { plan = p; claims = new; parts = parts' }) n'
-  finish_keeps w = keeps (event.Finish w)
 
   pub claim_keeps : (w : ℕ) (new : Claims) (outcome : Outcome) → record { claims = new; outcome = outcome } ≡ effect_of p s (event.Claim w) → IsMachine (record { plan = p; claims = new; parts = parts }) n
   unfolding effect_of
@@ -166,47 +163,12 @@ back n (x ∷ new) [] e h = absurd (omega (arith, e, h))
 back zero (x ∷ new) (y ∷ old) e h = absurd (omega (arith, e))
 back (suc n) (x ∷ new) (y ∷ old) e h = ap (λ xs. x ∷ xs) (back n new old (omega (arith, e)) (omega (arith, h)))
 
-module _ (p : Plan) (drawn : ℕ) (items lent : List Stage) (value : lent ≡ items) (len : ℕ) (fits : length items ≡ len) (w : ℕ) (o : Outcome) (drawn' : ℕ) (new : List Stage) where
-  abbrev whole : List Stage
-  whole = take len (new ++ drop (length new) items)
-
-  module _ (e : Event) (made : record { claims = record { drawn = drawn'; stages = new }; outcome = o } ≡ effect_of p (record { drawn = drawn; stages = lent }) e) where
-    made_of : record { claims = record { drawn = drawn'; stages = new }; outcome = o } ≡ effect_of p (record { drawn = drawn; stages = items }) e
-    made_of = subst (λ (xs : List Stage). record { claims = record { drawn = drawn'; stages = new }; outcome = o } ≡ effect_of p (record { drawn = drawn; stages = xs }) e) value made
-
-    same_count : length new ≡ len
-    same_count = ap (λ (x : Effect). length x.claims.stages) made_of ∙ step_count p (record { drawn = drawn; stages = items }) e ∙ fits
-
-    pub whole_is : whole ≡ new
-    whole_is = back len new items same_count fits
-
-    pub whole_made : record { claims = record { drawn = drawn'; stages = whole }; outcome = o } ≡ effect_of p (record { drawn = drawn; stages = items }) e
-    whole_made = subst (λ (xs : List Stage). record { claims = record { drawn = drawn'; stages = xs }; outcome = o } ≡ effect_of p (record { drawn = drawn; stages = items }) e) (sym whole_is) made_of
-
-    pub workers_stay : length whole ≡ length items
-    workers_stay = ap (λ (x : Effect). length x.claims.stages) whole_made ∙ step_count p (record { drawn = drawn; stages = items }) e
-
-  module _ (parts : PartsState) (n : ℕ) (m : IsMachine (record { plan = p; claims = record { drawn = drawn; stages = items }; parts = parts }) n) where
-    pub claim_closes : record { claims = record { drawn = drawn'; stages = new }; outcome = o } ≡ effect_of p (record { drawn = drawn; stages = lent }) (event.Claim w) → IsMachine (record { plan = p; claims = record { drawn = drawn'; stages = whole }; parts = parts }) n
-    claim_closes made = claim_keeps p (record { drawn = drawn; stages = items }) parts n m w (record { drawn = drawn'; stages = whole }) o (whole_made (event.Claim w) made)
-
-    pub open_closes : record { claims = record { drawn = drawn'; stages = new }; outcome = o } ≡ effect_of p (record { drawn = drawn; stages = lent }) (event.Open w) → IsMachine (record { plan = p; claims = record { drawn = drawn'; stages = whole }; parts = parts }) n
-    open_closes made = open_keeps p (record { drawn = drawn; stages = items }) parts n m w (record { drawn = drawn'; stages = whole }) o (whole_made (event.Open w) made)
-
-    pub finish_closes : record { claims = record { drawn = drawn'; stages = new }; outcome = o } ≡ effect_of p (record { drawn = drawn; stages = lent }) (event.Finish w)
-        → (new_parts : PartsState) (n' cell_len mail_len : ℕ) → AreAtStages p (stage_in p (record { drawn = drawn'; stages = new })) new_parts → n' ≡ finished p (record { drawn = drawn'; stages = new })
-        → length parts.cells ≡ cell_len → length parts.mail ≡ mail_len
-        → IsMachine (record { plan = p; claims = record { drawn = drawn'; stages = whole }; parts = record { cells = take cell_len (new_parts.cells ++ drop (length new_parts.cells) parts.cells); mail = take mail_len (new_parts.mail ++ drop (length new_parts.mail) parts.mail) } }) n'
-    finish_closes made new_parts n' cell_len mail_len at count cells mail =
-        let made' = whole_made (event.Finish w) made in
-        let is = whole_is (event.Finish w) made in
-        let cells_back : take cell_len (new_parts.cells ++ drop (length new_parts.cells) parts.cells) ≡ new_parts.cells = back cell_len new_parts.cells parts.cells (at.counted.cells ∙ sym m.parts.counted.cells ∙ cells) cells in
-        let mail_back : take mail_len (new_parts.mail ++ drop (length new_parts.mail) parts.mail) ≡ new_parts.mail = back mail_len new_parts.mail parts.mail (at.counted.mail ∙ sym m.parts.counted.mail ∙ mail) mail in
-        let there : AreAtStages p (stage_in p (record { drawn = drawn'; stages = whole })) new_parts = subst (λ (xs : List Stage). AreAtStages p (stage_in p (record { drawn = drawn'; stages = xs })) new_parts) (sym is) at in
-        let counted : n' ≡ finished p (record { drawn = drawn'; stages = whole }) = count ∙ ap (λ (xs : List Stage). finished p (record { drawn = drawn'; stages = xs })) (sym is) in
-        let with_cells : AreAtStages p (stage_in p (record { drawn = drawn'; stages = whole })) (record { cells = take cell_len (new_parts.cells ++ drop (length new_parts.cells) parts.cells); mail = new_parts.mail }) =
-        subst (λ (xs : List CellState). AreAtStages p (stage_in p (record { drawn = drawn'; stages = whole })) (record { cells = xs; mail = new_parts.mail })) (sym cells_back) there in
-        let with_both : AreAtStages p (stage_in p (record { drawn = drawn'; stages = whole })) (record { cells = take cell_len (new_parts.cells ++ drop (length new_parts.cells) parts.cells); mail = take mail_len (new_parts.mail ++ drop (length new_parts.mail) parts.mail) }) =
-        subst (λ (xs : List Mail). AreAtStages p (stage_in p (record { drawn = drawn'; stages = whole })) (record { cells = take cell_len (new_parts.cells ++ drop (length new_parts.cells) parts.cells); mail = xs })) (sym mail_back) with_cells in
-        finish_keeps p (record { drawn = drawn; stages = items }) parts n m w (record { drawn = drawn'; stages = whole }) o
-        (record { cells = take cell_len (new_parts.cells ++ drop (length new_parts.cells) parts.cells); mail = take mail_len (new_parts.mail ++ drop (length new_parts.mail) parts.mail) }) n' made' with_both counted
+module _ (p : Plan) (s : Claims) (parts : PartsState) (n : ℕ) (m : IsMachine (record { plan = p; claims = s; parts = parts }) n) where
+  pub finish_closes : (w : ℕ) (new : Claims) (outcome : Outcome) → record { claims = new; outcome = outcome } ≡ effect_of p s (event.Finish w)
+      → (made : PartsState) (n' cell_len mail_len : ℕ) → AreAtStages p (stage_in p new) made → n' ≡ finished p new
+      → length parts.cells ≡ cell_len → length parts.mail ≡ mail_len
+      → IsMachine (record { plan = p; claims = new; parts = record { cells = take cell_len (made.cells ++ drop (length made.cells) parts.cells); mail = take mail_len (made.mail ++ drop (length made.mail) parts.mail) } }) n'
+  finish_closes w new outcome effect made n' cell_len mail_len at count cells mail =
+      let cells_back = back cell_len made.cells parts.cells (at.counted.cells ∙ sym m.parts.counted.cells ∙ cells) cells in
+      let mail_back = back mail_len made.mail parts.mail (at.counted.mail ∙ sym m.parts.counted.mail ∙ mail) mail in
+      keeps p s parts n m (event.Finish w) new outcome _ n' effect (rw (cells_back, mail_back) at) count

@@ -5,8 +5,8 @@ ghost use Rattle.dta_model.specs.Machine.{all_idle, outcome, step_machine};
 ghost use Rattle.dta_model.specs.Sound.{IsSound};
 ghost use Rattle.std.specs.Prelude.{◌≡◌, ◌<◌, ◌≤◌, length, IfOk};
 
-use crate::claims::{claim_unit, finish_unit, open_unit};
-use dta_model::{Event, Loading, Outcome, Stage};
+use crate::claims::Workers;
+use dta_model::{Event, Loading, Outcome};
 use net_core::Memory;
 use node_transfer::{Mail, NodeCell, opening};
 use std::alloc::Global;
@@ -16,9 +16,8 @@ use std::marker::Model;
 #[derive(Drop)]
 pub struct Machine<'a> {
     loading: Loading<'a>,
-    drawn: u64,
+    workers: Workers,
     finished: u64,
-    stages: Vec<Stage>,
     cells: Vec<NodeCell>,
     mail: Vec<Mail>,
 }
@@ -31,13 +30,13 @@ impl<'a> Model for Machine<'a> {
 
     ghost view = { λ m. record {
       plan = plan_of m.loading;
-      claims = record { drawn = m.drawn; stages = m.stages.items };
+      claims = m.workers;
       parts = record { cells = m.cells.items; mail = m.mail.items };
     } };
 
     ghost invariant = { λ m. IsMachine (record {
       plan = plan_of m.loading;
-      claims = record { drawn = m.drawn; stages = m.stages.items };
+      claims = m.workers;
       parts = record { cells = m.cells.items; mail = m.mail.items };
     }) m.finished };
 }
@@ -52,12 +51,11 @@ impl<'a> Machine<'a> {
         ensures parts { IfOk result HasParts }
     {
         let start = opening(alloc, loading)?;
-        let stages = idle_stages(alloc, workers)?;
+        let workers = Workers::idle(alloc, workers)?;
         Ok(Machine {
             loading: *loading,
-            drawn: 0,
+            workers,
             finished: 0,
-            stages,
             cells: start.cells.into_vec(),
             mail: start.mail.into_vec(),
         })
@@ -75,36 +73,15 @@ impl<'a> Machine<'a> {
         ensures parts { HasParts self.new }
     {
         match event {
-            Event::Claim(worker) => {
-                claim_unit(&self.loading, &mut self.drawn, &mut self.stages, worker)
-            }
-            Event::Open(worker) => open_unit(
+            Event::Claim(worker) => self.workers.claim(&self.loading, worker),
+            Event::Open(worker) => self.workers.open(&self.loading, self.finished, worker),
+            Event::Finish(worker) => self.workers.finish(
                 &self.loading,
-                self.drawn,
-                self.finished,
-                &mut self.stages,
-                worker,
-            ),
-            Event::Finish(worker) => finish_unit(
-                &self.loading,
-                self.drawn,
                 &mut self.finished,
-                &mut self.stages,
                 &mut self.cells,
                 &mut self.mail,
                 worker,
             ),
         }
     }
-}
-
-// So many workers without a unit.
-fn idle_stages(alloc: Global, workers: u32) -> Result<Vec<Stage>, Memory>
-    ensures { IfOk result (λ stages. stages.items ≡ (all_idle workers).stages) }
-{
-    let mut stages = Vec::new(alloc);
-    for _ in 0..workers {
-        stages.push(Stage::Idle)?;
-    }
-    Ok(stages)
 }

@@ -1,5 +1,5 @@
 -- What a loading by workers answers.
-use Rattle.std.proofs.Common.{arith, ◌≡◌, ◌≢◌, ◌<◌, ◌≤◌, ℕ, zero, suc, List, [], ◌∷◌, refl, sym, ap, ◌∙◌, subst}
+use Rattle.std.proofs.Common.{arith, ◌≡◌, ◌<◌, ◌≤◌, ℕ, zero, suc, List, [], refl, sym, ap, ◌∙◌, subst}
 use Rattle.std.specs.Prelude.{map, false, Option, Result, Ok, Err}
 use Rattle.desk_io.specs.Desk.{Taken}
 use Rattle.desk_io.specs.State.{DeskState}

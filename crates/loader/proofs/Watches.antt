@@ -5,7 +5,7 @@ use mathlib.Core.Logic.{dite}
 use native.Mathlib.Decide.{dec_le}
 use Rattle.desk_io.specs.declared.desk.Output.TheVariants as output
 use Rattle.desk_io.specs.Desk.{Taken, grown}
-use Rattle.desk_io.specs.Faults.{HasCause, Rose}
+use Rattle.desk_io.specs.Faults.{Rose}
 use Rattle.desk_io.specs.State.{DeskState}
 use Rattle.desk_io.specs.Transfers.{IsPartOut, OnlyPuts, Puts}
 use Rattle.dta_model.specs.State.{eight_after}
@@ -20,8 +20,8 @@ use Rattle.loader.specs.Watching.{AreShown, HasWatched, IsMore, IsShown, last_fr
 use Rattle.loader.specs.declared.watch.Watch.{Watch}
 use Rattle.loader.specs.declared.watch.Watcher.{Watcher}
 use Rattle.loader.proofs.Outs.{and-nothing, cut-push, cut-sooner, map-push, watched-push}
-use Rattle.loader.proofs.Shown.{is-after, last-posted, last-push, last-within, lines-are, shown-apart}
-use Rattle.loader.proofs.Shown.{shown-later, shown-last, shown-push, shown-rise, steps-after}
+use Rattle.loader.proofs.Shown.{last-posted, last-push, last-within, lines-are, shown-apart}
+use Rattle.loader.proofs.Shown.{shown-later, shown-push, shown-rise, steps-after}
 use Rattle.loader.proofs.Steps.{more-rule, no-multiples, whole-rule}
 
 -- nothing was put so far

@@ -49,10 +49,11 @@ pub record HasWatched (w : Watcher) (before after : DeskState) : Type 0 where
   pub left : after.left ≡ before.left
   pub reads : after.read_faults ≡ before.read_faults
 
--- the same watch over the same board
+-- the same watch over the same board, and a pass of the same board
 pub record IsSameWatch (old new : Watcher) : Type 0 where
   pub watch : new.watch ≡ old.watch
-  pub board : new.monitor.board ≡ old.monitor.board
+  pub board : new.board ≡ old.board
+  pub pass : new.monitor.board ≡ old.monitor.board
 
 -- there is a watch, and the steps of a state have more whole multiples of `every` than those of
 -- the last line

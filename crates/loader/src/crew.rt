@@ -14,7 +14,6 @@ use crate::shifts::{Shift, stand_by};
 use crate::watch::Watcher;
 use desk_io::Desk;
 use dta_model::Stage;
-use monitors::Board;
 use phase_claims::{Floor, Open, Pass, Unit, UnitKind};
 use std::sync::Wait;
 use std::thread::{Threads, join_mut};
@@ -28,12 +27,15 @@ const SLEEP_WITHOUT: u32 = 2000;
 // Waits until the next unit could be opened at once. So a worker seldom holds a unit while it
 // waits, and the others can do without it.
 fn wait_for_unit<R: Wait>(rt: &R, floor: &Floor, pass: &Pass) {
+    if floor.can_open_next(pass) {
+        return;
+    }
     let mut pauses = Pauses::up_to(SLEEP_WITHOUT);
     for _ in rt.forever() {
+        pauses.take(rt);
         if floor.can_open_next(pass) {
             break;
         }
-        pauses.take(rt);
     }
 }
 
@@ -45,11 +47,14 @@ fn open<R: Wait>(rt: &R, floor: &Floor, pass: &mut Pass, number: u64)
     ensures open { pass.new.view.stage ≡ Stage.Open number }
     ensures rights { HasSameRights pass.old.view pass.new.view }
 {
+    let Open::NotYet { finished: _ } = floor.open(pass) else {
+        return;
+    };
     let mut pauses = Pauses::up_to(SLEEP_WITH_UNIT);
     for _ in rt.forever() {
-        match floor.open(pass) {
-            Open::Yes => break,
-            Open::NotYet { finished: _ } => pauses.take(rt),
+        pauses.take(rt);
+        if let Open::Yes = floor.open(pass) {
+            break;
         }
     }
 }
@@ -139,61 +144,55 @@ pub(crate) fn crew<R: Threads + Wait + Sync, G: Gate + Sync>(
     }
 }
 
-// Worker 0 of so many works until no unit is left, and puts watch lines meanwhile. Where it is
-// alone it can open each unit at once, and needn't look before it claims.
+// Worker 0 works until no unit is left, and puts watch lines meanwhile.
 fn lead<R: Wait, G: Gate, D: Desk>(
     rt: &R,
     floor: &Floor,
     gate: &G,
     pass: &mut Pass,
-    workers: u32,
-    board: &Board,
     watcher: &mut Watcher,
     desk: &mut D,
 )
     requires ready { IsReady floor.now 1 pass.old }
-    requires board { watcher.old.monitor.board ≡ board.now }
+    requires own { watcher.old.monitor.board ≡ watcher.old.board.now }
     ensures ended { HasEnded floor.now 1 pass.new }
     ensures same { IsSameWatch watcher.old watcher.new }
     ensures put { (before : DeskState) → HasWatched watcher.old before (D.state desk.old)
         → HasWatched watcher.new before (D.state desk.new) }
 {
     for _ in rt.forever() {
-        if 1 < workers {
-            wait_for_unit(rt, floor, pass);
-        }
+        wait_for_unit(rt, floor, pass);
         let Some(unit) = floor.claim(pass) else {
             break;
         };
         work_on(rt, floor, gate, pass, 0, unit);
-        watcher.look(rt, board, desk);
+        watcher.look(rt, desk);
     }
 }
 
-/// Performs all units of a floor, by so many workers. The calling thread is worker 0, which puts
-/// the watch lines meanwhile. If no thread can be made, the workers run one after another. It
-/// takes no memory.
+/// Performs all units of a floor, by a worker for each pass that can be split off, and the calling
+/// thread, worker 0, which puts the watch lines meanwhile. If no thread can be made, the workers
+/// run one after another. It takes no memory.
 pub fn perform_all<R: Threads + Wait + Sync, G: Gate + Sync, D: Desk + Send>(
     rt: &R,
     floor: &Floor,
     gate: &G,
     pass: Pass,
-    workers: u32,
-    board: &Board,
     watcher: &mut Watcher,
     desk: &mut D,
 ) -> Pass
-    requires ready { IsReady floor.now workers pass }
-    requires few { workers ≤ MOST_WORKERS }
-    requires board { watcher.old.monitor.board ≡ board.now }
-    ensures ended { HasEnded floor.now workers result }
+    requires ready { IsReady floor.now (pass.view.spare + 1) pass }
+    requires few { pass.view.spare < MOST_WORKERS }
+    requires own { watcher.old.monitor.board ≡ watcher.old.board.now }
+    ensures ended { HasEnded floor.now (pass.view.spare + 1) result }
     ensures same { IsSameWatch watcher.old watcher.new }
     ensures put { (before : DeskState) → HasWatched watcher.old before (D.state desk.old)
         → HasWatched watcher.new before (D.state desk.new) }
 {
-    if workers == 1 {
+    let others = pass.spare();
+    if others == 0 {
         let mut pass = pass;
-        lead(rt, floor, gate, &mut pass, workers, board, watcher, desk);
+        lead(rt, floor, gate, &mut pass, watcher, desk);
         return pass;
     }
     let (rest, mut mine) = floor.split(pass);
@@ -201,22 +200,23 @@ pub fn perform_all<R: Threads + Wait + Sync, G: Gate + Sync, D: Desk + Send>(
     join_mut(
         rt,
         &mut ||
-            requires { IsSync R.row × IsSync G.row × IsCrewReady floor.now (workers - 1) rest
-                × (1 < workers) × (workers ≤ MOST_WORKERS) }
-            ensures { HasCrewEnded floor.entry.now (workers - 1) rest.exit }
+            requires { IsSync R.row × IsSync G.row × IsCrewReady floor.now others rest
+                × (1 ≤ others) × (others < MOST_WORKERS) }
+            ensures { HasCrewEnded floor.entry.now others rest.exit }
         {
             if let Some(pass) = rest.take() {
-                rest = Some(crew(rt, floor, gate, pass, 1, workers - 1));
+                rest = Some(crew(rt, floor, gate, pass, 1, others));
             }
         },
         &mut ||
-            requires { IsReady floor.now 1 mine × (watcher.now.monitor.board ≡ board.now) }
+            requires { IsReady floor.now 1 mine
+                × (watcher.now.monitor.board ≡ watcher.now.board.now) }
             ensures { HasEnded floor.entry.now 1 mine.exit
                 × IsSameWatch watcher.entry.now watcher.exit.now
                 × ((before : DeskState)
                 → HasWatched watcher.entry.now before (D.state desk.entry.now)
                 → HasWatched watcher.exit.now before (D.state desk.exit.now)) }
-        { lead(rt, floor, gate, &mut mine, workers, board, watcher, desk) },
+        { lead(rt, floor, gate, &mut mine, watcher, desk) },
     );
     match rest {
         Some(rest) => floor.join(mine, rest),

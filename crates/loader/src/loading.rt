@@ -11,7 +11,7 @@ use crate::gate::Gate;
 use crate::watch::{Watch, Watcher};
 use desk_io::{Desk, Failed};
 use dta_model::{Loaded, Loading};
-use monitors::{Board, MonitorPass, WriterPass};
+use monitors::Board;
 use phase_claims::Floor;
 use std::alloc::AllocError;
 use std::sync::Wait;
@@ -37,46 +37,6 @@ impl From<AllocError> for LoadFault {
     }
 }
 
-// Loads over a board, to which the floor posts with this writer's pass.
-fn load_shown<'b, 'l: 'b, R: AllocGlobal + Threads + Wait + Sync, D: Desk + Send, G: Gate + Sync>(
-    rt: &R,
-    loading: &Loading<'l>,
-    workers: u32,
-    board: &'b Board,
-    writer: WriterPass,
-    monitor: MonitorPass,
-    gate: &mut G,
-    desk: &mut D,
-    watch: Watch,
-) -> Result<Loaded, LoadFault>
-    requires sound { IsSound (plan_of loading.now) }
-    requires least { 1 ≤ workers }
-    requires most { workers ≤ MOST_WORKERS }
-    requires writer { (writer.board ≡ board.now) × (writer.list ≡ []) }
-    requires monitor { monitor.board ≡ board.now }
-    ensures { let shown = gate_of G.closes G.last in
-        Loads (plan_of loading.entry.now) workers watch
-        (D.state desk.entry.now) (D.state desk.exit.now) (shown gate.entry.now)
-        (shown gate.exit.now) result }
-{
-    let (floor, pass) = Floor::new(rt.alloc(), loading, board, writer, workers)?;
-    let mut watcher = Watcher {
-        watch,
-        monitor,
-        last: 0,
-        failed: false,
-    };
-    let pass = perform_all(rt, &floor, &*gate, pass, workers, board, &mut watcher, desk);
-    let Ok((loaded, writer, receipt)) = floor.close(pass) else {
-        unreachable!()
-    };
-    gate.closed(receipt);
-    match watcher.end(rt, board, writer, desk) {
-        Ok(()) => Ok(loaded),
-        Err(Failed) => Err(LoadFault::WatchFault),
-    }
-}
-
 /// Loads by so many workers, of which the calling thread is the first and puts the watch lines. A
 /// worker waits where units of earlier phases aren't finished. If no thread can be made, the
 /// workers run one after another. All memory is taken before the first unit.
@@ -96,7 +56,22 @@ pub fn load<R: AllocGlobal + Threads + Wait + Sync, D: Desk + Send, G: Gate + Sy
         (D.state desk.old) (D.state desk.new) (shown gate.old) (shown gate.new) result }
 {
     let (board, writer, monitor) = Board::new(rt)?;
-    load_shown(
-        rt, loading, workers, &board, writer, monitor, gate, desk, watch,
-    )
+    let shown = &board;
+    let (floor, pass) = Floor::new(rt.alloc(), loading, shown, writer, workers)?;
+    let mut watcher = Watcher {
+        board: shown,
+        watch,
+        monitor,
+        last: 0,
+        failed: false,
+    };
+    let pass = perform_all(rt, &floor, &*gate, pass, &mut watcher, desk);
+    let Ok((loaded, writer, receipt)) = floor.close(pass) else {
+        unreachable!()
+    };
+    gate.closed(receipt);
+    match watcher.end(rt, writer, desk) {
+        Ok(()) => Ok(loaded),
+        Err(Failed) => Err(LoadFault::WatchFault),
+    }
 }

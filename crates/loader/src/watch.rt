@@ -21,17 +21,18 @@ pub struct Watch {
     pub every: u32,
 }
 
-/// What worker 0 has to put, and what it has put: the steps of its last line, 0 before the first,
-/// and whether a put failed.
+/// What worker 0 has to put of a board's states, and what it has put: the steps of its last line,
+/// 0 before the first, and whether a put failed.
 #[derive(Drop)]
-pub struct Watcher {
+pub struct Watcher<'b> {
+    pub board: &'b Board,
     pub watch: Watch,
     pub monitor: MonitorPass,
     pub last: u64,
     pub failed: bool,
 }
 
-impl Watcher {
+impl<'b> Watcher<'b> {
     // Puts the line of a state, where no put failed so far.
     fn put_line<D: Desk>(&mut self, desk: &mut D, eight: &Eight)
         requires whole { self.old.failed ≡ false }
@@ -49,8 +50,8 @@ impl Watcher {
 
     /// Reads the board, and puts the line of its state where the steps have more whole multiples
     /// of `every` than those of the last line. Once a put failed it does nothing.
-    pub fn look<R: Wait, D: Desk>(&mut self, rt: &R, board: &Board, desk: &mut D)
-        requires own { self.old.monitor.board ≡ board.now }
+    pub fn look<R: Wait, D: Desk>(&mut self, rt: &R, desk: &mut D)
+        requires own { self.old.monitor.board ≡ self.old.board.now }
         ensures same { IsSameWatch self.old self.new }
         ensures put { (before : DeskState) → HasWatched self.old before (D.state desk.old)
             → HasWatched self.new before (D.state desk.new) }
@@ -59,7 +60,7 @@ impl Watcher {
             return;
         }
         let every = u64::from(self.watch.every);
-        let eight = board.read(rt, &mut self.monitor);
+        let eight = self.board.read(rt, &mut self.monitor);
         if self.last / every < eight.steps / every {
             self.put_line(desk, &eight);
         }
@@ -71,21 +72,20 @@ impl Watcher {
     pub fn end<R: Wait, D: Desk>(
         self,
         rt: &R,
-        board: &Board,
         writer: WriterPass,
         desk: &mut D,
     ) -> Result<(), Failed>
-        requires own { self.monitor.board ≡ board.now }
-        requires writer { writer.board ≡ board.now }
+        requires own { self.monitor.board ≡ self.board.now }
+        requires writer { writer.board ≡ self.board.now }
         ensures put { (p : Plan) (before : DeskState) → 1 ≤ p.horizon
-            → writer.list ≡ posted_in p p.horizon → HasWatched self before (D.state desk.old)
-            → OnlyPuts (IsWatched p self.watch) (IsWatchCut p self.watch)
+            → writer.list ≡ posted_in p p.horizon → HasWatched self.entry before (D.state desk.old)
+            → OnlyPuts (IsWatched p self.entry.watch) (IsWatchCut p self.entry.watch)
             before (D.state desk.new) result }
     {
         if self.watch.every == 0 {
             return Ok(());
         }
-        let (_, _, eight) = board.settle(rt, writer, self.monitor);
+        let (_, _, eight) = self.board.settle(rt, writer, self.monitor);
         if self.failed {
             return Err(Failed);
         }

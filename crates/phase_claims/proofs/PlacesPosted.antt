@@ -14,16 +14,13 @@ use Rattle.dta_model.specs.State.{eight_after, eight_in}
 use Rattle.dta_model.specs.Units.{node_count, posting_part}
 use Rattle.dta_model.specs.declared.eight.Eight.{Eight}
 use Rattle.dta_model.specs.declared.plan.Plan.{Plan}
-use Rattle.cell_stages.specs.CellState.{CellState}
-use Rattle.cell_stages.specs.Contents.{away, cell_before}
 use Rattle.monitors.specs.Posted.{IsLater, Known}
 use Rattle.net_core.proofs.Numbers.{numbers_grow}
 use Rattle.phase_claims.specs.declared.part.Part.{Part}
-use Rattle.phase_claims.specs.declared.part.Part.TheVariants.{Cell, Out, Writer}
+use Rattle.phase_claims.specs.declared.part.Part.TheVariants.{Out, Writer}
 use Rattle.phase_claims.specs.PlacesCounted.{cell_place, counted_in, posting_places, writer_place}
-use Rattle.phase_claims.specs.PlacesHeld.{HoldsCell, HoldsWriter}
+use Rattle.phase_claims.specs.PlacesHeld.{HoldsWriter}
 use Rattle.phase_claims.specs.PlacesHome.{posted_in}
-use Rattle.phase_claims.proofs.PlacesRound.{same_cell}
 use Rattle.phase_claims.proofs.PlacesSums.{all_counted}
 use Rattle.phase_claims.proofs.PlacesTurn.{at_end, first_is, midway, round, same_first}
 
@@ -43,20 +40,11 @@ module _ (p : Plan) (t : ℕ) (z : List (ℕ × Part)) where
   Midway n = midway (cell_place p t) (cell_place p t) z (all_nodes p) n
 
   module _ (n : ℕ) (h : n < node_count p) (l : List (ℕ × Part)) (is : l ≡ Midway n) where
-    first : l ≡ (n, Cell (cell_before p n t away away)) ∷ rest l
-    first = first_is (cell_place p t) (cell_place p t) z (all_nodes p) n n l (node_at (node_count p) n h) is
+    pub cell_held : l ≡ cell_place p t n ∷ rest l
+    cell_held = first_is (cell_place p t) (cell_place p t) z (all_nodes p) n n l (node_at (node_count p) n h) is
 
-    pub cell_held : HoldsCell n l
-    cell_held = (cell_before p n t away away, first)
-
-    pub cell_is : (c : CellState) → l ≡ (n, Cell c) ∷ rest l → c ≡ cell_before p n t away away
-    cell_is c e = same_cell c (cell_before p n t away away) (same_first n (Cell c) (Cell (cell_before p n t away away)) l e first)
-
-    pub cell_back : (c : CellState) (l1 l2 l3 : List (ℕ × Part)) → l ≡ (n, Cell c) ∷ rest l → l1 ≡ (n, Out) ∷ rest l → l2 ≡ (n, Cell c) ∷ rest l1 → l3 ≡ turned l2 → l3 ≡ Midway (n + 1)
-    cell_back c l1 l2 l3 e e1 e2 e3 =
-        let back : l2 ≡ (n, Cell c) ∷ rest l = e2 ∙ ap (λ xs. (n, Cell c) ∷ rest xs) e1 in
-        let same : l2 ≡ (n, Cell (cell_before p n t away away)) ∷ rest l = back ∙ ap (λ x. (n, Cell x) ∷ rest l) (cell_is c e) in
-        round (cell_place p t) (cell_place p t) z (all_nodes p) n n l l3 (node_at (node_count p) n h) is (e3 ∙ ap turned same)
+    pub cell_back : (l' : List (ℕ × Part)) → l' ≡ turned l → l' ≡ Midway (n + 1)
+    cell_back l' now = round (cell_place p t) (cell_place p t) z (all_nodes p) n n l l' (node_at (node_count p) n h) is (now ∙ ap turned cell_held)
 
 posted_more : (p : Plan) (t : ℕ) → posted_in p (suc t) ≡ posted_in p t ++ eight_after p (suc t) ∷ []
 posted_more p t =

@@ -19,9 +19,9 @@ use Rattle.node_transfer.proofs.OfMail.Exchanges.{emptied-next, filled-next, rep
 use Rattle.node_transfer.proofs.OfMail.Lending.{at-place, is-told, link_of}
 use Rattle.node_transfer.proofs.OfMail.Parts.{IsMadeOf}
 use Rattle.phase_claims.specs.Noted.{StaysAsItIs}
-use Rattle.phase_claims.specs.PlacesHeld.{HoldsCell, HoldsMail, HoldsNothing, IsSameSeat, after_cell, empty_place, mail_place, mail_places, node_places}
+use Rattle.phase_claims.specs.PlacesHeld.{HoldsCell, HoldsMail, IsSameSeat, mail_place, mail_places, node_places}
 use Rattle.phase_claims.specs.declared.part.Part.{Part}
-use Rattle.phase_claims.specs.declared.part.Part.TheVariants.{Cell, Mail, Out}
+use Rattle.phase_claims.specs.declared.part.Part.TheVariants.{Cell, Mail}
 use Rattle.phase_claims.proofs.PlacesTurn.{first_is, midway, round, same_first}
 
 pub stays : {V : Type 0} (a b c : Seat Part V) → IsSameSeat a b → IsSameSeat b c → IsSameSeat a c
@@ -37,10 +37,6 @@ same_cell x y e = cc
 pub cell_taken : (p : Plan) (n : ℕ) (cell c : CellState) (by : ℕ → mail.Mail) (links : List ℕ) (l : List (ℕ × Part)) → l ≡ node_places p n cell by links → l ≡ (n, Cell c) ∷ rest l → c ≡ cell
 cell_taken p n cell c by links l e got = same_cell c cell (same_first n (Cell c) (Cell cell) l got (e ∙ ap (λ xs. (n, Cell cell) ∷ rest xs) (sym e)))
 
--- and put back
-pub cell_given : (p : Plan) (n : ℕ) (cell c : CellState) (by : ℕ → mail.Mail) (links : List ℕ) (l l' : List (ℕ × Part)) → l ≡ after_cell n (mail_places p by links) → l' ≡ (n, Cell c) ∷ rest l → c ≡ cell → l' ≡ node_places p n cell by links
-cell_given p n cell c by links l l' e now same = now ∙ ap (λ xs. (n, Cell c) ∷ rest xs) e ∙ ap (λ x. (n, Cell x) ∷ mail_places p by links) same
-
 same_mail : (x y : mail.Mail) → Mail x ≡ Mail y → x ≡ y
 same_mail x y e = cc
 
@@ -48,70 +44,40 @@ some_mail : (x y : mail.Mail) → Some x ≡ Some y → x ≡ y
 some_mail x y e = cc
 
 module _ {p : Plan} {n : ℕ} {ends : ℕ → ℕ} {links : List ℕ} {cell : (ℕ → mail.Mail) → CellState} {put : ℕ → mail.Mail → CellState → CellState} {told : ℕ → CellState → Option mail.Mail}
-    (made : IsMadeOf p n ends links cell put told) (F : ℕ → mail.Mail) (ls : List LinkNo) (are : ls ≡ as_links links) (N : ℕ) (nodes : N ≡ node_count p) (z : List (ℕ × Part)) (j : ℕ) (within : j < length ls) where
+    (made : IsMadeOf p n ends links cell put told) (F G : ℕ → mail.Mail) (ls : List LinkNo) (are : ls ≡ as_links links) (N : ℕ) (nodes : N ≡ node_count p) (z : List (ℕ × Part)) (j : ℕ) (within : j < length ls) where
   abbrev here : ℕ
   here = link_of ls j
 
   there : slice_get links j ≡ Some here
   there = at-place made F ls are j within
 
-  slot_is : mail_part p here ≡ N + here
-  slot_is = ap (λ k. k + here) (sym nodes)
+  abbrev Midway : ℕ → List (ℕ × Part)
+  Midway k = midway (mail_place p F) (mail_place p G) z links k
 
-  -- the mail of the next link is first, and goes into the cell
-  first_mail : (l : List (ℕ × Part)) → l ≡ midway (mail_place p F) (empty_place p) z links j → l ≡ (N + here, Mail (F here)) ∷ rest l
-  first_mail l is = first_is (mail_place p F) (empty_place p) z links j here l there is ∙ ap (λ k. (k, Mail (F here)) ∷ rest l) slot_is
+  -- the mail of the next link is first
+  pub first_mail : (l : List (ℕ × Part)) → l ≡ Midway j → l ≡ (N + here, Mail (F here)) ∷ rest l
+  first_mail l is = first_is (mail_place p F) (mail_place p G) z links j here l there is ∙ ap (λ k. (k + here, Mail (F here)) ∷ rest l) (sym nodes)
 
-  pub mail_first : (l : List (ℕ × Part)) → l ≡ midway (mail_place p F) (empty_place p) z links j → HoldsMail (N + here) l
+  pub mail_first : (l : List (ℕ × Part)) → l ≡ Midway j → HoldsMail (N + here) l
   mail_first l is = (F here, first_mail l is)
 
-  mail_is : (l : List (ℕ × Part)) (m : mail.Mail) → l ≡ midway (mail_place p F) (empty_place p) z links j → l ≡ (N + here, Mail m) ∷ rest l → m ≡ F here
-  mail_is l m is got = same_mail m (F here) (same_first (N + here) (Mail m) (Mail (F here)) l got (first_mail l is))
+  -- and other mail goes last in its place
+  pub mail_round : (m : mail.Mail) (l l' : List (ℕ × Part)) → l ≡ Midway j → m ≡ G here → l' ≡ turned ((N + here, Mail m) ∷ rest l) → l' ≡ Midway (j + 1)
+  mail_round m l l' is same now =
+      round (mail_place p F) (mail_place p G) z links j here l l' there is
+      (now ∙ ap (λ k. turned ((k + here, Mail m) ∷ rest l)) nodes ∙ ap (λ x. turned ((mail_part p here, Mail x) ∷ rest l)) same)
 
-  pub mail_lent : (l : List (ℕ × Part)) (m : mail.Mail) (c c' : CellState) → l ≡ midway (mail_place p F) (empty_place p) z links j → l ≡ (N + here, Mail m) ∷ rest l
+  -- it goes into the cell
+  pub mail_lent : (l : List (ℕ × Part)) (m : mail.Mail) (c c' : CellState) → l ≡ Midway j → l ≡ (N + here, Mail m) ∷ rest l
       → c ≡ cell (replaced (take j links) F away) → c' ≡ put j m c → c' ≡ cell (replaced (take (j + 1) links) F away)
-  mail_lent l m c c' is got at now = filled-next p n ends links cell put told made F j here m c c' there at (mail_is l m is got) now
+  mail_lent l m c c' is got at now = filled-next p n ends links cell put told made F j here m c c' there at (same_mail m (F here) (same_first (N + here) (Mail m) (Mail (F here)) l got (first_mail l is))) now
 
-  pub out_round : (l l' : List (ℕ × Part)) → l ≡ midway (mail_place p F) (empty_place p) z links j → l' ≡ turned ((N + here, Out) ∷ rest l)
-      → l' ≡ midway (mail_place p F) (empty_place p) z links (j + 1)
-  out_round l l' is now = round (mail_place p F) (empty_place p) z links j here l l' there is (now ∙ ap (λ k. turned ((k, Out) ∷ rest l)) (sym slot_is))
+  -- or came out of it
+  pub mail_collected : (c c' : CellState) → c ≡ cell (replaced (take j links) away G) → c' ≡ put j Away c → c' ≡ cell (replaced (take (j + 1) links) away G)
+  mail_collected c c' at now = emptied-next p n ends links cell put told made G j here c c' there at now
 
-  -- the empty slot of the next link is first, and takes what comes out of the cell
-  pub nothing_first : (l : List (ℕ × Part)) → l ≡ midway (empty_place p) (mail_place p F) z links j → HoldsNothing (N + here) l
-  nothing_first l is = first_is (empty_place p) (mail_place p F) z links j here l there is ∙ ap (λ k. (k, Out) ∷ rest l) slot_is
-
-  pub mail_collected : (c c' : CellState) → c ≡ cell (replaced (take j links) away F) → c' ≡ put j Away c → c' ≡ cell (replaced (take (j + 1) links) away F)
-  mail_collected c c' at now = emptied-next p n ends links cell put told made F j here c c' there at now
-
-  pub mail_told : (m : mail.Mail) (c : CellState) → c ≡ cell (replaced (take j links) away F) → told j c ≡ Some m → m ≡ F here
-  mail_told m c at tells = some_mail m (F here) (sym tells ∙ is-told made F ls are j within c at)
-
-  pub mail_round : (m : mail.Mail) (c : CellState) (l l' : List (ℕ × Part)) → c ≡ cell (replaced (take j links) away F) → told j c ≡ Some m
-      → l ≡ midway (empty_place p) (mail_place p F) z links j → l' ≡ turned ((N + here, Mail m) ∷ rest l) → l' ≡ midway (empty_place p) (mail_place p F) z links (j + 1)
-  mail_round m c l l' at tells is now =
-      let same = mail_told m c at tells in
-      round (empty_place p) (mail_place p F) z links j here l l' there is
-      (now ∙ ap (λ k. turned ((k, Mail m) ∷ rest l)) (sym slot_is) ∙ ap (λ x. turned ((mail_part p here, Mail x) ∷ rest l)) same)
-
--- one mail after another is looked at
-module _ {p : Plan} {n : ℕ} {ends : ℕ → ℕ} {links : List ℕ} {cell : (ℕ → mail.Mail) → CellState} {put : ℕ → mail.Mail → CellState → CellState} {told : ℕ → CellState → Option mail.Mail}
-    (made : IsMadeOf p n ends links cell put told) (F : ℕ → mail.Mail) (ls : List LinkNo) (are : ls ≡ as_links links) (N : ℕ) (nodes : N ≡ node_count p) (z : List (ℕ × Part)) (j : ℕ) (within : j < length ls) where
-  abbrev next : ℕ
-  next = link_of ls j
-
-  is_next : slice_get links j ≡ Some next
-  is_next = at-place made F ls are j within
-
-  pub next_mail : (l : List (ℕ × Part)) → l ≡ midway (mail_place p F) (mail_place p F) z links j → l ≡ (N + next, Mail (F next)) ∷ rest l
-  next_mail l is = first_is (mail_place p F) (mail_place p F) z links j next l is_next is ∙ ap (λ k. (k + next, Mail (F next)) ∷ rest l) (sym nodes)
-
-  pub next_first : (l : List (ℕ × Part)) → l ≡ midway (mail_place p F) (mail_place p F) z links j → HoldsMail (N + next) l
-  next_first l is = (F next, next_mail l is)
-
-  pub turn_round : (l l' : List (ℕ × Part)) → l ≡ midway (mail_place p F) (mail_place p F) z links j → l' ≡ turned l → l' ≡ midway (mail_place p F) (mail_place p F) z links (j + 1)
-  turn_round l l' is now =
-      round (mail_place p F) (mail_place p F) z links j next l l' is_next is
-      (now ∙ ap turned (first_is (mail_place p F) (mail_place p F) z links j next l is_next is))
+  pub mail_told : (m : mail.Mail) (c : CellState) → c ≡ cell (replaced (take j links) away G) → told j c ≡ Some m → m ≡ G here
+  mail_told m c at tells = some_mail m (G here) (sym tells ∙ is-told made G ls are j within c at)
 
 same_places : (p : Plan) (F G : ℕ → mail.Mail) (links : List ℕ) → ((l : ℕ) → is_among links l ≡ true → F l ≡ G l) → mail_places p F links ≡ mail_places p G links
 same_places p F G [] same = refl

@@ -29,19 +29,13 @@ HoldsWriter slot held = (w : Known) × (held ≡ (slot, Writer w) ∷ rest held)
 abbrev pub HoldsNothing : ℕ → List (ℕ × Part) → Type 0
 HoldsNothing slot held = held ≡ (slot, Out) ∷ rest held
 
--- the place of a link's mail, with mail by a rule, and with nothing
+-- the place of a link's mail, with mail by a rule
 abbrev pub mail_place : Plan → (ℕ → mail.Mail) → ℕ → ℕ × Part
 mail_place p by l = (mail_part p l, Mail (by l))
 
-abbrev pub empty_place : Plan → ℕ → ℕ × Part
-empty_place p l = (mail_part p l, Out)
-
--- the places of the mail of some links, with mail by a rule, and with nothing
+-- the places of the mail of some links, with mail by a rule
 abbrev pub mail_places : Plan → (ℕ → mail.Mail) → List ℕ → List (ℕ × Part)
 mail_places p by links = map (mail_place p by) links
-
-abbrev pub empty_places : Plan → List ℕ → List (ℕ × Part)
-empty_places p links = map (empty_place p) links
 
 -- the place of a node's cell, and then those of the mail of some links
 abbrev pub node_places : Plan → ℕ → CellState → (ℕ → mail.Mail) → List ℕ → List (ℕ × Part)

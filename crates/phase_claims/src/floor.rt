@@ -73,9 +73,9 @@ impl<'a> Model for Floor<'a> {
 impl<'a> Floor<'a> {
     /// A floor of a loading, with nothing claimed, and its first pass, from which the others can
     /// be split off. Where there isn't enough memory the writer is dropped.
-    pub fn new(
+    pub fn new<'l: 'a>(
         alloc: Global,
-        loading: &Loading<'a>,
+        loading: &Loading<'l>,
         board: &'a Board,
         writer: WriterPass,
         passes: u32,
@@ -165,11 +165,11 @@ impl<'a> Floor<'a> {
     }
 
     /// Whether the unit of the next number could be opened at once, or there is none. It only
-    /// looks, and other passes may change that at any time, so nothing is promised. Where many
-    /// units of its phase were left when the pass drew its last one it needn't even look: to look
-    /// at a word that others change takes as long as to change it.
+    /// looks, and other passes may change that at any time, so nothing is promised. Where the pass
+    /// is the only one, or many units of its phase were left when it drew its last one, it needn't
+    /// even look: to look at a word that others change takes as long as to change it.
     pub fn can_open_next(&self, pass: &Pass) -> bool {
-        if pass.last.left > MANY_UNITS {
+        if self.passes == 1 || pass.last.left > MANY_UNITS {
             return true;
         }
         let next = self.table.shared.peek(1);

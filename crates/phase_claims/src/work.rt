@@ -2,7 +2,7 @@
 ghost use Rattle.atomic_table.specs.Table.{rest, turned};
 ghost use Rattle.phase_claims.specs.PlacesHeld.{HoldsCell, HoldsMail, HoldsNothing, IsSameSeat};
 ghost use Rattle.cell_stages.specs.declared.mail.Mail.{Mail};
-ghost use Rattle.cell_stages.specs.Contents.{tells};
+ghost use Rattle.cell_stages.specs.Contents.{away, tells};
 ghost use Rattle.cell_stages.specs.CellState.{CellState};
 ghost use Rattle.node_transfer.specs.Rest.{IsQuiet};
 ghost use Rattle.std.specs.Prelude.{◌≡◌, ◌∷◌, true};
@@ -12,7 +12,8 @@ use crate::part::Part;
 use atomic_table::{Seat, Shared, TableRule};
 use node_transfer::{Mail, tells_room};
 
-/// Takes the mail out of the first place that the seat holds, and turns to the next one.
+/// Takes the mail out of the first place that the seat holds, leaves none there, and turns to the
+/// next place.
 pub(crate) fn take_mail<V, K, P: TableRule<Part, V, K>>(
     shared: &Shared<Part, V, K, P>,
     seat: &mut Seat<Part, V>,
@@ -22,16 +23,17 @@ pub(crate) fn take_mail<V, K, P: TableRule<Part, V, K>>(
     requires held { HoldsMail slot seat.old.me.1 }
     ensures seat { IsSameSeat seat.old seat.new }
     ensures mail { seat.old.me.1 ≡ (slot, Part.Mail result) ∷ rest seat.old.me.1 }
-    ensures held { seat.new.me.1 ≡ turned ((slot, Part.Out) ∷ rest seat.old.me.1) }
+    ensures held { seat.new.me.1 ≡ turned ((slot, Part.Mail (away slot)) ∷ rest seat.old.me.1) }
 {
-    let Part::Mail(mail) = shared.exchange(seat, slot, Part::Out) else {
+    let Part::Mail(there) = seat.slot_mut(shared, slot) else {
         unreachable!()
     };
+    let mail = std::mem::replace(there, Mail::Away);
     seat.turn();
     mail
 }
 
-/// Brings mail into the first place that the seat holds, and turns to the next one.
+/// Puts mail into the first place that the seat holds, and turns to the next one.
 pub(crate) fn give_mail<V, K, P: TableRule<Part, V, K>>(
     shared: &Shared<Part, V, K, P>,
     seat: &mut Seat<Part, V>,
@@ -39,13 +41,14 @@ pub(crate) fn give_mail<V, K, P: TableRule<Part, V, K>>(
     mail: Mail,
 )
     requires table { seat.old.table_id ≡ shared.now.table_id }
-    requires held { HoldsNothing slot seat.old.me.1 }
+    requires held { HoldsMail slot seat.old.me.1 }
     ensures seat { IsSameSeat seat.old seat.new }
     ensures held { seat.new.me.1 ≡ turned ((slot, Part.Mail mail) ∷ rest seat.old.me.1) }
 {
-    let Part::Out = shared.exchange(seat, slot, Part::Mail(mail)) else {
+    let Part::Mail(there) = seat.slot_mut(shared, slot) else {
         unreachable!()
     };
+    *there = mail;
     seat.turn();
 }
 

@@ -5,7 +5,7 @@ ghost use Rattle.dta_model.specs.Plans.{ins as ins_of};
 ghost use Rattle.node_transfer.specs.Halves.{IsHalf, leaving_cell, left_mail, links_of};
 ghost use Rattle.node_transfer.specs.Halves.{taken_mail, taking_cell};
 ghost use Rattle.node_transfer.specs.Rest.{AreTold};
-ghost use Rattle.phase_claims.specs.PlacesHeld.{IsSameSeat, after_cell, before_cell, empty_places};
+ghost use Rattle.phase_claims.specs.PlacesHeld.{IsSameSeat, after_cell, before_cell};
 ghost use Rattle.phase_claims.specs.PlacesHeld.{mail_places};
 ghost use Rattle.std.specs.Prelude.{◌≡◌, ◌∷◌, IfSome, None, true};
 
@@ -35,7 +35,7 @@ pub(crate) fn fill<V, K, P: TableRule<Part, V, K>>(
     ensures cell { cell.new
         ≡ taking_cell (plan_of loading.now) half (taken_mail (plan_of loading.now) half) }
     ensures held { seat.new.me.1 ≡ after_cell half.node.0
-        (empty_places (plan_of loading.now) (links_of (plan_of loading.now) half)) }
+        (mail_places (plan_of loading.now) away (links_of (plan_of loading.now) half)) }
 {
     let nodes = loading.net.node_count() as usize;
     let links = half.links(loading);
@@ -59,7 +59,7 @@ pub(crate) fn empty<V, K, P: TableRule<Part, V, K>>(
     requires cell { cell.old
         ≡ leaving_cell (plan_of loading.now) half (left_mail (plan_of loading.now) half) }
     requires held { seat.old.me.1 ≡ before_cell half.node.0
-        (empty_places (plan_of loading.now) (links_of (plan_of loading.now) half)) }
+        (mail_places (plan_of loading.now) away (links_of (plan_of loading.now) half)) }
     ensures seat { IsSameSeat seat.old seat.new }
     ensures cell { cell.new ≡ leaving_cell (plan_of loading.now) half away }
     ensures held { seat.new.me.1 ≡ after_cell half.node.0

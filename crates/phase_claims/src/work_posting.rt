@@ -2,12 +2,11 @@
 ghost use Rattle.atomic_table.specs.Table.{rest, turned};
 ghost use Rattle.dta_model.specs.Lent.{plan_of};
 ghost use Rattle.dta_model.specs.Sound.{IsSound};
-ghost use Rattle.phase_claims.specs.PlacesCounted.{counted_in, posting_places, writer_place};
+ghost use Rattle.phase_claims.specs.PlacesCounted.{cell_place, counted_in, posting_places, writer_place};
 ghost use Rattle.phase_claims.specs.PlacesHeld.{HoldsNothing, HoldsWriter, IsSameSeat};
 ghost use Rattle.std.specs.Prelude.{◌≡◌, ◌<◌, ◌∷◌, suc, length};
 
 use crate::part::Part;
-use crate::work::{give_cell, take_cell};
 use crate::work_counts::add_cell;
 use atomic_table::{Seat, Shared, TableRule};
 use dta_model::{Eight, Loading};
@@ -43,15 +42,39 @@ pub(crate) fn post_held<R: Wait, V, K, P: TableRule<Part, V, K>>(
         first: [0; 4],
     };
     for n in 0..nodes {
-        let cell = take_cell(shared, seat, n as usize);
-        add_cell(loading, NodeNo(n), step + 1, &cell, &mut eight);
-        give_cell(shared, seat, n as usize, cell);
-        seat.turn();
+        count_cell(shared, seat, loading, NodeNo(n), step + 1, &mut eight);
     }
     let slot = nodes as usize + links as usize;
     let mut writer = take_writer(shared, seat, slot);
     board.post(rt, &mut writer, eight);
     give_writer(shared, seat, slot, writer);
+}
+
+// Adds the counts of the cell in the first place that the seat holds. It stays there, and the seat
+// turns to the next place.
+fn count_cell<V, K, P: TableRule<Part, V, K>>(
+    shared: &Shared<Part, V, K, P>,
+    seat: &mut Seat<Part, V>,
+    loading: &Loading,
+    node: NodeNo,
+    steps: u32,
+    eight: &mut Eight,
+)
+    requires table { seat.old.table_id ≡ shared.now.table_id }
+    requires sound { IsSound (plan_of loading.now) }
+    requires node { node.0 < length (plan_of loading.now).net.nodes }
+    requires held { seat.old.me.1
+        ≡ cell_place (plan_of loading.now) steps node.0 ∷ rest seat.old.me.1 }
+    requires eight { eight.old ≡ counted_in (plan_of loading.now) steps node.0 }
+    ensures seat { IsSameSeat seat.old seat.new }
+    ensures held { seat.new.me.1 ≡ turned seat.old.me.1 }
+    ensures eight { eight.new ≡ counted_in (plan_of loading.now) steps (suc node.0) }
+{
+    let Part::Cell(cell) = seat.slot_mut(shared, node.0 as usize) else {
+        unreachable!()
+    };
+    add_cell(loading, node, steps, cell, eight);
+    seat.turn();
 }
 
 // Takes the writer's pass out of the first place that the seat holds, which stays the first one.

@@ -1,4 +1,4 @@
-use Rattle.std.proofs.Common.{◌*◌, ◌+◌, ◌-◌}
+use Rattle.std.proofs.Common.{◌*◌, ◌-◌}
 use Rattle.loader.proofs.crew.+crew+fn-crew-join_mut+arg2.Given as goal
 
 abbrev pub decreases-crew : goal.decreases-crew

@@ -10,6 +10,6 @@ invariant-loop g l =
     × (goal.iterator-loop g).is_finite l.iterator'
     × IsReady l.floor 1 l.pass
     × IsSameWatch l.initial.watcher l.watcher
-    × (l.watcher.monitor.board ≡ l.board)
+    × (l.watcher.monitor.board ≡ l.watcher.board.now)
     × ((before : DeskState) → HasWatched l.initial.watcher before (g.D.Desk.state l.initial.desk)
     → HasWatched l.watcher before (g.D.Desk.state l.desk))

@@ -1,4 +1,5 @@
-use Rattle.std.proofs.Common.{◌≡◌, ◌+◌, Bool, take, true, false, ap, sym, ◌∙◌}
+use Rattle.std.proofs.Common.{◌≡◌, ◌+◌, Bool, take, true, false, ap, refl, sym, ◌∙◌}
+use Rattle.atomic_table.specs.Table.{turned}
 use Rattle.dta_model.specs.Lent.{plan_of}
 use Rattle.cell_stages.specs.Contents.{away, batch_of, left_after, storage_by, tells}
 use Rattle.cell_stages.specs.Stages.{line_after}
@@ -7,7 +8,7 @@ use Rattle.node_transfer.specs.Gathered.{room_after}
 use Rattle.node_transfer.specs.Rest.{room_left_on}
 use Rattle.node_transfer.proofs.OfMail.Lending.{at-place, link_of, past}
 use Rattle.node_transfer.proofs.OfMail.Parts.{ins-after}
-use Rattle.phase_claims.proofs.PlacesRound.{next_first, next_mail, stays, turn_round}
+use Rattle.phase_claims.proofs.PlacesRound.{first_mail, mail_first, mail_round, stays}
 use Rattle.phase_claims.proofs.Stays.{ToldYet, all_told, in_link_there, room_there, told_next}
 use Rattle.phase_claims.proofs.work_links.are_told.Goals as goal
 use Rattle.phase_claims.proofs.work_links.are_told.Goals.{then-all, else-all, in-None, in-Some}
@@ -18,7 +19,7 @@ never b t f = cc
 pub is_told-here-requires-clause-held : goal.is_told-here-requires-clause-held
 is_told-here-requires-clause-held g c =
     let p = plan_of c.args.loading.now in
-    next_first (ins-after p c.args.node.0 c.args.step away) (batch_of p c.args.step) c.ins-ins.result.now c.ins-ins.ensures c.node_count-nodes.result c.node_count-nodes.ensures.count (take 1 c.args.seat.now.me.1) c.loop-place.place
+    mail_first (ins-after p c.args.node.0 c.args.step away) (batch_of p c.args.step) (batch_of p c.args.step) c.ins-ins.result.now c.ins-ins.ensures c.node_count-nodes.result c.node_count-nodes.ensures.count (take 1 c.args.seat.now.me.1) c.loop-place.place
     c.loop-place-test.true c.loop-place.seat.me.1 c.loop-place.invariant.2
 
 pub room-room-requires : goal.room-room-requires
@@ -37,7 +38,7 @@ loop-place-preserved g c =
     let j = c.loop-place.place in
     let ls = c.ins-ins.result.now in
     let made = ins-after p n t away in
-    let first = next_mail made (batch_of p t) ls c.ins-ins.ensures c.node_count-nodes.result c.node_count-nodes.ensures.count (take 1 c.args.seat.now.me.1) j c.loop-place-test.true c.loop-place.seat.me.1 c.loop-place.invariant.2 in
+    let first = first_mail made (batch_of p t) (batch_of p t) ls c.ins-ins.ensures c.node_count-nodes.result c.node_count-nodes.ensures.count (take 1 c.args.seat.now.me.1) j c.loop-place-test.true c.loop-place.seat.me.1 c.loop-place.invariant.2 in
     let at = at-place made (batch_of p t) ls c.ins-ins.ensures j c.loop-place-test.true in
     let b = link_of ls j in
     let room_is : c.match-cell.room ≡ room_left_on p n t b = elim c.match-cell.branch [
@@ -52,8 +53,8 @@ loop-place-preserved g c =
     ] in (
       stays c.args.seat.now c.loop-place.seat c.is_told-here.new.seat c.loop-place.invariant.0 c.is_told-here.ensures.seat,
       so_far,
-      turn_round made (batch_of p t) ls c.ins-ins.ensures c.node_count-nodes.result c.node_count-nodes.ensures.count (take 1 c.args.seat.now.me.1) j c.loop-place-test.true
-          c.loop-place.seat.me.1 c.is_told-here.new.seat.me.1 c.loop-place.invariant.2 c.is_told-here.ensures.held,
+      mail_round made (batch_of p t) (batch_of p t) ls c.ins-ins.ensures c.node_count-nodes.result c.node_count-nodes.ensures.count (take 1 c.args.seat.now.me.1) j c.loop-place-test.true
+          (batch_of p t b) c.loop-place.seat.me.1 c.is_told-here.new.seat.me.1 c.loop-place.invariant.2 refl (c.is_told-here.ensures.held ∙ ap turned first),
     )
 
 pub returns-clause-told : goal.returns-clause-told

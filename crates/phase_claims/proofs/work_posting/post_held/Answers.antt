@@ -1,25 +1,19 @@
 use Rattle.std.proofs.Common.{◌≡◌, suc, ◌+◌, ◌<◌, [], ◌∷◌, ap, ◌∙◌, arith}
+use Rattle.atomic_table.specs.Table.{rest}
 use Rattle.dta_model.specs.Lent.{plan_of}
 use Rattle.dta_model.specs.Units.{node_count}
-use Rattle.cell_stages.specs.Contents.{away, cell_before}
-use Rattle.phase_claims.specs.PlacesCounted.{counted_in, writer_place}
-use Rattle.phase_claims.proofs.PlacesPosted.{cell_back, cell_held, cell_is, may_post, own_board, posted, writer_held}
+use Rattle.phase_claims.specs.PlacesCounted.{cell_place, counted_in, writer_place}
+use Rattle.phase_claims.proofs.PlacesPosted.{cell_back, cell_held, may_post, own_board, posted, writer_held}
 use Rattle.phase_claims.proofs.PlacesRound.{stays}
 use Rattle.phase_claims.proofs.work_posting.post_held.Goals as goal
 
-pub take_cell-cell-requires-clause-held : goal.take_cell-cell-requires-clause-held
-take_cell-cell-requires-clause-held g c =
-    let p = plan_of c.args.loading.now in
-    let below : c.loop-n.n < node_count p = omega (arith, c.loop-n-test.true, c.node_count-nodes.ensures.count) in
-    cell_held p (suc c.args.step) (writer_place p c.args.board.now c.args.step ∷ []) c.loop-n.n below c.loop-n.seat.me.1 c.loop-n.invariant.2
-
-pub add_cell-requires-clause-cell : goal.add_cell-requires-clause-cell
-add_cell-requires-clause-cell g c =
+pub count_cell-requires-clause-held : goal.count_cell-requires-clause-held
+count_cell-requires-clause-held g c =
     let p = plan_of c.args.loading.now in
     let below : c.loop-n.n < node_count p = omega (arith, c.loop-n-test.true, c.node_count-nodes.ensures.count) in
     let next : suc c.args.step ≡ c.args.step + 1 = omega arith in
-    cell_is p (suc c.args.step) (writer_place p c.args.board.now c.args.step ∷ []) c.loop-n.n below c.loop-n.seat.me.1 c.loop-n.invariant.2 c.take_cell-cell.result c.take_cell-cell.ensures.cell
-    ∙ ap (λ t. cell_before p c.loop-n.n t away away) next
+    cell_held p (suc c.args.step) (writer_place p c.args.board.now c.args.step ∷ []) c.loop-n.n below c.loop-n.seat.me.1 c.loop-n.invariant.2
+    ∙ ap (λ t. cell_place p t c.loop-n.n ∷ rest c.loop-n.seat.me.1) next
 
 pub loop-n-preserved : goal.loop-n-preserved
 loop-n-preserved g c =
@@ -27,14 +21,9 @@ loop-n-preserved g c =
     let below : c.loop-n.n < node_count p = omega (arith, c.loop-n-test.true, c.node_count-nodes.ensures.count) in
     let more : suc c.loop-n.n ≡ c.loop-n.n + 1 = omega arith in
     let next : c.args.step + 1 ≡ suc c.args.step = omega arith in (
-      stays c.args.seat.now c.give_cell.new.seat c.turn.new.self
-          (stays c.args.seat.now c.take_cell-cell.new.seat c.give_cell.new.seat
-          (stays c.args.seat.now c.loop-n.seat c.take_cell-cell.new.seat c.loop-n.invariant.0 c.take_cell-cell.ensures.seat) c.give_cell.ensures.seat)
-          (record { table = c.turn.ensures.0; id = c.turn.ensures.1; view = ap (λ m. m.0) c.turn.ensures.2 }),
-      c.add_cell.ensures ∙ ap (λ t. counted_in p t (suc c.loop-n.n)) next ∙ ap (λ n. counted_in p (suc c.args.step) n) more,
-      cell_back p (suc c.args.step) (writer_place p c.args.board.now c.args.step ∷ []) c.loop-n.n below c.loop-n.seat.me.1 c.loop-n.invariant.2
-          c.take_cell-cell.result c.take_cell-cell.new.seat.me.1 c.give_cell.new.seat.me.1 c.turn.new.self.me.1
-          c.take_cell-cell.ensures.cell c.take_cell-cell.ensures.held c.give_cell.ensures.held (ap (λ m. m.1) c.turn.ensures.2),
+      stays c.args.seat.now c.loop-n.seat c.count_cell.new.seat c.loop-n.invariant.0 c.count_cell.ensures.seat,
+      c.count_cell.ensures.eight ∙ ap (λ t. counted_in p t (suc c.loop-n.n)) next ∙ ap (λ n. counted_in p (suc c.args.step) n) more,
+      cell_back p (suc c.args.step) (writer_place p c.args.board.now c.args.step ∷ []) c.loop-n.n below c.loop-n.seat.me.1 c.loop-n.invariant.2 c.count_cell.new.seat.me.1 c.count_cell.ensures.held,
     )
 
 pub take_writer-writer-requires-clause-held : goal.take_writer-writer-requires-clause-held

@@ -1,5 +1,5 @@
-use Rattle.std.proofs.Common.{arith, rules, ◌≡◌, ◌≤◌}
-use Rattle.loader.proofs.Watches.{IsSettled, end-failed, end-put, end-told}
+use Rattle.std.proofs.Common.{rules}
+use Rattle.loader.proofs.Watches.{end-failed, end-put, end-told}
 use Rattle.loader.proofs.watch.Watcher.end.Goals as goal
 
 -- src/watch.rt:92:13

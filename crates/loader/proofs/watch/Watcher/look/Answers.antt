@@ -1,4 +1,4 @@
-use Rattle.std.proofs.Common.{arith, rules, ◌≡◌, ◌<◌, ◌≤◌, ◌/◌}
+use Rattle.std.proofs.Common.{rules}
 use Rattle.loader.proofs.Shown.{shown-last}
 use Rattle.loader.proofs.Watches.{watched-later}
 use Rattle.loader.proofs.watch.Watcher.look.Goals as goal

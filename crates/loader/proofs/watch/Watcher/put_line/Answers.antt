@@ -1,4 +1,3 @@
-use Rattle.std.proofs.Common.{◌≡◌}
 use Rattle.loader.proofs.Watches.{put-part, put-whole}
 use Rattle.loader.proofs.watch.Watcher.put_line.Goals as goal
 
