@@ -11,7 +11,7 @@ ghost use Rattle.assignment.specs.Traffic.{AreRoutesOf};
 use crate::lent::Assignment;
 use dta_model::{Eight, Loaded, Routes};
 use final_state::final_state;
-use gap::{GapLine, gap_by_shares};
+use gap::{GapLine, TimedTrips, gap_by_shares};
 use link_times::LinkTimes;
 use net_core::Memory;
 use route_flows::{gap_and_next_routes, started_routes};
@@ -116,15 +116,12 @@ pub fn advance<R: AllocGlobal + Threads + Sync>(
     let times = times_of(rt.alloc(), assignment, &it.routes, &loaded)?;
     drop(loaded);
     let old = mem::replace(&mut it.routes, Routes::of(Vec::new(rt.alloc())));
-    let (line, next) = gap_and_next_routes(
-        rt,
-        assignment.net,
-        assignment.trips,
-        &times,
-        old,
-        number,
-        &it.pool,
-    )?;
+    let timed = TimedTrips {
+        net: assignment.net,
+        times: &times,
+        trips: assignment.trips,
+    };
+    let (line, next) = gap_and_next_routes(rt, &timed, old, number, &it.pool)?;
     it.routes = next;
     it.lines.push(line)?;
     Ok(())

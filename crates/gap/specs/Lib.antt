@@ -1,5 +1,6 @@
 pub mod Gap
 pub mod Told
+pub mod Timed
 pub mod Shares
 pub mod Laws
 pub mod Examples

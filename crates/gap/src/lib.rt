@@ -5,7 +5,7 @@
 //! (specs/Gap.antt). [`gap_line`] is the same where the least times are told already;
 //! [`gap_by_shares`] and [`gap_line_by_shares`] work in threads.
 //!
-//! In a thread the labels of up to eight destinations are there at once; beside them it takes 40
+//! In a thread the labels of up to eight destinations are there at once; beside them it takes 44
 //! bytes for each vehicle.
 #![tactic(auto)]
 
@@ -13,8 +13,10 @@ mod laws;
 mod line;
 mod measure;
 mod shares;
+mod timed_trips;
 mod walked;
 
 pub use laws::gap_lines_are_determined;
 pub use line::GapLine;
 pub use measure::{gap, gap_by_shares, gap_line, gap_line_by_shares};
+pub use timed_trips::TimedTrips;

@@ -5,14 +5,15 @@ ghost use Rattle.dta_model.specs.Sound.{AreTrips};
 ghost use Rattle.dta_model.specs.Sound.{AreWalks};
 ghost use Rattle.link_times.specs.TimeTables.{IsShort};
 ghost use Rattle.gap.specs.Gap.{IsGapLine, has_route, over_vehicles, ppm_of};
-ghost use Rattle.gap.specs.Gap.{route_time, steps_of};
-ghost use Rattle.gap.specs.Shares.{IsMeasure};
+ghost use Rattle.gap.specs.Gap.{steps_of};
+ghost use Rattle.gap.specs.Shares.{AreRoutes, steps_over};
 ghost use Rattle.gap.specs.Told.{asks_for, least_at, least_in};
 ghost use Rattle.net_core.specs.declared.rows.LinkNo.{LinkNo as LinkOf};
 ghost use Rattle.time_routes.specs.Destinations.{AreTold, LeastOf};
 
 use crate::line::GapLine;
 use crate::shares::route_steps_by_shares;
+use crate::timed_trips::TimedTrips;
 use crate::walked::time_of;
 use dta_model::{MOST_TRIPS, Route, Routes, Trip};
 use link_times::LinkTimes;
@@ -41,23 +42,21 @@ fn route_steps(net: &Net, times: &LinkTimes, trip: &Trip, route: &Option<Route>)
 
 /// The steps of the routes of the vehicles from one up to another, summed.
 pub(crate) fn steps_between(
-    net: &Net,
-    times: &LinkTimes,
-    trips: &[Trip],
+    timed: &TimedTrips,
     routes: &[Option<Route>],
     from: usize,
     to: usize,
 ) -> u128
-    requires measure { IsMeasure net.now times.now trips.now routes.now }
+    requires routes { AreRoutes timed.now routes.now }
     requires from { from ≤ to }
-    requires to { to ≤ length trips.now }
-    ensures is { over_vehicles from (route_time (time_at times.now) net.now trips.now routes.now)
-        + result ≡ over_vehicles to (route_time (time_at times.now) net.now trips.now routes.now) }
-    ensures low { result ≤ length trips.now * 2 ^ 82 }
+    requires to { to ≤ length timed.now.trips.now }
+    ensures is { over_vehicles from (steps_over timed.now routes.now) + result
+        ≡ over_vehicles to (steps_over timed.now routes.now) }
+    ensures low { result ≤ length timed.now.trips.now * 2 ^ 82 }
 {
     let mut total: u128 = 0;
     for v in from..to {
-        total += route_steps(net, times, &trips[v], &routes[v]);
+        total += route_steps(timed.net, timed.times, &timed.trips[v], &routes[v]);
     }
     total
 }
@@ -97,15 +96,23 @@ fn ppm(gap: u128, least: u128) -> u128
     }
 }
 
-// The line of a gap, by the two sums.
-fn line_of(route_steps: u128, least_steps: u128) -> GapLine
-    requires above { least_steps ≤ route_steps }
+// The line of a gap, by the steps of the routes and the least times that are told.
+fn line_of(
+    timed: &TimedTrips,
+    routes: &[Option<Route>],
+    told: &[Option<u64>],
+    route_steps: u128,
+) -> GapLine
+    requires routes { AreRoutes timed.now routes.now }
+    requires told { AreTold (LeastOf (time_at timed.now.times.now) timed.now.net.now)
+        (has_route routes.now) timed.now.trips.now told.now }
+    requires steps { route_steps ≡ over_vehicles (length timed.now.trips.now)
+        (steps_over timed.now routes.now) }
     requires low { route_steps < 2 ^ 108 }
-    ensures routes { result.route_steps ≡ route_steps }
-    ensures leasts { result.least_steps ≡ least_steps }
-    ensures gap { least_steps + result.gap_steps ≡ route_steps }
-    ensures per_million { result.ppm ≡ ppm_of result.gap_steps least_steps }
+    ensures { IsGapLine (time_at timed.now.times.now) timed.now.net.now timed.now.trips.now
+        routes.now result }
 {
+    let least_steps = all_least_steps(routes, told);
     let gap_steps = route_steps - least_steps;
     GapLine {
         route_steps,
@@ -117,51 +124,37 @@ fn line_of(route_steps: u128, least_steps: u128) -> GapLine
 
 /// The line of the gap of routes over a table, where the least times of the vehicles that have
 /// routes are told. It takes no memory.
-pub fn gap_line(
-    net: &Net,
-    times: &LinkTimes,
-    trips: &[Trip],
-    routes: &Routes,
-    told: &[Option<u64>],
-) -> GapLine
-    requires table { length times.now.free ≡ length net.now.links }
-    requires short { IsShort times.now }
-    requires few { length trips.now ≤ MOST_TRIPS }
-    requires each { length routes.now ≡ length trips.now }
-    requires walks { AreWalks net.now trips.now routes.now }
-    requires told { AreTold (LeastOf (time_at times.now) net.now) (has_route routes.now) trips.now
-        told.now }
-    ensures { IsGapLine (time_at times.now) net.now trips.now routes.now result }
+pub fn gap_line(timed: &TimedTrips, routes: &Routes, told: &[Option<u64>]) -> GapLine
+    requires routes { AreRoutes timed.now routes.now }
+    requires told { AreTold (LeastOf (time_at timed.now.times.now) timed.now.net.now)
+        (has_route routes.now) timed.now.trips.now told.now }
+    ensures { IsGapLine (time_at timed.now.times.now) timed.now.net.now timed.now.trips.now
+        routes.now result }
 {
     let routes = routes.as_slice();
-    let route_steps = steps_between(net, times, trips, routes, 0, trips.len());
-    line_of(route_steps, all_least_steps(routes, told))
+    let route_steps = steps_between(timed, routes, 0, timed.trips.len());
+    line_of(timed, routes, told, route_steps)
 }
 
 /// The same as [`gap_line`], with the routes walked by shares of the vehicles side by side: at
 /// most four, and at most as many as there are workers.
 pub fn gap_line_by_shares<R: AllocGlobal + Threads + Sync>(
     rt: &R,
-    net: &Net,
-    times: &LinkTimes,
-    trips: &[Trip],
+    timed: &TimedTrips,
     routes: &Routes,
     told: &[Option<u64>],
     workers: u32,
 ) -> Result<GapLine, Memory>
-    requires table { length times.now.free ≡ length net.now.links }
-    requires short { IsShort times.now }
-    requires few { length trips.now ≤ MOST_TRIPS }
-    requires each { length routes.now ≡ length trips.now }
-    requires walks { AreWalks net.now trips.now routes.now }
-    requires told { AreTold (LeastOf (time_at times.now) net.now) (has_route routes.now) trips.now
-        told.now }
+    requires routes { AreRoutes timed.now routes.now }
+    requires told { AreTold (LeastOf (time_at timed.now.times.now) timed.now.net.now)
+        (has_route routes.now) timed.now.trips.now told.now }
     requires workers { 1 ≤ workers }
-    ensures { IfOk result (IsGapLine (time_at times.now) net.now trips.now routes.now) }
+    ensures { IfOk result (IsGapLine (time_at timed.now.times.now) timed.now.net.now
+        timed.now.trips.now routes.now) }
 {
     let routes = routes.as_slice();
-    let route_steps = route_steps_by_shares(rt, net, times, trips, routes, workers)?;
-    Ok(line_of(route_steps, all_least_steps(routes, told)))
+    let route_steps = route_steps_by_shares(rt, timed, routes, workers)?;
+    Ok(line_of(timed, routes, told, route_steps))
 }
 
 // What is asked for a gap: the least times of the vehicles that have routes.
@@ -196,7 +189,7 @@ pub fn gap(
 {
     let asks = asks_of(alloc, routes.as_slice())?;
     let told = tell(alloc, net, times, trips, &asks)?;
-    Ok(gap_line(net, times, trips, routes, &told.leasts))
+    Ok(gap_line(&TimedTrips { net, times, trips }, routes, &told.leasts))
 }
 
 /// The same as [`gap`], by shares of the destinations side by side, at most as many as the pool
@@ -218,6 +211,7 @@ pub fn gap_by_shares<R: AllocGlobal + Threads + Sync>(
 {
     let asks = asks_of(rt.alloc(), routes.as_slice())?;
     let told = tell_by_shares(rt, net, times, trips, &asks, pool)?;
-    let line = gap_line_by_shares(rt, net, times, trips, routes, &told.leasts, pool.workers())?;
+    let timed = TimedTrips { net, times, trips };
+    let line = gap_line_by_shares(rt, &timed, routes, &told.leasts, pool.workers())?;
     Ok(line)
 }

@@ -1,42 +1,28 @@
 // The steps of all routes, summed by shares of the vehicles side by side.
 ghost use Rattle.std.specs.Prelude.{◌≡◌, ℕ, ◌+◌, ◌*◌, ◌<◌, ◌≤◌, ◌^◌, length, min, sum, All, IfOk};
-ghost use Rattle.dta_model.specs.LinkTimes.{time_at};
-ghost use Rattle.gap.specs.Gap.{over_vehicles, route_time};
-ghost use Rattle.gap.specs.Shares.{cut_at, IsMeasure, IsPart};
+ghost use Rattle.gap.specs.Gap.{over_vehicles};
+ghost use Rattle.gap.specs.Shares.{AreRoutes, IsPart, steps_over};
 ghost use Rattle.time_routes.specs.declared.shares.TheConstants.{MOST_SHARES};
 
 use crate::measure::steps_between;
-use dta_model::{Route, Trip};
-use link_times::LinkTimes;
-use net_core::{Memory, Net};
+use crate::timed_trips::TimedTrips;
+use dta_model::Route;
+use net_core::Memory;
 use std::thread;
 use std::thread::Threads;
 use time_routes::MOST_SHARES;
 
-// Where a share begins, and the one before ends.
-fn cut(size: usize, count: usize, share: usize) -> usize
-    ensures { result ≡ cut_at size count share }
-{
-    share.saturating_mul(size).min(count)
-}
-
 // The steps of the routes of a share, summed.
-fn share_steps(
-    net: &Net,
-    times: &LinkTimes,
-    trips: &[Trip],
-    routes: &[Option<Route>],
-    size: usize,
-    share: usize,
-) -> u128
-    requires measure { IsMeasure net.now times.now trips.now routes.now }
+fn share_steps(timed: &TimedTrips, routes: &[Option<Route>], size: usize, share: usize) -> u128
+    requires routes { AreRoutes timed.now routes.now }
     requires share { share < MOST_SHARES }
-    ensures { IsPart (route_time (time_at times.now) net.now trips.now routes.now) size
-        (length trips.now) share result }
+    ensures { IsPart (steps_over timed.now routes.now) size (length timed.now.trips.now) share
+        result }
 {
-    let from = cut(size, trips.len(), share);
-    let to = cut(size, trips.len(), share + 1);
-    steps_between(net, times, trips, routes, from, to)
+    let count = timed.trips.len();
+    let from = share.saturating_mul(size).min(count);
+    let to = (share + 1).saturating_mul(size).min(count);
+    steps_between(timed, routes, from, to)
 }
 
 // The sum of a few parts.
@@ -56,25 +42,23 @@ fn sum_of(parts: &[u128]) -> u128
 /// most as many as there are workers.
 pub(crate) fn route_steps_by_shares<R: AllocGlobal + Threads + Sync>(
     rt: &R,
-    net: &Net,
-    times: &LinkTimes,
-    trips: &[Trip],
+    timed: &TimedTrips,
     routes: &[Option<Route>],
     workers: u32,
 ) -> Result<u128, Memory>
-    requires measure { IsMeasure net.now times.now trips.now routes.now }
+    requires routes { AreRoutes timed.now routes.now }
     requires workers { 1 ≤ workers }
-    ensures is { IfOk result (λ total. total ≡ over_vehicles (length trips.now)
-        (route_time (time_at times.now) net.now trips.now routes.now)) }
+    ensures is { IfOk result (λ total. total ≡ over_vehicles (length timed.now.trips.now)
+        (steps_over timed.now routes.now)) }
     ensures low { IfOk result (λ total. total < 2 ^ 106) }
 {
     let shares = workers.min(MOST_SHARES) as usize;
-    let size = trips.len().div_ceil(shares);
+    let size = timed.trips.len().div_ceil(shares);
     let part = |share: usize| -> u128
-        requires { IsMeasure net.now times.now trips.now routes.now × (share < MOST_SHARES) }
-        ensures { IsPart (route_time (time_at times.entry.now) net.entry.now trips.entry.now
-            routes.entry.now) size (length trips.entry.now) share result }
-    { share_steps(net, times, trips, routes, size, share) };
+        requires { AreRoutes timed.now routes.now × (share < MOST_SHARES) }
+        ensures { IsPart (steps_over timed.entry.now routes.entry.now) size
+            (length timed.entry.now.trips.now) share result }
+    { share_steps(timed, routes, size, share) };
     let parts = thread::map_indices(rt, rt.alloc(), shares, &part)?;
     Ok(sum_of(&parts))
 }

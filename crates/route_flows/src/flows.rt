@@ -4,8 +4,8 @@ ghost use Rattle.dta_model.specs.LinkTimes.{free_table, time_at};
 ghost use Rattle.dta_model.specs.Sound.{AreTrips};
 ghost use Rattle.dta_model.specs.declared.loading.TheConstants.{MOST_HORIZON};
 ghost use Rattle.dta_model.specs.Sound.{AreWalks};
-ghost use Rattle.link_times.specs.TimeTables.{IsShort};
 ghost use Rattle.gap.specs.Gap.{IsGapLine};
+ghost use Rattle.gap.specs.Shares.{AreRoutes};
 ghost use Rattle.route_flows.specs.Averages.{AreChosenRoutes, AreFirstRoutes, AreNextRoutes};
 ghost use Rattle.route_flows.specs.Averages.{AreStartedBy, AreStartedRoutes};
 ghost use Rattle.route_flows.specs.declared.selection.TheConstants.{MOST_ITERATION};
@@ -14,7 +14,7 @@ use crate::kept::{copies, fill_in, renew_selected};
 use crate::selection::{all_walks, asks_of, rest_of};
 use crate::starts::start_walks;
 use dta_model::{Routes, Trip};
-use gap::{GapLine, gap_line_by_shares};
+use gap::{GapLine, TimedTrips, gap_line_by_shares};
 use link_times::LinkTimes;
 use net_core::{Memory, Net};
 use start_table::StartRows;
@@ -148,28 +148,31 @@ pub fn next_routes<R: AllocGlobal + Threads + Sync>(
 /// are filled in the pool's memory, by its workers.
 pub fn gap_and_next_routes<R: AllocGlobal + Threads + Sync>(
     rt: &R,
-    net: &Net,
-    trips: &[Trip],
-    times: &LinkTimes,
+    timed: &TimedTrips,
     routes: Routes,
     k: u32,
     pool: &TablePool,
 ) -> Result<(GapLine, Routes), Memory>
-    requires table { length times.now.free ≡ length net.now.links }
-    requires short { IsShort times.now }
-    requires trips { AreTrips trips.now }
-    requires each { length routes ≡ length trips.now }
-    requires walks { AreWalks net.now trips.now routes }
+    requires trips { AreTrips timed.now.trips.now }
+    requires routes { AreRoutes timed.now routes }
     requires k_least { 1 ≤ k }
     requires k_most { k ≤ MOST_ITERATION }
-    ensures gap { IfOk result (λ r. IsGapLine (time_at times.now) net.now trips.now routes r.0) }
-    ensures next { IfOk result (λ r. AreNextRoutes (time_at times.now) net.now trips.now k routes
-        r.1) }
-    ensures walks { IfOk result (λ r. AreWalks net.now trips.now r.1) }
+    ensures gap { IfOk result (λ r. IsGapLine (time_at timed.now.times.now) timed.now.net.now
+        timed.now.trips.now routes r.0) }
+    ensures next { IfOk result (λ r. AreNextRoutes (time_at timed.now.times.now) timed.now.net.now
+        timed.now.trips.now k routes r.1) }
+    ensures walks { IfOk result (λ r. AreWalks timed.now.net.now timed.now.trips.now r.1) }
 {
     let asks = asks_of(rt.alloc(), routes.as_slice(), true, k)?;
-    let Told { leasts, mut walks } = tell_by_shares(rt, net, times, trips, &asks, pool)?;
-    let line = gap_line_by_shares(rt, net, times, trips, &routes, &leasts, pool.workers())?;
+    let Told { leasts, mut walks } = tell_by_shares(
+        rt,
+        timed.net,
+        timed.times,
+        timed.trips,
+        &asks,
+        pool,
+    )?;
+    let line = gap_line_by_shares(rt, timed, &routes, &leasts, pool.workers())?;
     let mut next = routes.into_vec();
     renew_selected(&mut walks, k, &mut next);
     Ok((line, Routes::of(next)))

@@ -1,13 +1,16 @@
 -- Answers of vehicles, and how they are put in their places.
-use Rattle.std.proofs.Common.{◌≡◌, ◌⊎◌, inl, inr, ℕ, zero, suc, ◌+◌, ◌-◌, ◌*◌, ◌≤◌, Bool, true, false, cond, List, [], ◌∷◌, ◌++◌, length, refl, sym, ◌∙◌, subst, arith, Some, set, take, drop}
+use Rattle.std.proofs.Common.{◌≡◌, ◌⊎◌, inl, inr, ℕ, zero, suc, ◌+◌, ◌-◌, ◌*◌, ◌≤◌, Bool, true, false, cond, List, [], ◌∷◌, ◌++◌, length, refl, sym, ◌∙◌, subst, ap, arith, Some, set, take, drop}
 use Rattle.std.specs.Prelude.{slice_get}
 use Rattle.std.specs.Fork.{slice_chunk}
-use Rattle.std.proofs.lemmas.List.{length-set}
+use Rattle.std.specs.List.{slice_range}
+use Rattle.std.proofs.lemmas.List.{length-drop, length-set, take_all}
 use Rattle.std.proofs.lemmas.List.Elements.{All-push}
 use Rattle.net_core.specs.declared.rows.NetRows.{NetRows}
 use Rattle.net_core.specs.declared.rows.ZoneNo.{ZoneNo}
+use Rattle.dta_model.specs.LinkTimes.{TimeTable}
 use Rattle.dta_model.specs.declared.trip.Trip.{Trip}
-use Rattle.time_routes.specs.Destinations.{asks_least, asks_walk, IsRight, LeastOf, WalkOf}
+use Rattle.labels.specs.ToZone.{AreOfFirst, ToZones, zone_numbers}
+use Rattle.time_routes.specs.Destinations.{asked_least, asked_walk, asks_least, asks_walk, IsRight, LeastOf, WalkOf}
 use Rattle.time_routes.specs.Answers.{answered, AnswersMore, AreAnswers, IsAnswer}
 use Rattle.time_routes.specs.Tell.{LeadsToFirst, Settles, Stands, Tells}
 use Rattle.time_routes.specs.declared.answers.Answer.{Answer}
@@ -87,14 +90,16 @@ chunk_more net trips asks named size share v s =
 pub in_all : (net : NetRows) (trips : List Trip) (asks : List Ask) (named : List ZoneNo) (count : ℕ) (v : ℕ) → length named ≤ count → LeadsToFirst net trips asks named (length named) v → LeadsToFirst net trips asks named count v
 in_all net trips asks named count v h s = let low = s.2 in (s.0, s.1, omega (arith, low, h), s.3, s.4)
 
-pub put_told : (at : ℕ → ℕ → ℕ) (net : NetRows) (trips : List Trip) (asks : List Ask) (answer : Answer) (old new : Told) → IsAnswer at net trips asks answer
-    → new.leasts.items ≡ cond (asks_least asks answer.vehicle) (set old.leasts.items answer.vehicle answer.least) old.leasts.items
-    → new.walks.items ≡ cond (asks_walk asks answer.vehicle) (set old.walks.items answer.vehicle answer.walk) old.walks.items
+pub put_told : (at : ℕ → ℕ → ℕ) (net : NetRows) (trips : List Trip) (asks : List Ask) (answer : Answer) (ask : Ask) (old new : Told) → IsAnswer at net trips asks answer → slice_get asks answer.vehicle ≡ Some ask
+    → new.leasts.items ≡ cond ask.least (set old.leasts.items answer.vehicle answer.least) old.leasts.items
+    → new.walks.items ≡ cond ask.walk (set old.walks.items answer.vehicle answer.walk) old.walks.items
     → Tells at net trips asks (λ v. v ≡ answer.vehicle) old new
-put_told at net trips asks answer old new right leasts walks = record {
-  leasts = subst (λ l. Settles (asks_least asks) (IsRight (LeastOf at net) (asks_least asks) trips) (λ v. v ≡ answer.vehicle) old.leasts.items l) (sym leasts)
+put_told at net trips asks answer ask old new right there leasts walks = record {
+  leasts = subst (λ l. Settles (asks_least asks) (IsRight (LeastOf at net) (asks_least asks) trips) (λ v. v ≡ answer.vehicle) old.leasts.items l)
+      (ap (λ o. cond (asked_least o) (set old.leasts.items answer.vehicle answer.least) old.leasts.items) there ∙ sym leasts)
       (settles_asked (LeastOf at net) (asks_least asks) trips answer.vehicle old.leasts.items answer.least right.least);
-  walks = subst (λ l. Settles (asks_walk asks) (IsRight (WalkOf at net) (asks_walk asks) trips) (λ v. v ≡ answer.vehicle) old.walks.items l) (sym walks)
+  walks = subst (λ l. Settles (asks_walk asks) (IsRight (WalkOf at net) (asks_walk asks) trips) (λ v. v ≡ answer.vehicle) old.walks.items l)
+      (ap (λ o. cond (asked_walk o) (set old.walks.items answer.vehicle answer.walk) old.walks.items) there ∙ sym walks)
       (settles_asked (WalkOf at net) (asks_walk asks) trips answer.vehicle old.walks.items answer.walk right.walk);
 }
 
@@ -106,3 +111,22 @@ put_long false xs v x = refl
 pub told_by : (at : ℕ → ℕ → ℕ) (net : NetRows) (trips : List Trip) (asks : List Ask) (Now : ℕ → Type 0) (answers : List Answer) (old new : Told) → AreAnswers at net trips asks Now answers
     → Tells at net trips asks (Stands (answered answers)) old new → Tells at net trips asks Now old new
 told_by at net trips asks Now answers old new are put = tells_fewer at net trips asks (Stands (answered answers)) Now old new put are.each
+
+-- ---- labels of the first of some zones
+-- zones from a place on, of which there are labels of the first
+pub first_from : (net : NetRows) (times : TimeTable) (zones : List ZoneNo) (first : ℕ) (group : ToZones) → first ≤ length zones
+    → AreOfFirst net times (slice_range zones first (length zones)) group → group.zones ≡ zone_numbers (slice_range zones first (first + length group.zones))
+first_from net times zones first group low of =
+    let rest : take (length zones - first) (drop first zones) ≡ drop first zones = take_all (length zones - first) (drop first zones) (let n = length-drop first zones in omega (arith, n)) in
+    let many : length group.zones ≡ first + length group.zones - first = omega arith in
+    of.first ∙ ap (λ zs. zone_numbers (take (length group.zones) zs)) rest ∙ ap (λ k. zone_numbers (take k (drop first zones))) many
+
+-- no more zones than there are from a place on
+pub first_few : (net : NetRows) (times : TimeTable) (zones : List ZoneNo) (first : ℕ) (group : ToZones) → first ≤ length zones
+    → AreOfFirst net times (slice_range zones first (length zones)) group → first + length group.zones ≤ length zones
+first_few net times zones first group low of =
+    let rest : take (length zones - first) (drop first zones) ≡ drop first zones = take_all (length zones - first) (drop first zones) (let n = length-drop first zones in omega (arith, n)) in
+    let n = length-drop first zones in
+    let many = ap (λ (zs : List ZoneNo). length zs) rest in
+    let few = of.few in
+    omega (arith, few, many, n, low)

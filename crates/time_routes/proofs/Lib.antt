@@ -1,4 +1,2 @@
 pub mod TellFacts
-pub mod FirstFacts
 pub mod AnswerFacts
-pub mod AllTold

@@ -2,24 +2,25 @@
 use Rattle.std.proofs.Common.{◌≡◌, ◌≢◌, ◌⊎◌, inl, inr, ℕ, zero, suc, ◌+◌, ◌-◌, ◌<◌, ◌≤◌, Bool, true, false, cond, List, [], ◌∷◌, ◌++◌, length, refl, ap, sym, ◌∙◌, subst, arith, rules, Option, Some, None, get_or, nat_eq, set, take, drop}
 use Rattle.std.specs.Prelude.{◌||◌, All, filter, option_and_then, replicate, slice_get}
 use Rattle.std.specs.List.{slice_range}
-use Rattle.std.proofs.lemmas.List.{length-set, length-replicate}
+use Rattle.std.proofs.lemmas.List.{get_or-map, length-set, length-replicate}
 use Rattle.std.proofs.lemmas.Option.{slice_get-get_or, slice_get_within, get_or_from_slice_get}
 use Rattle.std.proofs.lemmas.Bool.{cases_lt}
 use Rattle.std.proofs.lemmas.List.Elements.{All-push, All-weaker}
 use Rattle.net_core.specs.AreListed.{AreListed}
-use Rattle.net_core.specs.Network.{as_zone, link_at, numbers_below, zone_number, zones}
+use Rattle.net_core.specs.Network.{link_at, numbers_below, zone_number, zones}
 use Rattle.net_core.specs.declared.rows.LinkNo.{LinkNo}
 use Rattle.net_core.specs.declared.rows.NetRows.{NetRows}
 use Rattle.net_core.specs.declared.rows.NodeRow.{NodeRow}
 use Rattle.net_core.specs.declared.rows.ZoneNo.{ZoneNo}
 use Rattle.dta_model.specs.Least.{HaveNoWalk}
+use Rattle.dta_model.specs.LinkTimes.{TimeTable}
 use Rattle.dta_model.specs.Walks.{begins_in, ends_in, is_zone, zone_at}
 use Rattle.dta_model.specs.declared.trip.Trip.{Trip}
-use Rattle.time_routes.specs.Destinations.{asks_least, asks_walk, AreTold, IsRight, LeastOf, UnaskedAreNone, WalkOf}
-use Rattle.time_routes.specs.Tell.{LeadsTo, LeadsToFirst, noted, Settles, Stands, StandsBefore, Tells, wanted, wanted_in, wanted_zone}
+use Rattle.time_routes.specs.Destinations.{asks_least, asks_walk, AreTold, IsAllTold, IsRight, LeastOf, UnaskedAreNone, WalkOf}
+use Rattle.time_routes.specs.Tell.{LeadsTo, LeadsToFirst, noted, origins_of, Settles, Stands, StandsBefore, Tells, wanted, wanted_in, wanted_zone}
 use Rattle.labels.specs.Named.{zone_named}
 use Rattle.labels.specs.States.Onwards.{zone_or_none}
-use Rattle.labels.specs.ToZone.{zone_numbers}
+use Rattle.labels.specs.ToZone.{ToZones, zone_numbers}
 use Rattle.labels.specs.declared.states.zone_numbers.TheConstants.{NO_ZONE}
 use Rattle.time_routes.specs.declared.vehicles.Ask.{Ask}
 use Rattle.time_routes.specs.declared.vehicles.Told.{Told}
@@ -60,10 +61,6 @@ to_nowhere net o d none (l ∷ walk) w =
     no_node net (link_at net (r.1)).to.0 d none (w.ends (r.0) (r.1) (r.2) ∙ same_true (suc (r.0)) (length (l ∷ walk)) (r.3))
 
 -- ---- zones by numbers
-pub number_of : (o : Option ℕ) (zone : ZoneNo) → Some zone ≡ as_zone o → o ≡ Some zone.0
-number_of None zone h = cc
-number_of (Some n) zone h = let same : zone ≡ record { 0 = n } = some_same zone (record { 0 = n }) h in ap (λ z. Some z.0) (sym same)
-
 pub apart_of : (net : NetRows) (o d a b : ℕ) → zone_number net o ≡ Some a → zone_number net d ≡ Some b → o ≢ d → a ≢ b
 apart_of net o d a b ha hb other same =
     other (sym ((named net o a ha).0) ∙ ap (λ z. zone_named net z) same ∙ (named net d b hb).0)
@@ -74,10 +71,20 @@ pub told_between : (T : NetRows → ℕ → ℕ → Type 0) (mine net : NetRows)
 told_between T mine net o d a b same ha hb told =
     subst (λ e. T net o e) ((named net d b hb).0) (subst (λ e. T net e (zone_named net b)) ((named net o a ha).0) (subst (λ n. T n (zone_named n a) (zone_named n b)) same told))
 
--- ---- the zone that a vehicle goes to
-zone_is : (o : Option ℕ) (z : ℕ) → z < NO_ZONE → zone_or_none o ≡ z → o ≡ Some z
-zone_is None z small h = absurd (omega (arith, small, h))
-zone_is (Some n) z small h = ap Some h
+-- ---- the zones of a vehicle
+pub begins_at : (net : NetRows) (trips : List Trip) (origins : List ℕ) (v n : ℕ) (d : Trip) → origins ≡ origins_of net trips → v < length trips → n ≡ get_or origins v n → n ≡ zone_or_none (zone_number net (get_or trips v d).origin)
+begins_at net trips origins v n d are h is = is ∙ ap (λ l. get_or l v n) are ∙ get_or-map (λ trip. zone_or_none (zone_number net trip.origin)) trips v d n h
+
+pub number_is : (o : Option ℕ) (n : ℕ) → n ≡ zone_or_none o → n ≢ NO_ZONE → o ≡ Some n
+number_is None n is other = absurd (other is)
+number_is (Some z) n is other = ap Some (sym is)
+
+pub nowhere_of : (net : NetRows) (o d : ℕ) → length (zones net.nodes) ≤ NO_ZONE → NO_ZONE ≡ zone_or_none (zone_number net o) → HaveNoWalk net o d
+nowhere_of net o d few h = from_nowhere net o d ((zone-absent net.nodes o).0 (by (zone_number net o) refl))
+  where
+    by : (x : Option ℕ) → zone_number net o ≡ x → x ≡ None
+    by None e = refl
+    by (Some z) e = let is : NO_ZONE ≡ z = h ∙ ap zone_or_none e in let small = (named net o z e).1 in absurd (omega (arith, is, small, few))
 
 pub leads : (net : NetRows) (trips : List Trip) (asks : List Ask) (zone v : ℕ) (trip : Trip) → LeadsTo net trips asks zone v → slice_get trips v ≡ Some trip → zone_number net trip.destination ≡ Some zone
 leads net trips asks zone v trip to there = by (slice_get asks v) (subst (λ t. wanted_in net t (slice_get asks v) ≡ zone) there to.to)
@@ -86,7 +93,7 @@ leads net trips asks zone v trip to there = by (slice_get asks v) (subst (λ t. 
     small = to.number
 
     asked : (b : Bool) → cond b (zone_or_none (zone_number net trip.destination)) NO_ZONE ≡ zone → zone_number net trip.destination ≡ Some zone
-    asked true h = zone_is (zone_number net trip.destination) zone small h
+    asked true h = number_is (zone_number net trip.destination) zone (sym h) (λ e. omega (arith, small, e))
     asked false h = absurd (omega (arith, small, h))
 
     by : (o : Option Ask) → wanted_in net (Some trip) o ≡ zone → zone_number net trip.destination ≡ Some zone
@@ -159,6 +166,16 @@ module _ {X : Type 0} (asked : ℕ → Bool) (Right : ℕ → X → Type 0) wher
 -- ---- one vehicle
 pub right_of : {X : Type 0} (T : Trip → X → Type 0) (asks : ℕ → Bool) (trips : List Trip) (v : ℕ) (trip : Trip) (x : X) → slice_get trips v ≡ Some trip → T trip x → IsRight T asks trips v x
 right_of T asks trips v trip x there told other asked h = subst (λ t. T t x) (some_same trip other (sym there ∙ h)) told
+
+-- what is told between two zones, of a vehicle that goes from one to the other
+pub right_between : {X : Type 0} (T : TimeTable → NetRows → ℕ → ℕ → ℕ → X → Type 0) (asked : ℕ → Bool) (is : Bool) (group : ToZones) (net : NetRows) (times : TimeTable) (trips : List Trip) (v from to : ℕ) (trip : Trip) (x : X)
+    → asked v ≡ is → group.net ≡ net → group.times ≡ times → slice_get trips v ≡ Some trip → zone_number net trip.origin ≡ Some from → zone_number net trip.destination ≡ Some to
+    → (is ≡ true → T group.times group.net (zone_named group.net from) (zone_named group.net to) trip.departure x)
+    → IsRight (λ t y. T times net t.origin t.destination t.departure y) asked trips v x
+right_between T asked is group net times trips v from to trip x asks same_net same_times there begins ends told other a h =
+    subst (λ t. T times net t.origin t.destination t.departure x) (some_same trip other (sym there ∙ h))
+    (subst (λ t. T t net trip.origin trip.destination trip.departure x) same_times
+    (told_between (λ m o d. T group.times m o d trip.departure x) group.net net trip.origin trip.destination from to same_net begins ends (told (sym asks ∙ a))))
 
 -- ---- some vehicles after others
 module _ (at : ℕ → ℕ → ℕ) (net : NetRows) (trips : List Trip) (asks : List Ask) where
@@ -363,3 +380,17 @@ unasked_none asked Right Now count start new is s v x other there =
     let long : length new ≡ count = s.as_many ∙ ap length is ∙ length-replicate count None in
     let small = slice_get_within new v x there in
     some_same x None (sym there ∙ s.unasked v other ∙ ap (λ l. slice_get l v) is ∙ one_of None count v (omega (arith, small, long)))
+
+-- all is told where nothing was told before, and all zones to which vehicles go were searched
+pub told_of_all : (at : ℕ → ℕ → ℕ) (net : NetRows) (trips : List Trip) (asks : List Ask) (lists : List (List ℕ)) (found : List ZoneNo) (none told : Told)
+    → AreListed lists (length (zones net.nodes)) (wanted_zone net trips asks) (numbers_below (length trips)) → length (zones net.nodes) ≤ NO_ZONE
+    → ((z : ℕ) → z < length (zones net.nodes) → get_or lists z [] ≢ [] → Stands (zone_numbers found) z)
+    → none.leasts.items ≡ replicate (length trips) None → none.walks.items ≡ replicate (length trips) None
+    → Tells at net trips asks (LeadsToFirst net trips asks found (length found)) none told → IsAllTold at net trips asks told
+told_of_all at net trips asks lists found none told grouped few each leasts walks tells =
+    let Now = LeadsToFirst net trips asks found (length found) in record {
+      leasts = all_told net trips asks lists grouped few found each (LeastOf at net) (asks_least asks) none.leasts.items told.leasts.items (λ trip h. h) (asks_some_least asks) leasts tells.leasts;
+      walks = all_told net trips asks lists grouped few found each (WalkOf at net) (asks_walk asks) none.walks.items told.walks.items (λ trip h. h) (asks_some_walk asks) walks tells.walks;
+      unasked_leasts = unasked_none (asks_least asks) (IsRight (LeastOf at net) (asks_least asks) trips) Now (length trips) none.leasts.items told.leasts.items leasts tells.leasts;
+      unasked_walks = unasked_none (asks_walk asks) (IsRight (WalkOf at net) (asks_walk asks) trips) Now (length trips) none.walks.items told.walks.items walks tells.walks;
+    }

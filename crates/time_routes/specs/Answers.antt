@@ -6,7 +6,7 @@ use Rattle.net_core.specs.declared.rows.NetRows.{NetRows}
 use Rattle.dta_model.specs.LinkTimes.{TimeTable}
 use Rattle.dta_model.specs.declared.trip.Trip.{Trip}
 use Rattle.time_routes.specs.Destinations.{asks_least, asks_walk, IsRight, LeastOf, WalkOf}
-use Rattle.time_routes.specs.Tell.{Stands, wanted_zone}
+use Rattle.time_routes.specs.Tell.{origins_of, Stands, wanted_zone}
 use Rattle.time_routes.specs.declared.answers.Answer.{Answer}
 use Rattle.time_routes.specs.declared.vehicles.Ask.{Ask}
 use Rattle.labels.specs.declared.states.zone_numbers.TheConstants.{NO_ZONE}
@@ -36,11 +36,13 @@ pub record AnswersMore (at : ℕ → ℕ → ℕ) (net : NetRows) (trips : List 
   pub made : (v : ℕ) → Now v → Stands (answered new) v
 
 -- what serves a search for answers: a table of the network's links, and vehicles by where they go
+-- and where they begin
 pub record IsSearch (net : NetRows) (times : TimeTable) (trips : List Trip) (asks : List Ask)
-    (lists : List (List ℕ)) : Type 0 where
+    (lists : List (List ℕ)) (origins : List ℕ) : Type 0 where
   pub table : length times.free ≡ length net.links
   pub apart : All (λ trip. trip.origin ≢ trip.destination) trips
   pub each : length asks ≡ length trips
   pub grouped : AreListed lists (length (zones net.nodes)) (wanted_zone net trips asks)
       (numbers_below (length trips))
   pub numbers : length (zones net.nodes) ≤ NO_ZONE
+  pub begins : origins ≡ origins_of net trips

@@ -6,6 +6,7 @@ use Rattle.net_core.specs.declared.rows.NetRows.{NetRows}
 use Rattle.dta_model.specs.declared.trip.Trip.{Trip}
 use Rattle.labels.specs.ToZone.{TellsLeast, TellsWalk}
 use Rattle.time_routes.specs.declared.vehicles.Ask.{Ask}
+use Rattle.time_routes.specs.declared.vehicles.Told.{Told}
 
 -- whether the least time of a vehicle is asked for, and whether its walk is
 abbrev pub asked_least : Option Ask → Bool
@@ -44,3 +45,11 @@ pub record AreTold {X : Type 0} (Tells : Trip → X → Type 0) (asks : ℕ → 
 abbrev pub UnaskedAreNone : {X : Type 0} → (ℕ → Bool) → List (Option X) → Type 0
 UnaskedAreNone {X} asks told = (v : ℕ) (x : Option X) → asks v ≡ false → slice_get told v ≡ Some x
     → x ≡ None
+
+-- all that is asked of vehicles is told, and nothing else
+pub record IsAllTold (at : ℕ → ℕ → ℕ) (net : NetRows) (trips : List Trip) (asks : List Ask)
+    (told : Told) : Type 0 where
+  pub leasts : AreTold (LeastOf at net) (asks_least asks) trips told.leasts.items
+  pub walks : AreTold (WalkOf at net) (asks_walk asks) trips told.walks.items
+  pub unasked_leasts : UnaskedAreNone (asks_least asks) told.leasts.items
+  pub unasked_walks : UnaskedAreNone (asks_walk asks) told.walks.items

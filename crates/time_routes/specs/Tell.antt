@@ -1,6 +1,6 @@
 -- How what is told of vehicles grows, zone by zone.
 use Rattle.std.specs.Prelude.{◌≡◌, ℕ, ◌<◌, ◌||◌, Bool, false, cond, List, [], ◌∷◌, ◌++◌, length}
-use Rattle.std.specs.Prelude.{Option, None, Some, slice_get}
+use Rattle.std.specs.Prelude.{Option, None, Some, map, slice_get}
 use Rattle.net_core.specs.Network.{zone_number}
 use Rattle.net_core.specs.declared.rows.NetRows.{NetRows}
 use Rattle.net_core.specs.declared.rows.ZoneNo.{ZoneNo}
@@ -9,6 +9,7 @@ use Rattle.time_routes.specs.Destinations.{asks_least, asks_walk, IsRight, Least
 use Rattle.labels.specs.States.Onwards.{zone_or_none}
 use Rattle.time_routes.specs.declared.vehicles.Ask.{Ask}
 use Rattle.time_routes.specs.declared.vehicles.Told.{Told}
+use Rattle.time_routes.specs.declared.zone_memo.NamedZone.{NamedZone}
 use Rattle.labels.specs.declared.states.zone_numbers.TheConstants.{NO_ZONE}
 
 -- what was right stays so, and of some vehicles more it becomes so; what isn't asked stays as it
@@ -28,6 +29,14 @@ pub record Tells (at : ℕ → ℕ → ℕ) (net : NetRows) (trips : List Trip) 
       old.leasts.items new.leasts.items
   pub walks : Settles (asks_walk asks) (IsRight (WalkOf at net) (asks_walk asks) trips) Now
       old.walks.items new.walks.items
+
+-- the number of a zone is that of its name
+abbrev pub IsNamed : NetRows → NamedZone → Type 0
+IsNamed net zone = zone.number ≡ zone_or_none (zone_number net zone.name)
+
+-- the numbers of the zones in which trips begin
+abbrev pub origins_of : NetRows → List Trip → List ℕ
+origins_of net trips = map (λ trip. zone_or_none (zone_number net trip.origin)) trips
 
 -- the number of the zone to which a trip leads, or the one that stands for none where nothing is
 -- asked of its vehicle

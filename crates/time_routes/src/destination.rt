@@ -1,13 +1,15 @@
 // Vehicles that go to one zone, and their answers.
-ghost use Rattle.std.specs.Prelude.{◌≡◌, ◌<◌, length, slice_index, All, IfOk, OnOk};
+ghost use Rattle.std.specs.Prelude.{◌≡◌, ◌≢◌, ◌<◌, length, slice_index, true, All, IfOk, OnOk};
+ghost use Rattle.net_core.specs.Network.{zones};
 ghost use Rattle.dta_model.specs.LinkTimes.{time_at};
-ghost use Rattle.time_routes.specs.Destinations.{asks_least, asks_walk, IsRight, LeastOf, WalkOf};
+ghost use Rattle.labels.specs.Named.{zone_named};
+ghost use Rattle.labels.specs.ToZone.{destination, TellsLeast, TellsWalk};
 
 use crate::answers::Answer;
 use crate::search::Search;
 use dta_model::Route;
-use labels::GroupLabels;
-use net_core::{LinkNo, Memory};
+use labels::{GroupLabels, NO_ZONE};
+use net_core::{LinkNo, Memory, ZoneNo};
 use std::alloc::Global;
 
 /// The zone at a place of a group, to which vehicles of a search go.
@@ -25,46 +27,40 @@ impl<'a> Destination<'a> {
     ghost use Rattle.time_routes.specs.Searches.{Answers, GoesTo, IsRightAnswer};
     ghost use Rattle.time_routes.specs.Tell.{Stands};
 
-    // The least time of a vehicle that goes there, if it is asked.
-    fn least_answered(&self, vehicle: u32) -> Option<u64>
-        requires { GoesTo self.now.search.now (slice_index self.now.labels.now.zones self.now.place)
-            vehicle }
-        ensures { IsRight (LeastOf (time_at self.now.search.now.times.now)
-            self.now.search.now.net.now) (asks_least self.now.search.now.asks.now)
-            self.now.search.now.trips.now vehicle result }
+    // The least time from a zone, if it is asked.
+    fn least_if(&self, asked: bool, origin: ZoneNo, step: u32) -> Option<u64>
+        requires origin { origin.0 < length (zones self.now.labels.now.net.nodes) }
+        requires other { origin.0 ≢ slice_index self.now.labels.now.zones self.now.place }
+        ensures { asked ≡ true → TellsLeast (time_at self.now.labels.now.times)
+            self.now.labels.now.net (zone_named self.now.labels.now.net origin.0)
+            (destination self.now.labels.now self.now.place) step result }
     {
-        if !self.search.asks[vehicle as usize].least {
-            return None;
-        }
-        let trip = &self.search.trips[vehicle as usize];
-        match self.search.net.zone_number(trip.origin) {
-            Some(origin) => self.labels.least(self.place, origin, trip.departure),
-            None => None,
+        if asked {
+            self.labels.least(self.place, origin, step)
+        } else {
+            None
         }
     }
 
-    // The chosen walk of a vehicle that goes there, if it is asked.
-    fn walk_answered(
+    // The chosen walk from a zone, if it is asked.
+    fn walk_if(
         &self,
         alloc: Global,
         links: &mut Vec<LinkNo>,
-        vehicle: u32,
+        asked: bool,
+        origin: ZoneNo,
+        step: u32,
     ) -> Result<Option<Route>, Memory>
-        requires { GoesTo self.now.search.now (slice_index self.now.labels.now.zones self.now.place)
-            vehicle }
-        ensures { IfOk result (λ walk. IsRight (WalkOf (time_at self.now.search.now.times.now)
-            self.now.search.now.net.now) (asks_walk self.now.search.now.asks.now)
-            self.now.search.now.trips.now vehicle walk) }
+        requires origin { origin.0 < length (zones self.now.labels.now.net.nodes) }
+        requires other { origin.0 ≢ slice_index self.now.labels.now.zones self.now.place }
+        ensures { IfOk result (λ walk. asked ≡ true → TellsWalk (time_at self.now.labels.now.times)
+            self.now.labels.now.net (zone_named self.now.labels.now.net origin.0)
+            (destination self.now.labels.now self.now.place) step walk) }
     {
-        if !self.search.asks[vehicle as usize].walk {
-            return Ok(None);
-        }
-        let trip = &self.search.trips[vehicle as usize];
-        match self.search.net.zone_number(trip.origin) {
-            Some(origin) => self
-                .labels
-                .walk_in(alloc, links, self.place, origin, trip.departure),
-            None => Ok(None),
+        if asked {
+            self.labels.walk_in(alloc, links, self.place, origin, step)
+        } else {
+            Ok(None)
         }
     }
 
@@ -80,8 +76,19 @@ impl<'a> Destination<'a> {
         ensures of { IfOk result (λ answer. answer.vehicle ≡ vehicle) }
         ensures right { IfOk result (IsRightAnswer self.now.search.now) }
     {
-        let least = self.least_answered(vehicle);
-        let walk = self.walk_answered(alloc, links, vehicle)?;
+        let from = self.search.origins[vehicle as usize];
+        if from == NO_ZONE {
+            return Ok(Answer {
+                vehicle,
+                least: None,
+                walk: None,
+            });
+        }
+        let origin = ZoneNo(from);
+        let step = self.search.trips[vehicle as usize].departure;
+        let ask = self.search.asks[vehicle as usize];
+        let least = self.least_if(ask.least, origin, step);
+        let walk = self.walk_if(alloc, links, ask.walk, origin, step)?;
         Ok(Answer {
             vehicle,
             least,

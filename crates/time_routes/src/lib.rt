@@ -14,6 +14,7 @@ mod search;
 mod shares;
 mod table_pool;
 mod vehicles;
+mod zone_memo;
 
 pub use labels::{GroupLabels, Labels, MOST_GROUP};
 pub use shares::MOST_SHARES;

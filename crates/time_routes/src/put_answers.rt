@@ -7,32 +7,15 @@ ghost use Rattle.time_routes.specs.Tell.{AreAsMany, Stands};
 
 use crate::answers::Answer;
 use crate::search::Search;
-use crate::vehicles::{Ask, Told};
-use dta_model::Route;
+use crate::vehicles::Told;
 
-// Puts the least time of a vehicle in its place, if it was asked.
-fn put_least(asks: &[Ask], vehicle: u32, least: Option<u64>, leasts: &mut Vec<Option<u64>>)
-    requires vehicle { vehicle < length asks.now }
-    requires each { length leasts.old.items ≡ length asks.now }
-    ensures { leasts.new.items ≡ cond (asks_least asks.now vehicle)
-        (slice_set leasts.old.items vehicle least) leasts.old.items }
+// Puts what is told of a vehicle in its place, if it was asked.
+fn put_if<T: Drop>(asked: bool, vehicle: u32, told: T, all: &mut Vec<T>)
+    requires { vehicle < length all.old.items }
+    ensures { all.new.items ≡ cond asked (slice_set all.old.items vehicle told) all.old.items }
 {
-    let v = vehicle as usize;
-    if asks[v].least {
-        leasts[v] = least;
-    }
-}
-
-// Puts the chosen walk of a vehicle in its place, if it was asked.
-fn put_walk(asks: &[Ask], vehicle: u32, walk: Option<Route>, walks: &mut Vec<Option<Route>>)
-    requires vehicle { vehicle < length asks.now }
-    requires each { length walks.old.items ≡ length asks.now }
-    ensures { walks.new.items ≡ cond (asks_walk asks.now vehicle)
-        (slice_set walks.old.items vehicle walk) walks.old.items }
-{
-    let v = vehicle as usize;
-    if asks[v].walk {
-        walks[v] = walk;
+    if asked {
+        all[vehicle as usize] = told;
     }
 }
 
@@ -48,8 +31,9 @@ fn put(search: &Search, answer: Answer, told: &mut Told)
         least,
         walk,
     } = answer;
-    put_least(search.asks, vehicle, least, &mut told.leasts);
-    put_walk(search.asks, vehicle, walk, &mut told.walks);
+    let ask = search.asks[vehicle as usize];
+    put_if(ask.least, vehicle, least, &mut told.leasts);
+    put_if(ask.walk, vehicle, walk, &mut told.walks);
 }
 
 /// Puts right answers in the places of their vehicles, in what is asked of each.

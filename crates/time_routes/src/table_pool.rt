@@ -42,9 +42,9 @@ impl TablePool {
         self.workers
     }
 
-    // Puts memory in the place of a share, and takes what was there. Where there is no such place
-    // it comes back.
-    fn swap(&self, share: usize, spare: Spare) -> Spare {
+    /// Puts memory in the place of a share, and takes what was there. Where there is no such place
+    /// it comes back.
+    pub(crate) fn swap(&self, share: usize, spare: Spare) -> Spare {
         match self.places.get(share) {
             Some(place) => match place.try_lock() {
                 Some(mut there) => mem::replace(&mut *there, spare),
@@ -57,11 +57,6 @@ impl TablePool {
     /// Takes the memory of a share.
     pub(crate) fn take(&self, share: usize) -> Spare {
         self.swap(share, Spare::none(self.alloc))
-    }
-
-    /// Keeps memory for the share of the next call.
-    pub(crate) fn keep(&self, share: usize, spare: Spare) {
-        drop(self.swap(share, spare));
     }
 
     /// Gives the memory back of the shares that come after so many.

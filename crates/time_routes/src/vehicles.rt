@@ -2,8 +2,7 @@
 ghost use Rattle.std.specs.Prelude.{◌≡◌, ◌<◌, ◌≤◌, length, replicate, All, None, IfOk, OnOk};
 ghost use Rattle.dta_model.specs.LinkTimes.{time_at};
 ghost use Rattle.dta_model.specs.Sound.{AreTrips};
-ghost use Rattle.time_routes.specs.Destinations.{asks_least, asks_walk, AreTold, LeastOf};
-ghost use Rattle.time_routes.specs.Destinations.{UnaskedAreNone, WalkOf};
+ghost use Rattle.time_routes.specs.Destinations.{IsAllTold};
 ghost use Rattle.time_routes.specs.Groups.{IsOfGroup};
 ghost use Rattle.time_routes.specs.Searches.{GoesToAny, TellsMore};
 ghost use Rattle.time_routes.specs.Tell.{AreAsMany};
@@ -11,7 +10,7 @@ ghost use Rattle.time_routes.specs.declared.shares.TheConstants.{MOST_SHARES};
 
 use crate::groups::{GroupAnswers, Groups};
 use crate::put_answers::put_answers;
-use crate::search::{Search, by_destination};
+use crate::search::{Search, by_zones};
 use crate::shares::{MOST_SHARES, share_count};
 use crate::table_pool::TablePool;
 use dta_model::{Route, Trip};
@@ -78,7 +77,7 @@ fn tell_shares<R: AllocGlobal + Threads + Sync>(
         ensures { IfOk result (λ taken. All (IsOfGroup groups.entry.now) taken.items) }
     {
         let (taken, spare) = groups.answers_of_share(alloc, &next, pool.take(share))?;
-        pool.keep(share, spare);
+        drop(pool.swap(share, spare));
         Ok(taken)
     };
     let worked = thread::map_indices(rt, alloc, shares.min(count), &work)?;
@@ -103,22 +102,16 @@ pub fn tell(
     requires table { length times.now.free ≡ length net.now.links }
     requires trips { AreTrips trips.now }
     requires each { length asks.now ≡ length trips.now }
-    ensures leasts { IfOk result (λ told. AreTold (LeastOf (time_at times.now) net.now)
-        (asks_least asks.now) trips.now told.leasts.items) }
-    ensures walks { IfOk result (λ told. AreTold (WalkOf (time_at times.now) net.now)
-        (asks_walk asks.now) trips.now told.walks.items) }
-    ensures unasked_leasts { IfOk result (λ told. UnaskedAreNone (asks_least asks.now)
-        told.leasts.items) }
-    ensures unasked_walks { IfOk result (λ told. UnaskedAreNone (asks_walk asks.now)
-        told.walks.items) }
+    ensures { IfOk result (IsAllTold (time_at times.now) net.now trips.now asks.now) }
 {
-    let lists = by_destination(alloc, net, trips, asks)?;
+    let (lists, origins) = by_zones(alloc, net, trips, asks)?;
     let search = Search {
         net,
         times,
         trips,
         asks,
         lists,
+        origins,
     };
     let zones = search.zones(alloc)?;
     let (answers, _) = search.answers_to(alloc, &zones, Spare::none(alloc))?;
@@ -142,23 +135,17 @@ pub fn tell_by_shares<R: AllocGlobal + Threads + Sync>(
     requires table { length times.now.free ≡ length net.now.links }
     requires trips { AreTrips trips.now }
     requires each { length asks.now ≡ length trips.now }
-    ensures leasts { IfOk result (λ told. AreTold (LeastOf (time_at times.now) net.now)
-        (asks_least asks.now) trips.now told.leasts.items) }
-    ensures walks { IfOk result (λ told. AreTold (WalkOf (time_at times.now) net.now)
-        (asks_walk asks.now) trips.now told.walks.items) }
-    ensures unasked_leasts { IfOk result (λ told. UnaskedAreNone (asks_least asks.now)
-        told.leasts.items) }
-    ensures unasked_walks { IfOk result (λ told. UnaskedAreNone (asks_walk asks.now)
-        told.walks.items) }
+    ensures { IfOk result (IsAllTold (time_at times.now) net.now trips.now asks.now) }
 {
     let alloc = rt.alloc();
-    let lists = by_destination(alloc, net, trips, asks)?;
+    let (lists, origins) = by_zones(alloc, net, trips, asks)?;
     let search = Search {
         net,
         times,
         trips,
         asks,
         lists,
+        origins,
     };
     let zones = search.zones(alloc)?;
     let shares = share_count(alloc, net, times, pool.workers())? as usize;

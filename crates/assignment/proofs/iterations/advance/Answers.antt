@@ -1,16 +1,19 @@
-use Rattle.std.proofs.Common.{rules}
+use Rattle.std.proofs.Common.{rules, ap, length, ◌∙◌}
 use Rattle.assignment.specs.Lent.{settings_in, traffic_in}
 use Rattle.assignment.proofs.AssignmentFacts.{has-next, table-links, walks-too}
 use Rattle.assignment.proofs.iterations.advance.Goals as goal
 
-pub gap_and_next_routes-requires-clause-table : goal.gap_and_next_routes-requires-clause-table
-gap_and_next_routes-requires-clause-table g c κs within =
+pub invariant_of-timed : goal.invariant_of-timed
+invariant_of-timed g c =
     let a = c.args.assignment.now in
-    table-links (settings_in a) (traffic_in a) c.args.it.now.routes c.in_ok-times.times c.in_ok-times.ensures.times
+    let table = table-links (settings_in a) (traffic_in a) c.args.it.now.routes c.in_ok-times.times c.in_ok-times.ensures.times in
+    record { are = record { table = table; short = c.in_ok-times.ensures.short; few = c.requires.is.traffic.trips.in_order.few } }
 
-pub gap_and_next_routes-requires-clause-walks : goal.gap_and_next_routes-requires-clause-walks
-gap_and_next_routes-requires-clause-walks g c κs within =
-    walks-too c.args.assignment.now.net.now c.args.assignment.now.trips.now c.replace-old.result c.args.it.now.routes (search rules) c.requires.routes.walks
+pub gap_and_next_routes-requires-clause-routes : goal.gap_and_next_routes-requires-clause-routes
+gap_and_next_routes-requires-clause-routes g c κs within = record {
+  each = ap length c.replace-old.ensures.value ∙ c.requires.routes.each;
+  walks = walks-too c.args.assignment.now.net.now c.args.assignment.now.trips.now c.replace-old.result c.args.it.now.routes c.replace-old.ensures.value c.requires.routes.walks;
+}
 
 pub returns : goal.returns
 returns g c =

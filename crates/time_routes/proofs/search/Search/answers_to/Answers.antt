@@ -6,8 +6,7 @@ use Rattle.dta_model.specs.LinkTimes.{time_at}
 use Rattle.time_routes.specs.Tell.{LeadsToFirst}
 use Rattle.labels.specs.ToZone.{zone_numbers}
 use Rattle.labels.proofs.Basics.{All_range}
-use Rattle.time_routes.proofs.AnswerFacts.{answers_then}
-use Rattle.time_routes.proofs.FirstFacts.{first_few, first_from}
+use Rattle.time_routes.proofs.AnswerFacts.{answers_then, first_few, first_from}
 use Rattle.time_routes.proofs.TellFacts.{group_more}
 use Rattle.time_routes.proofs.search.Search.answers_to.Goals as goal
 
