@@ -3,12 +3,11 @@ use Rattle.std.proofs.Common.{◌≡◌, ◌+◌, ◌-◌, List, [], ◌∷◌, 
 use Rattle.std.specs.Prelude.{Some, slice_get}
 use Rattle.desk_io.specs.Desk.{Taken}
 use Rattle.dta_words.specs.declared.command.Command.{Command}
-use Rattle.dta_words.specs.declared.command.Command.TheVariants as command
 use Rattle.dta_words.specs.declared.command.Settings.{Settings}
 use Rattle.assignment.specs.Assignment.{Traffic}
 use Rattle.jobs.specs.Inputs.{Assigns}
 use Rattle.jobs.specs.Jobs.{JobRows, traffic_of}
-use Rattle.commands.specs.Works.{AreTexts, AreTextsSoFar, AreWatchedSoFar, CommandWork, Works, assignment_work, work_of}
+use Rattle.commands.specs.Works.{AreTexts, AreTextsSoFar, AreWatchedSoFar, CommandWork, Works, assignment_work, work_by, work_of}
 use Rattle.commands.specs.Outputs.{AreAssigned, AreWatched, IsCutOff, OutText, grown_by, last_texts}
 use Rattle.assign_command.specs.Progress.{Halts, IsAssigned}
 use Rattle.assign_command.specs.declared.halt.Halt.{Halt}
@@ -24,13 +23,7 @@ get-seam (x ∷ xs) y = get-seam xs y
 
 -- the work of a command that assigns
 pub assigned-work : (c : Command) → Assigns c → work_of c ≡ assignment_work
-assigned-work command.Freeflow assigns = absurd assigns
-assigned-work command.Assign assigns = refl
-assigned-work (command.Demo n) assigns = refl
-assigned-work command.Skim assigns = absurd assigns
-assigned-work command.Counts assigns = refl
-assigned-work command.Sweep assigns = absurd assigns
-assigned-work command.Audit assigns = absurd assigns
+assigned-work c assigns = ap work_by assigns
 
 module _ (c : Command) (s : Settings) (job : JobRows) (texts : List OutText) (loads : Assigns c) where
   is-work : assignment_work ≡ work_of c

@@ -3,7 +3,6 @@ use Rattle.std.proofs.Common.{◌≡◌, ℕ, zero, suc, ◌+◌, ◌≤◌, Boo
 use Rattle.std.specs.Prelude.{Result, Ok, Err}
 use Rattle.dta_model.specs.Units.{unit_count}
 use Rattle.dta_words.specs.declared.command.Command.{Command}
-use Rattle.dta_words.specs.declared.command.Command.TheVariants as command
 use Rattle.dta_words.specs.declared.command.Settings.{Settings}
 use Rattle.loader.specs.Gates.{GateState, Numbers, numbers_by, taking}
 use Rattle.assignment.specs.Assignment.{Traffic, VehicleRoutes, plan_of}
@@ -97,22 +96,8 @@ module _ (s : Settings) (job : JobRows) (gate now : GateState) where
       work-all-own loads (subst (λ (t : Traffic). now ≡ taking_all (by_workers s.plain s.iterations) (numbers_in s t) gate) over
       (subst (λ (z : Settings). now ≡ taking_all (by_workers z.plain z.iterations) (numbers_in z traffic) gate) same took))
 
-  pub free-none : s.command ≡ command.Freeflow → now ≡ gate → now ≡ taking_all (receipts_in s.command s) (numbers_in s (traffic_of job)) gate
-  free-none asks same = rw asks same
-
-  pub took-none : now ≡ gate → TookAtMost (receipts_in s.command s) (numbers_in s (traffic_of job)) gate now
-  took-none same = (0, omega arith, same)
-
--- a command that assigns nothing gives none, however it ends
-pub none-given : (c : Command) (s : Settings) → receipts_in c s ≡ 0 → s.command ≡ c → (job : JobRows) (answer : Status) (gate : GateState)
+-- work without loadings by workers gives none, however it ends
+pub none-given : (s : Settings) (job : JobRows) (answer : Status) (gate : GateState) → receipts_in s.command s ≡ 0
     → WorkGives s job answer gate gate
-none-given c s none asks job status.Done gate =
-    let zero_in : receipts_in s.command s ≡ 0 = ap (λ (x : Command). receipts_in x s) asks ∙ none in
-    ap (λ (n : ℕ). taking_all n (numbers_in s (traffic_of job)) gate) (sym zero_in)
-none-given c s none asks job status.Usage gate = took-none s job gate gate refl
-none-given c s none asks job status.Table gate = took-none s job gate gate refl
-none-given c s none asks job status.ReadFault gate = took-none s job gate gate refl
-none-given c s none asks job status.WriteFault gate = took-none s job gate gate refl
-none-given c s none asks job status.Memory gate = took-none s job gate gate refl
-none-given c s none asks job status.Size gate = took-none s job gate gate refl
-none-given c s none asks job status.Differs gate = took-none s job gate gate refl
+none-given s job status.Done gate none = ap (λ (n : ℕ). taking_all n (numbers_in s (traffic_of job)) gate) (sym none)
+none-given s job answer gate none = (0, omega arith, refl)

@@ -15,7 +15,7 @@ use Rattle.assignment.proofs.Determined.{RouteLaws, by-same-times, same-lines, s
 use Rattle.reports.specs.declared.summary.Summary.{Summary}
 use Rattle.commands.specs.Laws.{TextsInAnyOrder}
 use Rattle.commands.specs.Orders.{AreNodeOrders, NodeOrders, counts_by, end_by, journeys_by, summary_by, times_by, told_by, trace_by, watched_by}
-use Rattle.commands.specs.Outputs.{AreToldSteps, AreWatchLines, AreWatchTexts, OutText, Told, asked_link, but_watch, counts_out, end_lines, is_watch, last_texts, text_to, texts_told, through_asked, told_of, watch_text}
+use Rattle.commands.specs.Outputs.{AreToldSteps, AreWatchLines, AreWatchTexts, LastLoading, OutText, asked_link, but_watch, counts_out, end_lines, is_watch, last_texts, text_to, texts_told, through_asked, told_of, watch_text}
 use Rattle.counts.specs.Text.{counts_text}
 use Rattle.counts.specs.Through.{through_counts, through_counts_in}
 use Rattle.counts.specs.Turns.{turn_counts}
@@ -112,7 +112,7 @@ texts_in_any_order laws s traffic order all xs ys a b =
     routes (a.with_gaps ∙ sym a.as_many) (a.with_gaps ∙ sym b.with_gaps) in
     let since : a.since ≡ b.since = same-since laws s traffic s.start a.since b.since a.since_told b.since_told in
     let last : texts_told s.command traffic a.last (told_by s traffic order a.last a.line) a.since a.lines ≡ last_texts s.command s traffic b.last b.since b.lines b.line =
-    ap (λ (t : Told). texts_told s.command traffic a.last t a.since a.lines) (told-same s traffic order all a.last a.line)
+    ap (λ (t : LastLoading). texts_told s.command traffic a.last t a.since a.lines) (told-same s traffic order all a.last a.line)
     ∙ lasts-by s traffic a.routes b.routes a.lines b.lines a.last b.last a.line b.line a.since b.since routes
     lines since a.last_routes b.last_routes a.last_line b.last_line in
     record {

@@ -4,10 +4,10 @@ use Rattle.std.specs.Prelude.{Option, None, Some, not, slice_get}
 use Rattle.std.proofs.lemmas.List.Elements.{filter-append}
 use Rattle.dta_model.specs.LinkTimes.{time_at}
 use Rattle.gap.specs.declared.line.GapLine.{GapLine}
-use Rattle.dta_words.specs.declared.command.Command.{Command}
 use Rattle.dta_words.specs.declared.command.Command.TheVariants as command
 use Rattle.dta_words.specs.declared.command.Settings.{Settings}
 use Rattle.assignment.specs.Assignment.{Traffic, VehicleRoutes, times_of}
+use Rattle.jobs.specs.Inputs.{Assigning, Auditing, Kind, Skimming, Sweeping, kind_of}
 use Rattle.jobs.specs.Jobs.{JobRows, traffic_of}
 use Rattle.commands.specs.Laws.{AreDetermined, ScenariosAreAlone, TextsAreDetermined, alone, scenario_texts}
 use Rattle.reports.specs.Texts.{agent_text_by}
@@ -18,7 +18,7 @@ use Rattle.sweep.specs.Laws.{Agree, ScenariosStandAlone}
 use Rattle.sweep.specs.Scenarios.{AreScenarios, HasTexts, traffic_at}
 use Rattle.sweep.specs.declared.scenario.Scenario.{Scenario}
 use Rattle.commands.specs.Outputs.{AreAssigned, AreSinceTold, AreToldSteps, AreWatchLines, AreWatchTexts, OutText, but_watch, is_watch, last_texts, skim_texts, sweep_texts, watch_text}
-use Rattle.commands.specs.Works.{AreTexts}
+use Rattle.commands.specs.Works.{work_by}
 use Rattle.skims.specs.GivenTimes.{table_given}
 use Rattle.skims.proofs.Determined.{skims_are_determined}
 
@@ -154,24 +154,22 @@ scenarios-same one s net cells (scale ∷ scales) (x ∷ xs) (y ∷ ys) h k =
     ap (λ (a : Scenario). a ∷ xs) (one s s net cells scale x y agree h.0 k.0)
     ∙ ap (λ (as' : List Scenario). y ∷ as') (scenarios-same one s net cells scales xs ys h.1 k.1)
 
-determined-by : RouteLaws → ScenariosStandAlone → (c : Command) (s : Settings) (job : JobRows) (xs ys : List OutText) → AreTexts c s job xs
-    → AreTexts c s job ys → AreDetermined s xs ys
-determined-by laws one command.Freeflow s job xs ys a b = both-free s xs ys (a ∙ sym b)
-determined-by laws one command.Assign s job xs ys a b = both-assigned laws s (traffic_of job) xs ys a b
-determined-by laws one (command.Demo n) s job xs ys a b = both-assigned laws s (traffic_of job) xs ys a b
-determined-by laws one command.Skim s job xs ys a b =
+determined-by : RouteLaws → ScenariosStandAlone → (k : Kind) (s : Settings) (job : JobRows) (xs ys : List OutText) → (work_by k).texts s job xs
+    → (work_by k).texts s job ys → AreDetermined s xs ys
+determined-by laws one Assigning s job xs ys a b = both-assigned laws s (traffic_of job) xs ys a b
+determined-by laws one Skimming s job xs ys a b =
     both-free s xs ys (a.texts_are
     ∙ ap (skim_texts job.net) (skims_are_determined (time_at (table_given job.net s.bucket s.horizon job.times)) job.net s.starts a.entries b.entries a.skim b.skim)
     ∙ sym b.texts_are)
-determined-by laws one command.Counts s job xs ys a b = both-assigned laws s (traffic_of job) xs ys a b
-determined-by laws one command.Sweep s job xs ys a b =
+determined-by laws one Sweeping s job xs ys a b =
     both-free s xs ys (a.texts_are
     ∙ ap sweep_texts (scenarios-same one s job.net job.demand_cells s.scales a.scenarios b.scenarios a.sweep b.sweep)
     ∙ sym b.texts_are)
-determined-by laws one command.Audit s job xs ys a b = both-free s xs ys (a.texts_are ∙ sym b.texts_are)
+determined-by laws one Auditing s job xs ys a b = both-free s xs ys (a.texts_are ∙ sym b.texts_are)
+determined-by laws one k s job xs ys a b = both-free s xs ys (a ∙ sym b)
 
 pub texts_are_determined : RouteLaws → ScenariosStandAlone → TextsAreDetermined
-texts_are_determined laws one s job xs ys a b = determined-by laws one s.command s job xs ys a b
+texts_are_determined laws one s job xs ys a b = determined-by laws one (kind_of s.command) s job xs ys a b
 
 -- ---- a scenario of a sweep, and the assignment over the demand times its scale
 

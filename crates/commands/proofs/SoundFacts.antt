@@ -9,8 +9,6 @@ use Rattle.dta_model.specs.declared.trip.Trip.{Trip}
 use Rattle.vehicle_release.specs.Limits.{IsWithin}
 use Rattle.vehicle_release.proofs.WholeFacts.{all_within, are_early, are_rising, are_trips}
 use Rattle.dta_words.specs.Ranges.{AreSettings}
-use Rattle.dta_words.specs.declared.command.Command.{Command}
-use Rattle.dta_words.specs.declared.command.Command.TheVariants as command
 use Rattle.dta_words.specs.declared.command.Settings.{Settings}
 use Rattle.audit.specs.Audit.{all_journey_checks, all_time_checks, loading_of, routes_named}
 use Rattle.audit.specs.declared.verdict.Verdict.TheVariants as verdict
@@ -21,8 +19,9 @@ use Rattle.assignment.specs.Traffic.{AreTripsBelow}
 use Rattle.assignment.proofs.SoundFacts.{sound-iterations, sound-loading}
 use Rattle.sweep.specs.Scales.{scaled, trips_at}
 use Rattle.sweep.specs.Scenarios.{traffic_at}
+use Rattle.jobs.specs.Inputs.{Assigning, Auditing, Kind, Sweeping, kind_of}
 use Rattle.jobs.specs.Jobs.{IsJob, JobRows, traffic_of}
-use Rattle.commands.specs.Works.{LoadsSoundly}
+use Rattle.commands.specs.Works.{LoadsSoundly, work_by}
 use Rattle.commands.specs.Outputs.{IsAudited, audit_plan}
 use Rattle.commands.proofs.WorkFacts.{all-at}
 
@@ -61,16 +60,16 @@ audit-sound s job settings good passes =
       bucket_least = settings.bucket.0;
     }) refl (yes_first before journeys (yes_first (before ++ journeys) times passes)) refl)
 
--- ---- all commands
+-- ---- all kinds of work
 
-pub loads-soundly : (c : Command) (s : Settings) (job : JobRows) → s.command ≡ c → AreSettings s → IsJob s job → LoadsSoundly c s job
-loads-soundly command.Freeflow s job asks settings good = tt
-loads-soundly command.Assign s job asks settings good = sound-iterations s (traffic_of job) settings good.net good.trips
-loads-soundly (command.Demo n) s job asks settings good = sound-iterations s (traffic_of job) settings good.net good.trips
-loads-soundly command.Skim s job asks settings good = tt
-loads-soundly command.Counts s job asks settings good = sound-iterations s (traffic_of job) settings good.net good.trips
-loads-soundly command.Sweep s job asks settings good = λ place scale at.
+by-kind : (k : Kind) (s : Settings) (job : JobRows) → kind_of s.command ≡ k → AreSettings s → IsJob s job → (work_by k).sound s job
+by-kind Assigning s job is settings good = sound-iterations s (traffic_of job) settings good.net good.trips
+by-kind Sweeping s job is settings good = λ place scale at.
     sound-iterations s (traffic_at s job.net job.demand_cells scale) settings good.net
     (trips-below s job.demand_cells scale settings
-    (all-at (λ (m : ℕ). IsWithin (scaled m job.demand_cells)) s.scales place scale (good.sweep asks).within at))
-loads-soundly command.Audit s job asks settings good = audit-sound s job settings good
+    (all-at (λ (m : ℕ). IsWithin (scaled m job.demand_cells)) s.scales place scale (good.sweep is).within at))
+by-kind Auditing s job is settings good = audit-sound s job settings good
+by-kind k s job is settings good = tt
+
+pub loads-soundly : (s : Settings) (job : JobRows) → AreSettings s → IsJob s job → LoadsSoundly s.command s job
+loads-soundly s job settings good = by-kind (kind_of s.command) s job refl settings good

@@ -1,5 +1,5 @@
 -- The work of a command, from what its parts say.
-use Rattle.std.proofs.Common.{◌≡◌, ℕ, zero, suc, ◌+◌, ◌<◌, List, [], ◌∷◌, length, refl, sym, ap, subst, arith, inl, inr, ◌∙◌}
+use Rattle.std.proofs.Common.{◌≡◌, ℕ, zero, suc, ◌+◌, ◌<◌, List, [], ◌∷◌, length, refl, sym, ap, subst, arith, inl, inr, ◌⊎◌, ◌∙◌}
 use Rattle.std.specs.Prelude.{All, None, Some, Result, Ok, Err, slice_get}
 use Rattle.std.proofs.lemmas.List.Elements.{All-head, All-tail}
 use Rattle.std.proofs.lemmas.Option.{slice_get_within}
@@ -17,8 +17,6 @@ use Rattle.sweep.specs.Scales.{AreAllWithin, IsFirstTooMany, scaled}
 use Rattle.sweep.specs.Scenarios.{AreScenarios}
 use Rattle.sweep.specs.Texts.{IsSweepCut, IsSweepOut}
 use Rattle.sweep.specs.declared.scenario.Scenario.{Scenario}
-use Rattle.dta_words.specs.declared.command.Command.{Command}
-use Rattle.dta_words.specs.declared.command.Command.TheVariants as command
 use Rattle.dta_words.specs.declared.command.Settings.{Settings}
 use Rattle.skims.specs.GivenTimes.{table_given}
 use Rattle.skims.specs.Skim.{IsSkim}
@@ -27,52 +25,57 @@ use Rattle.skims.specs.declared.skim_entry.SkimEntry.{SkimEntry}
 use Rattle.dta_model.specs.LinkTimes.{time_at}
 use Rattle.start_table.specs.Starts.{AreStartRows}
 use Rattle.assignment.specs.Assignment.{Traffic}
+use Rattle.jobs.specs.Inputs.{Assigning, Auditing, FreeFlow, Kind, Skimming, Sweeping, kind_of}
 use Rattle.jobs.specs.Jobs.{JobRows, traffic_of}
 use Rattle.desk_io.specs.State.{DeskState}
-use Rattle.commands.specs.Works.{AreTexts, AreTextsSoFar, AreWatchedSoFar, Works}
-use Rattle.commands.specs.Outputs.{AreAudited, AreSkimmed, AreSwept, AreWatched, IsAudited, audit_texts, free_texts, skim_texts, sweep_texts}
+use Rattle.commands.specs.Works.{Works, work_by}
+use Rattle.commands.specs.Outputs.{AreAudited, AreSkimmed, AreSwept, AreWatched, IsAudited, IsCutOff, OutText, audit_texts, free_texts, grown_by, skim_texts, sweep_texts}
 use Rattle.commands.specs.declared.status.Status.TheVariants as status
 
+-- the work of a kind, by texts that are its own
+module _ (s : Settings) (job : JobRows) (k : Kind) (is : kind_of s.command ≡ k) (texts : List OutText) (before after : Taken) where
+  all-put : (work_by k).texts s job texts → after ≡ grown_by texts before → Works s job status.Done before after
+  all-put own out = (texts, subst (λ (x : Kind). (work_by x).texts s job texts) (sym is) own, out)
+
+  some-put : (work_by k).so_far s job texts → IsCutOff texts before after → Works s job status.WriteFault before after
+  some-put own cut = (texts, subst (λ (x : Kind). (work_by x).so_far s job texts) (sym is) own, cut)
+
+-- the first or the second of two texts was cut off
+of-two : {A B : Type 0} → A ⊎ B → A ⊎ (B ⊎ ⊥)
+of-two (inl first) = inl first
+of-two (inr second) = inr (inl second)
+
 -- the work of `freeflow`
-module _ (s : Settings) (job : JobRows) (asks : s.command ≡ command.Freeflow) (before after : Taken) where
+module _ (s : Settings) (job : JobRows) (is : kind_of s.command ≡ FreeFlow) (before after : Taken) where
   pub free-done : IsFreeOut job.net before after → Works s job status.Done before after
-  free-done out = (free_texts job.net, subst (λ (c : Command). AreTexts c s job (free_texts job.net)) (sym asks) refl, out)
+  free-done out = all-put s job FreeFlow is (free_texts job.net) before after refl out
 
   pub free-cut : IsFreeCut job.net before after → Works s job status.WriteFault before after
-  free-cut (inl part) = (free_texts job.net, subst (λ (c : Command). AreTextsSoFar c s job (free_texts job.net)) (sym asks) refl, inl part)
-  free-cut (inr part) = (free_texts job.net, subst (λ (c : Command). AreTextsSoFar c s job (free_texts job.net)) (sym asks) refl, inr (inl part))
+  free-cut cut = some-put s job FreeFlow is (free_texts job.net) before after refl (of-two cut)
 
 -- the work of `skim`
-module _ (s : Settings) (job : JobRows) (asks : s.command ≡ command.Skim) (entries : List SkimEntry)
+module _ (s : Settings) (job : JobRows) (is : kind_of s.command ≡ Skimming) (entries : List SkimEntry)
     (skim : IsSkim (time_at (table_given job.net s.bucket s.horizon job.times)) job.net s.starts entries) (before after : Taken) where
   skimmed : AreSkimmed s job (skim_texts job.net entries)
   skimmed = record { entries = entries; skim = skim; texts_are = refl }
 
   pub skim-done : IsSkimOut job.net entries before after → Works s job status.Done before after
-  skim-done out =
-      (skim_texts job.net entries, subst (λ (c : Command). AreTexts c s job (skim_texts job.net entries)) (sym asks) skimmed, out)
+  skim-done out = all-put s job Skimming is (skim_texts job.net entries) before after skimmed out
 
   pub skim-cut : IsSkimCut job.net entries before after → Works s job status.WriteFault before after
-  skim-cut (inl part) =
-      (skim_texts job.net entries, subst (λ (c : Command). AreTextsSoFar c s job (skim_texts job.net entries)) (sym asks) skimmed, inl part)
-  skim-cut (inr part) =
-      (skim_texts job.net entries, subst (λ (c : Command). AreTextsSoFar c s job (skim_texts job.net entries)) (sym asks) skimmed, inr (inl part))
+  skim-cut cut = some-put s job Skimming is (skim_texts job.net entries) before after skimmed (of-two cut)
 
 -- the work of `sweep`
-module _ (s : Settings) (job : JobRows) (asks : s.command ≡ command.Sweep) (scenarios : List Scenario)
+module _ (s : Settings) (job : JobRows) (is : kind_of s.command ≡ Sweeping) (scenarios : List Scenario)
     (sweep : AreScenarios s job.net job.demand_cells s.scales scenarios) (before after : Taken) where
   swept : AreSwept s job (sweep_texts scenarios)
   swept = record { scenarios = scenarios; sweep = sweep; texts_are = refl }
 
   pub sweep-done : IsSweepOut scenarios before after → Works s job status.Done before after
-  sweep-done out =
-      (sweep_texts scenarios, subst (λ (c : Command). AreTexts c s job (sweep_texts scenarios)) (sym asks) swept, out)
+  sweep-done out = all-put s job Sweeping is (sweep_texts scenarios) before after swept out
 
   pub sweep-cut : IsSweepCut scenarios before after → Works s job status.WriteFault before after
-  sweep-cut (inl part) =
-      (sweep_texts scenarios, subst (λ (c : Command). AreTextsSoFar c s job (sweep_texts scenarios)) (sym asks) swept, inl part)
-  sweep-cut (inr part) =
-      (sweep_texts scenarios, subst (λ (c : Command). AreTextsSoFar c s job (sweep_texts scenarios)) (sym asks) swept, inr (inl part))
+  sweep-cut cut = some-put s job Sweeping is (sweep_texts scenarios) before after swept (of-two cut)
 
 -- what is so of all is so at a place
 pub all-at : {A : Type 0} (P : A → Type 0) (xs : List A) (i : ℕ) (x : A) → All P xs → slice_get xs i ≡ Some x → P x
@@ -93,27 +96,23 @@ none-too-many cells scales scenario line total within h =
     omega (arith, few, many, so_many)
 
 -- the work of `audit`
-module _ (s : Settings) (job : JobRows) (asks : s.command ≡ command.Audit) (before after : Taken) where
+module _ (s : Settings) (job : JobRows) (is : kind_of s.command ≡ Auditing) (before after : Taken) where
   audited : IsAudited s job verdict.Yes → AreAudited s job (audit_texts job)
   audited passes = record { passes = passes; texts_are = refl }
 
   pub audit-done : (net : NetRows) (vehicles : ℕ) → net ≡ job.net → vehicles ≡ length job.trips → IsAudited s job verdict.Yes
       → after ≡ grown output.Report (audit_text net vehicles None) before → Works s job status.Done before after
-  audit-done net vehicles over many passes out = (
-    audit_texts job,
-    subst (λ (c : Command). AreTexts c s job (audit_texts job)) (sym asks) (audited passes),
-    subst (λ (n : ℕ). after ≡ grown output.Report (audit_text job.net n None) before) many
-        (subst (λ (n : NetRows). after ≡ grown output.Report (audit_text n vehicles None) before) over out),
-  )
+  audit-done net vehicles over many passes out =
+      all-put s job Auditing is (audit_texts job) before after (audited passes)
+      (subst (λ (n : ℕ). after ≡ grown output.Report (audit_text job.net n None) before) many
+      (subst (λ (n : NetRows). after ≡ grown output.Report (audit_text n vehicles None) before) over out))
 
   pub audit-cut : (net : NetRows) (vehicles : ℕ) → net ≡ job.net → vehicles ≡ length job.trips → IsAudited s job verdict.Yes
       → IsPartOut output.Report (audit_text net vehicles None) before after → Works s job status.WriteFault before after
-  audit-cut net vehicles over many passes part = (
-    audit_texts job,
-    subst (λ (c : Command). AreTextsSoFar c s job (audit_texts job)) (sym asks) (audited passes),
-    inl (subst (λ (n : ℕ). IsPartOut output.Report (audit_text job.net n None) before after) many
-        (subst (λ (n : NetRows). IsPartOut output.Report (audit_text n vehicles None) before after) over part)),
-  )
+  audit-cut net vehicles over many passes part =
+      some-put s job Auditing is (audit_texts job) before after (audited passes)
+      (inl (subst (λ (n : ℕ). IsPartOut output.Report (audit_text job.net n None) before after) many
+      (subst (λ (n : NetRows). IsPartOut output.Report (audit_text n vehicles None) before after) over part)))
 
 -- the report of a difference is its line
 line-told : (net : NetRows) (vehicles : ℕ) (place : Place) → audit_text net vehicles (Some place) ≡ differs_line place
@@ -139,15 +138,10 @@ nothing-watched s traffic rows = record {
   watch_lines = refl;
 }
 
-nothing-so-far : (c : Command) (s : Settings) (job : JobRows) → AreStartRows job.start → AreWatchedSoFar c s job []
-nothing-so-far command.Freeflow s job rows = refl
-nothing-so-far command.Assign s job rows = nothing-watched s (traffic_of job) rows
-nothing-so-far (command.Demo n) s job rows = nothing-watched s (traffic_of job) rows
-nothing-so-far command.Skim s job rows = refl
-nothing-so-far command.Counts s job rows = nothing-watched s (traffic_of job) rows
-nothing-so-far command.Sweep s job rows = refl
-nothing-so-far command.Audit s job rows = refl
+nothing-so-far : (k : Kind) (s : Settings) (job : JobRows) → AreStartRows job.start → (work_by k).watched s job []
+nothing-so-far Assigning s job rows = nothing-watched s (traffic_of job) rows
+nothing-so-far k s job rows = refl
 
 -- nothing was put
 pub nothing-put : (s : Settings) (job : JobRows) (taken : Taken) → AreStartRows job.start → Works s job status.Memory taken taken
-nothing-put s job taken rows = ([], nothing-so-far s.command s job rows, refl)
+nothing-put s job taken rows = ([], nothing-so-far (kind_of s.command) s job rows, refl)

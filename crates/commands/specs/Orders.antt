@@ -15,7 +15,7 @@ use Rattle.assignment.specs.Assignment.{AreIterationsBy, Traffic, VehicleRoutes,
 use Rattle.assignment.specs.Assignment.{summary_of}
 use Rattle.counts.specs.Through.{through_counts_in}
 use Rattle.counts.specs.Turns.{turn_counts_in}
-use Rattle.commands.specs.Outputs.{AreSinceTold, OutText, Told, counts_out, end_lines, texts_told}
+use Rattle.commands.specs.Outputs.{AreSinceTold, LastLoading, OutText, counts_out, end_lines, texts_told}
 
 -- for the loading over each routes an order of the nodes, for each of its steps
 abbrev pub NodeOrders : Type 0
@@ -60,7 +60,7 @@ counts_by s traffic order routes =
     (λ link. through_counts_in loading link trace)
 
 -- what the texts after the last iteration tell of that loading
-abbrev pub told_by : Settings → Traffic → NodeOrders → VehicleRoutes → GapLine → Told
+abbrev pub told_by : Settings → Traffic → NodeOrders → VehicleRoutes → GapLine → LastLoading
 told_by s traffic order last line = record {
   journeys = journeys_by s traffic order last;
   times = times_by s traffic order last;

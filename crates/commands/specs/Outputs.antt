@@ -121,13 +121,13 @@ counts_out s traffic turns through =
     (through_asked through (asked_link traffic.net s.link)) s.bucket s.horizon)
 
 -- what the texts after the last iteration tell of its loading
-pub record Told : Type 0 where
+pub record LastLoading : Type 0 where
   pub journeys : List Journey
   pub times : TimeTable
   pub counts : OutText
   pub summary : Summary
 
-abbrev pub told_of : Settings → Traffic → VehicleRoutes → GapLine → Told
+abbrev pub told_of : Settings → Traffic → VehicleRoutes → GapLine → LastLoading
 told_of s traffic last line = record {
   journeys = journeys_of (plan_of s traffic last);
   times = times_of s traffic last;
@@ -139,7 +139,7 @@ told_of s traffic last line = record {
 -- Agent, LinkTime and Gap after the last iteration, Agent with the iterations of the routes where
 -- these are told
 abbrev pub table_texts :
-    Traffic → VehicleRoutes → Told → Option (List ℕ) → List GapLine → List OutText
+    Traffic → VehicleRoutes → LastLoading → Option (List ℕ) → List GapLine → List OutText
 table_texts traffic last told since lines =
     text_to output.Agent (agent_text_by traffic.net traffic.trips last told.journeys since)
     ∷ text_to output.LinkTime (link_time_text traffic.net told.times)
@@ -148,7 +148,7 @@ table_texts traffic last told since lines =
 -- what goes out after the last iteration, before the report: the tables of `assign`, the counts of
 -- `counts`, and nothing of another command
 abbrev pub texts_before_report :
-    Command → Traffic → VehicleRoutes → Told → Option (List ℕ) → List GapLine → List OutText
+    Command → Traffic → VehicleRoutes → LastLoading → Option (List ℕ) → List GapLine → List OutText
 texts_before_report command.Freeflow traffic last told since lines = []
 texts_before_report command.Assign traffic last told since lines =
     table_texts traffic last told since lines
@@ -159,7 +159,7 @@ texts_before_report command.Sweep traffic last told since lines = []
 texts_before_report command.Audit traffic last told since lines = []
 
 abbrev pub texts_told :
-    Command → Traffic → VehicleRoutes → Told → Option (List ℕ) → List GapLine → List OutText
+    Command → Traffic → VehicleRoutes → LastLoading → Option (List ℕ) → List GapLine → List OutText
 texts_told c traffic last told since lines =
     texts_before_report c traffic last told since lines
     ++ text_to output.Report (report_text told.summary) ∷ []

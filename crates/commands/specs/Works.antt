@@ -5,6 +5,7 @@ use Rattle.audit.specs.Audit.{loading_of}
 use Rattle.sweep.specs.Scenarios.{traffic_at}
 use Rattle.dta_words.specs.declared.command.Command.{Command}
 use Rattle.assignment.specs.Iterations.{AreSoundIterations, IsSoundLoading}
+use Rattle.jobs.specs.Inputs.{Assigning, Auditing, FreeFlow, Kind, Skimming, Sweeping, kind_of}
 use Rattle.jobs.specs.Jobs.{JobRows, traffic_of}
 use Rattle.commands.specs.Outputs.{AreAssigned, AreAudited, AreSkimmed, AreSwept, AreWatched}
 use Rattle.commands.specs.Outputs.{IsAudited, IsCutOff, OutText, audit_plan, free_texts, grown_by}
@@ -16,7 +17,6 @@ use Rattle.desk_io.specs.Transfers.{IsOut}
 use Rattle.audit.specs.declared.verdict.Verdict.TheVariants as verdict
 use Rattle.reports.specs.Texts.{differs_line}
 use Rattle.reports.specs.declared.audited.Place.{Place}
-use Rattle.dta_words.specs.declared.command.Command.TheVariants as command
 use Rattle.dta_words.specs.declared.command.Settings.{Settings}
 use Rattle.commands.specs.declared.status.Status.{Status}
 use Rattle.commands.specs.declared.status.Status.TheVariants as status
@@ -70,14 +70,15 @@ AuditsSoundly s job =
     IsAudited s job verdict.Yes
     → IsSoundLoading (loading_of job.net job.trips job.agents (audit_plan s))
 
+abbrev pub work_by : Kind → CommandWork
+work_by FreeFlow = unwatched_work (λ s job texts. texts ≡ free_texts job.net)
+work_by Assigning = assignment_work
+work_by Skimming = unwatched_work AreSkimmed
+work_by Sweeping = record (unwatched_work AreSwept) { sound = SweepsSoundly }
+work_by Auditing = record (unwatched_work AreAudited) { sound = AuditsSoundly }
+
 abbrev pub work_of : Command → CommandWork
-work_of command.Freeflow = unwatched_work (λ s job texts. texts ≡ free_texts job.net)
-work_of command.Assign = assignment_work
-work_of (command.Demo n) = assignment_work
-work_of command.Skim = unwatched_work AreSkimmed
-work_of command.Counts = assignment_work
-work_of command.Sweep = record (unwatched_work AreSwept) { sound = SweepsSoundly }
-work_of command.Audit = record (unwatched_work AreAudited) { sound = AuditsSoundly }
+work_of c = work_by (kind_of c)
 
 abbrev pub AreTexts : Command → Settings → JobRows → List OutText → Type 0
 AreTexts c s job texts = (work_of c).texts s job texts
@@ -98,7 +99,7 @@ PutsFailed before after = Rose before.put_faults after.put_faults
 -- an audit found a check that fails, and its place was put to Report alone, whole unless puts
 -- failed
 pub record IsDifferent (s : Settings) (job : JobRows) (before after : DeskState) : Type 0 where
-  pub asks : s.command ≡ command.Audit
+  pub is : kind_of s.command ≡ Auditing
   pub place : Place
   pub fails : IsAudited s job (verdict.No place.table place.line place.column)
   pub report : IsOut output.Report (differs_line place) before.taken after.taken before.put_faults

@@ -1,8 +1,8 @@
 // The work of `audit`: the verdict on an agent table and a table of link times.
 ghost use Rattle.std.specs.Prelude.{◌≡◌, IfOk};
 ghost use Rattle.dta_words.specs.Ranges.{AreSettings};
-ghost use Rattle.dta_words.specs.declared.command.Command.TheVariants as command;
 ghost use Rattle.commands.specs.Calls.{DoesWork};
+ghost use Rattle.jobs.specs.Inputs.{Auditing, kind_of};
 ghost use Rattle.jobs.specs.Jobs.{IsJob};
 ghost use Rattle.jobs.specs.Kinds.{audit_rows};
 ghost use Rattle.commands.specs.Outputs.{IsAudited};
@@ -19,7 +19,7 @@ use std::alloc::Global;
 fn verdict_of(alloc: Global, settings: &Settings, job: &AuditJob) -> Result<Verdict, Memory>
     requires settings { AreSettings settings.now }
     requires job { IsJob settings.now (audit_rows job.now) }
-    requires command { settings.now.command ≡ command.Audit }
+    requires kind { kind_of settings.now.command ≡ Auditing }
     ensures { IfOk result (IsAudited settings.now (audit_rows job.now)) }
 {
     let plan = Plan {
@@ -41,7 +41,7 @@ pub fn put_verdict<D: Desk>(
 ) -> Status
     requires settings { AreSettings settings.now }
     requires job { IsJob settings.now (audit_rows job.now) }
-    requires command { settings.now.command ≡ command.Audit }
+    requires kind { kind_of settings.now.command ≡ Auditing }
     ensures { DoesWork settings.now (audit_rows job.now)
         (D.state desk.old) (D.state desk.new) result }
 {

@@ -2,10 +2,10 @@
 ghost use Rattle.std.specs.Prelude.{◌≡◌, IfOk};
 ghost use Rattle.dta_model.specs.LinkTimes.{time_at};
 ghost use Rattle.dta_words.specs.Ranges.{AreSettings};
-ghost use Rattle.dta_words.specs.declared.command.Command.TheVariants as command;
 ghost use Rattle.skims.specs.GivenTimes.{table_given};
 ghost use Rattle.skims.specs.Skim.{IsSkim};
 ghost use Rattle.commands.specs.Calls.{DoesWork};
+ghost use Rattle.jobs.specs.Inputs.{Skimming, kind_of};
 ghost use Rattle.jobs.specs.Jobs.{IsJob};
 ghost use Rattle.jobs.specs.Kinds.{skim_rows};
 
@@ -20,7 +20,7 @@ use std::alloc::Global;
 fn least_times(alloc: Global, settings: &Settings, job: &SkimJob) -> Result<Skim, Memory>
     requires settings { AreSettings settings.now }
     requires job { IsJob settings.now (skim_rows job.now) }
-    requires command { settings.now.command ≡ command.Skim }
+    requires kind { kind_of settings.now.command ≡ Skimming }
     ensures { IfOk result (IsSkim (time_at (table_given job.now.net settings.now.bucket
         settings.now.horizon job.now.times)) job.now.net settings.now.starts) }
 {
@@ -43,7 +43,7 @@ pub fn put_least_times<D: Desk>(
 ) -> Status
     requires settings { AreSettings settings.now }
     requires job { IsJob settings.now (skim_rows job.now) }
-    requires command { settings.now.command ≡ command.Skim }
+    requires kind { kind_of settings.now.command ≡ Skimming }
     ensures { DoesWork settings.now (skim_rows job.now)
         (D.state desk.old) (D.state desk.new) result }
 {

@@ -1,8 +1,8 @@
 // The work of `sweep`: the assignments for multiples of the demand, and their texts.
 ghost use Rattle.std.specs.Prelude.{◌≡◌};
 ghost use Rattle.dta_words.specs.Ranges.{AreSettings};
-ghost use Rattle.dta_words.specs.declared.command.Command.TheVariants as command;
 ghost use Rattle.commands.specs.Calls.{DoesWork};
+ghost use Rattle.jobs.specs.Inputs.{Sweeping, kind_of};
 ghost use Rattle.jobs.specs.Jobs.{IsJob};
 ghost use Rattle.jobs.specs.Kinds.{sweep_rows};
 
@@ -23,7 +23,7 @@ pub fn put_scenarios<R: AllocGlobal + Threads + Sync, D: Desk>(
 ) -> Status
     requires settings { AreSettings settings.now }
     requires job { IsJob settings.now (sweep_rows job.now) }
-    requires command { settings.now.command ≡ command.Sweep }
+    requires kind { kind_of settings.now.command ≡ Sweeping }
     ensures { DoesWork settings.now (sweep_rows job.now)
         (D.state desk.old) (D.state desk.new) result }
 {

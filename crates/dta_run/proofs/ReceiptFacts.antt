@@ -4,18 +4,17 @@ use Rattle.std.specs.Prelude.{Option, Some}
 use Rattle.desk_io.specs.declared.desk.Table.{Table}
 use Rattle.desk_io.specs.Desk.{Left, Taken}
 use Rattle.dta_words.specs.Grammar.{settings_of}
-use Rattle.dta_words.specs.declared.command.Command.{Command}
-use Rattle.dta_words.specs.declared.command.Command.TheVariants as command
 use Rattle.dta_words.specs.declared.command.Settings.{Settings}
 use Rattle.loader.specs.Gates.{GateState}
 use Rattle.reports.specs.declared.refusal.Refusal.{Refusal}
 use Rattle.reports.specs.declared.refusal.Refusal.TheVariants as refusal
 use Rattle.dta_run.specs.Headline.{Headline}
+use Rattle.jobs.specs.Inputs.{Auditing, Kind, kind_of}
 use Rattle.jobs.specs.Jobs.{IsAcceptedJob, JobRows, traffic_of}
 use Rattle.jobs.specs.Verdict.{Accepted, AreToldBy, Refused, Verdict, verdict, verdict_by}
 use Rattle.commands.specs.Laws.{OneListOfTexts}
 use Rattle.desk_io.specs.State.{DeskState}
-use Rattle.commands.specs.Works.{Works}
+use Rattle.commands.specs.Works.{Works, work_by}
 use Rattle.assign_command.specs.Receipts.{TookAtMost, WorkGives, numbers_in, receipts_in, taking_all}
 use Rattle.dta_run.specs.Receipts.{HasWorked, RunGives, ToldGives}
 use Rattle.commands.specs.Status.{refusal_status}
@@ -25,17 +24,17 @@ use Rattle.jobs.proofs.VerdictFacts.{all-told, verdict-job}
 use Rattle.dta_run.proofs.AnswerFacts.{told}
 
 -- at most none is none
-none-taken : (s : Settings) (job : JobRows) (gate now : GateState) → s.command ≡ command.Audit
+none-taken : (s : Settings) (job : JobRows) (gate now : GateState) → kind_of s.command ≡ Auditing
     → TookAtMost (receipts_in s.command s) (numbers_in s (traffic_of job)) gate now → now ≡ gate
-none-taken s job gate now asks took =
-    let few : took.0 ≤ 0 = subst (λ (c : Command). took.0 ≤ receipts_in c s) asks took.1 in
+none-taken s job gate now is took =
+    let few : took.0 ≤ 0 = subst (λ (k : Kind). took.0 ≤ (work_by k).loaded_by_workers s) is took.1 in
     let none : took.0 ≡ 0 = omega (arith, few) in
     took.2 ∙ ap (λ (n : ℕ). taking_all n (numbers_in s (traffic_of job)) gate) none
 
 -- the receipts of the work are those of the run
 pub work-gives : (words : List (List ℕ)) (s : Settings) (job : JobRows) (answer : Status) (left rest : Left) (before after : Taken)
     (gate now : GateState) → settings_of words ≡ Some s → IsAcceptedJob s job left rest → Works s job answer before after
-    → (answer ≡ status.Differs → s.command ≡ command.Audit) → WorkGives s job answer gate now → RunGives words answer left rest gate now
+    → (answer ≡ status.Differs → kind_of s.command ≡ Auditing) → WorkGives s job answer gate now → RunGives words answer left rest gate now
 work-gives words s job status.Done left rest before after gate now told accepted works audits gives =
     record { settings = s; told = told; job = job; accepted = accepted; receipts = gives }
 work-gives words s job status.WriteFault left rest before after gate now told accepted works audits gives =

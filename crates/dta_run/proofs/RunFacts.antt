@@ -72,7 +72,7 @@ works-means words s job status.Differs before between after told accepted taken 
       job = job;
       accepted = subst (λ l. IsAcceptedJob s job before.left l) (sym left) accepted;
       different = record {
-        asks = d.asks;
+        is = d.is;
         place = d.place;
         fails = d.fails;
         report = subst (λ f. IsOut output.Report (differs_line d.place) before.taken after.taken f after.put_faults) (sym puts)

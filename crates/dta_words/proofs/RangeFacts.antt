@@ -11,9 +11,9 @@ use Rattle.dta_model.specs.Sound.{IsQueue}
 use Rattle.dta_model.specs.declared.queue.Queue.{Queue}
 use Rattle.dta_model.specs.declared.queue.Queue.TheVariants as queue
 use Rattle.fixed_units.specs.declared.units.Units.{Units}
-use Rattle.dta_words.specs.Grammar.{command_of, flags_in, link_given, length_unit_of, period_within, queue_of, settings_from, settings_of, settings_over, side_of, speed_unit_of, units_by, word_of}
+use Rattle.dta_words.specs.Grammar.{flags_in, link_given, length_unit_of, period_within, queue_of, settings_from, settings_of, settings_over, speed_unit_of, units_by}
 use Rattle.dta_words.specs.Numbers.{number_given, number_of}
-use Rattle.dta_words.specs.Options.{takes_of}
+use Rattle.dta_words.specs.Options.{command_of, side_of, takes_of, takes_scales, word_of}
 use Rattle.dta_words.specs.Ranges.{AreScales, AreSettings, AreStarts, IsBetween, IsSide}
 use Rattle.dta_words.specs.Scales.{scale_of, scales_given}
 use Rattle.dta_words.specs.Starts.{start_of, starts_given, when_below}
@@ -22,12 +22,10 @@ use Rattle.dta_words.specs.declared.command.Command.{Command}
 use Rattle.dta_words.specs.declared.command.Command.TheVariants as command
 use Rattle.dta_words.specs.declared.command.Settings.{Settings}
 use Rattle.dta_words.specs.declared.options.Bounds.{Bounds}
-use Rattle.dta_words.specs.declared.options.CommandWord.{CommandWord}
-use Rattle.dta_words.specs.declared.options.CommandWord.TheVariants as word
 use Rattle.dta_words.specs.declared.options.TheConstants.{BUCKET, HORIZON, ITERATIONS, JAM, STEP, WATCH, WAVE, WORKERS}
 use Rattle.dta_words.proofs.ClapReads.{taken_where_given}
 use Rattle.dta_words.proofs.NumberFacts.{bounded}
-use Rattle.dta_words.proofs.ReadFacts.{of_all}
+use Rattle.dta_words.proofs.SettingsFacts.{start_alone}
 use Rattle.dta_words.proofs.PieceFacts.{list_within}
 
 -- ---- one value
@@ -86,7 +84,7 @@ starts_in horizon None starts some e = subst (AreStarts horizon) (same_Some _ _ 
 starts_in horizon (Some text) starts some e = list_within (start_of horizon) (λ step. step < horizon)
     (λ piece. below horizon (number_of piece)) 64 text starts e
 
-scales_in : (value : Option Text) (scales : List ℕ) → scales_given word.Sweep value ≡ Some scales
+scales_in : (value : Option Text) (scales : List ℕ) → scales_given true value ≡ Some scales
     → AreScales scales
 scales_in None scales e = absurd cc
 scales_in (Some text) scales e = list_within scale_of (IsBetween 1 10000)
@@ -106,42 +104,50 @@ units_in value units e =
     subst (λ (u : Units). IsBetween 1 60 u.delta × IsBetween 1 1000 u.jam) (same_Some _ _ e4)
     (step_in, jam_in)))))
 
--- ---- the words of commands
+-- ---- commands by their words
 
--- what is so of a command by its word
-abbrev IsOf : CommandWord → Command → Type 0
-IsOf first what = IsSide what × (what ≡ command.Sweep → first ≡ word.Sweep)
-    × (has_name (takes_of first).flags (codes "start") ≡ true → what ≡ command.Assign)
+-- what is so of a command by what its word names
+record IsOf (named what : Command) : Type 0 where
+  side : IsSide what
+  scales : takes_scales what ≡ true → takes_scales named ≡ true
+  start : has_name (takes_of named).flags (codes "start") ≡ true → what ≡ command.Assign
 
-of_word : (first : CommandWord) (value : Option Text) (what : Command)
-    → command_of first value ≡ Some what → IsOf first what
-of_word word.Freeflow value what e = subst (IsOf word.Freeflow) (same_Some _ _ e)
-    (tt, λ k. absurd cc, λ k. absurd (true≢false (sym k)))
-of_word word.Assign value what e = subst (IsOf word.Assign) (same_Some _ _ e)
-    (tt, λ k. absurd cc, λ k. refl)
-of_word word.Demo value what e =
+-- an assignment alone takes a start table
+starts : (c : Command) → has_name (takes_of c).flags (codes "start") ≡ true → c ≡ command.Assign
+starts command.Assign e = refl
+starts c e = absurd (true≢false (sym e))
+
+numbered : (named : Command) (value : Option Text) (what : Command) (b : Bool)
+    → (takes_of named).number ≡ b
+    → cond b (option_and_then (λ n. Some (command.Demo n)) (side_of value)) (Some named) ≡ Some what
+    → IsOf named what
+numbered named value what false none e = subst (IsOf named) (same_Some _ _ e) (record {
+  side = λ n is. absurd (true≢false (sym (ap (λ c. (takes_of c).number) is) ∙ none));
+  scales = λ k. k;
+  start = starts named;
+})
+numbered named value what true one e =
     option_and_then_some _ (side_of value) what e (λ n is same.
-    subst (IsOf word.Demo) (same_Some _ _ same)
-    (side_in value n is, λ k. absurd cc, λ k. absurd (true≢false (sym k))))
-of_word word.Skim value what e = subst (IsOf word.Skim) (same_Some _ _ e)
-    (tt, λ k. absurd cc, λ k. absurd (true≢false (sym k)))
-of_word word.Counts value what e = subst (IsOf word.Counts) (same_Some _ _ e)
-    (tt, λ k. absurd cc, λ k. absurd (true≢false (sym k)))
-of_word word.Sweep value what e = subst (IsOf word.Sweep) (same_Some _ _ e)
-    (tt, λ k. refl, λ k. absurd (true≢false (sym k)))
-of_word word.Audit value what e = subst (IsOf word.Audit) (same_Some _ _ e)
-    (tt, λ k. absurd cc, λ k. absurd (true≢false (sym k)))
+    subst (IsOf named) (same_Some _ _ same) (record {
+      side = λ m k. let same : n ≡ m = cc in side_in value m (is ∙ ap Some same);
+      scales = λ k. absurd (true≢false (sym k));
+      start = λ k. absurd (true≢false (sym one ∙ ap (λ c. (takes_of c).number) (starts named k)));
+    }))
+
+of_word : (named : Command) (value : Option Text) (what : Command)
+    → command_of named value ≡ Some what → IsOf named what
+of_word named value what e = numbered named value what (takes_of named).number refl e
 
 -- ---- all settings
 
-module _ (first : CommandWord) (words : List Text) (uses : List Use)
+module _ (first : Command) (words : List Text) (uses : List Use)
     (all : uses_of (takes_of first) words ≡ Some uses) (s : Settings) where
   abbrev value : Text → Option Text
   value = value_in uses
 
   of_chain : (horizon : ℕ) (starts scales : List ℕ) → IsBetween 1 86400 horizon
       → starts_given horizon (value (codes "at")) ≡ Some starts
-      → scales_given first (value (codes "scales")) ≡ Some scales
+      → scales_given (takes_scales first) (value (codes "scales")) ≡ Some scales
       → settings_over horizon starts scales first value (flags_in uses) ≡ Some s
       → AreSettings s
   of_chain horizon starts scales long at multiples e =
@@ -159,7 +165,7 @@ module _ (first : CommandWord) (words : List Text) (uses : List Use)
       let is = of_word first (value number_name) what what_is in
       let parts = units_in value units units_are in
       subst AreSettings (same_Some _ _ e10) (record {
-        side = is.0;
+        side = is.side;
         step = parts.0;
         jam = parts.1;
         horizon = long;
@@ -171,19 +177,19 @@ module _ (first : CommandWord) (words : List Text) (uses : List Use)
         watch = watch_in.1;
         starts = starts_in horizon (value (codes "at")) starts long.0 at;
         scales = λ k. scales_in (value (codes "scales")) scales
-            (sym (ap (λ w. scales_given w (value (codes "scales"))) (is.1 k)) ∙ multiples);
-        start = λ k. is.2 (taken_where_given (takes_of first) words uses all (codes "start")
-            (of_all (λ w. has_name (takes_of w).options (codes "start")) false refl first) refl k);
+            (sym (ap (λ b. scales_given b (value (codes "scales"))) (is.scales k)) ∙ multiples);
+        start = λ k. is.start (taken_where_given (takes_of first) words uses all (codes "start")
+            (start_alone first) refl k);
       })))))))))))
 
   in_range : settings_from first uses ≡ Some s → AreSettings s
   in_range e =
       after HORIZON (value (codes "horizon")) _ s refl e (λ horizon long e1.
       option_and_then_some _ (starts_given horizon (value (codes "at"))) s e1 (λ starts at e2.
-      option_and_then_some _ (scales_given first (value (codes "scales"))) s e2 (λ scales multiples e3.
+      option_and_then_some _ (scales_given (takes_scales first) (value (codes "scales"))) s e2 (λ scales multiples e3.
       of_chain horizon starts scales long at multiples e3)))
 
-pub range_of_uses : (first : CommandWord) (words : List Text) (s : Settings)
+pub range_of_uses : (first : Command) (words : List Text) (s : Settings)
     → option_and_then (settings_from first) (uses_of (takes_of first) words) ≡ Some s → AreSettings s
 range_of_uses first words s e =
     option_and_then_some (settings_from first) (uses_of (takes_of first) words) s e

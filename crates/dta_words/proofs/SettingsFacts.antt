@@ -1,5 +1,5 @@
 -- Settings by what the words tell.
-use Rattle.std.proofs.Common.{◌≡◌, ◌∙◌, Bool, cond, true, false, codes, refl, sym, ap, List, map, Option, Some, None, true≢false}
+use Rattle.std.proofs.Common.{◌≡◌, ◌∙◌, Bool, cond, true, false, codes, refl, sym, ap, arith, List, Option, Some, None, true≢false}
 use Rattle.std.specs.Prelude.{option_and_then}
 use Rattle.clap.specs.Matches.{first_value, one_text}
 use Rattle.clap.specs.declared.parser.matches.Found.{Found}
@@ -8,17 +8,22 @@ use Rattle.dta_words.specs.Uses.{Text, has_name, is_given, number_name, uses_of,
 use Rattle.dta_words.specs.Options.{takes_of}
 use Rattle.dta_words.specs.Reading.{Reads, flag_text}
 use Rattle.dta_words.specs.Grammar.{flags_in, settings_by, settings_from}
-use Rattle.dta_words.specs.declared.options.CommandWord.{CommandWord}
+use Rattle.dta_words.specs.declared.command.Command.{Command}
+use Rattle.dta_words.specs.declared.command.Command.TheVariants as command
 use Rattle.dta_words.specs.declared.options.Flags.{Flags}
 use Rattle.dta_words.proofs.ClapReads.{taken_where_given}
-use Rattle.dta_words.proofs.ReadFacts.{all_commands, of_all}
+
+-- the flags of a command are among those of an assignment
+flags_among : (c : Command) (name : Text) → has_name (takes_of command.Assign).flags name ≡ false
+    → has_name (takes_of c).flags name ≡ false
+flags_among (command.Demo n) name e = grind arith
+flags_among c name e = grind arith
 
 -- settings read the values of names that no command has for a flag
-same_settings : (word : CommandWord) (v w : Text → Option Text) (flags : Flags)
-    → ((name : Text) → map (λ c. has_name (takes_of c).flags name) all_commands
-    ≡ map (λ _. false) all_commands → v name ≡ w name)
-    → settings_by word v flags ≡ settings_by word w flags
-same_settings word v w flags same = rw (
+same_settings : (c : Command) (v w : Text → Option Text) (flags : Flags)
+    → ((name : Text) → has_name (takes_of command.Assign).flags name ≡ false → v name ≡ w name)
+    → settings_by c v flags ≡ settings_by c w flags
+same_settings c v w flags same = rw (
   same (codes "number") refl,
   same (codes "step") refl,
   same (codes "jam") refl,
@@ -47,23 +52,30 @@ flag_by true false read o e some none set unset = unset e
 flag_by false true read o e some none set unset = absurd (true≢false (sym (some refl)))
 flag_by false false read o e some none set unset = none e
 
-pub flag_read : (word : CommandWord) (words : List Text) (found : Found)
-    (r : Reads (takes_of word) words found) (name : Text) (read : Bool)
-    → map (λ w. has_name (takes_of w).options name) all_commands ≡ map (λ _. false) all_commands
-    → bytes_eq name number_name ≡ false → (one_text found name ≡ None → read ≡ false)
+pub flag_read : (c : Command) (words : List Text) (found : Found)
+    (r : Reads (takes_of c) words found) (name : Text) (read : Bool)
+    → has_name (takes_of c).options name ≡ false → bytes_eq name number_name ≡ false
+    → (one_text found name ≡ None → read ≡ false)
     → (one_text found name ≡ Some (codes "true") → read ≡ true)
     → (one_text found name ≡ Some (codes "false") → read ≡ false) → read ≡ is_given r.uses name
-flag_read word words found r name read e other =
-    let none = of_all (λ w. has_name (takes_of w).options name) false e word in
-    flag_by (has_name (takes_of word).flags name) (is_given r.uses name) read (one_text found name)
-    (r.flags name none other) (taken_where_given (takes_of word) words r.uses r.all name none other)
+flag_read c words found r name read none other =
+    flag_by (has_name (takes_of c).flags name) (is_given r.uses name) read (one_text found name)
+    (r.flags name none other) (taken_where_given (takes_of c) words r.uses r.all name none other)
 
-pub settings_read : (word : CommandWord) (words : List Text) (found : Found) (flags : Flags)
-    (r : Reads (takes_of word) words found) → flags ≡ flags_in r.uses
-    → settings_by word (first_value found) flags
-    ≡ option_and_then (settings_from word) (uses_of (takes_of word) words)
-settings_read word words found flags r is =
-    same_settings word (first_value found) (value_in r.uses) flags
-    (λ name e. r.values name (of_all (λ c. has_name (takes_of c).flags name) false e word))
-    ∙ ap (settings_by word (value_in r.uses)) is
-    ∙ sym (ap (option_and_then (settings_from word)) r.all)
+-- no command has these names for options with a value
+pub plain_alone : (c : Command) → has_name (takes_of c).options (codes "plain") ≡ false
+plain_alone (command.Demo n) = refl
+plain_alone c = refl
+
+pub start_alone : (c : Command) → has_name (takes_of c).options (codes "start") ≡ false
+start_alone (command.Demo n) = refl
+start_alone c = refl
+
+pub settings_read : (c : Command) (words : List Text) (found : Found) (flags : Flags)
+    (r : Reads (takes_of c) words found) → flags ≡ flags_in r.uses
+    → settings_by c (first_value found) flags
+    ≡ option_and_then (settings_from c) (uses_of (takes_of c) words)
+settings_read c words found flags r is =
+    same_settings c (first_value found) (value_in r.uses) flags
+    (λ name e. r.values name (flags_among c name e))
+    ∙ ap (settings_by c (value_in r.uses)) is ∙ sym (ap (option_and_then (settings_from c)) r.all)

@@ -17,7 +17,6 @@ use Rattle.dta_words.specs.declared.command.Command.TheVariants as command
 use Rattle.dta_words.specs.declared.command.Settings.{Settings}
 use Rattle.dta_words.specs.declared.numbers.TheConstants.{MOST_DIGITS}
 use Rattle.dta_words.specs.declared.options.Bounds.{Bounds}
-use Rattle.dta_words.specs.declared.options.CommandWord.TheVariants as word
 use Rattle.dta_words.specs.declared.options.TheConstants.{BUCKET, DEFAULT_PERIOD, HORIZON}
 use Rattle.dta_words.specs.declared.options.TheConstants.{GREATEST_SCALE, ITERATIONS, JAM}
 use Rattle.dta_words.specs.declared.options.TheConstants.{LEAST_SCALE, LEAST_SIDE, MOST_SCALES}
@@ -184,12 +183,12 @@ sixteen_scales = refl
 seventeen_scales : scales_in (join_with_byte 59 (replicate 17 (codes "1"))) ≡ None
 seventeen_scales = refl
 
--- a sweep has to be given them, and other commands have none
-sweep_needs_scales : scales_given word.Sweep None ≡ None
-sweep_needs_scales = refl
+-- a command that takes them has to be given them, and others have none
+scales_wanting : scales_given true None ≡ None
+scales_wanting = refl
 
-assign_has_no_scales : scales_given word.Assign None ≡ Some []
-assign_has_no_scales = refl
+no_scales_taken : scales_given false None ≡ Some []
+no_scales_taken = refl
 
 -- ---- a link's identifier
 
@@ -239,14 +238,21 @@ defaults what = record {
   scales = [];
 }
 
-alone : map asked (codes "freeflow" ∷ codes "assign" ∷ codes "skim" ∷ codes "counts"
-    ∷ codes "audit" ∷ [])
-    ≡ map (λ what. Some (defaults what)) (command.Freeflow ∷ command.Assign ∷ command.Skim
-    ∷ command.Counts ∷ command.Audit ∷ [])
-alone = refl
+-- each command is asked for by these words
+abbrev Asks : Text → Command → Type 0
+Asks text command.Sweep = asked text ≡ Some (record (defaults command.Sweep) { scales = 1 ∷ [] })
+Asks text (command.Demo n) = asked text ≡ Some (defaults (command.Demo 12))
+Asks text c = asked text ≡ Some (defaults c)
 
-demo_twelve : asked (codes "demo 012") ≡ Some (defaults (command.Demo 12))
-demo_twelve = refl
+each_asked : (c : Command) → (text : Text) × Asks text c
+unfolding number
+each_asked command.Freeflow = (codes "freeflow", refl)
+each_asked command.Assign = (codes "assign", refl)
+each_asked (command.Demo n) = (codes "demo 012", refl)
+each_asked command.Skim = (codes "skim", refl)
+each_asked command.Counts = (codes "counts", refl)
+each_asked command.Sweep = (codes "sweep --scales=0.001", refl)
+each_asked command.Audit = (codes "audit", refl)
 
 skim_two_starts : asked (codes "skim --at 0;55 --horizon=60")
     ≡ Some (record (defaults command.Skim) { horizon = 60; period = 60; starts = 0 ∷ 55 ∷ [] })

@@ -12,34 +12,21 @@ use Rattle.fixed_units.specs.Quantity.{whole_of}
 use Rattle.dta_model.specs.declared.queue.Queue.{Queue}
 use Rattle.dta_model.specs.declared.queue.Queue.TheVariants as queue
 use Rattle.dta_words.specs.Uses.{Text, Use, is_given, number_name, uses_of, value_in}
-use Rattle.dta_words.specs.Options.{takes_of}
-use Rattle.dta_words.specs.Numbers.{number_between, number_given}
+use Rattle.dta_words.specs.Options.{command_of, takes_of, takes_scales, word_of}
+use Rattle.dta_words.specs.Numbers.{number_given}
 use Rattle.dta_words.specs.Starts.{starts_given}
 use Rattle.dta_words.specs.Scales.{scales_given}
 use Rattle.dta_words.specs.declared.options.Bounds.{Bounds}
-use Rattle.dta_words.specs.declared.options.CommandWord.{CommandWord}
-use Rattle.dta_words.specs.declared.options.CommandWord.TheVariants as word
 use Rattle.dta_words.specs.declared.options.Flags.{Flags}
 use Rattle.dta_words.specs.declared.options.TheConstants.{BUCKET, DEFAULT_PERIOD, HORIZON}
-use Rattle.dta_words.specs.declared.options.TheConstants.{ITERATIONS, JAM, LEAST_SIDE, MOST_SIDE}
-use Rattle.dta_words.specs.declared.options.TheConstants.{STEP, WATCH, WAVE, WORKERS}
+use Rattle.dta_words.specs.declared.options.TheConstants.{ITERATIONS, JAM, STEP, WATCH, WAVE}
+use Rattle.dta_words.specs.declared.options.TheConstants.{WORKERS}
 use Rattle.dta_words.specs.declared.command.Command.{Command}
-use Rattle.dta_words.specs.declared.command.Command.TheVariants as command
 use Rattle.dta_words.specs.declared.command.Settings.{Settings}
 
 infixl 10 ◌>>=◌
 abbrev pub ◌>>=◌ : {A B : Type 0} → Option A → (A → Option B) → Option B
 o >>= f = option_and_then f o
-
--- the command that the first word names
-abbrev pub word_of : Text → Option CommandWord
-word_of text = if bytes_eq text (codes "freeflow") then Some word.Freeflow
-    else (if bytes_eq text (codes "assign") then Some word.Assign
-    else (if bytes_eq text (codes "demo") then Some word.Demo
-    else (if bytes_eq text (codes "skim") then Some word.Skim
-    else (if bytes_eq text (codes "counts") then Some word.Counts
-    else (if bytes_eq text (codes "sweep") then Some word.Sweep
-    else (if bytes_eq text (codes "audit") then Some word.Audit else None))))))
 
 -- ---- values that aren't numbers
 
@@ -73,22 +60,6 @@ abbrev pub period_within : ℕ → Bounds
 period_within horizon =
     record { least = 1; most = horizon; default = min DEFAULT_PERIOD horizon }
 
--- the side of the grid has to be given
-abbrev pub side_of : Option Text → Option ℕ
-side_of None = None
-side_of (Some text) = number_between LEAST_SIDE MOST_SIDE text
-
-abbrev pub command_of : CommandWord → Option Text → Option Command
-command_of word.Freeflow side = Some command.Freeflow
-command_of word.Assign side = Some command.Assign
-command_of word.Demo side = do
-  n ← side_of side
-  Some (command.Demo n)
-command_of word.Skim side = Some command.Skim
-command_of word.Counts side = Some command.Counts
-command_of word.Sweep side = Some command.Sweep
-command_of word.Audit side = Some command.Audit
-
 abbrev pub units_by : (Text → Option Text) → Option Units
 units_by value = do
   step ← number_given STEP (value (codes "step"))
@@ -100,7 +71,7 @@ units_by value = do
 -- the settings over a horizon with these starts and multiples of the demand, where `value` has the
 -- text of each option, and `flags` says which flags are given
 abbrev pub settings_over :
-    ℕ → List ℕ → List ℕ → CommandWord → (Text → Option Text) → Flags → Option Settings
+    ℕ → List ℕ → List ℕ → Command → (Text → Option Text) → Flags → Option Settings
 settings_over horizon starts scales first value flags = do
   what ← command_of first (value number_name)
   units ← units_by value
@@ -130,11 +101,11 @@ settings_over horizon starts scales first value flags = do
   })
 
 -- the settings; the starts are below the horizon
-abbrev pub settings_by : CommandWord → (Text → Option Text) → Flags → Option Settings
+abbrev pub settings_by : Command → (Text → Option Text) → Flags → Option Settings
 settings_by first value flags = do
   horizon ← number_given HORIZON (value (codes "horizon"))
   starts ← starts_given horizon (value (codes "at"))
-  scales ← scales_given first (value (codes "scales"))
+  scales ← scales_given (takes_scales first) (value (codes "scales"))
   settings_over horizon starts scales first value flags
 
 -- the flags that the uses have
@@ -142,7 +113,7 @@ abbrev pub flags_in : List Use → Flags
 flags_in uses =
     record { plain = is_given uses (codes "plain"); start = is_given uses (codes "start") }
 
-abbrev pub settings_from : CommandWord → List Use → Option Settings
+abbrev pub settings_from : Command → List Use → Option Settings
 settings_from first uses = settings_by first (value_in uses) (flags_in uses)
 
 -- the settings that a list of words asks for

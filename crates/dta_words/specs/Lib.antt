@@ -1,8 +1,8 @@
 pub mod WordsInside
 pub mod Uses
 pub mod Asked
-pub mod Options
 pub mod Numbers
+pub mod Options
 pub mod Pieces
 pub mod Starts
 pub mod Scales

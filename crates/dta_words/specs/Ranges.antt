@@ -1,7 +1,8 @@
 -- The ranges of settings.
-use Rattle.std.specs.Prelude.{ℕ, ◌≡◌, ◌≤◌, ◌<◌, ⊤, true, List, length}
+use Rattle.std.specs.Prelude.{ℕ, ◌≡◌, ◌≤◌, ◌<◌, true, List, length}
 use Rattle.std.specs.List.{All}
 use Rattle.dta_model.specs.Sound.{IsQueue}
+use Rattle.dta_words.specs.Options.{takes_scales}
 use Rattle.dta_words.specs.declared.command.Command.{Command}
 use Rattle.dta_words.specs.declared.command.Command.TheVariants as command
 use Rattle.dta_words.specs.declared.command.Settings.{Settings}
@@ -11,13 +12,7 @@ IsBetween least most n = (least ≤ n) × (n ≤ most)
 
 -- a grid has 2 to 60 nodes on a side
 abbrev pub IsSide : Command → Type 0
-IsSide command.Freeflow = ⊤
-IsSide command.Assign = ⊤
-IsSide (command.Demo n) = IsBetween 2 60 n
-IsSide command.Skim = ⊤
-IsSide command.Counts = ⊤
-IsSide command.Sweep = ⊤
-IsSide command.Audit = ⊤
+IsSide c = (n : ℕ) → c ≡ command.Demo n → IsBetween 2 60 n
 
 -- there are 1 to 64 of the steps, and each is below the horizon
 abbrev pub AreStarts : ℕ → List ℕ → Type 0
@@ -41,7 +36,7 @@ pub record AreSettings (s : Settings) : Type 0 where
   pub queue : IsQueue s.queue
   pub watch : s.watch ≤ 86400
   pub starts : AreStarts s.horizon s.starts
-  -- a sweep has multiples of the demand
-  pub scales : s.command ≡ command.Sweep → AreScales s.scales
+  -- a command that takes multiples of the demand has them
+  pub scales : takes_scales s.command ≡ true → AreScales s.scales
   -- an assignment alone may begin with a start table
   pub start : s.start ≡ true → s.command ≡ command.Assign

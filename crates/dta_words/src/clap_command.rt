@@ -6,7 +6,7 @@ ghost use Rattle.dta_words.specs.Asked.{asked, asked_app, asked_numbers, bare_ap
 ghost use Rattle.dta_words.specs.Asked.{with_rules};
 ghost use Rattle.dta_words.specs.Options.{takes_of};
 
-use crate::options::{CommandWord, flags_of, options_of, takes_number};
+use crate::command::taken_by;
 use clap::{Arg, ArgAction, Command};
 use std::alloc::{AllocError, Global};
 
@@ -89,11 +89,15 @@ fn bare_command<'a>(alloc: Global) -> Command<'a>
         .disable_version_flag(true)
 }
 
-/// The clap command of a command word.
-pub(crate) fn clap_command<'a>(alloc: Global, word: CommandWord) -> Result<Command<'a>, AllocError>
-    ensures { IfOk result (λ r. app_of r ≡ asked_app (codes "dta") (takes_of word)) }
+/// The clap command that reads the words behind a command's name.
+pub(crate) fn clap_command<'a>(
+    alloc: Global,
+    named: crate::command::Command,
+) -> Result<Command<'a>, AllocError>
+    ensures { IfOk result (λ r. app_of r ≡ asked_app (codes "dta") (takes_of named)) }
 {
-    let with_values = with_groups(alloc, bare_command(alloc), ArgAction::Set, options_of(word))?;
-    let with_all = with_groups(alloc, with_values, ArgAction::SetTrue, flags_of(word))?;
-    with_number(alloc, with_all, takes_number(word))
+    let taken = taken_by(named);
+    let with_values = with_groups(alloc, bare_command(alloc), ArgAction::Set, taken.options)?;
+    let with_all = with_groups(alloc, with_values, ArgAction::SetTrue, taken.flags)?;
+    with_number(alloc, with_all, taken.number)
 }

@@ -1,4 +1,9 @@
-// The settings of a run.
+// The commands, each with its word and what it takes, and the settings of a run.
+ghost use Rattle.std.specs.Prelude.{◌≡◌};
+ghost use Rattle.dta_words.specs.Asked.{names_in};
+ghost use Rattle.dta_words.specs.Options.{takes_of, takes_scales, word_of};
+
+use crate::options::LEAST_SIDE;
 use crate::scales::Scales;
 use dta_model::{Queue, Steps};
 use fixed_units::Units;
@@ -52,4 +57,104 @@ pub struct Settings {
     /// The multiples of the demand of a sweep, in thousandths, in the order given: 1 to 16, each
     /// from 1 to 10,000. Other commands have none.
     pub scales: Scales,
+}
+
+/// What every command takes.
+const EVERYWHERE: &[&str] = &["step", "jam"];
+
+/// The units of tables, which a demonstration has none of.
+const UNITS: &[&str] = &["length-unit", "speed-unit"];
+
+/// The steps of a loading, and of its link times.
+const TIMES: &[&str] = &["horizon", "bucket"];
+
+/// What is loaded, and by which queue.
+const LOADING: &[&str] = &["period", "queue", "wave"];
+
+/// How often is loaded, and by how many workers.
+const ITERATED: &[&str] = &["iterations", "workers"];
+
+const WATCHED: &[&str] = &["watch"];
+
+const PLAIN: &[&str] = &["plain"];
+
+/// The command that the first word names. A side that is still to be read stands at its least.
+pub(crate) fn command_named(text: &str) -> Option<Command>
+    ensures { result ≡ word_of text.now }
+{
+    match text {
+        "freeflow" => Some(Command::Freeflow),
+        "assign" => Some(Command::Assign),
+        "demo" => Some(Command::Demo(LEAST_SIDE)),
+        "skim" => Some(Command::Skim),
+        "counts" => Some(Command::Counts),
+        "sweep" => Some(Command::Sweep),
+        "audit" => Some(Command::Audit),
+        _ => None,
+    }
+}
+
+/// Names in groups.
+type Groups = &'static [&'static [&'static str]];
+
+/// What a command takes after its own word.
+#[derive(Clone, Copy)]
+pub(crate) struct Takes {
+    /// The names of the options with a value.
+    pub(crate) options: Groups,
+    /// The names of the flags.
+    pub(crate) flags: Groups,
+    /// Whether it takes a number that stands alone.
+    pub(crate) number: bool,
+    /// Whether multiples of the demand are among the options, which then have to be given.
+    pub(crate) scales: bool,
+}
+
+/// What each command over tables takes.
+const TABLES: Takes = Takes {
+    options: &[EVERYWHERE, UNITS],
+    flags: &[],
+    number: false,
+    scales: false,
+};
+
+/// What a command takes.
+pub(crate) fn taken_by(named: Command) -> Takes
+    ensures options { names_in result.options.now ≡ (takes_of named).options }
+    ensures flags { names_in result.flags.now ≡ (takes_of named).flags }
+    ensures number { result.number ≡ (takes_of named).number }
+    ensures scales { result.scales ≡ takes_scales named }
+{
+    match named {
+        Command::Freeflow => TABLES,
+        Command::Assign => Takes {
+            options: &[EVERYWHERE, UNITS, TIMES, LOADING, ITERATED, WATCHED],
+            flags: &[PLAIN, &["start"]],
+            ..TABLES
+        },
+        Command::Demo(_) => Takes {
+            options: &[EVERYWHERE, TIMES, LOADING, ITERATED, WATCHED],
+            flags: &[PLAIN],
+            number: true,
+            ..TABLES
+        },
+        Command::Skim => Takes {
+            options: &[EVERYWHERE, UNITS, TIMES, &["at"]],
+            ..TABLES
+        },
+        Command::Counts => Takes {
+            options: &[EVERYWHERE, UNITS, TIMES, LOADING, ITERATED, &["link"]],
+            flags: &[PLAIN],
+            ..TABLES
+        },
+        Command::Sweep => Takes {
+            options: &[EVERYWHERE, UNITS, TIMES, LOADING, ITERATED, &["scales"]],
+            scales: true,
+            ..TABLES
+        },
+        Command::Audit => Takes {
+            options: &[EVERYWHERE, UNITS, TIMES, LOADING],
+            ..TABLES
+        },
+    }
 }

@@ -2,15 +2,15 @@
 ghost use Rattle.std.specs.Prelude.{◌≡◌, ◌<◌, IfErr, IfOk, List, None, Some, drop, length};
 ghost use Rattle.std.specs.Prelude.{option_and_then, true};
 ghost use Rattle.clap.specs.Matches.{found_of};
-ghost use Rattle.dta_words.specs.Grammar.{flags_in, settings_from, settings_of, word_of};
+ghost use Rattle.dta_words.specs.Grammar.{flags_in, settings_from, settings_of};
 ghost use Rattle.dta_words.specs.Options.{takes_of};
 ghost use Rattle.dta_words.specs.Ranges.{AreSettings};
 ghost use Rattle.dta_words.specs.Reading.{Reads};
 ghost use Rattle.dta_words.specs.Uses.{Text, uses_of};
 ghost use Rattle.dta_words.specs.declared.refusal.WordsRefusal.TheVariants as refusal;
 
-use crate::command::Settings;
-use crate::options::{CommandWord, Flags};
+use crate::command::{Command, Settings, command_named};
+use crate::options::Flags;
 use crate::reading::read;
 use crate::refusal::WordsRefusal;
 use crate::values::settings_by_values;
@@ -18,25 +18,9 @@ use crate::words::Words;
 use clap::ArgMatches;
 use std::alloc::Global;
 
-/// The command that the first word names.
-fn command_word(text: &str) -> Option<CommandWord>
-    ensures { result ≡ word_of text.now }
-{
-    match text {
-        "freeflow" => Some(CommandWord::Freeflow),
-        "assign" => Some(CommandWord::Assign),
-        "demo" => Some(CommandWord::Demo),
-        "skim" => Some(CommandWord::Skim),
-        "counts" => Some(CommandWord::Counts),
-        "sweep" => Some(CommandWord::Sweep),
-        "audit" => Some(CommandWord::Audit),
-        _ => None,
-    }
-}
-
 /// The flags that are given. A command has none that it doesn't take.
-fn flags(word: CommandWord, found: &ArgMatches) -> Flags
-    ensures { (words : List Text) → (r : Reads (takes_of word) words (found_of found.now))
+fn flags(named: Command, found: &ArgMatches) -> Flags
+    ensures { (words : List Text) → (r : Reads (takes_of named) words (found_of found.now))
         → result ≡ flags_in r.uses }
 {
     Flags {
@@ -46,23 +30,19 @@ fn flags(word: CommandWord, found: &ArgMatches) -> Flags
 }
 
 /// The settings of the words behind a command's name.
-fn settings_behind(
-    alloc: Global,
-    word: CommandWord,
-    words: &Words,
-) -> Result<Settings, WordsRefusal>
+fn settings_behind(alloc: Global, named: Command, words: &Words) -> Result<Settings, WordsRefusal>
     requires { 0 < length words.now }
     ensures ok { IfOk result (λ s.
-        option_and_then (settings_from word) (uses_of (takes_of word) (drop 1 words.now))
+        option_and_then (settings_from named) (uses_of (takes_of named) (drop 1 words.now))
         ≡ Some s) }
     ensures ranges { IfOk result AreSettings }
     ensures usage { IfErr result (λ why. why ≡ refusal.Usage
-        → option_and_then (settings_from word) (uses_of (takes_of word) (drop 1 words.now))
+        → option_and_then (settings_from named) (uses_of (takes_of named) (drop 1 words.now))
         ≡ None) }
 {
-    let found = read(alloc, word, words)?;
-    let flags = flags(word, &found);
-    match settings_by_values(alloc, word, &found, flags)? {
+    let found = read(alloc, named, words)?;
+    let flags = flags(named, &found);
+    match settings_by_values(alloc, named, &found, flags)? {
         Some(settings) => Ok(settings),
         None => Err(WordsRefusal::Usage),
     }
@@ -80,8 +60,8 @@ pub fn settings(alloc: Global, words: &Words) -> Result<Settings, WordsRefusal>
     if words.len() == 0 {
         return Err(WordsRefusal::Usage);
     }
-    match command_word(words.get(0)) {
+    match command_named(words.get(0)) {
         None => Err(WordsRefusal::Usage),
-        Some(word) => settings_behind(alloc, word, words),
+        Some(named) => settings_behind(alloc, named, words),
     }
 }

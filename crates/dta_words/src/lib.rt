@@ -1,11 +1,10 @@
 //! The words of a command line, and the settings that they ask for.
 //!
-//! The first word is a command's name and is read by hand: freeflow, assign, demo, skim, counts,
-//! sweep or audit. The words behind it are read by one `clap` command per name, whose options all
-//! take text, and the product reads the values: numbers, units, a list of steps, a link's
-//! identifier, multiples of the demand. The crate's promise: `settings` answers the settings that
-//! the grammar gives the words, or refuses them exactly where it gives none. The grammar stands in
-//! specs/ over the list of words, apart from clap.
+//! The first word is a command's name and is read by hand. The words behind it are read by one
+//! `clap` command per name, whose options all take text, and the product reads the values: numbers,
+//! units, a list of steps, a link's identifier, multiples of the demand. The crate's promise:
+//! `settings` answers the settings that the grammar gives the words, or refuses them exactly where
+//! it gives none. The grammar stands in specs/ over the list of words, apart from clap.
 #![tactic(auto)]
 
 mod clap_command;

@@ -1,22 +1,7 @@
-// The options of the commands: names, bounds, and what stands where one isn't given.
-ghost use Rattle.std.specs.Prelude.{◌≡◌};
-ghost use Rattle.dta_words.specs.Asked.{names_in};
-ghost use Rattle.dta_words.specs.Options.{takes_of};
+// The bounds of options, and what stands where one isn't given.
 
 use dta_model::{MOST_HORIZON, MOST_WAVE};
 use fixed_units::{MOST_JAM, MOST_STEP};
-
-/// The command that the first word names.
-#[derive(Clone, Copy, Debug, PartialEq, Eq)]
-pub(crate) enum CommandWord {
-    Freeflow,
-    Assign,
-    Demo,
-    Skim,
-    Counts,
-    Sweep,
-    Audit,
-}
 
 /// A whole number that an option takes: its least and its most, and what stands where the option
 /// isn't given.
@@ -110,55 +95,3 @@ pub(crate) const LEAST_SIDE: u32 = 2;
 
 /// The nodes on a side of the grid of `demo`, at most.
 pub(crate) const MOST_SIDE: u32 = 60;
-
-/// What every command takes.
-const EVERYWHERE: &[&str] = &["step", "jam"];
-
-/// The units of tables, which a demonstration has none of.
-const UNITS: &[&str] = &["length-unit", "speed-unit"];
-
-/// The steps of a loading, and of its link times.
-const TIMES: &[&str] = &["horizon", "bucket"];
-
-/// What is loaded, and by which queue.
-const LOADING: &[&str] = &["period", "queue", "wave"];
-
-/// How often is loaded, and by how many workers.
-const ITERATED: &[&str] = &["iterations", "workers"];
-
-const WATCHED: &[&str] = &["watch"];
-
-const PLAIN: &[&str] = &["plain"];
-
-/// The names of the options with a value that a command takes, in groups.
-pub(crate) fn options_of(word: CommandWord) -> &'static [&'static [&'static str]]
-    ensures { names_in result.now ≡ (takes_of word).options }
-{
-    match word {
-        CommandWord::Freeflow => &[EVERYWHERE, UNITS],
-        CommandWord::Assign => &[EVERYWHERE, UNITS, TIMES, LOADING, ITERATED, WATCHED],
-        CommandWord::Demo => &[EVERYWHERE, TIMES, LOADING, ITERATED, WATCHED],
-        CommandWord::Skim => &[EVERYWHERE, UNITS, TIMES, &["at"]],
-        CommandWord::Counts => &[EVERYWHERE, UNITS, TIMES, LOADING, ITERATED, &["link"]],
-        CommandWord::Sweep => &[EVERYWHERE, UNITS, TIMES, LOADING, ITERATED, &["scales"]],
-        CommandWord::Audit => &[EVERYWHERE, UNITS, TIMES, LOADING],
-    }
-}
-
-/// The names of the flags that a command takes, in groups.
-pub(crate) fn flags_of(word: CommandWord) -> &'static [&'static [&'static str]]
-    ensures { names_in result.now ≡ (takes_of word).flags }
-{
-    match word {
-        CommandWord::Assign => &[PLAIN, &["start"]],
-        CommandWord::Demo | CommandWord::Counts => &[PLAIN],
-        CommandWord::Freeflow | CommandWord::Skim | CommandWord::Sweep | CommandWord::Audit => &[],
-    }
-}
-
-/// Whether a command takes a number that stands alone.
-pub(crate) fn takes_number(word: CommandWord) -> bool
-    ensures { result ≡ (takes_of word).number }
-{
-    matches!(word, CommandWord::Demo)
-}

@@ -9,7 +9,7 @@ ghost use Rattle.dta_words.specs.Uses.{is_short as is_short_of, uses_of};
 ghost use Rattle.dta_words.specs.declared.refusal.WordsRefusal.TheVariants as refusal;
 
 use crate::clap_command::clap_command;
-use crate::options::CommandWord;
+use crate::command::Command;
 use crate::refusal::WordsRefusal;
 use crate::words::Words;
 use clap::ArgMatches;
@@ -43,19 +43,19 @@ fn has_short(words: &[String]) -> bool
 /// The matches of the words behind the first one.
 pub(crate) fn read<'a>(
     alloc: Global,
-    word: CommandWord,
+    named: Command,
     words: &'a Words,
 ) -> Result<ArgMatches<'a>, WordsRefusal>
     requires { 0 < length words.now }
-    ensures ok { IfOk result (λ m. Reads (takes_of word) (drop 1 words.now) (found_of m)) }
+    ensures ok { IfOk result (λ m. Reads (takes_of named) (drop 1 words.now) (found_of m)) }
     ensures usage { IfErr result (λ why. why ≡ refusal.Usage
-        → uses_of (takes_of word) (drop 1 words.now) ≡ None) }
+        → uses_of (takes_of named) (drop 1 words.now) ≡ None) }
 {
     let all = words.as_slice();
     if has_short(&all[1..]) {
         return Err(WordsRefusal::Usage);
     }
-    let command = clap_command(alloc, word)?;
+    let command = clap_command(alloc, named)?;
     match command.try_get_matches_from(all) {
         Ok(matches) => Ok(matches),
         Err(error) => match error.kind() {

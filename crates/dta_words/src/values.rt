@@ -2,18 +2,19 @@
 ghost use Rattle.std.specs.Prelude.{◌≡◌, IfOk, Some, codes};
 ghost use Rattle.clap.specs.Matches.{first_value, found_of, one_text};
 ghost use Rattle.dta_words.specs.Numbers.{number_given};
-ghost use Rattle.dta_words.specs.Grammar.{command_of, length_unit_of, link_given, period_within};
-ghost use Rattle.dta_words.specs.Grammar.{queue_of, settings_by, side_of, speed_unit_of, units_by};
+ghost use Rattle.dta_words.specs.Grammar.{length_unit_of, link_given, period_within};
+ghost use Rattle.dta_words.specs.Grammar.{queue_of, settings_by, speed_unit_of, units_by};
 ghost use Rattle.dta_words.specs.Grammar.{settings_over as settings_over_of};
+ghost use Rattle.dta_words.specs.Options.{command_of, takes_scales};
 ghost use Rattle.dta_words.specs.Scales.{scales_given};
 ghost use Rattle.dta_words.specs.Starts.{starts_given};
 
 use crate::clap_command::NUMBER;
-use crate::command::{Command, Settings};
+use crate::command::{Command, Settings, taken_by};
 use crate::numbers::number_between;
 use crate::options::{
-    BUCKET, Bounds, CommandWord, DEFAULT_PERIOD, Flags, HORIZON, ITERATIONS, JAM, LEAST_SIDE,
-    MOST_SIDE, STEP, WATCH, WAVE, WORKERS,
+    BUCKET, Bounds, DEFAULT_PERIOD, Flags, HORIZON, ITERATIONS, JAM, LEAST_SIDE, MOST_SIDE, STEP,
+    WATCH, WAVE, WORKERS,
 };
 use crate::scales::{Scales, no_scales, scales_in};
 use crate::starts::{first_step, starts_in};
@@ -68,29 +69,15 @@ fn queue(found: &ArgMatches, wave: u32) -> Option<Queue>
     }
 }
 
-/// The side of the grid, which has to be given.
-fn side(found: &ArgMatches) -> Option<u32>
-    ensures { result ≡ side_of (first_value (found_of found.now) (codes "number")) }
+/// The command with its number, the side of the grid, which has to be given.
+fn command(named: Command, found: &ArgMatches) -> Option<Command>
+    ensures { result ≡ command_of named (first_value (found_of found.now) (codes "number")) }
 {
-    let text = found.get_str(NUMBER)?;
-    number_between(LEAST_SIDE, MOST_SIDE, text)
-}
-
-/// The command with its number.
-fn command(word: CommandWord, found: &ArgMatches) -> Option<Command>
-    ensures { result ≡ command_of word (first_value (found_of found.now) (codes "number")) }
-{
-    match word {
-        CommandWord::Freeflow => Some(Command::Freeflow),
-        CommandWord::Assign => Some(Command::Assign),
-        CommandWord::Demo => {
-            let side = side(found)?;
-            Some(Command::Demo(side))
-        }
-        CommandWord::Skim => Some(Command::Skim),
-        CommandWord::Counts => Some(Command::Counts),
-        CommandWord::Sweep => Some(Command::Sweep),
-        CommandWord::Audit => Some(Command::Audit),
+    if taken_by(named).number {
+        let side = number_between(LEAST_SIDE, MOST_SIDE, found.get_str(NUMBER)?)?;
+        Some(Command::Demo(side))
+    } else {
+        Some(named)
     }
 }
 
@@ -134,22 +121,15 @@ fn starts(alloc: Global, found: &ArgMatches, horizon: u32) -> Result<Option<Step
     }
 }
 
-/// The multiples of the demand, which a sweep has to be given.
-fn scales(alloc: Global, word: CommandWord, found: &ArgMatches) -> Result<Option<Scales>, Memory>
-    ensures { IfOk result (λ scales.
-        scales ≡ scales_given word (first_value (found_of found.now) (codes "scales"))) }
+/// The multiples of the demand, which have to be given where the command takes them.
+fn scales(alloc: Global, named: Command, found: &ArgMatches) -> Result<Option<Scales>, Memory>
+    ensures { IfOk result (λ scales. scales
+        ≡ scales_given (takes_scales named) (first_value (found_of found.now) (codes "scales"))) }
 {
-    match word {
-        CommandWord::Sweep => match found.get_str("scales") {
-            None => Ok(None),
-            Some(text) => scales_in(alloc, text),
-        },
-        CommandWord::Freeflow
-        | CommandWord::Assign
-        | CommandWord::Demo
-        | CommandWord::Skim
-        | CommandWord::Counts
-        | CommandWord::Audit => Ok(Some(no_scales(alloc))),
+    match found.get_str("scales") {
+        Some(text) => scales_in(alloc, text),
+        None if taken_by(named).scales => Ok(None),
+        None => Ok(Some(no_scales(alloc))),
     }
 }
 
@@ -168,14 +148,14 @@ fn settings_over(
     horizon: u32,
     starts: Steps,
     scales: Scales,
-    word: CommandWord,
+    named: Command,
     found: &ArgMatches,
     flags: Flags,
 ) -> Option<Settings>
     ensures { result
-        ≡ settings_over_of horizon starts scales word (first_value (found_of found.now)) flags }
+        ≡ settings_over_of horizon starts scales named (first_value (found_of found.now)) flags }
 {
-    let command = command(word, found)?;
+    let command = command(named, found)?;
     let units = units(found)?;
     let period = period(found, horizon)?;
     let iterations = number(found, "iterations", ITERATIONS)?;
@@ -206,12 +186,12 @@ fn settings_over(
 /// The settings that the values come to.
 pub(crate) fn settings_by_values(
     alloc: Global,
-    word: CommandWord,
+    named: Command,
     found: &ArgMatches,
     flags: Flags,
 ) -> Result<Option<Settings>, Memory>
     ensures { IfOk result (λ settings.
-        settings ≡ settings_by word (first_value (found_of found.now)) flags) }
+        settings ≡ settings_by named (first_value (found_of found.now)) flags) }
 {
     let Some(horizon) = number(found, "horizon", HORIZON) else {
         return Ok(None);
@@ -219,8 +199,8 @@ pub(crate) fn settings_by_values(
     let Some(starts) = starts(alloc, found, horizon)? else {
         return Ok(None);
     };
-    match scales(alloc, word, found)? {
+    match scales(alloc, named, found)? {
         None => Ok(None),
-        Some(scales) => Ok(settings_over(horizon, starts, scales, word, found, flags)),
+        Some(scales) => Ok(settings_over(horizon, starts, scales, named, found, flags)),
     }
 }

@@ -1,5 +1,5 @@
 -- Jobs of accepted tables, and what stops a run before its work.
-use Rattle.std.proofs.Common.{◌≡◌, ◌≢◌, ◌<◌, ℕ, Bool, List, [], ◌∷◌, ◌++◌, length, refl, sym, ap, subst, arith, rules, inl, inr, ◌⊎◌, ◌∙◌}
+use Rattle.std.proofs.Common.{◌≡◌, ◌≢◌, ◌<◌, ℕ, List, [], ◌∷◌, ◌++◌, length, refl, sym, ap, subst, arith, rules, inl, inr, ◌∙◌}
 use Rattle.std.specs.Prelude.{◌↔◌, ⊤, Result, Ok, Err, OnOk, IfOk, IfErr, filter, nat_eq}
 use Rattle.std.specs.List.{flat_map}
 use Rattle.std.proofs.lemmas.List.{length-map}
@@ -30,9 +30,10 @@ use Rattle.dta_words.specs.declared.command.Command.{Command}
 use Rattle.dta_words.specs.declared.command.Command.TheVariants as command
 use Rattle.dta_words.specs.declared.command.Settings.{Settings}
 use Rattle.assignment.specs.Traffic.{AreTripsBelow, IsTraffic}
-use Rattle.jobs.specs.TableRows.{TableRows, loading_tables, net_of, no_rows, road_rows}
-use Rattle.jobs.specs.Limits.{HasSweepRoom, Limits, loading_limits, sweep_limits}
-use Rattle.jobs.specs.Inputs.{Assigns, Inputs, TakesTimes, assignment_inputs, inputs_of, limits_of, read_tables, source_of, tables_of}
+use Rattle.jobs.specs.Calls.{OnlyReads}
+use Rattle.jobs.specs.TableRows.{TableRows, net_of, no_rows, road_rows}
+use Rattle.jobs.specs.Limits.{HasSweepRoom, Limits, sweep_limits}
+use Rattle.jobs.specs.Inputs.{Assigning, Assigns, Auditing, FreeFlow, Inputs, Kind, Skimming, Sweeping, TableSource, TakesTimes, assignment_inputs, at_desk, inputs_by, inputs_of, kind_of, limits_of, read_tables, source_of, tables_of}
 use Rattle.jobs.specs.Jobs.{IsAcceptedJob, IsJob, IsJobOf, JobRows, Reading, job_of}
 use Rattle.jobs.specs.Causes.{AreCounted, IsCauseAmong, IsCauseIn, IsCutIn, IsPast, ReadsFailed}
 use Rattle.jobs.specs.Stops.{HasFault, Stops, StopsAmong, StopsAt, StopsIn, StopsPast, stop_at_scale}
@@ -42,7 +43,7 @@ use Rattle.sweep.specs.Scales.{IsFirstTooMany}
 use Rattle.sweep.specs.declared.fault.SweepFault.{SweepFault}
 use Rattle.sweep.specs.declared.fault.SweepFault.TheVariants as sweep
 use Rattle.desk_io.proofs.DeskFacts.{before_left-empty}
-use Rattle.jobs.proofs.ChainFacts.{reached-then}
+use Rattle.jobs.proofs.ChainFacts.{reached-then, reads-so}
 use Rattle.jobs.specs.declared.stop.Stop.{Stop}
 use Rattle.jobs.specs.declared.stop.Stop.TheVariants.{Refused, Memory}
 
@@ -94,22 +95,16 @@ module _ (settings : Settings) where
   reached-holds t Part P (u ∷ tables) rows left rest f (inr h) = reached-holds t Part P tables h.0 h.1 rest f h.3
 
 -- what a command takes that assigns
-pub assigned-inputs : (c : Command) → Assigns c → inputs_of c ≡ record assignment_inputs { source = source_of c }
-assigned-inputs command.Freeflow assigns = absurd assigns
-assigned-inputs command.Assign assigns = refl
-assigned-inputs (command.Demo n) assigns = refl
-assigned-inputs command.Skim assigns = absurd assigns
-assigned-inputs command.Counts assigns = refl
-assigned-inputs command.Sweep assigns = absurd assigns
-assigned-inputs command.Audit assigns = absurd assigns
+assigned-inputs : (c : Command) → Assigns c → inputs_of c ≡ assignment_inputs
+assigned-inputs c assigns = ap inputs_by assigns
 
 pub assigned-no-times : (c : Command) → Assigns c → TakesTimes c → ⊥
 assigned-no-times c assigns takes = subst (λ (i : Inputs). i.takes_times) (assigned-inputs c assigns) takes
 
-pub assigned-no-sweep : (c : Command) → Assigns c → c ≡ command.Sweep → ⊥
-assigned-no-sweep c assigns e = subst (λ (x : Command). Assigns x) e assigns
+pub assigned-no-sweep : (c : Command) → Assigns c → kind_of c ≡ Sweeping → ⊥
+assigned-no-sweep c assigns is = let same : Sweeping ≡ Assigning = sym is ∙ assigns in absurd cc
 
--- its demand is released once
+-- the demand of a command that assigns is released once
 pub assigned-released : (c : Command) → Assigns c → (cells : List DemandCell) → (inputs_of c).released cells ≡ cells
 assigned-released c assigns cells = ap (λ (i : Inputs). i.released cells) (assigned-inputs c assigns)
 
@@ -175,44 +170,26 @@ own-stops s (Refused r) before after all from leaves h =
     (record { rest = after.left; leaves = leaves; part = subst (λ l. IsCauseIn s r l after.left) (sym from) own }, h.1)
 
 -- a command that reads its tables of the desk
-abbrev pub IsAtDesk : Command → Type 0
-IsAtDesk (command.Demo n) = ⊥
-IsAtDesk c = ⊤
+abbrev pub IsAtDesk : Command → Type 1
+IsAtDesk c = source_of c ≡ at_desk
 
--- what it reads, from where, and what it leaves
-abbrev ReadsDesk : Command → Type 0
-ReadsDesk c = ((start : Bool) → read_tables c start ≡ tables_of c start) × ((left : Left) → (source_of c).left left ≡ left) × ((rest before : Left) → (source_of c).leaves rest before rest)
+-- what such a source has, from where, and what it leaves
+abbrev ReadsDesk : TableSource → Type 0
+ReadsDesk source = ((tables : List Table) → source.read tables ≡ tables) × ((left : Left) → source.left left ≡ left) × ((rest before : Left) → source.leaves rest before rest)
 
-reads-desk : (c : Command) → IsAtDesk c → ReadsDesk c
-reads-desk command.Freeflow is = (λ start. refl, λ left. refl, λ rest before. refl)
-reads-desk command.Assign is = (λ start. refl, λ left. refl, λ rest before. refl)
-reads-desk (command.Demo n) is = absurd is
-reads-desk command.Skim is = (λ start. refl, λ left. refl, λ rest before. refl)
-reads-desk command.Counts is = (λ start. refl, λ left. refl, λ rest before. refl)
-reads-desk command.Sweep is = (λ start. refl, λ left. refl, λ rest before. refl)
-reads-desk command.Audit is = (λ start. refl, λ left. refl, λ rest before. refl)
+reads-desk : (c : Command) → IsAtDesk c → ReadsDesk (source_of c)
+reads-desk c is = subst ReadsDesk (sym is) (λ tables. refl, λ left. refl, λ rest before. refl)
 
-pub at-desk : (s : Settings) (c : Command) → s.command ≡ c → IsAtDesk c → IsAtDesk s.command
-at-desk s c asks is = subst IsAtDesk (sym asks) is
-
-pub loaded-at-desk : (s : Settings) → (s.command ≡ command.Assign) ⊎ (s.command ≡ command.Counts) → IsAtDesk s.command
-loaded-at-desk s (inl asks) = at-desk s command.Assign asks tt
-loaded-at-desk s (inr asks) = at-desk s command.Counts asks tt
-
-pub stop-at-desk : {T : Type 0} (s : Settings) → IsAtDesk s.command → (r : Result T Stop) (before after : DeskState)
-    → IfErr r (λ stop. StopsIn s stop before after) → IfErr r (λ stop. Stops s stop before after)
-stop-at-desk s is r before after h =
+-- the desk is then the source itself
+pub read-at-desk : {T : Type 0} (s : Settings) (rows_in : T → JobRows) (r : Result T Stop) (before after : DeskState) → IsAtDesk s.command
+    → OnlyReads (λ job. IsJobOf s (rows_in job)) (StopsIn s) before after r → OnlyReads (λ job. IsAcceptedJob s (rows_in job)) (Stops s) before after r
+read-at-desk s rows_in r before after is h =
     let reads = reads-desk s.command is in
-    IfErr-weaker r (λ stop. StopsIn s stop before after) (λ stop. Stops s stop before after)
-    (λ stop k. own-stops s stop before after (reads.0 s.start) (reads.1 before.left) (reads.2 after.left before.left) k) h
-
--- the job of a desk that is the source itself
-pub own-at-desk : {T : Type 0} (s : Settings) → IsAtDesk s.command → (rows_in : T → JobRows) (r : Result T Stop) (before after : Left)
-    → IfOk r (λ job. IsJobOf s (rows_in job) before after) → IfOk r (λ job. IsAcceptedJob s (rows_in job) before after)
-own-at-desk s is rows_in r before after h =
-    let reads = reads-desk s.command is in
-    IfOk-weaker r (λ job. IsJobOf s (rows_in job) before after) (λ job. IsAcceptedJob s (rows_in job) before after)
-    (λ job k. record { rest = after; leaves = reads.2 after before; part = subst (λ l. IsJobOf s (rows_in job) l after) (sym (reads.1 before)) k }) h
+    reads-so h
+    (IfOk-weaker r (λ job. IsJobOf s (rows_in job) before.left after.left) (λ job. IsAcceptedJob s (rows_in job) before.left after.left)
+    (λ job k. record { rest = after.left; leaves = reads.2 after.left before.left; part = subst (λ l. IsJobOf s (rows_in job) l after.left) (sym (reads.1 before.left)) k }) h.done)
+    (IfErr-weaker r (λ stop. StopsIn s stop before after) (λ stop. Stops s stop before after)
+    (λ stop k. own-stops s stop before after (reads.0 (tables_of s.command s.start)) (reads.1 before.left) (reads.2 after.left before.left) k) h.stops)
 
 never-rose : Rose 0 0 → ⊥
 never-rose r = omega (arith, r)
@@ -279,14 +256,9 @@ pub record HasInputs (s : Settings) (tables : List Table) (limits : Limits) : Ty
   pub same : tables_of s.command s.start ≡ tables
   pub under : limits_of s.command ≡ limits
 
--- where this command is asked for, and where one that assigns is
-pub asked : (s : Settings) (c : Command) → s.command ≡ c → HasInputs s (tables_of c s.start) (limits_of c)
-asked s c asks = record { same = ap (λ k. tables_of k s.start) asks; under = ap limits_of asks }
-
-pub assigned : (s : Settings) → Assigns s.command → HasInputs s (loading_tables s.start) loading_limits
-assigned s loads =
-    let is = assigned-inputs s.command loads in
-    record { same = ap (λ (i : Inputs). i.tables s.start) is; under = ap (λ (i : Inputs). i.limits) is }
+-- where this is to be done
+pub asked-for : (s : Settings) (k : Kind) → kind_of s.command ≡ k → HasInputs s ((inputs_by k).tables s.start) (inputs_by k).limits
+asked-for s k is = record { same = ap (λ (x : Kind). (inputs_by x).tables s.start) is; under = ap (λ (x : Kind). (inputs_by x).limits) is }
 
 module _ (s : Settings) {tables : List Table} {limits : Limits} (has : HasInputs s tables limits) where
   read-own : (rows : TableRows) (left rest : Left) → AreAccepted s tables no_rows rows left rest → AreAccepted s (tables_of s.command s.start) no_rows rows left rest
@@ -332,15 +304,15 @@ module _ (s : Settings) {tables : List Table} {limits : Limits} (has : HasInputs
         inr (inl (t, subst (λ (ts : List Table). ReachedAmong s ts t (λ _. IsBegun t) no_rows before.left after.left) (sym (has.same ∙ are)) reached))
 
 -- the jobs of some commands, made of rows of which some are missing
-pub free-job : (s : Settings) (nodes : List NodeRow) (links : List (WithWindows LinkRow)) → s.command ≡ command.Freeflow
+pub free-job : (s : Settings) (nodes : List NodeRow) (links : List (WithWindows LinkRow)) → kind_of s.command ≡ FreeFlow
     → record { net = net_rows nodes links []; trips = []; start = []; times = []; demand_cells = []; agents = [] } ≡ job_of s (road_rows nodes links)
-free-job s nodes links asks = rw (asks, trips_of-none s.period) refl
+free-job s nodes links is = rw (is, trips_of-none s.period) refl
 
-pub skim-job : (s : Settings) (rows : TableRows) → s.command ≡ command.Skim → rows.demand_cells ≡ [] → rows.start ≡ [] → rows.agents ≡ []
+pub skim-job : (s : Settings) (rows : TableRows) → kind_of s.command ≡ Skimming → rows.demand_cells ≡ [] → rows.start ≡ [] → rows.agents ≡ []
     → record { net = net_of rows; trips = []; start = []; times = rows.times; demand_cells = []; agents = [] } ≡ job_of s rows
 skim-job s rows asks none unstarted unaudited = rw (asks, none, unstarted, unaudited, trips_of-none s.period) refl
 
-pub audit-job : (s : Settings) (rows : TableRows) → s.command ≡ command.Audit
+pub audit-job : (s : Settings) (rows : TableRows) → kind_of s.command ≡ Auditing
     → record {
       net = net_of rows;
       trips = trips_of rows.demand_cells s.period;

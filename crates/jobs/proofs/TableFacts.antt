@@ -46,7 +46,7 @@ use Rattle.demand.specs.declared.demand_rows.TheConstants.{MOST_DEMAND_CELLS}
 use Rattle.desk_io.specs.declared.transfers.TheConstants.{MOST_TABLE_BYTES}
 use Rattle.desk_io.specs.State.{DeskState}
 use Rattle.jobs.specs.TableRows.{TableRows, net_of, no_rows, road_rows}
-use Rattle.jobs.specs.Inputs.{inputs_of}
+use Rattle.jobs.specs.Inputs.{Auditing, Kind, inputs_by, inputs_of, kind_of}
 use Rattle.jobs.specs.Stops.{StopsAt, stop_of}
 use Rattle.jobs.specs.Tables.{IsAccepted, turns_of, with_table}
 use Rattle.jobs.specs.Calls.{rows_in_roads, rows_with_turns, with_agent_rows, with_demand_cells, with_start_rows, with_time_rows}
@@ -124,9 +124,9 @@ start-with : (settings : Settings) (rows : TableRows) (bytes : List ℕ) → set
     → with_table settings rows table.Start bytes ≡ then_with (start_verdict (records bytes)) (λ start. Ok (record rows { start = start }))
 start-with settings rows bytes asks = ap (λ (c : Command). (inputs_of c).with_agents rows bytes) asks
 
-agents-with : (settings : Settings) (rows : TableRows) (bytes : List ℕ) → settings.command ≡ command.Audit
+agents-with : (settings : Settings) (rows : TableRows) (bytes : List ℕ) → kind_of settings.command ≡ Auditing
     → with_table settings rows table.Start bytes ≡ then_with (agents_verdict (records bytes)) (λ agents. Ok (record rows { agents = agents }))
-agents-with settings rows bytes asks = ap (λ (c : Command). (inputs_of c).with_agents rows bytes) asks
+agents-with settings rows bytes is = ap (λ (k : Kind). (inputs_by k).with_agents rows bytes) is
 
 start-told : (settings : Settings) (rows : TableRows) (bytes : List ℕ) (why : TableRefusal) → settings.command ≡ command.Assign
     → Tells (start_verdict (records bytes)) (Err why) → IsToldBy settings table.Start rows bytes why
@@ -134,7 +134,7 @@ start-told settings rows bytes (refusal.Fault f) asks told =
     (start-with settings rows bytes asks ∙ (rw (told) refl), verdict-table table.Start MOST_START_ROWS start_columns start_row_of (records bytes) f told)
 start-told settings rows bytes refusal.Memory asks told = tt
 
-agents-told : (settings : Settings) (rows : TableRows) (bytes : List ℕ) (why : TableRefusal) → settings.command ≡ command.Audit
+agents-told : (settings : Settings) (rows : TableRows) (bytes : List ℕ) (why : TableRefusal) → kind_of settings.command ≡ Auditing
     → Tells (agents_verdict (records bytes)) (Err why) → IsToldBy settings table.Start rows bytes why
 agents-told settings rows bytes (refusal.Fault f) asks told =
     (agents-with settings rows bytes asks ∙ (rw (told) refl), verdict-table table.Start MOST_AGENT_ROWS agent_columns agent_row_of (records bytes) f told)
@@ -187,7 +187,7 @@ pub start-stop : (settings : Settings) (rows : TableRows) (bytes text : List ℕ
 start-stop settings rows bytes text before after why asks read short same told =
     stop-at settings table.Start rows bytes before after why read short (start-told settings rows bytes why asks (subst (λ x. Tells (start_verdict (records x)) (Err why)) same told))
 
-pub agents-stop : (settings : Settings) (rows : TableRows) (bytes text : List ℕ) (before after : DeskState) (why : TableRefusal) → settings.command ≡ command.Audit
+pub agents-stop : (settings : Settings) (rows : TableRows) (bytes text : List ℕ) (before after : DeskState) (why : TableRefusal) → kind_of settings.command ≡ Auditing
     → IsRead table.Start bytes before.left after.left → length bytes ≤ MOST_TABLE_BYTES → text ≡ bytes → Tells (agents_verdict (records text)) (Err why)
     → StopsAt settings table.Start rows (stop_of why) before after
 agents-stop settings rows bytes text before after why asks read short same told =
@@ -251,7 +251,7 @@ start-accepted settings rows bytes text start before after asks read short same 
     record { bytes = bytes; read = read; short = short; accepted = start-with settings rows bytes asks ∙ (rw k refl) }
 
 pub agents-accepted : (settings : Settings) (rows : TableRows) (bytes text : List ℕ)
-    (agents : List AgentRow) (before after : Left) → settings.command ≡ command.Audit → IsRead table.Start bytes before after
+    (agents : List AgentRow) (before after : Left) → kind_of settings.command ≡ Auditing → IsRead table.Start bytes before after
     → length bytes ≤ MOST_TABLE_BYTES → text ≡ bytes → Tells (agents_verdict (records text)) (Ok agents)
     → IsAccepted settings table.Start rows (with_agent_rows rows agents) before after
 agents-accepted settings rows bytes text agents before after asks read short same is =

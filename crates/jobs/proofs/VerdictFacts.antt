@@ -24,9 +24,9 @@ use Rattle.dta_words.specs.declared.command.Settings.{Settings}
 use Rattle.reports.specs.declared.refusal.TheConstants.{MOST_SWEEP_LINK_STEPS}
 use Rattle.std.proofs.lemmas.List.Elements.{All-head, All-tail}
 use Rattle.sweep.specs.Scales.{AreAllWithin, IsFirstTooMany, scaled}
-use Rattle.jobs.specs.TableRows.{TableRows, loading_tables, no_rows}
+use Rattle.jobs.specs.TableRows.{TableRows, no_rows}
 use Rattle.jobs.specs.Limits.{AreAbove, Limits, first_above, loading_limits, scales_past, skim_entries, skim_limits, sweep_limits, vehicles_past}
-use Rattle.jobs.specs.Inputs.{limits_of, read_tables, source_of, tables_of}
+use Rattle.jobs.specs.Inputs.{Assigning, Auditing, FreeFlow, Kind, Skimming, Sweeping, inputs_by, kind_of, read_tables, source_of, tables_of}
 use Rattle.jobs.specs.Jobs.{IsAcceptedJob, JobRows}
 use Rattle.jobs.specs.Causes.{IsCause, IsPast}
 use Rattle.jobs.specs.Tables.{AreAccepted, AreTold, IsAccepted, IsFaulty, ReachedAmong, with_table}
@@ -287,54 +287,25 @@ past-sweep s rows (refusal.Vehicles line total) (room, (scenario, h)) =
 past-sweep s rows (refusal.SkimPairs number) h = absurd h
 past-sweep s rows (refusal.SweepCells links steps) h = on-many-steps MOST_SWEEP_LINK_STEPS s rows links steps _ refusal.SweepCells h
 
-on-limits : (c : Command) → OnWithin (limits_of c) × OnPast (limits_of c)
-on-limits command.Freeflow = (λ s rows w. refl, λ s rows r h. absurd h)
-on-limits command.Assign = (on-loading, past-loading)
-on-limits (command.Demo n) = (on-loading, past-loading)
-on-limits command.Skim = (on-skim, past-skim)
-on-limits command.Counts = (on-loading, past-loading)
-on-limits command.Sweep = (on-sweep, past-sweep)
-on-limits command.Audit = (on-loading, past-loading)
+on-limits : (k : Kind) → OnWithin (inputs_by k).limits × OnPast (inputs_by k).limits
+on-limits FreeFlow = (λ s rows w. refl, λ s rows r h. absurd h)
+on-limits Assigning = (on-loading, past-loading)
+on-limits Skimming = (on-skim, past-skim)
+on-limits Sweeping = (on-sweep, past-sweep)
+on-limits Auditing = (on-loading, past-loading)
 
 -- ---- the verdict of a run whose words are in the grammar
 
-distinct-loading : (start : Bool) → AreDistinct (loading_tables start)
-distinct-loading false =
-    ((λ e. absurd cc, (λ e. absurd cc, (λ e. absurd cc, tt))), ((λ e. absurd cc, (λ e. absurd cc, tt)), ((λ e. absurd cc, tt), (tt, tt))))
-distinct-loading true = (
-  (λ e. absurd cc, (λ e. absurd cc, (λ e. absurd cc, (λ e. absurd cc, tt)))),
-  ((λ e. absurd cc, (λ e. absurd cc, (λ e. absurd cc, tt))), ((λ e. absurd cc, (λ e. absurd cc, tt)), ((λ e. absurd cc, tt), (tt, tt)))),
-)
-
-distinct : (c : Command) (start : Bool) → AreDistinct (tables_of c start)
-distinct command.Freeflow start = ((λ e. absurd cc, tt), (tt, tt))
-distinct command.Assign start = distinct-loading start
-distinct (command.Demo n) start = distinct-loading start
-distinct command.Skim start =
-    ((λ e. absurd cc, (λ e. absurd cc, (λ e. absurd cc, tt))), ((λ e. absurd cc, (λ e. absurd cc, tt)), ((λ e. absurd cc, tt), (tt, tt))))
-distinct command.Counts start = distinct-loading start
-distinct command.Sweep start = distinct-loading false
-distinct command.Audit start = (
-  (λ e. absurd cc, (λ e. absurd cc, (λ e. absurd cc, (λ e. absurd cc, (λ e. absurd cc, tt))))),
-  (
-    (λ e. absurd cc, (λ e. absurd cc, (λ e. absurd cc, (λ e. absurd cc, tt)))),
-    (
-      (λ e. absurd cc, (λ e. absurd cc, (λ e. absurd cc, tt))),
-      ((λ e. absurd cc, (λ e. absurd cc, tt)), ((λ e. absurd cc, tt), (tt, tt))),
-    ),
-  ),
-)
+distinct : (k : Kind) (start : Bool) → AreDistinct ((inputs_by k).tables start)
+distinct FreeFlow start = grind arith
+distinct k false = grind arith
+distinct k true = grind arith
 
 source-told : (c : Command) (start : Bool) (left : Left) (texts : Table → List ℕ) → AreTold (read_tables c start) left texts
     → AreTold (tables_of c start) ((source_of c).left left) ((source_of c).texts texts)
-source-told command.Freeflow start left texts h = h
-source-told command.Assign start left texts h = h
 source-told (command.Demo n) false left texts h = (refl, (refl, (refl, (refl, tt))))
 source-told (command.Demo n) true left texts h = (refl, (refl, (refl, (refl, (refl, tt)))))
-source-told command.Skim start left texts h = h
-source-told command.Counts start left texts h = h
-source-told command.Sweep start left texts h = h
-source-told command.Audit start left texts h = h
+source-told c start left texts h = h
 
 -- the texts that these settings read are told
 abbrev pub AreAllTold : Settings → Left → (Table → List ℕ) → Type 0
@@ -349,15 +320,15 @@ pub verdict-job : (s : Settings) (job : JobRows) (texts : Table → List ℕ) (b
     → IsAcceptedJob s job before after → verdict_by (Some s) texts ≡ Accepted s job
 verdict-job s job texts before after told h =
     on-all s (tables_of s.command s.start) ((source_of s.command).texts texts) no_rows h.part.rows ((source_of s.command).left before) h.rest
-    (verdict_on_rows s.command s) (distinct s.command s.start) told h.part.read
-    ∙ ap (λ (o : Option Refusal). verdict_past o s h.part.rows) ((on-limits s.command).0 s h.part.rows h.part.within) ∙ ap (Accepted s) (sym h.part.makes)
+    (verdict_on_rows s.command s) (distinct (kind_of s.command) s.start) told h.part.read
+    ∙ ap (λ (o : Option Refusal). verdict_past o s h.part.rows) ((on-limits (kind_of s.command)).0 s h.part.rows h.part.within) ∙ ap (Accepted s) (sym h.part.makes)
 
 verdict-on-past : (s : Settings) (r : Refusal) (texts : Table → List ℕ) (before after : Left) → AreTold (tables_of s.command s.start) before ((source_of s.command).texts texts)
     → IsPast s r before after → verdict_by (Some s) texts ≡ Refused r
 verdict-on-past s r texts before after told h =
     on-all s (tables_of s.command s.start) ((source_of s.command).texts texts) no_rows h.rows before after
-    (verdict_on_rows s.command s) (distinct s.command s.start) told h.read
-    ∙ ap (λ (o : Option Refusal). verdict_past o s h.rows) ((on-limits s.command).1 s h.rows r h.part)
+    (verdict_on_rows s.command s) (distinct (kind_of s.command) s.start) told h.read
+    ∙ ap (λ (o : Option Refusal). verdict_past o s h.rows) ((on-limits (kind_of s.command)).1 s h.rows r h.part)
 
 -- a refusal whose cause the bytes of the tables show
 abbrev pub IsShown : Refusal → Type 0
@@ -376,11 +347,11 @@ verdict-refused s refusal.Usage texts before after i told h = absurd i
 verdict-refused s (refusal.Read t) texts before after i told h = absurd i
 verdict-refused s (refusal.Table fault) texts before after i told h =
     on-reached s (tables_of s.command s.start) fault.table (IsFaulty s fault fault.table) ((source_of s.command).texts texts) no_rows
-    ((source_of s.command).left before) h.rest (verdict_on_rows s.command s) (Refused (refusal.Table fault)) (distinct s.command s.start) told h.part
+    ((source_of s.command).left before) h.rest (verdict_on_rows s.command s) (Refused (refusal.Table fault)) (distinct (kind_of s.command) s.start) told h.part
     (λ others rows left turn e. on-faulty s fault fault.table others ((source_of s.command).texts texts) rows left h.rest (verdict_on_rows s.command s) turn e)
 verdict-refused s (refusal.LongTable t) texts before after i told h =
     on-reached s (tables_of s.command s.start) t (λ _. IsLong t MOST_TABLE_BYTES) ((source_of s.command).texts texts) no_rows
-    ((source_of s.command).left before) h.rest (verdict_on_rows s.command s) (Refused (refusal.LongTable t)) (distinct s.command s.start) told h.part
+    ((source_of s.command).left before) h.rest (verdict_on_rows s.command s) (Refused (refusal.LongTable t)) (distinct (kind_of s.command) s.start) told h.part
     (λ others rows left turn e. on-long s t others ((source_of s.command).texts texts) rows left h.rest (verdict_on_rows s.command s) turn e)
 verdict-refused s (refusal.Cells links steps) texts before after i told h =
     verdict-on-past s (refusal.Cells links steps) texts ((source_of s.command).left before) h.rest told h.part

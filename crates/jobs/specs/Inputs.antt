@@ -1,4 +1,4 @@
--- What each command takes of its tables.
+-- What each command does, and what it takes of its tables.
 use Rattle.std.specs.Prelude.{ℕ, ◌≡◌, ⊤, Bool, List, [], Result, Ok}
 use Rattle.desk_io.specs.declared.desk.Table.{Table}
 use Rattle.desk_io.specs.declared.desk.Table.TheVariants as table
@@ -61,14 +61,20 @@ abbrev pub with_vehicles : TableRows → List ℕ → Result TableRows TableFaul
 with_vehicles rows bytes =
     then_with (agents_verdict (records bytes)) (λ agents. Ok (record rows { agents = agents }))
 
--- what a command takes: its tables, in the order in which they are read, where a start table is
--- asked for or not; their source; whether it does the work of one assignment; whether it reads
--- link times; the rows with those of an agent table; the demand that is released once, and that
--- which is multiplied; its limits
+-- what is done over tables: free-flow steps are told, an assignment is made, least times are
+-- found, assignments for multiples of the demand are made, or an assignment is checked
+pub data Kind : Type 0 where
+  FreeFlow : Kind
+  Assigning : Kind
+  Skimming : Kind
+  Sweeping : Kind
+  Auditing : Kind
+
+-- what is taken for it: its tables, in the order in which they are read, where a start table is
+-- asked for or not; whether it reads link times; the rows with those of an agent table; the demand
+-- that is released once, and that which is multiplied; its limits
 pub record Inputs : Type 1 where
   pub tables : (start : Bool) → List Table
-  pub source : TableSource
-  pub assigns : Type 0
   pub takes_times : Type 0
   pub with_agents : TableRows → List ℕ → Result TableRows TableFault
   pub released : List DemandCell → List DemandCell
@@ -78,8 +84,6 @@ pub record Inputs : Type 1 where
 abbrev pub assignment_inputs : Inputs
 assignment_inputs = record {
   tables = loading_tables;
-  source = at_desk;
-  assigns = ⊤;
   takes_times = ⊥;
   with_agents = with_start;
   released = λ cells. cells;
@@ -87,47 +91,65 @@ assignment_inputs = record {
   limits = loading_limits;
 }
 
-abbrev pub inputs_of : Command → Inputs
-inputs_of command.Freeflow = record assignment_inputs {
+abbrev pub inputs_by : Kind → Inputs
+inputs_by FreeFlow = record assignment_inputs {
   tables = λ start. road_tables;
-  assigns = ⊥;
   limits = no_limits;
 }
-inputs_of command.Assign = assignment_inputs
-inputs_of (command.Demo n) = record assignment_inputs { source = of_grid n }
-inputs_of command.Skim = record assignment_inputs {
+inputs_by Assigning = assignment_inputs
+inputs_by Skimming = record assignment_inputs {
   tables = λ start. skim_tables;
-  assigns = ⊥;
   takes_times = ⊤;
   limits = skim_limits;
 }
-inputs_of command.Counts = assignment_inputs
-inputs_of command.Sweep = record assignment_inputs {
+inputs_by Sweeping = record assignment_inputs {
   tables = λ start. all_tables;
-  assigns = ⊥;
   released = λ cells. [];
   swept = λ cells. cells;
   limits = sweep_limits;
 }
-inputs_of command.Audit = record assignment_inputs {
+inputs_by Auditing = record assignment_inputs {
   tables = λ start. audit_tables;
-  assigns = ⊥;
   takes_times = ⊤;
   with_agents = with_vehicles;
 }
 
-abbrev pub tables_of : Command → (start : Bool) → List Table
-tables_of c start = (inputs_of c).tables start
+-- the duty of a command: what it does, and where its tables come from
+pub record Duty : Type 1 where
+  pub kind : Kind
+  pub source : TableSource
+
+abbrev over_desk : Kind → Duty
+over_desk kind = record { kind = kind; source = at_desk }
+
+abbrev pub duty_of : Command → Duty
+duty_of command.Freeflow = over_desk FreeFlow
+duty_of command.Assign = over_desk Assigning
+duty_of (command.Demo n) = record { kind = Assigning; source = of_grid n }
+duty_of command.Skim = over_desk Skimming
+duty_of command.Counts = over_desk Assigning
+duty_of command.Sweep = over_desk Sweeping
+duty_of command.Audit = over_desk Auditing
+
+abbrev pub kind_of : Command → Kind
+kind_of c = (duty_of c).kind
 
 abbrev pub source_of : Command → TableSource
-source_of c = (inputs_of c).source
+source_of c = (duty_of c).source
+
+abbrev pub inputs_of : Command → Inputs
+inputs_of c = inputs_by (kind_of c)
+
+abbrev pub tables_of : Command → (start : Bool) → List Table
+tables_of c start = (inputs_of c).tables start
 
 -- the tables that it reads from the desk
 abbrev pub read_tables : Command → (start : Bool) → List Table
 read_tables c start = (source_of c).read (tables_of c start)
 
+-- it does the work of one assignment
 abbrev pub Assigns : Command → Type 0
-Assigns c = (inputs_of c).assigns
+Assigns c = kind_of c ≡ Assigning
 
 abbrev pub TakesTimes : Command → Type 0
 TakesTimes c = (inputs_of c).takes_times

@@ -8,7 +8,6 @@ use Rattle.dta_model.specs.declared.trip.DemandCell.{DemandCell}
 use Rattle.dta_model.specs.declared.trip.Trip.{Trip}
 use Rattle.demand.specs.DemandRows.{AreDemandCells}
 use Rattle.dta_words.specs.declared.command.Command.{Command}
-use Rattle.dta_words.specs.declared.command.Command.TheVariants as command
 use Rattle.dta_words.specs.declared.command.Settings.{Settings}
 use Rattle.skims.specs.GivenTimes.{AreRowsOf}
 use Rattle.skims.specs.declared.time_rows.TimeRow.{TimeRow}
@@ -20,7 +19,8 @@ use Rattle.audit.specs.declared.agent_rows.AgentRow.{AgentRow}
 use Rattle.start_table.specs.Starts.{AreStartRows}
 use Rattle.start_table.specs.declared.rows.StartRow.{StartRow}
 use Rattle.jobs.specs.TableRows.{TableRows, net_of, no_rows}
-use Rattle.jobs.specs.Inputs.{TakesTimes, inputs_of, limits_of, source_of, tables_of}
+use Rattle.jobs.specs.Inputs.{Sweeping, TakesTimes, inputs_of, kind_of, limits_of, source_of}
+use Rattle.jobs.specs.Inputs.{tables_of}
 use Rattle.jobs.specs.Tables.{AreAccepted}
 
 -- the tables of a command were read one after the other as far as this says, with so much left
@@ -75,7 +75,7 @@ pub record IsJob (s : Settings) (job : JobRows) : Type 0 where
   pub trips : AreTripsBelow s.horizon job.trips
   pub start : AreStartRows job.start
   pub times : TakesTimes s.command → AreRowsOf job.net s.bucket s.horizon job.times
-  pub sweep : s.command ≡ command.Sweep → IsSweepJob s job
+  pub sweep : kind_of s.command ≡ Sweeping → IsSweepJob s job
 
 -- what is assigned of a job
 abbrev pub traffic_of : JobRows → Traffic

@@ -1,9 +1,8 @@
 -- The jobs of the commands as one record: what a command doesn't take is empty.
 use Rattle.std.specs.Prelude.{◌≡◌, []}
 use Rattle.dta_words.specs.declared.command.Command.{Command}
-use Rattle.dta_words.specs.declared.command.Command.TheVariants as command
 use Rattle.net_core.specs.declared.rows.NetRows.{NetRows}
-use Rattle.jobs.specs.Inputs.{Assigns}
+use Rattle.jobs.specs.Inputs.{Assigns, Auditing, FreeFlow, Skimming, Sweeping, kind_of}
 use Rattle.jobs.specs.Jobs.{JobRows}
 use Rattle.jobs.specs.declared.assign_job.AssignJob.{AssignJob}
 use Rattle.jobs.specs.declared.audit_job.AuditJob.{AuditJob}
@@ -38,8 +37,8 @@ rows_in_job (Audit job) = audit_rows job
 
 -- a job is of this command
 abbrev pub IsFor : Command → Job → Type 0
-IsFor c (Freeflow net) = c ≡ command.Freeflow
+IsFor c (Freeflow net) = kind_of c ≡ FreeFlow
 IsFor c (Assign job) = Assigns c
-IsFor c (Skim job) = c ≡ command.Skim
-IsFor c (Sweep job) = c ≡ command.Sweep
-IsFor c (Audit job) = c ≡ command.Audit
+IsFor c (Skim job) = kind_of c ≡ Skimming
+IsFor c (Sweep job) = kind_of c ≡ Sweeping
+IsFor c (Audit job) = kind_of c ≡ Auditing

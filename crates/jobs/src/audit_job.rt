@@ -1,8 +1,8 @@
 // The job of an audit: its network and its trips, and the two tables that are audited.
 ghost use Rattle.std.specs.Prelude.{◌≡◌, IfOk};
 ghost use Rattle.dta_words.specs.Ranges.{AreSettings};
-ghost use Rattle.dta_words.specs.declared.command.Command.TheVariants as command;
 ghost use Rattle.jobs.specs.Calls.{OnlyReads};
+ghost use Rattle.jobs.specs.Inputs.{Auditing, kind_of};
 ghost use Rattle.jobs.specs.Jobs.{IsJob, IsJobOf};
 ghost use Rattle.jobs.specs.Stops.{StopsIn};
 ghost use Rattle.jobs.specs.Kinds.{IsFor, rows_in_job};
@@ -40,7 +40,7 @@ pub(crate) fn accept_audit<D: Desk>(
     settings: &Settings,
 ) -> Result<Job, Stop>
     requires settings { AreSettings settings.now }
-    requires command { settings.now.command ≡ command.Audit }
+    requires kind { kind_of settings.now.command ≡ Auditing }
     ensures reads { OnlyReads (λ job. IsJobOf settings.now (rows_in_job job))
         (StopsIn settings.now) (D.state desk.old) (D.state desk.new) result }
     ensures sound { IfOk result (λ job. IsJob settings.now (rows_in_job job)) }

@@ -1,8 +1,8 @@
 // The job of a run: what its settings and its tables come to.
 ghost use Rattle.std.specs.Prelude.{◌≡◌, IfOk};
 ghost use Rattle.dta_words.specs.Ranges.{AreSettings};
-ghost use Rattle.dta_words.specs.declared.command.Command.TheVariants as command;
 ghost use Rattle.jobs.specs.Calls.{OnlyReads};
+ghost use Rattle.jobs.specs.Inputs.{FreeFlow, kind_of};
 ghost use Rattle.jobs.specs.Jobs.{IsAcceptedJob, IsJob, IsJobOf};
 ghost use Rattle.jobs.specs.Stops.{Stops, StopsIn};
 ghost use Rattle.jobs.specs.Kinds.{IsFor, rows_in_job};
@@ -37,7 +37,7 @@ pub enum Job {
 // Reads and checks the tables of `freeflow`, and makes its job.
 fn accept_free<D: Desk>(alloc: Global, desk: &mut D, settings: &Settings) -> Result<Job, Stop>
     requires settings { AreSettings settings.now }
-    requires command { settings.now.command ≡ command.Freeflow }
+    requires kind { kind_of settings.now.command ≡ FreeFlow }
     ensures reads { OnlyReads (λ job. IsJobOf settings.now (rows_in_job job))
         (StopsIn settings.now) (D.state desk.old) (D.state desk.new) result }
     ensures sound { IfOk result (λ job. IsJob settings.now (rows_in_job job)) }

@@ -1,10 +1,10 @@
 // The job of a skim: its network, and a table of link times.
 ghost use Rattle.std.specs.Prelude.{◌≡◌, IfOk, IfErr, OnOk};
 ghost use Rattle.dta_words.specs.Ranges.{AreSettings};
-ghost use Rattle.dta_words.specs.declared.command.Command.TheVariants as command;
 ghost use Rattle.jobs.specs.Calls.{OnlyReads};
 ghost use Rattle.jobs.specs.TableRows.{TableRows, net_of};
 ghost use Rattle.jobs.specs.Limits.{skim_limits};
+ghost use Rattle.jobs.specs.Inputs.{Skimming, kind_of};
 ghost use Rattle.jobs.specs.Jobs.{IsJob, IsJobOf};
 ghost use Rattle.jobs.specs.Stops.{StopsIn, StopsPast};
 ghost use Rattle.jobs.specs.Kinds.{IsFor, rows_in_job};
@@ -61,7 +61,7 @@ pub(crate) fn accept_skim<D: Desk>(
     settings: &Settings,
 ) -> Result<Job, Stop>
     requires settings { AreSettings settings.now }
-    requires command { settings.now.command ≡ command.Skim }
+    requires kind { kind_of settings.now.command ≡ Skimming }
     ensures reads { OnlyReads (λ job. IsJobOf settings.now (rows_in_job job))
         (StopsIn settings.now) (D.state desk.old) (D.state desk.new) result }
     ensures sound { IfOk result (λ job. IsJob settings.now (rows_in_job job)) }

@@ -2,12 +2,12 @@
 ghost use Rattle.std.specs.Prelude.{◌≡◌, length, IfOk, IfErr, OnOk};
 ghost use Rattle.demand.specs.DemandRows.{AreDemandCells};
 ghost use Rattle.dta_words.specs.Ranges.{AreSettings};
-ghost use Rattle.dta_words.specs.declared.command.Command.TheVariants as command;
 ghost use Rattle.gmns_tables.specs.Net.{net_of as joined};
 ghost use Rattle.net_core.specs.Network.{IsNet};
 ghost use Rattle.jobs.specs.Calls.{OnlyReads, rows_in_tables};
 ghost use Rattle.jobs.specs.TableRows.{TableRows};
 ghost use Rattle.jobs.specs.Limits.{sweep_limits};
+ghost use Rattle.jobs.specs.Inputs.{Sweeping, kind_of};
 ghost use Rattle.jobs.specs.Jobs.{IsJob, IsJobOf, job_of as job_of_rows};
 ghost use Rattle.jobs.specs.Stops.{StopsIn, StopsPast};
 ghost use Rattle.jobs.specs.Kinds.{IsFor, rows_in_job};
@@ -36,7 +36,7 @@ pub struct SweepJob {
 // Checks the sizes of a sweep: the links times the steps, and then the vehicles of each scenario.
 fn sweep_sizes(links: u32, demand_cells: &[DemandCell], settings: &Settings) -> Result<(), Stop>
     requires settings { AreSettings settings.now }
-    requires command { settings.now.command ≡ command.Sweep }
+    requires kind { kind_of settings.now.command ≡ Sweeping }
     requires demand_cells { AreDemandCells demand_cells.now }
     ensures within { (rows : TableRows)
         → length rows.links ≡ links → rows.demand_cells ≡ demand_cells.now
@@ -56,7 +56,7 @@ fn sweep_sizes(links: u32, demand_cells: &[DemandCell], settings: &Settings) -> 
 // The job of the accepted tables of a sweep. Its demand is released by scenario.
 fn sweep_job_of(alloc: Global, tables: Tables, settings: &Settings) -> Result<Job, Stop>
     requires settings { AreSettings settings.now }
-    requires command { settings.now.command ≡ command.Sweep }
+    requires kind { kind_of settings.now.command ≡ Sweeping }
     requires net { let network = tables.network in
         IsNet (joined network.roads.nodes network.roads.links network.turns) }
     requires demand_cells { AreDemandCells tables.demand_cells.items }
@@ -85,7 +85,7 @@ pub(crate) fn accept_sweep<D: Desk>(
     settings: &Settings,
 ) -> Result<Job, Stop>
     requires settings { AreSettings settings.now }
-    requires command { settings.now.command ≡ command.Sweep }
+    requires kind { kind_of settings.now.command ≡ Sweeping }
     ensures reads { OnlyReads (λ job. IsJobOf settings.now (rows_in_job job))
         (StopsIn settings.now) (D.state desk.old) (D.state desk.new) result }
     ensures sound { IfOk result (λ job. IsJob settings.now (rows_in_job job)) }

@@ -16,6 +16,7 @@ ghost use Rattle.jobs.specs.Calls.{rows_in_tables, rows_with_turns, rows_in_netw
 ghost use Rattle.jobs.specs.Calls.{with_agent_rows, with_demand_cells, with_start_rows};
 ghost use Rattle.jobs.specs.Calls.{with_time_rows};
 ghost use Rattle.skims.specs.GivenTimes.{AreRowsOf};
+ghost use Rattle.jobs.specs.Inputs.{Auditing, kind_of};
 ghost use Rattle.jobs.specs.TableRows.{TableRows, all_tables, net_of, network_tables, no_rows};
 ghost use Rattle.jobs.specs.TableRows.{road_rows, road_tables};
 ghost use Rattle.jobs.specs.Stops.{StopsAt};
@@ -168,7 +169,7 @@ pub(crate) fn accept_start<D: Desk>(alloc: Global, desk: &mut D) -> Result<Start
 
 /// Reads and checks the agent table of an audit.
 pub(crate) fn accept_agents<D: Desk>(alloc: Global, desk: &mut D) -> Result<AgentRows, Stop>
-    ensures reads { (settings : Settings) (rows : TableRows) → settings.command ≡ command.Audit
+    ensures reads { (settings : Settings) (rows : TableRows) → kind_of settings.command ≡ Auditing
         → Accepts settings table.Start rows (with_agent_rows rows)
         (D.state desk.old) (D.state desk.new) result }
 {

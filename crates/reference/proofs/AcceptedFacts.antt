@@ -36,15 +36,13 @@ use Rattle.skims.specs.declared.time_rows.TimeRow.{TimeRow}
 use Rattle.sweep.specs.Scales.{AreAllWithin, scaled}
 use Rattle.dta_words.specs.Grammar.{settings_of}
 use Rattle.dta_words.specs.Ranges.{AreSettings}
-use Rattle.dta_words.specs.declared.command.Command.{Command}
-use Rattle.dta_words.specs.declared.command.Command.TheVariants as command
 use Rattle.dta_words.specs.declared.command.Settings.{Settings}
-use Rattle.jobs.specs.TableRows.{TableRows, loading_tables, net_of, no_rows, road_rows, start_tables}
+use Rattle.jobs.specs.TableRows.{TableRows, net_of, no_rows, road_rows, start_tables}
 use Rattle.jobs.specs.Limits.{first_above, loading_limits, scales_past, vehicles_past}
-use Rattle.jobs.specs.Inputs.{TakesTimes, inputs_of, source_of, tables_of}
+use Rattle.jobs.specs.Inputs.{Assigning, Auditing, FreeFlow, Kind, Skimming, Sweeping, inputs_by, inputs_of, kind_of, source_of}
 use Rattle.jobs.specs.Jobs.{IsJob, IsSweepJob, JobRows, job_of}
 use Rattle.jobs.specs.Tables.{turns_of, with_table}
-use Rattle.jobs.specs.Verdict.{Accepted, Refused, Verdict, after_table, verdict, verdict_by, verdict_on, verdict_on_rows, verdict_past}
+use Rattle.jobs.specs.Verdict.{Accepted, Refused, Verdict, after_table, verdict, verdict_by, verdict_on, verdict_past}
 use Rattle.assignment.proofs.AssignmentFacts.{no-start-rows}
 use Rattle.jobs.proofs.TableFacts.{joined-net}
 use Rattle.reference.specs.Laws.{IsAccepted}
@@ -119,27 +117,27 @@ on-scales cells (scale ∷ scales) e =
 
 -- ---- the job of accepted tables
 
-module _ (s : Settings) (in_range : AreSettings s) (given : Settings) (job : JobRows) (c : Command) (asks : s.command ≡ c) where
+module _ (s : Settings) (in_range : AreSettings s) (given : Settings) (job : JobRows) (k : Kind) (is : kind_of s.command ≡ k) where
   -- what is true of the rows of all tables
   record AreSound (rows : TableRows) : Type 0 where
     net : IsNet (net_of rows)
-    few : IsWithin ((inputs_of c).released rows.demand_cells)
+    few : IsWithin ((inputs_by k).released rows.demand_cells)
     start : AreStartRows rows.start
-    times : TakesTimes c → AreRowsOf (net_of rows) s.bucket s.horizon rows.times
-    sweep : c ≡ command.Sweep → IsSweepJob s (job_of s rows)
+    times : (inputs_by k).takes_times → AreRowsOf (net_of rows) s.bucket s.horizon rows.times
+    sweep : k ≡ Sweeping → IsSweepJob s (job_of s rows)
 
   accepted : (rows : TableRows) → AreSound rows → Accepts given job (Accepted s (job_of s rows)) → IsAccepted given job
   accepted rows sound e =
       let same : s ≡ given = cc in
       let made : job_of s rows ≡ job = cc in
-      let is : IsJob s (job_of s rows) = record {
+      let good : IsJob s (job_of s rows) = record {
         net = sound.net;
-        trips = trips-below s in_range ((inputs_of s.command).released rows.demand_cells) (subst (λ (k : Command). IsWithin ((inputs_of k).released rows.demand_cells)) (sym asks) sound.few);
+        trips = trips-below s in_range ((inputs_of s.command).released rows.demand_cells) (subst (λ (x : Kind). IsWithin ((inputs_by x).released rows.demand_cells)) (sym is) sound.few);
         start = sound.start;
-        times = subst (λ (k : Command). TakesTimes k → AreRowsOf (net_of rows) s.bucket s.horizon rows.times) (sym asks) sound.times;
-        sweep = λ k. sound.sweep (sym asks ∙ k);
+        times = subst (λ (x : Kind). (inputs_by x).takes_times → AreRowsOf (net_of rows) s.bucket s.horizon rows.times) (sym is) sound.times;
+        sweep = λ asks. sound.sweep (sym is ∙ asks);
       } in
-      subst (λ (g : Settings). IsAccepted g job) same (record { in_range = in_range; sound = subst (IsJob s) made is })
+      subst (λ (g : Settings). IsAccepted g job) same (record { in_range = in_range; sound = subst (IsJob s) made good })
 
   module _ (texts : Table → List ℕ) (next : TableRows → Verdict) where
     abbrev Says : List Table → TableRows → Type 0
@@ -201,17 +199,20 @@ module _ (s : Settings) (in_range : AreSettings s) (given : Settings) (job : Job
         one-table table.Times others rows (times_verdict (net_of rows) s.bucket s.horizon (records (texts table.Times))) (λ times. record rows { times = times }) refl e (λ times is e1.
         then times (are-times (net_of rows) s.bucket s.horizon _ times in_range.bucket.0 in_range.horizon.0 is) e1)
 
--- ---- all commands
+-- ---- all kinds of work
 
 module _ (s : Settings) (in_range : AreSettings s) (given : Settings) (job : JobRows) (texts : Table → List ℕ) where
-  -- what the tables of a command come to
-  abbrev Comes : Command → Type 0
-  Comes c = Accepts given job (verdict_on s (tables_of c s.start) texts no_rows (verdict_on_rows c s))
+  -- what the rows of all tables come to, and the tables
+  abbrev sized : Kind → TableRows → Verdict
+  sized k rows = verdict_past ((inputs_by k).limits.first_past s rows) s rows
 
-  free : s.command ≡ command.Freeflow → Comes command.Freeflow → IsAccepted given job
-  free asks e =
-      roads s in_range given job command.Freeflow asks texts (verdict_on_rows command.Freeflow s) [] e (λ nodes links net e1.
-      accepted s in_range given job command.Freeflow asks (road_rows nodes links) (record {
+  abbrev Comes : Kind → Type 0
+  Comes k = Accepts given job (verdict_on s ((inputs_by k).tables s.start) texts no_rows (sized k))
+
+  free : kind_of s.command ≡ FreeFlow → Comes FreeFlow → IsAccepted given job
+  free is e =
+      roads s in_range given job FreeFlow is texts (sized FreeFlow) [] e (λ nodes links net e1.
+      accepted s in_range given job FreeFlow is (road_rows nodes links) (record {
         net = net;
         few = none-within;
         start = no-start-rows;
@@ -219,13 +220,13 @@ module _ (s : Settings) (in_range : AreSettings s) (given : Settings) (job : Job
         sweep = λ k. absurd cc;
       }) e1)
 
-  skim : s.command ≡ command.Skim → Comes command.Skim → IsAccepted given job
-  skim asks e =
-      let next = verdict_on_rows command.Skim s in
-      roads s in_range given job command.Skim asks texts next (table.Movement ∷ table.Times ∷ []) e (λ nodes links net e1.
-      with-turns s in_range given job command.Skim asks texts next (table.Times ∷ []) (road_rows nodes links) net e1 (λ turns whole e2.
-      with-times s in_range given job command.Skim asks texts next [] (record (road_rows nodes links) { turns = turns }) e2 (λ times are e3.
-      accepted s in_range given job command.Skim asks (record (road_rows nodes links) { turns = turns; times = times }) (record {
+  skim : kind_of s.command ≡ Skimming → Comes Skimming → IsAccepted given job
+  skim is e =
+      let next = sized Skimming in
+      roads s in_range given job Skimming is texts next (table.Movement ∷ table.Times ∷ []) e (λ nodes links net e1.
+      with-turns s in_range given job Skimming is texts next (table.Times ∷ []) (road_rows nodes links) net e1 (λ turns whole e2.
+      with-times s in_range given job Skimming is texts next [] (record (road_rows nodes links) { turns = turns }) e2 (λ times are e3.
+      accepted s in_range given job Skimming is (record (road_rows nodes links) { turns = turns; times = times }) (record {
         net = whole;
         few = none-within;
         start = no-start-rows;
@@ -233,57 +234,46 @@ module _ (s : Settings) (in_range : AreSettings s) (given : Settings) (job : Job
         sweep = λ k. absurd cc;
       }) (unlimited given job _ s _ e3).1)))
 
-  -- what makes the rows of a command that loads once
-  record Loads (c : Command) : Type 0 where
-    none_swept : c ≡ command.Sweep → ⊥
-    untimed : TakesTimes c → ⊥
-    all_released : (cells : List DemandCell) → (inputs_of c).released cells ≡ cells
-    starts : (rows : TableRows) (bytes : List ℕ) → (inputs_of c).with_agents rows bytes ≡ then_with (start_verdict (records bytes)) (λ start. Ok (record rows { start = start }))
-
-  -- the verdict on the rows of such a command
-  abbrev sized : TableRows → Verdict
-  sized = verdict_on_rows command.Assign s
-
-  loading : (c : Command) → s.command ≡ c → Loads c → Accepts given job (verdict_on s (loading_tables s.start) texts no_rows sized) → IsAccepted given job
-  loading c asks loads e =
-      let next = sized in
-      roads s in_range given job c asks texts next (table.Movement ∷ table.Demand ∷ start_tables s.start) e (λ nodes links net e1.
-      with-turns s in_range given job c asks texts next (table.Demand ∷ start_tables s.start) (road_rows nodes links) net e1 (λ turns whole e2.
-      with-cells s in_range given job c asks texts next (start_tables s.start) (record (road_rows nodes links) { turns = turns }) e2 (λ cells cells-are e3.
+  loading : kind_of s.command ≡ Assigning → Comes Assigning → IsAccepted given job
+  loading is e =
+      let next = sized Assigning in
+      roads s in_range given job Assigning is texts next (table.Movement ∷ table.Demand ∷ start_tables s.start) e (λ nodes links net e1.
+      with-turns s in_range given job Assigning is texts next (table.Demand ∷ start_tables s.start) (road_rows nodes links) net e1 (λ turns whole e2.
+      with-cells s in_range given job Assigning is texts next (start_tables s.start) (record (road_rows nodes links) { turns = turns }) e2 (λ cells cells-are e3.
       rest nodes links turns cells whole s.start e3)))
     where
-      finish : (rows : TableRows) → IsNet (net_of rows) → AreStartRows rows.start → Accepts given job (sized rows) → IsAccepted given job
+      finish : (rows : TableRows) → IsNet (net_of rows) → AreStartRows rows.start → Accepts given job (sized Assigning rows) → IsAccepted given job
       finish rows net start e =
           let loaded = unlimited given job _ s rows e in
-          accepted s in_range given job c asks rows (record {
+          accepted s in_range given job Assigning is rows (record {
             net = net;
-            few = subst IsWithin (sym (loads.all_released rows.demand_cells)) (on-sizes s rows loaded.0);
+            few = on-sizes s rows loaded.0;
             start = start;
-            times = λ k. absurd (loads.untimed k);
-            sweep = λ k. absurd (loads.none_swept k);
+            times = λ k. absurd k;
+            sweep = λ k. absurd cc;
           }) loaded.1
 
       rest : (nodes : List NodeRow) (links : List (WithWindows LinkRow)) (turns : List (WithWindows TurnRow)) (cells : List DemandCell)
           → IsNet (net_of (record (road_rows nodes links) { turns = turns })) → (start : Bool)
-          → Accepts given job (verdict_on s (start_tables start) texts (record (road_rows nodes links) { turns = turns; demand_cells = cells }) sized) → IsAccepted given job
+          → Accepts given job (verdict_on s (start_tables start) texts (record (road_rows nodes links) { turns = turns; demand_cells = cells }) (sized Assigning)) → IsAccepted given job
       rest nodes links turns cells whole false e = finish (record (road_rows nodes links) { turns = turns; demand_cells = cells }) whole no-start-rows e
       rest nodes links turns cells whole true e =
           let rows : TableRows = record (road_rows nodes links) { turns = turns; demand_cells = cells } in
-          one-table s in_range given job c asks texts sized table.Start [] rows (start_verdict (records (texts table.Start))) (λ start. record rows { start = start })
-          (ap (λ (k : Command). (inputs_of k).with_agents rows (texts table.Start)) asks ∙ loads.starts rows (texts table.Start)) e (λ start is e1.
-          finish (record rows { start = start }) whole (are-starts _ start is) e1)
+          one-table s in_range given job Assigning is texts (sized Assigning) table.Start [] rows (start_verdict (records (texts table.Start))) (λ start. record rows { start = start })
+          (ap (λ (k : Kind). (inputs_by k).with_agents rows (texts table.Start)) is) e (λ start starts e1.
+          finish (record rows { start = start }) whole (are-starts _ start starts) e1)
 
-  sweep : s.command ≡ command.Sweep → Comes command.Sweep → IsAccepted given job
-  sweep asks e =
-      let next = verdict_on_rows command.Sweep s in
-      roads s in_range given job command.Sweep asks texts next (table.Movement ∷ table.Demand ∷ []) e (λ nodes links net e1.
-      with-turns s in_range given job command.Sweep asks texts next (table.Demand ∷ []) (road_rows nodes links) net e1 (λ turns whole e2.
-      with-cells s in_range given job command.Sweep asks texts next [] (record (road_rows nodes links) { turns = turns }) e2 (λ cells cells-are e3.
+  sweep : kind_of s.command ≡ Sweeping → Comes Sweeping → IsAccepted given job
+  sweep is e =
+      let next = sized Sweeping in
+      roads s in_range given job Sweeping is texts next (table.Movement ∷ table.Demand ∷ []) e (λ nodes links net e1.
+      with-turns s in_range given job Sweeping is texts next (table.Demand ∷ []) (road_rows nodes links) net e1 (λ turns whole e2.
+      with-cells s in_range given job Sweeping is texts next [] (record (road_rows nodes links) { turns = turns }) e2 (λ cells cells-are e3.
       let rows : TableRows = record (road_rows nodes links) { turns = turns; demand_cells = cells } in
       let loaded = unlimited given job _ s rows e3 in
       let roomy = in-room _ _ _ loaded.0 in
-      let same : (inputs_of s.command).swept cells ≡ cells = ap (λ (k : Command). (inputs_of k).swept cells) asks in
-      accepted s in_range given job command.Sweep asks rows (record {
+      let same : (inputs_of s.command).swept cells ≡ cells = ap (λ (k : Kind). (inputs_by k).swept cells) is in
+      accepted s in_range given job Sweeping is rows (record {
         net = whole;
         few = none-within;
         start = no-start-rows;
@@ -295,19 +285,19 @@ module _ (s : Settings) (in_range : AreSettings s) (given : Settings) (job : Job
         };
       }) loaded.1)))
 
-  audit : s.command ≡ command.Audit → Comes command.Audit → IsAccepted given job
-  audit asks e =
-      let next = verdict_on_rows command.Audit s in
-      roads s in_range given job command.Audit asks texts next (table.Movement ∷ table.Demand ∷ table.Start ∷ table.Times ∷ []) e (λ nodes links net e1.
-      with-turns s in_range given job command.Audit asks texts next (table.Demand ∷ table.Start ∷ table.Times ∷ []) (road_rows nodes links) net e1 (λ turns whole e2.
-      with-cells s in_range given job command.Audit asks texts next (table.Start ∷ table.Times ∷ []) (record (road_rows nodes links) { turns = turns }) e2 (λ cells cells-are e3.
+  audit : kind_of s.command ≡ Auditing → Comes Auditing → IsAccepted given job
+  audit is e =
+      let next = sized Auditing in
+      roads s in_range given job Auditing is texts next (table.Movement ∷ table.Demand ∷ table.Start ∷ table.Times ∷ []) e (λ nodes links net e1.
+      with-turns s in_range given job Auditing is texts next (table.Demand ∷ table.Start ∷ table.Times ∷ []) (road_rows nodes links) net e1 (λ turns whole e2.
+      with-cells s in_range given job Auditing is texts next (table.Start ∷ table.Times ∷ []) (record (road_rows nodes links) { turns = turns }) e2 (λ cells cells-are e3.
       let rows : TableRows = record (road_rows nodes links) { turns = turns; demand_cells = cells } in
-      one-table s in_range given job command.Audit asks texts next table.Start (table.Times ∷ []) rows (agents_verdict (records (texts table.Start))) (λ agents. record rows { agents = agents })
-      (ap (λ (k : Command). (inputs_of k).with_agents rows (texts table.Start)) asks) e3 (λ agents _ e4.
-      with-times s in_range given job command.Audit asks texts next [] (record rows { agents = agents }) e4 (λ times are e5.
+      one-table s in_range given job Auditing is texts next table.Start (table.Times ∷ []) rows (agents_verdict (records (texts table.Start))) (λ agents. record rows { agents = agents })
+      (ap (λ (k : Kind). (inputs_by k).with_agents rows (texts table.Start)) is) e3 (λ agents _ e4.
+      with-times s in_range given job Auditing is texts next [] (record rows { agents = agents }) e4 (λ times are e5.
       let all : TableRows = record rows { agents = agents; times = times } in
       let loaded = unlimited given job _ s all e5 in
-      accepted s in_range given job command.Audit asks all (record {
+      accepted s in_range given job Auditing is all (record {
         net = whole;
         few = on-sizes s all loaded.0;
         start = no-start-rows;
@@ -315,24 +305,18 @@ module _ (s : Settings) (in_range : AreSettings s) (given : Settings) (job : Job
         sweep = λ k. absurd cc;
       }) loaded.1)))))
 
-by-command : (c : Command) (s : Settings) → s.command ≡ c → AreSettings s → (texts : Table → List ℕ) (given : Settings) (job : JobRows)
-    → Accepts given job (verdict_on s (tables_of c s.start) ((source_of c).texts texts) no_rows (verdict_on_rows c s)) → IsAccepted given job
-by-command command.Freeflow s asks in_range texts given job e = free s in_range given job texts asks e
-by-command command.Assign s asks in_range texts given job e =
-    loading s in_range given job texts command.Assign asks (record { none_swept = λ k. absurd cc; untimed = λ k. k; all_released = λ cells. refl; starts = λ rows bytes. refl }) e
-by-command (command.Demo n) s asks in_range texts given job e =
-    loading s in_range given job ((source_of (command.Demo n)).texts texts) (command.Demo n) asks
-    (record { none_swept = λ k. absurd cc; untimed = λ k. k; all_released = λ cells. refl; starts = λ rows bytes. refl }) e
-by-command command.Skim s asks in_range texts given job e = skim s in_range given job texts asks e
-by-command command.Counts s asks in_range texts given job e =
-    loading s in_range given job texts command.Counts asks (record { none_swept = λ k. absurd cc; untimed = λ k. k; all_released = λ cells. refl; starts = λ rows bytes. refl }) e
-by-command command.Sweep s asks in_range texts given job e = sweep s in_range given job texts asks e
-by-command command.Audit s asks in_range texts given job e = audit s in_range given job texts asks e
+by-kind : (k : Kind) (s : Settings) → kind_of s.command ≡ k → (in_range : AreSettings s) (texts : Table → List ℕ) (given : Settings) (job : JobRows)
+    → Comes s in_range given job texts k → IsAccepted given job
+by-kind FreeFlow s is in_range texts given job e = free s in_range given job texts is e
+by-kind Assigning s is in_range texts given job e = loading s in_range given job texts is e
+by-kind Skimming s is in_range texts given job e = skim s in_range given job texts is e
+by-kind Sweeping s is in_range texts given job e = sweep s in_range given job texts is e
+by-kind Auditing s is in_range texts given job e = audit s in_range given job texts is e
 
 by-settings : (o : Option Settings) (texts : Table → List ℕ) (given : Settings) (job : JobRows) → ((s : Settings) → o ≡ Some s → AreSettings s)
     → verdict_by o texts ≡ Accepted given job → IsAccepted given job
 by-settings None texts given job in_range e = absurd cc
-by-settings (Some s) texts given job in_range e = by-command s.command s refl (in_range s refl) texts given job e
+by-settings (Some s) texts given job in_range e = by-kind (kind_of s.command) s refl (in_range s refl) ((source_of s.command).texts texts) given job e
 
 pub accepted_are_sound : (words : List (List ℕ)) (texts : Table → List ℕ) (s : Settings) (job : JobRows) → verdict words texts ≡ Accepted s job → IsAccepted s job
 accepted_are_sound words texts s job e = by-settings (settings_of words) texts s job (λ given is. settings_in_range words given is) e

@@ -3,8 +3,8 @@ use Rattle.std.specs.Prelude.{◌≡◌, ℕ, List}
 use Rattle.desk_io.specs.declared.desk.Table.{Table}
 use Rattle.audit.specs.declared.verdict.Verdict.TheVariants as verdict
 use Rattle.dta_words.specs.Ranges.{AreSettings}
-use Rattle.dta_words.specs.declared.command.Command.TheVariants as command
 use Rattle.dta_words.specs.declared.command.Settings.{Settings}
+use Rattle.jobs.specs.Inputs.{Auditing, kind_of}
 use Rattle.jobs.specs.Jobs.{IsJob, JobRows}
 use Rattle.jobs.specs.Verdict.{Accepted, verdict as comes_to}
 use Rattle.commands.specs.Laws.{AreDetermined}
@@ -20,7 +20,7 @@ pub record IsAccepted (s : Settings) (job : JobRows) : Type 0 where
 
 -- where a job is audited, no check fails
 abbrev pub Passes : Settings → JobRows → Type 0
-Passes s job = s.command ≡ command.Audit → verdict_of s job ≡ verdict.Yes
+Passes s job = kind_of s.command ≡ Auditing → verdict_of s job ≡ verdict.Yes
 
 pub record EachJobHasItsTexts : Type 0 where
   -- what words and tables come to, where nothing is refused, is accepted settings and their job

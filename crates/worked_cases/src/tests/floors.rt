@@ -10,7 +10,7 @@ ghost use Rattle.worked_cases.specs.Worked.{HasWorked};
 
 use crate::{Seen, are_seen, two_links_in_a_line};
 use dta_model::{Loaded, Loading, Stage};
-use monitors::{Board, WriterPass};
+use monitors::Board;
 use net_core::{Memory, NodeNo};
 use phase_claims::{Early, Floor, Open, Pass, Receipt, Unit, UnitKind};
 use std::sync::Wait;
@@ -75,28 +75,15 @@ fn work_turns<R: Wait>(rt: &R, floor: &Floor, pass: &mut Pass, turns: u32)
 }
 
 // Whether a floor on which nothing was done says so at its close.
-fn closes_too_early<'b, 'l: 'b, R: AllocGlobal>(
-    rt: &R,
-    loading: &Loading<'l>,
-    board: &'b Board,
-    writer: WriterPass,
-) -> Result<bool, Memory>
-    requires sound { IsSound (plan_of loading.now) }
-    requires writer { (writer.board ≡ board.now) × (writer.list ≡ []) }
-{
-    let (floor, pass) = Floor::new(rt.alloc(), loading, board, writer, 1)?;
-    match floor.close(pass) {
-        Err(Early { finished }) => Ok(finished == 0),
-        Ok(_) => Ok(false),
-    }
-}
-
-// The same, over a board of its own.
 fn closes_at_once<R: AllocGlobal + Wait>(rt: &R, loading: &Loading) -> Result<bool, Memory>
     requires { IsSound (plan_of loading.now) }
 {
     let (board, writer, _monitor) = Board::new(rt)?;
-    closes_too_early(rt, loading, &board, writer)
+    let (floor, pass) = Floor::new(rt.alloc(), loading, &board, writer, 1)?;
+    match floor.close(pass) {
+        Err(Early { finished }) => Ok(finished == 0),
+        Ok(_) => Ok(false),
+    }
 }
 
 #[test]
@@ -158,26 +145,13 @@ fn take_turns<R: Wait>(rt: &R, floor: &Floor, mut first: Pass, mut second: Pass)
 }
 
 // Whether two passes of a floor take turns so.
-fn do_take_turns<'b, 'l: 'b, R: AllocGlobal + Wait>(
-    rt: &R,
-    loading: &Loading<'l>,
-    board: &'b Board,
-    writer: WriterPass,
-) -> Result<bool, Memory>
-    requires sound { IsSound (plan_of loading.now) }
-    requires writer { (writer.board ≡ board.now) × (writer.list ≡ []) }
-{
-    let (floor, pass) = Floor::new(rt.alloc(), loading, board, writer, 2)?;
-    let (first, second) = floor.split(pass);
-    Ok(first.spare() == 0 && second.spare() == 0 && take_turns(rt, &floor, first, second))
-}
-
-// The same, over a board of its own.
 fn take_turns_at_once<R: AllocGlobal + Wait>(rt: &R, loading: &Loading) -> Result<bool, Memory>
     requires { IsSound (plan_of loading.now) }
 {
     let (board, writer, _monitor) = Board::new(rt)?;
-    do_take_turns(rt, loading, &board, writer)
+    let (floor, pass) = Floor::new(rt.alloc(), loading, &board, writer, 2)?;
+    let (first, second) = floor.split(pass);
+    Ok(first.spare() == 0 && second.spare() == 0 && take_turns(rt, &floor, first, second))
 }
 
 #[test]
@@ -213,25 +187,6 @@ fn work_side_by_side<R: Threads + Wait + Sync>(
 }
 
 // A loading by two threads that take so many turns each, with its receipt, unless units are left.
-fn by_two_threads<'b, 'l: 'b, R: AllocGlobal + Threads + Wait + Sync>(
-    rt: &R,
-    loading: &Loading<'l>,
-    board: &'b Board,
-    writer: WriterPass,
-    turns: u32,
-) -> Result<Option<(Loaded, Receipt)>, Memory>
-    requires sound { IsSound (plan_of loading.now) }
-    requires writer { (writer.board ≡ board.now) × (writer.list ≡ []) }
-{
-    let (floor, pass) = Floor::new(rt.alloc(), loading, board, writer, 2)?;
-    let pass = work_side_by_side(rt, &floor, pass, turns);
-    match floor.close(pass) {
-        Ok((loaded, _, receipt)) => Ok(Some((loaded, receipt))),
-        Err(Early { finished: _ }) => Ok(None),
-    }
-}
-
-// The same, over a board of its own.
 fn by_two<R: AllocGlobal + Threads + Wait + Sync>(
     rt: &R,
     loading: &Loading,
@@ -240,7 +195,12 @@ fn by_two<R: AllocGlobal + Threads + Wait + Sync>(
     requires { IsSound (plan_of loading.now) }
 {
     let (board, writer, _monitor) = Board::new(rt)?;
-    by_two_threads(rt, loading, &board, writer, turns)
+    let (floor, pass) = Floor::new(rt.alloc(), loading, &board, writer, 2)?;
+    let pass = work_side_by_side(rt, &floor, pass, turns);
+    match floor.close(pass) {
+        Ok((loaded, _, receipt)) => Ok(Some((loaded, receipt))),
+        Err(Early { finished: _ }) => Ok(None),
+    }
 }
 
 // Whether each can perform half of the units, waiting for the other at the beginning of each

@@ -13,7 +13,7 @@ returns-in-Ok g c =
     let passes = subst (λ (v : Verdict). IsAudited s (audit_rows c.args.job.now) v) c.in-Ok-Yes.field-0-is c.in-Ok-Yes.ensures in
     let many : c.len-vehicles.result ≡ length c.args.job.now.trips.items = search rules in
     record {
-      work = audit-done s (audit_rows c.args.job.now) c.requires.command (g.D.Desk.state c.args.desk.now).taken (g.D.Desk.state c.put_audit.new.desk).taken c.args.job.now.net c.len-vehicles.result
+      work = audit-done s (audit_rows c.args.job.now) c.requires.kind (g.D.Desk.state c.args.desk.now).taken (g.D.Desk.state c.put_audit.new.desk).taken c.args.job.now.net c.len-vehicles.result
           refl many passes o.whole;
       failed = λ (k : status.Done ≡ status.WriteFault). absurd cc;
       differs = λ (k : status.Done ≡ status.Differs). absurd cc;
@@ -29,7 +29,7 @@ returns-in-Err-put_audit g c =
     let passes = subst (λ (v : Verdict). IsAudited s (audit_rows c.args.job.now) v) c.in-Ok-Yes.field-0-is c.in-Ok-Yes.ensures in
     let many : c.len-vehicles.result ≡ length c.args.job.now.trips.items = search rules in
     record {
-      work = audit-cut s (audit_rows c.args.job.now) c.requires.command (g.D.Desk.state c.args.desk.now).taken (g.D.Desk.state c.put_audit.new.desk).taken c.args.job.now.net c.len-vehicles.result
+      work = audit-cut s (audit_rows c.args.job.now) c.requires.kind (g.D.Desk.state c.args.desk.now).taken (g.D.Desk.state c.put_audit.new.desk).taken c.args.job.now.net c.len-vehicles.result
           refl many passes o.refused;
       failed = λ _. o.cause.failed;
       differs = λ (k : status.WriteFault ≡ status.Differs). absurd cc;
@@ -47,7 +47,7 @@ returns-in-Ok-No g c =
       work = tt;
       failed = λ (k : status.Differs ≡ status.WriteFault). absurd cc;
       differs = λ _. record {
-        asks = c.requires.command;
+        is = c.requires.kind;
         place = record { table = n.table; line = n.line; column = n.column };
         fails = subst (λ (v : Verdict). IsAudited s (audit_rows c.args.job.now) v) n.field-0-is n.ensures;
         report = line-out c.put_audit-in-Ok-No.result c.args.job.now.net c.len-vehicles.result

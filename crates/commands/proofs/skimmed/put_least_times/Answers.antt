@@ -8,7 +8,7 @@ pub returns-in-Ok-put_skim : goal.returns-in-Ok-put_skim
 returns-in-Ok-put_skim g c =
     let o = c.in-Ok-put_skim.ensures in
     record {
-      work = skim-done c.args.settings.now (skim_rows c.args.job.now) c.requires.command _ c.in-Ok.ensures (g.D.Desk.state c.args.desk.now).taken (g.D.Desk.state c.put_skim.new.desk).taken o.whole;
+      work = skim-done c.args.settings.now (skim_rows c.args.job.now) c.requires.kind _ c.in-Ok.ensures (g.D.Desk.state c.args.desk.now).taken (g.D.Desk.state c.put_skim.new.desk).taken o.whole;
       failed = λ (k : status.Done ≡ status.WriteFault). absurd cc;
       differs = λ (k : status.Done ≡ status.Differs). absurd cc;
       later = o.cause.later;
@@ -20,7 +20,7 @@ pub returns-in-Ok : goal.returns-in-Ok
 returns-in-Ok g c =
     let o = c.in-Err-put_skim.ensures in
     record {
-      work = skim-cut c.args.settings.now (skim_rows c.args.job.now) c.requires.command _ c.in-Ok.ensures (g.D.Desk.state c.args.desk.now).taken (g.D.Desk.state c.put_skim.new.desk).taken o.refused;
+      work = skim-cut c.args.settings.now (skim_rows c.args.job.now) c.requires.kind _ c.in-Ok.ensures (g.D.Desk.state c.args.desk.now).taken (g.D.Desk.state c.put_skim.new.desk).taken o.refused;
       failed = λ _. o.cause.failed;
       differs = λ (k : status.WriteFault ≡ status.Differs). absurd cc;
       later = o.cause.later;

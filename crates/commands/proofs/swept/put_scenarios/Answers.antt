@@ -18,7 +18,7 @@ returns-in-Ok-put_sweep g c =
     (subst (λ (cells : List DemandCell). AreScenarios s job.net cells c.as_slice-scales.result.now c.in-Ok.sweep) c.deref.ensures.value
     c.in-Ok.ensures.scenarios) in
     record {
-      work = sweep-done s (sweep_rows job) c.requires.command c.in-Ok.sweep scenarios (g.D.Desk.state c.args.desk.now).taken (g.D.Desk.state c.put_sweep.new.desk).taken o.whole;
+      work = sweep-done s (sweep_rows job) c.requires.kind c.in-Ok.sweep scenarios (g.D.Desk.state c.args.desk.now).taken (g.D.Desk.state c.put_sweep.new.desk).taken o.whole;
       failed = λ (k : status.Done ≡ status.WriteFault). absurd cc;
       differs = λ (k : status.Done ≡ status.Differs). absurd cc;
       later = o.cause.later;
@@ -35,7 +35,7 @@ returns-in-Ok g c =
     (subst (λ (cells : List DemandCell). AreScenarios s job.net cells c.as_slice-scales.result.now c.in-Ok.sweep) c.deref.ensures.value
     c.in-Ok.ensures.scenarios) in
     record {
-      work = sweep-cut s (sweep_rows job) c.requires.command c.in-Ok.sweep scenarios (g.D.Desk.state c.args.desk.now).taken (g.D.Desk.state c.put_sweep.new.desk).taken o.refused;
+      work = sweep-cut s (sweep_rows job) c.requires.kind c.in-Ok.sweep scenarios (g.D.Desk.state c.args.desk.now).taken (g.D.Desk.state c.put_sweep.new.desk).taken o.refused;
       failed = λ _. o.cause.failed;
       differs = λ (k : status.WriteFault ≡ status.Differs). absurd cc;
       later = o.cause.later;
@@ -48,7 +48,7 @@ unreachable-requires g c =
     let t = c.in-Err-TooMany in
     let s = c.args.settings.now in
     let is : c.sweep.result ≡ Err (sweep.TooMany t.field-0-0 t.field-0-1 t.field-0-2) = t.is ∙ ap Err t.field-0-is in
-    let of_cells = subst (λ (cells : List DemandCell). AreAllWithin cells s.scales) (sym c.deref.ensures.value) (c.requires.job.sweep c.requires.command).within in
+    let of_cells = subst (λ (cells : List DemandCell). AreAllWithin cells s.scales) (sym c.deref.ensures.value) (c.requires.job.sweep c.requires.kind).within in
     let within = subst (λ (xs : List ℕ). AreAllWithin c.deref.result.now xs) (sym c.as_slice-scales.ensures) of_cells in
     none-too-many c.deref.result.now c.as_slice-scales.result.now t.field-0-0 t.field-0-1 t.field-0-2 within
     ((c.sweep.ensures.too_many t.field-0-0 t.field-0-1 t.field-0-2).0 is)

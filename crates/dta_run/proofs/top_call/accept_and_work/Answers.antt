@@ -1,4 +1,4 @@
-use Rattle.std.proofs.Common.{refl, subst, sym}
+use Rattle.std.proofs.Common.{subst, sym}
 use Rattle.loader.specs.Gates.{gate_of}
 use Rattle.desk_io.specs.Desk.{Left}
 use Rattle.jobs.specs.Jobs.{IsAcceptedJob}
@@ -14,7 +14,7 @@ pub returns-in-Ok-clause-means : goal.returns-in-Ok-clause-means
 returns-in-Ok-clause-means g c = λ words told.
     works-means words c.args.settings.now _ c.work.result (g.D.Desk.state c.args.desk.now) (g.D.Desk.state c.accept.new.desk) (g.D.Desk.state c.work.new.desk) told
     c.in-Ok.ensures.reads.done c.in-Ok.ensures.reads.taken (sym c.in-Ok.ensures.reads.puts) c.work.ensures.works.left c.work.ensures.works.work c.work.ensures.works.failed c.work.ensures.works.differs
-    (loads-soundly c.args.settings.now.command c.args.settings.now (rows_in_job c.in-Ok.job) refl c.requires.settings c.in-Ok.ensures.sound)
+    (loads-soundly c.args.settings.now (rows_in_job c.in-Ok.job) c.requires.settings c.in-Ok.ensures.sound)
 
 pub returns-in-Err-Refused-clause-means : goal.returns-in-Err-Refused-clause-means
 returns-in-Err-Refused-clause-means g c = λ words told.
@@ -30,7 +30,7 @@ returns-in-Ok-clause-receipts g c = λ words told.
     (g.D.Desk.state c.accept.new.desk).taken (g.D.Desk.state c.work.new.desk).taken
     (shown c.args.gate.now) (shown c.work.new.gate) told
     (subst (λ (rest : Left). IsAcceptedJob c.args.settings.now (rows_in_job c.in-Ok.job) (g.D.Desk.state c.args.desk.now).left rest) (sym c.work.ensures.works.left) c.in-Ok.ensures.reads.done)
-    c.work.ensures.works.work (λ found. (c.work.ensures.works.differs found).asks) c.work.ensures.receipts
+    c.work.ensures.works.work (λ found. (c.work.ensures.works.differs found).is) c.work.ensures.receipts
 
 pub returns-in-Err-Refused-clause-receipts : goal.returns-in-Err-Refused-clause-receipts
 returns-in-Err-Refused-clause-receipts g c = λ words told.

@@ -4,10 +4,11 @@ use Rattle.std.proofs.lemmas.Result.{err_from_is_err_and}
 use Rattle.start_table.specs.declared.rows.StartRow.{StartRow}
 use Rattle.jobs.specs.Calls.{OnlyReads, rows_in_tables, with_start_rows}
 use Rattle.jobs.specs.Kinds.{rows_in_job}
+use Rattle.jobs.specs.Inputs.{Assigning}
 use Rattle.jobs.specs.TableRows.{all_tables, loading_tables, no_rows, start_tables}
 use Rattle.jobs.specs.Tables.{AreAccepted}
 use Rattle.jobs.proofs.ChainFacts.{accepted-start, accepted-unstarted, among-first, among-start, reads-both, reads-done, reads-so, reads-stopped}
-use Rattle.jobs.proofs.JobFacts.{among, assigned, own-jobs, sized}
+use Rattle.jobs.proofs.JobFacts.{among, asked-for, own-jobs, sized}
 use Rattle.jobs.proofs.assign_job.accept_tables.Goals as goal
 use Rattle.jobs.proofs.assign_job.accept_tables.Goals.{then-settings+in_ok-start, else-settings}
 
@@ -16,7 +17,7 @@ returns-in_err-tables-clause-reads g c =
     let p = err_from_is_err_and c.from_residual.result c.from_residual.ensures.1 in
     let s = c.args.settings.now in
     let r = c.in_err-tables.ensures.reads in
-    rw (p.1, p.2) (reads-stopped r (among s (assigned s c.requires.command) (g.D.Desk.state c.args.desk.now) (g.D.Desk.state c.accept_all.new.desk) _
+    rw (p.1, p.2) (reads-stopped r (among s (asked-for s Assigning c.requires.command) (g.D.Desk.state c.args.desk.now) (g.D.Desk.state c.accept_all.new.desk) _
     (among-first s all_tables (start_tables s.start) no_rows _ _ _ r.stops)))
 
 pub returns-in_err-start-clause-reads : goal.returns-in_err-start-clause-reads
@@ -26,7 +27,7 @@ returns-in_err-start-clause-reads g c =
     let rows = rows_in_tables c.in_ok-tables.tables in
     let r = c.in_ok-tables.ensures.reads in
     let t = c.in_err-start.ensures.reads s rows (c.requires.settings.start c.if-settings.true) in
-    rw (p.1, p.2) (reads-stopped (reads-both r t) (among s (assigned s c.requires.command) (g.D.Desk.state c.args.desk.now) (g.D.Desk.state c.accept_start.new.desk) _
+    rw (p.1, p.2) (reads-stopped (reads-both r t) (among s (asked-for s Assigning c.requires.command) (g.D.Desk.state c.args.desk.now) (g.D.Desk.state c.accept_start.new.desk) _
     (among-start s s.start rows _ _ _ _ c.if-settings.true r.done r.later t.stops)))
 
 pub returns-clause-reads : goal.returns-clause-reads
@@ -46,5 +47,5 @@ returns-clause-reads g c =
     ] in
     let full = with_start_rows rows c.if-settings.start in
     let made = c.assign_job_of.ensures in
-    reads-so all (own-jobs s (assigned s c.requires.command) rows_in_job full c.assign_job_of.result _ _ all.done made.within made.makes)
-    (sized s (assigned s c.requires.command) before after full c.assign_job_of.result all.done made.stops)
+    reads-so all (own-jobs s (asked-for s Assigning c.requires.command) rows_in_job full c.assign_job_of.result _ _ all.done made.within made.makes)
+    (sized s (asked-for s Assigning c.requires.command) before after full c.assign_job_of.result all.done made.stops)

@@ -4,7 +4,7 @@ use Rattle.net_core.specs.declared.rows.NetRows.{NetRows}
 use Rattle.std.proofs.lemmas.Result.{err_from_is_err_and}
 use Rattle.reports.specs.declared.refusal.TheConstants.{MOST_SWEEP_LINK_STEPS}
 use Rattle.jobs.specs.Calls.{rows_in_tables}
-use Rattle.jobs.specs.Inputs.{TakesTimes}
+use Rattle.jobs.specs.Inputs.{Kind, inputs_by}
 use Rattle.assignment.proofs.AssignmentFacts.{no-start-rows}
 use Rattle.jobs.proofs.JobFacts.{link-count, no-trips, trips_of-none}
 use Rattle.jobs.proofs.sweep_job.sweep_job_of.Goals as goal
@@ -23,7 +23,7 @@ returns-clause-within c =
 pub returns-clause-makes : goal.returns-clause-makes
 returns-clause-makes c = rw (
   c.in_ok-net.ensures,
-  c.requires.command,
+  c.requires.kind,
   trips_of-none c.args.settings.now.period,
 ) refl
 
@@ -32,7 +32,7 @@ returns-clause-sound c = record {
   net = rw (c.in_ok-net.ensures) c.requires.net;
   trips = no-trips c.args.settings.now.horizon;
   start = no-start-rows;
-  times = λ takes. absurd (subst TakesTimes c.requires.command takes);
+  times = λ takes. absurd (subst (λ (k : Kind). (inputs_by k).takes_times) c.requires.kind takes);
   sweep = λ asks.
       let w = c.in_ok-sweep_sizes.ensures.within (rows_in_tables c.args.tables)
       (link-count c.args.tables.network.roads.links c.as_slice.result.now c.as_slice.ensures.links) (sym c.deref.ensures.value) in
