@@ -15,7 +15,8 @@ use Rattle.assignment.specs.Assignment.{AreIterationsBy, Traffic, VehicleRoutes,
 use Rattle.assignment.specs.Assignment.{summary_of}
 use Rattle.counts.specs.Through.{through_counts_in}
 use Rattle.counts.specs.Turns.{turn_counts_in}
-use Rattle.commands.specs.Outputs.{AreSinceTold, LastLoading, OutText, counts_out, end_lines, texts_told}
+use Rattle.commands.specs.Outputs.{AreSinceTold, LastLoading, OutText, counts_out, end_lines}
+use Rattle.commands.specs.Outputs.{texts_told}
 
 -- for the loading over each routes an order of the nodes, for each of its steps
 abbrev pub NodeOrders : Type 0

@@ -1,9 +1,10 @@
 // One pass over one in-link.
 ghost use Rattle.std.specs.Prelude.{◌≡◌, ℕ, ◌+◌, ◌-◌, ◌<◌, ◌≤◌, length, IfSome, IsSomeAnd, nat_le};
 ghost use Rattle.std.specs.Prelude.{All, slice_get, drop, IsTrue, true, false, None, Some};
-ghost use Rattle.node_transfer.specs.Inside.Pass.{head_action, passed, CanPass, NobodyPasses, Rides};
-ghost use Rattle.node_transfer.specs.Inside.Pass.{out_links, total, waitings, entered_at, turn_open};
-ghost use Rattle.node_transfer.specs.Inside.Pass.{out_open, is_entry, after_arrival, after_entry};
+ghost use Rattle.node_transfer.specs.Inside.Pass.{head_action, passed, CanPass, NobodyPasses};
+ghost use Rattle.node_transfer.specs.Inside.Pass.{Rides, out_links, total, waitings, entered_at};
+ghost use Rattle.node_transfer.specs.Inside.Pass.{turn_open, out_open, is_entry, after_arrival};
+ghost use Rattle.node_transfer.specs.Inside.Pass.{after_entry};
 ghost use Rattle.node_transfer.specs.Exits.{opened_exit, closed_exit};
 
 use crate::step::out_link::place_to;
