@@ -1,7 +1,7 @@
 -- The turns of vehicles, added one vehicle after another.
 use Rattle.std.specs.List.Sorted.{IsPermutation}
 use Rattle.std.specs.Prelude.{count_by}
-use Rattle.std.proofs.Common.{◌≡◌, ℕ, suc, ◌+◌, ◌≤◌, List, [], ◌++◌, length, refl, ap, sym, ◌∙◌, subst, arith, cond, Option}
+use Rattle.std.proofs.Common.{◌≡◌, ℕ, suc, ◌+◌, ◌≤◌, List, [], ◌++◌, length, refl, ap, sym, ◌∙◌, subst, arith, cond, get_or, Option}
 use Rattle.std.proofs.lemmas.List.Elements.{All-append, All-nil}
 use Rattle.std.proofs.lemmas.List.Sorted.{All-permutation, sum_by-IsPermutation}
 use Rattle.std.proofs.lemmas.List.Sums.{sum_by-append}
@@ -12,7 +12,7 @@ use Rattle.dta_model.specs.Trace.{Move, moves_of}
 use Rattle.dta_model.specs.declared.plan.Plan.{Plan}
 use Rattle.link_times.specs.Journeys.{HasGone}
 use Rattle.link_times.proofs.Gone.{absent}
-use Rattle.counts.specs.Inside.Turns.{AreAdded, AreCounts, AreTurns, AreWithin, IsWithin, counts_among, is_turn, turns_along}
+use Rattle.counts.specs.Inside.Turns.{AreAdded, AreTurnCounts, AreTurns, AreWithin, IsWithin, is_turn, turns_along}
 use Rattle.counts.specs.Turns.{all_turns, taking, times_taken, turn_count, turn_counts, turn_counts_in}
 use Rattle.counts.specs.declared.turn_counts.TurnCount.{TurnCount}
 use Rattle.counts.specs.declared.turns.TimedTurn.{TimedTurn}
@@ -20,6 +20,7 @@ use Rattle.counts.proofs.Along.{taken-along, within-along}
 use Rattle.counts.proofs.Counting.{counts-same}
 use Rattle.counts.proofs.OverVehicles.{over_vehicles}
 use Rattle.counts.proofs.SumFacts.{sum_next}
+use Rattle.counts.proofs.TurnOrder.{turn_among, turns-rise}
 
 -- the turns along a route are those of the vehicle's moves
 pub turns_added : (p : Plan) (bucket v : ℕ) (route : List LinkNo) (entries : List ℕ) (arrival : Option ℕ) (old new : List TimedTurn) → 1 ≤ bucket → HasGone p v route entries arrival → new ≡ old ++ turns_along bucket route entries → AreAdded p bucket (moves_of v (trace_after p p.horizon)) old new
@@ -61,10 +62,11 @@ turns_next p bucket v n old new e had more = record {
 }
 
 -- the counts of all turns, once they are sorted
-pub turns_counted : (p : Plan) (bucket n : ℕ) (turns sorted : List TimedTurn) (counts : List TurnCount) → length p.routes ≤ n → AreTurns p bucket n turns → IsPermutation turns sorted → AreCounts sorted counts → counts ≡ turn_counts p bucket
-unfolding counts_among turn_counts turn_counts_in
+pub turns_counted : (p : Plan) (bucket n : ℕ) (turns sorted : List TimedTurn) (counts : List TurnCount) → length p.routes ≤ n → AreTurns p bucket n turns → IsPermutation turns sorted → AreTurnCounts sorted sorted counts → counts ≡ turn_counts p bucket
+unfolding turn_counts turn_counts_in
 turns_counted p bucket n turns sorted counts few are same told =
-    told (length p.net.links) (buckets_to bucket p.horizon) (All-permutation (IsWithin (length p.net.links) (buckets_to bucket p.horizon)) turns sorted same are.within)
+    told (all_turns (length p.net.links) (buckets_to bucket p.horizon)) (turns-rise (length p.net.links) (buckets_to bucket p.horizon))
+    (λ i d h. turn_among (length p.net.links) (buckets_to bucket p.horizon) (get_or sorted i d) (All-permutation (IsWithin (length p.net.links) (buckets_to bucket p.horizon)) turns sorted same are.within i d h))
     ∙ counts-same turn_count (λ t. count_by (is_turn t) sorted) (λ t. times_taken bucket t (trace_after p p.horizon)) number (all_turns (length p.net.links) (buckets_to bucket p.horizon))
   where
     number : (t : TimedTurn) → count_by (is_turn t) sorted ≡ times_taken bucket t (trace_after p p.horizon)

@@ -1,36 +1,26 @@
 -- The counts of keys that are in order grow at their end.
-use Rattle.std.specs.Prelude.{nat_lt, filter, count_by, ⊤, All}
-use Rattle.std.proofs.Common.{◌≡◌, ℕ, zero, suc, ◌+◌, ◌≤◌, Bool, true, false, cond, List, [], ◌∷◌, ◌++◌, length, get_or, set, map, refl, ap, sym, ◌∙◌, subst, arith, ◌⊎◌, inl, inr}
+use Rattle.std.specs.Cmp.{IsTotalOrder}
+use Rattle.std.specs.Ordering.{is_lt}
+use Rattle.std.specs.Prelude.{nat_lt, filter, count_by, All}
+use Rattle.std.specs.declared.cmp.Ordering.{Ordering}
+use Rattle.std.proofs.lemmas.Cmp.{tied_itself}
+use Rattle.std.proofs.Common.{◌≡◌, ℕ, zero, suc, ◌+◌, ◌-◌, ◌<◌, ◌≤◌, Bool, true, false, cond, List, [], ◌∷◌, ◌++◌, length, get_or, set, map, refl, ap, sym, ◌∙◌, subst, arith, ◌⊎◌, inl, inr}
 use Rattle.std.proofs.lemmas.List.{get_or_default}
 use Rattle.std.proofs.lemmas.List.Sums.{sum_by-cons, sum_by_push}
 use Rattle.std.proofs.lemmas.List.Elements.{All-cons, All-head, All-nil, All-tail}
-use Rattle.std.proofs.lemmas.Bool.{lt-ltb}
+use Rattle.std.proofs.lemmas.Bool.{lt-ltb, false≢true, true≢false}
 use Rattle.counts.specs.Counting.{counts_of}
-use Rattle.counts.specs.Inside.Counting.{with_one}
-
--- each element has a property
-abbrev pub Each : {K : Type 0} → (K → Type 0) → List K → Type 0
-Each P [] = ⊤
-Each P (x ∷ xs) = P x × Each P xs
-
--- each is below those after it
-abbrev pub Rising : {K : Type 0} → (K → K → Type 0) → List K → Type 0
-Rising lt [] = ⊤
-Rising lt (x ∷ xs) = Each (lt x) xs × Rising lt xs
-
-abbrev pub Among : {K : Type 0} → K → List K → Type 0
-Among x [] = ⊥
-Among x (k ∷ keys) = (k ≡ x) ⊎ Among x keys
+use Rattle.counts.specs.Inside.Counting.{Among, Below, Each, Rising, with_one}
 
 pub Each-weaker : {K : Type 0} (P Q : K → Type 0) → ((x : K) → P x → Q x) → (xs : List K) → Each P xs → Each Q xs
 Each-weaker P Q f [] all = tt
 Each-weaker P Q f (x ∷ xs) all = (f x all.0, Each-weaker P Q f xs all.1)
 
 -- what is needed of keys and their counts
-pub record IsCounting {K C : Type 0} (lt : K → K → Type 0) (is : K → K → Bool) (count : K → ℕ → C) (same : K → C → Bool) (grown : C → C) : Type 0 where
+pub record IsCounting {K C : Type 0} (order : K → K → Ordering) (is : K → K → Bool) (count : K → ℕ → C) (same : K → C → Bool) (grown : C → C) : Type 0 where
+  pub total : IsTotalOrder order
   pub itself : (k : K) → is k k ≡ true
   pub only : (k x : K) → is k x ≡ true → k ≡ x
-  pub never : (k : K) → lt k k → ⊥
   pub told : (k x : K) (n : ℕ) → same x (count k n) ≡ is k x
   pub grows : (k : K) (n : ℕ) → grown (count k n) ≡ count k (n + 1)
 
@@ -55,8 +45,8 @@ counts-same count f g e (k ∷ keys) =
     ∙ sym (counts-cons count g k keys)
 
 -- no count grows by more than one
-pub with_one-most : {C : Type 0} (vehicles : C → ℕ) (same : C → Bool) (grown : C → C) (first : C) (most : ℕ) → ((c : C) → vehicles (grown c) ≡ vehicles c + 1) → vehicles first ≤ most + 1 → (counts : List C) → All (λ c. vehicles c ≤ most) counts → All (λ c. vehicles c ≤ most + 1) (with_one same grown first counts)
-with_one-most {C} vehicles same grown first most e h counts all = by counts all
+pub with_one-most : {C : Type 0} (vehicles : C → ℕ) (same : C → Bool) (grown : C → C) (first : C) (most : ℕ) → ((c : C) → vehicles (grown c) ≡ vehicles c + 1) → vehicles first ≤ most + 1 → (counts new : List C) → new ≡ with_one same grown first counts → All (λ c. vehicles c ≤ most) counts → All (λ c. vehicles c ≤ most + 1) new
+with_one-most {C} vehicles same grown first most e h counts new is all = subst (All P) (sym is) (by counts all)
   where
     P : C → Type 0
     P c = vehicles c ≤ most + 1
@@ -77,33 +67,30 @@ with_one-most {C} vehicles same grown first most e h counts all = by counts all
     by (c ∷ d ∷ counts) all = All-cons P c (with_one same grown first (d ∷ counts)) (up (vehicles c) most (All-head (λ x. vehicles x ≤ most) c (d ∷ counts) all)) (by (d ∷ counts) (All-tail (λ x. vehicles x ≤ most) c (d ∷ counts) all))
 
 -- the last count grows, or a first one follows it
-pub with_one-grown : {C : Type 0} (same : C → Bool) (grown : C → C) (first : C) (counts : List C) (i : ℕ) (c : C) → suc i ≡ length counts → c ≡ get_or counts i c → same c ≡ true → set counts i (grown c) ≡ with_one same grown first counts
-with_one-grown same grown first [] i c h is e = absurd (omega (arith, h))
-with_one-grown same grown first (x ∷ []) zero c h is e = rw (← is, e) refl
-with_one-grown same grown first (x ∷ []) (suc i) c h is e = absurd (omega (arith, h))
-with_one-grown same grown first (x ∷ y ∷ counts) zero c h is e = absurd (omega (arith, h))
-with_one-grown same grown first (x ∷ y ∷ counts) (suc i) c h is e = ap (λ L. x ∷ L) (with_one-grown same grown first (y ∷ counts) i c (omega (arith, h)) is e)
+with_one-last : {C : Type 0} (same : C → Bool) (grown : C → C) (first : C) (counts : List C) (i : ℕ) (c : C) (b : Bool) → suc i ≡ length counts → c ≡ get_or counts i c → same c ≡ b → cond b (set counts i (grown c)) (counts ++ first ∷ []) ≡ with_one same grown first counts
+with_one-last same grown first [] i c b h is e = absurd (omega (arith, h))
+with_one-last same grown first (x ∷ []) zero c b h is e = rw (← is, e) refl
+with_one-last same grown first (x ∷ []) (suc i) c b h is e = absurd (omega (arith, h))
+with_one-last same grown first (x ∷ y ∷ counts) zero c b h is e = absurd (omega (arith, h))
+with_one-last same grown first (x ∷ y ∷ counts) (suc i) c true h is e = ap (λ L. x ∷ L) (with_one-last same grown first (y ∷ counts) i c true (omega (arith, h)) is e)
+with_one-last same grown first (x ∷ y ∷ counts) (suc i) c false h is e = ap (λ L. x ∷ L) (with_one-last same grown first (y ∷ counts) i c false (omega (arith, h)) is e)
 
-pub with_one-first : {C : Type 0} (same : C → Bool) (grown : C → C) (first : C) (counts : List C) (i : ℕ) (c : C) → suc i ≡ length counts → c ≡ get_or counts i c → same c ≡ false → counts ++ first ∷ [] ≡ with_one same grown first counts
-with_one-first same grown first [] i c h is e = absurd (omega (arith, h))
-with_one-first same grown first (x ∷ []) zero c h is e = rw (← is, e) refl
-with_one-first same grown first (x ∷ []) (suc i) c h is e = absurd (omega (arith, h))
-with_one-first same grown first (x ∷ y ∷ counts) zero c h is e = absurd (omega (arith, h))
-with_one-first same grown first (x ∷ y ∷ counts) (suc i) c h is e = ap (λ L. x ∷ L) (with_one-first same grown first (y ∷ counts) i c (omega (arith, h)) is e)
+pub with_one-read : {C : Type 0} (same : C → Bool) (grown : C → C) (first : C) (counts : List C) (many : ℕ) (x y : C) (b : Bool) → 0 < many → many ≡ length counts → x ≡ get_or counts (many - 1) x → y ≡ get_or counts (many - 1) y → b ≡ same x → b ≡ true → set counts (many - 1) (grown y) ≡ with_one same grown first counts
+with_one-read same grown first counts many x y b some h is_x is_y e f =
+    let alike : x ≡ y = is_x ∙ get_or_default counts (many - 1) x y (omega (arith, h, some)) ∙ sym is_y in
+    with_one-last same grown first counts (many - 1) y true (omega (arith, h, some)) is_y (sym (ap same alike) ∙ sym e ∙ f)
 
-pub with_one-read : {C : Type 0} (same : C → Bool) (grown : C → C) (first : C) (counts : List C) (i : ℕ) (x y : C) (b : Bool) → suc i ≡ length counts → x ≡ get_or counts i x → y ≡ get_or counts i y → b ≡ same x → b ≡ true → set counts i (grown y) ≡ with_one same grown first counts
-with_one-read same grown first counts i x y b h is_x is_y e f =
-    let alike : x ≡ y = is_x ∙ get_or_default counts i x y (omega (arith, h)) ∙ sym is_y in
-    with_one-grown same grown first counts i y h is_y (sym (ap same alike) ∙ sym e ∙ f)
+pub with_one-first : {C : Type 0} (same : C → Bool) (grown : C → C) (first : C) (counts : List C) (many : ℕ) (x : C) (b : Bool) → 0 < many → many ≡ length counts → x ≡ get_or counts (many - 1) x → b ≡ same x → b ≡ false → counts ++ first ∷ [] ≡ with_one same grown first counts
+with_one-first same grown first counts many x b some h is e f = with_one-last same grown first counts (many - 1) x false (omega (arith, h, some)) is (sym e ∙ f)
 
-pub none_yet : {C : Type 0} (vehicles : C → ℕ) (counts : List C) → counts ≡ [] → All (λ c. vehicles c ≤ 0) counts
-none_yet vehicles counts e = subst (λ L. All (λ c. vehicles c ≤ 0) L) (sym e) (All-nil (λ c. vehicles c ≤ 0))
+pub with_one-none : {C : Type 0} (same : C → Bool) (grown : C → C) (first : C) (counts : List C) (many : ℕ) → many ≤ 0 → many ≡ length counts → counts ++ first ∷ [] ≡ with_one same grown first counts
+with_one-none same grown first [] many h is = refl
+with_one-none same grown first (x ∷ counts) many h is = absurd (omega (arith, h, is))
 
-pub with_one-none : {C : Type 0} (same : C → Bool) (grown : C → C) (first : C) (counts : List C) → length counts ≡ 0 → counts ++ first ∷ [] ≡ with_one same grown first counts
-with_one-none same grown first [] h = refl
-with_one-none same grown first (x ∷ counts) h = absurd (omega (arith, h))
+module _ {K C : Type 0} {order : K → K → Ordering} {is : K → K → Bool} {count : K → ℕ → C} {same : K → C → Bool} {grown : C → C} (laws : IsCounting order is count same grown) where
+  never : (k : K) → Below order k k → ⊥
+  never k h = false≢true (sym (ap is_lt (tied_itself laws.total k)) ∙ h)
 
-module _ {K C : Type 0} {lt : K → K → Type 0} {is : K → K → Bool} {count : K → ℕ → C} {same : K → C → Bool} {grown : C → C} (laws : IsCounting lt is count same grown) where
   differs : (k x : K) → (k ≡ x → ⊥) → is k x ≡ false
   differs k x n = by (is k x) refl
     where
@@ -131,20 +118,20 @@ module _ {K C : Type 0} {lt : K → K → Type 0} {is : K → K → Bool} {count
       none_more : {n : ℕ} → n ≡ 0 → 0 + n ≡ 0
       none_more {n} e = omega (arith, e)
 
-  module _ (x : K) (xs : List K) (last : Each (λ y. lt x y → ⊥) xs) where
-    above : (k : K) → lt x k → (count_by (is k) xs ≡ 0) × (count_by (is k) (xs ++ x ∷ []) ≡ 0)
+  module _ (x : K) (xs : List K) (last : Each (λ y. Below order x y → ⊥) xs) where
+    above : (k : K) → Below order x k → (count_by (is k) xs ≡ 0) × (count_by (is k) (xs ++ x ∷ []) ≡ 0)
     above k h =
-        let other : (y : K) → (lt x y → ⊥) → is k y ≡ false = λ y n. differs k y (λ e. n (subst (λ z. lt x z) e h)) in
-        let none : count_by (is k) xs ≡ 0 = none_above k xs (Each-weaker (λ y. lt x y → ⊥) (λ y. is k y ≡ false) other xs last) in
-        (none, number_no xs x k (other x (laws.never x)) ∙ none)
+        let other : (y : K) → (Below order x y → ⊥) → is k y ≡ false = λ y n. differs k y (λ e. n (subst (λ z. Below order x z) e h)) in
+        let none : count_by (is k) xs ≡ 0 = none_above k xs (Each-weaker (λ y. Below order x y → ⊥) (λ y. is k y ≡ false) other xs last) in
+        (none, number_no xs x k (other x (never x)) ∙ none)
 
     -- the first key is the one
-    here : (k : K) (keys : List K) → is k x ≡ true → Each (lt k) keys → counts_of count (λ z. count_by (is z) (xs ++ x ∷ [])) (k ∷ keys) ≡ with_one (same x) grown (count x 1) (counts_of count (λ z. count_by (is z) xs) (k ∷ keys))
+    here : (k : K) (keys : List K) → is k x ≡ true → Each (Below order k) keys → counts_of count (λ z. count_by (is z) (xs ++ x ∷ [])) (k ∷ keys) ≡ with_one (same x) grown (count x 1) (counts_of count (λ z. count_by (is z) xs) (k ∷ keys))
     here k keys e below =
         let k_is : k ≡ x = laws.only k x e in
-        let up : Each (λ z. lt x z) keys = Each-weaker (lt k) (λ z. lt x z) (λ z h. subst (λ w. lt w z) k_is h) keys below in
-        let new : counts_of count (λ z. count_by (is z) (xs ++ x ∷ [])) keys ≡ [] = counts-none count (λ z. count_by (is z) (xs ++ x ∷ [])) keys (Each-weaker (λ z. lt x z) (λ z. count_by (is z) (xs ++ x ∷ []) ≡ 0) (λ z h. (above z h).1) keys up) in
-        let old : counts_of count (λ z. count_by (is z) xs) keys ≡ [] = counts-none count (λ z. count_by (is z) xs) keys (Each-weaker (λ z. lt x z) (λ z. count_by (is z) xs ≡ 0) (λ z h. (above z h).0) keys up) in
+        let up : Each (λ z. Below order x z) keys = Each-weaker (Below order k) (λ z. Below order x z) (λ z h. subst (λ w. Below order w z) k_is h) keys below in
+        let new : counts_of count (λ z. count_by (is z) (xs ++ x ∷ [])) keys ≡ [] = counts-none count (λ z. count_by (is z) (xs ++ x ∷ [])) keys (Each-weaker (λ z. Below order x z) (λ z. count_by (is z) (xs ++ x ∷ []) ≡ 0) (λ z h. (above z h).1) keys up) in
+        let old : counts_of count (λ z. count_by (is z) xs) keys ≡ [] = counts-none count (λ z. count_by (is z) xs) keys (Each-weaker (λ z. Below order x z) (λ z. count_by (is z) xs ≡ 0) (λ z h. (above z h).0) keys up) in
         counts-cons count (λ z. count_by (is z) (xs ++ x ∷ [])) k keys
         ∙ ap (λ L. cond (nat_lt 0 (count_by (is k) (xs ++ x ∷ []))) (count k (count_by (is k) (xs ++ x ∷ [])) ∷ L) L) new
         ∙ ap (λ n. cond (nat_lt 0 n) (count k n ∷ []) []) (number_yes xs x k e)
@@ -173,14 +160,11 @@ module _ {K C : Type 0} {lt : K → K → Type 0} {is : K → K → Bool} {count
         by false L = refl
 
     -- one more of a key that none is above
-    pub one_more : (keys : List K) → Rising lt keys → Among x keys → counts_of count (λ z. count_by (is z) (xs ++ x ∷ [])) keys ≡ with_one (same x) grown (count x 1) (counts_of count (λ z. count_by (is z) xs) keys)
+    pub one_more : (keys : List K) → Rising (Below order) keys → Among x keys → counts_of count (λ z. count_by (is z) (xs ++ x ∷ [])) keys ≡ with_one (same x) grown (count x 1) (counts_of count (λ z. count_by (is z) xs) keys)
     one_more [] up there = absurd there
     one_more (k ∷ keys) up there = by (is k x) refl there (one_more keys up.1)
       where
         by : (b : Bool) → b ≡ is k x → (k ≡ x) ⊎ Among x keys → (Among x keys → counts_of count (λ z. count_by (is z) (xs ++ x ∷ [])) keys ≡ with_one (same x) grown (count x 1) (counts_of count (λ z. count_by (is z) xs) keys)) → counts_of count (λ z. count_by (is z) (xs ++ x ∷ [])) (k ∷ keys) ≡ with_one (same x) grown (count x 1) (counts_of count (λ z. count_by (is z) xs) (k ∷ keys))
         by true e t ih = here k keys (sym e) up.0
-        by false e (inl k_is) ih = absurd (clash (sym (laws.itself k) ∙ ap (is k) k_is ∙ sym e))
-          where
-            clash : true ≡ false → ⊥
-            clash h = cc
+        by false e (inl k_is) ih = absurd (true≢false (sym (laws.itself k) ∙ ap (is k) k_is ∙ sym e))
         by false e (inr t) ih = later k keys (sym e) (ih t)

@@ -2,7 +2,8 @@
 use Rattle.std.specs.List.{list_any}
 use Rattle.std.specs.List.Sorted.{IsPermutation}
 use Rattle.std.specs.Prelude.{count_by, max, nat_eq, slice_get}
-use Rattle.std.proofs.Common.{◌≡◌, ℕ, zero, suc, ◌+◌, Bool, true, false, cond, ◌&&◌, ◌||◌, List, [], ◌∷◌, ◌++◌, length, take, refl, ap, sym, ◌∙◌, subst, arith, Option, Some, None}
+use Rattle.std.proofs.Common.{◌≡◌, ℕ, zero, suc, ◌+◌, true, false, cond, ◌&&◌, ◌||◌, List, [], ◌∷◌, ◌++◌, length, take, refl, ap, sym, ◌∙◌, subst, arith, get_or, Option, Some, None}
+use Rattle.std.proofs.Math.Bool.{and-false, and-true}
 use Rattle.std.proofs.lemmas.List.Elements.{All-nil, All-push}
 use Rattle.std.proofs.lemmas.List.Sorted.{All-permutation, sum_by-IsPermutation}
 use Rattle.std.proofs.lemmas.List.Sums.{sum_by_push}
@@ -13,11 +14,12 @@ use Rattle.dta_model.specs.Trace.{Move, leads_to, moves_of}
 use Rattle.dta_model.specs.declared.plan.Plan.{Plan}
 use Rattle.dta_model.specs.declared.trip.Trip.{Trip}
 use Rattle.link_times.specs.Journeys.{HasGone, moves_along}
-use Rattle.counts.specs.Inside.Pairs.{ArePairCounts, ArePairs, IsBelow, counts_among}
+use Rattle.counts.specs.Inside.Pairs.{ArePairCounts, ArePairs, IsBelow}
 use Rattle.counts.specs.Through.{above_zones, all_pairs, goes_between, is_pair, is_that, number_through, pair, enters, through_count, through_counts, through_counts_in, zones_in}
 use Rattle.counts.specs.declared.through.ZonePair.{ZonePair}
 use Rattle.counts.specs.declared.through_counts.ThroughCount.{ThroughCount}
 use Rattle.counts.proofs.Counting.{counts-same}
+use Rattle.counts.proofs.PairOrder.{pair_among, pairs-rise}
 use Rattle.counts.proofs.SumFacts.{sum_next}
 
 -- a vehicle enters a link that is among those that it entered
@@ -66,14 +68,10 @@ pairs_next p l v n pairs x e there zones had = record {
       let more = number-more p l (trace_after p p.horizon) q v n e in
       let push = sum_by_push (λ y. cond (is_pair q y) 1 0) pairs x in
       let h = had.each q in
-      push ∙ both _ _ _ _ h (ap (λ b. cond b 1 0) (sym (ap (λ b. goes_between p q v && b) there ∙ and_true (goes_between p q v) ∙ ap (is_that q) zones))) ∙ sym more;
+      push ∙ both _ _ _ _ h (ap (λ b. cond b 1 0) (sym (ap (λ b. goes_between p q v && b) there ∙ and-true (goes_between p q v) ∙ ap (is_that q) zones))) ∙ sym more;
   below = All-push (IsBelow (above_zones p.trips)) pairs x had.below (below_at p.trips v x zones);
 }
   where
-    and_true : (b : Bool) → (b && true) ≡ b
-    and_true true = refl
-    and_true false = refl
-
     both : (a b c d : ℕ) → a ≡ b → c ≡ d → a + c ≡ b + d
     both a b c d e f = omega (arith, e, f)
 
@@ -82,20 +80,16 @@ pub pairs_same : (p : Plan) (l v n : ℕ) (pairs : List ZonePair) → n ≡ suc 
 pairs_same p l v n pairs e away had = record {
   each = λ q.
       let more = number-more p l (trace_after p p.horizon) q v n e in
-      had.each q ∙ plain _ _ (ap (λ b. cond b 1 0) (ap (λ b. goes_between p q v && b) away ∙ and_false (goes_between p q v))) ∙ sym more;
+      had.each q ∙ plain _ _ (ap (λ b. cond b 1 0) (ap (λ b. goes_between p q v && b) away ∙ and-false (goes_between p q v))) ∙ sym more;
   below = had.below;
 }
   where
-    and_false : (b : Bool) → (b && false) ≡ false
-    and_false true = refl
-    and_false false = refl
-
     plain : (a b : ℕ) → b ≡ 0 → a ≡ a + b
     plain a b e = omega (arith, e)
 
 -- the counts of all pairs, once they are sorted
-pub pairs_counted : (p : Plan) (l : ℕ) (pairs sorted : List ZonePair) (counts : List ThroughCount) → ArePairs p l (length p.trips) pairs → IsPermutation pairs sorted → ArePairCounts sorted counts → counts ≡ through_counts p l
-unfolding counts_among through_counts through_counts_in
+pub pairs_counted : (p : Plan) (l : ℕ) (pairs sorted : List ZonePair) (counts : List ThroughCount) → ArePairs p l (length p.trips) pairs → IsPermutation pairs sorted → ArePairCounts sorted sorted counts → counts ≡ through_counts p l
+unfolding through_counts through_counts_in
 pairs_counted p l pairs sorted counts are same told =
-    told (above_zones p.trips) (All-permutation (IsBelow (above_zones p.trips)) pairs sorted same are.below)
+    told (all_pairs (above_zones p.trips)) (pairs-rise (above_zones p.trips)) (λ i d h. pair_among (above_zones p.trips) (get_or sorted i d) (All-permutation (IsBelow (above_zones p.trips)) pairs sorted same are.below i d h))
     ∙ counts-same through_count (λ q. count_by (is_pair q) sorted) (λ q. number_through p l (trace_after p p.horizon) q (numbers_below (length p.trips))) (λ q. sum_by-IsPermutation (λ x. cond (is_pair q x) 1 0) pairs sorted same ∙ are.each q) (all_pairs (above_zones p.trips))

@@ -4,11 +4,16 @@ use Rattle.std.specs.List.Sorted.{IsSorted}
 use Rattle.std.specs.Ordering.{is_lt}
 use Rattle.std.specs.declared.cmp.Ordering.{Ordering}
 use Rattle.std.specs.Cmp.{IsTotalOrder}
-use Rattle.std.proofs.Common.{◌≡◌, ℕ, zero, suc, ◌+◌, ◌<◌, ◌≤◌, Bool, true, false, List, [], ◌∷◌, ◌++◌, length, map, take, get_or, ap, sym, subst, arith, ◌⊎◌, inl, inr}
-use Rattle.std.proofs.lemmas.Bool.{cases_lt}
+use Rattle.std.specs.Prelude.{All, count_by}
+use Rattle.std.proofs.Common.{◌≡◌, ℕ, zero, suc, ◌+◌, ◌<◌, ◌≤◌, Bool, true, false, List, [], ◌∷◌, ◌++◌, length, map, take, get_or, refl, ap, sym, ◌∙◌, subst, arith, ◌⊎◌, inl, inr}
+use Rattle.std.proofs.lemmas.Bool.{cases_lt, false≢true}
+use Rattle.std.proofs.lemmas.List.{take_more}
+use Rattle.std.proofs.lemmas.List.Elements.{All-nil}
 use Rattle.std.proofs.lemmas.List.Sorted.{ranks_by, sorted_far}
 use Rattle.net_core.specs.Network.{numbers_below}
-use Rattle.counts.proofs.Counting.{Among, Each, Rising}
+use Rattle.counts.specs.Counting.{counts_of}
+use Rattle.counts.specs.Inside.Counting.{Among, AreCounts, Each, Rising, with_one}
+use Rattle.counts.proofs.Counting.{IsCounting, counts-none, one_more}
 
 pub Each-append : {K : Type 0} (P : K → Type 0) (xs ys : List K) → Each P xs → Each P ys → Each P (xs ++ ys)
 Each-append P [] ys a b = b
@@ -119,15 +124,25 @@ each_take P d (x ∷ xs) zero h f = tt
 each_take P d (x ∷ xs) (suc i) h f = (f 0 (omega arith), each_take P d xs i (omega (arith, h)) (λ j b. f (suc j) (omega (arith, b))))
 
 -- nothing that stands before an element of a sorted list is above it
-pub none_above : {K : Type 0} (order : K → K → Ordering) → IsTotalOrder order → (xs : List K) (i : ℕ) (x d : K) → i < length xs → x ≡ get_or xs i d → IsSorted order xs → Each (λ y. is_lt (order x y) ≡ true → ⊥) (take i xs)
+none_above : {K : Type 0} (order : K → K → Ordering) → IsTotalOrder order → (xs : List K) (i : ℕ) (x d : K) → i < length xs → x ≡ get_or xs i d → IsSorted order xs → Each (λ y. is_lt (order x y) ≡ true → ⊥) (take i xs)
 none_above {K} order total xs i x d h is up =
     each_take (λ y. is_lt (order x y) ≡ true → ⊥) d xs i (omega (arith, h)) each
   where
-    clash : (b : Bool) → b ≡ false → b ≡ true → ⊥
-    clash b e f = cc
-
     each : (j : ℕ) → j < i → is_lt (order x (get_or xs j d)) ≡ true → ⊥
     each j b e =
-        clash (is_lt (order x (get_or xs j d)))
-        (subst (λ z. is_lt (order z (get_or xs j d)) ≡ false) (sym is) (sorted_far (λ a c. is_lt (order a c)) (ranks_by total (λ z. z)) xs up j i d (omega (arith, b)) h))
-        e
+        false≢true (sym (subst (λ z. is_lt (order z (get_or xs j d)) ≡ false) (sym is) (sorted_far (λ a c. is_lt (order a c)) (ranks_by total (λ z. z)) xs up j i d (omega (arith, b)) h)) ∙ e)
+
+-- before the first key nothing is counted
+pub counted_none : {K C : Type 0} (order : K → K → Ordering) (is : K → K → Bool) (count : K → ℕ → C) (vehicles : C → ℕ) (xs : List K) (counts : List C) → counts ≡ [] → AreCounts order is count xs [] counts × All (λ c. vehicles c ≤ 0) counts
+counted_none order is count vehicles xs counts e = (
+  λ keys up all. e ∙ sym (counts-none count (λ k. count_by (is k) []) keys (Each-always (λ k. count_by (is k) [] ≡ 0) (λ k. refl) keys)),
+  subst (λ L. All (λ c. vehicles c ≤ 0) L) (sym e) (All-nil (λ c. vehicles c ≤ 0)),
+)
+
+-- the counts of the first keys of a sorted list, with one more key
+pub counted_more : {K C : Type 0} {order : K → K → Ordering} {is : K → K → Bool} {count : K → ℕ → C} {same : K → C → Bool} {grown : C → C} (laws : IsCounting order is count same grown) (xs : List K) (i : ℕ) (x d : K) (counts new : List C) → i < length xs → x ≡ get_or xs i d → IsSorted order xs
+    → AreCounts order is count xs (take i xs) counts → new ≡ with_one (same x) grown (count x 1) counts → AreCounts order is count xs (take (i + 1) xs) new
+counted_more {K} {C} {order} {is} {count} {same} {grown} laws xs i x d counts new h at up had more keys rise all =
+    more ∙ ap (with_one (same x) grown (count x 1)) (had keys rise all)
+    ∙ sym (one_more laws x (take i xs) (none_above order laws.total xs i x d h at up) keys rise (subst (λ z. Among z keys) (sym at) (all i d h)))
+    ∙ ap (λ L. counts_of count (λ z. count_by (is z) L) keys) (sym (take_more xs i d h ∙ ap (λ z. take i xs ++ z ∷ []) (sym at)))

@@ -12,7 +12,8 @@ use Rattle.counts.specs.Counting.{counts_of}
 use Rattle.counts.specs.Inside.Turns.{IsWithin}
 use Rattle.counts.specs.Turns.{IsOfNet, all_turns, timed, times_taken, turn_count, turn_counts, turn_counts_in, turns_between, turns_from}
 use Rattle.link_times.proofs.Places.{product_le}
-use Rattle.counts.proofs.Counting.{Each, counts-cons}
+use Rattle.counts.specs.Inside.Counting.{Each}
+use Rattle.counts.proofs.Counting.{counts-cons}
 use Rattle.counts.proofs.InOrder.{Each-flat_of, Each-map_of}
 
 begins : (bucket horizon k : ℕ) → 1 ≤ bucket → k < buckets_to bucket horizon → k * bucket < horizon

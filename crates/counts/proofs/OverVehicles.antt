@@ -1,8 +1,8 @@
 -- The turns of a trace, vehicle by vehicle.
 use Rattle.std.specs.List.{last_or, sum_by}
 use Rattle.std.specs.Prelude.{◌≢◌, filter, nat_eq}
-use Rattle.std.proofs.Common.{◌≡◌, ℕ, ◌+◌, ◌<◌, ◌≤◌, Bool, true, false, cond, ◌&&◌, ◌||◌, List, [], ◌∷◌, ◌++◌, length, refl, ap, sym, ◌∙◌, subst, arith, append-nil, None, ◌⊎◌, inl, inr}
-use Rattle.std.proofs.lemmas.Bool.{cases_lt, eq-eqb}
+use Rattle.std.proofs.Common.{◌≡◌, ℕ, ◌+◌, ◌<◌, ◌≤◌, Bool, true, false, cond, ◌&&◌, List, [], ◌∷◌, ◌++◌, length, refl, ap, sym, ◌∙◌, subst, arith, append-nil, None, ◌⊎◌, inl, inr}
+use Rattle.std.proofs.lemmas.Bool.{cases_lt, eq-eqb, or_parts}
 use Rattle.std.proofs.lemmas.Bool.Decides.{eqb_tells}
 use Rattle.std.proofs.Math.Dec.{eqb}
 use Rattle.net_core.specs.Network.{numbers_below}
@@ -100,7 +100,7 @@ module _ (bucket : ℕ) (t : TimedTurn) where
   over_all n (m ∷ T) before none =
       let e : Bool = takes bucket t before m in
       let after : ℕ → ℕ = λ v. taken bucket t (moves_of v (before ++ m ∷ [])) (moves_of v T) in
-      let rest = over_all n T (before ++ m ∷ []) (λ v h. right_part _ _ (none v h)) in
+      let rest = over_all n T (before ++ m ∷ []) (λ v h. (or_parts _ _ (none v h)).1) in
       sum_alike (λ v. taken bucket t (moves_of v before) (moves_of v (m ∷ T))) (λ v. after v + cond (eqb m.vehicle v && e) 1 0)
       (λ v. one_vehicle m T before v ∙ ap (λ k. after v + k) (both_hold (eqb m.vehicle v) e)) (numbers_below n)
       ∙ sum_both after (λ v. cond (eqb m.vehicle v && e) 1 0) (numbers_below n)
@@ -110,17 +110,9 @@ module _ (bucket : ℕ) (t : TimedTurn) where
       swapped : (a b c : ℕ) → a ≡ b → a + c ≡ c + b
       swapped a b c e = omega (arith, e)
 
-      right_part : (c d : Bool) → (c || d) ≡ false → d ≡ false
-      right_part true d h = cc
-      right_part false d h = h
-
-      left_part : (c d : Bool) → (c || d) ≡ false → c ≡ false
-      left_part true d h = cc
-      left_part false d h = refl
-
       inside : (m.vehicle < n) ⊎ (n ≤ m.vehicle) → m.vehicle < n
       inside (inl h) = h
-      inside (inr h) = let clash : true ≡ false = sym (eq-eqb m.vehicle m.vehicle refl) ∙ left_part _ _ (none m.vehicle h) in cc
+      inside (inr h) = let clash : true ≡ false = sym (eq-eqb m.vehicle m.vehicle refl) ∙ (or_parts _ _ (none m.vehicle h)).0 in cc
 
   pub over_vehicles : (n : ℕ) (T : List Move) → ((v : ℕ) → n ≤ v → has_moved v T ≡ false) → sum_by (λ v. times_taken bucket t (moves_of v T)) (numbers_below n) ≡ times_taken bucket t T
   unfolding times_taken moves_of

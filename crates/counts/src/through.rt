@@ -147,7 +147,7 @@ fn count_pair(counts: &mut Vec<ThroughCount>, pair: ZonePair) -> Result<(), Memo
 // The counts of pairs that are in order.
 fn counted(alloc: Global, pairs: &[ZonePair]) -> Result<Vec<ThroughCount>, Memory>
     requires { IsSorted pair_order pairs.now }
-    ensures { IfOk result (λ counts. ArePairCounts pairs.now counts.items) }
+    ensures { IfOk result (λ counts. ArePairCounts pairs.now pairs.now counts.items) }
 {
     let mut counts = Vec::new(alloc);
     for pair in pairs {

@@ -5,7 +5,7 @@ ghost use Rattle.dta_model.specs.Lent.{plan_of};
 ghost use Rattle.dta_model.specs.Loading.{journeys_of, trace_after};
 ghost use Rattle.dta_model.specs.Sound.{IsSound};
 ghost use Rattle.dta_model.specs.Trace.{moves_of};
-ghost use Rattle.counts.specs.Inside.Turns.{AreAdded, AreCounts, AreTurns};
+ghost use Rattle.counts.specs.Inside.Turns.{AreAdded, AreTurnCounts, AreTurns};
 ghost use Rattle.counts.specs.Inside.Turns.{is_count_of, turn_order, turns_along, with_turn};
 ghost use Rattle.counts.specs.Turns.{IsOfNet, turn_counts};
 
@@ -141,7 +141,7 @@ fn count_turn(counts: &mut Vec<TurnCount>, turn: TimedTurn) -> Result<(), Memory
 // The counts of turns that are in order.
 fn counted(alloc: Global, turns: &[TimedTurn]) -> Result<Vec<TurnCount>, Memory>
     requires { IsSorted turn_order turns.now }
-    ensures { IfOk result (λ counts. AreCounts turns.now counts.items) }
+    ensures { IfOk result (λ counts. AreTurnCounts turns.now turns.now counts.items) }
 {
     let mut counts = Vec::new(alloc);
     for turn in turns {

@@ -5,9 +5,8 @@ use Rattle.std.specs.Prelude.{◌≡◌, ℕ, ◌+◌, ◌<◌, Bool, ◌&&◌, 
 use Rattle.net_core.specs.Network.{numbers_below}
 use Rattle.dta_model.specs.Loading.{trace_after}
 use Rattle.dta_model.specs.declared.plan.Plan.{Plan}
-use Rattle.counts.specs.Counting.{counts_of}
-use Rattle.counts.specs.Inside.Counting.{with_one}
-use Rattle.counts.specs.Through.{above_zones, all_pairs, is_pair, number_through, through_count}
+use Rattle.counts.specs.Inside.Counting.{AreCounts, with_one}
+use Rattle.counts.specs.Through.{above_zones, is_pair, number_through, through_count}
 use Rattle.counts.specs.declared.through.ZonePair.{ZonePair}
 use Rattle.counts.specs.declared.through_counts.ThroughCount.{ThroughCount}
 
@@ -25,14 +24,9 @@ pub record ArePairs (p : Plan) (l vehicles : ℕ) (pairs : List ZonePair) : Type
       ≡ number_through p l (trace_after p p.horizon) q (numbers_below vehicles)
   pub below : All (IsBelow (above_zones p.trips)) pairs
 
--- the counts of pairs
-unfoldable pub counts_among : ℕ → List ZonePair → List ThroughCount
-counts_among most pairs =
-    counts_of through_count (λ q. count_by (is_pair q) pairs) (all_pairs most)
-
-abbrev pub ArePairCounts : List ZonePair → List ThroughCount → Type 0
-ArePairCounts pairs counts =
-    (most : ℕ) → All (IsBelow most) pairs → counts ≡ counts_among most pairs
+-- the counts of some of these pairs
+abbrev pub ArePairCounts : List ZonePair → List ZonePair → List ThroughCount → Type 0
+ArePairCounts = AreCounts pair_order is_pair through_count
 
 abbrev pub is_count_of : ZonePair → ThroughCount → Bool
 is_count_of q c = nat_eq q.origin c.origin && nat_eq q.destination c.destination

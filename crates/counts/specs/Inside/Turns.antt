@@ -10,9 +10,8 @@ use Rattle.dta_model.specs.LinkTimes.{buckets_to}
 use Rattle.dta_model.specs.Loading.{trace_after}
 use Rattle.dta_model.specs.Trace.{Move, moves_of}
 use Rattle.dta_model.specs.declared.plan.Plan.{Plan}
-use Rattle.counts.specs.Counting.{counts_of}
-use Rattle.counts.specs.Inside.Counting.{with_one}
-use Rattle.counts.specs.Turns.{all_turns, timed, times_taken, turn_count}
+use Rattle.counts.specs.Inside.Counting.{AreCounts, with_one}
+use Rattle.counts.specs.Turns.{timed, times_taken, turn_count}
 use Rattle.counts.specs.declared.turn_counts.TurnCount.{TurnCount}
 use Rattle.counts.specs.declared.turns.TimedTurn.{TimedTurn}
 
@@ -60,14 +59,9 @@ pub record AreTurns (p : Plan) (bucket vehicles : ℕ) (turns : List TimedTurn) 
       (numbers_below vehicles)
   pub within : AreWithin p bucket turns
 
--- the counts of turns
-unfoldable pub counts_among : ℕ → ℕ → List TimedTurn → List TurnCount
-counts_among links buckets turns =
-    counts_of turn_count (λ t. count_by (is_turn t) turns) (all_turns links buckets)
-
-abbrev pub AreCounts : List TimedTurn → List TurnCount → Type 0
-AreCounts turns counts = (links buckets : ℕ) → All (IsWithin links buckets) turns
-    → counts ≡ counts_among links buckets turns
+-- the counts of some of these turns
+abbrev pub AreTurnCounts : List TimedTurn → List TimedTurn → List TurnCount → Type 0
+AreTurnCounts = AreCounts turn_order is_turn turn_count
 
 abbrev pub is_count_of : TimedTurn → TurnCount → Bool
 is_count_of t c = nat_eq t.a c.a.0 && nat_eq t.b c.b.0 && nat_eq t.bucket c.bucket
