@@ -1,6 +1,7 @@
+use Rattle.std.proofs.Common.{refl, ◌∙◌}
 use Rattle.std.proofs.lemmas.Result.{err_from_is_err_and}
 use Rattle.jobs.proofs.ChainFacts.{reads-stopped, reads-done}
-use Rattle.jobs.proofs.TableFacts.{agents-accepted, agents-stop}
+use Rattle.jobs.proofs.TableFacts.{accepted-at, agents-with, stop-at, agents-told}
 use Rattle.jobs.proofs.tables.accept_agents.Goals as goal
 
 pub returns-in_err-bytes : goal.returns-in_err-bytes
@@ -18,14 +19,14 @@ returns-in_err-read_agents g c =
     rw (p.1, p.2) (record {
       reads = λ settings rows asks.
           let r = c.in_ok-bytes.ensures.reads settings rows in
-          reads-stopped r (agents-stop settings rows c.in_ok-bytes.bytes.items c.deref.result.now _ _ c.in_err-read_agents.field-0.0 asks
-          r.done.read r.done.short c.deref.ensures.value c.in_err-read_agents.ensures);
+          reads-stopped r (stop-at settings _ rows c.in_ok-bytes.bytes.items c.deref.result.now _ _ c.in_err-read_agents.field-0.0
+          r.done.read r.done.short c.deref.ensures.value (agents-told settings rows c.deref.result.now c.in_err-read_agents.field-0.0 asks c.in_err-read_agents.ensures));
     })
 
 pub returns : goal.returns
 returns g c = record {
   reads = λ settings rows asks.
       let r = c.in_ok-bytes.ensures.reads settings rows in
-      reads-done r (agents-accepted settings rows c.in_ok-bytes.bytes.items c.deref.result.now c.in_ok-read_agents.field-0 _ _ asks
-      r.done.read r.done.short c.deref.ensures.value c.in_ok-read_agents.ensures);
+      reads-done r (accepted-at settings _ rows _ c.in_ok-bytes.bytes.items c.deref.result.now _ _
+      r.done.read r.done.short c.deref.ensures.value (agents-with settings rows c.deref.result.now asks ∙ (rw (c.in_ok-read_agents.ensures) refl)));
 }
