@@ -103,15 +103,13 @@ module _ (s : Settings) (traffic : Traffic) where
       }
 
   -- memory was wanting after the watch lines
-  pub halts-after : (why : Halt) (number : ℕ) (r : VehicleRoutes) (lines : List GapLine) (start before now : Taken)
+  pub halts-after : (number : ℕ) (r : VehicleRoutes) (lines : List GapLine) (start before now : Taken)
       → IsAt s traffic number r lines start before → number ≤ s.iterations
       → IsWatched s traffic number r before now
-      → why ≡ halt.Memory
-      → Halts s traffic why start now
-  halts-after why number r lines start before now at few put memory =
+      → Halts s traffic halt.Memory start now
+  halts-after number r lines start before now at few put =
       let many = at.as_many in
-      let long = length-append at.done (r ∷ []) in
-      rw memory (
+      let long = length-append at.done (r ∷ []) in (
         at.texts ++ put.0,
         record {
           routes = at.done ++ r ∷ [];
@@ -141,7 +139,7 @@ module _ (s : Settings) (traffic : Traffic) where
         same ∙ at.watched,
       )
   halts-in halt.Memory number r lines start before now at few (inr put) =
-      halts-after halt.Memory number r lines start before now at few put refl
+      halts-after number r lines start before now at few put
   halts-in halt.Watch number r lines start before now at few cut =
       let many = at.as_many in
       let long = length-append at.done (r ∷ []) in (
@@ -220,7 +218,7 @@ module _ (s : Settings) (traffic : Traffic) where
         → OnlyWatches {T = U} Done (HaltsFrom s traffic number r lines) before after (Err halt.Memory)
     memory-halts x w = record {
       done = tt;
-      halts = λ start at. halts-after halt.Memory number r lines start before.taken after.taken at few w.done refl;
+      halts = λ start at. halts-after number r lines start before.taken after.taken at few w.done;
       failed = λ e. absurd cc;
       later = w.later;
       left = w.left;

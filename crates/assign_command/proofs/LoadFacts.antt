@@ -10,6 +10,7 @@ use Rattle.loader.specs.Loads.{Loads}
 use Rattle.loader.specs.declared.loading.LoadFault.{LoadFault}
 use Rattle.loader.specs.declared.loading.LoadFault.TheVariants as fault
 use Rattle.assignment.specs.Assignment.{Traffic, VehicleRoutes, plan_of}
+use Rattle.commands.specs.Works.{by_workers}
 use Rattle.assign_command.specs.Calls.{OnlyWatches}
 use Rattle.assign_command.specs.Progress.{HaltsIn, IsWatched, halt_of}
 use Rattle.assign_command.specs.Receipts.{Gives, numbers_in}
@@ -44,10 +45,10 @@ module _ (s : Settings) (traffic : Traffic) (iteration : ℕ) (routes : VehicleR
       }
 
   pub loaded-gives : {T : Type 0} (x : T) (journeys : List Journey) (p : Plan) → p ≡ plan_of s traffic routes → LoadsBy p (Ok journeys)
-      → Gives {T = T} {E = Halt} 1 (numbers_in s traffic) gate now (Ok x)
+      → Gives {T = T} {E = Halt} (by_workers s.plain 1) (numbers_in s traffic) gate now (Ok x)
   loaded-gives x journeys p e loads =
       let h = its-own p (Ok journeys) e loads in
-      record { all = one (h.receipt (λ e. absurd cc)); some = tt }
+      rw by (record { all = one (h.receipt (λ e. absurd cc)); some = tt })
 
   pub fault-watches : {T : Type 0} (why : LoadFault) (p : Plan) → p ≡ plan_of s traffic routes → LoadsBy p (Err why)
       → OnlyWatches {T = T} (λ _. IsWatched s traffic iteration routes) (HaltsIn s traffic iteration routes) before after (Err (halt_of why))
@@ -73,10 +74,10 @@ module _ (s : Settings) (traffic : Traffic) (iteration : ℕ) (routes : VehicleR
       }
 
   pub fault-gives : {T : Type 0} (why : LoadFault) (p : Plan) → p ≡ plan_of s traffic routes → LoadsBy p (Err why)
-      → Gives {T = T} {E = Halt} 1 (numbers_in s traffic) gate now (Err (halt_of why))
+      → Gives {T = T} {E = Halt} (by_workers s.plain 1) (numbers_in s traffic) gate now (Err (halt_of why))
   fault-gives fault.Memory p e loads =
       let h = its-own p (Err fault.Memory) e loads in
-      record { all = tt; some = (0, omega arith, h.none refl) }
+      rw by (record { all = tt; some = (0, omega arith, h.none refl) })
   fault-gives fault.WatchFault p e loads =
       let h = its-own p (Err fault.WatchFault) e loads in
-      record { all = tt; some = (1, omega arith, one (h.receipt (λ e. absurd cc))) }
+      rw by (record { all = tt; some = (1, omega arith, one (h.receipt (λ e. absurd cc))) })

@@ -1,5 +1,5 @@
 // The loading of an iteration: by workers, or by the plain loader.
-ghost use Rattle.std.specs.Prelude.{◌≡◌, false, IfOk};
+ghost use Rattle.std.specs.Prelude.{◌≡◌, IfOk};
 ghost use Rattle.dta_model.specs.Loading.{journeys_of};
 ghost use Rattle.loader.specs.Gates.{gate_of};
 ghost use Rattle.assignment.specs.Lent.{IsAssignment, plan_in, settings_in, traffic_in};
@@ -65,39 +65,8 @@ fn load_plainly<D: Desk>(
     Ok(loaded)
 }
 
-// Loads by workers, of which the calling thread puts the watch lines meanwhile.
-fn load_by_workers<R: AllocGlobal + Threads + Wait + Sync, D: Desk + Send, G: Gate + Sync>(
-    rt: &R,
-    assignment: &Assignment,
-    routes: &Routes,
-    iteration: u32,
-    gate: &mut G,
-    desk: &mut D,
-) -> Result<Loaded, Halt>
-    requires is { IsAssignment assignment.now }
-    requires routes { AreRoutesOf (traffic_in assignment.now) routes.now }
-    requires plain { (settings_in assignment.now).plain ≡ false }
-    ensures loaded { IfOk result (λ loaded.
-        loaded ≡ journeys_of (plan_in assignment.now routes.now)) }
-    ensures watches { let s = settings_in assignment.now in
-        let traffic = traffic_in assignment.now in
-        OnlyWatches (λ _. IsWatched s traffic iteration routes.now)
-        (HaltsIn s traffic iteration routes.now) (D.state desk.old) (D.state desk.new) result }
-    ensures receipts { let shown = gate_of G.closes G.last in
-        Gives 1 (numbers_in (settings_in assignment.now) (traffic_in assignment.now))
-        (shown gate.old) (shown gate.new) result }
-{
-    let loading = assignment.loading(routes);
-    let watch = Watch {
-        iteration,
-        every: assignment.settings.watch,
-    };
-    let loaded = load(rt, &loading, assignment.settings.workers, gate, desk, watch)?;
-    Ok(loaded)
-}
-
-/// Loads an iteration by workers, unless the settings ask for the plain loader, and puts its watch
-/// lines.
+/// Loads an iteration by workers, of which the calling thread puts the watch lines meanwhile, or
+/// where the settings ask for it by the plain loader.
 pub(crate) fn load_watched<R: AllocGlobal + Threads + Wait + Sync, D: Desk + Send, G: Gate + Sync>(
     rt: &R,
     assignment: &Assignment,
@@ -120,8 +89,13 @@ pub(crate) fn load_watched<R: AllocGlobal + Threads + Wait + Sync, D: Desk + Sen
         (shown gate.old) (shown gate.new) result }
 {
     if assignment.settings.plain {
-        load_plainly(rt.alloc(), assignment, routes, iteration, desk)
-    } else {
-        load_by_workers(rt, assignment, routes, iteration, gate, desk)
+        return load_plainly(rt.alloc(), assignment, routes, iteration, desk);
     }
+    let loading = assignment.loading(routes);
+    let watch = Watch {
+        iteration,
+        every: assignment.settings.watch,
+    };
+    let loaded = load(rt, &loading, assignment.settings.workers, gate, desk, watch)?;
+    Ok(loaded)
 }

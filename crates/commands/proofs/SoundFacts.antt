@@ -23,7 +23,7 @@ use Rattle.jobs.specs.Inputs.{Assigning, Auditing, Kind, Sweeping, kind_of}
 use Rattle.jobs.specs.Jobs.{IsJob, JobRows, traffic_of}
 use Rattle.commands.specs.Works.{LoadsSoundly, work_by}
 use Rattle.commands.specs.Outputs.{IsAudited, audit_plan}
-use Rattle.commands.proofs.WorkFacts.{all-at}
+use Rattle.dta_model.proofs.Steady.{all_at}
 
 -- ---- a scenario
 
@@ -67,7 +67,7 @@ by-kind Assigning s job is settings good = sound-iterations s (traffic_of job) s
 by-kind Sweeping s job is settings good = λ place scale at.
     sound-iterations s (traffic_at s job.net job.demand_cells scale) settings good.net
     (trips-below s job.demand_cells scale settings
-    (all-at (λ (m : ℕ). IsWithin (scaled m job.demand_cells)) s.scales place scale (good.sweep is).within at))
+    (all_at (λ (m : ℕ). IsWithin (scaled m job.demand_cells)) s.scales place scale (good.sweep is).within at))
 by-kind Auditing s job is settings good = audit-sound s job settings good
 by-kind k s job is settings good = tt
 

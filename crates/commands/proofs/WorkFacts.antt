@@ -1,19 +1,13 @@
 -- The work of a command, from what its parts say.
-use Rattle.std.proofs.Common.{◌≡◌, ℕ, zero, suc, ◌+◌, ◌<◌, List, [], ◌∷◌, length, refl, sym, ap, subst, arith, inl, inr, ◌⊎◌, ◌∙◌}
-use Rattle.std.specs.Prelude.{All, None, Some, Result, Ok, Err, slice_get}
-use Rattle.std.proofs.lemmas.List.Elements.{All-head, All-tail}
-use Rattle.std.proofs.lemmas.Option.{slice_get_within}
+use Rattle.std.proofs.Common.{◌≡◌, ℕ, List, [], length, refl, sym, ap, subst, arith, inl, inr, ◌⊎◌, ◌∙◌}
+use Rattle.std.specs.Prelude.{None, Some, Result, Ok, Err}
 use Rattle.desk_io.specs.declared.desk.Output.TheVariants as output
 use Rattle.desk_io.specs.Desk.{Taken, grown}
-use Rattle.desk_io.specs.Transfers.{IsOut, IsPartOut, Puts}
+use Rattle.desk_io.specs.Transfers.{IsOut, IsPartOut, OnlyPuts, Puts}
 use Rattle.net_core.specs.declared.rows.NetRows.{NetRows}
 use Rattle.reports.specs.declared.audited.Place.{Place}
 use Rattle.reports.specs.Texts.{IsFreeCut, IsFreeOut, audit_text, differs_line}
 use Rattle.audit.specs.declared.verdict.Verdict.TheVariants as verdict
-use Rattle.dta_model.specs.Release.{vehicles_before}
-use Rattle.dta_model.specs.declared.trip.DemandCell.{DemandCell}
-use Rattle.vehicle_release.specs.Limits.{IsWithin}
-use Rattle.sweep.specs.Scales.{AreAllWithin, IsFirstTooMany, scaled}
 use Rattle.sweep.specs.Scenarios.{AreScenarios}
 use Rattle.sweep.specs.Texts.{IsSweepCut, IsSweepOut}
 use Rattle.sweep.specs.declared.scenario.Scenario.{Scenario}
@@ -28,6 +22,7 @@ use Rattle.assignment.specs.Assignment.{Traffic}
 use Rattle.jobs.specs.Inputs.{Assigning, Auditing, FreeFlow, Kind, Skimming, Sweeping, kind_of}
 use Rattle.jobs.specs.Jobs.{JobRows, traffic_of}
 use Rattle.desk_io.specs.State.{DeskState}
+use Rattle.commands.specs.Calls.{DoesWork}
 use Rattle.commands.specs.Works.{Works, work_by}
 use Rattle.commands.specs.Outputs.{AreAudited, AreSkimmed, AreSwept, AreWatched, IsAudited, IsCutOff, OutText, audit_texts, free_texts, grown_by, skim_texts, sweep_texts}
 use Rattle.commands.specs.declared.status.Status.TheVariants as status
@@ -77,42 +72,22 @@ module _ (s : Settings) (job : JobRows) (is : kind_of s.command ≡ Sweeping) (s
   pub sweep-cut : IsSweepCut scenarios before after → Works s job status.WriteFault before after
   sweep-cut cut = some-put s job Sweeping is (sweep_texts scenarios) before after swept (of-two cut)
 
--- what is so of all is so at a place
-pub all-at : {A : Type 0} (P : A → Type 0) (xs : List A) (i : ℕ) (x : A) → All P xs → slice_get xs i ≡ Some x → P x
-all-at P [] i x h e = absurd cc
-all-at P (y ∷ ys) zero x h e = let e : Some y ≡ Some x = e in let same : y ≡ x = cc in subst P same (All-head P y ys h)
-all-at P (y ∷ ys) (suc i) x h e = all-at P ys i x (All-tail P y ys h) e
-
--- scenarios that have no more vehicles than there may be aren't refused
-pub none-too-many : (cells : List DemandCell) (scales : List ℕ) (scenario line total : ℕ) → AreAllWithin cells scales
-    → IsFirstTooMany cells scales scenario line total → ⊥
-none-too-many cells scales scenario line total within h =
-    let a = h.above in
-    let w : IsWithin (scaled h.scale cells) = all-at (λ (scale : ℕ). IsWithin (scaled scale cells)) scales scenario h.scale within h.at in
-    let there : a.row < length (scaled h.scale cells) = slice_get_within (scaled h.scale cells) a.row a.cell a.at in
-    let few = w a.row there in
-    let many = a.above in
-    let so_many : vehicles_before (scaled h.scale cells) (a.row + 1) ≡ total = a.so_many in
-    omega (arith, few, many, so_many)
-
 -- the work of `audit`
 module _ (s : Settings) (job : JobRows) (is : kind_of s.command ≡ Auditing) (before after : Taken) where
   audited : IsAudited s job verdict.Yes → AreAudited s job (audit_texts job)
   audited passes = record { passes = passes; texts_are = refl }
 
-  pub audit-done : (net : NetRows) (vehicles : ℕ) → net ≡ job.net → vehicles ≡ length job.trips → IsAudited s job verdict.Yes
-      → after ≡ grown output.Report (audit_text net vehicles None) before → Works s job status.Done before after
-  audit-done net vehicles over many passes out =
+  pub audit-done : (vehicles : ℕ) → vehicles ≡ length job.trips → IsAudited s job verdict.Yes
+      → after ≡ grown output.Report (audit_text job.net vehicles None) before → Works s job status.Done before after
+  audit-done vehicles many passes out =
       all-put s job Auditing is (audit_texts job) before after (audited passes)
-      (subst (λ (n : ℕ). after ≡ grown output.Report (audit_text job.net n None) before) many
-      (subst (λ (n : NetRows). after ≡ grown output.Report (audit_text n vehicles None) before) over out))
+      (subst (λ (n : ℕ). after ≡ grown output.Report (audit_text job.net n None) before) many out)
 
-  pub audit-cut : (net : NetRows) (vehicles : ℕ) → net ≡ job.net → vehicles ≡ length job.trips → IsAudited s job verdict.Yes
-      → IsPartOut output.Report (audit_text net vehicles None) before after → Works s job status.WriteFault before after
-  audit-cut net vehicles over many passes part =
+  pub audit-cut : (vehicles : ℕ) → vehicles ≡ length job.trips → IsAudited s job verdict.Yes
+      → IsPartOut output.Report (audit_text job.net vehicles None) before after → Works s job status.WriteFault before after
+  audit-cut vehicles many passes part =
       some-put s job Auditing is (audit_texts job) before after (audited passes)
-      (inl (subst (λ (n : ℕ). IsPartOut output.Report (audit_text job.net n None) before after) many
-      (subst (λ (n : NetRows). IsPartOut output.Report (audit_text n vehicles None) before after) over part)))
+      (inl (subst (λ (n : ℕ). IsPartOut output.Report (audit_text job.net n None) before after) many part))
 
 -- the report of a difference is its line
 line-told : (net : NetRows) (vehicles : ℕ) (place : Place) → audit_text net vehicles (Some place) ≡ differs_line place
@@ -143,5 +118,37 @@ nothing-so-far Assigning s job rows = nothing-watched s (traffic_of job) rows
 nothing-so-far k s job rows = refl
 
 -- nothing was put
-pub nothing-put : (s : Settings) (job : JobRows) (taken : Taken) → AreStartRows job.start → Works s job status.Memory taken taken
+nothing-put : (s : Settings) (job : JobRows) (taken : Taken) → AreStartRows job.start → Works s job status.Memory taken taken
 nothing-put s job taken rows = ([], nothing-so-far (kind_of s.command) s job rows, refl)
+
+pub does-nothing : (s : Settings) (job : JobRows) (desk : DeskState) → AreStartRows job.start → DoesWork s job desk desk status.Memory
+does-nothing s job desk rows = record {
+  work = nothing-put s job desk.taken rows;
+  failed = λ (k : status.Memory ≡ status.WriteFault). absurd cc;
+  differs = λ (k : status.Memory ≡ status.Differs). absurd cc;
+  later = omega arith;
+  left = refl;
+  reads = refl;
+}
+
+-- a call that only puts texts did the work, or failed on the way
+module _ {s : Settings} {job : JobRows} {before after : DeskState} {Whole Part : Taken → Taken → Type 0} {T E : Type 0} where
+  pub does-done : {x : T} → OnlyPuts {T = T} {E = E} Whole Part before after (Ok x) → Works s job status.Done before.taken after.taken → DoesWork s job before after status.Done
+  does-done o work = record {
+    work = work;
+    failed = λ (k : status.Done ≡ status.WriteFault). absurd cc;
+    differs = λ (k : status.Done ≡ status.Differs). absurd cc;
+    later = o.cause.later;
+    left = o.left;
+    reads = o.reads;
+  }
+
+  pub does-cut : {e : E} → OnlyPuts {T = T} {E = E} Whole Part before after (Err e) → Works s job status.WriteFault before.taken after.taken → DoesWork s job before after status.WriteFault
+  does-cut o work = record {
+    work = work;
+    failed = λ _. o.cause.failed;
+    differs = λ (k : status.WriteFault ≡ status.Differs). absurd cc;
+    later = o.cause.later;
+    left = o.left;
+    reads = o.reads;
+  }

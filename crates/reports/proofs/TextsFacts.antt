@@ -179,35 +179,25 @@ pub lines_of : NetRows → List Vehicle → Option (List ℕ) → List (List ℕ
 lines_of net vs None = map (vehicle_line net) vs
 lines_of net vs (Some since) = map (vehicle_line_from net) (zip vs since)
 
--- the lines of the vehicles of these trips, routes and journeys
-pub agent_lines : NetRows → List Trip → List (Option (List LinkNo)) → List Journey → Option (List ℕ) → List (List ℕ)
-agent_lines net trips routes journeys since = lines_of net (vehicles trips routes journeys) since
-
 -- a line is its own text
 abbrev pub itself : List ℕ → List ℕ
 itself line = line
 
 -- Agent has its header and these lines
 pub text-of-lines : (net : NetRows) (trips : List Trip) (routes : List (Option (List LinkNo))) (journeys : List Journey) (since : Option (List ℕ))
-    → agent_header_by since ++ flat_map itself (agent_lines net trips routes journeys since) ≡ agent_text_by net trips routes journeys since
-unfolding agent_lines lines_of agent_text_by agent_text agent_text_from
+    → agent_header_by since ++ flat_map itself (lines_of net (vehicles trips routes journeys) since) ≡ agent_text_by net trips routes journeys since
+unfolding lines_of agent_text_by agent_text agent_text_from
 text-of-lines net trips routes journeys None = ap (λ (x : List ℕ). agent_header ++ x) (flat_map-map itself (vehicle_line net) (vehicles trips routes journeys))
 text-of-lines net trips routes journeys (Some since) =
     ap (λ (x : List ℕ). since_header ++ x) (flat_map-map itself (vehicle_line_from net) (zip (vehicles trips routes journeys) since))
 
 -- as many lines as vehicles
-length-lines_of : (net : NetRows) (vs : List Vehicle) (since : Option (List ℕ)) (n : ℕ) → length vs ≡ n → IfSome since (λ numbers. length numbers ≡ n)
+pub length-lines_of : (net : NetRows) (vs : List Vehicle) (since : Option (List ℕ)) (n : ℕ) → length vs ≡ n → IfSome since (λ numbers. length numbers ≡ n)
     → length (lines_of net vs since) ≡ n
 unfolding lines_of
 length-lines_of net vs None n a b = length-map vs (vehicle_line net) ∙ a
 length-lines_of net vs (Some since) n a b =
     length-map (zip vs since) (vehicle_line_from net) ∙ length-pairs vs since (b ∙ sym a) ∙ a
-
-pub length-lines : (net : NetRows) (trips : List Trip) (routes : List (Option (List LinkNo))) (journeys : List Journey) (since : Option (List ℕ))
-    → length routes ≡ length trips → length journeys ≡ length trips → IfSome since (λ numbers. length numbers ≡ length trips)
-    → length (agent_lines net trips routes journeys since) ≡ length trips
-unfolding agent_lines
-length-lines net trips routes journeys since a b e = length-lines_of net (vehicles trips routes journeys) since (length trips) (length-vehicles trips routes journeys a b) e
 
 -- the line of a vehicle at its place
 line_at : (net : NetRows) (vs : List Vehicle) (since : Option (List ℕ)) (i : ℕ) (v : Vehicle) (n : ℕ) → i < n → length vs ≡ n
@@ -228,8 +218,7 @@ pub line-there : (net : NetRows) (trips : List Trip) (routes : List (Option (Lis
     (trip : Trip) (route : Option (List LinkNo)) (journey : Journey) (iteration : Option ℕ)
     → length routes ≡ length trips → length journeys ≡ length trips → IfSome since (λ numbers. length numbers ≡ length trips) → i < length trips
     → slice_get trips i ≡ Some trip → slice_get routes i ≡ Some route → slice_get journeys i ≡ Some journey → iteration ≡ iteration_told since i
-    → agent_line net trip route journey iteration ≡ get_or (agent_lines net trips routes journeys since) i []
-unfolding agent_lines
+    → agent_line net trip route journey iteration ≡ get_or (lines_of net (vehicles trips routes journeys) since) i []
 line-there net trips routes journeys since i trip route journey iteration a b e k x y z w =
     let v : Vehicle = record { trip = trip; route = route; journey = journey } in
     ap (λ (o : Option ℕ). agent_line net trip route journey o) w

@@ -100,20 +100,8 @@ fn add_trip<D: Desk>(
     Ok(())
 }
 
-// Adds an item of a list to what is pending.
-#[tactic(auto, using(crate::proofs::Sent::text))]
-fn push_item(pending: &mut Pending, place: usize, number: u64)
-    requires { length pending.old + ITEM ≤ PIECE }
-    ensures { pending.new ≡ pending.old ++ item place number }
-{
-    if place > 0 {
-        pending.push(";");
-    }
-    pending.push_number(number);
-}
-
 // Adds an item of a list.
-#[tactic(auto, using(crate::proofs::Sent::pieces))]
+#[tactic(auto, using(crate::proofs::Sent::text, crate::proofs::Sent::pieces))]
 fn add_item<D: Desk>(
     pending: &mut Pending,
     desk: &mut D,
@@ -124,7 +112,10 @@ fn add_item<D: Desk>(
         (D.state desk.old) (D.state desk.new) result }
 {
     pending.make_room(desk, Output::Agent, ITEM)?;
-    push_item(pending, place, number);
+    if place > 0 {
+        pending.push(";");
+    }
+    pending.push_number(number);
     Ok(())
 }
 
@@ -215,23 +206,8 @@ fn add_columns<D: Desk>(
     }
 }
 
-// Ends the line of a vehicle in what is pending.
-#[tactic(auto, using(crate::proofs::Sent::text))]
-fn push_end(pending: &mut Pending, route: Option<&Route>, iteration: Option<u32>)
-    requires { length pending.old + END ≤ PIECE }
-    ensures { pending.new ≡ pending.old ++ line_end (option_copied route.entry) iteration }
-{
-    if let Some(number) = iteration {
-        pending.push(",");
-        if route.is_some() {
-            pending.push_number(u64::from(number));
-        }
-    }
-    pending.push("\n");
-}
-
 // Adds the end of the line of a vehicle.
-#[tactic(auto, using(crate::proofs::Sent::pieces))]
+#[tactic(auto, using(crate::proofs::Sent::text, crate::proofs::Sent::pieces))]
 fn add_end<D: Desk>(
     pending: &mut Pending,
     desk: &mut D,
@@ -242,7 +218,13 @@ fn add_end<D: Desk>(
         pending.old pending.new (D.state desk.old) (D.state desk.new) result }
 {
     pending.make_room(desk, Output::Agent, END)?;
-    push_end(pending, route, iteration);
+    if let Some(number) = iteration {
+        pending.push(",");
+        if route.is_some() {
+            pending.push_number(u64::from(number));
+        }
+    }
+    pending.push("\n");
     Ok(())
 }
 

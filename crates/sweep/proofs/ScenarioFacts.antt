@@ -70,8 +70,8 @@ taken-is o text told t0 t1 put empty whole ok taken =
     some-is told text (sym taken ∙ ap (taken_of o) out ∙ ap (λ (t : Taken). taken_of o (grown o text t)) empty ∙ taken-first o text)
 
 -- a text that was put to a desk that had taken nothing
-pub text-told : (o : Output) (text : List ℕ) (t0 t1 : Taken) (put : Result (Unit {0}) Failed) (r : Result (List ℕ) AllocError)
-    → t0 ≡ nothing_taken → OnOk put (t1 ≡ grown o text t0)
-    → IfOk r (λ told. put ≡ Ok tt) → IfOk r (λ told. taken_of o t1 ≡ Some told) → IfOk r (λ told. told ≡ text)
-text-told o text t0 t1 put (Ok told) empty whole ok taken = taken-is o text told t0 t1 put empty whole ok taken
-text-told o text t0 t1 put (Err e) empty whole ok taken = tt
+pub text-told : (o : Output) (text wanted : List ℕ) (t0 t1 : Taken) (put : Result (Unit {0}) Failed) (r : Result (List ℕ) AllocError)
+    → text ≡ wanted → t0 ≡ nothing_taken → OnOk put (t1 ≡ grown o text t0)
+    → IfOk r (λ told. put ≡ Ok tt) → IfOk r (λ told. taken_of o t1 ≡ Some told) → IfOk r (λ told. told ≡ wanted)
+text-told o text wanted t0 t1 put (Ok told) same empty whole ok taken = taken-is o text told t0 t1 put empty whole ok taken ∙ same
+text-told o text wanted t0 t1 put (Err e) same empty whole ok taken = tt

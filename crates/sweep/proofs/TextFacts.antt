@@ -8,7 +8,6 @@ use Rattle.desk_io.specs.declared.desk.Output.{Output}
 use Rattle.desk_io.specs.declared.desk.Output.TheVariants as output
 use Rattle.desk_io.specs.declared.desk.Failed.{Failed}
 use Rattle.desk_io.specs.Desk.{grown}
-use Rattle.desk_io.specs.Faults.{Rose}
 use Rattle.desk_io.specs.State.{DeskState}
 use Rattle.desk_io.specs.Transfers.{Puts}
 use Rattle.desk_io.proofs.DeskFacts.{grown-empty, grown-grown}
@@ -16,9 +15,6 @@ use Rattle.pending_text.proofs.LineFacts.{lines-more, lines-split}
 use Rattle.pending_text.proofs.SendingFacts.{part-later, part-longer}
 use Rattle.sweep.specs.Texts.{numbered_text, scenario_text, sweep_text, tables_of}
 use Rattle.sweep.specs.declared.scenario.Scenario.{Scenario}
-
-rose-earlier : (earlier before now : ℕ) → earlier ≤ before → Rose before now → Rose earlier now
-rose-earlier earlier before now h rose = omega (arith, h, rose)
 
 -- a text was put, and then another
 pub put-then : {T U E : Type 0} (o : Output) (a b : List ℕ) (s0 s1 s2 : DeskState) (x : T) (r : Result U E)
@@ -35,7 +31,7 @@ put-then {T} {U} {E} o a b s0 s1 s2 x (Err e) p q = record {
   refused = part-later o a b s0.taken s1.taken s2.taken p.whole q.refused;
   cause = record {
     later = (let h = p.cause.later in let k = q.cause.later in omega (arith, h, k));
-    failed = rose-earlier s0.put_faults s1.put_faults s2.put_faults p.cause.later q.cause.failed;
+    failed = (let h = p.cause.later in let k = q.cause.failed in omega (arith, h, k));
   };
   left = q.left ∙ p.left;
   reads = q.reads ∙ p.reads;

@@ -1,9 +1,9 @@
-use Rattle.std.proofs.Common.{◌≡◌, arith, length, refl, rules, subst}
+use Rattle.std.proofs.Common.{◌≡◌, length, rules, subst}
 use Rattle.audit.specs.declared.verdict.Verdict.{Verdict}
 use Rattle.jobs.specs.Kinds.{audit_rows}
 use Rattle.commands.specs.Outputs.{IsAudited}
 use Rattle.commands.specs.declared.status.Status.TheVariants as status
-use Rattle.commands.proofs.WorkFacts.{audit-cut, audit-done, line-out, nothing-put}
+use Rattle.commands.proofs.WorkFacts.{audit-cut, audit-done, does-cut, does-done, does-nothing, line-out}
 use Rattle.commands.proofs.audited.put_verdict.Goals as goal
 
 pub returns-in-Ok : goal.returns-in-Ok
@@ -12,15 +12,7 @@ returns-in-Ok g c =
     let s = c.args.settings.now in
     let passes = subst (λ (v : Verdict). IsAudited s (audit_rows c.args.job.now) v) c.in-Ok-Yes.field-0-is c.in-Ok-Yes.ensures in
     let many : c.len-vehicles.result ≡ length c.args.job.now.trips.items = search rules in
-    record {
-      work = audit-done s (audit_rows c.args.job.now) c.requires.kind (g.D.Desk.state c.args.desk.now).taken (g.D.Desk.state c.put_audit.new.desk).taken c.args.job.now.net c.len-vehicles.result
-          refl many passes o.whole;
-      failed = λ (k : status.Done ≡ status.WriteFault). absurd cc;
-      differs = λ (k : status.Done ≡ status.Differs). absurd cc;
-      later = o.cause.later;
-      left = o.left;
-      reads = o.reads;
-    }
+    does-done o (audit-done s (audit_rows c.args.job.now) c.requires.kind (g.D.Desk.state c.args.desk.now).taken (g.D.Desk.state c.put_audit.new.desk).taken c.len-vehicles.result many passes o.whole)
 
 pub returns-in-Err-put_audit : goal.returns-in-Err-put_audit
 returns-in-Err-put_audit g c =
@@ -28,15 +20,7 @@ returns-in-Err-put_audit g c =
     let s = c.args.settings.now in
     let passes = subst (λ (v : Verdict). IsAudited s (audit_rows c.args.job.now) v) c.in-Ok-Yes.field-0-is c.in-Ok-Yes.ensures in
     let many : c.len-vehicles.result ≡ length c.args.job.now.trips.items = search rules in
-    record {
-      work = audit-cut s (audit_rows c.args.job.now) c.requires.kind (g.D.Desk.state c.args.desk.now).taken (g.D.Desk.state c.put_audit.new.desk).taken c.args.job.now.net c.len-vehicles.result
-          refl many passes o.refused;
-      failed = λ _. o.cause.failed;
-      differs = λ (k : status.WriteFault ≡ status.Differs). absurd cc;
-      later = o.cause.later;
-      left = o.left;
-      reads = o.reads;
-    }
+    does-cut o (audit-cut s (audit_rows c.args.job.now) c.requires.kind (g.D.Desk.state c.args.desk.now).taken (g.D.Desk.state c.put_audit.new.desk).taken c.len-vehicles.result many passes o.refused)
 
 pub returns-in-Ok-No : goal.returns-in-Ok-No
 returns-in-Ok-No g c =
@@ -59,11 +43,4 @@ returns-in-Ok-No g c =
     }
 
 pub returns-in-Err : goal.returns-in-Err
-returns-in-Err g c = record {
-  work = nothing-put c.args.settings.now (audit_rows c.args.job.now) _ c.requires.job.start;
-  failed = λ (k : status.Memory ≡ status.WriteFault). absurd cc;
-  differs = λ (k : status.Memory ≡ status.Differs). absurd cc;
-  later = omega arith;
-  left = refl;
-  reads = refl;
-}
+returns-in-Err g c = does-nothing c.args.settings.now (audit_rows c.args.job.now) (g.D.Desk.state c.args.desk.now) c.requires.job.start

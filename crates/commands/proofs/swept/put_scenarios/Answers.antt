@@ -1,12 +1,12 @@
-use Rattle.std.proofs.Common.{◌≡◌, ℕ, List, ap, arith, refl, subst, sym, ◌∙◌}
+use Rattle.std.proofs.Common.{◌≡◌, ℕ, List, ap, subst, sym, ◌∙◌}
 use Rattle.std.specs.Prelude.{Err}
 use Rattle.sweep.specs.Scales.{AreAllWithin}
+use Rattle.sweep.proofs.LimitFacts.{none-too-many}
 use Rattle.sweep.specs.declared.fault.SweepFault.TheVariants as sweep
 use Rattle.dta_model.specs.declared.trip.DemandCell.{DemandCell}
 use Rattle.sweep.specs.Scenarios.{AreScenarios}
 use Rattle.jobs.specs.Kinds.{sweep_rows}
-use Rattle.commands.specs.declared.status.Status.TheVariants as status
-use Rattle.commands.proofs.WorkFacts.{none-too-many, nothing-put, sweep-cut, sweep-done}
+use Rattle.commands.proofs.WorkFacts.{does-cut, does-done, does-nothing, sweep-cut, sweep-done}
 use Rattle.commands.proofs.swept.put_scenarios.Goals as goal
 
 pub returns-in-Ok-put_sweep : goal.returns-in-Ok-put_sweep
@@ -17,14 +17,7 @@ returns-in-Ok-put_sweep g c =
     let scenarios = subst (λ (xs : List ℕ). AreScenarios s job.net job.demand_cells.items xs c.in-Ok.sweep) c.as_slice-scales.ensures
     (subst (λ (cells : List DemandCell). AreScenarios s job.net cells c.as_slice-scales.result.now c.in-Ok.sweep) c.deref.ensures.value
     c.in-Ok.ensures.scenarios) in
-    record {
-      work = sweep-done s (sweep_rows job) c.requires.kind c.in-Ok.sweep scenarios (g.D.Desk.state c.args.desk.now).taken (g.D.Desk.state c.put_sweep.new.desk).taken o.whole;
-      failed = λ (k : status.Done ≡ status.WriteFault). absurd cc;
-      differs = λ (k : status.Done ≡ status.Differs). absurd cc;
-      later = o.cause.later;
-      left = o.left;
-      reads = o.reads;
-    }
+    does-done o (sweep-done s (sweep_rows job) c.requires.kind c.in-Ok.sweep scenarios (g.D.Desk.state c.args.desk.now).taken (g.D.Desk.state c.put_sweep.new.desk).taken o.whole)
 
 pub returns-in-Ok : goal.returns-in-Ok
 returns-in-Ok g c =
@@ -34,14 +27,7 @@ returns-in-Ok g c =
     let scenarios = subst (λ (xs : List ℕ). AreScenarios s job.net job.demand_cells.items xs c.in-Ok.sweep) c.as_slice-scales.ensures
     (subst (λ (cells : List DemandCell). AreScenarios s job.net cells c.as_slice-scales.result.now c.in-Ok.sweep) c.deref.ensures.value
     c.in-Ok.ensures.scenarios) in
-    record {
-      work = sweep-cut s (sweep_rows job) c.requires.kind c.in-Ok.sweep scenarios (g.D.Desk.state c.args.desk.now).taken (g.D.Desk.state c.put_sweep.new.desk).taken o.refused;
-      failed = λ _. o.cause.failed;
-      differs = λ (k : status.WriteFault ≡ status.Differs). absurd cc;
-      later = o.cause.later;
-      left = o.left;
-      reads = o.reads;
-    }
+    does-cut o (sweep-cut s (sweep_rows job) c.requires.kind c.in-Ok.sweep scenarios (g.D.Desk.state c.args.desk.now).taken (g.D.Desk.state c.put_sweep.new.desk).taken o.refused)
 
 pub unreachable-requires : goal.unreachable-requires
 unreachable-requires g c =
@@ -54,11 +40,4 @@ unreachable-requires g c =
     ((c.sweep.ensures.too_many t.field-0-0 t.field-0-1 t.field-0-2).0 is)
 
 pub returns : goal.returns
-returns g c = record {
-  work = nothing-put c.args.settings.now (sweep_rows c.args.job.now) _ c.requires.job.start;
-  failed = λ (k : status.Memory ≡ status.WriteFault). absurd cc;
-  differs = λ (k : status.Memory ≡ status.Differs). absurd cc;
-  later = omega arith;
-  left = refl;
-  reads = refl;
-}
+returns g c = does-nothing c.args.settings.now (sweep_rows c.args.job.now) (g.D.Desk.state c.args.desk.now) c.requires.job.start

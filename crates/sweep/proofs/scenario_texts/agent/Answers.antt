@@ -1,7 +1,5 @@
-use Rattle.std.proofs.Common.{◌≡◌, List, subst}
-use Rattle.std.specs.Prelude.{IfOk}
+use Rattle.std.proofs.Common.{ap}
 use Rattle.desk_io.specs.declared.desk.Output.TheVariants as output
-use Rattle.dta_model.specs.declared.loaded.Journey.{Journey}
 use Rattle.reports.specs.Texts.{agent_text}
 use Rattle.assignment.specs.Lent.{settings_in, traffic_in}
 use Rattle.assignment.proofs.AssignmentFacts.{many-journeys, on-net}
@@ -25,10 +23,6 @@ put_agents-put-requires-clause-on_net c =
 
 pub returns : goal.returns
 returns c =
-    let a = c.args.assigned.now in
-    let net = c.args.assignment.now.net.now in
-    let trips = c.args.assignment.now.trips.now in
-    let told = text-told output.Agent (agent_text net trips a.routes a.loaded) c.empty_desk-desk.result.taken c.put_agents-put.new.desk.taken
-    c.put_agents-put.result c.taken_by.result c.empty_desk-desk.ensures c.put_agents-put.ensures.whole c.taken_by.ensures.put c.taken_by.ensures.taken in
-    subst (λ (journeys : List Journey). IfOk c.taken_by.result (λ text. text ≡ agent_text net trips a.routes journeys))
-    c.requires.assigned.last.journeys told
+    let agents = agent_text c.args.assignment.now.net.now c.args.assignment.now.trips.now c.args.assigned.now.routes in
+    text-told output.Agent (agents c.args.assigned.now.loaded) _ c.empty_desk-desk.result.taken c.put_agents-put.new.desk.taken c.put_agents-put.result c.taken_by.result
+    (ap agents c.requires.assigned.last.journeys) c.empty_desk-desk.ensures c.put_agents-put.ensures.whole c.taken_by.ensures.put c.taken_by.ensures.taken

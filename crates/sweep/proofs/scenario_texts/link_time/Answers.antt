@@ -1,7 +1,5 @@
-use Rattle.std.proofs.Common.{◌≡◌, subst}
-use Rattle.std.specs.Prelude.{IfOk}
+use Rattle.std.proofs.Common.{ap}
 use Rattle.desk_io.specs.declared.desk.Output.TheVariants as output
-use Rattle.dta_model.specs.LinkTimes.{TimeTable}
 use Rattle.reports.specs.Texts.{link_time_text}
 use Rattle.assignment.specs.Lent.{settings_in, traffic_in}
 use Rattle.assignment.proofs.AssignmentFacts.{free-of}
@@ -15,9 +13,6 @@ put_link_times-put-requires c =
 
 pub returns : goal.returns
 returns c =
-    let a = c.args.assigned.now in
-    let net = c.args.assignment.now.net.now in
-    let told = text-told output.LinkTime (link_time_text net a.times) c.empty_desk-desk.result.taken c.put_link_times-put.new.desk.taken
-    c.put_link_times-put.result c.taken_by.result c.empty_desk-desk.ensures c.put_link_times-put.ensures.whole c.taken_by.ensures.put c.taken_by.ensures.taken in
-    subst (λ (times : TimeTable). IfOk c.taken_by.result (λ text. text ≡ link_time_text net times))
-    c.requires.assigned.last.times_are told
+    let times = link_time_text c.args.assignment.now.net.now in
+    text-told output.LinkTime (times c.args.assigned.now.times) _ c.empty_desk-desk.result.taken c.put_link_times-put.new.desk.taken c.put_link_times-put.result c.taken_by.result
+    (ap times c.requires.assigned.last.times_are) c.empty_desk-desk.ensures c.put_link_times-put.ensures.whole c.taken_by.ensures.put c.taken_by.ensures.taken
