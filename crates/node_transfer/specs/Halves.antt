@@ -1,12 +1,11 @@
 -- The two halves of a node's step: the mail that each takes and leaves, and the cell before it and
 -- after it.
-use Rattle.std.specs.Prelude.{ℕ, suc, List, Option}
+use Rattle.std.specs.Prelude.{ℕ, suc, List}
 use Rattle.cell_stages.specs.CellState.{CellState}
 use Rattle.cell_stages.specs.Contents.{IsStep, away, batch_of, cell_after, cell_before, room_of}
 use Rattle.cell_stages.specs.declared.mail.Mail.{Mail}
 use Rattle.dta_model.specs.Plans.{ins, outs}
 use Rattle.dta_model.specs.declared.plan.Plan.{Plan}
-use Rattle.node_transfer.specs.Places.{in_mail, out_mail, with_in_mail, with_out_mail}
 use Rattle.node_transfer.specs.declared.half.Half.{Half}
 use Rattle.node_transfer.specs.declared.half.HalfStep.{HalfStep}
 
@@ -14,15 +13,6 @@ use Rattle.node_transfer.specs.declared.half.HalfStep.{HalfStep}
 abbrev pub links_by : Half → Plan → ℕ → List ℕ
 links_by Half.Transfer p n = outs p n
 links_by Half.Gather p n = ins p n
-
--- the mail at a place of these links in a cell, and a cell with another mail there
-abbrev pub mail_in : Half → ℕ → CellState → Option Mail
-mail_in Half.Transfer place s = out_mail place s
-mail_in Half.Gather place s = in_mail place s
-
-abbrev pub with_mail : Half → ℕ → Mail → CellState → CellState
-with_mail Half.Transfer place mail s = with_out_mail place mail s
-with_mail Half.Gather place mail s = with_in_mail place mail s
 
 -- the mail of these links before the half of step t, and after it
 abbrev pub mail_before : Half → Plan → ℕ → ℕ → Mail

@@ -8,8 +8,6 @@ ghost use Rattle.node_transfer.specs.Places.{with_out_mail};
 ghost use Rattle.cell_stages.specs.Contents.{IsStep, away, batch_of, cell_after, cell_before};
 ghost use Rattle.cell_stages.specs.Contents.{room_of};
 ghost use Rattle.node_transfer.specs.Counts.{counts_at};
-ghost use Rattle.node_transfer.specs.Halves.{half_after, half_before, mail_after, mail_before};
-ghost use Rattle.node_transfer.specs.Halves.{mail_in, with_mail};
 ghost use Rattle.node_transfer.specs.Exchange.{IsKept, is_room};
 ghost use Rattle.node_transfer.specs.Gathered.{grown_by, mail_line, room_on, room_told};
 ghost use Rattle.node_transfer.specs.Hand.{Within, handed, riders_in};
@@ -21,7 +19,6 @@ ghost use Rattle.std.specs.Prelude.{IfSome, IsSome, IsSomeAnd, Some, ◌+◌, tr
 ghost use Rattle.link_queues.specs.declared.line.TheConstants.{MOST_RIDERS};
 ghost use Rattle.dta_model.specs.declared.loading.TheConstants.{MOST_HORIZON};
 
-use crate::Half;
 use crate::counts::count_parts;
 use crate::hand_over::hand_parts;
 use crate::mail::{copy_room, give_batch, put_in_mail, put_out_mail, swap_in_mail, swap_out_mail};
@@ -89,7 +86,8 @@ impl NodeCell {
             → self.old ≡ cell_before p n step away (room_of p step)
             → self.new ≡ cell_after p n step away (batch_of p step) }
     {
-        self.work(Half::Transfer, step);
+        let parts = &mut *self.parts;
+        transfer_links(&mut parts.ins, &mut parts.outs, &mut parts.arrived, step);
     }
 
     /// Puts those who come in a step last on their links. The mail of each in-link is the batch of
@@ -101,25 +99,7 @@ impl NodeCell {
             → self.old ≡ cell_after p n step (batch_of p step) away
             → self.new ≡ cell_before p n (suc step) (room_of p (suc step)) away }
     {
-        self.work(Half::Gather, step);
-    }
-
-    /// Does a half of a step. The mail of its links is what that takes, and becomes what it
-    /// leaves.
-    pub fn work(&mut self, half: Half, step: u32)
-        requires { (p : Plan) × (n : ℕ) × IsStep p n step
-            × (self.old ≡ half_before half p n step (mail_before half p step)) }
-        ensures { (p : Plan) (n : ℕ) → IsStep p n step
-            → self.old ≡ half_before half p n step (mail_before half p step)
-            → self.new ≡ half_after half p n step (mail_after half p step) }
-    {
-        let parts = &mut *self.parts;
-        match half {
-            Half::Transfer => {
-                transfer_links(&mut parts.ins, &mut parts.outs, &mut parts.arrived, step);
-            }
-            Half::Gather => gather_links(&mut parts.ins, step),
-        }
+        gather_links(&mut self.parts.ins, step);
     }
 
     /// The first step in which somebody of the cell is ready, unless somebody comes: the head of
@@ -201,29 +181,6 @@ impl NodeCell {
             (λ link. mail.new ≡ room_told step mail.old link) }
     {
         gather_at(&mut self.parts.ins, place, mail, step);
-    }
-
-    /// Fills the place of a link's mail that a half takes.
-    pub fn take(&mut self, half: Half, place: usize, mail: Mail)
-        requires { mail_in half place self.old ≡ Some Mail.Away }
-        ensures { self.new ≡ with_mail half place mail self.old }
-    {
-        match half {
-            Half::Transfer => self.take_out(place, mail),
-            Half::Gather => self.take_in(place, mail),
-        }
-    }
-
-    /// Takes out the mail of a link that a half leaves.
-    pub fn give(&mut self, half: Half, place: usize) -> Mail
-        requires { IsSome (mail_in half place self.old) }
-        ensures mail { mail_in half place self.old ≡ Some result }
-        ensures away { self.new ≡ with_mail half place Mail.Away self.old }
-    {
-        match half {
-            Half::Transfer => self.give_out(place),
-            Half::Gather => self.give_in(place),
-        }
     }
 
     /// The room that the in-link of a place leaves; there is none where it has no bound.

@@ -1,7 +1,8 @@
 // Handing the journeys over.
+ghost use Rattle.dta_model.specs.Riders.{RiderState};
 ghost use Rattle.node_transfer.specs.Hand.{Within, handed, line_of, riders_in, waiting_of};
 ghost use Rattle.std.specs.List.{flat_map};
-ghost use Rattle.std.specs.Prelude.{◌≡◌, ◌+◌, ◌++◌, All, length, IsTrue, false, []};
+ghost use Rattle.std.specs.Prelude.{◌≡◌, ◌+◌, ◌++◌, All, List, length, IsTrue, false, []};
 
 use crate::cell::NodeCell;
 use cell_stages::{InLink, OutLink};
@@ -38,44 +39,42 @@ fn hand_line(line: &mut Line, loaded: &mut Loaded)
     while hand_first(line, loaded) {}
 }
 
-// Sets the journeys of those who wait for an out-link.
-fn hand_out(out: &mut OutLink, loaded: &mut Loaded)
-    requires { All (Within (length loaded.old)) (waiting_of out.old) }
-    ensures same { length loaded.new ≡ length loaded.old }
-    ensures done { loaded.new ≡ handed (waiting_of out.old) loaded.old }
-{
-    hand_line(&mut out.waiting.due, loaded);
-    hand_line(&mut out.waiting.later, loaded);
+// A link of a cell, with riders on it or behind it.
+trait HasRiders {
+    ghost riders: { Self → List RiderState };
+
+    // Sets the journeys of its riders.
+    fn hand(&mut self, loaded: &mut Loaded)
+        requires { All (Within (length loaded.old)) (riders self.old) }
+        ensures same { length loaded.new ≡ length loaded.old }
+        ensures done { loaded.new ≡ handed (riders self.old) loaded.old };
 }
 
-// Sets the journeys of those on an in-link.
-fn hand_link(link: &mut InLink, loaded: &mut Loaded)
-    requires { All (Within (length loaded.old)) (line_of link.old) }
-    ensures same { length loaded.new ≡ length loaded.old }
-    ensures done { loaded.new ≡ handed (line_of link.old) loaded.old }
-{
-    hand_line(&mut link.line, loaded);
-}
+impl HasRiders for InLink {
+    ghost riders = { line_of };
 
-// Sets the journeys of those on the in-links.
-fn hand_ins(ins: &mut [InLink], loaded: &mut Loaded)
-    requires { All (Within (length loaded.old)) (flat_map line_of ins.old) }
-    ensures same { length loaded.new ≡ length loaded.old }
-    ensures done { loaded.new ≡ handed (flat_map line_of ins.old) loaded.old }
-{
-    for i in 0..ins.len() {
-        hand_link(&mut ins[i], loaded);
+    fn hand(&mut self, loaded: &mut Loaded) {
+        hand_line(&mut self.line, loaded);
     }
 }
 
-// Sets the journeys of those who wait for the out-links.
-fn hand_outs(outs: &mut [OutLink], loaded: &mut Loaded)
-    requires { All (Within (length loaded.old)) (flat_map waiting_of outs.old) }
+impl HasRiders for OutLink {
+    ghost riders = { waiting_of };
+
+    fn hand(&mut self, loaded: &mut Loaded) {
+        hand_line(&mut self.waiting.due, loaded);
+        hand_line(&mut self.waiting.later, loaded);
+    }
+}
+
+// Sets the journeys of the riders of all links.
+fn hand_links<T: HasRiders>(links: &mut [T], loaded: &mut Loaded)
+    requires { All (Within (length loaded.old)) (flat_map T.riders links.old) }
     ensures same { length loaded.new ≡ length loaded.old }
-    ensures done { loaded.new ≡ handed (flat_map waiting_of outs.old) loaded.old }
+    ensures done { loaded.new ≡ handed (flat_map T.riders links.old) loaded.old }
 {
-    for i in 0..outs.len() {
-        hand_out(&mut outs[i], loaded);
+    for i in 0..links.len() {
+        links[i].hand(loaded);
     }
 }
 
@@ -87,8 +86,8 @@ pub fn hand_parts(ins: &mut [InLink], outs: &mut [OutLink], arrived: &mut Line, 
     ensures { loaded.new ≡ handed
         (flat_map line_of ins.old ++ (flat_map waiting_of outs.old ++ arrived.old)) loaded.old }
 {
-    hand_ins(ins, loaded);
-    hand_outs(outs, loaded);
+    hand_links(ins, loaded);
+    hand_links(outs, loaded);
     hand_line(arrived, loaded);
 }
 

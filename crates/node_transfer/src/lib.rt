@@ -1,6 +1,6 @@
-//! One node's step: its moves by the definition of a node's moves, without memory. A move searches
-//! the out-links by halves, and walks over those turns of its in-link that have a penalty or a
-//! limit.
+//! One node's step: its moves by the definition of a node's moves, without memory. A move finds its
+//! out-link by the number of the first one, or searches them by halves, and walks over those turns
+//! of its in-link that have a penalty or a limit.
 //!
 //! A [`NodeCell`] holds what a node needs of a loading, and a place for the [`Mail`] of each of
 //! its links. In each step it first transfers, which makes the node's moves and writes the batch

@@ -22,53 +22,54 @@ pub fn head_step(link: &InLink) -> u32
     }
 }
 
-// The first step in which the head of an in-link is ready, or its room may grow since somebody
-// left it in the last steps.
-fn ready_step(link: &InLink) -> u32
-    ensures before { (step : ℕ) → step < result → IsQuietLink step link.now }
-    ensures least { result < NO_STEP → IsQuietLink result link.now → ⊥ }
-{
-    if link.left.total() > 0 {
-        0
-    } else {
-        head_step(link)
+// A link of a cell, at which somebody may move or not.
+trait Rests {
+    // Nobody moves there in a step.
+    ghost IsStill: { ℕ → Self → Type 0 };
+
+    // The first step in which somebody may move there.
+    fn first_move(&self) -> u32
+        ensures before { (step : ℕ) → step < result → IsStill step self.now }
+        ensures least { result < NO_STEP → IsStill result self.now → ⊥ };
+}
+
+impl Rests for InLink {
+    ghost IsStill = { IsQuietLink };
+
+    // The first step in which its head is ready, or its room may grow since somebody left it in
+    // the last steps.
+    fn first_move(&self) -> u32 {
+        if self.left.total() > 0 {
+            0
+        } else {
+            head_step(self)
+        }
     }
 }
 
-// The first step in which one who waits for an out-link is due.
-fn due_step(out: &OutLink) -> u32
-    ensures before { (step : ℕ) → step < result → WaitLater step out.now }
-    ensures least { result < NO_STEP → WaitLater result out.now → ⊥ }
-{
-    if out.waiting.due.len() > 0 {
-        return 0;
-    }
-    match out.waiting.later.front() {
-        None => NO_STEP,
-        Some(rider) => rider.departure(),
+impl Rests for OutLink {
+    ghost IsStill = { WaitLater };
+
+    // The first step in which one who waits for it is due.
+    fn first_move(&self) -> u32 {
+        if self.waiting.due.len() > 0 {
+            return 0;
+        }
+        match self.waiting.later.front() {
+            None => NO_STEP,
+            Some(rider) => rider.departure(),
+        }
     }
 }
 
-// The first step in which a head of the in-links is ready, or a room of theirs may grow.
-fn first_ready(ins: &[InLink]) -> u32
-    ensures before { (step : ℕ) → step < result → All (IsQuietLink step) ins.now }
-    ensures least { result < NO_STEP → All (IsQuietLink result) ins.now → ⊥ }
+// The first step in which somebody may move at one of the links.
+fn first_of<T: Rests>(links: &[T]) -> u32
+    ensures before { (step : ℕ) → step < result → All (T.IsStill step) links.now }
+    ensures least { result < NO_STEP → All (T.IsStill result) links.now → ⊥ }
 {
     let mut first = NO_STEP;
-    for link in ins {
-        first = first.min(ready_step(link));
-    }
-    first
-}
-
-// The first step in which one who waits for the out-links is due.
-fn first_due(outs: &[OutLink]) -> u32
-    ensures before { (step : ℕ) → step < result → All (WaitLater step) outs.now }
-    ensures least { result < NO_STEP → All (WaitLater result) outs.now → ⊥ }
-{
-    let mut first = NO_STEP;
-    for out in outs {
-        first = first.min(due_step(out));
+    for link in links {
+        first = first.min(link.first_move());
     }
     first
 }
@@ -81,5 +82,5 @@ pub fn first_step(ins: &[InLink], outs: &[OutLink]) -> u32
     ensures least { result < NO_STEP → All (IsQuietLink result) ins.now
         → All (WaitLater result) outs.now → ⊥ }
 {
-    first_ready(ins).min(first_due(outs))
+    first_of(ins).min(first_of(outs))
 }

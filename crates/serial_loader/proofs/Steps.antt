@@ -20,7 +20,7 @@ use Rattle.node_transfer.specs.Halves.{half_after, half_before, links_by, mail_a
 use Rattle.node_transfer.specs.Rest.{IsIdle, IsQuiet, NobodyComes}
 use Rattle.node_transfer.specs.declared.half.Half.{Half}
 use Rattle.node_transfer.proofs.OfMail.Finished.{from-below, to-below}
-use Rattle.node_transfer.proofs.OfMail.Halves.{ends_of, made-before}
+use Rattle.node_transfer.proofs.OfMail.Halves.{ends_of, half-among, half-member}
 use Rattle.node_transfer.proofs.OfMail.ListPlaces.{among-place}
 use Rattle.node_transfer.proofs.OfMail.Parts.{ins-among, ins-member, outs-among, outs-member}
 use Rattle.node_transfer.proofs.OfMail.Sets.{count-set, set-got, set-other}
@@ -136,9 +136,8 @@ module _ (h : Half) (p : Plan) (t n : ℕ) (cells : List CellState) (wakes : Lis
 
   pub finds-mail : AreMail (mail_before h p t) (links_by h p n) mail
   finds-mail l is_in =
-      let made = made-before h p n t in
-      let below = made.among l is_in in
-      let at : ends_of h p l ≡ n = eqb-true (ends_of h p l) n (sym (made.member l below) ∙ is_in) in
+      let below = half-among h p n l is_in in
+      let at : ends_of h p l ≡ n = eqb-true (ends_of h p l) n (sym (half-member h p n l below) ∙ is_in) in
       let count = T.mail_count in
       let got = slice_get-get_or mail l Away (omega (arith, below, count)) in
       got ∙ ap (λ m. Some m) ((T.links l (get_or mail l Away) got).found (omega (arith, at)))
@@ -165,7 +164,7 @@ module _ (h : Half) (p : Plan) (t n : ℕ) (cells : List CellState) (wakes : Lis
       mail_count = put.others.count ∙ T.mail_count
 
       member : (l : ℕ) (m : Mail) → slice_get mail' l ≡ Some m → is_among (links_by h p n) l ≡ eqb (ends_of h p l) n
-      member l m got = (made-before h p n t).member l (within p mail' l m mail_count got)
+      member l m got = half-member h p n l (within p mail' l m mail_count got)
 
       by_two : (k w : ℕ) (c : CellState) → (slice_get wakes k ≡ Some w) ⊎ (w ≡ 0) → k < length wakes' → slice_get cells k ≡ Some c → OneByOne n k (Left h p t k w c) (Found h p t k w c)
       by_two k w c (inl was) inside f = T.nodes k w c was f

@@ -1,28 +1,22 @@
--- The cells before and after a half of a node's step, and the places for its mail.
-use Rattle.std.proofs.Common.{◌≡◌, ℕ, suc, refl, Some}
-use Rattle.std.specs.Prelude.{IsSome}
+-- The links whose mail a half of a node's step takes.
+use Rattle.std.specs.Prelude.{nat_eq}
+use Rattle.std.proofs.Common.{◌≡◌, ℕ, ◌<◌, true, length}
 use Rattle.dta_model.specs.Plans.{link_at}
 use Rattle.dta_model.specs.declared.plan.Plan.{Plan}
-use Rattle.cell_stages.specs.CellState.{CellState}
-use Rattle.cell_stages.specs.Contents.{away}
-use Rattle.cell_stages.specs.declared.mail.Mail.{Mail}
-use Rattle.node_transfer.specs.Halves.{half_after, half_before, links_by, mail_in, with_mail}
+use Rattle.node_transfer.specs.Exchange.{is_among}
+use Rattle.node_transfer.specs.Halves.{links_by}
 use Rattle.node_transfer.specs.declared.half.Half.{Half}
-use Rattle.node_transfer.proofs.OfMail.Parts.{IsMadeOf, ins-after, ins-before, outs-after, outs-before}
+use Rattle.node_transfer.proofs.OfMail.Parts.{ins-among, ins-member, outs-among, outs-member}
 
 -- the node at whose end the links lie
 abbrev pub ends_of : Half → Plan → ℕ → ℕ
 ends_of Half.Transfer p l = (link_at p l).from.0
 ends_of Half.Gather p l = (link_at p l).to.0
 
-pub made-before : (half : Half) (p : Plan) (n t : ℕ) → IsMadeOf p n (ends_of half p) (links_by half p n) (half_before half p n t) (with_mail half) (mail_in half)
-made-before Half.Transfer p n t = outs-before p n t away
-made-before Half.Gather p n t = ins-after p n t away
+pub half-member : (half : Half) (p : Plan) (n l : ℕ) → l < length p.net.links → is_among (links_by half p n) l ≡ nat_eq (ends_of half p l) n
+half-member Half.Transfer p n = outs-member p n
+half-member Half.Gather p n = ins-member p n
 
-pub made-after : (half : Half) (p : Plan) (n t : ℕ) → IsMadeOf p n (ends_of half p) (links_by half p n) (half_after half p n t) (with_mail half) (mail_in half)
-made-after Half.Transfer p n t = outs-after p n t away
-made-after Half.Gather p n t = ins-before p n (suc t) away
-
--- a mail that is told is there
-pub told-some : (half : Half) (j : ℕ) (c : CellState) (m : Mail) → mail_in half j c ≡ Some m → IsSome (mail_in half j c)
-told-some half j c m e = rw e refl
+pub half-among : (half : Half) (p : Plan) (n l : ℕ) → is_among (links_by half p n) l ≡ true → l < length p.net.links
+half-among Half.Transfer p n = outs-among p n
+half-among Half.Gather p n = ins-among p n

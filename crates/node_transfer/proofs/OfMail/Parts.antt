@@ -24,7 +24,6 @@ pub record IsMadeOf (p : Plan) (n : ℕ) (ends : ℕ → ℕ) (links : List ℕ)
   pub once : distinct links ≡ true
   pub member : (l : ℕ) → l < length p.net.links → is_among links l ≡ nat_eq (ends l) n
   pub inside : (j b : ℕ) → slice_get links j ≡ Some b → b < length p.net.links
-  pub among : (l : ℕ) → is_among links l ≡ true → l < length p.net.links
   pub puts : (mail mail' : ℕ → Mail) (j b : ℕ) (m : Mail) → slice_get links j ≡ Some b → ((x : ℕ) → x ≢ b → mail x ≡ mail' x) → m ≡ mail' b → put j m (cell mail) ≡ cell mail'
   pub tells : (mail : ℕ → Mail) (j b : ℕ) → slice_get links j ≡ Some b → told j (cell mail) ≡ Some (mail b)
   pub same : (mail mail' : ℕ → Mail) → ((x : ℕ) → x < length p.net.links → ends x ≡ n → mail x ≡ mail' x) → cell mail ≡ cell mail'
@@ -97,7 +96,6 @@ module _ (p : Plan) (n : ℕ) where
     once = outs-once;
     member = outs-member;
     inside = outs-inside;
-    among = outs-among;
     puts = λ mail mail' j b m e other here. ap (λ os. record (cell_before p n t ms mail) { outs = os }) (outs-put t (waiting_before p t) mail mail' j b m e other here);
     tells = λ mail j b e. ap (λ o. option_map mail_of_out o) (got-map (out_link p t (waiting_before p t) mail) (outs p n) j b e);
     same = λ mail mail' h. ap (λ os. record (cell_before p n t ms mail) { outs = os }) (outs-same (out_link p t (waiting_before p t) mail) (out_link p t (waiting_before p t) mail') (λ x below at. ap (λ y. record (out_link p t (waiting_before p t) mail x) { mail = y }) (h x below at)));
@@ -109,7 +107,6 @@ module _ (p : Plan) (n : ℕ) where
     once = outs-once;
     member = outs-member;
     inside = outs-inside;
-    among = outs-among;
     puts = λ mail mail' j b m e other here. ap (λ os. record (cell_after p n t ms mail) { outs = os }) (outs-put (suc t) (waiting_after p n t) mail mail' j b m e other here);
     tells = λ mail j b e. ap (λ o. option_map mail_of_out o) (got-map (out_link p (suc t) (waiting_after p n t) mail) (outs p n) j b e);
     same = λ mail mail' h. ap (λ os. record (cell_after p n t ms mail) { outs = os }) (outs-same (out_link p (suc t) (waiting_after p n t) mail) (out_link p (suc t) (waiting_after p n t) mail') (λ x below at. ap (λ y. record (out_link p (suc t) (waiting_after p n t) mail x) { mail = y }) (h x below at)));
@@ -121,7 +118,6 @@ module _ (p : Plan) (n : ℕ) where
     once = ins-once;
     member = ins-member;
     inside = ins-inside;
-    among = ins-among;
     puts = λ mail mail' j b m e other here. ap (λ is. record (cell_before p n t mail ms) { ins = is }) (ins-put (line_before p t) (left_before p t) mail mail' j b m e other here);
     tells = λ mail j b e. ap (λ o. option_map mail_of_in o) (got-map (in_link p n (line_before p t) (left_before p t) mail) (ins p n) j b e);
     same = λ mail mail' h. ap (λ is. record (cell_before p n t mail ms) { ins = is }) (ins-same (in_link p n (line_before p t) (left_before p t) mail) (in_link p n (line_before p t) (left_before p t) mail') (λ x below at. ap (λ y. record (in_link p n (line_before p t) (left_before p t) mail x) { mail = y }) (h x below at)));
@@ -133,7 +129,6 @@ module _ (p : Plan) (n : ℕ) where
     once = ins-once;
     member = ins-member;
     inside = ins-inside;
-    among = ins-among;
     puts = λ mail mail' j b m e other here. ap (λ is. record (cell_after p n t mail ms) { ins = is }) (ins-put (line_after p n t) (left_after p n t) mail mail' j b m e other here);
     tells = λ mail j b e. ap (λ o. option_map mail_of_in o) (got-map (in_link p n (line_after p n t) (left_after p n t) mail) (ins p n) j b e);
     same = λ mail mail' h. ap (λ is. record (cell_after p n t mail ms) { ins = is }) (ins-same (in_link p n (line_after p n t) (left_after p n t) mail) (in_link p n (line_after p n t) (left_after p n t) mail') (λ x below at. ap (λ y. record (in_link p n (line_after p n t) (left_after p n t) mail x) { mail = y }) (h x below at)));

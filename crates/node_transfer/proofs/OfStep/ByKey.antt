@@ -117,3 +117,15 @@ point-place key b (x ∷ xs) (suc r) order there point =
     let ih = point-place key b xs r (λ i j d l h. order (suc i) (suc j) d (omega (arith, l)) (omega (arith, h))) (omega (arith, rest))
     ((λ k d l h. point.0 (suc k) d (omega arith) (omega (arith, h))), (λ k d l h. point.1 (suc k) d (omega (arith, l)) (omega (arith, h)))) in
     rw (other, add-one) (ap suc ih)
+
+-- the number stands at a place, and a lower one before it
+pub place-at : {X : Type 0} (key : X → ℕ) (b : ℕ) (xs : List X) (k : ℕ) (d e : X) → IsNonDecreasingBy key xs → k < length xs → key (get_or xs k d) ≡ b
+    → ((i : ℕ) → i + 1 ≡ k → key (get_or xs i e) < b) → k ≡ place_of b (map key xs)
+unfolding place_of
+place-at key b [] k d e order h is before = absurd (omega (arith, h))
+place-at key b (x ∷ xs) zero d e order h is before = rw (eq-eqb (key x) b is) refl
+place-at key b (x ∷ xs) (suc k) d e order h is before =
+    let low = order 0 k e (omega arith) (omega (arith, h)) in
+    let less = before k (omega arith) in
+    rw (ne_eqb (key x) b (λ same. omega (arith, low, less, same)), add-one)
+    (ap suc (place-at key b xs k d e (λ i j a l g. order (suc i) (suc j) a (omega (arith, l)) (omega (arith, g))) (omega (arith, h)) is (λ i q. before (suc i) (omega (arith, q)))))

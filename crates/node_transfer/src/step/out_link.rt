@@ -12,12 +12,19 @@ use cell_stages::{Mail, OutLink};
 use link_queues::{Line, MOST_RIDERS};
 use net_core::LinkNo;
 
-/// The place of a link among out-links that stand in order.
+/// The place of a link among out-links that stand in order. Where their numbers come one after
+/// another, the number of the first one tells it.
 pub fn place_to(outs: &[OutLink], link: LinkNo) -> usize
     requires order { IsNonDecreasing (out_links outs.now) }
     requires there { place_of link.0 (out_links outs.now) < length outs.now }
     ensures { result ≡ place_of link.0 (out_links outs.now) }
 {
+    let guess = link.0.saturating_sub(outs[0].link.0) as usize;
+    if guess < outs.len() && outs[guess].link.0 == link.0 {
+        if guess == 0 || outs[guess - 1].link.0 < link.0 {
+            return guess;
+        }
+    }
     outs.partition_point(|out| out.link.0 < link.0)
 }
 

@@ -1,13 +1,10 @@
-use Rattle.std.specs.Option.{IsSomeAnd}
+use Rattle.std.specs.Option.{IsSome, IsSomeAnd}
 use Rattle.std.specs.Prelude.{slice_index_or}
-use Rattle.std.proofs.Common.{ap, sym, ◌∙◌, subst, take}
+use Rattle.std.proofs.Common.{ap, refl, sym, ◌∙◌, subst, take}
 use Rattle.cell_stages.specs.Contents.{away, batch_of, room_of}
-use Rattle.cell_stages.specs.declared.mail.Mail.TheVariants.{Away}
 use Rattle.dta_model.specs.Lent.{plan_of}
 use Rattle.dta_model.specs.Plans.{outs}
 use Rattle.node_transfer.specs.Exchange.{IsKept, is_room}
-use Rattle.node_transfer.specs.declared.half.Half.TheVariants as half
-use Rattle.node_transfer.proofs.OfMail.Halves.{told-some}
 use Rattle.node_transfer.proofs.OfMail.Lending.{all-collected, all-lent, at-place, is-away, is-emptied, is-filled, is-told, link_of, mail-here, mail-inside, one-mail}
 use Rattle.node_transfer.proofs.OfMail.Parts.{outs-after, outs-before}
 use Rattle.node_transfer.proofs.OfMail.Puts.{none-put, put-next, unchanged}
@@ -24,9 +21,9 @@ bounds-mail-outs c =
 pub tell_room-requires-clause-there : goal.tell_room-requires-clause-there
 tell_room-requires-clause-there c =
     let p = plan_of c.args.loading.now in
-    told-some half.Transfer c.loop-place.place c.loop-place.cell Away
-    (is-away (outs-before p c.args.node.0 c.args.step away) (room_of p c.args.step) c.outs-outs.result.now c.outs-outs.ensures c.loop-place.place
-    c.loop-place-test.true c.loop-place.cell c.loop-place.invariant)
+    subst IsSome
+    (sym (is-away (outs-before p c.args.node.0 c.args.step away) (room_of p c.args.step) c.outs-outs.result.now c.outs-outs.ensures c.loop-place.place
+    c.loop-place-test.true c.loop-place.cell c.loop-place.invariant)) refl
 
 pub tell_room-requires-clause-room : goal.tell_room-requires-clause-room
 tell_room-requires-clause-room c =
