@@ -1,6 +1,6 @@
 -- What the three events make, by what their worker has.
 use Rattle.std.specs.Prelude.{slice_get, slice_index_or, slice_set}
-use Rattle.std.proofs.Common.{◌≡◌, ℕ, suc, ◌+◌, ◌<◌, ◌≤◌, Bool, true, false, cond, List, length, refl, ap, sym, ◌∙◌, subst, arith, lt_of_not-le, Option, Some, None, inl, inr, add-one}
+use Rattle.std.proofs.Common.{◌≡◌, ℕ, suc, ◌+◌, ◌<◌, ◌≤◌, Bool, true, false, cond, List, length, refl, ap, sym, ◌∙◌, subst, arith, lt_of_not-le, Option, Some, None, add-one}
 use Rattle.std.proofs.lemmas.Bool.Decides.{nat_tests}
 use Rattle.std.proofs.lemmas.Option.{slice_get-get_or}
 use Rattle.net_core.proofs.Orders.{is_le, is_lt, not_le, not_lt}
@@ -21,7 +21,7 @@ use Rattle.claim_core.specs.Machine.{AreReached}
 use Rattle.claim_core.specs.Parts.{done_in, moves, stage_before, stage_in, stage_of}
 use Rattle.claim_core.specs.Sums.{is_at, one_if}
 use Rattle.claim_core.specs.Work.{AreAtStages, AreMoved, AreReady, PartsState}
-use Rattle.claim_core.proofs.Apart.{IsPart, alone}
+use Rattle.claim_core.proofs.Places.{alone}
 use Rattle.claim_core.proofs.Claimed.{finished_le}
 use Rattle.claim_core.proofs.Counts.{drawn_in, held_in}
 use Rattle.claim_core.proofs.Events.{Kept, always_kept, done_more, finished_kept, in_phase, is_held, one_more}
@@ -156,9 +156,9 @@ module _ (p : Plan) (sound : IsSound p) (s : Claims) (k : Kept p s) (w c : ℕ) 
   pub count_fits : finished p s + 1 ≤ s.drawn
   count_fits = omega (arith, next_count, finished_le (node_count p) (drawn_in p then_claims) (finished p then_claims) (done_in p then_claims) (held_in then_claims) (finished_kept p s k w c out).claimed)
 
-  stage_now : (part : ℕ) → IsPart p part → 1 ≤ moves p part c → stage_in p s part ≡ stage_before p c part
+  stage_now : (part : ℕ) → 1 ≤ moves p part c → stage_in p s part ≡ stage_before p c part
   unfolding stage_of stage_before
-  stage_now part is_part own =
+  stage_now part own =
       let N : ℕ = node_count p in
       let n : ℕ = finished p s in
       let at = in_phase p s k w c out in
@@ -167,37 +167,31 @@ module _ (p : Plan) (sound : IsSound p) (s : Claims) (k : Kept p s) (w c : ℕ) 
       let from : phase_start N c ≡ phase_start N n = same_start N n c low high in
       let to : phase_end N c ≡ phase_end N n = same_stop N n c low high in
       stage_held (unit_count p) N (drawn_in p s) n (done_in p s) (held_in s) k.claimed (omega arith) (moves p part) c held_now low high
-      (λ x lo hi other. alone p c x part is_part (omega (arith, lo, from)) (omega (arith, hi, to)) other own)
+      (λ x lo hi other. alone p c x part (omega (arith, lo, from)) (omega (arith, hi, to)) other own)
 
   stage_next : (part : ℕ) → stage_in p then_claims part ≡ stage_in p s part + moves p part c
   unfolding stage_of
   stage_next part = stage_more (unit_count p) (moves p part) (done_in p s) (done_in p then_claims) c is_unit (done_more p s k w c out)
 
-  cell_is_part : (n : ℕ) → n < node_count p → IsPart p n
-  cell_is_part n h = inl h
-
-  mail_is_part : (l : ℕ) → l < length p.net.links → IsPart p (mail_part p l)
-  mail_is_part l h = inr (l, h, refl)
-
   module _ (parts : PartsState) (at : AreAtStages p (stage_in p s) parts) where
     pub parts_ready : AreReady p c parts
     parts_ready = record {
       counted = at.counted;
-      cells = λ n h one. at.cells n h ∙ ap (λ x. Some (cell_at p n x)) (stage_now n (cell_is_part n h) one);
-      mail = λ l h one. at.mail l h ∙ ap (λ x. Some (mail_at p l x)) (stage_now (mail_part p l) (mail_is_part l h) one);
+      cells = λ n h one. at.cells n h ∙ ap (λ x. Some (cell_at p n x)) (stage_now n one);
+      mail = λ l h one. at.mail l h ∙ ap (λ x. Some (mail_at p l x)) (stage_now (mail_part p l) one);
     }
 
     pub parts_then : (new : PartsState) → AreMoved p c parts new → AreAtStages p (stage_in p then_claims) new
     parts_then new moved = record {
       counted = moved.counted;
       cells = λ n h. dite (dec_le 1 (moves p n c))
-          (λ one. let e : suc (stage_before p c n) ≡ stage_in p then_claims n = omega (arith, stage_next n, stage_now n (cell_is_part n h) one, cell_most p sound c n h, one) in
+          (λ one. let e : suc (stage_before p c n) ≡ stage_in p then_claims n = omega (arith, stage_next n, stage_now n one, cell_most p sound c n h, one) in
           moved.cells n h one ∙ ap (λ x. Some (cell_at p n x)) e)
           (λ other. let z : moves p n c ≡ 0 = (let l = lt_of_not-le other in omega (arith, l)) in
           let e : stage_in p s n ≡ stage_in p then_claims n = omega (arith, stage_next n, z) in
           moved.other_cells n h z ∙ at.cells n h ∙ ap (λ x. Some (cell_at p n x)) e);
       mail = λ l h. dite (dec_le 1 (moves p (mail_part p l) c))
-          (λ one. let e : suc (stage_before p c (mail_part p l)) ≡ stage_in p then_claims (mail_part p l) = omega (arith, stage_next (mail_part p l), stage_now (mail_part p l) (mail_is_part l h) one, mail_most p sound c l h, one) in
+          (λ one. let e : suc (stage_before p c (mail_part p l)) ≡ stage_in p then_claims (mail_part p l) = omega (arith, stage_next (mail_part p l), stage_now (mail_part p l) one, mail_most p sound c l h, one) in
           moved.mail l h one ∙ ap (λ x. Some (mail_at p l x)) e)
           (λ other. let z : moves p (mail_part p l) c ≡ 0 = (let l = lt_of_not-le other in omega (arith, l)) in
           let e : stage_in p s (mail_part p l) ≡ stage_in p then_claims (mail_part p l) = omega (arith, stage_next (mail_part p l), z) in

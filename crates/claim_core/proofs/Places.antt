@@ -1,9 +1,9 @@
--- The places of units: they rise, and no two units of one phase have one in common.
+-- The places of units: they rise, and no two units of one phase have one in common, or move one part.
 use Rattle.net_core.specs.Network as network
 use Rattle.std.specs.Prelude.{Contains, filter, nat_eq}
 use Rattle.std.specs.List.{range_with_len}
 use Rattle.std.specs.List.Sorted.{IsStrictlyIncreasing}
-use Rattle.std.proofs.Common.{◌≡◌, ℕ, zero, suc, ◌+◌, ◌-◌, ◌*◌, ◌/◌, ◌%◌, ◌<◌, ◌≤◌, Bool, true, false, cond, List, [], ◌∷◌, ◌++◌, length, map, get_or, refl, ap, sym, ◌∙◌, subst, arith, lt_of_not-le}
+use Rattle.std.proofs.Common.{◌≡◌, ◌≢◌, ℕ, zero, suc, ◌+◌, ◌-◌, ◌*◌, ◌/◌, ◌%◌, ◌<◌, ◌≤◌, Bool, true, false, cond, List, [], ◌∷◌, ◌++◌, length, map, get_or, refl, ap, sym, ◌∙◌, subst, arith, lt_of_not-le}
 use Rattle.std.proofs.lemmas.Bool.Decides.{nat_tests}
 use Rattle.std.proofs.lemmas.Nat.{div-add-mod'}
 use Rattle.std.proofs.Math.Nat.{mod-lt}
@@ -14,8 +14,8 @@ use Rattle.dta_model.specs.Plans.{all_nodes, ins, link_at, outs}
 use Rattle.dta_model.specs.Units.{Gather, Posting, Task, Transfer, mail_part, moved_by, moved_in, node_count, phase_end, phase_start, places, places_in, posting_part, step_units, task_at, task_of}
 use Rattle.dta_model.specs.declared.plan.Plan.{Plan}
 use Rattle.claim_core.specs.Laws.{NoPlaceIsShared, PlacesRise}
+use Rattle.claim_core.specs.Parts.{moves}
 use Rattle.claim_core.specs.Sums.{is_at, times}
-use Rattle.claim_core.proofs.Apart.{band, band_high, band_last, band_low}
 use Rattle.claim_core.proofs.Phases.{lt_stop, next_start, same_step, start_is, start_le, starts, stop_is, stops}
 use Rattle.claim_core.proofs.Parts.{at_is, cell_of, gathers, in_task, ins_past, mail_of, outs_past, posts, times_ins, times_outs, transfers}
 use Rattle.claim_core.proofs.Sums.{total-append}
@@ -98,6 +98,19 @@ stands xs k c = by xs c.0 c.1 c.2
     by [] i h e = absurd (omega arith)
     by (x ∷ xs) zero h e = omega (arith, self k x e)
     by (x ∷ xs) (suc i) h e = omega (arith, by xs i (omega (arith, h)) e)
+
+-- two places of a step are of one phase
+band : (k b r j : ℕ) → r < k + k + 1 → j < k + k + 1 → starts k b r ≤ b + j → b + j < stops k b r → r < k → j < k
+band k b r j hr hj lo hi h = grind (arith, nat_tests)
+
+band_low : (k b r j : ℕ) → r < k + k + 1 → j < k + k + 1 → starts k b r ≤ b + j → b + j < stops k b r → k ≤ r → r < k + k → k ≤ j
+band_low k b r j hr hj lo hi h g = grind (arith, nat_tests)
+
+band_high : (k b r j : ℕ) → r < k + k + 1 → j < k + k + 1 → starts k b r ≤ b + j → b + j < stops k b r → k ≤ r → r < k + k → j < k + k
+band_high k b r j hr hj lo hi h g = grind (arith, nat_tests)
+
+band_last : (k b r j : ℕ) → r < k + k + 1 → j < k + k + 1 → starts k b r ≤ b + j → b + j < stops k b r → k + k ≤ r → j ≡ r
+band_last k b r j hr hj lo hi h = grind (arith, nat_tests)
 
 module _ (p : Plan) where
   links_rise : (n : ℕ) (links : List ℕ) → n < node_count p → Rises 0 (length p.net.links) links → Rises 0 (suc (posting_part p)) (n ∷ map (mail_part p) links)
@@ -201,6 +214,13 @@ module _ (p : Plan) where
       by (Transfer n) = omega arith
       by (Gather n) = omega arith
       by Posting = omega (arith, total-append (is_at k) (all_nodes p) (posting_part p ∷ []))
+
+  -- of the units of one phase no other moves a part that unit c moves
+  pub alone : (c x k : ℕ) → phase_start (node_count p) c ≤ x → x < phase_end (node_count p) c → x ≢ c → 1 ≤ moves p k c → moves p k x ≡ 0
+  alone c x k lo hi other own =
+      dite (dec_le 1 (moves p k x))
+      (λ his. absurd (other (sym (one_has_it c x k lo hi (omega (arith, own, moved_is_placed k c)) (omega (arith, his, moved_is_placed k x))))))
+      (λ none. let z : moves p k x < 1 = lt_of_not-le none in omega (arith, z))
 
 in_phase : (n a b : ℕ) → phase_start n a ≡ phase_start n b → b < phase_end n a
 in_phase n a b e = dite (dec_le (phase_end n a) b)
