@@ -1,7 +1,7 @@
 -- One round of a loop in which the mail of a node's links goes between held slots and the node's cell.
-use Rattle.std.specs.Prelude.{nat_eq, slice_get}
+use Rattle.std.specs.Prelude.{nat_eq, slice_get, IsSome}
 use Rattle.std.proofs.lemmas.Bool.{eq-eqb}
-use Rattle.std.proofs.Common.{◌≡◌, ℕ, ◌+◌, ◌<◌, Bool, true, false, ◌||◌, List, [], ◌∷◌, length, take, refl, sym, ap, ◌∙◌, Option, Some}
+use Rattle.std.proofs.Common.{◌≡◌, ℕ, ◌+◌, ◌<◌, Bool, true, false, ◌||◌, List, [], ◌∷◌, length, refl, sym, ap, ◌∙◌, Option, Some}
 use Rattle.atomic_table.specs.Table.{rest, turned}
 use Rattle.atomic_table.specs.declared.shared.Seat.{Seat}
 use Rattle.net_core.specs.Network.{as_links}
@@ -11,12 +11,10 @@ use Rattle.dta_model.specs.declared.plan.Plan.{Plan}
 use Rattle.cell_stages.specs.CellState.{CellState}
 use Rattle.cell_stages.specs.Contents.{away}
 use Rattle.cell_stages.specs.declared.mail.Mail as mail
-use Rattle.cell_stages.specs.declared.mail.Mail.TheVariants.{Away}
 use Rattle.node_transfer.specs.Exchange.{is_among}
 use Rattle.node_transfer.specs.Halves.{leaving_cell, left_mail, links_of, taken_mail, taking_cell}
 use Rattle.node_transfer.specs.declared.half.HalfStep.{HalfStep}
-use Rattle.node_transfer.proofs.OfMail.Exchanges.{emptied-next, filled-next, replaced}
-use Rattle.node_transfer.proofs.OfMail.Lending.{at-place, is-told, link_of}
+use Rattle.node_transfer.proofs.OfMail.Lending.{at-place, link_of}
 use Rattle.node_transfer.proofs.OfMail.Parts.{IsMadeOf}
 use Rattle.phase_claims.specs.Noted.{StaysAsItIs}
 use Rattle.phase_claims.specs.PlacesHeld.{HoldsCell, HoldsMail, IsSameSeat, mail_place, mail_places, node_places}
@@ -37,11 +35,11 @@ same_cell x y e = cc
 pub cell_taken : (p : Plan) (n : ℕ) (cell c : CellState) (by : ℕ → mail.Mail) (links : List ℕ) (l : List (ℕ × Part)) → l ≡ node_places p n cell by links → l ≡ (n, Cell c) ∷ rest l → c ≡ cell
 cell_taken p n cell c by links l e got = same_cell c cell (same_first n (Cell c) (Cell cell) l got (e ∙ ap (λ xs. (n, Cell cell) ∷ rest xs) (sym e)))
 
+pub is_there : {X : Type 0} (o : Option X) (x : X) → o ≡ Some x → IsSome o
+is_there o x e = rw e refl
+
 same_mail : (x y : mail.Mail) → Mail x ≡ Mail y → x ≡ y
 same_mail x y e = cc
-
-some_mail : (x y : mail.Mail) → Some x ≡ Some y → x ≡ y
-some_mail x y e = cc
 
 module _ {p : Plan} {n : ℕ} {ends : ℕ → ℕ} {links : List ℕ} {cell : (ℕ → mail.Mail) → CellState} {put : ℕ → mail.Mail → CellState → CellState} {told : ℕ → CellState → Option mail.Mail}
     (made : IsMadeOf p n ends links cell put told) (F G : ℕ → mail.Mail) (ls : List LinkNo) (are : ls ≡ as_links links) (N : ℕ) (nodes : N ≡ node_count p) (z : List (ℕ × Part)) (j : ℕ) (within : j < length ls) where
@@ -67,17 +65,9 @@ module _ {p : Plan} {n : ℕ} {ends : ℕ → ℕ} {links : List ℕ} {cell : (�
       round (mail_place p F) (mail_place p G) z links j here l l' there is
       (now ∙ ap (λ k. turned ((k + here, Mail m) ∷ rest l)) nodes ∙ ap (λ x. turned ((mail_part p here, Mail x) ∷ rest l)) same)
 
-  -- it goes into the cell
-  pub mail_lent : (l : List (ℕ × Part)) (m : mail.Mail) (c c' : CellState) → l ≡ Midway j → l ≡ (N + here, Mail m) ∷ rest l
-      → c ≡ cell (replaced (take j links) F away) → c' ≡ put j m c → c' ≡ cell (replaced (take (j + 1) links) F away)
-  mail_lent l m c c' is got at now = filled-next p n ends links cell put told made F j here m c c' there at (same_mail m (F here) (same_first (N + here) (Mail m) (Mail (F here)) l got (first_mail l is))) now
-
-  -- or came out of it
-  pub mail_collected : (c c' : CellState) → c ≡ cell (replaced (take j links) away G) → c' ≡ put j Away c → c' ≡ cell (replaced (take (j + 1) links) away G)
-  mail_collected c c' at now = emptied-next p n ends links cell put told made G j here c c' there at now
-
-  pub mail_told : (m : mail.Mail) (c : CellState) → c ≡ cell (replaced (take j links) away G) → told j c ≡ Some m → m ≡ G here
-  mail_told m c at tells = some_mail m (G here) (sym tells ∙ is-told made G ls are j within c at)
+  -- that mail is by the rule
+  pub mail_is : (l : List (ℕ × Part)) (m : mail.Mail) → l ≡ Midway j → l ≡ (N + here, Mail m) ∷ rest l → F here ≡ m
+  mail_is l m is got = same_mail (F here) m (same_first (N + here) (Mail (F here)) (Mail m) l (first_mail l is) got)
 
 same_places : (p : Plan) (F G : ℕ → mail.Mail) (links : List ℕ) → ((l : ℕ) → is_among links l ≡ true → F l ≡ G l) → mail_places p F links ≡ mail_places p G links
 same_places p F G [] same = refl

@@ -7,7 +7,7 @@ use Rattle.dta_model.specs.declared.machine.Stage.{Stage}
 use Rattle.dta_model.specs.declared.machine.Stage.TheVariants as stage
 use Rattle.dta_model.specs.declared.plan.Plan.{Plan}
 use Rattle.claim_core.specs.Kinds.{kind_by}
-use Rattle.claim_core.specs.Phases.{IsPhase}
+use Rattle.claim_core.specs.Phases.{IsPhase, phase_of}
 use Rattle.claim_core.specs.declared.phase.Phase.{Phase}
 use Rattle.claim_core.specs.declared.units.UnitKind.{UnitKind}
 use Rattle.phase_claims.specs.declared.part.Part.{Part}
@@ -105,12 +105,19 @@ IsInside p (stage.Held c) = c < unit_count p
 IsInside p (stage.Open c) = c < unit_count p
 IsInside p stage.Ended = Unit {0}
 
+-- the phase of the unit that a pass drew last, which is that of the one that it holds
+abbrev pub IsLastPhase : ℕ → Stage → Phase → Type 0
+IsLastPhase nodes stage.Idle last = IsPhase nodes last
+IsLastPhase nodes (stage.Held c) last = last ≡ phase_of nodes c
+IsLastPhase nodes (stage.Open c) last = last ≡ phase_of nodes c
+IsLastPhase nodes stage.Ended last = IsPhase nodes last
+
 -- what a pass keeps: it has the places of the unit that it has open, and no others; its fields say
--- what it knows, and which units are in the phase that it saw last
+-- what it knows, and the phase of the unit that it drew last
 pub record IsPass (me : Me Part View) (left : ℕ) (has : Stage) (last : Phase) : Type 0 where
   pub slots : me.1 ≡ carried me.0.scope me.0.stage
   pub inside : IsInside me.0.scope.plan me.0.stage
   pub weight : 1 ≤ me.0.weight
   pub spare : left ≡ me.0.spare
   pub stage : has ≡ me.0.stage
-  pub phase : IsPhase (node_count me.0.scope.plan) last
+  pub phase : IsLastPhase (node_count me.0.scope.plan) me.0.stage last

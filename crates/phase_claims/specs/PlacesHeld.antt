@@ -29,6 +29,10 @@ HoldsWriter slot held = (w : Known) × (held ≡ (slot, Writer w) ∷ rest held)
 abbrev pub HoldsNothing : ℕ → List (ℕ × Part) → Type 0
 HoldsNothing slot held = held ≡ (slot, Out) ∷ rest held
 
+-- what holds of the mail in the first place
+abbrev pub IfMail : ℕ → List (ℕ × Part) → (mail.Mail → Type 0) → Type 0
+IfMail slot held P = (m : mail.Mail) → held ≡ (slot, Mail m) ∷ rest held → P m
+
 -- the place of a link's mail, with mail by a rule
 abbrev pub mail_place : Plan → (ℕ → mail.Mail) → ℕ → ℕ × Part
 mail_place p by l = (mail_part p l, Mail (by l))

@@ -1,12 +1,11 @@
 // The floor and its calls.
 ghost use Rattle.atomic_table.specs.Table.{State};
 ghost use Rattle.std.specs.Prelude.{◌≡◌, ◌≢◌, ◌<◌, ◌≤◌, ◌-◌, [], IfErr, IfOk, IsOk};
-ghost use Rattle.claim_core.specs.Phases.{IsPhase, phase_of};
 ghost use Rattle.dta_model.specs.Lent.{plan_of};
 ghost use Rattle.dta_model.specs.Sound.{IsSound};
-ghost use Rattle.dta_model.specs.Units.{node_count, unit_count};
+ghost use Rattle.dta_model.specs.Units.{unit_count};
 ghost use Rattle.phase_claims.specs.Passes.{Claims, HoldsNoUnit, IsHeld, IsOf, IsOpen, Opens};
-ghost use Rattle.phase_claims.specs.Passes.{kind_at, kind_in, unit_at};
+ghost use Rattle.phase_claims.specs.Passes.{kind_at, kind_in};
 ghost use Rattle.phase_claims.specs.PlacesEnd.{IsClosed, IsEarly};
 ghost use Rattle.phase_claims.specs.PlacesHeld.{IsSameSeat};
 ghost use Rattle.phase_claims.specs.PlacesHome.{brought, carried};
@@ -25,7 +24,7 @@ use crate::work_close::{drop_parts, take_parts};
 use crate::work_posting::post_held;
 use crate::work_unit::work_held;
 use atomic_table::{Table, TableRule};
-use claim_core::{Phase, UnitKind, Units};
+use claim_core::{UnitKind, Units};
 use dta_model::{Loaded, Loading, Stage};
 use monitors::{Board, WriterPass};
 use net_core::Memory;
@@ -142,28 +141,6 @@ impl<'a> Floor<'a> {
         self.units.count()
     }
 
-    // The phase of a number, which in most cases is that of a pass's last one.
-    #[tactic(auto, unfolding(dta_model::specs::Units::unit_count))]
-    fn phase(&self, last: Phase, number: u64) -> Phase
-        requires last { IsPhase (node_count self.now.scope.plan) last }
-        requires number { number < unit_count self.now.scope.plan }
-        ensures { result ≡ phase_of (node_count self.now.scope.plan) number }
-    {
-        self.units.phase_from(last, number)
-    }
-
-    // The unit of a number, in its phase.
-    fn unit(&self, phase: Phase, number: u64) -> Unit
-        requires { phase ≡ phase_of (node_count self.now.scope.plan) number }
-        ensures { result ≡ unit_at self.now.scope.plan number }
-    {
-        Unit {
-            number,
-            step: phase.step,
-            kind: self.units.kind_in(phase, number),
-        }
-    }
-
     /// Whether the unit of the next number could be opened at once, or there is none. It only
     /// looks, and other passes may change that at any time, so nothing is promised. Where the pass
     /// is the only one, or many units of its phase were left when it drew its last one, it needn't
@@ -184,6 +161,7 @@ impl<'a> Floor<'a> {
 
     /// Draws the next number. The pass holds the unit of that number then. Where there is none it
     /// has ended.
+    #[tactic(auto, unfolding(dta_model::specs::Units::unit_count))]
     pub fn claim(&self, pass: &mut Pass) -> Option<Unit>
         requires own { IsOf self.now pass.old }
         requires idle { pass.old.view.stage ≡ Stage.Idle }
@@ -192,11 +170,15 @@ impl<'a> Floor<'a> {
     {
         let number = self.table.shared.fetch_add::<Draw>(&mut pass.seat, 1, 1);
         if number < self.count() {
-            let phase = self.phase(pass.last.phase, number);
+            let phase = self.units.phase_from(pass.last.phase, number);
             let left = phase.end.saturating_sub(number);
             pass.stage = Stage::Held(number);
             pass.last = Last { phase, left };
-            Some(self.unit(phase, number))
+            Some(Unit {
+                number,
+                step: phase.step,
+                kind: self.units.kind_in(phase, number),
+            })
         } else {
             pass.stage = Stage::Ended;
             None
@@ -214,7 +196,7 @@ impl<'a> Floor<'a> {
         let Stage::Held(number) = pass.stage else {
             unreachable!()
         };
-        let first = self.phase(pass.last.phase, number).first;
+        let first = pass.last.phase.first;
         let finished = self.table.shared.load::<Look>(&mut pass.seat, 2);
         if first <= finished {
             pass.stage = Stage::Open(number);
@@ -270,8 +252,7 @@ impl<'a> Floor<'a> {
         let Stage::Open(number) = pass.stage else {
             unreachable!()
         };
-        let phase = self.phase(pass.last.phase, number);
-        let Some(half) = self.units.half_in(phase, number) else {
+        let Some(half) = self.units.half_in(pass.last.phase, number) else {
             unreachable!()
         };
         work_held(&self.table.shared, &mut pass.seat, &self.loading, half);

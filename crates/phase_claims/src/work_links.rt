@@ -1,76 +1,75 @@
-// The mail of a node's links goes between the places that a seat holds and the node's cell.
-ghost use Rattle.cell_stages.specs.Contents.{IsStep, away, batch_of, cell_after};
+// The halves of a node's step, over the mail of its links in the places that a seat holds.
+ghost use Rattle.cell_stages.specs.Contents.{IsStep, away, batch_of, cell_after, cell_before};
+ghost use Rattle.cell_stages.specs.Contents.{room_of};
 ghost use Rattle.dta_model.specs.Lent.{plan_of};
-ghost use Rattle.dta_model.specs.Plans.{ins as ins_of};
-ghost use Rattle.node_transfer.specs.Halves.{IsHalf, leaving_cell, left_mail, links_of};
-ghost use Rattle.node_transfer.specs.Halves.{taken_mail, taking_cell};
+ghost use Rattle.dta_model.specs.Plans.{ins as ins_of, outs as outs_of};
 ghost use Rattle.node_transfer.specs.Rest.{AreTold};
 ghost use Rattle.phase_claims.specs.PlacesHeld.{IsSameSeat, after_cell, before_cell};
 ghost use Rattle.phase_claims.specs.PlacesHeld.{mail_places};
-ghost use Rattle.std.specs.Prelude.{◌≡◌, ◌∷◌, IfSome, None, true};
+ghost use Rattle.std.specs.Prelude.{◌≡◌, ◌∷◌, IfSome, None, suc, true};
 
 use crate::part::Part;
-use crate::work::{give_mail, is_told, take_mail};
+use crate::work::{gather_link, is_told, send_batch, tell_room};
 use atomic_table::{Seat, Shared, TableRule};
 use dta_model::{Loading, Queue};
 use net_core::NodeNo;
-use node_transfer::{HalfStep, NodeCell};
+use node_transfer::NodeCell;
 
-/// Fills the places of a node's links with the mail that a half of its step takes, out of the
-/// places that a seat holds.
-pub(crate) fn fill<V, K, P: TableRule<Part, V, K>>(
+/// The transfer of a node's step, over the mail of its out-links in the places that a seat holds.
+pub(crate) fn transfer<V, K, P: TableRule<Part, V, K>>(
     shared: &Shared<Part, V, K, P>,
     seat: &mut Seat<Part, V>,
     loading: &Loading,
-    half: HalfStep,
+    node: NodeNo,
+    step: u32,
     cell: &mut NodeCell,
 )
     requires table { seat.old.table_id ≡ shared.now.table_id }
-    requires step { IsHalf (plan_of loading.now) half }
-    requires cell { cell.old ≡ taking_cell (plan_of loading.now) half away }
-    requires held { seat.old.me.1 ≡ before_cell half.node.0
-        (mail_places (plan_of loading.now) (taken_mail (plan_of loading.now) half)
-        (links_of (plan_of loading.now) half)) }
+    requires step { IsStep (plan_of loading.now) node.0 step }
+    requires cell { cell.old ≡ cell_before (plan_of loading.now) node.0 step away away }
+    requires held { seat.old.me.1 ≡ before_cell node.0 (mail_places (plan_of loading.now)
+        (room_of (plan_of loading.now) step) (outs_of (plan_of loading.now) node.0)) }
     ensures seat { IsSameSeat seat.old seat.new }
-    ensures cell { cell.new
-        ≡ taking_cell (plan_of loading.now) half (taken_mail (plan_of loading.now) half) }
-    ensures held { seat.new.me.1 ≡ after_cell half.node.0
-        (mail_places (plan_of loading.now) away (links_of (plan_of loading.now) half)) }
+    ensures cell { cell.new ≡ cell_after (plan_of loading.now) node.0 step away away }
+    ensures held { seat.new.me.1 ≡ after_cell node.0 (mail_places (plan_of loading.now)
+        (batch_of (plan_of loading.now) step) (outs_of (plan_of loading.now) node.0)) }
 {
     let nodes = loading.net.node_count() as usize;
-    let links = half.links(loading);
-    for place in 0..links.len() {
-        let mail = take_mail(shared, seat, nodes + links[place].0 as usize);
-        cell.take(half.half, place, mail);
+    let outs = loading.net.outs(node);
+    for place in 0..outs.len() {
+        tell_room(shared, seat, nodes + outs[place].0 as usize, cell, place);
+    }
+    cell.transfer(step);
+    seat.turn();
+    for place in 0..outs.len() {
+        send_batch(shared, seat, nodes + outs[place].0 as usize, cell, place);
     }
 }
 
-/// Takes the mail that a half of a node's step leaves out of the places of its links, into those
-/// that a seat holds.
-pub(crate) fn empty<V, K, P: TableRule<Part, V, K>>(
+/// The gather of a node's step, over the mail of its in-links in the places that a seat holds.
+pub(crate) fn gather<V, K, P: TableRule<Part, V, K>>(
     shared: &Shared<Part, V, K, P>,
     seat: &mut Seat<Part, V>,
     loading: &Loading,
-    half: HalfStep,
+    node: NodeNo,
+    step: u32,
     cell: &mut NodeCell,
 )
     requires table { seat.old.table_id ≡ shared.now.table_id }
-    requires step { IsHalf (plan_of loading.now) half }
-    requires cell { cell.old
-        ≡ leaving_cell (plan_of loading.now) half (left_mail (plan_of loading.now) half) }
-    requires held { seat.old.me.1 ≡ before_cell half.node.0
-        (mail_places (plan_of loading.now) away (links_of (plan_of loading.now) half)) }
+    requires step { IsStep (plan_of loading.now) node.0 step }
+    requires cell { cell.old ≡ cell_after (plan_of loading.now) node.0 step away away }
+    requires held { seat.old.me.1 ≡ before_cell node.0 (mail_places (plan_of loading.now)
+        (batch_of (plan_of loading.now) step) (ins_of (plan_of loading.now) node.0)) }
     ensures seat { IsSameSeat seat.old seat.new }
-    ensures cell { cell.new ≡ leaving_cell (plan_of loading.now) half away }
-    ensures held { seat.new.me.1 ≡ after_cell half.node.0
-        (mail_places (plan_of loading.now) (left_mail (plan_of loading.now) half)
-        (links_of (plan_of loading.now) half)) }
+    ensures cell { cell.new ≡ cell_before (plan_of loading.now) node.0 (suc step) away away }
+    ensures held { seat.new.me.1 ≡ after_cell node.0 (mail_places (plan_of loading.now)
+        (room_of (plan_of loading.now) (suc step)) (ins_of (plan_of loading.now) node.0)) }
 {
     let nodes = loading.net.node_count() as usize;
-    let links = half.links(loading);
-    for place in 0..links.len() {
-        let mail = cell.give(half.half, place);
-        give_mail(shared, seat, nodes + links[place].0 as usize, mail);
+    let ins = loading.net.ins(node);
+    for place in 0..ins.len() {
+        let slot = nodes + ins[place].0 as usize;
+        gather_link(shared, seat, slot, cell, place, step);
     }
 }
 

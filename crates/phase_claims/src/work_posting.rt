@@ -2,7 +2,7 @@
 ghost use Rattle.atomic_table.specs.Table.{rest, turned};
 ghost use Rattle.dta_model.specs.Lent.{plan_of};
 ghost use Rattle.dta_model.specs.Sound.{IsSound};
-ghost use Rattle.phase_claims.specs.PlacesCounted.{cell_place, counted_in, posting_places, writer_place};
+ghost use Rattle.phase_claims.specs.PlacesCounted.{cell_place, counted_in, posting_places};
 ghost use Rattle.phase_claims.specs.PlacesHeld.{HoldsNothing, HoldsWriter, IsSameSeat};
 ghost use Rattle.std.specs.Prelude.{◌≡◌, ◌<◌, ◌∷◌, suc, length};
 

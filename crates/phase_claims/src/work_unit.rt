@@ -12,7 +12,7 @@ ghost use Rattle.std.specs.Prelude.{◌≡◌, true};
 use crate::noted_cell::NotedCell;
 use crate::part::Part;
 use crate::work::{give_cell, is_quiet, take_cell};
-use crate::work_links::{are_told, empty, fill};
+use crate::work_links::{are_told, gather, transfer};
 use atomic_table::{Seat, Shared, TableRule};
 use dta_model::{Loading, Queue};
 use net_core::NodeNo;
@@ -39,13 +39,14 @@ pub(crate) fn work_held<V, K, P: TableRule<Part, V, K>>(
     if stays(shared, seat, loading, half) {
         return;
     }
-    let slot = half.node.0 as usize;
+    let HalfStep { node, step, .. } = half;
+    let slot = node.0 as usize;
     let NotedCell { mut cell, .. } = take_cell(shared, seat, slot);
     seat.turn();
-    fill(shared, seat, loading, half, &mut cell);
-    cell.work(half.half, half.step);
-    seat.turn();
-    empty(shared, seat, loading, half, &mut cell);
+    match half.half {
+        Half::Transfer => transfer(shared, seat, loading, node, step, &mut cell),
+        Half::Gather => gather(shared, seat, loading, node, step, &mut cell),
+    }
     give_cell(shared, seat, slot, NotedCell::after(half, cell));
 }
 

@@ -1,4 +1,4 @@
-use Rattle.std.proofs.Common.{◌≡◌, ℕ, ◌<◌, List, ap, sym, ◌∙◌, subst}
+use Rattle.std.proofs.Common.{◌≡◌, ℕ, ◌<◌, List, [], ap, sym, ◌∙◌, subst}
 use Rattle.dta_model.specs.Lent.{plan_of}
 use Rattle.dta_model.specs.Units.{unit_count}
 use Rattle.dta_model.specs.declared.machine.Stage.{Stage}
@@ -6,10 +6,11 @@ use Rattle.dta_model.specs.declared.machine.Stage.TheVariants as stage
 use Rattle.phase_claims.specs.Passes.{FloorState, IsInside, PassState}
 use Rattle.phase_claims.specs.PlacesHome.{brought, carried}
 use Rattle.phase_claims.specs.Scopes.{scope_of}
-use Rattle.phase_claims.specs.Views.{unit_in}
+use Rattle.phase_claims.specs.Views.{done_with, unit_in}
 use Rattle.phase_claims.specs.declared.part.Part.{Part}
 use Rattle.phase_claims.specs.declared.view.Scope.{Scope}
 use Rattle.phase_claims.specs.declared.view.View.{View}
+use Rattle.phase_claims.proofs.Owners.{done_pass}
 use Rattle.phase_claims.proofs.PlacesUnit.{half_brings, half_has, half_may}
 use Rattle.phase_claims.proofs.floor.Floor.perform.Goals as goal
 
@@ -54,3 +55,7 @@ finish-requires-clause-done c =
     c.in-Open.number c.self.inside.units.nodes (few_units v c.args.self.now.scope c.pass.inside.stage c.in-Open.number scope c.pass.invariant.stage c.in-Open.is c.pass.invariant.inside) c.self.invariant.nodes
     c.in-Some.half (sym c.half_in.ensures ∙ c.in-Some.is) c.work_held.new.seat.me.1 c.work_held.ensures.held
     ∙ brings_places v c.args.self.now.scope c.pass.inside.stage c.in-Open.number scope c.pass.invariant.stage c.in-Open.is c.work_held.new.seat.me.0 c.work_held.ensures.seat.view
+
+pub invariant_of-pass : goal.invariant_of-pass
+invariant_of-pass c =
+    done_pass c.pass.inside.seat.me c.finish.new.seat.me _ _ _ c.pass.invariant (c.finish.ensures.done ∙ ap (λ v. (done_with v, [])) c.work_held.ensures.seat.view)
