@@ -94,7 +94,11 @@ fn accept_and_work<R: AllocGlobal + Threads + Wait + Sync, D: Desk + Send, G: Ga
     ensures puts { (D.state desk.old).put_faults ≤ (D.state desk.new).put_faults }
 {
     match accept(rt.alloc(), desk, settings) {
-        Ok(job) => work(rt, settings, &job, gate, desk),
+        Ok(job) => {
+            let status = work(rt, settings, &job, gate, desk);
+            drop(job);
+            status
+        }
         Err(Stop::Refused(refusal)) => refuse(desk, refusal),
         Err(Stop::Memory) => Status::Memory,
     }

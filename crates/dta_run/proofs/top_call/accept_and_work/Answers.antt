@@ -12,8 +12,8 @@ use Rattle.dta_run.proofs.top_call.accept_and_work.Goals as goal
 
 pub returns-in-Ok-clause-means : goal.returns-in-Ok-clause-means
 returns-in-Ok-clause-means g c = λ words told.
-    works-means words c.args.settings.now _ c.work.result (g.D.Desk.state c.args.desk.now) (g.D.Desk.state c.accept.new.desk) (g.D.Desk.state c.work.new.desk) told
-    c.in-Ok.ensures.reads.done c.in-Ok.ensures.reads.taken (sym c.in-Ok.ensures.reads.puts) c.work.ensures.works.left c.work.ensures.works.work c.work.ensures.works.failed c.work.ensures.works.differs
+    works-means words c.args.settings.now _ c.work-status.result (g.D.Desk.state c.args.desk.now) (g.D.Desk.state c.accept.new.desk) (g.D.Desk.state c.work-status.new.desk) told
+    c.in-Ok.ensures.reads.done c.in-Ok.ensures.reads.taken (sym c.in-Ok.ensures.reads.puts) c.work-status.ensures.works.left c.work-status.ensures.works.work c.work-status.ensures.works.failed c.work-status.ensures.works.differs
     (loads-soundly c.args.settings.now (rows_in_job c.in-Ok.job) c.requires.settings c.in-Ok.ensures.sound)
 
 pub returns-in-Err-Refused-clause-means : goal.returns-in-Err-Refused-clause-means
@@ -26,11 +26,11 @@ returns-in-Err-Refused-clause-means g c = λ words told.
 pub returns-in-Ok-clause-receipts : goal.returns-in-Ok-clause-receipts
 returns-in-Ok-clause-receipts g c = λ words told.
     let shown = gate_of g.G.Gate.closes g.G.Gate.last in
-    work-gives words c.args.settings.now (rows_in_job c.in-Ok.job) c.work.result (g.D.Desk.state c.args.desk.now).left (g.D.Desk.state c.work.new.desk).left
-    (g.D.Desk.state c.accept.new.desk).taken (g.D.Desk.state c.work.new.desk).taken
-    (shown c.args.gate.now) (shown c.work.new.gate) told
-    (subst (λ (rest : Left). IsAcceptedJob c.args.settings.now (rows_in_job c.in-Ok.job) (g.D.Desk.state c.args.desk.now).left rest) (sym c.work.ensures.works.left) c.in-Ok.ensures.reads.done)
-    c.work.ensures.works.work (λ found. (c.work.ensures.works.differs found).is) c.work.ensures.receipts
+    work-gives words c.args.settings.now (rows_in_job c.in-Ok.job) c.work-status.result (g.D.Desk.state c.args.desk.now).left (g.D.Desk.state c.work-status.new.desk).left
+    (g.D.Desk.state c.accept.new.desk).taken (g.D.Desk.state c.work-status.new.desk).taken
+    (shown c.args.gate.now) (shown c.work-status.new.gate) told
+    (subst (λ (rest : Left). IsAcceptedJob c.args.settings.now (rows_in_job c.in-Ok.job) (g.D.Desk.state c.args.desk.now).left rest) (sym c.work-status.ensures.works.left) c.in-Ok.ensures.reads.done)
+    c.work-status.ensures.works.work (λ found. (c.work-status.ensures.works.differs found).is) c.work-status.ensures.receipts
 
 pub returns-in-Err-Refused-clause-receipts : goal.returns-in-Err-Refused-clause-receipts
 returns-in-Err-Refused-clause-receipts g c = λ words told.
