@@ -1,0 +1,4 @@
+pub mod Counts
+pub mod Passed
+pub mod Flows
+pub mod Storing

@@ -1,0 +1,5 @@
+use Rattle.traffic_laws.proofs.Flows.{entries_are_within}
+use Rattle.traffic_laws.proofs.capacity.entries_stay_within_the_rate.Goals as goal
+
+pub returns : goal.returns
+returns c = entries_are_within

@@ -1,0 +1,13 @@
+//! Laws of traffic, in the words of the field: what a planner checks first of any loading.
+//!
+//! Each function does nothing, and no program calls one. Its contract is a law of the definitions
+//! of `dta_model` (docs/LAWS.md has them all, with what can be checked by hand).
+#![tactic(auto)]
+
+mod capacity;
+mod storage;
+
+pub use capacity::{
+    entries_stay_within_the_rate, leavings_stay_within_the_rate, turns_stay_within_the_limit,
+};
+pub use storage::{entries_follow_the_wave, links_hold_no_more_than_their_storage};
