@@ -55,6 +55,17 @@ count-none f (x ∷ xs) all =
     let rest = count-none f xs (All-tail (λ y. f y ≡ false) x xs all) in
     omega (arith, a, here, rest)
 
+-- tests that come to the same on the list
+pub count-alike : {X : Type 0} (f g : X → Bool) (xs : List X) → All (λ x. f x ≡ g x) xs
+    → count_by f xs ≡ count_by g xs
+count-alike f g [] all = refl
+count-alike f g (x ∷ xs) all =
+    let a = count-cons f x xs in
+    let b = count-cons g x xs in
+    let here = ap one_if (All-head (λ y. f y ≡ g y) x xs all) in
+    let rest = count-alike f g xs (All-tail (λ y. f y ≡ g y) x xs all) in
+    omega (arith, a, b, here, rest)
+
 pub count-filter : {X : Type 0} (f g : X → Bool) (xs : List X)
     → count_by f (filter g xs) ≡ count_by (λ x. f x && g x) xs
 count-filter f g [] = refl

@@ -283,7 +283,7 @@ entries_are_within p sound t l h =
 
 -- those who leave a link in a step
 module _ (p : Plan) (sound : IsSound p) (l : ℕ) (h : l < length p.net.links) where
-  leave-now : (k : ℕ) → All (λ m. m.step ≡ k) (leaving_moves p k l)
+  pub leave-now : (k : ℕ) → All (λ m. m.step ≡ k) (leaving_moves p k l)
   leave-now k =
       let n = (link_at p l).to.0 in
       let T = trace_after p k in

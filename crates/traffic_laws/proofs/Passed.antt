@@ -1,7 +1,7 @@
 -- What passes in steps, by what each step allows.
 use Rattle.std.specs.List.{range_with_len}
-use Rattle.std.specs.Prelude.{count_by, nat_eq, nat_le, nat_lt, sum_by}
-use Rattle.std.proofs.Common.{◌≡◌, ℕ, zero, suc, ◌+◌, ◌-◌, ◌*◌, ◌/◌, ◌<◌, ◌≤◌, Bool, true, false, ◌&&◌, List, [], ◌∷◌, refl, ap, ◌∙◌, arith, add-one, Some, ◌⊎◌, inl, inr}
+use Rattle.std.specs.Prelude.{All, count_by, nat_eq, nat_le, nat_lt, sum_by}
+use Rattle.std.proofs.Common.{◌≡◌, ℕ, zero, suc, ◌+◌, ◌-◌, ◌*◌, ◌/◌, ◌<◌, ◌≤◌, Bool, true, false, ◌&&◌, List, [], ◌∷◌, ◌++◌, refl, ap, ◌∙◌, arith, add-one, Some, ◌⊎◌, inl, inr}
 use Rattle.std.proofs.lemmas.Bool.{cases_lt}
 use Rattle.std.proofs.lemmas.Bool.Decides.{nat_tests}
 use Rattle.std.proofs.lemmas.List.Sums.{sum_by-cons}
@@ -10,7 +10,8 @@ use Rattle.net_core.specs.declared.rates.Rates.{Rates}
 use Rattle.dta_model.specs.Allowance.{allowance, credited, parts}
 use Rattle.dta_model.specs.Trace.{Move}
 use Rattle.traffic_laws.specs.Capacity.{IsWithin, given, made}
-use Rattle.traffic_laws.proofs.Counts.{count-two, count-less, one_if}
+use Rattle.std.proofs.lemmas.List.Elements.{All-weaker}
+use Rattle.traffic_laws.proofs.Counts.{count-alike, count-append, count-none, count-two, count-less, one_if}
 
 next_part : (rates : Rates) (delta t : ℕ)
     → parts rates delta (suc t) ≡ parts rates delta t + credited (rate_in rates t) * delta
@@ -159,3 +160,26 @@ module _ (rates : Rates) (delta : ℕ) (test : Move → Bool) (moves : List Move
           let most = any-steps s u in
           let sum = same-sum rate (u - s) s (λ k a b. same k a (omega (arith, b, e))) in
           omega (arith, most, sum)
+
+-- the moves of step t among those up to it
+pub made-now : (test : Move → Bool) (X Y : List Move) (t : ℕ) → All (λ m. m.step < t) X
+    → All (λ m. m.step ≡ t) Y → made test (X ++ Y) t (suc t) ≡ count_by test Y
+made-now test X Y t early now =
+    let both = count-append (λ m. test m && (nat_le t m.step && nat_lt m.step (suc t))) X Y in
+    let none = count-none (λ m. test m && (nat_le t m.step && nat_lt m.step (suc t))) X
+    (All-weaker (λ m. m.step < t)
+    (λ m. (test m && (nat_le t m.step && nat_lt m.step (suc t))) ≡ false)
+    (λ m h. outside (test m) m.step h) X early) in
+    let all = count-alike (λ m. test m && (nat_le t m.step && nat_lt m.step (suc t))) test Y
+    (All-weaker (λ m. m.step ≡ t)
+    (λ m. (test m && (nat_le t m.step && nat_lt m.step (suc t))) ≡ test m)
+    (λ m h. inside (test m) m.step h) Y now) in
+    omega (arith, both, none, all)
+  where
+    outside : (c : Bool) (k : ℕ) → k < t → (c && (nat_le t k && nat_lt k (suc t))) ≡ false
+    outside true k h = grind (arith, nat_tests)
+    outside false k h = refl
+
+    inside : (c : Bool) (k : ℕ) → k ≡ t → (c && (nat_le t k && nat_lt k (suc t))) ≡ c
+    inside true k h = grind (arith, nat_tests)
+    inside false k h = refl

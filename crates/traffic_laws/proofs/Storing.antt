@@ -1,24 +1,24 @@
 -- What links hold, by the room of each step.
-use Rattle.std.specs.Prelude.{count_by, nat_le, nat_lt, All}
-use Rattle.std.proofs.Common.{◌≡◌, ℕ, zero, suc, ◌+◌, ◌-◌, ◌<◌, ◌≤◌, length, Bool, true, false, ◌&&◌, List, [], ◌∷◌, refl, ap, arith, Some, ◌⊎◌, inl, inr}
+use Rattle.std.specs.Prelude.{count_by, nat_le, nat_lt}
+use Rattle.std.proofs.Common.{◌≡◌, ℕ, zero, suc, ◌+◌, ◌-◌, ◌<◌, ◌≤◌, length, Bool, true, false, ◌&&◌, [], refl, ap, arith, Some, ◌⊎◌, inl, inr}
 use Rattle.std.proofs.lemmas.Bool.{cases_lt}
 use Rattle.std.proofs.lemmas.Bool.Decides.{nat_tests}
 use Rattle.std.proofs.lemmas.List.{length-append}
-use Rattle.std.proofs.lemmas.List.Elements.{All-head, All-tail, All-weaker}
+use Rattle.std.proofs.lemmas.List.Elements.{All-weaker}
 use Rattle.std.proofs.lemmas.List.Sums.{count_by-le-length}
 use Rattle.dta_model.specs.Leavings.{leaving_moves}
 use Rattle.dta_model.specs.Loading.{after_step, step_moves, trace_after}
 use Rattle.dta_model.specs.Plans.{all_nodes, link_at}
 use Rattle.dta_model.specs.Room.{entered_by, leavings, left_below, room, room_by, wave_of}
 use Rattle.dta_model.specs.Sound.{IsSound}
-use Rattle.dta_model.specs.Trace.{Move, last_moves, leads_to, queue_of}
+use Rattle.dta_model.specs.Trace.{last_moves, leads_to, queue_of}
 use Rattle.dta_model.specs.declared.plan.Plan.{Plan}
 use Rattle.dta_model.specs.declared.queue.Queue.{Queue}
 use Rattle.dta_model.specs.declared.queue.Queue.TheVariants as queue
 use Rattle.dta_model.proofs.Left.{entries_add_up, steps_are_below}
 use Rattle.traffic_laws.specs.Capacity.{entries, exits}
 use Rattle.traffic_laws.specs.Storage.{EntriesFollowTheWave, IsBounded, StorageHolds}
-use Rattle.traffic_laws.proofs.Counts.{count-append, count-cons, count-less, count-none, one_if}
+use Rattle.traffic_laws.proofs.Counts.{count-alike, count-append, count-less, count-none}
 use Rattle.traffic_laws.proofs.Flows.{all-now, enters-room, entered-most, entries-at, leave-next}
 
 module _ (p : Plan) (sound : IsSound p) (l : ℕ) (h : l < length p.net.links) where
@@ -114,20 +114,17 @@ module _ (p : Plan) (sound : IsSound p) (l : ℕ) (h : l < length p.net.links) w
       first false d e = e
 
   entries-all : (t : ℕ) → entered_by (trace_after p t) l ≤ entries (trace_after p t) l 0 t
-  entries-all t = by (trace_after p t) (steps_are_below p t)
+  entries-all t =
+      let all = count-alike (leads_to l)
+      (λ m. leads_to l m && (nat_le 0 m.step && nat_lt m.step t)) (trace_after p t)
+      (All-weaker (λ m. m.step < t)
+      (λ m. leads_to l m ≡ (leads_to l m && (nat_le 0 m.step && nat_lt m.step t)))
+      (λ m h. passes (leads_to l m) m.step h) (trace_after p t) (steps_are_below p t)) in
+      omega (arith, all)
     where
       passes : (c : Bool) (k : ℕ) → k < t → c ≡ (c && (nat_le 0 k && nat_lt k t))
       passes true k e = grind (arith, nat_tests)
       passes false k e = refl
-
-      by : (T : List Move) → All (λ m. m.step < t) T → entered_by T l ≤ entries T l 0 t
-      by [] all = omega arith
-      by (m ∷ T) all =
-          let a = count-cons (leads_to l) m T in
-          let b = count-cons (λ x. leads_to l x && (nat_le 0 x.step && nat_lt x.step t)) m T in
-          let here = ap one_if (passes (leads_to l m) m.step (All-head (λ x. x.step < t) m T all)) in
-          let rest = by T (All-tail (λ x. x.step < t) m T all) in
-          omega (arith, a, b, here, rest)
 
   -- moves of a later step are none of those before
   entries-past : (t u : ℕ) → u ≤ t
