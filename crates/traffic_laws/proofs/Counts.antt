@@ -1,6 +1,7 @@
 -- Counts of moves.
 use Rattle.std.specs.Prelude.{count_by, filter, All, nat_eq}
-use Rattle.std.proofs.Common.{◌≡◌, ℕ, zero, suc, ◌+◌, ◌<◌, ◌≤◌, Bool, true, false, cond, ◌&&◌, List, [], ◌∷◌, ◌++◌, refl, ap, ◌∙◌, sym, subst, arith, ◌⊎◌, inl, inr, ◌≢◌}
+use Rattle.std.proofs.Common.{◌≡◌, ℕ, zero, suc, ◌+◌, ◌<◌, ◌≤◌, Bool, true, false, cond, ◌&&◌, List}
+use Rattle.std.proofs.Common.{[], ◌∷◌, ◌++◌, refl, ap, ◌∙◌, sym, subst, arith, ◌⊎◌, inl, inr, ◌≢◌}
 use Rattle.std.proofs.lemmas.Bool.Decides.{eqb_tells, nat_tests}
 use Rattle.std.proofs.lemmas.List.Elements.{All-append, All-head, All-nil, All-tail, All-weaker}
 use Rattle.std.proofs.lemmas.List.Sums.{sum_by-append, sum_by-cons}
@@ -89,7 +90,8 @@ count-filter f g (x ∷ xs) = by (g x) refl (count-filter f g xs)
         omega (arith, a, c, here, ih)
     by false r ih =
         let c = count-cons (λ y. f y && g y) x xs in
-        let here : one_if (f x && g x) ≡ 0 = ap one_if (ap (λ d. f x && d) (sym r) ∙ and_no (f x)) in
+        let here : one_if (f x && g x) ≡ 0 =
+        ap one_if (ap (λ d. f x && d) (sym r) ∙ and_no (f x)) in
         omega (arith, c, here, ih)
 
 -- a list that grows step by step, of each step by moves of that step that pass no oftener than its
@@ -103,7 +105,8 @@ module _ (f : Move → Bool) (X Y : ℕ → List Move) (most : ℕ → ℕ)
   earlier (suc t) =
       subst (λ L. All (λ m. m.step < suc t) L) (sym (next t))
       (All-append (λ m. m.step < suc t) (X t) (Y t)
-      (All-weaker (λ m. m.step < t) (λ m. m.step < suc t) (λ m h. omega (arith, h)) (X t) (earlier t))
+      (All-weaker (λ m. m.step < t) (λ m. m.step < suc t) (λ m h. omega (arith, h)) (X t)
+      (earlier t))
       (All-weaker (λ m. m.step ≡ t) (λ m. m.step < suc t) (λ m h. omega (arith, h)) (Y t) (now t)))
 
   pub in-step : (t s : ℕ) → count_by (λ m. f m && nat_eq m.step s) (X t) ≤ most s
@@ -119,7 +122,8 @@ module _ (f : Move → Bool) (X Y : ℕ → List Move) (most : ℕ → ℕ)
       passes false c h = h
 
       both : count_by (λ m. f m && nat_eq m.step s) (X (suc t))
-          ≡ count_by (λ m. f m && nat_eq m.step s) (X t) + count_by (λ m. f m && nat_eq m.step s) (Y t)
+          ≡ count_by (λ m. f m && nat_eq m.step s) (X t)
+          + count_by (λ m. f m && nat_eq m.step s) (Y t)
       both = ap (λ L. count_by (λ m. f m && nat_eq m.step s) L) (next t)
           ∙ count-append (λ m. f m && nat_eq m.step s) (X t) (Y t)
 
@@ -130,10 +134,12 @@ module _ (f : Move → Bool) (X Y : ℕ → List Move) (most : ℕ → ℕ)
           let before : count_by (λ m. f m && nat_eq m.step s) (X t) ≡ 0 =
           count-none (λ m. f m && nat_eq m.step s) (X t)
           (All-weaker (λ m. m.step < t) (λ m. (f m && nat_eq m.step s) ≡ false)
-          (λ m h. other_step (f m) (nat_eq m.step s) (grind (arith, nat_tests))) (X t) (earlier t)) in
+          (λ m h. other_step (f m) (nat_eq m.step s) (grind (arith, nat_tests))) (X t)
+          (earlier t)) in
           let less = count-less (λ m. f m && nat_eq m.step s) f
           (λ m h. passes (f m) (nat_eq m.step s) h) (Y t) in
-          let these : count_by f (Y t) ≤ most s = subst (λ k. count_by f (Y t) ≤ most k) same (bound t) in
+          let these : count_by f (Y t) ≤ most s =
+          subst (λ k. count_by f (Y t) ≤ most k) same (bound t) in
           omega (arith, both, before, less, these)
       by (inr (e, other)) ih =
           let after : count_by (λ m. f m && nat_eq m.step s) (Y t) ≡ 0 =

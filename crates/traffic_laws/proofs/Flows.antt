@@ -1,8 +1,11 @@
 -- The moves of a step stay within the allowances of the step.
 use Rattle.std.specs.Option.{is_none}
 use Rattle.std.specs.Prelude.{count_by, filter, All, is_some, nat_eq, nat_lt}
-use Rattle.std.proofs.Common.{◌≡◌, ℕ, suc, ◌+◌, ◌<◌, ◌≤◌, length, Bool, true, false, ◌&&◌, ◌||◌, List, [], ◌∷◌, ◌++◌, refl, ap, ◌∙◌, sym, subst, arith, Option, Some, None, ◌⊎◌, inl, inr}
-use Rattle.std.proofs.lemmas.Bool.{and_parts, cases_Bool, eqb-true, false_from_ne_true, not-true, or_parts}
+use Rattle.std.proofs.Common.{◌≡◌, ℕ, suc, ◌+◌, ◌<◌, ◌≤◌, length, Bool, true, false, ◌&&◌, ◌||◌}
+use Rattle.std.proofs.Common.{List, [], ◌∷◌, ◌++◌, refl, ap, ◌∙◌, sym, subst, arith, Option, Some}
+use Rattle.std.proofs.Common.{None, ◌⊎◌, inl, inr}
+use Rattle.std.proofs.lemmas.Bool.{and_parts, cases_Bool, eqb-true, false_from_ne_true, not-true}
+use Rattle.std.proofs.lemmas.Bool.{or_parts}
 use Rattle.std.proofs.lemmas.Bool.Decides.{nat_tests}
 use Rattle.std.proofs.lemmas.List.Sums.{length-filter}
 use Rattle.std.proofs.lemmas.List.Elements.{All-filter, All-nil, All-push, All-weaker}
@@ -12,11 +15,14 @@ use Rattle.net_core.specs.declared.rows.Turn.{Turn}
 use Rattle.dta_model.specs.Allowance.{allowance}
 use Rattle.dta_model.specs.Leavings.{leaving_moves}
 use Rattle.dta_model.specs.Loading.{after_step, step_moves, trace_after}
-use Rattle.dta_model.specs.NodeMoves.{entered, left, may_enter, may_move, may_turn, next_move, node_moves, turn_test, turned, waits_for}
-use Rattle.dta_model.specs.Plans.{all_nodes, has_pass, link_allowance, link_at, link_rates, turn, turn_rates}
+use Rattle.dta_model.specs.NodeMoves.{entered, left, may_enter, may_move, may_turn, next_move}
+use Rattle.dta_model.specs.NodeMoves.{node_moves, turn_test, turned, waits_for}
+use Rattle.dta_model.specs.Plans.{all_nodes, has_pass, link_allowance, link_at, link_rates, turn}
+use Rattle.dta_model.specs.Plans.{turn_rates}
 use Rattle.dta_model.specs.Room.{has_room, leavings, room}
 use Rattle.dta_model.specs.Sound.{IsSound}
-use Rattle.dta_model.specs.Trace.{Arrived, Move, Onto, Target, has_moved, is_link, last_move, leads_there, leads_to, stands_on}
+use Rattle.dta_model.specs.Trace.{Arrived, Move, Onto, Target, has_moved, is_link, last_move}
+use Rattle.dta_model.specs.Trace.{leads_there, leads_to, stands_on}
 use Rattle.dta_model.specs.declared.plan.Plan.{Plan}
 use Rattle.dta_model.proofs.Conserved.{one_link}
 use Rattle.dta_model.proofs.Flat.{filter-flat, flat_one}
@@ -145,7 +151,8 @@ module _ (p : Plan) (n t : ℕ) (T0 : List Move) where
     leaves_as_head M l m now (head k into h) e =
         let still = new_one M k m now h in
         let x = in-queue k (T0 ++ M) 0 m.vehicle h.first in
-        let before : last_move m.vehicle T0 ≡ Some x.0 = sym (last_move-still m.vehicle M T0 still) ∙ x.1 in
+        let before : last_move m.vehicle T0 ≡ Some x.0 =
+        sym (last_move-still m.vehicle M T0 still) ∙ x.1 in
         let here : is_link l (x.0).target ≡ true = subst (λ o. leads_there l o ≡ true) before e in
         subst (λ j. OfHead p n t T0 M j m) (one_link k l (x.0).target x.2 here) h
     leaves_as_head M l m now (waiting b out h) e =
@@ -273,12 +280,14 @@ entries_are_within p sound t l h =
     (λ k. all-now p sound k (trace_after p k)) most t s)
   where
     most : (k : ℕ)
-        → count_by (leads_to l) (step_moves p k (trace_after p k) (all_nodes p)) ≤ link_allowance p l k
+        → count_by (leads_to l) (step_moves p k (trace_after p k) (all_nodes p))
+        ≤ link_allowance p l k
     most k =
         let n = (link_at p l).from.0 in
         let T = trace_after p k in
         let at = entries-at p sound k T l h in
-        let few = entered-most p n k T l (link_allowance p l k) (λ M e. enters-below p n k T M l e) in
+        let few = entered-most p n k T l (link_allowance p l k)
+        (λ M e. enters-below p n k T M l e) in
         omega (arith, at, few)
 
 -- those who leave a link in a step
@@ -291,7 +300,8 @@ module _ (p : Plan) (sound : IsSound p) (l : ℕ) (h : l < length p.net.links) w
       (one-step p (steady_of p sound) n k T).now
 
   pub leave-next : (k : ℕ)
-      → leavings l [] (trace_after p (suc k)) ≡ leavings l [] (trace_after p k) ++ leaving_moves p k l
+      → leavings l [] (trace_after p (suc k))
+      ≡ leavings l [] (trace_after p k) ++ leaving_moves p k l
   leave-next k = (links_are_left_at_their_ends p sound k l h).step
 
   leave-none : leavings l [] (trace_after p 0) ≡ []
@@ -359,8 +369,10 @@ turns_are_within p sound t l b h =
             let n = (link_at p l).to.0 in
             let T = trace_after p k in
             let less = count-less (λ m. leads_to b m && is_some (rate_in rates m.step)) (leads_to b)
-            (λ m f. first (leads_to b m) (is_some (rate_in rates m.step)) f) (leaving_moves p k l) in
-            let at = count-filter (leads_to b) (λ m. stands_on l T m.vehicle) (node_moves p n k T) in
+            (λ m f. first (leads_to b m) (is_some (rate_in rates m.step)) f)
+            (leaving_moves p k l) in
+            let at = count-filter (leads_to b) (λ m. stands_on l T m.vehicle)
+            (node_moves p n k T) in
             let few : count_by (λ m. leads_to b m && stands_on l T m.vehicle) (node_moves p n k T)
             ≤ allowance rates p.delta k = turned-most p n k T (steady_of p sound) l b rate e in
             omega (arith, less, at, few)

@@ -1,7 +1,9 @@
 -- What passes in steps, by what each step allows.
 use Rattle.std.specs.List.{range_with_len}
 use Rattle.std.specs.Prelude.{All, count_by, nat_eq, nat_le, nat_lt, sum_by}
-use Rattle.std.proofs.Common.{◌≡◌, ℕ, zero, suc, ◌+◌, ◌-◌, ◌*◌, ◌/◌, ◌<◌, ◌≤◌, Bool, true, false, ◌&&◌, List, [], ◌∷◌, ◌++◌, refl, ap, ◌∙◌, arith, add-one, Some, ◌⊎◌, inl, inr}
+use Rattle.std.proofs.Common.{◌≡◌, ℕ, zero, suc, ◌+◌, ◌-◌, ◌*◌, ◌/◌, ◌<◌, ◌≤◌, Bool, true, false}
+use Rattle.std.proofs.Common.{◌&&◌, List, [], ◌∷◌, ◌++◌, refl, ap, ◌∙◌, arith, add-one, Some, ◌⊎◌}
+use Rattle.std.proofs.Common.{inl, inr}
 use Rattle.std.proofs.lemmas.Bool.{cases_lt}
 use Rattle.std.proofs.lemmas.Bool.Decides.{nat_tests}
 use Rattle.std.proofs.lemmas.List.Sums.{sum_by-cons}
@@ -9,9 +11,10 @@ use Rattle.net_core.specs.Rates.{rate_in}
 use Rattle.net_core.specs.declared.rates.Rates.{Rates}
 use Rattle.dta_model.specs.Allowance.{allowance, credited, parts}
 use Rattle.dta_model.specs.Trace.{Move}
-use Rattle.traffic_laws.specs.Capacity.{IsWithin, given, made}
+use Rattle.traffic_laws.specs.Capacity.{IsWithin, given, made_within}
 use Rattle.std.proofs.lemmas.List.Elements.{All-weaker}
-use Rattle.traffic_laws.proofs.Counts.{count-alike, count-append, count-none, count-two, count-less, one_if}
+use Rattle.traffic_laws.proofs.Counts.{count-alike, count-append, count-none, count-two, count-less}
+use Rattle.traffic_laws.proofs.Counts.{one_if}
 
 next_part : (rates : Rates) (delta t : ℕ)
     → parts rates delta (suc t) ≡ parts rates delta t + credited (rate_in rates t) * delta
@@ -47,15 +50,18 @@ allowance-fills : (rates : Rates) (delta s : ℕ)
 unfolding allowance
 allowance-fills rates delta s =
     let one = next_part rates delta s in
-    rw (add-one s) (filled (parts rates delta s) (step_parts rates delta s) (parts rates delta (suc s)) one)
+    rw (add-one s)
+    (filled (parts rates delta s) (step_parts rates delta s) (parts rates delta (suc s)) one)
   where
-    filled : (a b c : ℕ) → c ≡ a + b → (c / 3600000000 - a / 3600000000) + a / 3600000000 ≡ c / 3600000000
+    filled : (a b c : ℕ) → c ≡ a + b
+        → (c / 3600000000 - a / 3600000000) + a / 3600000000 ≡ c / 3600000000
     filled a b c e = omega (arith, e)
 
 -- moves that pass a test, of which each step has no more than its allowance
 module _ (rates : Rates) (delta : ℕ) (test : Move → Bool) (moves : List Move)
-    (one : (s : ℕ) → count_by (λ m. test m && nat_eq m.step s) moves ≤ allowance rates delta s) where
-  none-made : (s u : ℕ) → u ≤ s → made test moves s u ≤ 0
+    (one : (s : ℕ)
+    → count_by (λ m. test m && nat_eq m.step s) moves ≤ allowance rates delta s) where
+  none-made : (s u : ℕ) → u ≤ s → made_within test moves s u ≤ 0
   none-made s u h =
       let less = count-less (λ m. test m && (nat_le s m.step && nat_lt m.step u)) (λ m. false)
       (λ m e. outside (test m) m.step e) moves in
@@ -69,8 +75,8 @@ module _ (rates : Rates) (delta : ℕ) (test : Move → Bool) (moves : List Move
       nothing (m ∷ L) = nothing L
 
   one-more : (s u : ℕ) → s ≤ u
-      → made test moves s (suc u)
-      ≡ made test moves s u + count_by (λ m. test m && nat_eq m.step u) moves
+      → made_within test moves s (suc u)
+      ≡ made_within test moves s u + count_by (λ m. test m && nat_eq m.step u) moves
   one-more s u h =
       count-two (λ m. test m && (nat_le s m.step && nat_lt m.step (suc u)))
       (λ m. test m && (nat_le s m.step && nat_lt m.step u)) (λ m. test m && nat_eq m.step u)
@@ -83,7 +89,7 @@ module _ (rates : Rates) (delta : ℕ) (test : Move → Bool) (moves : List Move
       split false k = refl
 
   filled : (s n : ℕ)
-      → made test moves s (s + n) + parts rates delta s / 3600000000
+      → made_within test moves s (s + n) + parts rates delta s / 3600000000
       ≤ parts rates delta (s + n) / 3600000000
   filled s zero =
       let e : s + 0 ≡ s = omega arith in
@@ -98,14 +104,14 @@ module _ (rates : Rates) (delta : ℕ) (test : Move → Bool) (moves : List Move
       rw e (omega (arith, so_far, more, now, fills))
 
   over-steps : (s n : ℕ)
-      → made test moves s (s + n) * 3600000000
+      → made_within test moves s (s + n) * 3600000000
       < sum_by (step_parts rates delta) (range_with_len s n) + 3600000000
   over-steps s n =
       let most = filled s n in
       let sum = parts-more rates delta s n in
       omega (arith, most, sum)
 
-  from-start : (u : ℕ) → made test moves 0 u * 3600000000 ≤ given rates delta 0 u
+  from-start : (u : ℕ) → made_within test moves 0 u * 3600000000 ≤ given rates delta 0 u
   from-start u =
       let e : 0 + u ≡ u = omega arith in
       let f : u - 0 ≡ u = omega arith in
@@ -116,10 +122,12 @@ module _ (rates : Rates) (delta : ℕ) (test : Move → Bool) (moves : List Move
       let j = rw e at sum in
       rw f (omega (arith, k, j, none))
 
-  any-steps : (s u : ℕ) → made test moves s u * 3600000000 < given rates delta s u + 3600000000
+  any-steps : (s u : ℕ)
+      → made_within test moves s u * 3600000000 < given rates delta s u + 3600000000
   any-steps s u = by (cases_lt s u)
     where
-      by : (s < u) ⊎ (u ≤ s) → made test moves s u * 3600000000 < given rates delta s u + 3600000000
+      by : (s < u) ⊎ (u ≤ s)
+          → made_within test moves s u * 3600000000 < given rates delta s u + 3600000000
       by (inl h) =
           let e : s + (u - s) ≡ u = omega (arith, h) in
           let most = over-steps s (u - s) in
@@ -138,7 +146,7 @@ module _ (rates : Rates) (delta : ℕ) (test : Move → Bool) (moves : List Move
       ap (λ o. credited o * delta) (h s (omega arith) (omega arith)) in
       omega (arith, sum, rest, here)
 
-  pub are-within : IsWithin rates delta (made test moves)
+  pub are-within : IsWithin rates delta (made_within test moves)
   are-within = record {
     step = λ s. by_step s;
     start = from-start;
@@ -146,7 +154,7 @@ module _ (rates : Rates) (delta : ℕ) (test : Move → Bool) (moves : List Move
     steady = λ s u rate h same. by_rate s u rate h same;
   }
     where
-      by_step : (s : ℕ) → made test moves s (suc s) ≤ allowance rates delta s
+      by_step : (s : ℕ) → made_within test moves s (suc s) ≤ allowance rates delta s
       by_step s =
           let none = none-made s s (omega arith) in
           let more = one-more s s (omega arith) in
@@ -154,7 +162,7 @@ module _ (rates : Rates) (delta : ℕ) (test : Move → Bool) (moves : List Move
           omega (arith, none, more, now)
 
       by_rate : (s u rate : ℕ) → s ≤ u → ((k : ℕ) → s ≤ k → k < u → rate_in rates k ≡ Some rate)
-          → made test moves s u * 3600000000 < (u - s) * (rate * delta) + 3600000000
+          → made_within test moves s u * 3600000000 < (u - s) * (rate * delta) + 3600000000
       by_rate s u rate h same =
           let e : s + (u - s) ≡ u = omega (arith, h) in
           let most = any-steps s u in
@@ -163,7 +171,7 @@ module _ (rates : Rates) (delta : ℕ) (test : Move → Bool) (moves : List Move
 
 -- the moves of step t among those up to it
 pub made-now : (test : Move → Bool) (X Y : List Move) (t : ℕ) → All (λ m. m.step < t) X
-    → All (λ m. m.step ≡ t) Y → made test (X ++ Y) t (suc t) ≡ count_by test Y
+    → All (λ m. m.step ≡ t) Y → made_within test (X ++ Y) t (suc t) ≡ count_by test Y
 made-now test X Y t early now =
     let both = count-append (λ m. test m && (nat_le t m.step && nat_lt m.step (suc t))) X Y in
     let none = count-none (λ m. test m && (nat_le t m.step && nat_lt m.step (suc t))) X

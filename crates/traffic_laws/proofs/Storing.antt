@@ -1,6 +1,7 @@
 -- What links hold, by the room of each step.
 use Rattle.std.specs.Prelude.{count_by, nat_le, nat_lt}
-use Rattle.std.proofs.Common.{◌≡◌, ℕ, zero, suc, ◌+◌, ◌-◌, ◌<◌, ◌≤◌, length, Bool, true, false, ◌&&◌, [], refl, ap, arith, Some, ◌⊎◌, inl, inr}
+use Rattle.std.proofs.Common.{◌≡◌, ℕ, zero, suc, ◌+◌, ◌-◌, ◌<◌, ◌≤◌, length, Bool, true, false}
+use Rattle.std.proofs.Common.{◌&&◌, [], refl, ap, arith, Some, ◌⊎◌, inl, inr}
 use Rattle.std.proofs.lemmas.Bool.{cases_lt}
 use Rattle.std.proofs.lemmas.Bool.Decides.{nat_tests}
 use Rattle.std.proofs.lemmas.List.{length-append}
@@ -16,7 +17,7 @@ use Rattle.dta_model.specs.declared.plan.Plan.{Plan}
 use Rattle.dta_model.specs.declared.queue.Queue.{Queue}
 use Rattle.dta_model.specs.declared.queue.Queue.TheVariants as queue
 use Rattle.dta_model.proofs.Left.{entries_add_up, steps_are_below}
-use Rattle.traffic_laws.specs.Capacity.{entries, exits}
+use Rattle.traffic_laws.specs.Capacity.{entered_within, left_within}
 use Rattle.traffic_laws.specs.Storage.{EntriesFollowTheWave, IsBounded, StorageHolds}
 use Rattle.traffic_laws.proofs.Counts.{count-alike, count-append, count-less, count-none}
 use Rattle.traffic_laws.proofs.Flows.{all-now, enters-room, entered-most, entries-at, leave-next}
@@ -81,7 +82,7 @@ module _ (p : Plan) (sound : IsSound p) (l : ℕ) (h : l < length p.net.links) w
 
   -- exits before a step are no fewer before a later one, and after one more step
   exits-later : (t a b : ℕ) → a ≤ b
-      → exits (trace_after p t) l 0 a ≤ left_below b (trace_after p t) l
+      → left_within (trace_after p t) l 0 a ≤ left_below b (trace_after p t) l
   exits-later t a b less =
       count-less (λ m. nat_le 0 m.step && nat_lt m.step a) (λ m. nat_lt m.step b)
       (λ m e. earlier m.step e) (leavings l [] (trace_after p t))
@@ -90,7 +91,7 @@ module _ (p : Plan) (sound : IsSound p) (l : ℕ) (h : l < length p.net.links) w
       earlier k e = grind (arith, nat_tests)
 
   exits-next : (t a b : ℕ) → a ≤ b
-      → left_below a (trace_after p t) l ≤ exits (trace_after p (suc t)) l 0 b
+      → left_below a (trace_after p t) l ≤ left_within (trace_after p (suc t)) l 0 b
   exits-next t a b less =
       let more = count-less (λ m. nat_lt m.step a) (λ m. nat_le 0 m.step && nat_lt m.step b)
       (λ m e. later m.step e) (leavings l [] (trace_after p t)) in
@@ -104,7 +105,7 @@ module _ (p : Plan) (sound : IsSound p) (l : ℕ) (h : l < length p.net.links) w
       later k e = grind (arith, nat_tests)
 
   -- entries before a step are some of all, and after that many steps they are all
-  entries-some : (t u : ℕ) → entries (trace_after p t) l 0 u ≤ entered_by (trace_after p t) l
+  entries-some : (t u : ℕ) → entered_within (trace_after p t) l 0 u ≤ entered_by (trace_after p t) l
   entries-some t u =
       count-less (λ m. leads_to l m && (nat_le 0 m.step && nat_lt m.step u)) (leads_to l)
       (λ m e. first (leads_to l m) (nat_le 0 m.step && nat_lt m.step u) e) (trace_after p t)
@@ -113,7 +114,7 @@ module _ (p : Plan) (sound : IsSound p) (l : ℕ) (h : l < length p.net.links) w
       first true d e = refl
       first false d e = e
 
-  entries-all : (t : ℕ) → entered_by (trace_after p t) l ≤ entries (trace_after p t) l 0 t
+  entries-all : (t : ℕ) → entered_by (trace_after p t) l ≤ entered_within (trace_after p t) l 0 t
   entries-all t =
       let all = count-alike (leads_to l)
       (λ m. leads_to l m && (nat_le 0 m.step && nat_lt m.step t)) (trace_after p t)
@@ -128,7 +129,7 @@ module _ (p : Plan) (sound : IsSound p) (l : ℕ) (h : l < length p.net.links) w
 
   -- moves of a later step are none of those before
   entries-past : (t u : ℕ) → u ≤ t
-      → entries (trace_after p (suc t)) l 0 u ≡ entries (trace_after p t) l 0 u
+      → entered_within (trace_after p (suc t)) l 0 u ≡ entered_within (trace_after p t) l 0 u
   unfolding trace_after after_step
   entries-past t u past =
       let M = step_moves p t (trace_after p t) (all_nodes p) in
@@ -144,21 +145,21 @@ module _ (p : Plan) (sound : IsSound p) (l : ℕ) (h : l < length p.net.links) w
       outside true k e = grind (arith, nat_tests)
       outside false k e = refl
 
-  nobody_came : (u : ℕ) → entries (trace_after p 0) l 0 u ≡ 0
+  nobody_came : (u : ℕ) → entered_within (trace_after p 0) l 0 u ≡ 0
   unfolding trace_after
   nobody_came u = refl
 
   wave_holds : (wave : ℕ) → p.queue ≡ queue.Newell wave → (t u : ℕ)
-      → entries (trace_after p t) l 0 u
-      ≤ exits (trace_after p t) l 0 (u - wave_of p l) + (link_at p l).storage
+      → entered_within (trace_after p t) l 0 u
+      ≤ left_within (trace_after p t) l 0 (u - wave_of p l) + (link_at p l).storage
   wave_holds wave e zero u = let none = nobody_came u in omega (arith, none)
   wave_holds wave e (suc t) u = by (cases_lt t u) (wave_holds wave e t)
     where
       by : (t < u) ⊎ (u ≤ t)
-          → ((k : ℕ) → entries (trace_after p t) l 0 k
-          ≤ exits (trace_after p t) l 0 (k - wave_of p l) + (link_at p l).storage)
-          → entries (trace_after p (suc t)) l 0 u
-          ≤ exits (trace_after p (suc t)) l 0 (u - wave_of p l) + (link_at p l).storage
+          → ((k : ℕ) → entered_within (trace_after p t) l 0 k
+          ≤ left_within (trace_after p t) l 0 (k - wave_of p l) + (link_at p l).storage)
+          → entered_within (trace_after p (suc t)) l 0 u
+          ≤ left_within (trace_after p (suc t)) l 0 (u - wave_of p l) + (link_at p l).storage
       by (inl now) ih =
           let before = ih t in
           let all = entries-all t in

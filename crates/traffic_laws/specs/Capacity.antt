@@ -1,8 +1,8 @@
 -- Flow within capacity: how many vehicles enter a link, leave it and take a turn, beside what the
 -- rate gives in that time.
 use Rattle.std.specs.List.{range_with_len}
-use Rattle.std.specs.Prelude.{ℕ, suc, ◌≡◌, ◌+◌, ◌-◌, ◌*◌, ◌<◌, ◌≤◌, Bool, true, ◌&&◌, nat_le, nat_lt}
-use Rattle.std.specs.Prelude.{List, [], length, count_by, sum_by, Some, is_some}
+use Rattle.std.specs.Prelude.{ℕ, suc, ◌≡◌, ◌+◌, ◌-◌, ◌*◌, ◌<◌, ◌≤◌, Bool, true, ◌&&◌, nat_le}
+use Rattle.std.specs.Prelude.{nat_lt, List, [], length, count_by, sum_by, Some, is_some}
 use Rattle.net_core.specs.Rates.{rate_in}
 use Rattle.net_core.specs.declared.rates.Rates.{Rates}
 use Rattle.dta_model.specs.Allowance.{allowance, credited}
@@ -15,21 +15,21 @@ use Rattle.dta_model.specs.declared.credit.TheConstants.{PARTS_OF_A_VEHICLE}
 use Rattle.dta_model.specs.declared.plan.Plan.{Plan}
 
 -- how many moves of a list pass a test and are made in the steps from s to below u
-abbrev pub made : (Move → Bool) → List Move → ℕ → ℕ → ℕ
-made test moves s u = count_by (λ m. test m && (nat_le s m.step && nat_lt m.step u)) moves
+abbrev pub made_within : (Move → Bool) → List Move → ℕ → ℕ → ℕ
+made_within test moves s u = count_by (λ m. test m && (nat_le s m.step && nat_lt m.step u)) moves
 
 -- how many vehicles enter link l in these steps
-abbrev pub entries : List Move → ℕ → ℕ → ℕ → ℕ
-entries T l s u = made (leads_to l) T s u
+abbrev pub entered_within : List Move → ℕ → ℕ → ℕ → ℕ
+entered_within T l s u = made_within (leads_to l) T s u
 
 -- how many leave it
-abbrev pub exits : List Move → ℕ → ℕ → ℕ → ℕ
-exits T l s u = made (λ m. true) (leavings l [] T) s u
+abbrev pub left_within : List Move → ℕ → ℕ → ℕ → ℕ
+left_within T l s u = made_within (λ m. true) (leavings l [] T) s u
 
 -- how many turn from link l to link b, in those of these steps in which the turn has a limit
-abbrev pub limited_turns : Rates → List Move → ℕ → ℕ → ℕ → ℕ → ℕ
-limited_turns rates T l b s u =
-    made (λ m. leads_to b m && is_some (rate_in rates m.step)) (leavings l [] T) s u
+abbrev pub turned_within : Rates → List Move → ℕ → ℕ → ℕ → ℕ → ℕ
+turned_within rates T l b s u =
+    made_within (λ m. leads_to b m && is_some (rate_in rates m.step)) (leavings l [] T) s u
 
 -- rate times time: what rates give in the steps from s to below u, each step with its own rate, in
 -- parts of a vehicle
@@ -55,15 +55,15 @@ pub record IsWithin (rates : Rates) (delta : ℕ) (count : ℕ → ℕ → ℕ) 
 abbrev pub EntriesAreWithin : Type 0
 EntriesAreWithin =
     (p : Plan) → IsSound p → (t l : ℕ) → l < length p.net.links
-    → IsWithin (link_rates p l) p.delta (entries (trace_after p t) l)
+    → IsWithin (link_rates p l) p.delta (entered_within (trace_after p t) l)
 
 abbrev pub LeavingsAreWithin : Type 0
 LeavingsAreWithin =
     (p : Plan) → IsSound p → (t l : ℕ) → l < length p.net.links
-    → IsWithin (link_rates p l) p.delta (exits (trace_after p t) l)
+    → IsWithin (link_rates p l) p.delta (left_within (trace_after p t) l)
 
 -- and on each turn
 abbrev pub TurnsAreWithin : Type 0
 TurnsAreWithin =
     (p : Plan) → IsSound p → (t l b : ℕ) → l < length p.net.links
-    → IsWithin (turn_rates p l b) p.delta (limited_turns (turn_rates p l b) (trace_after p t) l b)
+    → IsWithin (turn_rates p l b) p.delta (turned_within (turn_rates p l b) (trace_after p t) l b)

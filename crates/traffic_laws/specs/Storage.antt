@@ -8,7 +8,7 @@ use Rattle.dta_model.specs.Trace.{queue_of}
 use Rattle.dta_model.specs.declared.plan.Plan.{Plan}
 use Rattle.dta_model.specs.declared.queue.Queue.{Queue}
 use Rattle.dta_model.specs.declared.queue.Queue.TheVariants as queue
-use Rattle.traffic_laws.specs.Capacity.{entries, exits}
+use Rattle.traffic_laws.specs.Capacity.{entered_within, left_within}
 
 -- the kinds of queue that bound how many vehicles are on a link
 abbrev pub IsBounded : Queue → Type 0
@@ -28,5 +28,5 @@ abbrev pub EntriesFollowTheWave : Type 0
 EntriesFollowTheWave =
     (p : Plan) → IsSound p → (wave : ℕ) → p.queue ≡ queue.Newell wave
     → (t l step : ℕ) → l < length p.net.links
-    → entries (trace_after p t) l 0 step
-    ≤ exits (trace_after p t) l 0 (step - wave_of p l) + (link_at p l).storage
+    → entered_within (trace_after p t) l 0 step
+    ≤ left_within (trace_after p t) l 0 (step - wave_of p l) + (link_at p l).storage

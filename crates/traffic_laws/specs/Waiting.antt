@@ -5,32 +5,34 @@ use Rattle.net_core.specs.Rates.{rate_in}
 use Rattle.net_core.specs.declared.rows.Turn.{Turn}
 use Rattle.dta_model.specs.Allowance.{allowance}
 use Rattle.dta_model.specs.Loading.{trace_after}
-use Rattle.dta_model.specs.Plans.{departure_of, first_link, link_allowance, link_at, turn, turn_rates}
+use Rattle.dta_model.specs.Plans.{departure_of, first_link, link_allowance, link_at, turn}
+use Rattle.dta_model.specs.Plans.{turn_rates}
 use Rattle.dta_model.specs.Room.{room}
 use Rattle.dta_model.specs.Sound.{IsSound}
 use Rattle.dta_model.specs.Trace.{Move, Target, Onto, Arrived, has_moved, last_move, next_target}
 use Rattle.dta_model.specs.Trace.{queue_of}
 use Rattle.dta_model.specs.declared.plan.Plan.{Plan}
-use Rattle.traffic_laws.specs.Capacity.{entries, exits, limited_turns}
+use Rattle.traffic_laws.specs.Capacity.{entered_within, left_within, turned_within}
 
 -- link b lets nobody more in during step t: as many entered it in the step as its allowance, or as
 -- its room
 pub data IsFull (p : Plan) (t b : ℕ) : Type 0 where
-  by_allowance : entries (trace_after p (suc t)) b t (suc t) ≡ link_allowance p b t → IsFull p t b
-  by_room : room p b t (trace_after p t) ≡ Some (entries (trace_after p (suc t)) b t (suc t))
+  by_allowance : entered_within (trace_after p (suc t)) b t (suc t) ≡ link_allowance p b t
+      → IsFull p t b
+  by_room : room p b t (trace_after p t) ≡ Some (entered_within (trace_after p (suc t)) b t (suc t))
       → IsFull p t b
 
 -- the turn from link l to link b has a limit in step t, and was taken as often as its allowance
 pub record IsTurnUsedUp (p : Plan) (t l b : ℕ) : Type 0 where
   pub limited : IsSome (rate_in (turn_rates p l b) t)
   pub used :
-      limited_turns (turn_rates p l b) (trace_after p (suc t)) l b t (suc t)
+      turned_within (turn_rates p l b) (trace_after p (suc t)) l b t (suc t)
       ≡ allowance (turn_rates p l b) p.delta t
 
 -- what holds the first vehicle on link l in step t, x being where it goes next
 pub data IsHeld (p : Plan) (t l : ℕ) (x : Target) : Type 0 where
   -- as many left the link as its allowance
-  by_link : exits (trace_after p (suc t)) l t (suc t) ≡ link_allowance p l t → IsHeld p t l x
+  by_link : left_within (trace_after p (suc t)) l t (suc t) ≡ link_allowance p l t → IsHeld p t l x
   by_turn : (b : ℕ) → x ≡ Onto b → IsTurnUsedUp p t l b → IsHeld p t l x
   by_next : (b : ℕ) → x ≡ Onto b → IsFull p t b → IsHeld p t l x
 
