@@ -51,8 +51,9 @@ use Rattle.traffic_laws.specs.Waiting.{HeadsAreHeld, IsDelayed, IsFull, IsHeld, 
 use Rattle.traffic_laws.specs.Waiting.{IsTurnUsedUp, OriginsAreHeld, by_allowance, by_link, by_next}
 use Rattle.traffic_laws.specs.Waiting.{by_room, by_turn, penalty_of, penalty_to}
 use Rattle.traffic_laws.proofs.Counts.{count-alike, count-filter}
-use Rattle.traffic_laws.proofs.Flows.{all-now, enters-below, enters-room, entered-most, entries-at}
-use Rattle.traffic_laws.proofs.Flows.{leave-next, leave-now, left-most, turned-most}
+use Rattle.traffic_laws.proofs.WithinRates.{all-now, enters-below, enters-room, entered-most}
+use Rattle.traffic_laws.proofs.WithinRates.{entries-at}
+use Rattle.traffic_laws.proofs.WithinRates.{leave-next, leave-now, left-most, turned-most}
 use Rattle.traffic_laws.proofs.Passed.{made-now}
 
 -- ---- what a list without a first one tells of each of its links

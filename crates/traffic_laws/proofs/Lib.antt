@@ -1,5 +1,5 @@
 pub mod Counts
 pub mod Passed
-pub mod Flows
+pub mod WithinRates
 pub mod Storing
 pub mod Holding

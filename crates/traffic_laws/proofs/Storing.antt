@@ -20,7 +20,8 @@ use Rattle.dta_model.proofs.Left.{entries_add_up, steps_are_below}
 use Rattle.traffic_laws.specs.Capacity.{entered_within, left_within}
 use Rattle.traffic_laws.specs.Storage.{EntriesFollowTheWave, IsBounded, StorageHolds}
 use Rattle.traffic_laws.proofs.Counts.{count-alike, count-append, count-less, count-none}
-use Rattle.traffic_laws.proofs.Flows.{all-now, enters-room, entered-most, entries-at, leave-next}
+use Rattle.traffic_laws.proofs.WithinRates.{all-now, enters-room, entered-most, entries-at}
+use Rattle.traffic_laws.proofs.WithinRates.{leave-next}
 
 module _ (p : Plan) (sound : IsSound p) (l : ℕ) (h : l < length p.net.links) where
   abbrev came : ℕ → ℕ

@@ -1,4 +1,4 @@
-use Rattle.traffic_laws.proofs.Flows.{leavings_are_within}
+use Rattle.traffic_laws.proofs.WithinRates.{leavings_are_within}
 use Rattle.traffic_laws.proofs.capacity.leavings_stay_within_the_rate.Goals as goal
 
 pub returns : goal.returns

@@ -1,4 +1,4 @@
-use Rattle.traffic_laws.proofs.Flows.{turns_are_within}
+use Rattle.traffic_laws.proofs.WithinRates.{turns_are_within}
 use Rattle.traffic_laws.proofs.capacity.turns_stay_within_the_limit.Goals as goal
 
 pub returns : goal.returns
