@@ -1,3 +1,4 @@
 pub mod Capacity
 pub mod Storage
 pub mod Waiting
+pub mod Examples
