@@ -18,6 +18,8 @@ use Rattle.net_core.specs.declared.rows.LinkNo.{LinkNo}
 use Rattle.net_core.specs.declared.rows.Turn.{Turn}
 use Rattle.dta_model.specs.Allowance.{allowance}
 use Rattle.dta_model.specs.Leavings.{leaving_moves}
+use Rattle.dta_model.specs.LinkTimes.{penalty_to}
+use Rattle.dta_model.specs.TimedWalks.{penalty_steps}
 use Rattle.dta_model.specs.Loading.{after_step, step_moves, trace_after}
 use Rattle.dta_model.specs.NodeMoves.{admission, admit, either, entered, first_of, head_move}
 use Rattle.dta_model.specs.NodeMoves.{in_order, is_first, leave_move, left, may_enter, may_move}
@@ -49,7 +51,7 @@ use Rattle.cell_stages.proofs.Lines.{heads_of_lines}
 use Rattle.traffic_laws.specs.Capacity.{entered_within, left_within, turned_within, made_within}
 use Rattle.traffic_laws.specs.Waiting.{HeadsAreHeld, IsDelayed, IsFull, IsHeld, IsReady}
 use Rattle.traffic_laws.specs.Waiting.{IsTurnUsedUp, OriginsAreHeld, by_allowance, by_link, by_next}
-use Rattle.traffic_laws.specs.Waiting.{by_room, by_turn, penalty_of, penalty_to}
+use Rattle.traffic_laws.specs.Waiting.{by_room, by_turn}
 use Rattle.traffic_laws.proofs.Counts.{count-alike, count-filter}
 use Rattle.traffic_laws.proofs.WithinRates.{all-now, enters-below, enters-room, entered-most}
 use Rattle.traffic_laws.proofs.WithinRates.{entries-at}
@@ -436,7 +438,7 @@ module _ (p : Plan) (sound : IsSound p) (t : ℕ) where
                 → IsHeld p t l (Onto b)
             by_first (inl late) =
                 absurd (too_late (r.entry.step + (link_at p l).free + way.penalty) t
-                (subst (λ o. r.entry.step + (link_at p l).free + penalty_of o ≤ t) w over) late)
+                (subst (λ o. r.entry.step + (link_at p l).free + penalty_steps o ≤ t) w over) late)
             by_first (inr g) = by_turn b refl (turn_used l b table g)
 
             by_both : ((nat_le (r.entry.step + (link_at p l).free + way.penalty) t

@@ -1,15 +1,14 @@
 -- Nobody waits without a reason: who may go by the clock and doesn't is held by an allowance or a
 -- room that is used up.
-use Rattle.std.specs.Prelude.{ℕ, suc, ◌≡◌, ◌+◌, ◌≤◌, false, Option, None, Some, IsSome, slice_get}
+use Rattle.std.specs.Prelude.{ℕ, suc, ◌≡◌, ◌+◌, ◌≤◌, false, Some, IsSome, slice_get}
 use Rattle.net_core.specs.Rates.{rate_in}
-use Rattle.net_core.specs.declared.rows.Turn.{Turn}
 use Rattle.dta_model.specs.Allowance.{allowance}
+use Rattle.dta_model.specs.LinkTimes.{penalty_to}
 use Rattle.dta_model.specs.Loading.{trace_after}
-use Rattle.dta_model.specs.Plans.{departure_of, first_link, link_allowance, link_at, turn}
-use Rattle.dta_model.specs.Plans.{turn_rates}
+use Rattle.dta_model.specs.Plans.{departure_of, first_link, link_allowance, link_at, turn_rates}
 use Rattle.dta_model.specs.Room.{room}
 use Rattle.dta_model.specs.Sound.{IsSound}
-use Rattle.dta_model.specs.Trace.{Move, Target, Onto, Arrived, has_moved, last_move, next_target}
+use Rattle.dta_model.specs.Trace.{Move, Target, Onto, has_moved, last_move, next_target}
 use Rattle.dta_model.specs.Trace.{queue_of}
 use Rattle.dta_model.specs.declared.plan.Plan.{Plan}
 use Rattle.traffic_laws.specs.Capacity.{entered_within, left_within, turned_within}
@@ -35,15 +34,6 @@ pub data IsHeld (p : Plan) (t l : ℕ) (x : Target) : Type 0 where
   by_link : left_within (trace_after p (suc t)) l t (suc t) ≡ link_allowance p l t → IsHeld p t l x
   by_turn : (b : ℕ) → x ≡ Onto b → IsTurnUsedUp p t l b → IsHeld p t l x
   by_next : (b : ℕ) → x ≡ Onto b → IsFull p t b → IsHeld p t l x
-
--- the penalty of the turn from link l to where a vehicle goes next; leaving the network has none
-abbrev pub penalty_of : Option Turn → ℕ
-penalty_of None = 0
-penalty_of (Some way) = way.penalty
-
-abbrev pub penalty_to : Plan → ℕ → Target → ℕ
-penalty_to p l Arrived = 0
-penalty_to p l (Onto b) = penalty_of (turn p l b)
 
 -- after step t vehicle v is the first on link l, and it was ready to leave in that step: its
 -- free-flow steps and the penalty of its turn are over
