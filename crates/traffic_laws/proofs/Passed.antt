@@ -63,11 +63,11 @@ module _ (rates : Rates) (delta : ℕ) (test : Move → Bool) (moves : List Move
     → count_by (λ m. test m && nat_eq m.step s) moves ≤ allowance rates delta s) where
   none-made : (s u : ℕ) → u ≤ s → made_within test moves s u ≤ 0
   none-made s u h =
-      let less = count-less (λ m. test m && (nat_le s m.step && nat_lt m.step u)) (λ m. false)
+      let less = count-less (λ m. test m && nat_le s m.step && nat_lt m.step u) (λ m. false)
       (λ m e. outside (test m) m.step e) moves in
       let none = nothing moves in omega (arith, less, none)
     where
-      outside : (b : Bool) (k : ℕ) → (b && (nat_le s k && nat_lt k u)) ≡ true → false ≡ true
+      outside : (b : Bool) (k : ℕ) → (b && nat_le s k && nat_lt k u) ≡ true → false ≡ true
       outside b k e = grind (arith, nat_tests)
 
       nothing : (L : List Move) → count_by (λ m. false) L ≡ 0
@@ -78,13 +78,13 @@ module _ (rates : Rates) (delta : ℕ) (test : Move → Bool) (moves : List Move
       → made_within test moves s (suc u)
       ≡ made_within test moves s u + count_by (λ m. test m && nat_eq m.step u) moves
   one-more s u h =
-      count-two (λ m. test m && (nat_le s m.step && nat_lt m.step (suc u)))
-      (λ m. test m && (nat_le s m.step && nat_lt m.step u)) (λ m. test m && nat_eq m.step u)
+      count-two (λ m. test m && nat_le s m.step && nat_lt m.step (suc u))
+      (λ m. test m && nat_le s m.step && nat_lt m.step u) (λ m. test m && nat_eq m.step u)
       (λ m. split (test m) m.step) moves
     where
       split : (b : Bool) (k : ℕ)
-          → one_if (b && (nat_le s k && nat_lt k (suc u)))
-          ≡ one_if (b && (nat_le s k && nat_lt k u)) + one_if (b && nat_eq k u)
+          → one_if (b && nat_le s k && nat_lt k (suc u))
+          ≡ one_if (b && nat_le s k && nat_lt k u) + one_if (b && nat_eq k u)
       split true k = grind (arith, nat_tests)
       split false k = refl
 
@@ -173,21 +173,21 @@ module _ (rates : Rates) (delta : ℕ) (test : Move → Bool) (moves : List Move
 pub made-now : (test : Move → Bool) (X Y : List Move) (t : ℕ) → All (λ m. m.step < t) X
     → All (λ m. m.step ≡ t) Y → made_within test (X ++ Y) t (suc t) ≡ count_by test Y
 made-now test X Y t early now =
-    let both = count-append (λ m. test m && (nat_le t m.step && nat_lt m.step (suc t))) X Y in
-    let none = count-none (λ m. test m && (nat_le t m.step && nat_lt m.step (suc t))) X
+    let both = count-append (λ m. test m && nat_le t m.step && nat_lt m.step (suc t)) X Y in
+    let none = count-none (λ m. test m && nat_le t m.step && nat_lt m.step (suc t)) X
     (All-weaker (λ m. m.step < t)
-    (λ m. (test m && (nat_le t m.step && nat_lt m.step (suc t))) ≡ false)
+    (λ m. (test m && nat_le t m.step && nat_lt m.step (suc t)) ≡ false)
     (λ m h. outside (test m) m.step h) X early) in
-    let all = count-alike (λ m. test m && (nat_le t m.step && nat_lt m.step (suc t))) test Y
+    let all = count-alike (λ m. test m && nat_le t m.step && nat_lt m.step (suc t)) test Y
     (All-weaker (λ m. m.step ≡ t)
-    (λ m. (test m && (nat_le t m.step && nat_lt m.step (suc t))) ≡ test m)
+    (λ m. (test m && nat_le t m.step && nat_lt m.step (suc t)) ≡ test m)
     (λ m h. inside (test m) m.step h) Y now) in
     omega (arith, both, none, all)
   where
-    outside : (c : Bool) (k : ℕ) → k < t → (c && (nat_le t k && nat_lt k (suc t))) ≡ false
+    outside : (c : Bool) (k : ℕ) → k < t → (c && nat_le t k && nat_lt k (suc t)) ≡ false
     outside true k h = grind (arith, nat_tests)
     outside false k h = refl
 
-    inside : (c : Bool) (k : ℕ) → k ≡ t → (c && (nat_le t k && nat_lt k (suc t))) ≡ c
+    inside : (c : Bool) (k : ℕ) → k ≡ t → (c && nat_le t k && nat_lt k (suc t)) ≡ c
     inside true k h = grind (arith, nat_tests)
     inside false k h = refl

@@ -2,7 +2,7 @@
 use Rattle.std.specs.Prelude.{count_by, nat_le, nat_lt}
 use Rattle.std.proofs.Common.{◌≡◌, ℕ, zero, suc, ◌+◌, ◌-◌, ◌<◌, ◌≤◌, length, Bool, true, false}
 use Rattle.std.proofs.Common.{◌&&◌, [], refl, ap, arith, Some, ◌⊎◌, inl, inr}
-use Rattle.std.proofs.lemmas.Bool.{cases_lt}
+use Rattle.std.proofs.lemmas.Bool.{and_parts, cases_lt}
 use Rattle.std.proofs.lemmas.Bool.Decides.{nat_tests}
 use Rattle.std.proofs.lemmas.List.{length-append}
 use Rattle.std.proofs.lemmas.List.Elements.{All-weaker}
@@ -108,23 +108,20 @@ module _ (p : Plan) (sound : IsSound p) (l : ℕ) (h : l < length p.net.links) w
   -- entries before a step are some of all, and after that many steps they are all
   entries-some : (t u : ℕ) → entered_within (trace_after p t) l 0 u ≤ entered_by (trace_after p t) l
   entries-some t u =
-      count-less (λ m. leads_to l m && (nat_le 0 m.step && nat_lt m.step u)) (leads_to l)
-      (λ m e. first (leads_to l m) (nat_le 0 m.step && nat_lt m.step u) e) (trace_after p t)
-    where
-      first : (c d : Bool) → (c && d) ≡ true → c ≡ true
-      first true d e = refl
-      first false d e = e
+      count-less (λ m. leads_to l m && nat_le 0 m.step && nat_lt m.step u) (leads_to l)
+      (λ m e. (and_parts (leads_to l m) (nat_le 0 m.step)
+      (and_parts (leads_to l m && nat_le 0 m.step) (nat_lt m.step u) e).0).0) (trace_after p t)
 
   entries-all : (t : ℕ) → entered_by (trace_after p t) l ≤ entered_within (trace_after p t) l 0 t
   entries-all t =
       let all = count-alike (leads_to l)
-      (λ m. leads_to l m && (nat_le 0 m.step && nat_lt m.step t)) (trace_after p t)
+      (λ m. leads_to l m && nat_le 0 m.step && nat_lt m.step t) (trace_after p t)
       (All-weaker (λ m. m.step < t)
-      (λ m. leads_to l m ≡ (leads_to l m && (nat_le 0 m.step && nat_lt m.step t)))
+      (λ m. leads_to l m ≡ (leads_to l m && nat_le 0 m.step && nat_lt m.step t))
       (λ m h. passes (leads_to l m) m.step h) (trace_after p t) (steps_are_below p t)) in
       omega (arith, all)
     where
-      passes : (c : Bool) (k : ℕ) → k < t → c ≡ (c && (nat_le 0 k && nat_lt k t))
+      passes : (c : Bool) (k : ℕ) → k < t → c ≡ (c && nat_le 0 k && nat_lt k t)
       passes true k e = grind (arith, nat_tests)
       passes false k e = refl
 
@@ -134,15 +131,15 @@ module _ (p : Plan) (sound : IsSound p) (l : ℕ) (h : l < length p.net.links) w
   unfolding trace_after after_step
   entries-past t u past =
       let M = step_moves p t (trace_after p t) (all_nodes p) in
-      let both = count-append (λ m. leads_to l m && (nat_le 0 m.step && nat_lt m.step u))
+      let both = count-append (λ m. leads_to l m && nat_le 0 m.step && nat_lt m.step u)
       (trace_after p t) M in
-      let none = count-none (λ m. leads_to l m && (nat_le 0 m.step && nat_lt m.step u)) M
+      let none = count-none (λ m. leads_to l m && nat_le 0 m.step && nat_lt m.step u) M
       (All-weaker (λ m. m.step ≡ t)
-      (λ m. (leads_to l m && (nat_le 0 m.step && nat_lt m.step u)) ≡ false)
+      (λ m. (leads_to l m && nat_le 0 m.step && nat_lt m.step u) ≡ false)
       (λ m now. outside (leads_to l m) m.step now) M (all-now p sound t (trace_after p t))) in
       omega (arith, both, none)
     where
-      outside : (c : Bool) (k : ℕ) → k ≡ t → (c && (nat_le 0 k && nat_lt k u)) ≡ false
+      outside : (c : Bool) (k : ℕ) → k ≡ t → (c && nat_le 0 k && nat_lt k u) ≡ false
       outside true k e = grind (arith, nat_tests)
       outside false k e = refl
 

@@ -16,7 +16,7 @@ use Rattle.dta_model.specs.declared.plan.Plan.{Plan}
 
 -- how many moves of a list pass a test and are made in the steps from s to below u
 abbrev pub made_within : (Move → Bool) → List Move → ℕ → ℕ → ℕ
-made_within test moves s u = count_by (λ m. test m && (nat_le s m.step && nat_lt m.step u)) moves
+made_within test moves s u = count_by (λ m. test m && nat_le s m.step && nat_lt m.step u) moves
 
 -- how many vehicles enter link l in these steps
 abbrev pub entered_within : List Move → ℕ → ℕ → ℕ → ℕ
