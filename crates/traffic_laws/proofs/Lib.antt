@@ -3,3 +3,4 @@ pub mod Passed
 pub mod WithinRates
 pub mod Storing
 pub mod Holding
+pub mod Telling
