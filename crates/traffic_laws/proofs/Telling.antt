@@ -170,7 +170,8 @@ module _ (l s u : ℕ) where
       → moves_of v (leavings l [] U) ≡ followers None (moves_of v U)
       → moves_of v (leavings l [] (U ++ M)) ≡ followers None (moves_of v (U ++ M))
   follow_all v [] U h =
-      subst (λ L. moves_of v (leavings l [] L) ≡ followers None (moves_of v L)) (sym (append-nil U)) h
+      subst (λ L. moves_of v (leavings l [] L) ≡ followers None (moves_of v L))
+      (sym (append-nil U)) h
   follow_all v (m ∷ M) U h =
       subst (λ L. moves_of v (leavings l [] L) ≡ followers None (moves_of v L))
       (append_assoc U (m ∷ []) M) (follow_all v M (U ++ m ∷ []) (pushed (eqb_tells m.vehicle v)))
@@ -192,7 +193,9 @@ module _ (l s u : ℕ) where
 
       stood : m.vehicle ≡ v
           → stands_on l U m.vehicle ≡ leads_there l (last_or None (moves_of v U))
-      stood same = ap (λ w. stands_on l U w) same ∙ stands_is l U v ∙ ap (leads_there l) (last_move_is v U)
+      stood same =
+          ap (λ w. stands_on l U w) same ∙ stands_is l U v
+          ∙ ap (leads_there l) (last_move_is v U)
 
       pushed : ((eqb m.vehicle v ≡ true) × (m.vehicle ≡ v))
           ⊎ ((eqb m.vehicle v ≡ false) × (m.vehicle ≢ v))

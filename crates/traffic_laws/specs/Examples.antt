@@ -34,8 +34,8 @@ rate_times_time : given (link_rates room_at_the_start_of_the_step 1) 6 10 13 ≡
 unfolding loadings_on_literals trip room_at_the_start_of_the_step
 rate_times_time = refl
 
--- ---- the second link stores one vehicle, which leaves it in step 11. The other one is ready in step
--- 10, and is still the first on its link after step 11: in that step no room was left
+-- ---- the second link stores one vehicle, which leaves it in step 11. The other one is ready in
+-- step 10, and is still the first on its link after step 11: in that step no room was left
 held_by_a_room :
     (queue_of 0 (trace_after storage_of_one 12) ≡ 1 ∷ [])
     × (room storage_of_one 1 11 (trace_after storage_of_one 11)

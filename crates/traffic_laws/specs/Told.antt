@@ -1,7 +1,7 @@
 -- The same counts by the journeys that a loading gives: what its table of agents shows.
 use Rattle.std.specs.List.{zip}
-use Rattle.std.specs.Prelude.{ℕ, ◌≡◌, ◌++◌, ◌&&◌, nat_eq, nat_le, nat_lt, List, count_by, drop, sum_by}
-use Rattle.std.specs.Prelude.{option_to_list}
+use Rattle.std.specs.Prelude.{ℕ, ◌≡◌, ◌++◌, ◌&&◌, nat_eq, nat_le, nat_lt, List, count_by, drop}
+use Rattle.std.specs.Prelude.{option_to_list, sum_by}
 use Rattle.dta_model.specs.Loading.{journey_of, trace_after}
 use Rattle.dta_model.specs.Plans.{route_of, vehicles_of}
 use Rattle.dta_model.specs.declared.plan.Plan.{Plan}
