@@ -1,5 +1,4 @@
 pub mod Sums
-pub mod Runs
 pub mod Claimed
 pub mod Machine
 pub mod Parts

@@ -145,16 +145,16 @@ IsLastPhase nodes (hold.Open a m b) at last = last ≡ phase_of nodes at
 IsLastPhase nodes hold.Ended at last = IsPhase nodes last
 
 -- its fields say where it stands
-pub record IsPlace (v : View) (place : Place) : Type 0 where
-  pub stage : place.stage ≡ v.stage
-  pub next : place.next ≡ v.at
-  pub phase : IsLastPhase (node_count v.scope.plan) v.stage v.at place.phase
+pub record IsPlace (v : View) (own : Place) : Type 0 where
+  pub stage : own.stage ≡ v.stage
+  pub next : own.next ≡ v.at
+  pub phase : IsLastPhase (node_count v.scope.plan) v.stage v.at own.phase
 
 -- what a pass keeps: it has the places of the unit that it is at, and no others; its fields say
 -- what it knows
-pub record IsPass (me : Me Part View) (left : ℕ) (place : Place) : Type 0 where
+pub record IsPass (me : Me Part View) (left : ℕ) (own : Place) : Type 0 where
   pub slots : me.1 ≡ carried me.0.scope me.0.stage me.0.at
   pub inside : IsInside me.0.scope.plan me.0.stage me.0.at
   pub weight : 1 ≤ me.0.weight
   pub spare : left ≡ me.0.spare
-  pub place : IsPlace me.0 place
+  pub place : IsPlace me.0 own
