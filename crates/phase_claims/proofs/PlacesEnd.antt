@@ -59,7 +59,7 @@ module _ (k : Scope) (s : State Part View) (h : Holds k s) (id : ℕ) (v : View)
   own_performed x = own_total (performs x) refl
 
   none_held : (x : ℕ) → held_by s.views x ≡ 0
-  none_held x = own_total (holds x) refl ∙ holds_none v.stage free x
+  none_held x = own_total (holds x) (holds_none hold.Idle refl x) ∙ holds_none v.stage free x
 
   done_is : (x : ℕ) → performed_by s.views x ≡ once_below x g
   done_is x = omega (arith, r.claimed.once x, none_held x)
