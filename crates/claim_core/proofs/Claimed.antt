@@ -17,10 +17,15 @@ module _ (N : ℕ) (g n : ℕ) (D H : ℕ → ℕ) (k : Claimed N g n D H) where
   finished_le = omega (arith, k.sum, bounded D g (λ x l. omega (arith, k.once x, once_le x g)))
 
   -- a draw of the numbers from g to below g'
-  pub draw : (g' : ℕ) (H' : ℕ → ℕ) → g ≤ g' → ((x : ℕ) → H' x ≡ H x + among g g' x) → Claimed N g' n D H'
+  pub draw : (g' : ℕ) (H' : ℕ → ℕ) → g ≤ g' → ((x : ℕ) → H' x ≡ H x + among g g' x)
+      → Claimed N g' n D H'
   draw g' H' le more = record {
     once = λ x. omega (arith, k.once x, more x, once_two g g' x le);
-    sum = omega (arith, k.sum, below_cut D D g g' le (λ x _. refl) (λ x out. omega (arith, k.once x, once_out x g out)));
+    sum = omega (
+      arith,
+      k.sum,
+      below_cut D D g g' le (λ x _. refl) (λ x out. omega (arith, k.once x, once_out x g out)),
+    );
     before = k.before;
     after = k.after;
   }
@@ -33,12 +38,20 @@ module _ (N : ℕ) (g n : ℕ) (D H : ℕ → ℕ) (k : Claimed N g n D H) where
       (omega (arith, same_start N c n le early, start_le N c), omega (arith, same_stop N c n le early, lt_stop N c))
 
   -- a finish of held numbers of the phase: R x says whether x is among them, and they are r
-  module _ (R : ℕ → ℕ) (r : ℕ) (count : r ≡ below g R) (inside : (x : ℕ) → 1 ≤ R x → x < phase_end N n) (D' H' : ℕ → ℕ) (more : (x : ℕ) → D' x ≡ D x + R x) (less : (x : ℕ) → H' x + R x ≡ H x) where
+  module _ (R : ℕ → ℕ) (r : ℕ) (count : r ≡ below g R)
+      (inside : (x : ℕ) → 1 ≤ R x → x < phase_end N n) (D' H' : ℕ → ℕ)
+      (more : (x : ℕ) → D' x ≡ D x + R x) (less : (x : ℕ) → H' x + R x ≡ H x) where
     once' : (x : ℕ) → D' x + H' x ≡ once_below x g
     once' x = omega (arith, k.once x, more x, less x)
 
     sum' : n + r ≡ below g D'
-    sum' = omega (arith, k.sum, count, below_same D' (λ x. D x + R x) g (λ x l. more x), below_plus D R g)
+    sum' = omega (
+      arith,
+      k.sum,
+      count,
+      below_same D' (λ x. D x + R x) g (λ x l. more x),
+      below_plus D R g,
+    )
 
     far : (x : ℕ) → phase_end N n ≤ x → D' x ≡ 0
     far x l = dite (dec_le 1 (R x))
@@ -51,14 +64,21 @@ module _ (N : ℕ) (g n : ℕ) (D H : ℕ → ℕ) (k : Claimed N g n D H) where
     -- no more are finished than the phase has
     pub not_past : n + r ≤ phase_end N n
     not_past = dite (dec_le (phase_end N n) g)
-        (λ low. omega (arith, sum', below_cut D' D' (phase_end N n) g low (λ y _. refl) far, bounded D' (phase_end N n) (λ y _. one y)))
-        (λ top. let l : g < phase_end N n = lt_of_not-le top in omega (arith, l, sum', bounded D' g (λ y _. one y)))
+        (λ low. omega (
+          arith,
+          sum',
+          below_cut D' D' (phase_end N n) g low (λ y _. refl) far,
+          bounded D' (phase_end N n) (λ y _. one y),
+        ))
+        (λ top. let l : g < phase_end N n = lt_of_not-le top in
+        omega (arith, l, sum', bounded D' g (λ y _. one y)))
 
     -- where the phase ends, every number below its stop is done
     pub all_done : phase_end N n ≡ n + r → (x : ℕ) → x < phase_end N n → 1 ≤ D' x
     all_done e x l =
         let room : n + r ≤ g = omega (arith, sum', bounded D' g (λ y _. one y)) in
-        let cut : below g D' ≡ below (n + r) D' = below_cut D' D' (n + r) g room (λ y _. refl) (λ y le. far y (omega (arith, e, le))) in
+        let cut : below g D' ≡ below (n + r) D' =
+        below_cut D' D' (n + r) g room (λ y _. refl) (λ y le. far y (omega (arith, e, le))) in
         all_there D' (n + r) (λ y _. one y) (omega (arith, sum', cut)) x (omega (arith, e, l))
 
     -- and no other number of it is held
@@ -67,9 +87,22 @@ module _ (N : ℕ) (g n : ℕ) (D H : ℕ → ℕ) (k : Claimed N g n D H) where
 
     pub finish : Claimed N g (n + r) D' H'
     finish = dite (dec_le (phase_end N n) (n + r))
-        (λ last. let e : phase_end N n ≡ n + r = omega (arith, not_past, last) in let s : phase_start N (n + r) ≡ n + r = start_at N n (n + r) e in
-        record { once = once'; sum = sum'; before = λ x l. all_done e x (omega (arith, l, s, e)); after = λ x l. far x (omega (arith, l, lt_stop N (n + r), e)) })
+        (λ last. let e : phase_end N n ≡ n + r = omega (arith, not_past, last) in
+        let s : phase_start N (n + r) ≡ n + r = start_at N n (n + r) e in
+        record {
+          once = once';
+          sum = sum';
+          before = λ x l. all_done e x (omega (arith, l, s, e));
+          after = λ x l. far x (omega (arith, l, lt_stop N (n + r), e));
+        })
         (λ more_left. let l : n + r < phase_end N n = lt_of_not-le more_left in
-        let a : phase_start N (n + r) ≡ phase_start N n = same_start N n (n + r) (omega (arith, start_le N n)) l in
-        let b : phase_end N (n + r) ≡ phase_end N n = same_stop N n (n + r) (omega (arith, start_le N n)) l in
-        record { once = once'; sum = sum'; before = λ x l. omega (arith, k.before x (omega (arith, l, a)), more x); after = λ x l. far x (omega (arith, l, b)) })
+        let a : phase_start N (n + r) ≡ phase_start N n =
+        same_start N n (n + r) (omega (arith, start_le N n)) l in
+        let b : phase_end N (n + r) ≡ phase_end N n =
+        same_stop N n (n + r) (omega (arith, start_le N n)) l in
+        record {
+          once = once';
+          sum = sum';
+          before = λ x l. omega (arith, k.before x (omega (arith, l, a)), more x);
+          after = λ x l. far x (omega (arith, l, b));
+        })

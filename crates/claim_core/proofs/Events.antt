@@ -84,7 +84,8 @@ module _ (p : Plan) (s : Claims) (k : Kept p s) (w : ℕ) where
         omega (arith, e, ap (λ n. is_at x n) this)
 
     draws : Claimed (node_count p) (suc (drawn_in p s)) (finished p s) (done_in p s) (held_in drawn_now)
-    draws = draw (node_count p) (drawn_in p s) (finished p s) (done_in p s) (held_in s) k.claimed (suc (drawn_in p s)) (held_in drawn_now) (omega arith)
+    draws = draw (node_count p) (drawn_in p s) (finished p s) (done_in p s) (held_in s) k.claimed
+        (suc (drawn_in p s)) (held_in drawn_now) (omega arith)
         (λ x. omega (arith, held_more x, among_one (drawn_in p s) x))
 
     pub done_same : (x : ℕ) → done_in p drawn_now x ≡ done_in p s x
@@ -144,19 +145,29 @@ module _ (p : Plan) (s : Claims) (k : Kept p s) (w : ℕ) where
     is_drawn : c < drawn_in p s
     is_drawn = once_in c (drawn_in p s) (omega (arith, k.claimed.once c, is_held))
 
-    finishes : Claimed (node_count p) (drawn_in p s) (finished p s + 1) (done_in p finished_now) (held_in finished_now)
-    finishes = finish (node_count p) (drawn_in p s) (finished p s) (done_in p s) (held_in s) k.claimed (among c (suc c)) 1
-        (omega (arith, below_among c (suc c) (drawn_in p s) (omega arith) (omega (arith, is_drawn))))
+    finishes : Claimed (node_count p) (drawn_in p s) (finished p s + 1) (done_in p finished_now)
+        (held_in finished_now)
+    finishes = finish (node_count p) (drawn_in p s) (finished p s) (done_in p s) (held_in s)
+        k.claimed (among c (suc c)) 1
+        (omega (
+          arith,
+          below_among c (suc c) (drawn_in p s) (omega arith)
+              (omega (arith, is_drawn)),
+        ))
         (λ x h. omega (arith, is_among c (suc c) x h, in_phase))
         (done_in p finished_now) (held_in finished_now)
-        (λ x. omega (arith, done_more x, among_one c x)) (λ x. omega (arith, held_less x, among_one c x))
+        (λ x. omega (arith, done_more x, among_one c x))
+        (λ x. omega (arith, held_less x, among_one c x))
 
     pub one_more : finished p finished_now ≡ suc (finished p s)
     one_more = omega (arith, sum_of p finished_now, finishes.sum)
 
     pub finished_kept : Kept p finished_now
     finished_kept = record {
-      claimed = claimed_same (node_count p) (drawn_in p s) (finished p s + 1) (drawn_in p s) (finished p finished_now) (done_in p finished_now) (held_in finished_now) (done_in p finished_now) (held_in finished_now) finishes refl (omega (arith, one_more)) (λ x. refl) (λ x. refl);
+      claimed = claimed_same (node_count p) (drawn_in p s) (finished p s + 1) (drawn_in p s)
+          (finished p finished_now) (done_in p finished_now) (held_in finished_now)
+          (done_in p finished_now) (held_in finished_now) finishes refl (omega (arith, one_more))
+          (λ x. refl) (λ x. refl);
       opened = opened_stays p s k (finished p finished_now) (omega (arith, one_more)) w stage.Idle (λ d e. absurd (not_idle d e));
     }
 

@@ -17,19 +17,24 @@ abbrev pub before_by : ℕ → (ℕ → ℕ) → ℕ → ℕ
 before_by N moves c = below (phase_start N c) moves
 
 -- units that are done move their parts
-pub stage_more : (Q : ℕ) (moves D D' R : ℕ → ℕ) → ((x : ℕ) → D' x ≡ D x + R x) → stage_by Q moves D' ≡ stage_by Q moves D + stage_by Q moves R
+pub stage_more : (Q : ℕ) (moves D D' R : ℕ → ℕ) → ((x : ℕ) → D' x ≡ D x + R x)
+    → stage_by Q moves D' ≡ stage_by Q moves D + stage_by Q moves R
 stage_more Q moves D D' R more =
     let split : below Q (λ x. moves x * D' x) ≡ below Q (λ x. moves x * D x + moves x * R x) =
-    below_same (λ x. moves x * D' x) (λ x. moves x * D x + moves x * R x) Q (λ x _. ap (λ d. moves x * d) (more x) ∙ omega arith) in
+    below_same (λ x. moves x * D' x) (λ x. moves x * D x + moves x * R x) Q
+    (λ x _. ap (λ d. moves x * d) (more x) ∙ omega arith) in
     omega (arith, split, below_plus (λ x. moves x * D x) (λ x. moves x * R x) Q)
 
 -- while c is not done and is of the phase of n, the stage of a part that no other unit of the phase moves is known from c alone, where the units before the phase are done and none after it is
-pub stage_held : (Q N : ℕ) (n : ℕ) (D : ℕ → ℕ) → phase_start N n ≤ Q → ((x : ℕ) → D x ≤ 1) → ((x : ℕ) → x < phase_start N n → 1 ≤ D x) → ((x : ℕ) → phase_end N n ≤ x → D x ≡ 0)
+pub stage_held : (Q N : ℕ) (n : ℕ) (D : ℕ → ℕ) → phase_start N n ≤ Q → ((x : ℕ) → D x ≤ 1)
+    → ((x : ℕ) → x < phase_start N n → 1 ≤ D x) → ((x : ℕ) → phase_end N n ≤ x → D x ≡ 0)
     → (moves : ℕ → ℕ) (c : ℕ) → D c ≡ 0 → phase_start N n ≤ c → c < phase_end N n
     → ((x : ℕ) → phase_start N n ≤ x → x < phase_end N n → x ≢ c → moves x ≡ 0) → stage_by Q moves D ≡ before_by N moves c
 stage_held Q N n D within once before after moves c not_c low high alone =
     let s : ℕ = phase_start N n in
-    let full : (x : ℕ) → x < s → moves x * D x ≡ moves x = λ x l. (let one : D x ≡ 1 = omega (arith, once x, before x l) in ap (λ d. moves x * d) one ∙ omega arith) in
+    let full : (x : ℕ) → x < s → moves x * D x ≡ moves x =
+    λ x l. (let one : D x ≡ 1 = omega (arith, once x, before x l) in
+    ap (λ d. moves x * d) one ∙ omega arith) in
     let none : (x : ℕ) → s ≤ x → moves x * D x ≡ 0 = λ x le. dite (dec_le (phase_end N n) x)
     (λ past. ap (λ d. moves x * d) (after x past) ∙ omega arith)
     (λ inside. dite (ℕ_discrete x c)

@@ -20,7 +20,7 @@ use Rattle.phase_claims.specs.declared.view.Hold.TheVariants as hold
 use Rattle.phase_claims.specs.declared.view.Scope.{Scope}
 use Rattle.phase_claims.specs.declared.view.View.{View}
 use Rattle.phase_claims.specs.Passes.{holds_no_unit}
-use Rattle.phase_claims.specs.Running.{FitsPast, FitsStage, FitsView, Running}
+use Rattle.phase_claims.specs.Running.{EarlierArePerformed, FitsPast, FitsStage, FitsView, Running}
 use Rattle.phase_claims.specs.Views.{beginning, both_stages, ended, held_by, holding, holds, joined, left_of, less_spare, nobody, performed_by, performed_count, performs, rights, seeing}
 use Rattle.phase_claims.proofs.Counts.{claimed_same, each_set, holds_held, holds_idle, holds_left, holds_none, holds_open, left_by, none_both}
 
@@ -150,8 +150,8 @@ module _ (k : Scope) (w n : ℕ) (views : List View) (r : Running k w n views) w
       let f = r.each by v e in
       looks by v (seeing v n) e (λ x. refl) refl refl refl refl record { scope = f.scope; seen = omega arith; past = f.past; empty = λ z. absurd (omega (arith, z, has)); stage = f.stage }
 
-  pub earlier : (c : ℕ) → phase_start N c ≤ n → 1 ≤ held_by views c → (x : ℕ) → x < phase_start N c → performed_by views x ≡ 1
-  earlier c le held x lt =
+  pub earlier : (c : ℕ) → 1 ≤ held_by views c → phase_start N c ≤ n → EarlierArePerformed N c views
+  earlier c held le x lt =
       let now = open_now N g n (performed_by views) (held_by views) r.claimed c held le in
       omega (arith, r.claimed.before x (omega (arith, lt, same_start N n c now.0 now.1)), r.claimed.once x, one x)
     where

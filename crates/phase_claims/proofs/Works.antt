@@ -34,21 +34,28 @@ module _ (k : Scope) (w n : ℕ) (views : List View) (r : Running k w n views) w
   abbrev g : ℕ
   g = min w (unit_count k.plan)
 
-  two_ways : (x at : ℕ) (s : Hold) → FitsStage N n s at → worked_in s at x + left_in s at x ≡ holds_in s x
+  two_ways : (x at : ℕ) (s : Hold) → FitsStage N n s at
+      → worked_in s at x + left_in s at x ≡ holds_in s x
   two_ways x at hold.Idle f = sym (among_none 0 x)
   two_ways x at (hold.Held a b) f = (let z : 0 + among a b x ≡ among a b x = omega arith in z)
   two_ways x at (hold.Open a m b) f = sym (among_two a at b x f.0 (omega (arith, f.1, f.2)))
   two_ways x at hold.Ended f = sym (among_none 0 x)
 
   pub once : (x : ℕ) → worked_by views x + total (left x) views ≡ once_below x g
-  once x = total_pair (worked x) (left x) (performs x) (holds x) views (λ i v e. (let t = two_ways x v.at v.stage (r.each i v e).stage in omega (arith, t))) ∙ r.claimed.once x
+  once x = total_pair (worked x) (left x) (performs x) (holds x) views
+      (λ i v e. (let t = two_ways x v.at v.stage (r.each i v e).stage in omega (arith, t)))
+      ∙ r.claimed.once x
 
   pub at_most_once : (x : ℕ) → worked_by views x ≤ 1
   at_most_once x = omega (arith, once x, once_le x g)
 
   -- the units before the phase are worked, and none after it is
   pub before : (x : ℕ) → x < phase_start N n → 1 ≤ worked_by views x
-  before x l = omega (arith, r.claimed.before x l, total_le (performs x) (worked x) views (λ i v e. omega arith))
+  before x l = omega (
+    arith,
+    r.claimed.before x l,
+    total_le (performs x) (worked x) views (λ i v e. omega arith),
+  )
 
   none_past : (x at : ℕ) (s : Hold) → phase_end N n ≤ x → FitsStage N n s at → worked_in s at x ≡ 0
   none_past x at hold.Idle l f = refl
@@ -60,8 +67,13 @@ module _ (k : Scope) (w n : ℕ) (views : List View) (r : Running k w n views) w
 
   pub after : (x : ℕ) → phase_end N n ≤ x → worked_by views x ≡ 0
   after x l =
-      let le = total_le (worked x) (performs x) views (λ i v e. omega (arith, none_past x v.at v.stage l (r.each i v e).stage)) in
+      let le = total_le (worked x) (performs x) views
+      (λ i v e. omega (arith, none_past x v.at v.stage l (r.each i v e).stage)) in
       omega (arith, le, r.claimed.after x l)
 
   pub within : phase_start N n ≤ unit_count k.plan
-  within = omega (arith, start_le N n, finished_le N g n (performed_by views) (held_by views) r.claimed)
+  within = omega (
+    arith,
+    start_le N n,
+    finished_le N g n (performed_by views) (held_by views) r.claimed,
+  )
