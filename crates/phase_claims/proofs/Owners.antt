@@ -1,7 +1,7 @@
 -- A pass of a floor has the floor's table, what it is told by a look, and the phase of what it holds.
-use Rattle.std.proofs.Common.{◌≡◌, ℕ, suc, ◌+◌, ◌<◌, ◌≤◌, min, cond, nat_lt, Bool, true, false, List, [], refl, ap, subst, sym, ◌∙◌, le_of_not-lt, arith}
+use Rattle.std.proofs.Common.{◌≡◌, ℕ, suc, ◌+◌, ◌<◌, ◌≤◌, min, cond, nat_lt, Bool, true, false, List, [], refl, ap, subst, sym, ◌∙◌, lt_of_not-le, arith}
 use mathlib.Core.Logic.{dite}
-use native.Mathlib.Decide.{dec_lt}
+use native.Mathlib.Decide.{dec_le}
 use Rattle.atomic_table.specs.Table.{Me}
 use Rattle.claim_core.specs.Phases.{IsPhase, phase_of}
 use Rattle.claim_core.specs.declared.phase.Phase.{Phase}
@@ -43,7 +43,7 @@ any_phase k (hold.Open a m b) at last is = subst (λ x. IsPhase k x) (sym is) (i
 any_phase k hold.Ended at last is = is
 
 -- a pass that has opened what it held
-module _ (me : Me Part View) (left : ℕ) (own : Place) (a b : ℕ) (is : IsPass me left own) (held : own.stage ≡ hold.Held a b) where
+module _ (me : Me Part View) (left : ℕ) (own : Place) (a b : ℕ) (is : IsPass me left own) (held : own.stage ≡ hold.Held a b) (stop : ℕ) (to : stop ≡ min b own.phase.end) where
   abbrev N : ℕ
   N = node_count me.0.scope.plan
 
@@ -56,20 +56,20 @@ module _ (me : Me Part View) (left : ℕ) (own : Place) (a b : ℕ) (is : IsPass
   held_phase : own.phase ≡ phase_of N a
   held_phase = subst (λ s. IsLastPhase N s me.0.at own.phase) stands is.place.phase
 
-  open_is : with_open N me.0.stage ≡ hold.Open a (min b own.phase.end) b
-  open_is = ap (with_open N) stands ∙ ap (λ (x : Phase). hold.Open a (min b x.end) b) (sym held_phase)
+  open_is : with_open N me.0.stage ≡ hold.Open a stop b
+  open_is = ap (with_open N) stands ∙ ap (λ (x : Phase). hold.Open a (min b x.end) b) (sym held_phase) ∙ ap (λ x. hold.Open a x b) (sym to)
 
   -- some of them are open
-  some_open : a < min b own.phase.end
-  some_open = omega (arith, held_inside.0, lt_stop N a, ap (λ (x : Phase). x.end) held_phase)
+  some_open : a < stop
+  some_open = omega (arith, to, held_inside.0, lt_stop N a, ap (λ (x : Phase). x.end) held_phase)
 
-  pub opened_pass : (m : Me Part View) (n : ℕ) → m.0 ≡ having_open me.0 n → m.1 ≡ carried me.0.scope m.0.stage m.0.at → IsPass m left (record { stage = hold.Open a (min b own.phase.end) b; next = a; phase = own.phase })
+  pub opened_pass : (m : Me Part View) (n : ℕ) → m.0 ≡ having_open me.0 n → m.1 ≡ carried me.0.scope m.0.stage m.0.at → IsPass m left (record { stage = hold.Open a stop b; next = a; phase = own.phase })
   opened_pass m n e slots =
       let first : first_in me.0.stage ≡ a = ap first_in stands in
-      let made : IsPass (having_open me.0 n, m.1) left (record { stage = hold.Open a (min b own.phase.end) b; next = a; phase = own.phase }) = record {
+      let made : IsPass (having_open me.0 n, m.1) left (record { stage = hold.Open a stop b; next = a; phase = own.phase }) = record {
         slots = slots ∙ ap (λ (v : View). carried me.0.scope v.stage v.at) e;
-        inside = subst (λ s. IsInside me.0.scope.plan s (first_in me.0.stage)) (sym open_is) (subst (λ at. IsInside me.0.scope.plan (hold.Open a (min b own.phase.end) b) at) (sym first)
-        (omega arith, some_open, omega (arith, ap (λ (x : Phase). x.end) held_phase), omega arith, held_inside.1));
+        inside = subst (λ s. IsInside me.0.scope.plan s (first_in me.0.stage)) (sym open_is) (subst (λ at. IsInside me.0.scope.plan (hold.Open a stop b) at) (sym first)
+        (omega arith, some_open, omega (arith, to, ap (λ (x : Phase). x.end) held_phase), omega (arith, to), held_inside.1));
         weight = is.weight;
         spare = is.spare;
         place = record {
@@ -78,7 +78,7 @@ module _ (me : Me Part View) (left : ℕ) (own : Place) (a b : ℕ) (is : IsPass
           phase = subst (λ s. IsLastPhase N s (first_in me.0.stage) own.phase) (sym open_is) (held_phase ∙ ap (phase_of N) (sym first));
         };
       } in
-      subst (λ v. IsPass (v, m.1) left (record { stage = hold.Open a (min b own.phase.end) b; next = a; phase = own.phase })) (sym e) made
+      subst (λ v. IsPass (v, m.1) left (record { stage = hold.Open a stop b; next = a; phase = own.phase })) (sym e) made
 
 -- a pass that has some units open
 module _ (v : View) (own : Place) (a m b : ℕ) (is : IsPlace v own) (opened : own.stage ≡ hold.Open a m b) (inside : IsInside v.scope.plan v.stage v.at) where
@@ -148,12 +148,10 @@ none_left k s at = by (nat_lt (open_end s) (held_end s))
 -- what a pass keeps where it goes on
 left_inside : (p : Plan) (s : Hold) (at : ℕ) → IsInside p s at → IsInside p (left_of s) at
 left_inside p hold.Idle at i = tt
-left_inside p (hold.Held a b) at i = dite (dec_lt a b)
-    (λ lt. subst (λ t. IsInside p (cond t (hold.Held a b) hold.Idle) at) (sym (lt_is a b lt)) i)
-    (λ ge. absurd (ge i.0))
-left_inside p (hold.Open a m b) at i = dite (dec_lt m b)
-    (λ lt. subst (λ t. IsInside p (cond t (hold.Held m b) hold.Idle) at) (sym (lt_is m b lt)) (lt, i.4))
-    (λ ge. subst (λ t. IsInside p (cond t (hold.Held m b) hold.Idle) at) (sym (lt_not m b (le_of_not-lt ge))) tt)
+left_inside p (hold.Held a b) at i = subst (λ t. IsInside p (cond t (hold.Held a b) hold.Idle) at) (sym (lt_is a b i.0)) i
+left_inside p (hold.Open a m b) at i = dite (dec_le b m)
+    (λ le. subst (λ t. IsInside p (cond t (hold.Held m b) hold.Idle) at) (sym (lt_not m b le)) tt)
+    (λ out. let lt : m < b = lt_of_not-le out in subst (λ t. IsInside p (cond t (hold.Held m b) hold.Idle) at) (sym (lt_is m b lt)) (lt, i.4))
 left_inside p hold.Ended at i = tt
 
 next_inside : (p : Plan) (s : Hold) (at : ℕ) → suc at < open_end s → IsInside p s at → IsInside p s (suc at)
@@ -164,19 +162,20 @@ next_inside p hold.Ended at lt i = tt
 
 pub next_pass : (me m : Me Part View) (left : ℕ) (own own' : Place) → IsPass me left own → PerformsNext me.0 m.0 → m.1 ≡ carried m.0.scope m.0.stage m.0.at → IsPlace m.0 own' → IsPass m left own'
 next_pass me m left own own' is next slots place =
-    dite (dec_lt (suc me.0.at) (open_end me.0.stage))
-    (λ lt. let e = next.goes_on lt in
+    dite (dec_le (open_end me.0.stage) (suc me.0.at))
+    (λ le. let e = next.ends le in
     record {
       slots = slots;
-      inside = subst (λ (v : View). IsInside v.scope.plan v.stage v.at) (sym e) (next_inside me.0.scope.plan me.0.stage me.0.at lt is.inside);
+      inside = subst (λ (v : View). IsInside v.scope.plan v.stage v.at) (sym e) (left_inside me.0.scope.plan me.0.stage me.0.at is.inside);
       weight = subst (λ (v : View). 1 ≤ v.weight) (sym e) is.weight;
       spare = is.spare ∙ ap (λ (v : View). v.spare) (sym e);
       place = place;
     })
-    (λ ge. let e = next.ends (le_of_not-lt ge) in
+    (λ out. let lt : suc me.0.at < open_end me.0.stage = lt_of_not-le out in
+    let e = next.goes_on lt in
     record {
       slots = slots;
-      inside = subst (λ (v : View). IsInside v.scope.plan v.stage v.at) (sym e) (left_inside me.0.scope.plan me.0.stage me.0.at is.inside);
+      inside = subst (λ (v : View). IsInside v.scope.plan v.stage v.at) (sym e) (next_inside me.0.scope.plan me.0.stage me.0.at lt is.inside);
       weight = subst (λ (v : View). 1 ≤ v.weight) (sym e) is.weight;
       spare = is.spare ∙ ap (λ (v : View). v.spare) (sym e);
       place = place;

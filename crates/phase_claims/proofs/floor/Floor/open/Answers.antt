@@ -20,7 +20,7 @@ invariant_of-pass c =
     let me : View = c.pass.inside.seat.me.0 in
     let held = subst (λ (p : PassState). IsHeld p.view.stage) (sym c.pass.view_is) c.requires.held in
     let first : first_of_phase me ≡ c.pass.inside.place.phase.first = first_held _ _ _ _ held c.pass.invariant.place.phase in
-    opened_pass _ _ _ _ _ c.pass.invariant c.in-Held.is c.load-finished.new.seat.me c.load-finished.result
+    opened_pass _ _ _ _ _ c.pass.invariant c.in-Held.is _ c.min.ensures c.load-finished.new.seat.me c.load-finished.result
     (c.load-finished.ensures.2.1.opens (omega (arith, first, c.if-phase-finished.true))) c.load-finished.ensures.2.0
 
 pub returns-then-phase-finished-clause-told : goal.returns-then-phase-finished-clause-told

@@ -16,28 +16,28 @@ pub work_held-requires-clause-step : goal.work_held-requires-clause-step
 work_held-requires-clause-step c =
     let v : View = c.pass.inside.seat.me.0 in
     let scope = ap (λ (x : PassState). x.view.scope) c.pass.view_is ∙ c.requires.own.scope in
-    let open = subst (λ (p : PassState). IsOpen p.view.stage) (sym c.pass.view_is) c.requires.open in
+    let opened = subst (λ (p : PassState). IsOpen p.view.stage) (sym c.pass.view_is) c.requires.open in
     half_may (scope_of c.self.inside.table.shared.key) c.args.self.now.scope (plan_of c.self.inside.loading) (ap (λ (f : FloorState). f.scope) c.self.view_is) c.self.invariant.plan c.self.invariant.sound
-    c.pass.inside.place.next c.self.inside.units.nodes (few_here v c.args.self.now.scope c.pass.inside.place scope c.pass.invariant.place open c.pass.invariant.inside) c.self.invariant.nodes
+    c.pass.inside.place.next c.self.inside.units.nodes (few_here v c.args.self.now.scope c.pass.inside.place scope c.pass.invariant.place opened c.pass.invariant.inside) c.self.invariant.nodes
     c.in-Some.half (sym c.half_in.ensures ∙ c.in-Some.is)
 
 pub work_held-requires-clause-held : goal.work_held-requires-clause-held
 work_held-requires-clause-held c =
     let v : View = c.pass.inside.seat.me.0 in
     let scope = ap (λ (x : PassState). x.view.scope) c.pass.view_is ∙ c.requires.own.scope in
-    let open = subst (λ (p : PassState). IsOpen p.view.stage) (sym c.pass.view_is) c.requires.open in
+    let opened = subst (λ (p : PassState). IsOpen p.view.stage) (sym c.pass.view_is) c.requires.open in
     half_has (scope_of c.self.inside.table.shared.key) c.args.self.now.scope (plan_of c.self.inside.loading) (ap (λ (f : FloorState). f.scope) c.self.view_is) c.self.invariant.plan c.self.invariant.sound
-    c.pass.inside.place.next c.self.inside.units.nodes (few_here v c.args.self.now.scope c.pass.inside.place scope c.pass.invariant.place open c.pass.invariant.inside) c.self.invariant.nodes
+    c.pass.inside.place.next c.self.inside.units.nodes (few_here v c.args.self.now.scope c.pass.inside.place scope c.pass.invariant.place opened c.pass.invariant.inside) c.self.invariant.nodes
     c.in-Some.half (sym c.half_in.ensures ∙ c.in-Some.is) c.pass.inside.seat.me.1
-    (taken_here v c.args.self.now.scope c.pass.inside.place scope c.pass.invariant.place open c.pass.inside.seat.me.1 c.pass.invariant.slots)
+    (taken_here v c.args.self.now.scope c.pass.inside.place scope c.pass.invariant.place opened c.pass.inside.seat.me.1 c.pass.invariant.slots)
 
 pub go_on-requires-clause-done : goal.go_on-requires-clause-done
 go_on-requires-clause-done c =
     let v : View = c.pass.inside.seat.me.0 in
     let scope = ap (λ (x : PassState). x.view.scope) c.pass.view_is ∙ c.requires.own.scope in
-    let open = subst (λ (p : PassState). IsOpen p.view.stage) (sym c.pass.view_is) c.requires.open in
+    let opened = subst (λ (p : PassState). IsOpen p.view.stage) (sym c.pass.view_is) c.requires.open in
     half_brings (scope_of c.self.inside.table.shared.key) c.args.self.now.scope (plan_of c.self.inside.loading) (ap (λ (f : FloorState). f.scope) c.self.view_is) c.self.invariant.plan c.self.invariant.sound
-    c.pass.inside.place.next c.self.inside.units.nodes (few_here v c.args.self.now.scope c.pass.inside.place scope c.pass.invariant.place open c.pass.invariant.inside) c.self.invariant.nodes
+    c.pass.inside.place.next c.self.inside.units.nodes (few_here v c.args.self.now.scope c.pass.inside.place scope c.pass.invariant.place opened c.pass.invariant.inside) c.self.invariant.nodes
     c.in-Some.half (sym c.half_in.ensures ∙ c.in-Some.is) c.work_held.new.seat.me.1 c.work_held.ensures.held
     ∙ ap (λ k. brought k c.pass.inside.place.next) (sym (ap (λ (w : View). w.scope) c.work_held.ensures.seat.view ∙ scope))
     ∙ ap (brought c.work_held.new.seat.me.0.scope) (c.pass.invariant.place.next ∙ sym (ap (λ (w : View). w.at) c.work_held.ensures.seat.view))
