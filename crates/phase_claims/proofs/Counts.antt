@@ -53,11 +53,11 @@ holds_none (hold.Held a b) h x = absurd (cc)
 holds_none (hold.Open a m b) h x = absurd (cc)
 holds_none hold.Ended h x = among_none 0 x
 
-pub worked_none : (s : Hold) (at : ℕ) → holds_no_unit s ≡ true → (x : ℕ) → worked_in s at x ≡ 0
-worked_none hold.Idle at h x = refl
-worked_none (hold.Held a b) at h x = absurd (cc)
-worked_none (hold.Open a m b) at h x = absurd (cc)
-worked_none hold.Ended at h x = refl
+pub worked_none : (s : Hold) (at x : ℕ) → holds_no_unit s ≡ true → worked_in s at x ≡ 0
+worked_none hold.Idle at x h = refl
+worked_none (hold.Held a b) at x h = absurd (cc)
+worked_none (hold.Open a m b) at x h = absurd (cc)
+worked_none hold.Ended at x h = refl
 
 pub none_both : (a b : Hold) → holds_no_unit a ≡ true → holds_no_unit b ≡ true
     → holds_no_unit (both_stages a b) ≡ true

@@ -12,7 +12,6 @@ use Rattle.claim_core.specs.Parts.{moves, stage_of}
 use Rattle.claim_core.specs.Sums.{below, once_below, total}
 use Rattle.claim_core.proofs.Cuts.{below_same}
 use Rattle.claim_core.proofs.Parts.{at_place, of_whole_steps, step_cell, step_posting}
-use Rattle.claim_core.proofs.Runs.{among_none}
 use Rattle.claim_core.proofs.Sums.{once_here, total_at, total_only, total_set}
 use Rattle.phase_claims.specs.declared.part.Part.{Part}
 use Rattle.phase_claims.specs.declared.part.Part.TheVariants.{Cell, Writer}
@@ -60,7 +59,7 @@ module _ (k : Scope) (s : State Part View) (h : Holds k s) (id : ℕ) (v : View)
   own_performed x = own_total (performs x) refl
 
   none_held : (x : ℕ) → held_by s.views x ≡ 0
-  none_held x = own_total (holds x) (among_none 0 x) ∙ holds_none v.stage free x
+  none_held x = own_total (holds x) (holds_none hold.Idle refl x) ∙ holds_none v.stage free x
 
   done_is : (x : ℕ) → performed_by s.views x ≡ once_below x g
   done_is x = omega (arith, r.claimed.once x, none_held x)
@@ -84,7 +83,7 @@ module _ (k : Scope) (s : State Part View) (h : Holds k s) (id : ℕ) (v : View)
     each_once x = let same : g ≡ Q = omega (arith, finished_all, whole) in sym (own_performed x) ∙ done_is x ∙ ap (λ b. once_below x b) same
 
     all_worked : (x : ℕ) → worked_by s.views x ≡ once_below x Q
-    all_worked x = own_total (worked x) refl ∙ (let none = worked_none v.stage v.at free x in omega (arith, none, each_once x))
+    all_worked x = own_total (worked x) refl ∙ (let none = worked_none v.stage v.at x free in omega (arith, none, each_once x))
 
     last_stage : (slot : ℕ) → stage_of k.plan (worked_by s.views) slot ≡ k.plan.horizon * below (step_units (node_count k.plan)) (at_place k.plan slot)
     unfolding stage_of unit_count

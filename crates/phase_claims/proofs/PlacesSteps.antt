@@ -100,7 +100,7 @@ module _ (k : Scope) where
       homes_same homes views (set (set views by v') other nobody)
       (λ slot. omega (arith, total_set (Has slot) views by v v' e, total_set (Has slot) (set views by v') other u nobody there, has_none slot v.stage v.at hv, has_none slot u.stage u.at hu, has_none slot v'.stage 0 both))
       (λ x. (let all : performs x v' ≡ performs x v + performs x u = total-append (is_at x) v.performed u.performed in
-      omega (arith, total_set (worked x) views by v v' e, total_set (worked x) (set views by v') other u nobody there, all, worked_none v.stage v.at hv x, worked_none u.stage u.at hu x, worked_none v'.stage 0 both x))) h
+      omega (arith, total_set (worked x) views by v v' e, total_set (worked x) (set views by v') other u nobody there, all, worked_none v.stage v.at x hv, worked_none u.stage u.at x hu, worked_none v'.stage 0 x both))) h
 
   module _ (w n : ℕ) (views : List View) (r : Running k w n views) (homes : List (Option Part)) (h : AreHome k homes views) (by : ℕ) (v : View) (e : get_elem? views by ≡ some v) where
     -- a unit that the pass holds and has not worked, of the phase
