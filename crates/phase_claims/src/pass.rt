@@ -30,6 +30,7 @@ impl Place {
     // Of a pass that has drawn no number yet.
     pub(crate) fn none() -> Self
         ensures stage { result.stage ≡ Hold.Idle }
+        ensures next { result.next ≡ 0 }
         ensures phase { (nodes : ℕ) → IsPhase nodes result.phase }
     {
         Place {
