@@ -17,7 +17,9 @@ const CHUNKS_OF_A_PHASE: u32 = 8;
 const BETWEEN_LOOKS: u32 = 250;
 
 // How many workers work all the time.
-fn working(floor: &Floor) -> u32 {
+fn working(floor: &Floor) -> u32
+    ensures { 1 ≤ result }
+{
     let most = floor.node_count() / NODES_OF_A_WORKER;
     most.min(floor.pass_count()).max(1)
 }
@@ -32,7 +34,7 @@ pub fn chunk_of(floor: &Floor) -> u32
     let wanted = match (floor.pass_count(), working(floor)) {
         (1, _) => nodes.saturating_mul(2).saturating_add(1),
         (_, 1) => nodes / 2,
-        (_, working) => nodes / CHUNKS_OF_A_PHASE.saturating_mul(working),
+        (_, working) => nodes / working / CHUNKS_OF_A_PHASE,
     };
     wanted.max(1).min(MOST_CHUNK)
 }
