@@ -81,8 +81,8 @@ module _ (k : Scope) where
       let moved : (h' : Holds m.0.scope s) × (h'.finished ≡ n) = subst (λ (j : Scope). (h' : Holds j s) × (h'.finished ≡ n)) scope (h, refl) in
       let stands : StandsIn m.0 n = record { state = s; rule = moved.0; by = id; here = at; word = moved.1 } in
       let stop : ℕ = min b (phase_end (node_count k.plan) a) in
-      let opened : View = record m.0 { stage = hold.Open a stop b; at = a; seen = n } in
-      let same : opened ≡ having_open m.0 n = ap (λ (j : Scope). record m.0 { stage = with_open (node_count j.plan) m.0.stage; at = a; seen = n }) scope in
+      let opened : View = record m.0 { stage = hold.Open a stop b; at = a; seen = n; looks = m.0.looks + 1 } in
+      let same : opened ≡ having_open m.0 n = ap (λ (j : Scope). record m.0 { stage = with_open (node_count j.plan) m.0.stage; at = a; seen = n; looks = m.0.looks + 1 }) scope in
       let taking = takes_all (taken k a) in
       let before : first_of_phase m.0 ≤ n → EarlierArePerformed (node_count m.0.scope.plan) a s.views = λ le x lt.
       (let le' : phase_start (node_count k.plan) a ≤ n = omega (arith, le, first) in
@@ -94,7 +94,7 @@ module _ (k : Scope) where
         taking,
         subst (λ xs. Valid s.homes xs taking) (sym empty) (opens_valid k w n s.views r s.homes h.homes id m.0 at a b is le),
         kept w n (set s.views id opened) h.few h.small (opens k w n s.views r id a b m.0 at is le has) h.others _ words (homes_after s.homes m.1 taking)
-            (subst (λ xs. AreHome k (homes_after s.homes xs taking) (set s.views id opened)) (sym empty) (opens_places k w n s.views r s.homes h.homes id m.0 at a b is le n)),
+            (subst (λ xs. AreHome k (homes_after s.homes xs taking) (set s.views id opened)) (sym empty) (opens_places k w n s.views r s.homes h.homes id m.0 at a b is le n (m.0.looks + 1))),
         (
           ap (λ xs. carried_after xs taking) empty ∙ in_order [] (taken k a) ∙ append-nil (taken k a) ∙ ap (λ (j : Scope). taken j a) scope,
           told opened record { stands = stands; earlier = before; seen = f.seen; own = mine; alone = whole; opens = λ _. same; waits = λ lt. absurd (omega (arith, lt, le, first)) },

@@ -148,10 +148,10 @@ module _ (k : Scope) where
           (apart_of (part_at k) all_slots (places k.plan a) (λ slot. stage_of k.plan (worked_by views) slot) (places_once k a))
           (all_home Q (moves k.plan) (part_at k) Has worked all_slots homes views h (places k.plan a) (places_once k a) closed))
 
-      pub opens_places : (seen : ℕ) → AreHome k (homes_after homes [] (takes_all (taken k a))) (set views by (record v { stage = hold.Open a m b; at = a; seen = seen }))
+      pub opens_places : (seen looks : ℕ) → AreHome k (homes_after homes [] (takes_all (taken k a))) (set views by (record v { stage = hold.Open a m b; at = a; seen = seen; looks = looks }))
       unfolding stage_of
-      opens_places seen =
-          let v' : View = record v { stage = hold.Open a m b; at = a; seen = seen } in
+      opens_places seen looks =
+          let v' : View = record v { stage = hold.Open a m b; at = a; seen = seen; looks = looks } in
           subst (λ xs. AreHome k (homes_after homes [] (takes_all xs)) (set views by v')) (now_taken a mine_left mine_held in_it)
           (opens_homes Q (moves k.plan) (part_at k) Has worked all_slots by (places k.plan a) homes views v v' h e (places_once k a)
           (λ slot. (let z : has_slot k.plan slot v.stage v.at ≡ 0 = ap (λ s. has_slot k.plan slot s v.at) is in omega (arith, z)))

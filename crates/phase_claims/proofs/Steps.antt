@@ -133,10 +133,10 @@ module _ (k : Scope) (w n : ℕ) (views : List View) (r : Running k w n views) w
         let now = open_now N g n (performed_by views) (held_by views) r.claimed a (held_in by a v e first).0 le in
         (now.0, omega (arith, in_order, lt_stop N a), omega (arith, same_stop N n a now.0 now.1))
 
-    pub opens : 1 ≤ v.weight → Running k w n (set views by (record v { stage = hold.Open a stop_of b; at = a; seen = n }))
+    pub opens : 1 ≤ v.weight → Running k w n (set views by (record v { stage = hold.Open a stop_of b; at = a; seen = n; looks = v.looks + 1 }))
     opens has =
         let f = r.each by v e in
-        looks by v (record v { stage = hold.Open a stop_of b; at = a; seen = n }) e (λ x. sym (holds_held v.stage a b x is)) refl refl refl refl record {
+        looks by v (record v { stage = hold.Open a stop_of b; at = a; seen = n; looks = v.looks + 1 }) e (λ x. sym (holds_held v.stage a b x is)) refl refl refl refl record {
           scope = f.scope;
           seen = omega arith;
           past = subst (λ (s : Hold). FitsPast s v.weight v.past) is f.past;

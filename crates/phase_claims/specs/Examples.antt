@@ -41,7 +41,7 @@ abbrev pub at_work : View
 at_work = having_open (holding (beginning four_passes 3) 1 1) 2
 
 one_is_done : done_with at_work
-    ≡ record (beginning four_passes 3) { at = 1; performed = 1 ∷ []; seen = 2 }
+    ≡ record (beginning four_passes 3) { at = 1; performed = 1 ∷ []; seen = 2; looks = 1 }
 unfolding phase_end task_of unit_count
 one_is_done = refl
 
@@ -83,6 +83,7 @@ two_are_left : done_with at_second
       at = 2;
       performed = 1 ∷ 2 ∷ [];
       seen = 2;
+      looks = 1;
     }
 unfolding phase_end task_of unit_count
 two_are_left = refl
@@ -104,6 +105,7 @@ split_and_joined : joined (less_spare (done_with at_work)) (ended (beginning fou
       weight = 2;
       past = 1;
       seen = 2;
+      looks = 1;
     }
 unfolding phase_end task_of unit_count
 split_and_joined = refl

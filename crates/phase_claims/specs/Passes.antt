@@ -112,8 +112,10 @@ AnswersOpen old finished views answer.Yes new =
 AnswersOpen old finished views (answer.NotYet told) new =
     (finished < first_of_phase old) × (told ≡ finished) × (new ≡ seeing old finished)
 
--- what an open does: it reads how many units are finished in a state of the floor, no fewer than
--- the pass has seen before and than it has performed itself
+-- what an open does: it looks once, and reads how many units are finished in a state of the floor
+-- that stands while the pass has had its view: no fewer than the pass has seen before and than it
+-- has performed itself. A view changes at a step alone, and counts its looks: so the answer is that
+-- of this look, and of none before it
 pub record Opens (old : View) (result : Open) (new : View) : Type 0 where
   pub finished : ℕ
   pub stands : StandsIn old finished

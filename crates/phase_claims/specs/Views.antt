@@ -21,6 +21,7 @@ beginning k spare = record {
   weight = 1;
   past = 0;
   seen = 0;
+  looks = 0;
 }
 
 -- the view that is left over where a pass is joined to another: that of nobody
@@ -60,6 +61,7 @@ nobody = record {
   weight = 0;
   past = 0;
   seen = 0;
+  looks = 0;
 }
 
 -- the first number that is held, open or not, the end of the open ones, and the end of all, or 0
@@ -136,7 +138,7 @@ holding v a many = record v {
 abbrev pub ended : View → ℕ → View
 ended v many = record v { stage = hold.Ended; past = v.past + many }
 
--- where so many are finished it has those of its units open that are of the phase of the first
+-- it has looked: where so many are finished it has those of its units open that are of the phase of the first
 -- one, and is at the first
 abbrev pub with_open : ℕ → Hold → Hold
 with_open n s =
@@ -147,6 +149,7 @@ having_open v finished = record v {
   stage = with_open (node_count v.scope.plan) v.stage;
   at = first_in v.stage;
   seen = finished;
+  looks = v.looks + 1;
 }
 
 -- it is at the next of its open units
@@ -164,9 +167,9 @@ done_with v = record v {
   performed = v.performed ++ numbers (first_in v.stage) (open_end v.stage);
 }
 
--- it has seen that so many are finished
+-- it has looked, and seen that so many are finished
 abbrev pub seeing : View → ℕ → View
-seeing v finished = record v { seen = finished }
+seeing v finished = record v { seen = finished; looks = v.looks + 1 }
 
 -- one pass was split off from it
 abbrev pub less_spare : View → View
@@ -189,4 +192,5 @@ joined v u = record {
   weight = v.weight + u.weight;
   past = v.past + u.past;
   seen = max v.seen u.seen;
+  looks = v.looks + u.looks;
 }

@@ -43,4 +43,6 @@ pub struct View {
     pub past: u64,
     /// The most finished units that it has seen.
     pub seen: u64,
+    /// How often it has looked how many units are finished.
+    pub looks: u64,
 }
