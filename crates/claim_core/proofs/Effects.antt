@@ -25,10 +25,11 @@ use Rattle.claim_core.proofs.Places.{alone}
 use Rattle.claim_core.proofs.Claimed.{finished_le}
 use Rattle.claim_core.proofs.Counts.{drawn_in, held_in}
 use Rattle.claim_core.proofs.Events.{Kept, always_kept, done_more, finished_kept, in_phase, is_held, one_more}
-use Rattle.claim_core.proofs.Phases.{same_start, same_stop}
+use Rattle.claim_core.proofs.Cuts.{point}
+use Rattle.claim_core.proofs.Phases.{same_start, same_stop, start_le}
 use Rattle.claim_core.proofs.Stages.{stage_held, stage_more}
 use Rattle.claim_core.proofs.Working.{gather_of, index_of, moves_by, transfer_of}
-use Rattle.claim_core.proofs.Sums.{once_in}
+use Rattle.claim_core.proofs.Sums.{once_in, once_le}
 
 pub kept_of : (p : Plan) (s : Claims) → AreReached p s → Kept p s
 kept_of p s r = subst (λ x. Kept p x) (sym r.claims) (always_kept p r.workers r.events)
@@ -166,12 +167,19 @@ module _ (p : Plan) (sound : IsSound p) (s : Claims) (k : Kept p s) (w c : ℕ) 
       let high : c < phase_end N n = at.1 in
       let from : phase_start N c ≡ phase_start N n = same_start N n c low high in
       let to : phase_end N c ≡ phase_end N n = same_stop N n c low high in
-      stage_held (unit_count p) N (drawn_in p s) n (done_in p s) (held_in s) k.claimed (omega arith) (moves p part) c held_now low high
+      let g : ℕ = drawn_in p s in
+      stage_held (unit_count p) N n (done_in p s)
+      (omega (arith, start_le N n, finished_le N g n (done_in p s) (held_in s) k.claimed))
+      (λ x. omega (arith, k.claimed.once x, once_le x g)) k.claimed.before k.claimed.after
+      (moves p part) c (omega (arith, k.claimed.once c, once_le c g, held_now)) low high
       (λ x lo hi other. alone p c x part (omega (arith, lo, from)) (omega (arith, hi, to)) other own)
 
   stage_next : (part : ℕ) → stage_in p then_claims part ≡ stage_in p s part + moves p part c
   unfolding stage_of
-  stage_next part = stage_more (unit_count p) (moves p part) (done_in p s) (done_in p then_claims) c is_unit (done_more p s k w c out)
+  stage_next part =
+      stage_more (unit_count p) (moves p part) (done_in p s) (done_in p then_claims)
+      (λ x. is_at x c) (done_more p s k w c out)
+      ∙ ap (λ m. stage_in p s part + m) (point (moves p part) c (unit_count p) is_unit)
 
   module _ (parts : PartsState) (at : AreAtStages p (stage_in p s) parts) where
     pub parts_ready : AreReady p c parts

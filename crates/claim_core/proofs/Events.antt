@@ -13,11 +13,14 @@ use Rattle.dta_model.specs.declared.machine.Stage.{Stage}
 use Rattle.dta_model.specs.declared.machine.Stage.TheVariants as stage
 use Rattle.claim_core.specs.Claimed.{Claimed}
 use Rattle.claim_core.specs.Parts.{done_in}
+use Rattle.claim_core.specs.Runs.{among}
 use Rattle.claim_core.specs.Sums.{below, is_at, once_below, one_if, total}
 use Rattle.claim_core.proofs.Claimed.{draw, finish, open_now}
 use Rattle.claim_core.proofs.Counts.{count_is, done_is, drawn_in, get_set, held_in, held_set, min_high, min_low, none_past, sum_of}
 use Rattle.claim_core.proofs.Cuts.{below_same}
 use Rattle.claim_core.proofs.Phases.{start_le}
+use Rattle.claim_core.proofs.Runs.{among_one, below_among, is_among}
+use Rattle.claim_core.proofs.Sums.{once_in}
 
 -- claims are kept where their numbers are, and open units are those of phases that have begun
 pub record Kept (p : Plan) (s : Claims) : Type 0 where
@@ -81,7 +84,9 @@ module _ (p : Plan) (s : Claims) (k : Kept p s) (w : ℕ) where
         omega (arith, e, ap (λ n. is_at x n) this)
 
     draws : Claimed (node_count p) (suc (drawn_in p s)) (finished p s) (done_in p s) (held_in drawn_now)
-    draws = draw (node_count p) (drawn_in p s) (finished p s) (done_in p s) (held_in s) k.claimed (held_in drawn_now) held_more
+    draws = draw (node_count p) (drawn_in p s) (finished p s) (done_in p s) (held_in s) k.claimed
+        (suc (drawn_in p s)) (held_in drawn_now) (omega arith)
+        (λ x. omega (arith, held_more x, among_one (drawn_in p s) x))
 
     pub done_same : (x : ℕ) → done_in p drawn_now x ≡ done_in p s x
     done_same x = omega (arith, done_is p drawn_now x, ap (λ b. once_below x b) next, draws.once x)
@@ -137,15 +142,32 @@ module _ (p : Plan) (s : Claims) (k : Kept p s) (w : ℕ) where
     pub done_more : (x : ℕ) → done_in p finished_now x ≡ done_in p s x + is_at x c
     done_more x = omega (arith, done_is p finished_now x, held_less x, k.claimed.once x)
 
-    finishes : Claimed (node_count p) (drawn_in p s) (suc (finished p s)) (done_in p finished_now) (held_in finished_now)
-    finishes = finish (node_count p) (drawn_in p s) (finished p s) (done_in p s) (held_in s) k.claimed c is_held in_phase.0 in_phase.1 (done_in p finished_now) (held_in finished_now) done_more held_less
+    is_drawn : c < drawn_in p s
+    is_drawn = once_in c (drawn_in p s) (omega (arith, k.claimed.once c, is_held))
+
+    finishes : Claimed (node_count p) (drawn_in p s) (finished p s + 1) (done_in p finished_now)
+        (held_in finished_now)
+    finishes = finish (node_count p) (drawn_in p s) (finished p s) (done_in p s) (held_in s)
+        k.claimed (among c (suc c)) 1
+        (omega (
+          arith,
+          below_among c (suc c) (drawn_in p s) (omega arith)
+              (omega (arith, is_drawn)),
+        ))
+        (λ x h. omega (arith, is_among c (suc c) x h, in_phase))
+        (done_in p finished_now) (held_in finished_now)
+        (λ x. omega (arith, done_more x, among_one c x))
+        (λ x. omega (arith, held_less x, among_one c x))
 
     pub one_more : finished p finished_now ≡ suc (finished p s)
-    one_more = sum_of p finished_now ∙ sym finishes.sum
+    one_more = omega (arith, sum_of p finished_now, finishes.sum)
 
     pub finished_kept : Kept p finished_now
     finished_kept = record {
-      claimed = claimed_same (node_count p) (drawn_in p s) (suc (finished p s)) (drawn_in p s) (finished p finished_now) (done_in p finished_now) (held_in finished_now) (done_in p finished_now) (held_in finished_now) finishes refl one_more (λ x. refl) (λ x. refl);
+      claimed = claimed_same (node_count p) (drawn_in p s) (finished p s + 1) (drawn_in p s)
+          (finished p finished_now) (done_in p finished_now) (held_in finished_now)
+          (done_in p finished_now) (held_in finished_now) finishes refl (omega (arith, one_more))
+          (λ x. refl) (λ x. refl);
       opened = opened_stays p s k (finished p finished_now) (omega (arith, one_more)) w stage.Idle (λ d e. absurd (not_idle d e));
     }
 

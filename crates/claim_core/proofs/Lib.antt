@@ -1,8 +1,10 @@
 pub mod Sums
 pub mod Cuts
 pub mod Phases
+pub mod Runs
 pub mod Claimed
 pub mod Counts
+pub mod AsWorkers
 pub mod Events
 pub mod Stages
 pub mod Parts

@@ -4,12 +4,10 @@ use Rattle.std.proofs.lemmas.Nat.{mod-mul-add}
 use mathlib.Core.Logic.{dite}
 use native.Mathlib.Decide.{dec_le, ℕ_discrete}
 use Rattle.dta_model.specs.Units.{phase_start, phase_end}
-use Rattle.claim_core.specs.Claimed.{Claimed}
-use Rattle.claim_core.specs.Sums.{is_at, below}
-use Rattle.claim_core.proofs.Sums.{below_plus, full, once_le}
-use Rattle.claim_core.proofs.Phases.{start_le, same_start}
-use Rattle.claim_core.proofs.Cuts.{below_same, below_cut, point}
-use Rattle.claim_core.proofs.Claimed.{finished_le}
+use Rattle.claim_core.specs.Sums.{below}
+use Rattle.claim_core.proofs.Sums.{below_plus, full}
+use Rattle.claim_core.proofs.Phases.{same_start}
+use Rattle.claim_core.proofs.Cuts.{below_same, below_cut}
 
 -- of the units below Q
 abbrev pub stage_by : ℕ → (ℕ → ℕ) → (ℕ → ℕ) → ℕ
@@ -18,23 +16,27 @@ stage_by Q moves D = below Q (λ x. moves x * D x)
 abbrev pub before_by : ℕ → (ℕ → ℕ) → ℕ → ℕ
 before_by N moves c = below (phase_start N c) moves
 
--- a unit that is done moves its parts
-pub stage_more : (Q : ℕ) (moves D D' : ℕ → ℕ) (c : ℕ) → c < Q → ((x : ℕ) → D' x ≡ D x + is_at x c) → stage_by Q moves D' ≡ stage_by Q moves D + moves c
-stage_more Q moves D D' c l more =
-    let split : below Q (λ x. moves x * D' x) ≡ below Q (λ x. moves x * D x + moves x * is_at x c) =
-    below_same (λ x. moves x * D' x) (λ x. moves x * D x + moves x * is_at x c) Q (λ x _. ap (λ d. moves x * d) (more x) ∙ omega arith) in
-    omega (arith, split, below_plus (λ x. moves x * D x) (λ x. moves x * is_at x c) Q, point moves c Q l)
+-- units that are done move their parts
+pub stage_more : (Q : ℕ) (moves D D' R : ℕ → ℕ) → ((x : ℕ) → D' x ≡ D x + R x)
+    → stage_by Q moves D' ≡ stage_by Q moves D + stage_by Q moves R
+stage_more Q moves D D' R more =
+    let split : below Q (λ x. moves x * D' x) ≡ below Q (λ x. moves x * D x + moves x * R x) =
+    below_same (λ x. moves x * D' x) (λ x. moves x * D x + moves x * R x) Q
+    (λ x _. ap (λ d. moves x * d) (more x) ∙ omega arith) in
+    omega (arith, split, below_plus (λ x. moves x * D x) (λ x. moves x * R x) Q)
 
--- while c is held in the phase of n, the stage of a part that no other unit of the phase moves is known from c alone
-pub stage_held : (Q N g n : ℕ) (D H : ℕ → ℕ) → Claimed N g n D H → g ≤ Q → (moves : ℕ → ℕ) (c : ℕ) → 1 ≤ H c → phase_start N n ≤ c → c < phase_end N n
+-- while c is not done and is of the phase of n, the stage of a part that no other unit of the phase moves is known from c alone, where the units before the phase are done and none after it is
+pub stage_held : (Q N : ℕ) (n : ℕ) (D : ℕ → ℕ) → phase_start N n ≤ Q → ((x : ℕ) → D x ≤ 1)
+    → ((x : ℕ) → x < phase_start N n → 1 ≤ D x) → ((x : ℕ) → phase_end N n ≤ x → D x ≡ 0)
+    → (moves : ℕ → ℕ) (c : ℕ) → D c ≡ 0 → phase_start N n ≤ c → c < phase_end N n
     → ((x : ℕ) → phase_start N n ≤ x → x < phase_end N n → x ≢ c → moves x ≡ 0) → stage_by Q moves D ≡ before_by N moves c
-stage_held Q N g n D H k few moves c held low high alone =
+stage_held Q N n D within once before after moves c not_c low high alone =
     let s : ℕ = phase_start N n in
-    let within : s ≤ Q = omega (arith, start_le N n, finished_le N g n D H k, few) in
-    let not_c : D c ≡ 0 = omega (arith, k.once c, once_le c g, held) in
-    let full : (x : ℕ) → x < s → moves x * D x ≡ moves x = λ x l. (let one : D x ≡ 1 = omega (arith, k.once x, once_le x g, k.before x l) in ap (λ d. moves x * d) one ∙ omega arith) in
+    let full : (x : ℕ) → x < s → moves x * D x ≡ moves x =
+    λ x l. (let one : D x ≡ 1 = omega (arith, once x, before x l) in
+    ap (λ d. moves x * d) one ∙ omega arith) in
     let none : (x : ℕ) → s ≤ x → moves x * D x ≡ 0 = λ x le. dite (dec_le (phase_end N n) x)
-    (λ past. ap (λ d. moves x * d) (k.after x past) ∙ omega arith)
+    (λ past. ap (λ d. moves x * d) (after x past) ∙ omega arith)
     (λ inside. dite (ℕ_discrete x c)
     (λ e. ap (λ d. moves x * d) (ap D e ∙ not_c) ∙ omega arith)
     (λ ne. ap (λ a. a * D x) (alone x le (lt_of_not-le inside) ne) ∙ omega arith)) in

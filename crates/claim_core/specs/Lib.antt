@@ -1,4 +1,5 @@
 pub mod Sums
+pub mod Runs
 pub mod Claimed
 pub mod Machine
 pub mod Parts

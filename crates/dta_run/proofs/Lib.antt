@@ -1,3 +1,4 @@
 pub mod AnswerFacts
 pub mod RunFacts
 pub mod ReceiptFacts
+pub mod EqualRuns

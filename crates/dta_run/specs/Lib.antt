@@ -2,3 +2,4 @@ pub mod Outcome
 pub mod Receipts
 pub mod Calls
 pub mod Headline
+pub mod Laws

@@ -8,10 +8,12 @@
 #![tactic(auto)]
 
 mod arguments;
+mod laws;
 mod top_call;
 
 pub use arguments::run_arguments;
 pub use commands::Status;
 pub use jobs::{TooBig, sizes};
+pub use laws::equal_runs_write_equal_texts;
 pub use loader::{CountGate, Gate, NoGate};
 pub use top_call::run;

@@ -6,15 +6,14 @@ ghost use Rattle.loader.specs.Crews.{HasCrewEnded, IsCrewReady};
 ghost use Rattle.phase_claims.specs.Crews.{HasEnded, HasSameRights, IsReady};
 ghost use Rattle.loader.specs.Watching.{HasWatched, IsSameWatch};
 ghost use Rattle.loader.specs.declared.loading.TheConstants.{MOST_WORKERS};
-ghost use Rattle.phase_claims.specs.Passes.{IsOf, unit_at};
+ghost use Rattle.phase_claims.specs.Passes.{HasNotEnded, IsHeld, IsOf, IsOpen};
 
 use crate::gate::Gate;
 use crate::pauses::Pauses;
-use crate::shifts::{Shift, stand_by};
+use crate::shares::{chunk_of, stand_by, stands_by};
 use crate::watch::Watcher;
 use desk_io::Desk;
-use dta_model::Stage;
-use phase_claims::{Floor, Open, Pass, Unit, UnitKind};
+use phase_claims::{Floor, Hold, Open, Pass, UnitKind};
 use std::sync::Wait;
 use std::thread::{Threads, join_mut};
 
@@ -26,25 +25,25 @@ const SLEEP_WITHOUT: u32 = 2000;
 
 // Waits until the next unit could be opened at once. So a worker seldom holds a unit while it
 // waits, and the others can do without it.
-fn wait_for_unit<R: Wait>(rt: &R, floor: &Floor, pass: &Pass) {
-    if floor.can_open_next(pass) {
+fn wait_for_unit<R: Wait>(rt: &R, floor: &Floor) {
+    if floor.can_open_next() {
         return;
     }
     let mut pauses = Pauses::up_to(SLEEP_WITHOUT);
     for _ in rt.forever() {
         pauses.take(rt);
-        if floor.can_open_next(pass) {
+        if floor.can_open_next() {
             break;
         }
     }
 }
 
-// Opens the unit that a pass holds, as soon as all units of earlier phases are finished.
-fn open<R: Wait>(rt: &R, floor: &Floor, pass: &mut Pass, number: u64)
+// Opens units that a pass holds, as soon as all units of earlier phases are finished.
+fn open<R: Wait>(rt: &R, floor: &Floor, pass: &mut Pass)
     requires own { IsOf floor.now pass.old }
-    requires held { pass.old.view.stage ≡ Stage.Held number }
+    requires held { IsHeld pass.old.view.stage }
     ensures own { IsOf floor.now pass.new }
-    ensures open { pass.new.view.stage ≡ Stage.Open number }
+    ensures open { IsOpen pass.new.view.stage }
     ensures rights { HasSameRights pass.old.view pass.new.view }
 {
     let Open::NotYet { finished: _ } = floor.open(pass) else {
@@ -59,23 +58,15 @@ fn open<R: Wait>(rt: &R, floor: &Floor, pass: &mut Pass, number: u64)
     }
 }
 
-// Opens the unit that a pass holds, passes the gate and performs it.
-fn work_on<R: Wait, G: Gate>(
-    rt: &R,
-    floor: &Floor,
-    gate: &G,
-    pass: &mut Pass,
-    worker: u32,
-    unit: Unit,
-)
+// Passes the gate and performs the unit that a pass is at.
+fn perform_next<R: Wait, G: Gate>(rt: &R, floor: &Floor, gate: &G, pass: &mut Pass, worker: u32)
     requires own { IsOf floor.now pass.old }
-    requires held { pass.old.view.stage ≡ Stage.Held unit.number }
-    requires unit { unit ≡ unit_at floor.now.scope.plan unit.number }
+    requires open { IsOpen pass.old.view.stage }
     ensures own { IsOf floor.now pass.new }
-    ensures idle { pass.new.view.stage ≡ Stage.Idle }
+    ensures on { HasNotEnded pass.new.view.stage }
     ensures rights { HasSameRights pass.old.view pass.new.view }
 {
-    open(rt, floor, pass, unit.number);
+    let unit = floor.next_unit(pass);
     gate.at(worker, unit.number);
     match unit.kind {
         UnitKind::Posting => floor.perform_posting(rt, pass),
@@ -83,22 +74,39 @@ fn work_on<R: Wait, G: Gate>(
     }
 }
 
-// Works until no unit is left, for a shift after another. Between them it stands by while the
-// others get on fast without it.
+// Performs all units that a pass holds.
+fn work_on<R: Wait, G: Gate>(rt: &R, floor: &Floor, gate: &G, pass: &mut Pass, worker: u32)
+    requires own { IsOf floor.now pass.old }
+    requires on { HasNotEnded pass.old.view.stage }
+    ensures own { IsOf floor.now pass.new }
+    ensures idle { pass.new.view.stage ≡ Hold.Idle }
+    ensures rights { HasSameRights pass.old.view pass.new.view }
+{
+    for _ in rt.forever() {
+        match pass.hold() {
+            Hold::Idle | Hold::Ended => break,
+            Hold::Held(_, _) => open(rt, floor, pass),
+            Hold::Open(_, _, _) => perform_next(rt, floor, gate, pass, worker),
+        }
+    }
+}
+
+// Works until no unit is left. Who stands by works only where the others don't get on.
 fn work<R: Wait, G: Gate>(rt: &R, floor: &Floor, gate: &G, pass: &mut Pass, worker: u32)
     requires { IsReady floor.now 1 pass.old }
     ensures { HasEnded floor.now 1 pass.new }
 {
-    let mut shift = Shift::first();
+    let chunk = chunk_of(floor);
+    let helps = stands_by(floor, worker);
     for _ in rt.forever() {
-        wait_for_unit(rt, floor, pass);
-        let Some(unit) = floor.claim(pass) else {
+        if helps {
+            stand_by(rt, floor);
+        }
+        wait_for_unit(rt, floor);
+        let Some(_) = floor.claim_chunk(pass, chunk) else {
             break;
         };
-        work_on(rt, floor, gate, pass, worker, unit);
-        if shift.ends() {
-            shift = shift.after(stand_by(rt, floor));
-        }
+        work_on(rt, floor, gate, pass, worker);
     }
 }
 
@@ -160,12 +168,13 @@ fn lead<R: Wait, G: Gate, D: Desk>(
     ensures put { (before : DeskState) → HasWatched watcher.old before (D.state desk.old)
         → HasWatched watcher.new before (D.state desk.new) }
 {
+    let chunk = chunk_of(floor);
     for _ in rt.forever() {
-        wait_for_unit(rt, floor, pass);
-        let Some(unit) = floor.claim(pass) else {
+        wait_for_unit(rt, floor);
+        let Some(_) = floor.claim_chunk(pass, chunk) else {
             break;
         };
-        work_on(rt, floor, gate, pass, 0, unit);
+        work_on(rt, floor, gate, pass, 0);
         watcher.look(rt, desk);
     }
 }

@@ -12,7 +12,7 @@ mod crew;
 mod gate;
 mod loading;
 mod pauses;
-mod shifts;
+mod shares;
 mod watch;
 
 pub use gate::{CountGate, Gate, NoGate};

@@ -1,17 +1,20 @@
 -- Lists of views, and how often they hold and perform a unit.
-use Rattle.std.proofs.Common.{◌≡◌, ◌≢◌, ℕ, true, false, List, set, refl, sym, ap, ◌∙◌, subst, ⊎_elim, arith}
+use Rattle.std.specs.Prelude.{nat_lt}
+use Rattle.std.proofs.Common.{◌≡◌, ◌≢◌, ℕ, zero, suc, ◌+◌, ◌<◌, ◌≤◌, Bool, true, false, cond, List, [], ◌∷◌, set, refl, ap, ◌∙◌, subst, ⊎_elim, arith}
+use Rattle.std.proofs.lemmas.Bool.Decides.{nat_tests}
 use mathlib.Core.Option.{some}
 use lib.ListN.{get_elem?}
 use Rattle.atomic_table.proofs.Lists.{at_set}
-use Rattle.dta_model.specs.Machine.{holds_unit}
-use Rattle.dta_model.specs.declared.machine.Stage.{Stage}
-use Rattle.dta_model.specs.declared.machine.Stage.TheVariants as stage
 use Rattle.claim_core.specs.Claimed.{Claimed}
-use Rattle.claim_core.specs.Sums.{is_at, one_if}
+use Rattle.claim_core.specs.Runs.{among}
+use Rattle.claim_core.specs.Sums.{total}
 use Rattle.claim_core.proofs.Cuts.{below_same}
+use Rattle.claim_core.proofs.Runs.{among_none}
+use Rattle.phase_claims.specs.declared.view.Hold.{Hold}
+use Rattle.phase_claims.specs.declared.view.Hold.TheVariants as hold
 use Rattle.phase_claims.specs.declared.view.View.{View}
 use Rattle.phase_claims.specs.Passes.{holds_no_unit}
-use Rattle.phase_claims.specs.Views.{both_stages}
+use Rattle.phase_claims.specs.Views.{both_stages, holds_in, left_of, worked_in}
 
 -- what holds of all views where one of them becomes another
 pub each_set : (P : View → Type 0) (views : List View) (by : ℕ) (w : View)
@@ -33,26 +36,55 @@ claimed_same N g n D H D' H' c done held = record {
   after = λ x l. omega (arith, c.after x l, done x);
 }
 
--- a stage that holds a unit
-pub holds_held : (s : Stage) (c x : ℕ) → s ≡ stage.Held c → one_if (holds_unit x s) ≡ is_at x c
-holds_held s c x e = ap (λ y. one_if (holds_unit x y)) e
+-- the numbers that are held in the rows of a chunk
+pub holds_held : (s : Hold) (a b x : ℕ) → s ≡ hold.Held a b → holds_in s x ≡ among a b x
+holds_held s a b x e = ap (λ y. holds_in y x) e
 
-pub holds_open : (s : Stage) (c x : ℕ) → s ≡ stage.Open c → one_if (holds_unit x s) ≡ is_at x c
-holds_open s c x e = ap (λ y. one_if (holds_unit x y)) e
+pub holds_open : (s : Hold) (a m b x : ℕ) → s ≡ hold.Open a m b → holds_in s x ≡ among a b x
+holds_open s a m b x e = ap (λ y. holds_in y x) e
 
--- and one that holds none
-pub holds_none : (s : Stage) → holds_no_unit s ≡ true → (x : ℕ) → one_if (holds_unit x s) ≡ 0
-holds_none stage.Idle h x = refl
-holds_none (stage.Held c) h x = absurd (cc)
-holds_none (stage.Open c) h x = absurd (cc)
-holds_none stage.Ended h x = refl
+-- and where there is none
+pub holds_idle : (s : Hold) (x : ℕ) → s ≡ hold.Idle → holds_in s x ≡ 0
+holds_idle s x e = ap (λ y. holds_in y x) e ∙ among_none 0 x
 
-pub none_both : (a b : Stage) → holds_no_unit a ≡ true → holds_no_unit b ≡ true
+pub holds_none : (s : Hold) → holds_no_unit s ≡ true → (x : ℕ) → holds_in s x ≡ 0
+holds_none hold.Idle h x = among_none 0 x
+holds_none (hold.Held a b) h x = absurd (cc)
+holds_none (hold.Open a m b) h x = absurd (cc)
+holds_none hold.Ended h x = among_none 0 x
+
+pub worked_none : (s : Hold) (at x : ℕ) → holds_no_unit s ≡ true → worked_in s at x ≡ 0
+worked_none hold.Idle at x h = refl
+worked_none (hold.Held a b) at x h = absurd (cc)
+worked_none (hold.Open a m b) at x h = absurd (cc)
+worked_none hold.Ended at x h = refl
+
+pub none_both : (a b : Hold) → holds_no_unit a ≡ true → holds_no_unit b ≡ true
     → holds_no_unit (both_stages a b) ≡ true
-none_both stage.Idle b ha hb = hb
-none_both stage.Ended b ha hb = refl
-none_both (stage.Held c) b ha hb = absurd (cc)
-none_both (stage.Open c) b ha hb = absurd (cc)
+none_both hold.Idle b ha hb = hb
+none_both hold.Ended b ha hb = refl
+none_both (hold.Held c e) b ha hb = absurd (cc)
+none_both (hold.Open c m e) b ha hb = absurd (cc)
 
-pub not_open : (s : Stage) (c : ℕ) → holds_no_unit s ≡ true → s ≡ stage.Open c → ⊥
-not_open s c h e = let t : true ≡ false = sym h ∙ ap holds_no_unit e in (cc)
+-- what is left after a finish
+pub left_by : (P : Hold → Type 0) (a m b : ℕ) → (m < b → P (hold.Held m b)) → (b ≤ m → P hold.Idle)
+    → P (left_of (hold.Open a m b))
+left_by P a m b some_left none_left = by (nat_lt m b) refl
+  where
+    by : (c : Bool) → nat_lt m b ≡ c → P (cond c (hold.Held m b) hold.Idle)
+    by true e = some_left (grind (arith, nat_tests))
+    by false e = none_left (grind (arith, nat_tests))
+
+pub holds_left : (a m b x : ℕ) → holds_in (left_of (hold.Open a m b)) x ≡ among m b x
+holds_left a m b x = left_by (λ s. holds_in s x ≡ among m b x) a m b (λ _. refl) (λ le. none le)
+  where
+    none : b ≤ m → among 0 0 x ≡ among m b x
+    none le = grind (arith, nat_tests)
+
+-- sums of pairs that are the same
+pub total_pair : (f g p q : View → ℕ) (views : List View)
+    → ((i : ℕ) (v : View) → get_elem? views i ≡ some v → f v + g v ≡ p v + q v)
+    → total f views + total g views ≡ total p views + total q views
+total_pair f g p q [] h = refl
+total_pair f g p q (v ∷ views) h =
+    omega (arith, h zero v refl, total_pair f g p q views (λ i u e. h (suc i) u e))

@@ -79,16 +79,20 @@ module _ {S V : Type 0} (Q : ℕ) (moves : ℕ → ℕ → ℕ) (part_at : ℕ �
       home_else homes [] xs k (free_of part_at ps (λ k. stage_now k views) k z) ∙ h k l
       ∙ (λ i. some (home_of (sym (let e : total (opens k) (set views by v') ≡ total (opens k) views = omega (arith, more, z) in e) i) (part_at k (sym same i)))))
 
-  -- a finish that brings home each part at its next stage; those that the unit doesn't move come home as they went
-  pub finishes_homes : (slots by c : ℕ) (ps : List ℕ) (homes : List (Option S)) (views : List V) (v v' : V) → Homes slots homes views → get_elem? views by ≡ some v → Once slots ps → c < Q
-      → ((k : ℕ) → opens k v' + times k ps ≡ opens k v) → ((x : ℕ) → done x v' ≡ done x v + is_at x c)
-      → ((k : ℕ) → 1 ≤ times k ps → (times k ps ≡ 1) × (total (opens k) views ≡ 1)) → ((k : ℕ) → times k ps ≡ 0 → moves k c ≡ 0)
-      → (xs : List (ℕ × S)) → xs ≡ parts_of part_at ps (λ k. stage_now k views + moves k c)
+  -- how often some units move a slot: R x says whether number x is among them
+  abbrev pub risen : (ℕ → ℕ) → ℕ → ℕ
+  risen R k = stage_by Q (moves k) R
+
+  -- a finish of some units that brings home each part at its next stage; those that they don't move come home as they went
+  pub finishes_homes : (slots by : ℕ) (R : ℕ → ℕ) (ps : List ℕ) (homes : List (Option S)) (views : List V) (v v' : V) → Homes slots homes views → get_elem? views by ≡ some v → Once slots ps
+      → ((k : ℕ) → opens k v' + times k ps ≡ opens k v) → ((x : ℕ) → done x v' ≡ done x v + R x)
+      → ((k : ℕ) → 1 ≤ times k ps → (times k ps ≡ 1) × (total (opens k) views ≡ 1)) → ((k : ℕ) → times k ps ≡ 0 → risen R k ≡ 0)
+      → (xs : List (ℕ × S)) → xs ≡ parts_of part_at ps (λ k. stage_now k views + risen R k)
       → Homes slots (homes_after homes xs (gives_all (length xs))) (set views by v')
-  finishes_homes slots by c ps homes views v v' h at o drawn gives_back one_more mine others xs e k l =
-      let m : ℕ → ℕ = λ k. stage_now k views + moves k c in
+  finishes_homes slots by R ps homes views v v' h at o gives_back one_more mine others xs e k l =
+      let m : ℕ → ℕ = λ k. stage_now k views + risen R k in
       let ys : List (ℕ × S) = parts_of part_at ps m in
-      let later : stage_now k (set views by v') ≡ m k = stage_more Q (moves k) (λ x. total (done x) views) (λ x. total (done x) (set views by v')) c drawn (λ x. omega (arith, total_set (done x) views by v v' at, one_more x)) in
+      let later : stage_now k (set views by v') ≡ m k = stage_more Q (moves k) (λ x. total (done x) views) (λ x. total (done x) (set views by v')) R (λ x. omega (arith, total_set (done x) views by v v' at, one_more x)) in
       let fewer : total (opens k) (set views by v') + times k ps ≡ total (opens k) views = omega (arith, total_set (opens k) views by v v' at, gives_back k) in
       let gone : AllOut homes ys = every_out ps o (λ j t. t) in
       subst (λ (zs : List (ℕ × S)). get_elem? (homes_after homes zs (gives_all (length zs))) k ≡ some (home_of (total (opens k) (set views by v')) (part_at k (stage_now k (set views by v'))))) (sym e)
@@ -101,7 +105,7 @@ module _ {S V : Type 0} (Q : ℕ) (moves : ℕ → ℕ → ℕ) (part_at : ℕ �
       given_else homes ys k (free_of part_at ps m k z) ∙ h k l
       ∙ (λ i. some (home_of (sym (let s : total (opens k) (set views by v') ≡ total (opens k) views = omega (arith, fewer, z) in s) i) (part_at k (sym as_was i))))))
     where
-      every_out : (ks : List ℕ) → Once slots ks → ((j : ℕ) → 1 ≤ times j ks → 1 ≤ times j ps) → AllOut homes (parts_of part_at ks (λ k. stage_now k views + moves k c))
+      every_out : (ks : List ℕ) → Once slots ks → ((j : ℕ) → 1 ≤ times j ks → 1 ≤ times j ps) → AllOut homes (parts_of part_at ks (λ k. stage_now k views + risen R k))
       every_out [] o t = tt
       every_out (j ∷ ks) o t =
           let here : 1 ≤ times j ps = t j (let s : is_at j j ≡ 1 = grind (arith, nat_tests) in omega arith) in

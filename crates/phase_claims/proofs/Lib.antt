@@ -1,6 +1,7 @@
 pub mod Owners
 pub mod Stays
 pub mod Counts
+pub mod Works
 pub mod Steps
 pub mod Allowed
 pub mod Turning

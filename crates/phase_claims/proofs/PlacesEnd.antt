@@ -5,8 +5,6 @@ use lib.ListN.{get_elem?}
 use Rattle.atomic_table.specs.Table.{State}
 use Rattle.atomic_table.proofs.Lists.{set_else}
 use Rattle.dta_model.specs.Units.{node_count, posting_part, step_units, unit_count}
-use Rattle.dta_model.specs.declared.machine.Stage.{Stage}
-use Rattle.dta_model.specs.declared.machine.Stage.TheVariants as stage
 use Rattle.dta_model.specs.declared.plan.Plan.{Plan}
 use Rattle.cell_stages.specs.Contents.{away, cell_at, cell_before}
 use Rattle.cell_stages.proofs.TwoStages.{steps_have_two_stages}
@@ -17,6 +15,8 @@ use Rattle.claim_core.proofs.Parts.{at_place, of_whole_steps, step_cell, step_po
 use Rattle.claim_core.proofs.Sums.{once_here, total_at, total_only, total_set}
 use Rattle.phase_claims.specs.declared.part.Part.{Part}
 use Rattle.phase_claims.specs.declared.part.Part.TheVariants.{Cell, Writer}
+use Rattle.phase_claims.specs.declared.view.Hold.{Hold}
+use Rattle.phase_claims.specs.declared.view.Hold.TheVariants as hold
 use Rattle.phase_claims.specs.declared.view.Scope.{Scope}
 use Rattle.phase_claims.specs.declared.view.View.{View}
 use Rattle.phase_claims.specs.Passes.{HoldsNoUnit}
@@ -27,8 +27,8 @@ use Rattle.phase_claims.specs.PlacesClosed.{AreLast, HasWriter}
 use Rattle.phase_claims.specs.PlacesEnd.{IsClosed, IsEarly}
 use Rattle.phase_claims.specs.PlacesHome.{has_slot, home_of, part_at, posted_in}
 use Rattle.phase_claims.specs.Running.{FitsPast, Holds, Running}
-use Rattle.phase_claims.specs.Views.{held_by, holds, nobody, performed_by, performed_count, performs, rights}
-use Rattle.phase_claims.proofs.Counts.{holds_none}
+use Rattle.phase_claims.specs.Views.{held_by, holds, nobody, performed_by, performed_count, performs, rights, worked, worked_by}
+use Rattle.phase_claims.proofs.Counts.{holds_none, worked_none}
 use Rattle.phase_claims.proofs.PlacesPosted.{same_writer}
 use Rattle.phase_claims.proofs.PlacesSteps.{has_none}
 use Rattle.phase_claims.proofs.PlacesUnit.{part_cell, part_writer}
@@ -59,7 +59,7 @@ module _ (k : Scope) (s : State Part View) (h : Holds k s) (id : ℕ) (v : View)
   own_performed x = own_total (performs x) refl
 
   none_held : (x : ℕ) → held_by s.views x ≡ 0
-  none_held x = own_total (holds x) refl ∙ holds_none v.stage free x
+  none_held x = own_total (holds x) (holds_none hold.Idle refl x) ∙ holds_none v.stage free x
 
   done_is : (x : ℕ) → performed_by s.views x ≡ once_below x g
   done_is x = omega (arith, r.claimed.once x, none_held x)
@@ -71,9 +71,9 @@ module _ (k : Scope) (s : State Part View) (h : Holds k s) (id : ℕ) (v : View)
   finished_all = r.claimed.sum ∙ below_same (performed_by s.views) (λ x. 1) g (λ x l. done_is x ∙ once_here x g l) ∙ below_one g
 
   -- a pass that has ended finds all finished
-  pub ended_whole : v.stage ≡ stage.Ended → Q ≤ h.finished
+  pub ended_whole : v.stage ≡ hold.Ended → Q ≤ h.finished
   ended_whole e =
-      let past : 1 ≤ v.past = subst (λ (x : Stage). FitsPast x v.past) e (r.each id v at).past in
+      let past : 1 ≤ v.past = (subst (λ (x : Hold). FitsPast x v.weight v.past) e (r.each id v at).past).0 in
       let sum : total (λ u. u.past) s.views ≡ v.past = own_total (λ u. u.past) refl in
       omega (arith, finished_all, r.past, past, sum)
 
@@ -82,16 +82,19 @@ module _ (k : Scope) (s : State Part View) (h : Holds k s) (id : ℕ) (v : View)
     pub each_once : (x : ℕ) → performs x v ≡ once_below x Q
     each_once x = let same : g ≡ Q = omega (arith, finished_all, whole) in sym (own_performed x) ∙ done_is x ∙ ap (λ b. once_below x b) same
 
-    last_stage : (slot : ℕ) → stage_of k.plan (performed_by s.views) slot ≡ k.plan.horizon * below (step_units (node_count k.plan)) (at_place k.plan slot)
+    all_worked : (x : ℕ) → worked_by s.views x ≡ once_below x Q
+    all_worked x = own_total (worked x) refl ∙ (let none = worked_none v.stage v.at x free in omega (arith, none, each_once x))
+
+    last_stage : (slot : ℕ) → stage_of k.plan (worked_by s.views) slot ≡ k.plan.horizon * below (step_units (node_count k.plan)) (at_place k.plan slot)
     unfolding stage_of unit_count
     last_stage slot =
-        below_same (λ u. moves k.plan slot u * performed_by s.views u) (moves k.plan slot) Q
-        (λ u l. ap (λ d. moves k.plan slot u * d) (own_performed u ∙ each_once u ∙ once_here u Q l) ∙ omega arith)
+        below_same (λ u. moves k.plan slot u * worked_by s.views u) (moves k.plan slot) Q
+        (λ u l. ap (λ d. moves k.plan slot u * d) (all_worked u ∙ once_here u Q l) ∙ omega arith)
         ∙ of_whole_steps k.plan slot k.plan.horizon
 
     home : (slot : ℕ) → slot < suc (posting_part k.plan) → get_elem? s.homes slot ≡ some (some (part_at k slot (k.plan.horizon * below (step_units (node_count k.plan)) (at_place k.plan slot))))
     home slot l =
-        let none : total (λ u. has_slot k.plan slot u.stage) s.views ≡ 0 = own_total (λ u. has_slot k.plan slot u.stage) refl ∙ has_none k slot v.stage free in
+        let none : total (λ u. has_slot k.plan slot u.stage u.at) s.views ≡ 0 = own_total (λ u. has_slot k.plan slot u.stage u.at) refl ∙ has_none k slot v.stage v.at free in
         h.homes slot l ∙ (λ i. some (home_of (none i) (part_at k slot (last_stage slot i))))
 
     module _ (parts : List Part) (values : (slot : ℕ) (y : Part) → get_elem? s.homes slot ≡ some (some y) → get_elem? parts slot ≡ some y) where
@@ -131,7 +134,7 @@ module _ (k k' : Scope) (q : Plan) (same : k ≡ k') (plan : q ≡ k.plan) (s : 
       fewer = omega (arith, l, counts, quota_here);
     }
 
-    pub not_ended : f < count → v'.stage ≡ stage.Ended → false ≡ true
+    pub not_ended : f < count → v'.stage ≡ hold.Ended → false ≡ true
     not_ended l e = absurd (omega (arith, l, counts, found_is, ended_whole k s h id v at all_here free_here (ap (λ (u : View). u.stage) same_view ∙ e)))
 
     module _ (enough : count ≤ f) (parts : List Part) (values : (slot : ℕ) (y : Part) → get_elem? s.homes slot ≡ some (some y) → get_elem? parts slot ≡ some y) where

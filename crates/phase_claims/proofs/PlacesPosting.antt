@@ -5,7 +5,6 @@ use Rattle.std.proofs.lemmas.Bool.Decides.{nat_tests}
 use Rattle.dta_model.specs.Plans.{all_nodes}
 use Rattle.dta_model.specs.Sound.{IsSound}
 use Rattle.dta_model.specs.Units.{Posting, node_count, phase_begins, places, places_in, posting_part, step_of, step_units, task_of, unit_count}
-use Rattle.dta_model.specs.declared.machine.Stage.TheVariants as stage
 use Rattle.dta_model.specs.declared.plan.Plan.{Plan}
 use Rattle.atomic_table.specs.Seated.{TableId}
 use Rattle.cell_stages.specs.Contents.{cell_at}
@@ -22,7 +21,7 @@ use Rattle.phase_claims.specs.declared.part.Part.{Part}
 use Rattle.phase_claims.specs.declared.part.Part.TheVariants.{Cell, Writer}
 use Rattle.phase_claims.specs.declared.view.Scope.{Scope}
 use Rattle.phase_claims.specs.PlacesCounted.{cell_place, posting_places}
-use Rattle.phase_claims.specs.PlacesHome.{brought, carried, part_at, parts_of, posted_in}
+use Rattle.phase_claims.specs.PlacesHome.{brought, part_at, parts_of, posted_in, taken}
 use Rattle.phase_claims.proofs.PlacesUnit.{part_cell, part_writer}
 
 no_part : (x y : ℕ) → x < y → is_at x y ≡ 0
@@ -86,7 +85,7 @@ module _ (k : Scope) (sound : IsSound k.plan) (c t : ℕ) (now : step_of (node_c
       ∙ ap (λ xs. xs ++ (posting_part p, part_at k (posting_part p) (at (posting_part p))) ∷ []) (cells_are at cells N 0 (omega arith))
       ∙ ap (λ x. map (cell_place p (suc t)) (all_nodes p) ++ (posting_part p, x) ∷ []) (part_writer k (at (posting_part p)) ∙ ap (λ x. Writer (record { board = k.board; list = posted_in p x })) writer)
 
-  pub posting_carried : carried k (stage.Open c) ≡ posting_places p k.board (suc t) t
+  pub posting_carried : taken k c ≡ posting_places p k.board (suc t) t
   posting_carried = all_are (stage_before p c) t cell_before_it writer_before_it
 
   pub posting_brought : brought k c ≡ posting_places p k.board (suc t) (suc t)
@@ -114,9 +113,9 @@ module _ (k k' : Scope) (q : Plan) (shown : TableId) (same : k ≡ k') (plan : q
       let below_it : u / step_units (node_count k.plan) < k.plan.horizon = in_time (step_units (node_count k.plan)) k.plan.horizon u (omega arith) l in
       omega (arith, below_it, now_here, ap (λ (x : Plan). x.horizon) plan)
 
-  pub posting_has : (xs : List (ℕ × Part)) → xs ≡ carried k' (stage.Open u) → xs ≡ posting_places q shown (suc t) t
+  pub posting_has : (xs : List (ℕ × Part)) → xs ≡ taken k' u → xs ≡ posting_places q shown (suc t) t
   posting_has xs e =
-      e ∙ ap (λ (j : Scope). carried j (stage.Open u)) (sym same) ∙ posting_carried k sound u t now_here task_here
+      e ∙ ap (λ (j : Scope). taken j u) (sym same) ∙ posting_carried k sound u t now_here task_here
       ∙ (λ i. posting_places (sym plan i) (sym board i) (suc t) t)
 
   pub posting_brings : (xs : List (ℕ × Part)) → xs ≡ posting_places q shown (suc t) (suc t) → xs ≡ brought k' u

@@ -24,7 +24,7 @@ use Rattle.phase_claims.specs.declared.part.Part.{Part}
 use Rattle.phase_claims.specs.declared.part.Part.TheVariants.{Cell, Mail, Writer}
 use Rattle.phase_claims.specs.declared.view.Scope.{Scope}
 use Rattle.phase_claims.specs.PlacesHome.{AreHome, part_at}
-use Rattle.phase_claims.specs.Views.{beginning, performed_by}
+use Rattle.phase_claims.specs.Views.{beginning, worked_by}
 use Rattle.phase_claims.proofs.PlacesUnit.{part_cell, part_mail, part_writer}
 
 range_at : {A : Type 0} (f : ℕ → A) (n a i : ℕ) → i < n → get_elem? (map f (range_with_len a n)) i ≡ some (f (a + i))
@@ -100,9 +100,9 @@ module _ (k : Scope) (writer : Known) (cells : List CellState) (letters : List m
       let e : mail_part p (slot - N) ≡ slot = omega (arith, past) in ap (λ x. get_elem? parts x) (sym e) ∙ at_mail (slot - N) (omega (arith, past, low)) ∙ ap (λ x. some (part_at k x 0)) e))
       (λ cell. at_cell slot (lt_of_not-le cell))
 
-  no_moves : (spare slot : ℕ) → stage_of p (performed_by (beginning k spare ∷ [])) slot ≡ 0
+  no_moves : (spare slot : ℕ) → stage_of p (worked_by (beginning k spare ∷ [])) slot ≡ 0
   unfolding stage_of
-  no_moves spare slot = below_none (λ u. moves p slot u * performed_by (beginning k spare ∷ []) u) (unit_count p) (λ u _. omega arith)
+  no_moves spare slot = below_none (λ u. moves p slot u * worked_by (beginning k spare ∷ []) u) (unit_count p) (λ u _. omega arith)
 
   pub homes_start : (spare : ℕ) → AreHome k (map some parts) (beginning k spare ∷ [])
   homes_start spare slot h = at_map some parts slot (part_at k slot 0) (at_slot slot h) ∙ ap (λ x. some (some (part_at k slot x))) (sym (no_moves spare slot))

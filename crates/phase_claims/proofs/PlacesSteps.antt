@@ -1,28 +1,33 @@
 -- What each step does to the slots.
-use Rattle.std.proofs.Common.{◌≡◌, ℕ, suc, ◌+◌, ◌*◌, ◌<◌, ◌≤◌, min, List, [], ◌∷◌, ◌++◌, length, set, refl, sym, ap, ◌∙◌, subst, arith}
-use mathlib.Core.Option.{Option, some}
+use Rattle.std.proofs.Common.{◌≡◌, ℕ, zero, suc, ◌+◌, ◌*◌, ◌<◌, ◌≤◌, min, List, [], ◌∷◌, ◌++◌, length, set, refl, sym, ap, ◌∙◌, subst, arith}
+use mathlib.Core.Option.{Option, some, some-ne-none}
 use lib.ListN.{get_elem?}
-use Rattle.atomic_table.specs.Table.{Valid, homes_after}
+use Rattle.atomic_table.proofs.Lists.{set_here}
+use Rattle.atomic_table.specs.Table.{Valid, chain, homes_after}
 use Rattle.dta_model.specs.Units.{node_count, phase_end, phase_start, places, posting_part, unit_count}
-use Rattle.dta_model.specs.declared.machine.Stage.{Stage}
-use Rattle.dta_model.specs.declared.machine.Stage.TheVariants as stage
 use Rattle.claim_core.specs.Parts.{moves, stage_before, stage_of}
+use Rattle.claim_core.specs.Runs.{among, numbers}
 use Rattle.claim_core.specs.Sums.{is_at, times, total}
-use Rattle.claim_core.proofs.Claimed.{open_now}
-use Rattle.claim_core.proofs.Cuts.{below_same}
+use Rattle.claim_core.proofs.Cuts.{below_same, point}
 use Rattle.claim_core.proofs.Places.{moved_is_placed}
-use Rattle.claim_core.proofs.Sums.{at_self, once_in, total-append, total_at, total_set, total_snoc}
+use Rattle.claim_core.proofs.Runs.{among_in, among_none, among_one, among_two, times_numbers}
+use Rattle.claim_core.proofs.Stages.{stage_more}
+use Rattle.claim_core.proofs.Sums.{at_self, once_le, total-append, total_at, total_set, total_snoc}
 use Rattle.phase_claims.specs.declared.part.Part.{Part}
+use Rattle.phase_claims.specs.declared.view.Hold.{Hold}
+use Rattle.phase_claims.specs.declared.view.Hold.TheVariants as hold
 use Rattle.phase_claims.specs.declared.view.Scope.{Scope}
 use Rattle.phase_claims.specs.declared.view.View.{View}
-use Rattle.phase_claims.specs.PlacesHome.{AreHome, brought, carried, has_slot, home_of, part_at, parts_of}
 use Rattle.phase_claims.specs.Passes.{HoldsNoUnit}
+use Rattle.phase_claims.specs.PlacesHome.{AreHome, brought, carried, has_slot, home_of, part_at, parts_of, taken}
 use Rattle.phase_claims.specs.Running.{Running}
-use Rattle.phase_claims.specs.Views.{beginning, both_stages, held_by, holds, joined, less_spare, nobody, performed_by, performs}
-use Rattle.phase_claims.proofs.Counts.{holds_held, holds_open, none_both}
-use Rattle.phase_claims.proofs.Homes.{all_home, apart_of, finishes_homes, opens_homes}
-use Rattle.phase_claims.proofs.PlacesFree.{one_place, only_own, places_once, stage_is}
-use Rattle.phase_claims.proofs.Turning.{gives_all, takes_all, valid_takes}
+use Rattle.phase_claims.specs.Views.{beginning, holds, joined, left_of, less_spare, nobody, performs, worked, worked_by, worked_in}
+use Rattle.phase_claims.proofs.Counts.{left_by, none_both, worked_none}
+use Rattle.phase_claims.proofs.Homes.{all_home, apart_of, finishes_homes, opens_homes, risen}
+use Rattle.phase_claims.proofs.PlacesFree.{none_other, one_place, only_own, places_once, stage_is}
+use Rattle.phase_claims.proofs.Steps.{all_drawn, has_all, holds_all, is_at_one, opens_now, plus, stands}
+use Rattle.phase_claims.proofs.Turning.{gives_all, none_left, takes_all, valid_gives, valid_takes}
+use Rattle.phase_claims.proofs.Works.{left, left_in, once}
 
 -- slots that are at the same stages
 parts_same : {S : Type 0} (part : ℕ → ℕ → S) (ks : List ℕ) (m m' : ℕ → ℕ) → ((slot : ℕ) → 1 ≤ times slot ks → m slot ≡ m' slot) → parts_of part ks m ≡ parts_of part ks m'
@@ -31,121 +36,243 @@ parts_same part (x ∷ ks) m m' same =
     ap (λ at. (x, part x at) ∷ parts_of part ks m) (same x (omega (arith, at_self x)))
     ∙ ap (λ xs. (x, part x (m' x)) ∷ xs) (parts_same part ks m m' (λ slot h. same slot (omega (arith, h))))
 
+inside : {A : Type 0} (l : List A) (i : ℕ) (a : A) → get_elem? l i ≡ some a → i < length l
+inside [] i a e = absurd (some-ne-none a (sym e))
+inside (x ∷ xs) zero a e = omega arith
+inside (x ∷ xs) (suc i) a e = let r = inside xs i a e in omega (arith, r)
+
+set_twice : {A : Type 0} (l : List A) (i : ℕ) (a b : A) → set (set l i a) i b ≡ set l i b
+set_twice [] i a b = refl
+set_twice (x ∷ xs) zero a b = refl
+set_twice (x ∷ xs) (suc i) a b = ap (λ l. x ∷ l) (set_twice xs i a b)
+
 -- a pass that holds no unit has no slot
-pub none_carried : (k : Scope) (s : Stage) → HoldsNoUnit s → carried k s ≡ []
-none_carried k stage.Idle h = refl
-none_carried k (stage.Held c) h = refl
-none_carried k (stage.Open c) h = absurd (cc)
-none_carried k stage.Ended h = refl
+pub none_carried : (k : Scope) (s : Hold) (at : ℕ) → HoldsNoUnit s → carried k s at ≡ []
+none_carried k hold.Idle at h = refl
+none_carried k (hold.Held a b) at h = refl
+none_carried k (hold.Open a m b) at h = absurd (cc)
+none_carried k hold.Ended at h = refl
 
 module _ (k : Scope) where
-  abbrev Has : ℕ → View → ℕ
-  Has slot v = has_slot k.plan slot v.stage
+  abbrev N : ℕ
+  N = node_count k.plan
 
-  -- views that have the same slots and have performed the same units
-  pub homes_same : (homes : List (Option Part)) (views views' : List View) → ((slot : ℕ) → total (Has slot) views' ≡ total (Has slot) views) → ((x : ℕ) → performed_by views' x ≡ performed_by views x) → AreHome k homes views → AreHome k homes views'
+  abbrev Q : ℕ
+  Q = unit_count k.plan
+
+  abbrev all_slots : ℕ
+  all_slots = suc (posting_part k.plan)
+
+  abbrev Has : ℕ → View → ℕ
+  Has slot v = has_slot k.plan slot v.stage v.at
+
+  -- views that have the same slots and have worked the same units
+  pub homes_same : (homes : List (Option Part)) (views views' : List View) → ((slot : ℕ) → total (Has slot) views' ≡ total (Has slot) views) → ((x : ℕ) → worked_by views' x ≡ worked_by views x) → AreHome k homes views → AreHome k homes views'
   unfolding stage_of
   homes_same homes views views' same done h slot l =
-      let at : stage_of k.plan (performed_by views) slot ≡ stage_of k.plan (performed_by views') slot =
-      below_same (λ u. moves k.plan slot u * performed_by views u) (λ u. moves k.plan slot u * performed_by views' u) (unit_count k.plan) (λ u _. ap (λ d. moves k.plan slot u * d) (sym (done u))) in
+      let at : stage_of k.plan (worked_by views) slot ≡ stage_of k.plan (worked_by views') slot =
+      below_same (λ u. moves k.plan slot u * worked_by views u) (λ u. moves k.plan slot u * worked_by views' u) Q (λ u _. ap (λ d. moves k.plan slot u * d) (sym (done u))) in
       h slot l ∙ (λ i. some (home_of (sym (same slot) i) (part_at k slot (at i))))
 
-  -- a view with the same slots, which has performed the same units
-  pub homes_set : (homes : List (Option Part)) (views : List View) (by : ℕ) (v v' : View) → get_elem? views by ≡ some v → ((slot : ℕ) → Has slot v' ≡ Has slot v) → ((x : ℕ) → performs x v' ≡ performs x v) → AreHome k homes views → AreHome k homes (set views by v')
+  -- a view with the same slots, which has worked the same units
+  pub homes_set : (homes : List (Option Part)) (views : List View) (by : ℕ) (v v' : View) → get_elem? views by ≡ some v → ((slot : ℕ) → Has slot v' ≡ Has slot v) → ((x : ℕ) → worked x v' ≡ worked x v) → AreHome k homes views → AreHome k homes (set views by v')
   homes_set homes views by v v' e same done h =
-      homes_same homes views (set views by v') (λ slot. omega (arith, total_set (Has slot) views by v v' e, same slot)) (λ x. omega (arith, total_set (performs x) views by v v' e, done x)) h
+      homes_same homes views (set views by v') (λ slot. omega (arith, total_set (Has slot) views by v v' e, same slot)) (λ x. omega (arith, total_set (worked x) views by v v' e, done x)) h
 
   pub homes_split : (homes : List (Option Part)) (views : List View) (by : ℕ) (v : View) → get_elem? views by ≡ some v → AreHome k homes views → AreHome k homes (set views by (less_spare v) ++ beginning v.scope 0 ∷ [])
   homes_split homes views by v e h =
       let u : View = beginning v.scope 0 in
       homes_same homes views (set views by (less_spare v) ++ u ∷ [])
       (λ slot. omega (arith, total_set (Has slot) views by v (less_spare v) e, total_snoc (Has slot) (set views by (less_spare v)) u))
-      (λ x. omega (arith, total_set (performs x) views by v (less_spare v) e, total_snoc (performs x) (set views by (less_spare v)) u)) h
+      (λ x. omega (arith, total_set (worked x) views by v (less_spare v) e, total_snoc (worked x) (set views by (less_spare v)) u)) h
 
-  pub has_none : (slot : ℕ) (s : Stage) → HoldsNoUnit s → has_slot k.plan slot s ≡ 0
-  has_none slot stage.Idle q = refl
-  has_none slot (stage.Held c) q = refl
-  has_none slot (stage.Open c) q = absurd (cc)
-  has_none slot stage.Ended q = refl
+  pub has_none : (slot : ℕ) (s : Hold) (at : ℕ) → HoldsNoUnit s → has_slot k.plan slot s at ≡ 0
+  has_none slot hold.Idle at q = refl
+  has_none slot (hold.Held a b) at q = refl
+  has_none slot (hold.Open a m b) at q = absurd (cc)
+  has_none slot hold.Ended at q = refl
 
   pub homes_join : (homes : List (Option Part)) (views : List View) (by other : ℕ) (v u : View) → get_elem? views by ≡ some v → get_elem? (set views by (joined v u)) other ≡ some u → HoldsNoUnit v.stage → HoldsNoUnit u.stage
       → AreHome k homes views → AreHome k homes (set (set views by (joined v u)) other nobody)
   homes_join homes views by other v u e there hv hu h =
       let v' : View = joined v u in
+      let both : HoldsNoUnit v'.stage = none_both v.stage u.stage hv hu in
       homes_same homes views (set (set views by v') other nobody)
-      (λ slot. omega (arith, total_set (Has slot) views by v v' e, total_set (Has slot) (set views by v') other u nobody there, has_none slot v.stage hv, has_none slot u.stage hu, has_none slot (both_stages v.stage u.stage) (none_both v.stage u.stage hv hu)))
-      (λ x. (let both : performs x v' ≡ performs x v + performs x u = total-append (is_at x) v.performed u.performed in omega (arith, total_set (performs x) views by v v' e, total_set (performs x) (set views by v') other u nobody there, both))) h
+      (λ slot. omega (arith, total_set (Has slot) views by v v' e, total_set (Has slot) (set views by v') other u nobody there, has_none slot v.stage v.at hv, has_none slot u.stage u.at hu, has_none slot v'.stage 0 both))
+      (λ x. (let all : performs x v' ≡ performs x v + performs x u = total-append (is_at x) v.performed u.performed in
+      omega (arith, total_set (worked x) views by v v' e, total_set (worked x) (set views by v') other u nobody there, all, worked_none v.stage v.at x hv, worked_none u.stage u.at x hu, worked_none v'.stage 0 x both))) h
 
-  module _ (w n : ℕ) (views : List View) (r : Running k w n views) (homes : List (Option Part)) (h : AreHome k homes views) (by c : ℕ) (v : View) (e : get_elem? views by ≡ some v) where
-    abbrev N : ℕ
-    N = node_count k.plan
+  module _ (w n : ℕ) (views : List View) (r : Running k w n views) (homes : List (Option Part)) (h : AreHome k homes views) (by : ℕ) (v : View) (e : get_elem? views by ≡ some v) where
+    -- a unit that the pass holds and has not worked, of the phase
+    module _ (c : ℕ) (mine : 1 ≤ left c v) (own : 1 ≤ holds c v) (ic : (phase_start N n ≤ c) × (c < phase_end N n)) where
+      not_worked : worked_by views c ≡ 0
+      not_worked = omega (arith, mine, total_at (left c) views by v e, once k w n views r c, once_le c (min w (unit_count k.plan)))
 
-    abbrev ps : List ℕ
-    ps = places k.plan c
+      pub now_taken : parts_of (part_at k) (places k.plan c) (λ slot. stage_of k.plan (worked_by views) slot) ≡ taken k c
+      now_taken = parts_same (part_at k) (places k.plan c) (stage_of k.plan (worked_by views)) (stage_before k.plan c) (λ slot in_c. stage_is k w n views r c slot not_worked ic in_c)
 
-    abbrev g : ℕ
-    g = min w (unit_count k.plan)
+      pub all_own : (slot : ℕ) → 1 ≤ times slot (places k.plan c) → total (Has slot) views ≡ Has slot v
+      all_own slot in_c = only_own k w n views r by c slot v e own ic in_c
 
-    -- while the unit is held in the phase
-    module _ (is : (x : ℕ) → holds x v ≡ is_at x c) where
-      held : 1 ≤ held_by views c
-      held = omega (arith, is c, at_self c, total_at (holds c) views by v e)
-
-      pub inside : c < unit_count k.plan
-      inside = let l = once_in c g (omega (arith, r.claimed.once c, held)) in omega (arith, l)
-
-      now_carried : (phase_start N n ≤ c) × (c < phase_end N n) → parts_of (part_at k) ps (λ slot. stage_of k.plan (performed_by views) slot) ≡ carried k (stage.Open c)
-      now_carried ic = parts_same (part_at k) ps (stage_of k.plan (performed_by views)) (stage_before k.plan c) (λ slot in_c. stage_is k w n views r c slot held ic in_c)
+      pub now_brought : c < Q → parts_of (part_at k) (places k.plan c) (λ slot. stage_of k.plan (worked_by views) slot + risen Q (moves k.plan) (part_at k) Has worked (λ x. is_at x c) slot) ≡ brought k c
+      now_brought drawn = parts_same (part_at k) (places k.plan c)
+          (λ slot. stage_of k.plan (worked_by views) slot + risen Q (moves k.plan) (part_at k) Has worked (λ x. is_at x c) slot)
+          (λ slot. stage_before k.plan c slot + moves k.plan slot c)
+          (λ slot in_c. (let s = stage_is k w n views r c slot not_worked ic in_c in let t = point (moves k.plan slot) c Q drawn in omega (arith, s, t)))
 
     -- a look that opens
-    module _ (is : v.stage ≡ stage.Held c) (le : phase_start N c ≤ n) where
-      holds_it : (x : ℕ) → holds x v ≡ is_at x c
-      holds_it x = holds_held v.stage c x is
+    module _ (a b : ℕ) (is : v.stage ≡ hold.Held a b) (le : phase_start N a ≤ n) where
+      abbrev m : ℕ
+      m = min b (phase_end N a)
 
-      in_phase : (phase_start N n ≤ c) × (c < phase_end N n)
-      in_phase = open_now N g n (performed_by views) (held_by views) r.claimed c (held holds_it) le
+      now : (phase_start N n ≤ a) × (a < m) × (m ≤ phase_end N n)
+      now = opens_now k w n views r by a b v e is le
 
-      closed : (slot : ℕ) → 1 ≤ times slot ps → total (Has slot) views ≡ 0
-      closed slot in_c = only_own k w n views r by c slot v e holds_it in_phase in_c ∙ ap (λ s. has_slot k.plan slot s) is
+      mine_held : 1 ≤ holds a v
+      mine_held = omega (arith, holds_all k w n views r by a b v e is le a, among_in a b a (omega arith) (omega (arith, now.1)))
 
-      pub opens_valid : Valid homes [] (takes_all (carried k (stage.Open c)))
+      mine_left : 1 ≤ left a v
+      mine_left = omega (arith, ap (λ s. left_in s v.at a) is, among_in a b a (omega arith) (omega (arith, now.1)))
+
+      in_it : (phase_start N n ≤ a) × (a < phase_end N n)
+      in_it = (now.0, omega (arith, now.1, now.2))
+
+      closed : (slot : ℕ) → 1 ≤ times slot (places k.plan a) → total (Has slot) views ≡ 0
+      closed slot in_a = all_own a mine_left mine_held in_it slot in_a ∙ ap (λ s. has_slot k.plan slot s v.at) is
+
+      pub opens_valid : Valid homes [] (takes_all (taken k a))
       unfolding stage_of
       opens_valid =
-          subst (λ xs. Valid homes [] (takes_all xs)) (now_carried holds_it in_phase)
-          (valid_takes homes [] (parts_of (part_at k) ps (λ slot. stage_of k.plan (performed_by views) slot))
-          (apart_of (part_at k) (suc (posting_part k.plan)) ps (λ slot. stage_of k.plan (performed_by views) slot) (places_once k c))
-          (all_home (unit_count k.plan) (moves k.plan) (part_at k) Has performs (suc (posting_part k.plan)) homes views h ps (places_once k c) closed))
+          subst (λ xs. Valid homes [] (takes_all xs)) (now_taken a mine_left mine_held in_it)
+          (valid_takes homes [] (parts_of (part_at k) (places k.plan a) (λ slot. stage_of k.plan (worked_by views) slot))
+          (apart_of (part_at k) all_slots (places k.plan a) (λ slot. stage_of k.plan (worked_by views) slot) (places_once k a))
+          (all_home Q (moves k.plan) (part_at k) Has worked all_slots homes views h (places k.plan a) (places_once k a) closed))
 
-      pub opens_places : (seen : ℕ) → AreHome k (homes_after homes [] (takes_all (carried k (stage.Open c)))) (set views by (record v { stage = stage.Open c; seen = seen }))
+      pub opens_places : (seen looks : ℕ) → AreHome k (homes_after homes [] (takes_all (taken k a))) (set views by (record v { stage = hold.Open a m b; at = a; seen = seen; looks = looks }))
       unfolding stage_of
-      opens_places seen =
-          let v' : View = record v { stage = stage.Open c; seen = seen } in
-          subst (λ xs. AreHome k (homes_after homes [] (takes_all xs)) (set views by v')) (now_carried holds_it in_phase)
-          (opens_homes (unit_count k.plan) (moves k.plan) (part_at k) Has performs (suc (posting_part k.plan)) by ps homes views v v' h e (places_once k c)
-          (λ slot. (let z : has_slot k.plan slot v.stage ≡ 0 = ap (λ s. has_slot k.plan slot s) is in omega (arith, z)))
-          (λ x. refl) closed)
+      opens_places seen looks =
+          let v' : View = record v { stage = hold.Open a m b; at = a; seen = seen; looks = looks } in
+          subst (λ xs. AreHome k (homes_after homes [] (takes_all xs)) (set views by v')) (now_taken a mine_left mine_held in_it)
+          (opens_homes Q (moves k.plan) (part_at k) Has worked all_slots by (places k.plan a) homes views v v' h e (places_once k a)
+          (λ slot. (let z : has_slot k.plan slot v.stage v.at ≡ 0 = ap (λ s. has_slot k.plan slot s v.at) is in omega (arith, z)))
+          (λ x. (let z : worked_in v.stage v.at x ≡ 0 = ap (λ s. worked_in s v.at x) is in omega (arith, z, among_none a x)))
+          closed)
 
-    -- a finish
-    module _ (is : v.stage ≡ stage.Open c) where
-      has_it : (x : ℕ) → holds x v ≡ is_at x c
-      has_it x = holds_open v.stage c x is
+    -- where some are open
+    module _ (a m b : ℕ) (is : v.stage ≡ hold.Open a m b) where
+      order : (a < m) × (m ≤ b) × (phase_start N n ≤ a) × (m ≤ phase_end N n)
+      order = stands k w n views r by a m b v e is
 
-      its_phase : (phase_start N n ≤ c) × (c < phase_end N n)
-      its_phase = (r.each by v e).phase c is
+      at_one : (a ≤ v.at) × (v.at < m)
+      at_one = is_at_one k w n views r by a m b v e is
 
-      own_slots : (slot : ℕ) → has_slot k.plan slot v.stage ≡ times slot ps
-      own_slots slot = ap (λ s. has_slot k.plan slot s) is
+      left_all : (c : ℕ) → v.at ≤ c → c < b → 1 ≤ left c v
+      left_all c lo hi = omega (arith, ap (λ s. left_in s v.at c) is, among_in v.at b c lo hi)
 
-      pub finishes_places : (xs : List (ℕ × Part)) → xs ≡ brought k c → AreHome k (homes_after homes xs (gives_all (length xs))) (set views by (record v { stage = stage.Idle; performed = v.performed ++ c ∷ [] }))
+      held_all : (c : ℕ) → v.at ≤ c → c < b → 1 ≤ holds c v
+      held_all c lo hi = omega (arith, has_all k w n views r by a m b v e is c, among_in a b c (omega (arith, lo, at_one.0)) hi)
+
+      of_phase : (c : ℕ) → v.at ≤ c → c < m → (phase_start N n ≤ c) × (c < phase_end N n)
+      of_phase c lo hi = (omega (arith, lo, at_one.0, order.2), omega (arith, hi, order.3))
+
+      own_slots : (slot : ℕ) → has_slot k.plan slot v.stage v.at ≡ times slot (places k.plan v.at)
+      own_slots slot = ap (λ s. has_slot k.plan slot s v.at) is
+
+      here_below : v.at < b
+      here_below = omega (arith, at_one.1, order.1)
+
+      drawn : v.at < Q
+      drawn = omega (arith, at_one.1, all_drawn k w n views r by a m b v e is)
+
+      -- the places of the unit that it is at come home: v' has none, and has worked that unit too
+      comes_home : (v' : View) → ((slot : ℕ) → Has slot v' ≡ 0) → ((x : ℕ) → worked x v' ≡ worked x v + is_at x v.at)
+          → (xs : List (ℕ × Part)) → xs ≡ brought k v.at → AreHome k (homes_after homes xs (gives_all (length xs))) (set views by v')
       unfolding stage_of
-      finishes_places xs back =
-          let v' : View = record v { stage = stage.Idle; performed = v.performed ++ c ∷ [] } in
-          finishes_homes (unit_count k.plan) (moves k.plan) (part_at k) Has performs (suc (posting_part k.plan)) by c ps homes views v v' h e (places_once k c) (inside has_it)
-          (λ slot. omega (arith, own_slots slot))
-          (λ x. (let s : times x (v.performed ++ c ∷ []) ≡ times x v.performed + (is_at x c + 0) = total-append (is_at x) v.performed (c ∷ []) in omega (arith, s)))
-          (λ slot in_c. (let one = one_place (suc (posting_part k.plan)) ps (places_once k c) slot in
-          (omega (arith, one, in_c), only_own k w n views r by c slot v e has_it its_phase in_c ∙ own_slots slot ∙ omega (arith, one, in_c))))
-          (λ slot z. omega (arith, z, moved_is_placed k.plan slot c))
+      comes_home v' none_now one_more xs back =
+          finishes_homes Q (moves k.plan) (part_at k) Has worked all_slots by (λ x. is_at x v.at) (places k.plan v.at) homes views v v' h e (places_once k v.at)
+          (λ slot. omega (arith, own_slots slot, none_now slot))
+          one_more
+          (λ slot in_c. (let one = one_place all_slots (places k.plan v.at) (places_once k v.at) slot in
+          (omega (arith, one, in_c), all_own v.at (left_all v.at (omega arith) here_below) (held_all v.at (omega arith) here_below) (of_phase v.at (omega arith) at_one.1) slot in_c ∙ own_slots slot ∙ omega (arith, one, in_c))))
+          (λ slot z. (let p = point (moves k.plan slot) v.at Q drawn in omega (arith, p, z, moved_is_placed k.plan slot v.at)))
           xs
-          (back ∙ parts_same (part_at k) ps (λ slot. stage_before k.plan c slot + moves k.plan slot c) (λ slot. stage_of k.plan (performed_by views) slot + moves k.plan slot c)
-          (λ slot in_c. ap (λ at. at + moves k.plan slot c) (sym (stage_is k w n views r c slot (held has_it) its_phase in_c))))
+          (back ∙ sym (now_brought v.at (left_all v.at (omega arith) here_below) (held_all v.at (omega arith) here_below) (of_phase v.at (omega arith) at_one.1) drawn))
+
+      more_worked : (x : ℕ) → worked_in v.stage v.at x + is_at x v.at ≡ among a (suc v.at) x
+      more_worked x = omega (arith, ap (λ s. worked_in s v.at x) is, among_two a v.at (suc v.at) x at_one.0 (omega arith), among_one v.at x)
+
+      -- a finish
+      pub finishes_places : suc v.at ≡ m → (xs : List (ℕ × Part)) → xs ≡ brought k v.at → AreHome k (homes_after homes xs (gives_all (length xs))) (set views by (record v { stage = left_of (hold.Open a m b); performed = v.performed ++ numbers a m }))
+      finishes_places last xs back =
+          let v' : View = record v { stage = left_of (hold.Open a m b); performed = v.performed ++ numbers a m } in
+          comes_home v' (λ slot. left_by (λ s. has_slot k.plan slot s v.at ≡ 0) a m b (λ _. refl) (λ _. refl))
+          (λ x. (let none : worked_in v'.stage v.at x ≡ 0 = left_by (λ s. worked_in s v.at x ≡ 0) a m b (λ _. refl) (λ _. refl) in
+          omega (arith, none, plus k w n views r by a m b v e is x, more_worked x, ap (λ c. among a c x) last)))
+          xs back
+
+      -- a turn to the next unit: in two, with a view between that has no place
+      module _ (lt : suc v.at < m) (xs : List (ℕ × Part)) (back : xs ≡ brought k v.at) where
+        abbrev v1 : View
+        v1 = record v { stage = hold.Idle; performed = v.performed ++ numbers a (suc v.at) }
+
+        abbrev v2 : View
+        v2 = record v { at = suc v.at }
+
+        abbrev homes1 : List (Option Part)
+        homes1 = homes_after homes xs (gives_all (length xs))
+
+        one_more : (x : ℕ) → worked x v1 ≡ worked x v + is_at x v.at
+        one_more x = omega (arith, total-append (is_at x) v.performed (numbers a (suc v.at)), times_numbers a (suc v.at) x (omega (arith, at_one.0)), more_worked x)
+
+        first : AreHome k homes1 (set views by v1)
+        first = comes_home v1 (λ slot. refl) one_more xs back
+
+        abbrev next : ℕ
+        next = suc v.at
+
+        mine_next : 1 ≤ left next v
+        mine_next = left_all next (omega arith) (omega (arith, lt, order.1))
+
+        held_next : 1 ≤ holds next v
+        held_next = held_all next (omega arith) (omega (arith, lt, order.1))
+
+        there : get_elem? (set views by v1) by ≡ some v1
+        there = set_here views by v1 (inside views by v e)
+
+        -- the next unit's places are with nobody, and their stages are as before
+        closed_next : (slot : ℕ) → 1 ≤ times slot (places k.plan next) → total (Has slot) (set views by v1) ≡ 0
+        closed_next slot in_next =
+            let all = all_own next mine_next held_next (of_phase next (omega arith) lt) slot in_next in
+            omega (arith, all, total_set (Has slot) views by v v1 e)
+
+        as_before : (slot : ℕ) → 1 ≤ times slot (places k.plan next) → stage_of k.plan (worked_by (set views by v1)) slot ≡ stage_before k.plan next slot
+        unfolding stage_of
+        as_before slot in_next =
+            let away : times slot (places k.plan v.at) ≡ 0 = none_other k w n views r next v.at slot (of_phase next (omega arith) lt) (of_phase v.at (omega arith) at_one.1) (λ q. (let same : suc v.at ≡ v.at = q in omega (arith, same))) in_next in
+            stage_more Q (moves k.plan slot) (worked_by views) (worked_by (set views by v1)) (λ x. is_at x v.at) (λ x. omega (arith, total_set (worked x) views by v v1 e, one_more x))
+            ∙ (let p = point (moves k.plan slot) v.at Q drawn in let s = stage_is k w n views r next slot (not_worked next mine_next held_next (of_phase next (omega arith) lt)) (of_phase next (omega arith) lt) in_next in omega (arith, p, s, away, moved_is_placed k.plan slot v.at))
+
+        next_taken : parts_of (part_at k) (places k.plan next) (λ slot. stage_of k.plan (worked_by (set views by v1)) slot) ≡ taken k next
+        next_taken = parts_same (part_at k) (places k.plan next) (stage_of k.plan (worked_by (set views by v1))) (stage_before k.plan next) as_before
+
+        pub turns_valid : Valid homes xs (chain (gives_all (length xs)) (takes_all (taken k next)))
+        unfolding stage_of
+        turns_valid = (
+          valid_gives homes xs (length xs),
+          subst (λ ys. Valid homes1 ys (takes_all (taken k next))) (sym (none_left xs))
+              (subst (λ ys. Valid homes1 [] (takes_all ys)) next_taken
+              (valid_takes homes1 [] (parts_of (part_at k) (places k.plan next) (λ slot. stage_of k.plan (worked_by (set views by v1)) slot))
+              (apart_of (part_at k) all_slots (places k.plan next) (λ slot. stage_of k.plan (worked_by (set views by v1)) slot) (places_once k next))
+              (all_home Q (moves k.plan) (part_at k) Has worked all_slots homes1 (set views by v1) first (places k.plan next) (places_once k next) closed_next))),
+        )
+
+        pub turns_places : AreHome k (homes_after homes xs (chain (gives_all (length xs)) (takes_all (taken k next)))) (set views by v2)
+        unfolding stage_of
+        turns_places =
+            subst (λ ys. AreHome k (homes_after homes1 ys (takes_all (taken k next))) (set views by v2)) (sym (none_left xs))
+            (subst (λ us. AreHome k (homes_after homes1 [] (takes_all (taken k next))) us) (set_twice views by v1 v2)
+            (subst (λ ys. AreHome k (homes_after homes1 [] (takes_all ys)) (set (set views by v1) by v2)) next_taken
+            (opens_homes Q (moves k.plan) (part_at k) Has worked all_slots by (places k.plan next) homes1 (set views by v1) v1 v2 first there (places_once k next)
+            (λ slot. (let z : has_slot k.plan slot v.stage next ≡ times slot (places k.plan next) = ap (λ s. has_slot k.plan slot s next) is in omega (arith, z)))
+            (λ x. (let z : worked_in v.stage next x ≡ among a next x = ap (λ s. worked_in s next x) is in omega (arith, z, one_more x, more_worked x)))
+            closed_next)))

@@ -7,7 +7,6 @@ use native.Mathlib.Decide.{dec_le}
 use Rattle.dta_model.specs.Plans.{ins, outs}
 use Rattle.dta_model.specs.Sound.{IsSound}
 use Rattle.dta_model.specs.Units.{Task, mail_part, node_count, places, places_in, posting_part, step_of, task_of, unit_count}
-use Rattle.dta_model.specs.declared.machine.Stage.TheVariants as stage
 use Rattle.dta_model.specs.declared.plan.Plan.{Plan}
 use Rattle.cell_stages.specs.Contents.{away, cell_at, mail_at}
 use Rattle.node_transfer.specs.Exchange.{is_among}
@@ -25,7 +24,7 @@ use Rattle.phase_claims.specs.declared.part.Part.{Part}
 use Rattle.phase_claims.specs.declared.part.Part.TheVariants.{Cell, Mail, Writer}
 use Rattle.phase_claims.specs.declared.view.Scope.{Scope}
 use Rattle.phase_claims.specs.PlacesHeld.{mail_place, mail_places, node_places}
-use Rattle.phase_claims.specs.PlacesHome.{brought, carried, part_at, parts_of, posted_in}
+use Rattle.phase_claims.specs.PlacesHome.{brought, part_at, parts_of, posted_in, taken}
 
 pub lt_is : (a b : ℕ) → a < b → nat_lt a b ≡ true
 lt_is a b h = grind (arith, nat_tests)
@@ -75,7 +74,7 @@ module _ (k : Scope) where
     within : (l : ℕ) → 1 ≤ times l links → l < length p.net.links
     within l h = dite (dec_le (length p.net.links) l) (λ over. absurd (omega (arith, past l over, h))) (λ low. lt_of_not-le low)
 
-    pub node_carried : (F : ℕ → mail.Mail) → ((l : ℕ) → mail_at p l s ≡ F l) → carried k (stage.Open c) ≡ node_places p a (cell_at p a s) F links
+    pub node_carried : (F : ℕ → mail.Mail) → ((l : ℕ) → mail_at p l s ≡ F l) → taken k c ≡ node_places p a (cell_at p a s) F links
     node_carried F is =
         ap (λ xs. parts_of (part_at k) xs (stage_before p c)) are
         ∙ ap (λ y. (a, y) ∷ parts_of (part_at k) (map (mail_part p) links) (stage_before p c)) (part_cell a (stage_before p c a) m.node ∙ ap (λ x. Cell (cell_at p a x)) (m.cell_stage a m.node))
@@ -125,7 +124,7 @@ module _ (k : Scope) where
     moved_now : (l : ℕ) → moves p (mail_part p l) c ≡ times l (links_of p h)
     moved_now l = moves_by p sound c h.node.0 (half_task h.half h.node.0) task_is (mail_part p l) ∙ mail_by h.half h.node.0 node_is.node l
 
-    pub half_carried : carried k (stage.Open c) ≡ node_places p h.node.0 (taking_cell p h away) (taken_mail p h) (links_of p h)
+    pub half_carried : taken k c ≡ node_places p h.node.0 (taking_cell p h away) (taken_mail p h) (links_of p h)
     half_carried =
         node_carried c h.node.0 (half_stage h.half h.step) (links_of p h) node_is places_now (past_by h.half h.node.0) moved_now (taken_mail p h) (λ l. mail_taken h.half p l h.step)
         ∙ ap (λ x. node_places p h.node.0 x (taken_mail p h) (links_of p h)) (cell_taken h.half p h.node.0 h.step)
@@ -148,9 +147,9 @@ module _ (k k' : Scope) (q : Plan) (same : k ≡ k') (plan : q ≡ k.plan) (soun
   pub half_may : IsHalf q h
   half_may = subst (λ (x : Plan). IsHalf x h) (sym plan) (half_step k.plan sound u N few_here nodes h is_half)
 
-  pub half_has : (xs : List (ℕ × Part)) → xs ≡ carried k' (stage.Open u) → xs ≡ node_places q h.node.0 (taking_cell q h away) (taken_mail q h) (links_of q h)
+  pub half_has : (xs : List (ℕ × Part)) → xs ≡ taken k' u → xs ≡ node_places q h.node.0 (taking_cell q h away) (taken_mail q h) (links_of q h)
   half_has xs e =
-      e ∙ ap (λ (j : Scope). carried j (stage.Open u)) (sym same) ∙ half_carried k sound u few_here h half_here
+      e ∙ ap (λ (j : Scope). taken j u) (sym same) ∙ half_carried k sound u few_here h half_here
       ∙ ap (λ (x : Plan). node_places x h.node.0 (taking_cell x h away) (taken_mail x h) (links_of x h)) (sym plan)
 
   pub half_brings : (xs : List (ℕ × Part)) → xs ≡ node_places q h.node.0 (leaving_cell q h away) (left_mail q h) (links_of q h) → xs ≡ brought k' u

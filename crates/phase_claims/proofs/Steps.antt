@@ -1,27 +1,28 @@
 -- Each step on the words keeps the running rule.
-use Rattle.std.proofs.Common.{◌≡◌, ◌≢◌, ℕ, zero, suc, ◌+◌, ◌-◌, ◌<◌, ◌≤◌, min, true, List, [], ◌∷◌, ◌++◌, length, length-append, set, refl, sym, ap, ◌∙◌, subst, ⊎_elim, lt_of_not-le, arith}
-use Rattle.std.proofs.lemmas.Bool.Decides.{nat_tests}
+use Rattle.std.proofs.Common.{◌≡◌, ◌≢◌, ℕ, zero, suc, ◌+◌, ◌-◌, ◌*◌, ◌<◌, ◌≤◌, min, true, List, [], ◌∷◌, ◌++◌, length, length-append, set, refl, sym, ap, ◌∙◌, subst, ⊎_elim, lt_of_not-le, arith}
 use mathlib.Core.Option.{some, some-injective, some-ne-none}
 use mathlib.Core.Logic.{dite}
 use native.Mathlib.Decide.{dec_le}
 use lib.ListN.{get_elem?}
 use Rattle.atomic_table.proofs.Lists.{at_snoc, set_else}
-use Rattle.dta_model.specs.Machine.{holds_unit}
 use Rattle.dta_model.specs.Units.{node_count, phase_end, phase_start, unit_count}
-use Rattle.dta_model.specs.declared.machine.Stage.{Stage}
-use Rattle.dta_model.specs.declared.machine.Stage.TheVariants as stage
 use Rattle.claim_core.specs.Claimed.{Claimed}
-use Rattle.claim_core.specs.Sums.{below, is_at, once_below, one_if, times, total}
-use Rattle.claim_core.proofs.Claimed.{draw, finish, finished_le, none_held, open_now}
+use Rattle.claim_core.specs.Runs.{among, numbers}
+use Rattle.claim_core.specs.Sums.{below, is_at, once_below, times, total}
+use Rattle.claim_core.proofs.Claimed.{draw, finish, finished_le, none_held, not_past, open_now}
 use Rattle.claim_core.proofs.Cuts.{below_same}
 use Rattle.claim_core.proofs.Phases.{lt_stop, same_start, same_stop, start_le}
-use Rattle.claim_core.proofs.Sums.{at_self, below_at_le, below_plus, full, once_here, once_in, total-append, total_at, total_le, total_only, total_set, total_snoc}
+use Rattle.claim_core.proofs.Runs.{among_in, among_two, below_among, is_among, length-numbers, times_numbers}
+use Rattle.claim_core.proofs.Sums.{below_plus, full, once_here, once_in, once_le, once_out, total-append, total_at, total_le, total_only, total_set, total_snoc}
+use Rattle.phase_claims.specs.declared.floor.TheConstants.{MOST_CHUNK}
+use Rattle.phase_claims.specs.declared.view.Hold.{Hold}
+use Rattle.phase_claims.specs.declared.view.Hold.TheVariants as hold
 use Rattle.phase_claims.specs.declared.view.Scope.{Scope}
 use Rattle.phase_claims.specs.declared.view.View.{View}
 use Rattle.phase_claims.specs.Passes.{holds_no_unit}
-use Rattle.phase_claims.specs.Running.{FitsPast, FitsView, Running}
-use Rattle.phase_claims.specs.Views.{beginning, both_stages, ended, held_by, holding, holds, joined, less_spare, nobody, performed_by, performed_count, performs, rights, seeing}
-use Rattle.phase_claims.proofs.Counts.{claimed_same, each_set, holds_held, holds_none, holds_open, none_both, not_open}
+use Rattle.phase_claims.specs.Running.{EarlierArePerformed, FitsPast, FitsStage, FitsView, Running}
+use Rattle.phase_claims.specs.Views.{beginning, both_stages, ended, held_by, holding, holds, joined, left_of, less_spare, nobody, performed_by, performed_count, performs, rights, seeing}
+use Rattle.phase_claims.proofs.Counts.{claimed_same, each_set, holds_held, holds_idle, holds_left, holds_none, holds_open, left_by, none_both}
 
 module _ (k : Scope) (w n : ℕ) (views : List View) (r : Running k w n views) where
   abbrev N : ℕ
@@ -33,12 +34,18 @@ module _ (k : Scope) (w n : ℕ) (views : List View) (r : Running k w n views) w
   abbrev g : ℕ
   g = min w Q
 
-  -- a unit that a pass holds was drawn, and is held
-  pub held_in : (by c : ℕ) (v : View) → get_elem? views by ≡ some v → ((x : ℕ) → holds x v ≡ is_at x c) → (1 ≤ held_by views c) × (c < g)
+  -- a number that a pass holds was drawn, and is held
+  pub held_in : (by c : ℕ) (v : View) → get_elem? views by ≡ some v → 1 ≤ holds c v → (1 ≤ held_by views c) × (c < g)
   held_in by c v e h =
       let most = total_at (holds c) views by v e in
-      let one : 1 ≤ held_by views c = omega (arith, h c, at_self c, most) in
+      let one : 1 ≤ held_by views c = omega (arith, h, most) in
       (one, once_in c g (omega (arith, r.claimed.once c, one)))
+
+  -- so are all of them
+  pub held_most : (by a b : ℕ) (v : View) → get_elem? views by ≡ some v → ((x : ℕ) → holds x v ≡ among a b x) → a < b → b ≤ g
+  held_most by a b v e is lt =
+      let last : 1 ≤ holds (b - 1) v = omega (arith, is (b - 1), among_in a b (b - 1) (omega (arith, lt)) (omega (arith, lt))) in
+      omega (arith, lt, (held_in by (b - 1) v e last).1)
 
   pub finished_most : n ≤ Q
   finished_most = omega (arith, finished_le N g n (performed_by views) (held_by views) r.claimed)
@@ -50,135 +57,214 @@ module _ (k : Scope) (w n : ℕ) (views : List View) (r : Running k w n views) w
         (λ x. omega (arith, total_set (performs x) views by v v' e, ap (times x) same_done))
         (λ x. omega (arith, total_set (holds x) views by v v' e, same_holds x));
     performed = omega (arith, r.performed, total_set performed_count views by v v' e, ap length same_done);
-    past = omega (arith, r.past, total_set (λ v. v.past) views by v v' e);
-    rights = omega (arith, r.rights, total_set rights views by v v' e);
+    past = omega (arith, r.past, total_set (λ v. v.past) views by v v' e, same_past);
+    rights = omega (arith, r.rights, total_set rights views by v v' e, same_weight, same_spare);
     each = each_set (FitsView k n) views by v' (λ j u _ a. r.each j u a) fits;
   }
 
-  -- a draw of a unit
-  pub draws_unit : (by : ℕ) (v : View) → get_elem? views by ≡ some v → v.stage ≡ stage.Idle → 1 ≤ v.weight → w < Q → Running k (suc w) n (set views by (holding v w))
-  draws_unit by v e idle has lt =
-      let v' : View = holding v w in
+  -- a draw of units, where the last of the chunk may be past the last unit
+  pub draws_units : (by many : ℕ) (v : View) → get_elem? views by ≡ some v → v.stage ≡ hold.Idle → 1 ≤ v.weight → 1 ≤ many → many ≤ MOST_CHUNK → w < Q → Running k (w + many) n (set views by (holding v w many))
+  draws_units by many v e idle has one few lt =
+      let v' : View = holding v w many in
       let views' : List View = set views by v' in
       let f = r.each by v e in
-      let before : g ≡ w = omega arith in
-      let after : suc w ≡ min (suc w) Q = omega arith in
-      let more : (x : ℕ) → held_by views' x ≡ held_by views x + is_at x w = λ x.
-      (let t = total_set (holds x) views by v v' e in let z : holds x v ≡ 0 = ap (λ s. one_if (holds_unit x s)) idle in omega (arith, t, z)) in
+      let units : unit_count v.scope.plan ≡ Q = ap (λ (j : Scope). unit_count j.plan) (f.scope has) in
+      let before : g ≡ w = omega (arith, lt) in
+      let stop : ℕ = min (w + many) Q in
+      let stops : min (w + many) (unit_count v.scope.plan) ≡ stop = ap (λ q. min (w + many) q) units in
+      let more : (x : ℕ) → held_by views' x ≡ held_by views x + among w stop x = λ x.
+      (let t = total_set (holds x) views by v v' e in omega (arith, t, holds_idle v.stage x idle, ap (λ b. among w b x) stops)) in
       let was : Claimed N w n (performed_by views) (held_by views) = subst (λ (b : ℕ). Claimed N b n (performed_by views) (held_by views)) before r.claimed in
-      let drawn : Claimed N (suc w) n (performed_by views) (held_by views') = draw N w n (performed_by views) (held_by views) was (held_by views') more in
-      let whole : Claimed N (suc w) n (performed_by views') (held_by views') = claimed_same N (suc w) n (performed_by views) (held_by views') (performed_by views') (held_by views') drawn
-      (λ x. omega (arith, total_set (performs x) views by v v' e)) (λ x. refl) in record {
-        claimed = subst (λ (b : ℕ). Claimed N b n (performed_by views') (held_by views')) after whole;
+      let drawn : Claimed N stop n (performed_by views) (held_by views') = draw N w n (performed_by views) (held_by views) was stop (held_by views') (omega (arith, lt)) more in
+      let none : v.past ≡ 0 = omega (arith, r.past, before, total_at (λ (u : View). u.past) views by v e) in
+      let past' : v'.past ≡ v.past + (w + many - Q) = ap (λ q. v.past + (w + many - q)) units in record {
+        claimed = claimed_same N stop n (performed_by views) (held_by views') (performed_by views') (held_by views') drawn
+            (λ x. omega (arith, total_set (performs x) views by v v' e)) (λ x. refl);
         performed = omega (arith, r.performed, total_set performed_count views by v v' e);
-        past = omega (arith, r.past, total_set (λ v. v.past) views by v v' e);
+        past = omega (arith, r.past, total_set (λ v. v.past) views by v v' e, past', lt);
         rights = omega (arith, r.rights, total_set rights views by v v' e);
         each = each_set (FitsView k n) views by v' (λ j u _ a. r.each j u a) record {
           scope = f.scope;
           seen = f.seen;
-          past = subst (λ (s : Stage). FitsPast s v.past) idle f.past;
-          most = f.most;
-          empty = λ z. absurd (omega arith);
-          phase = λ c s. absurd (cc);
+          past = omega (arith, past', none, has, few, lt);
+          empty = λ z. absurd (omega (arith, z, has));
+          stage = omega (arith, stops, one, lt);
         };
       }
 
   -- a draw past the last unit
-  pub draws_none : (by : ℕ) (v : View) → get_elem? views by ≡ some v → v.stage ≡ stage.Idle → 1 ≤ v.weight → Q ≤ w → Running k (suc w) n (set views by (ended v))
-  draws_none by v e idle has le =
-      let v' : View = ended v in
+  pub draws_none : (by many : ℕ) (v : View) → get_elem? views by ≡ some v → v.stage ≡ hold.Idle → 1 ≤ v.weight → 1 ≤ many → many ≤ MOST_CHUNK → Q ≤ w → Running k (w + many) n (set views by (ended v many))
+  draws_none by many v e idle has one few le =
+      let v' : View = ended v many in
       let views' : List View = set views by v' in
       let f = r.each by v e in
-      let none : v.past ≡ 0 = subst (λ (s : Stage). FitsPast s v.past) idle f.past in
-      let same : g ≡ min (suc w) Q = omega arith in
+      let low : v.past ≤ v.weight * MOST_CHUNK = subst (λ (s : Hold). FitsPast s v.weight v.past) idle f.past in
+      let same : g ≡ min (w + many) Q = omega (arith, le) in
       let whole : Claimed N g n (performed_by views') (held_by views') = claimed_same N g n (performed_by views) (held_by views) (performed_by views') (held_by views') r.claimed
       (λ x. omega (arith, total_set (performs x) views by v v' e))
-      (λ x. (let z : holds x v ≡ 0 = ap (λ s. one_if (holds_unit x s)) idle in omega (arith, total_set (holds x) views by v v' e, z))) in record {
+      (λ x. omega (arith, total_set (holds x) views by v v' e, holds_idle v.stage x idle, holds_none hold.Ended refl x)) in record {
         claimed = subst (λ (b : ℕ). Claimed N b n (performed_by views') (held_by views')) same whole;
         performed = omega (arith, r.performed, total_set performed_count views by v v' e);
-        past = omega (arith, r.past, total_set (λ v. v.past) views by v v' e);
+        past = omega (arith, r.past, total_set (λ v. v.past) views by v v' e, le);
         rights = omega (arith, r.rights, total_set rights views by v v' e);
         each = each_set (FitsView k n) views by v' (λ j u _ a. r.each j u a) record {
           scope = f.scope;
           seen = f.seen;
-          past = omega arith;
-          most = omega arith;
-          empty = λ z. absurd (omega arith);
-          phase = λ c s. absurd (cc);
+          past = (omega (arith, one), omega (arith, low, has, few));
+          empty = λ z. absurd (omega (arith, z, has));
+          stage = tt;
         };
       }
 
-  -- a look that opens
-  pub opens : (by c : ℕ) (v : View) → get_elem? views by ≡ some v → v.stage ≡ stage.Held c → 1 ≤ v.weight → phase_start N c ≤ n → Running k w n (set views by (record v { stage = stage.Open c; seen = n }))
-  opens by c v e is has le =
-      let f = r.each by v e in
-      let held = held_in by c v e (λ x. holds_held v.stage c x is) in
-      let now = open_now N g n (performed_by views) (held_by views) r.claimed c held.0 le in
-      looks by v (record v { stage = stage.Open c; seen = n }) e (λ x. sym (holds_held v.stage c x is)) refl refl refl refl record {
-        scope = f.scope;
-        seen = omega arith;
-        past = subst (λ (s : Stage). FitsPast s v.past) is f.past;
-        most = f.most;
-        empty = λ z. absurd (omega arith);
-        phase = λ d s. (let same : c ≡ d = (cc) in subst (λ (y : ℕ). (phase_start N n ≤ y) × (y < phase_end N n)) same now);
-      }
+  -- where the phase of the first number has begun, its numbers of that phase are open
+  module _ (by a b : ℕ) (v : View) (e : get_elem? views by ≡ some v) (is : v.stage ≡ hold.Held a b) (le : phase_start N a ≤ n) where
+    abbrev stop_of : ℕ
+    stop_of = min b (phase_end N a)
 
-  -- and one that doesn't
+    pub holds_all : (x : ℕ) → holds x v ≡ among a b x
+    holds_all x = holds_held v.stage a b x is
+
+    pub in_order : a < b
+    in_order = subst (λ s. FitsStage N n s v.at) is (r.each by v e).stage
+
+    pub opens_now : (phase_start N n ≤ a) × (a < stop_of) × (stop_of ≤ phase_end N n)
+    opens_now =
+        let first : 1 ≤ holds a v = omega (arith, holds_all a, among_in a b a (omega arith) in_order) in
+        let now = open_now N g n (performed_by views) (held_by views) r.claimed a (held_in by a v e first).0 le in
+        (now.0, omega (arith, in_order, lt_stop N a), omega (arith, same_stop N n a now.0 now.1))
+
+    pub opens : 1 ≤ v.weight → Running k w n (set views by (record v { stage = hold.Open a stop_of b; at = a; seen = n; looks = v.looks + 1 }))
+    opens has =
+        let f = r.each by v e in
+        looks by v (record v { stage = hold.Open a stop_of b; at = a; seen = n; looks = v.looks + 1 }) e (λ x. sym (holds_held v.stage a b x is)) refl refl refl refl record {
+          scope = f.scope;
+          seen = omega arith;
+          past = subst (λ (s : Hold). FitsPast s v.weight v.past) is f.past;
+          empty = λ z. absurd (omega (arith, z, has));
+          stage = (omega arith, opens_now.1, omega arith, opens_now.0, opens_now.2);
+        }
+
+  -- and where it hasn't, none is
   pub waits : (by : ℕ) (v : View) → get_elem? views by ≡ some v → 1 ≤ v.weight → Running k w n (set views by (seeing v n))
   waits by v e has =
       let f = r.each by v e in
-      looks by v (seeing v n) e (λ x. refl) refl refl refl refl record { scope = f.scope; seen = omega arith; past = f.past; most = f.most; empty = λ z. absurd (omega arith); phase = f.phase }
+      looks by v (seeing v n) e (λ x. refl) refl refl refl refl record { scope = f.scope; seen = omega arith; past = f.past; empty = λ z. absurd (omega (arith, z, has)); stage = f.stage }
 
-  -- a pass with all passes in it finds its unit's phase begun
-  pub alone : (by c : ℕ) (v : View) → get_elem? views by ≡ some v → v.stage ≡ stage.Held c → rights v ≡ k.passes → phase_start N c ≤ n
-  alone by c v e is whole =
-      let others : (j : ℕ) (u : View) → j ≢ by → get_elem? views j ≡ some u → u ≡ nobody = λ j u ne a.
-      (r.each j u a).empty (let s = total_set rights views j u nobody a in let t = total_at rights (set views j nobody) by v (set_else views j by nobody (λ q. ne (sym q)) ∙ e) in
+  pub earlier : (c : ℕ) → 1 ≤ held_by views c → phase_start N c ≤ n → EarlierArePerformed N c views
+  earlier c held le x lt =
+      let now = open_now N g n (performed_by views) (held_by views) r.claimed c held le in
+      omega (arith, r.claimed.before x (omega (arith, lt, same_start N n c now.0 now.1)), r.claimed.once x, one x)
+    where
+      one : (x : ℕ) → once_below x g ≤ 1
+      one x = once_le x g
+
+  -- a pass with all passes in it finds the phase of its first number begun
+  pub alone : (by a b : ℕ) (v : View) → get_elem? views by ≡ some v → v.stage ≡ hold.Held a b → rights v ≡ k.passes → phase_start N a ≤ n
+  alone by a b v e is whole =
+      let lt : a < b = subst (λ s. FitsStage N n s v.at) is (r.each by v e).stage in
+      let others : (j : ℕ) (u : View) → j ≢ by → get_elem? views j ≡ some u → u ≡ nobody = λ j u ne at.
+      (r.each j u at).empty (let s = total_set rights views j u nobody at in let t = total_at rights (set views j nobody) by v (set_else views j by nobody (λ q. ne (sym q)) ∙ e) in
       omega (arith, s, t, r.rights)) in
-      let held = held_in by c v e (λ x. holds_held v.stage c x is) in
-      let only : (x : ℕ) → held_by views x ≡ is_at x c = λ x. total_only (holds x) views by v e (λ j u ne a. ap (holds x) (others j u ne a)) ∙ holds_held v.stage c x is in
-      let one : below g (held_by views) ≡ below g (λ x. is_at x c) = below_same (held_by views) (λ x. is_at x c) g (λ x _. only x) in
+      let mine : (x : ℕ) → holds x v ≡ among a b x = λ x. holds_held v.stage a b x is in
+      let only : (x : ℕ) → held_by views x ≡ among a b x = λ x. total_only (holds x) views by v e (λ j u ne at. ap (holds x) (others j u ne at) ∙ holds_idle hold.Idle x refl) ∙ mine x in
+      let most : b ≤ g = held_most by a b v e mine lt in
+      let count : below g (held_by views) ≡ b - a = below_same (held_by views) (among a b) g (λ x _. only x) ∙ below_among a b g (omega (arith, lt)) most in
       let all : g ≤ below g (λ x. performed_by views x + held_by views x) = full (λ x. performed_by views x + held_by views x) g (λ x l. omega (arith, r.claimed.once x, once_here x g l)) in
-      omega (arith, start_le N c, held.1, all, below_plus (performed_by views) (held_by views) g, one, below_at_le c g, r.claimed.sum)
+      omega (arith, lt, most, count, all, below_plus (performed_by views) (held_by views) g, r.claimed.sum, start_le N a)
 
   pub own : (by : ℕ) (v : View) → get_elem? views by ≡ some v → performed_count v ≤ n
   own by v e = omega (arith, total_at performed_count views by v e, r.performed)
 
-  pub finishes : (by c : ℕ) (v : View) → get_elem? views by ≡ some v → v.stage ≡ stage.Open c → 1 ≤ v.weight → Running k w (suc n) (set views by (record v { stage = stage.Idle; performed = v.performed ++ c ∷ [] }))
-  finishes by c v e is has =
-      let f = r.each by v e in
-      let v' : View = record v { stage = stage.Idle; performed = v.performed ++ c ∷ [] } in
-      let views' : List View = set views by v' in
-      let at = f.phase c is in
-      let held = held_in by c v e (λ x. holds_open v.stage c x is) in
-      let plus : (x : ℕ) → performs x v' ≡ performs x v + is_at x c = λ x. (let s : times x (v.performed ++ c ∷ []) ≡ times x v.performed + (is_at x c + 0) = total-append (is_at x) v.performed (c ∷ []) in omega (arith, s)) in
-      let longer : performed_count v' ≡ suc (performed_count v) = length-append v.performed (c ∷ []) ∙ omega arith in
-      let more : (x : ℕ) → performed_by views' x ≡ performed_by views x + is_at x c = λ x. omega (arith, total_set (performs x) views by v v' e, plus x) in
-      let less : (x : ℕ) → held_by views' x + is_at x c ≡ held_by views x = λ x. omega (arith, total_set (holds x) views by v v' e, holds_open v.stage c x is) in
-      let step : Claimed N g (suc n) (performed_by views') (held_by views') = finish N g n (performed_by views) (held_by views) r.claimed c held.0 at.0 at.1 (performed_by views') (held_by views') more less in record {
-        claimed = step;
-        performed = omega (arith, r.performed, total_set performed_count views by v v' e, longer);
-        past = omega (arith, r.past, total_set (λ v. v.past) views by v v' e);
-        rights = omega (arith, r.rights, total_set rights views by v v' e);
-        each = each_set (FitsView k (suc n)) views by v'
-            (λ j u ne a. let q = r.each j u a in record {
-              scope = q.scope;
-              seen = omega (arith, q.seen);
-              past = q.past;
-              most = q.most;
-              empty = q.empty;
-              phase = λ d s. (let i = q.phase d s in dite (dec_le (phase_end N n) (suc n))
-                  (λ last. let m : phase_end N n ≡ suc n = omega (arith, lt_stop N n) in
-                  let none = none_held N g n (performed_by views) (held_by views) r.claimed c held.0 at.0 at.1 (performed_by views') (held_by views') more less m d i.1 in
-                  let there : get_elem? views' j ≡ some u = set_else views by j v' ne ∙ a in
-                  absurd (omega (arith, none, total_at (holds d) views' j u there, holds_open u.stage d d s, at_self d)))
-                  (λ rest. let l : suc n < phase_end N n = lt_of_not-le rest in
-                  let b = same_start N n (suc n) (omega (arith, start_le N n)) l in
-                  let t = same_stop N n (suc n) (omega (arith, start_le N n)) l in
-                  (omega (arith, i.0, b), omega (arith, i.1, t))));
-            })
-            record { scope = f.scope; seen = omega (arith, f.seen); past = subst (λ (s : Stage). FitsPast s v.past) is f.past; most = f.most; empty = λ z. absurd (omega arith); phase = λ d s. absurd (cc) };
-      }
+  -- a finish of the open numbers
+  module _ (by a m b : ℕ) (v : View) (e : get_elem? views by ≡ some v) (is : v.stage ≡ hold.Open a m b) where
+    abbrev done_view : View
+    done_view = record v { stage = left_of (hold.Open a m b); performed = v.performed ++ numbers a m }
+
+    abbrev views' : List View
+    views' = set views by done_view
+
+    fits : FitsStage N n (hold.Open a m b) v.at
+    fits = subst (λ s. FitsStage N n s v.at) is (r.each by v e).stage
+
+    pub stands : (a < m) × (m ≤ b) × (phase_start N n ≤ a) × (m ≤ phase_end N n)
+    stands = (omega (arith, fits.0, fits.1), fits.2, fits.3, fits.4)
+
+    -- the unit that it is at is one of them
+    pub is_at_one : (a ≤ v.at) × (v.at < m)
+    is_at_one = (fits.0, fits.1)
+
+    -- the next one is, where there is one
+    pub turns : 1 ≤ v.weight → suc v.at < m → Running k w n (set views by (record v { at = suc v.at }))
+    turns has lt =
+        let f = r.each by v e in
+        looks by v (record v { at = suc v.at }) e (λ x. refl) refl refl refl refl record {
+          scope = f.scope;
+          seen = f.seen;
+          past = f.past;
+          empty = λ z. absurd (omega (arith, z, has));
+          stage = subst (λ s. FitsStage N n s (suc v.at)) (sym is) (omega (arith, fits.0), lt, fits.2, fits.3, fits.4);
+        }
+
+    pub has_all : (x : ℕ) → holds x v ≡ among a b x
+    has_all x = holds_open v.stage a m b x is
+
+    pub all_drawn : m ≤ g
+    all_drawn = omega (arith, stands.1, held_most by a b v e has_all (omega (arith, stands.0, stands.1)))
+
+    pub plus : (x : ℕ) → performs x done_view ≡ performs x v + among a m x
+    plus x = omega (arith, total-append (is_at x) v.performed (numbers a m), times_numbers a m x (omega (arith, stands.0)))
+
+    more : (x : ℕ) → performed_by views' x ≡ performed_by views x + among a m x
+    more x = omega (arith, total_set (performs x) views by v done_view e, plus x)
+
+    less : (x : ℕ) → held_by views' x + among a m x ≡ held_by views x
+    less x = omega (arith, total_set (holds x) views by v done_view e, has_all x, holds_left a m b x, among_two a m b x (omega (arith, stands.0)) stands.1)
+
+    count : m - a ≡ below g (among a m)
+    count = sym (below_among a m g (omega (arith, stands.0)) all_drawn)
+
+    within : (x : ℕ) → 1 ≤ among a m x → x < phase_end N n
+    within x h = omega (arith, (is_among a m x h).1, stands.3)
+
+    pub step : Claimed N g (n + (m - a)) (performed_by views') (held_by views')
+    step = finish N g n (performed_by views) (held_by views) r.claimed (among a m) (m - a) count within (performed_by views') (held_by views') more less
+
+    pub finished_few : n + (m - a) ≤ Q
+    finished_few = omega (arith, finished_le N g (n + (m - a)) (performed_by views') (held_by views') step)
+
+    -- the units that another pass has open are of the same phase still
+    others_stay : (j : ℕ) (u : View) → j ≢ by → get_elem? views j ≡ some u → (s : Hold) → u.stage ≡ s → FitsStage N n s u.at → FitsStage N (n + (m - a)) s u.at
+    others_stay j u ne at hold.Idle q f = tt
+    others_stay j u ne at (hold.Held c d) q f = f
+    others_stay j u ne at hold.Ended q f = tt
+    others_stay j u ne at (hold.Open c l d) q f = dite (dec_le (phase_end N n) (n + (m - a)))
+        (λ last. let over : phase_end N n ≡ n + (m - a) = omega (arith, last, not_past N g n (performed_by views) (held_by views) r.claimed (among a m) (m - a) count within (performed_by views') (held_by views') more less) in
+        let none = none_held N g n (performed_by views) (held_by views) r.claimed (among a m) (m - a) count within (performed_by views') (held_by views') more less over c (omega (arith, f.0, f.1, f.4)) in
+        let there : get_elem? views' j ≡ some u = set_else views by j done_view ne ∙ at in
+        absurd (omega (arith, none, total_at (holds c) views' j u there, holds_open u.stage c l d c q, among_in c d c (omega arith) (omega (arith, f.0, f.1, f.2)))))
+        (λ rest. let lt : n + (m - a) < phase_end N n = lt_of_not-le rest in
+        let s = same_start N n (n + (m - a)) (omega (arith, start_le N n)) lt in
+        let t = same_stop N n (n + (m - a)) (omega (arith, start_le N n)) lt in
+        (f.0, f.1, f.2, omega (arith, f.3, s), omega (arith, f.4, t)))
+
+    pub finishes : 1 ≤ v.weight → Running k w (n + (m - a)) views'
+    finishes has =
+        let f = r.each by v e in
+        let longer : performed_count done_view ≡ performed_count v + (m - a) = length-append v.performed (numbers a m) ∙ ap (λ c. length v.performed + c) (length-numbers a m) in record {
+          claimed = step;
+          performed = omega (arith, r.performed, total_set performed_count views by v done_view e, longer);
+          past = omega (arith, r.past, total_set (λ v. v.past) views by v done_view e);
+          rights = omega (arith, r.rights, total_set rights views by v done_view e);
+          each = each_set (FitsView k (n + (m - a))) views by done_view
+              (λ j u ne at. let q = r.each j u at in record { scope = q.scope; seen = omega (arith, q.seen); past = q.past; empty = q.empty; stage = others_stay j u ne at u.stage refl q.stage })
+              record {
+                scope = f.scope;
+                seen = omega (arith, f.seen);
+                past = left_by (λ s. FitsPast s v.weight v.past) a m b (λ _. subst (λ (s : Hold). FitsPast s v.weight v.past) is f.past) (λ _. subst (λ (s : Hold). FitsPast s v.weight v.past) is f.past);
+                empty = λ z. absurd (omega (arith, z, has));
+                stage = left_by (λ s. FitsStage N (n + (m - a)) s v.at) a m b (λ lt. lt) (λ _. tt);
+              };
+        }
 
   pub splits : (by : ℕ) (v : View) → get_elem? views by ≡ some v → 1 ≤ v.weight → 1 ≤ v.spare → Running k w n (set views by (less_spare v) ++ beginning v.scope 0 ∷ [])
   splits by v e has spare =
@@ -188,24 +274,34 @@ module _ (k : Scope) (w n : ℕ) (views : List View) (r : Running k w n views) w
       let views' : List View = set views by v' ++ u ∷ [] in
       let sum_of : (f : View → ℕ) → total f views' + f v ≡ total f views + f v' + f u = λ f. omega (arith, total_set f views by v v' e, total_snoc f (set views by v') u) in record {
         claimed = claimed_same N g n (performed_by views) (held_by views) (performed_by views') (held_by views') r.claimed
-            (λ x. omega (arith, sum_of (performs x))) (λ x. omega (arith, sum_of (holds x)));
+            (λ x. omega (arith, sum_of (performs x))) (λ x. omega (arith, sum_of (holds x), holds_idle u.stage x refl));
         performed = omega (arith, r.performed, sum_of performed_count);
         past = omega (arith, r.past, sum_of (λ v. v.past));
-        rights = omega (arith, r.rights, sum_of rights);
+        rights = omega (arith, r.rights, sum_of rights, spare);
         each = λ j y i. ⊎_elim
-            (λ was. each_set (FitsView k n) views by v' (λ j u _ a. r.each j u a) record { scope = f.scope; seen = f.seen; past = f.past; most = f.most; empty = λ z. absurd (omega arith); phase = f.phase } j y was)
-            (λ same. subst (FitsView k n) same record { scope = λ _. f.scope has; seen = omega arith; past = refl; most = omega arith; empty = λ z. absurd (omega arith); phase = λ d s. absurd (cc) })
+            (λ was. each_set (FitsView k n) views by v' (λ j u _ a. r.each j u a) record { scope = f.scope; seen = f.seen; past = f.past; empty = λ z. absurd (omega (arith, z, has)); stage = f.stage } j y was)
+            (λ same. subst (FitsView k n) same record { scope = λ _. f.scope has; seen = omega arith; past = omega arith; empty = λ z. absurd (omega (arith, z)); stage = tt })
             (at_snoc (set views by v') u y j i);
       }
 
-  past_both : (a b : Stage) (i j : ℕ) → holds_no_unit a ≡ true → holds_no_unit b ≡ true → FitsPast a i → FitsPast b j → FitsPast (both_stages a b) (i + j)
-  past_both stage.Idle stage.Idle i j ha hb fa fb = omega (arith, fa, fb)
-  past_both stage.Idle stage.Ended i j ha hb fa fb = omega (arith, fa, fb)
-  past_both stage.Ended b i j ha hb fa fb = omega (arith, fa)
-  past_both (stage.Held c) b i j ha hb fa fb = absurd (cc)
-  past_both (stage.Open c) b i j ha hb fa fb = absurd (cc)
-  past_both a (stage.Held c) i j ha hb fa fb = absurd (cc)
-  past_both a (stage.Open c) i j ha hb fa fb = absurd (cc)
+  past_both : (a b : Hold) (v u i j : ℕ) → holds_no_unit a ≡ true → holds_no_unit b ≡ true → FitsPast a v i → FitsPast b u j → FitsPast (both_stages a b) (v + u) (i + j)
+  past_both hold.Idle hold.Idle v u i j ha hb fa fb = omega (arith, fa, fb)
+  past_both hold.Idle hold.Ended v u i j ha hb fa fb = (omega (arith, fb.0), omega (arith, fa, fb.1))
+  past_both hold.Ended hold.Idle v u i j ha hb fa fb = (omega (arith, fa.0), omega (arith, fa.1, fb))
+  past_both hold.Ended hold.Ended v u i j ha hb fa fb = (omega (arith, fa.0), omega (arith, fa.1, fb.1))
+  past_both (hold.Held c d) b v u i j ha hb fa fb = absurd (cc)
+  past_both (hold.Open c m d) b v u i j ha hb fa fb = absurd (cc)
+  past_both a (hold.Held c d) v u i j ha hb fa fb = absurd (cc)
+  past_both a (hold.Open c m d) v u i j ha hb fa fb = absurd (cc)
+
+  stage_both : (a b : Hold) → holds_no_unit a ≡ true → holds_no_unit b ≡ true → FitsStage N n (both_stages a b) 0
+  stage_both hold.Idle hold.Idle ha hb = tt
+  stage_both hold.Idle hold.Ended ha hb = tt
+  stage_both hold.Ended b ha hb = tt
+  stage_both (hold.Held c d) b ha hb = absurd (cc)
+  stage_both (hold.Open c m d) b ha hb = absurd (cc)
+  stage_both a (hold.Held c d) ha hb = absurd (cc)
+  stage_both a (hold.Open c m d) ha hb = absurd (cc)
 
   pub joins : (by other : ℕ) (v u : View) → get_elem? views by ≡ some v → other ≢ by → get_elem? (set views by (joined v u)) other ≡ some u → holds_no_unit v.stage ≡ true → holds_no_unit u.stage ≡ true → 1 ≤ v.weight → Running k w n (set (set views by (joined v u)) other nobody)
   joins by other v u e ne there hv hu has =
@@ -218,7 +314,7 @@ module _ (k : Scope) (w n : ℕ) (views : List View) (r : Running k w n views) w
       let done_of : (x : ℕ) → performs x v' ≡ performs x v + performs x u = λ x. total-append (is_at x) v.performed u.performed in record {
         claimed = claimed_same N g n (performed_by views) (held_by views) (performed_by views') (held_by views') r.claimed
             (λ x. omega (arith, sum_of (performs x), done_of x))
-            (λ x. omega (arith, sum_of (holds x), holds_none v.stage hv x, holds_none u.stage hu x, holds_none (both_stages v.stage u.stage) (none_both v.stage u.stage hv hu) x));
+            (λ x. omega (arith, sum_of (holds x), holds_none v.stage hv x, holds_none u.stage hu x, holds_none (both_stages v.stage u.stage) (none_both v.stage u.stage hv hu) x, holds_idle hold.Idle x refl));
         performed = omega (arith, r.performed, sum_of performed_count, length-append v.performed u.performed);
         past = omega (arith, r.past, sum_of (λ v. v.past));
         rights = omega (arith, r.rights, sum_of rights);
@@ -226,37 +322,43 @@ module _ (k : Scope) (w n : ℕ) (views : List View) (r : Running k w n views) w
             (λ j y _ i. each_set (FitsView k n) views by v' (λ j y _ a. r.each j y a) record {
               scope = λ _. f.scope has;
               seen = omega (arith, f.seen, f'.seen);
-              past = past_both v.stage u.stage v.past u.past hv hu f.past f'.past;
-              most = omega (arith, f.most, f'.most);
+              past = past_both v.stage u.stage v.weight u.weight v.past u.past hv hu f.past f'.past;
               empty = λ z. absurd (omega arith);
-              phase = λ d s. absurd (not_open (both_stages v.stage u.stage) d (none_both v.stage u.stage hv hu) s);
+              stage = stage_both v.stage u.stage hv hu;
             } j y i)
-            record { scope = λ z. absurd (omega arith); seen = omega arith; past = refl; most = omega arith; empty = λ _. refl; phase = λ d s. absurd (cc) };
+            record { scope = λ z. absurd (omega arith); seen = omega arith; past = omega arith; empty = λ _. refl; stage = tt };
       }
 
-  past_le : total (λ v. v.past) views ≤ k.passes
-  past_le = omega (arith, r.rights, total_le (λ v. v.past) rights views (λ i v e. omega (arith, (r.each i v e).most)))
+  -- word 1 has room
+  past_view : (s : Hold) (weight past : ℕ) → FitsPast s weight past → past ≤ 512 * weight
+  past_view hold.Idle weight past f = omega (arith, f)
+  past_view (hold.Held a b) weight past f = omega (arith, f)
+  past_view (hold.Open a m b) weight past f = omega (arith, f)
+  past_view hold.Ended weight past f = omega (arith, f.1)
 
-  pub drawn_most : w ≤ Q + k.passes
-  drawn_most = omega (arith, r.past, past_le)
+  pub drawn_most : w ≤ Q + 512 * k.passes
+  drawn_most = omega (arith, r.past, r.rights, many_of views, total_le (λ v. v.past) (λ v. 512 * rights v) views (λ i v e. omega (arith, past_view v.stage v.weight v.past (r.each i v e).past)))
+    where
+      many_of : (vs : List View) → total (λ v. 512 * rights v) vs ≡ 512 * total rights vs
+      many_of [] = refl
+      many_of (v ∷ vs) = omega (arith, many_of vs)
 
 pub begins : (k : Scope) → 1 ≤ k.passes → Running k 0 0 (beginning k (k.passes - 1) ∷ [])
 begins k some_pass =
     let v : View = beginning k (k.passes - 1) in
     let nothing : min 0 (unit_count k.plan) ≡ 0 = omega arith in record {
-      claimed = subst (λ (b : ℕ). Claimed (node_count k.plan) b 0 (performed_by (v ∷ [])) (held_by (v ∷ []))) (sym nothing) none;
+      claimed = subst (λ (b : ℕ). Claimed (node_count k.plan) b 0 (performed_by (v ∷ [])) (held_by (v ∷ []))) (sym nothing) record {
+        once = λ x. omega (arith, holds_idle v.stage x refl, once_out x 0 (omega arith));
+        sum = refl;
+        before = λ x l. absurd (omega (arith, l, start_le (node_count k.plan) 0));
+        after = λ x l. refl;
+      };
       performed = refl;
       past = omega arith;
-      rights = omega arith;
+      rights = omega (arith, some_pass);
       each = one;
     }
   where
-    out : (x : ℕ) → 0 ≡ once_below x 0
-    out x = grind (arith, nat_tests)
-
-    none : Claimed (node_count k.plan) 0 0 (performed_by (beginning k (k.passes - 1) ∷ [])) (held_by (beginning k (k.passes - 1) ∷ []))
-    none = record { once = λ x. out x; sum = refl; before = λ x l. absurd (omega (arith, start_le (node_count k.plan) 0)); after = λ x l. refl }
-
     one : (by : ℕ) (v : View) → get_elem? (beginning k (k.passes - 1) ∷ []) by ≡ some v → FitsView k 0 v
-    one zero v e = subst (FitsView k 0) (some-injective _ _ e) record { scope = λ _. refl; seen = omega arith; past = refl; most = omega arith; empty = λ z. absurd (omega arith); phase = λ d s. absurd (cc) }
+    one zero v e = subst (FitsView k 0) (some-injective _ _ e) record { scope = λ _. refl; seen = omega arith; past = omega arith; empty = λ z. absurd (omega (arith, z)); stage = tt }
     one (suc by) v e = absurd (some-ne-none v (sym e))

@@ -8,13 +8,14 @@ use Rattle.dta_model.specs.declared.loaded.Journey.{Journey}
 use Rattle.dta_model.specs.declared.plan.Plan.{Plan}
 use Rattle.claim_core.specs.declared.units.Units.{Units}
 use Rattle.node_transfer.specs.Start.{no_journeys}
+use Rattle.phase_claims.specs.declared.floor.TheConstants.{STILL_WORD}
 use Rattle.phase_claims.specs.declared.view.Scope.{Scope}
 
--- its table has three words and is for its loading and its board, its units are those of the
--- loading, and no journey has begun
+-- its table has all words up to the one that never changes, and is for its loading and its board,
+-- its units are those of the loading, and no journey has begun
 pub record IsFloor (k : Scope) (count parts : ℕ) (p : Plan) (shown : TableId) (own : Units)
     (most : ℕ) (journeys : List Journey) : Type 0 where
-  pub words : count ≡ 3
+  pub words : count ≡ suc STILL_WORD
   pub slots : parts ≡ suc (posting_part k.plan)
   pub plan : p ≡ k.plan
   pub board : shown ≡ k.board

@@ -1,34 +1,53 @@
 -- What the running rule of a floor says, between any two steps, whatever the threads do.
-use Rattle.std.specs.Prelude.{◌≡◌, ◌≢◌, ℕ, ◌+◌, ◌≤◌, true, false, List, map}
+use Rattle.std.specs.List.{flat_map}
+use Rattle.std.specs.Prelude.{◌≡◌, ◌≢◌, ℕ, ◌+◌, ◌≤◌, List, [], ◌∷◌, ◌++◌, map}
 use mathlib.Core.Option.{some}
 use lib.ListN.{get_elem?}
 use Rattle.atomic_table.specs.Table.{State}
-use Rattle.dta_model.specs.Machine.{Claims, finished, holds_unit}
+use Rattle.dta_model.specs.Machine.{Claims, finished}
 use Rattle.dta_model.specs.State.{eight_after}
 use Rattle.dta_model.specs.Units.{node_count, phase_start, posting_part}
 use Rattle.dta_model.specs.declared.eight.Eight.{Eight}
+use Rattle.dta_model.specs.declared.machine.Stage.{Stage}
 use Rattle.dta_model.specs.declared.machine.Stage.TheVariants as stage
 use Rattle.dta_model.specs.declared.plan.Plan.{Plan}
 use Rattle.claim_core.specs.Parts.{done_in, stage_of}
+use Rattle.claim_core.specs.Runs.{among, numbers}
 use Rattle.claim_core.specs.Sums.{total}
 use Rattle.phase_claims.specs.declared.part.Part.{Part}
 use Rattle.phase_claims.specs.declared.part.Part.TheVariants.{Writer}
+use Rattle.phase_claims.specs.declared.view.Hold.{Hold}
+use Rattle.phase_claims.specs.declared.view.Hold.TheVariants as hold
 use Rattle.phase_claims.specs.declared.view.Scope.{Scope}
 use Rattle.phase_claims.specs.declared.view.View.{View}
 use Rattle.monitors.specs.Posted.{IsPrefix, last_of}
 use Rattle.phase_claims.specs.PlacesHome.{has_slot, posted_in}
 use Rattle.phase_claims.specs.Running.{EarlierArePerformed, Holds}
-use Rattle.phase_claims.specs.Views.{held_by, performed_by}
+use Rattle.phase_claims.specs.Views.{first_in, held_by, holds, open_end, performed_by}
 
--- the claims that the words and the views are: those of a worker for each pass
+-- the workers of the claim machine that a pass with a chunk is: one for each number that it holds
+abbrev pub workers_of : Hold → List Stage
+workers_of hold.Idle = stage.Idle ∷ []
+workers_of (hold.Held a b) = map stage.Held (numbers a b)
+workers_of (hold.Open a m b) = map stage.Open (numbers a m) ++ map stage.Held (numbers m b)
+workers_of hold.Ended = stage.Ended ∷ []
+
+-- the claims that the words and the views are: those of all these workers
 abbrev pub claims_of : ℕ → List View → Claims
-claims_of drawn views = record { drawn = drawn; stages = map (λ v. v.stage) views }
+claims_of drawn views = record { drawn = drawn; stages = flat_map (λ v. workers_of v.stage) views }
 
--- two passes hold no number both, and where both have a unit open the two are of one phase
-pub record AreApart (n : ℕ) (v u : View) : Type 0 where
-  pub numbers : (c : ℕ) → holds_unit c v.stage ≡ true → holds_unit c u.stage ≡ false
-  pub phases : (c d : ℕ) → v.stage ≡ stage.Open c → u.stage ≡ stage.Open d
-      → phase_start n c ≡ phase_start n d
+-- how often a pass has unit x open
+abbrev pub opens : ℕ → View → ℕ
+opens x v = among (first_in v.stage) (open_end v.stage) x
+
+-- two passes hold no number both
+abbrev pub AreApart : View → View → Type 0
+AreApart v u = (c : ℕ) → 1 ≤ holds c v → holds c u ≡ 0
+
+-- the units that they have open are of one phase
+abbrev pub AreOfOnePhase : ℕ → View → View → Type 0
+AreOfOnePhase n v u =
+    (c d : ℕ) → 1 ≤ opens c v → 1 ≤ opens d u → phase_start n c ≡ phase_start n d
 
 -- what holds of a floor's words, of the views of its passes and of its places by its rule
 pub record AreClaims (k : Scope) (s : State Part View) (h : Holds k s) : Type 0 where
@@ -40,14 +59,17 @@ pub record AreClaims (k : Scope) (s : State Part View) (h : Holds k s) : Type 0 
   -- no unit is held or performed by two passes, or twice by one
   pub once : (x : ℕ) → performed_by s.views x + held_by s.views x ≤ 1
   pub apart : (i j : ℕ) (v u : View) → i ≢ j → get_elem? s.views i ≡ some v
-      → get_elem? s.views j ≡ some u → AreApart (node_count k.plan) v u
+      → get_elem? s.views j ≡ some u → AreApart v u
+  -- all open units, of one pass or of several, are of one phase
+  pub phases : (i j : ℕ) (v u : View) → get_elem? s.views i ≡ some v
+      → get_elem? s.views j ≡ some u → AreOfOnePhase (node_count k.plan) v u
   -- where as many units are finished as come before the phase of a unit that a pass holds, it is
   -- those that are
   pub earlier : (c : ℕ) → 1 ≤ held_by s.views c → phase_start (node_count k.plan) c ≤ h.finished
       → EarlierArePerformed (node_count k.plan) c s.views
   -- while no posting is open the writer's pass is at home: a pass of the floor's board that has
   -- posted the states of the postings performed, in order, and nothing else
-  pub writer : total (λ v. has_slot k.plan (posting_part k.plan) v.stage) s.views ≡ 0
+  pub writer : total (λ v. has_slot k.plan (posting_part k.plan) v.stage v.at) s.views ≡ 0
       → get_elem? s.homes (posting_part k.plan)
       ≡ some (some (Writer (record {
         board = k.board;

@@ -1,25 +1,29 @@
 -- What a floor and a pass are to a contract, and what the calls answer.
-use Rattle.std.specs.Prelude.{◌≡◌, ℕ, ◌<◌, ◌≤◌, Bool, true, false, List, Option, Some, None}
+use Rattle.std.specs.Prelude.{◌≡◌, ◌≢◌, ℕ, suc, ◌+◌, ◌<◌, ◌≤◌, min, Bool, true, false}
+use Rattle.std.specs.Prelude.{List, Option, Some, None}
 use Rattle.atomic_table.specs.Seated.{TableId}
 use Rattle.atomic_table.specs.Table.{Me}
-use Rattle.dta_model.specs.Units.{node_count, step_of, task_of, unit_count}
-use Rattle.dta_model.specs.declared.machine.Stage.{Stage}
-use Rattle.dta_model.specs.declared.machine.Stage.TheVariants as stage
+use Rattle.dta_model.specs.Units.{node_count, phase_end, step_of, task_of, unit_count}
 use Rattle.dta_model.specs.declared.plan.Plan.{Plan}
 use Rattle.claim_core.specs.Kinds.{kind_by}
 use Rattle.claim_core.specs.Phases.{IsPhase, phase_of}
 use Rattle.claim_core.specs.declared.phase.Phase.{Phase}
 use Rattle.claim_core.specs.declared.units.UnitKind.{UnitKind}
 use Rattle.phase_claims.specs.declared.part.Part.{Part}
+use Rattle.phase_claims.specs.declared.pass.Place.{Place}
+use Rattle.phase_claims.specs.declared.unit.Chunk.{Chunk}
 use Rattle.phase_claims.specs.declared.unit.Open.{Open}
 use Rattle.phase_claims.specs.declared.unit.Open.TheVariants as answer
 use Rattle.phase_claims.specs.declared.unit.Unit.{Unit as LoadingUnit}
+use Rattle.phase_claims.specs.declared.view.Hold.{Hold}
+use Rattle.phase_claims.specs.declared.view.Hold.TheVariants as hold
 use Rattle.phase_claims.specs.declared.view.Scope.{Scope}
 use Rattle.phase_claims.specs.declared.view.View.{View}
 use Rattle.phase_claims.specs.PlacesHome.{carried}
 use Rattle.phase_claims.specs.Running.{EarlierArePerformed, StandsIn}
-use Rattle.phase_claims.specs.Views.{ended, first_of_phase, having_open, holding}
-use Rattle.phase_claims.specs.Views.{performed_count, seeing, unit_in}
+use Rattle.phase_claims.specs.Views.{at_next, done_with, ended, first_in, first_of_phase}
+use Rattle.phase_claims.specs.Views.{having_open, held_end, holding, open_end, performed_count}
+use Rattle.phase_claims.specs.Views.{seeing}
 
 -- a floor: its table, and what it is for
 pub record FloorState : Type 0 where
@@ -36,28 +40,32 @@ pub record IsOf (f : FloorState) (p : PassState) : Type 0 where
   pub table : p.table ≡ f.table
   pub scope : p.view.scope ≡ f.scope
 
--- it holds a unit that isn't open, it holds one that is, or it holds none
-abbrev pub IsHeld : Stage → Type 0
-IsHeld s = s ≡ stage.Held (unit_in s)
+-- it holds numbers of which none is open, it has some open, or it holds none
+abbrev pub IsHeld : Hold → Type 0
+IsHeld s = s ≡ hold.Held (first_in s) (held_end s)
 
-abbrev pub IsOpen : Stage → Type 0
-IsOpen s = s ≡ stage.Open (unit_in s)
+abbrev pub IsOpen : Hold → Type 0
+IsOpen s = s ≡ hold.Open (first_in s) (open_end s) (held_end s)
 
-abbrev pub holds_no_unit : Stage → Bool
-holds_no_unit stage.Idle = true
-holds_no_unit (stage.Held c) = false
-holds_no_unit (stage.Open c) = false
-holds_no_unit stage.Ended = true
+abbrev pub holds_no_unit : Hold → Bool
+holds_no_unit hold.Idle = true
+holds_no_unit (hold.Held a b) = false
+holds_no_unit (hold.Open a m b) = false
+holds_no_unit hold.Ended = true
 
-abbrev pub HoldsNoUnit : Stage → Type 0
+abbrev pub HoldsNoUnit : Hold → Type 0
 HoldsNoUnit s = holds_no_unit s ≡ true
 
--- what a unit does, and what the one does that a pass holds
+-- it may get units still
+abbrev pub HasNotEnded : Hold → Type 0
+HasNotEnded s = s ≢ hold.Ended
+
+-- what a unit does, and what the one does that a pass is at
 abbrev pub kind_at : Plan → ℕ → UnitKind
 kind_at p number = kind_by (task_of (node_count p) number)
 
 abbrev pub kind_in : View → UnitKind
-kind_in v = kind_at v.scope.plan (unit_in v.stage)
+kind_in v = kind_at v.scope.plan v.at
 
 -- the unit of a number, with its step and what it does
 abbrev pub unit_at : Plan → ℕ → LoadingUnit
@@ -70,27 +78,44 @@ unit_at p number = record {
 -- the answer of a claim that drew a number: its unit exactly where there is one, and else none
 abbrev pub AnswersClaim : Plan → View → ℕ → Option LoadingUnit → View → Type 0
 AnswersClaim p old number (Some unit) new =
-    (number < unit_count p) × (unit ≡ unit_at p number) × (new ≡ holding old number)
-AnswersClaim p old number None new = (unit_count p ≤ number) × (new ≡ ended old)
+    (number < unit_count p) × (unit ≡ unit_at p number) × (new ≡ holding old number 1)
+AnswersClaim p old number None new = (unit_count p ≤ number) × (new ≡ ended old 1)
 
 -- what a claim does: it draws a number
 pub record Claims (p : Plan) (old : View) (result : Option LoadingUnit) (new : View) : Type 0 where
   pub number : ℕ
   pub answer : AnswersClaim p old number result new
 
+-- the answer of a claim that drew so many numbers from one on: those of units, exactly where the
+-- first one is a unit's, and else none
+abbrev pub AnswersChunk : Plan → View → ℕ → ℕ → Option Chunk → View → Type 0
+AnswersChunk p old many first (Some chunk) new =
+    (first < unit_count p)
+    × (chunk ≡ record { first = first; end = min (first + many) (unit_count p) })
+    × (new ≡ holding old first many)
+AnswersChunk p old many first None new = (unit_count p ≤ first) × (new ≡ ended old many)
+
+-- what a claim of so many numbers does: it draws them
+pub record ClaimsChunk (p : Plan) (old : View) (many : ℕ) (result : Option Chunk)
+    (new : View) : Type 0 where
+  pub first : ℕ
+  pub answer : AnswersChunk p old many first result new
+
 -- the answer of an open that read so many finished units, where these are the views of all passes:
--- Yes exactly where they are at least those before the unit's phase, and then all units of earlier
--- phases are performed; else how many they are
+-- Yes exactly where they are at least those before the first unit's phase, and then all units of
+-- earlier phases are performed; else how many they are
 abbrev pub AnswersOpen : View → ℕ → List View → Open → View → Type 0
 AnswersOpen old finished views answer.Yes new =
     (first_of_phase old ≤ finished)
-    × EarlierArePerformed (node_count old.scope.plan) (unit_in old.stage) views
+    × EarlierArePerformed (node_count old.scope.plan) (first_in old.stage) views
     × (new ≡ having_open old finished)
 AnswersOpen old finished views (answer.NotYet told) new =
     (finished < first_of_phase old) × (told ≡ finished) × (new ≡ seeing old finished)
 
--- what an open does: it reads how many units are finished in a state of the floor, no fewer than
--- the pass has seen before and than it has performed itself
+-- what an open does: it looks once, and reads how many units are finished in a state of the floor
+-- that stands while the pass has had its view: no fewer than the pass has seen before and than it
+-- has performed itself. A view changes at a step alone, and counts its looks: so the answer is that
+-- of this look, and of none before it
 pub record Opens (old : View) (result : Open) (new : View) : Type 0 where
   pub finished : ℕ
   pub stands : StandsIn old finished
@@ -98,26 +123,40 @@ pub record Opens (old : View) (result : Open) (new : View) : Type 0 where
   pub own : performed_count old ≤ finished
   pub answer : AnswersOpen old finished stands.state.views result new
 
--- the unit that a pass holds is one of the plan
-abbrev pub IsInside : Plan → Stage → Type 0
-IsInside p stage.Idle = Unit {0}
-IsInside p (stage.Held c) = c < unit_count p
-IsInside p (stage.Open c) = c < unit_count p
-IsInside p stage.Ended = Unit {0}
+-- what a perform does: the unit that the pass is at is worked on; with the last open one all of
+-- them are finished
+pub record PerformsNext (old new : View) : Type 0 where
+  pub goes_on : suc old.at < open_end old.stage → new ≡ at_next old
+  pub ends : open_end old.stage ≤ suc old.at → new ≡ done_with old
 
--- the phase of the unit that a pass drew last, which is that of the one that it holds
-abbrev pub IsLastPhase : ℕ → Stage → Phase → Type 0
-IsLastPhase nodes stage.Idle last = IsPhase nodes last
-IsLastPhase nodes (stage.Held c) last = last ≡ phase_of nodes c
-IsLastPhase nodes (stage.Open c) last = last ≡ phase_of nodes c
-IsLastPhase nodes stage.Ended last = IsPhase nodes last
+-- the numbers that a pass holds are units of the plan; the open ones, of which it is at one, are of
+-- one phase
+abbrev pub IsInside : Plan → Hold → ℕ → Type 0
+IsInside p hold.Idle at = Unit {0}
+IsInside p (hold.Held a b) at = (a < b) × (b ≤ unit_count p)
+IsInside p (hold.Open a m b) at =
+    (a ≤ at) × (at < m) × (m ≤ phase_end (node_count p) a) × (m ≤ b) × (b ≤ unit_count p)
+IsInside p hold.Ended at = Unit {0}
 
--- what a pass keeps: it has the places of the unit that it has open, and no others; its fields say
--- what it knows, and the phase of the unit that it drew last
-pub record IsPass (me : Me Part View) (left : ℕ) (has : Stage) (last : Phase) : Type 0 where
-  pub slots : me.1 ≡ carried me.0.scope me.0.stage
-  pub inside : IsInside me.0.scope.plan me.0.stage
+-- the phase of the first number that a pass holds, and of the unit that it is at; else one that it
+-- had
+abbrev pub IsLastPhase : ℕ → Hold → ℕ → Phase → Type 0
+IsLastPhase nodes hold.Idle at last = IsPhase nodes last
+IsLastPhase nodes (hold.Held a b) at last = last ≡ phase_of nodes a
+IsLastPhase nodes (hold.Open a m b) at last = last ≡ phase_of nodes at
+IsLastPhase nodes hold.Ended at last = IsPhase nodes last
+
+-- its fields say where it stands
+pub record IsPlace (v : View) (own : Place) : Type 0 where
+  pub stage : own.stage ≡ v.stage
+  pub next : own.next ≡ v.at
+  pub phase : IsLastPhase (node_count v.scope.plan) v.stage v.at own.phase
+
+-- what a pass keeps: it has the places of the unit that it is at, and no others; its fields say
+-- what it knows
+pub record IsPass (me : Me Part View) (left : ℕ) (own : Place) : Type 0 where
+  pub slots : me.1 ≡ carried me.0.scope me.0.stage me.0.at
+  pub inside : IsInside me.0.scope.plan me.0.stage me.0.at
   pub weight : 1 ≤ me.0.weight
   pub spare : left ≡ me.0.spare
-  pub stage : has ≡ me.0.stage
-  pub phase : IsLastPhase (node_count me.0.scope.plan) me.0.stage last
+  pub place : IsPlace me.0 own

@@ -6,17 +6,17 @@ use Rattle.net_core.specs.Network.{numbers_below}
 use Rattle.dta_model.specs.State.{eight_after}
 use Rattle.dta_model.specs.Units.{node_count, places, posting_part}
 use Rattle.dta_model.specs.declared.eight.Eight.{Eight}
-use Rattle.dta_model.specs.declared.machine.Stage.{Stage}
-use Rattle.dta_model.specs.declared.machine.Stage.TheVariants as stage
 use Rattle.dta_model.specs.declared.plan.Plan.{Plan}
 use Rattle.cell_stages.specs.Contents.{cell_at, mail_at}
 use Rattle.claim_core.specs.Parts.{moves, stage_before, stage_of}
 use Rattle.claim_core.specs.Sums.{times, total}
 use Rattle.phase_claims.specs.declared.part.Part.{Part}
 use Rattle.phase_claims.specs.declared.part.Part.TheVariants.{Cell, Mail, Writer}
+use Rattle.phase_claims.specs.declared.view.Hold.{Hold}
+use Rattle.phase_claims.specs.declared.view.Hold.TheVariants as hold
 use Rattle.phase_claims.specs.declared.view.Scope.{Scope}
 use Rattle.phase_claims.specs.declared.view.View.{View}
-use Rattle.phase_claims.specs.Views.{performed_by}
+use Rattle.phase_claims.specs.Views.{worked_by}
 
 -- the states that are posted in so many steps
 abbrev pub posted_in : Plan → ℕ → List Eight
@@ -36,33 +36,38 @@ abbrev pub parts_of : {S : Type 0} → (ℕ → ℕ → S) → List ℕ → (ℕ
 parts_of part [] at = []
 parts_of part (slot ∷ slots) at = (slot, part slot (at slot)) ∷ parts_of part slots at
 
--- how often a pass has a place with it: once where its unit is open and the place is a place of it
-abbrev pub has_slot : Plan → ℕ → Stage → ℕ
-has_slot p slot stage.Idle = 0
-has_slot p slot (stage.Held c) = 0
-has_slot p slot (stage.Open c) = times slot (places p c)
-has_slot p slot stage.Ended = 0
+-- how often a pass has a place with it: once where it is at an open unit and the place is a place
+-- of that
+abbrev pub has_slot : Plan → ℕ → Hold → ℕ → ℕ
+has_slot p slot hold.Idle at = 0
+has_slot p slot (hold.Held a b) at = 0
+has_slot p slot (hold.Open a m b) at = times slot (places p at)
+has_slot p slot hold.Ended at = 0
 
 -- a place that no pass has is at home with its part, and one that a pass has is out
 abbrev pub home_of : {S : Type 0} → ℕ → S → Option S
 home_of zero part = some part
 home_of (suc passes) part = none
 
--- each place that no pass has holds its part at the stage that the performed units tell
+-- each place that no pass has holds its part at the stage that the units worked on tell
 abbrev pub AreHome : Scope → List (Option Part) → List View → Type 0
 AreHome k homes views =
     (slot : ℕ) → slot < suc (posting_part k.plan)
-    → get_elem? homes slot ≡ some (home_of (total (λ v. has_slot k.plan slot v.stage) views)
-    (part_at k slot (stage_of k.plan (performed_by views) slot)))
+    → get_elem? homes slot ≡ some (home_of (total (λ v. has_slot k.plan slot v.stage v.at) views)
+    (part_at k slot (stage_of k.plan (worked_by views) slot)))
 
--- what a pass has with it: the places of its open unit, at the stage before the unit's phase
-abbrev pub carried : Scope → Stage → List (ℕ × Part)
-carried k stage.Idle = []
-carried k (stage.Held c) = []
-carried k (stage.Open c) = parts_of (part_at k) (places k.plan c) (stage_before k.plan c)
-carried k stage.Ended = []
+-- what a unit takes: its places, at the stage before its phase
+abbrev pub taken : Scope → ℕ → List (ℕ × Part)
+taken k c = parts_of (part_at k) (places k.plan c) (stage_before k.plan c)
 
--- the same once the unit's work is done: what it moves is at the next stage
+-- what a pass has with it: what the unit that it is at has taken
+abbrev pub carried : Scope → Hold → ℕ → List (ℕ × Part)
+carried k hold.Idle at = []
+carried k (hold.Held a b) at = []
+carried k (hold.Open a m b) at = taken k at
+carried k hold.Ended at = []
+
+-- what a unit brings, once its work is done: what it moves is at the next stage
 abbrev pub brought : Scope → ℕ → List (ℕ × Part)
 brought k c =
     parts_of (part_at k) (places k.plan c)

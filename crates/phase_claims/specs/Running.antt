@@ -1,28 +1,38 @@
 -- The running rule of a floor: what holds of its words and of the views of its passes between any
 -- two steps, whatever the threads do.
-use Rattle.std.specs.Prelude.{◌≡◌, ℕ, ◌+◌, ◌<◌, ◌≤◌, ◌^◌, min, List, [], ◌∷◌}
+use Rattle.std.specs.Prelude.{◌≡◌, ℕ, ◌+◌, ◌*◌, ◌<◌, ◌≤◌, ◌^◌, min, List, ◌∷◌}
 use mathlib.Core.Option.{some}
 use lib.ListN.{get_elem?}
 use Rattle.atomic_table.specs.Table.{State}
 use Rattle.dta_model.specs.Units.{node_count, phase_end, phase_start, unit_count}
-use Rattle.dta_model.specs.declared.machine.Stage.{Stage}
-use Rattle.dta_model.specs.declared.machine.Stage.TheVariants as stage
 use Rattle.claim_core.specs.Claimed.{Claimed}
 use Rattle.claim_core.specs.Sums.{total}
-use Rattle.phase_claims.specs.declared.floor.TheConstants.{MOST_PASSES}
+use Rattle.phase_claims.specs.declared.floor.TheConstants.{MOST_CHUNK, MOST_PASSES}
 use Rattle.phase_claims.specs.declared.part.Part.{Part}
+use Rattle.phase_claims.specs.declared.view.Hold.{Hold}
+use Rattle.phase_claims.specs.declared.view.Hold.TheVariants as hold
 use Rattle.phase_claims.specs.declared.view.Scope.{Scope}
 use Rattle.phase_claims.specs.declared.view.View.{View}
 use Rattle.phase_claims.specs.PlacesHome.{AreHome}
 use Rattle.phase_claims.specs.Views.{held_by, nobody, performed_by}
 use Rattle.phase_claims.specs.Views.{performed_count, rights}
 
--- a pass that has ended drew a number of no unit, and one that hasn't drew none
-abbrev pub FitsPast : Stage → ℕ → Type 0
-FitsPast stage.Ended past = 1 ≤ past
-FitsPast stage.Idle past = past ≡ 0
-FitsPast (stage.Held c) past = past ≡ 0
-FitsPast (stage.Open c) past = past ≡ 0
+-- how many numbers of no unit a pass may have drawn: those of a chunk that goes past the last unit,
+-- and of one that begins past it, after which it has ended
+abbrev pub FitsPast : Hold → ℕ → ℕ → Type 0
+FitsPast hold.Ended weight past = (1 ≤ past) × (past ≤ weight * (2 * MOST_CHUNK))
+FitsPast hold.Idle weight past = past ≤ weight * MOST_CHUNK
+FitsPast (hold.Held a b) weight past = past ≤ weight * MOST_CHUNK
+FitsPast (hold.Open a m b) weight past = past ≤ weight * MOST_CHUNK
+
+-- the numbers that a pass holds are in order, and with them the unit that it is at; the open ones
+-- are of the phase in which the number of finished units stands
+abbrev pub FitsStage : ℕ → ℕ → Hold → ℕ → Type 0
+FitsStage n finished hold.Idle at = Unit {0}
+FitsStage n finished (hold.Held a b) at = a < b
+FitsStage n finished (hold.Open a m b) at =
+    (a ≤ at) × (at < m) × (m ≤ b) × (phase_start n finished ≤ a) × (m ≤ phase_end n finished)
+FitsStage n finished hold.Ended at = Unit {0}
 
 -- what holds of the view of each pass, where so many units are finished
 pub record FitsView (k : Scope) (finished : ℕ) (v : View) : Type 0 where
@@ -30,15 +40,11 @@ pub record FitsView (k : Scope) (finished : ℕ) (v : View) : Type 0 where
   pub scope : 1 ≤ v.weight → v.scope ≡ k
   -- it hasn't seen more finished units than there are
   pub seen : v.seen ≤ finished
-  -- its draws past the last unit fit its stage, and aren't more than its weight
-  pub past : FitsPast v.stage v.past
-  pub most : v.past ≤ v.weight
+  -- its numbers past the last unit aren't more than its weight allows
+  pub past : FitsPast v.stage v.weight v.past
   -- without a weight it is the view that is left over by a join
   pub empty : v.weight ≡ 0 → v ≡ nobody
-  -- a unit that it has open is of the phase in which the number of finished units stands
-  pub phase : (c : ℕ) → v.stage ≡ stage.Open c
-      → (phase_start (node_count k.plan) finished ≤ c)
-      × (c < phase_end (node_count k.plan) finished)
+  pub stage : FitsStage (node_count k.plan) finished v.stage v.at
 
 -- the words and the views, where so many numbers are drawn and so many units finished
 pub record Running (k : Scope) (drawn finished : ℕ) (views : List View) : Type 0 where
@@ -48,20 +54,21 @@ pub record Running (k : Scope) (drawn finished : ℕ) (views : List View) : Type
       (performed_by views) (held_by views)
   -- the finished units are those that the passes have performed
   pub performed : finished ≡ total performed_count views
-  -- the other numbers drawn were draws past the last unit
+  -- the other numbers drawn were past the last unit
   pub past : drawn ≡ min drawn (unit_count k.plan) + total (λ v. v.past) views
   -- all weights and spare passes together are the passes of the floor
   pub rights : total rights views ≡ k.passes
   pub each : (by : ℕ) (v : View) → get_elem? views by ≡ some v → FitsView k finished v
 
--- the rule: the first word never changes, the second counts the numbers drawn, and the third the
--- units finished; each place that no open unit needs holds its part, and the others are out
+-- the rule: the second word counts the numbers drawn, and the third the units finished, and no
+-- other changes; each place that no pass has holds its part, and the others are out
 pub record Holds (k : Scope) (s : State Part View) : Type 0 where
   pub few : k.passes ≤ MOST_PASSES
   pub small : unit_count k.plan < 2 ^ 50
   pub drawn : ℕ
   pub finished : ℕ
-  pub words : s.words ≡ 0 ∷ drawn ∷ finished ∷ []
+  pub others : List ℕ
+  pub words : s.words ≡ 0 ∷ drawn ∷ finished ∷ others
   pub running : Running k drawn finished s.views
   pub homes : AreHome k s.homes s.views
 

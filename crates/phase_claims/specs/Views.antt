@@ -1,12 +1,12 @@
 -- What a pass knows, its view, and what the steps make of it.
-use Rattle.std.specs.Prelude.{ℕ, ◌+◌, ◌-◌, max, List, [], ◌∷◌, ◌++◌, length}
+use Rattle.std.specs.Prelude.{ℕ, suc, ◌+◌, ◌-◌, max, min, nat_lt, cond, List, [], ◌++◌, length}
 use Rattle.atomic_table.specs.Seated.{TableId}
-use Rattle.dta_model.specs.Machine.{holds_unit}
-use Rattle.dta_model.specs.Units.{node_count, phase_start}
-use Rattle.dta_model.specs.declared.machine.Stage.{Stage}
-use Rattle.dta_model.specs.declared.machine.Stage.TheVariants as stage
+use Rattle.dta_model.specs.Units.{node_count, phase_end, phase_start, unit_count}
 use Rattle.dta_model.specs.declared.queue.Queue.TheVariants as queue
-use Rattle.claim_core.specs.Sums.{one_if, times, total}
+use Rattle.claim_core.specs.Runs.{among, numbers}
+use Rattle.claim_core.specs.Sums.{times, total}
+use Rattle.phase_claims.specs.declared.view.Hold.{Hold}
+use Rattle.phase_claims.specs.declared.view.Hold.TheVariants as hold
 use Rattle.phase_claims.specs.declared.view.Scope.{Scope}
 use Rattle.phase_claims.specs.declared.view.View.{View}
 
@@ -14,12 +14,14 @@ use Rattle.phase_claims.specs.declared.view.View.{View}
 abbrev pub beginning : Scope → ℕ → View
 beginning k spare = record {
   scope = k;
-  stage = stage.Idle;
+  stage = hold.Idle;
+  at = 0;
   spare = spare;
   performed = [];
   weight = 1;
   past = 0;
   seen = 0;
+  looks = 0;
 }
 
 -- the view that is left over where a pass is joined to another: that of nobody
@@ -52,24 +54,49 @@ no_scope = record {
 abbrev pub nobody : View
 nobody = record {
   scope = no_scope;
-  stage = stage.Idle;
+  stage = hold.Idle;
+  at = 0;
   spare = 0;
   performed = [];
   weight = 0;
   past = 0;
   seen = 0;
+  looks = 0;
 }
 
--- the unit that is held, open or not, or 0
-abbrev pub unit_in : Stage → ℕ
-unit_in stage.Idle = 0
-unit_in (stage.Held c) = c
-unit_in (stage.Open c) = c
-unit_in stage.Ended = 0
+-- the first number that is held, open or not, the end of the open ones, and the end of all, or 0
+abbrev pub first_in : Hold → ℕ
+first_in hold.Idle = 0
+first_in (hold.Held a b) = a
+first_in (hold.Open a m b) = a
+first_in hold.Ended = 0
 
--- the first unit of its phase
+abbrev pub open_end : Hold → ℕ
+open_end hold.Idle = 0
+open_end (hold.Held a b) = a
+open_end (hold.Open a m b) = m
+open_end hold.Ended = 0
+
+abbrev pub held_end : Hold → ℕ
+held_end hold.Idle = 0
+held_end (hold.Held a b) = b
+held_end (hold.Open a m b) = b
+held_end hold.Ended = 0
+
+-- the first unit of the phase of the first number
 abbrev pub first_of_phase : View → ℕ
-first_of_phase v = phase_start (node_count v.scope.plan) (unit_in v.stage)
+first_of_phase v = phase_start (node_count v.scope.plan) (first_in v.stage)
+
+-- how often number x is held, open or not
+abbrev pub holds_in : Hold → ℕ → ℕ
+holds_in s x = among (first_in s) (held_end s) x
+
+-- how often unit x is an open one before that at which a pass is
+abbrev pub worked_in : Hold → ℕ → ℕ → ℕ
+worked_in hold.Idle at x = 0
+worked_in (hold.Held a b) at x = 0
+worked_in (hold.Open a m b) at x = among a at x
+worked_in hold.Ended at x = 0
 
 -- how many units a pass has performed, how often it has performed unit x, and how often it holds
 -- it
@@ -80,7 +107,11 @@ abbrev pub performs : ℕ → View → ℕ
 performs x v = times x v.performed
 
 abbrev pub holds : ℕ → View → ℕ
-holds x v = one_if (holds_unit x v.stage)
+holds x v = holds_in v.stage x
+
+-- how often it has done the work of unit x, finished or not
+abbrev pub worked : ℕ → View → ℕ
+worked x v = performs x v + worked_in v.stage v.at x
 
 -- its part of the passes of its floor: those joined into it, and the spare ones
 abbrev pub rights : View → ℕ
@@ -93,43 +124,73 @@ performed_by views x = total (performs x) views
 abbrev pub held_by : List View → ℕ → ℕ
 held_by views x = total (holds x) views
 
--- it holds a unit, has it open where so many are finished, or has performed it
-abbrev pub holding : View → ℕ → View
-holding v c = record v { stage = stage.Held c }
+abbrev pub worked_by : List View → ℕ → ℕ
+worked_by views x = total (worked x) views
+
+-- it drew so many numbers from a on, of which the first is a unit's: it holds those of units
+abbrev pub holding : View → ℕ → ℕ → View
+holding v a many = record v {
+  stage = hold.Held a (min (a + many) (unit_count v.scope.plan));
+  past = v.past + (a + many - unit_count v.scope.plan);
+}
+
+-- it has ended: it drew so many numbers of no unit
+abbrev pub ended : View → ℕ → View
+ended v many = record v { stage = hold.Ended; past = v.past + many }
+
+-- it has looked: where so many are finished it has those of its units open that are of the phase of the first
+-- one, and is at the first
+abbrev pub with_open : ℕ → Hold → Hold
+with_open n s =
+    hold.Open (first_in s) (min (held_end s) (phase_end n (first_in s))) (held_end s)
 
 abbrev pub having_open : View → ℕ → View
-having_open v finished = record v { stage = stage.Open (unit_in v.stage); seen = finished }
+having_open v finished = record v {
+  stage = with_open (node_count v.scope.plan) v.stage;
+  at = first_in v.stage;
+  seen = finished;
+  looks = v.looks + 1;
+}
+
+-- it is at the next of its open units
+abbrev pub at_next : View → View
+at_next v = record v { at = suc v.at }
+
+-- it has performed its open units, and holds the others, if there are any
+abbrev pub left_of : Hold → Hold
+left_of s =
+    cond (nat_lt (open_end s) (held_end s)) (hold.Held (open_end s) (held_end s)) hold.Idle
 
 abbrev pub done_with : View → View
-done_with v =
-    record v { stage = stage.Idle; performed = v.performed ++ unit_in v.stage ∷ [] }
+done_with v = record v {
+  stage = left_of v.stage;
+  performed = v.performed ++ numbers (first_in v.stage) (open_end v.stage);
+}
 
--- it has seen that so many are finished
+-- it has looked, and seen that so many are finished
 abbrev pub seeing : View → ℕ → View
-seeing v finished = record v { seen = finished }
-
--- it has ended: it drew a number of no unit
-abbrev pub ended : View → View
-ended v = record v { stage = stage.Ended; past = v.past + 1 }
+seeing v finished = record v { seen = finished; looks = v.looks + 1 }
 
 -- one pass was split off from it
 abbrev pub less_spare : View → View
 less_spare v = record v { spare = v.spare - 1 }
 
 -- two passes in one, which has ended where one of them had
-abbrev pub both_stages : Stage → Stage → Stage
-both_stages stage.Ended b = stage.Ended
-both_stages stage.Idle b = b
-both_stages (stage.Held c) b = b
-both_stages (stage.Open c) b = b
+abbrev pub both_stages : Hold → Hold → Hold
+both_stages hold.Ended b = hold.Ended
+both_stages hold.Idle b = b
+both_stages (hold.Held c e) b = b
+both_stages (hold.Open c m e) b = b
 
 abbrev pub joined : View → View → View
 joined v u = record {
   scope = v.scope;
   stage = both_stages v.stage u.stage;
+  at = 0;
   spare = v.spare + u.spare;
   performed = v.performed ++ u.performed;
   weight = v.weight + u.weight;
   past = v.past + u.past;
   seen = max v.seen u.seen;
+  looks = v.looks + u.looks;
 }

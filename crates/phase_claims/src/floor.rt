@@ -1,31 +1,31 @@
 // The floor and its calls.
 ghost use Rattle.atomic_table.specs.Table.{State};
-ghost use Rattle.std.specs.Prelude.{◌≡◌, ◌≢◌, ◌<◌, ◌≤◌, ◌-◌, [], IfErr, IfOk, IsOk};
+ghost use Rattle.std.specs.Prelude.{◌≡◌, ◌≢◌, ◌<◌, ◌≤◌, ◌-◌, [], suc, IfErr, IfOk, IsOk};
 ghost use Rattle.dta_model.specs.Lent.{plan_of};
 ghost use Rattle.dta_model.specs.Sound.{IsSound};
-ghost use Rattle.dta_model.specs.Units.{unit_count};
-ghost use Rattle.phase_claims.specs.Passes.{Claims, HoldsNoUnit, IsHeld, IsOf, IsOpen, Opens};
-ghost use Rattle.phase_claims.specs.Passes.{kind_at, kind_in};
+ghost use Rattle.dta_model.specs.Units.{node_count, unit_count};
+ghost use Rattle.phase_claims.specs.Passes.{Claims, ClaimsChunk, HoldsNoUnit, IsHeld, IsOf, IsOpen};
+ghost use Rattle.phase_claims.specs.Passes.{IsInside, IsPlace, Opens, PerformsNext, kind_at, kind_in, unit_at};
 ghost use Rattle.phase_claims.specs.PlacesEnd.{IsClosed, IsEarly};
 ghost use Rattle.phase_claims.specs.PlacesHeld.{IsSameSeat};
-ghost use Rattle.phase_claims.specs.PlacesHome.{brought, carried};
+ghost use Rattle.phase_claims.specs.PlacesHome.{brought, carried, taken};
 ghost use Rattle.phase_claims.specs.Running.{Holds};
-ghost use Rattle.phase_claims.specs.Views.{beginning, done_with, joined, less_spare, rights};
-ghost use Rattle.phase_claims.specs.Views.{unit_in};
+ghost use Rattle.phase_claims.specs.Views.{at_next, beginning, done_with, first_in, joined};
+ghost use Rattle.phase_claims.specs.Views.{less_spare, open_end, rights};
 
 use crate::part::Part;
-use crate::pass::{Last, Pass};
+use crate::pass::{Pass, Place};
 use crate::receipt::{Early, Receipt};
-use crate::rule::{Bound, Claiming, Cut, Draw, Finish, Glue, Key, Look, PassSeat, SharedTable};
+use crate::rule::{Bound, Claiming, Cut, Draw, Finish, Glue, Key, Look, PassSeat, SharedTable, Turn};
 use crate::start::parts_at_start;
-use crate::unit::{Open, Unit};
-use crate::view::View;
+use crate::unit::{Chunk, Open, Unit};
+use crate::view::{Hold, View};
 use crate::work_close::{drop_parts, take_parts};
 use crate::work_posting::post_held;
 use crate::work_unit::work_held;
 use atomic_table::{Table, TableRule};
 use claim_core::{UnitKind, Units};
-use dta_model::{Loaded, Loading, Stage};
+use dta_model::{Loaded, Loading};
 use monitors::{Board, WriterPass};
 use net_core::Memory;
 use node_transfer::opening;
@@ -36,9 +36,12 @@ use std::sync::Wait;
 /// The most passes that a floor can have.
 pub const MOST_PASSES: u32 = 64;
 
-// More units of a phase than all passes draw while one of them performs a unit, unless that waits
-// for a processor.
-const MANY_UNITS: u64 = 64;
+/// The most numbers that a claim can draw.
+pub const MOST_CHUNK: u32 = 256;
+
+// The word that never changes, so far behind those that do that it lies in another line of memory:
+// to read it takes no longer than to read what only one processor has.
+const STILL_WORD: usize = 16;
 
 /// The units of a loading, with the words that count how many are claimed and finished. To a
 /// contract it is its table, and what it is for.
@@ -101,7 +104,7 @@ impl<'a> Floor<'a> {
             passes,
         };
         let units = Units::of(loading);
-        let (table, seat) = match Table::new(alloc, &[0, 0, 0], parts, &key) {
+        let (table, seat) = match Table::new(alloc, &[0; STILL_WORD + 1], parts, &key) {
             Ok(made) => made,
             Err(_) => return Err(AllocError),
         };
@@ -116,8 +119,7 @@ impl<'a> Floor<'a> {
         let pass = Pass {
             seat,
             spare: passes - 1,
-            stage: Stage::Idle,
-            last: Last::none(),
+            place: Place::none(),
         };
         Ok((floor, pass))
     }
@@ -142,21 +144,34 @@ impl<'a> Floor<'a> {
     }
 
     /// Whether the unit of the next number could be opened at once, or there is none. It only
-    /// looks, and other passes may change that at any time, so nothing is promised. Where the pass
-    /// is the only one, or many units of its phase were left when it drew its last one, it needn't
-    /// even look: to look at a word that others change takes as long as to change it.
-    pub fn can_open_next(&self, pass: &Pass) -> bool {
-        if self.passes == 1 || pass.last.left > MANY_UNITS {
+    /// looks, and other passes may change that at any time, so nothing is promised. Where there is
+    /// one pass it needn't even look.
+    pub fn can_open_next(&self) -> bool {
+        if self.passes == 1 {
             return true;
         }
         let next = self.table.shared.peek(1);
         self.count() <= next || self.units.phase_start(next) <= self.table.shared.peek(2)
     }
 
-    /// How many numbers have been drawn. It only looks, and other passes may draw at any time, so
+    /// How many units have not been drawn. It only looks, and other passes may draw at any time, so
     /// nothing is promised.
-    pub fn drawn(&self) -> u64 {
-        self.table.shared.peek(1)
+    pub fn left(&self) -> u64 {
+        self.count().saturating_sub(self.table.shared.peek(1))
+    }
+
+    /// How many nodes its network has.
+    pub fn node_count(&self) -> u32
+        ensures { result ≡ node_count self.now.scope.plan }
+    {
+        self.units.nodes
+    }
+
+    /// How many passes there may be.
+    pub fn pass_count(&self) -> u32
+        ensures { result ≡ self.now.scope.passes }
+    {
+        self.passes
     }
 
     /// Draws the next number. The pass holds the unit of that number then. Where there is none it
@@ -164,28 +179,45 @@ impl<'a> Floor<'a> {
     #[tactic(auto, unfolding(dta_model::specs::Units::unit_count))]
     pub fn claim(&self, pass: &mut Pass) -> Option<Unit>
         requires own { IsOf self.now pass.old }
-        requires idle { pass.old.view.stage ≡ Stage.Idle }
+        requires idle { pass.old.view.stage ≡ Hold.Idle }
         ensures table { pass.new.table ≡ pass.old.table }
         ensures told { Claims self.now.scope.plan pass.old.view result pass.new.view }
     {
-        let number = self.table.shared.fetch_add::<Draw>(&mut pass.seat, 1, 1);
-        if number < self.count() {
-            let phase = self.units.phase_from(pass.last.phase, number);
-            let left = phase.end.saturating_sub(number);
-            pass.stage = Stage::Held(number);
-            pass.last = Last { phase, left };
-            Some(Unit {
-                number,
-                step: phase.step,
-                kind: self.units.kind_in(phase, number),
-            })
-        } else {
-            pass.stage = Stage::Ended;
-            None
-        }
+        let Chunk { first, end: _ } = self.claim_chunk(pass, 1)?;
+        let phase = pass.place.phase;
+        Some(Unit {
+            number: first,
+            step: phase.step,
+            kind: self.units.kind_in(phase, first),
+        })
     }
 
-    /// Opens the unit that the pass holds, where all units of earlier phases are finished.
+    /// Draws the next numbers, as many as are asked for, by one addition. The pass holds those of
+    /// units then. Where there are none it has ended.
+    #[tactic(auto, unfolding(dta_model::specs::Units::unit_count))]
+    pub fn claim_chunk(&self, pass: &mut Pass, many: u32) -> Option<Chunk>
+        requires own { IsOf self.now pass.old }
+        requires idle { pass.old.view.stage ≡ Hold.Idle }
+        requires least { 1 ≤ many }
+        requires most { many ≤ MOST_CHUNK }
+        ensures table { pass.new.table ≡ pass.old.table }
+        ensures told { ClaimsChunk self.now.scope.plan pass.old.view many result pass.new.view }
+    {
+        let many = many as u64;
+        let first = self.table.shared.fetch_add::<Draw>(&mut pass.seat, 1, many);
+        let count = self.count();
+        if first >= count {
+            pass.place.stage = Hold::Ended;
+            return None;
+        }
+        let end = (first + many).min(count);
+        pass.place.stage = Hold::Held(first, end);
+        pass.place.phase = self.units.phase_from(pass.place.phase, first);
+        Some(Chunk { first, end })
+    }
+
+    /// Opens the units that the pass holds, up to the end of the first one's phase, where all units
+    /// of earlier phases are finished.
     pub fn open(&self, pass: &mut Pass) -> Open
         requires own { IsOf self.now pass.old }
         requires held { IsHeld pass.old.view.stage }
@@ -193,16 +225,31 @@ impl<'a> Floor<'a> {
         ensures told { Opens pass.old.view result pass.new.view }
         ensures alone { rights pass.old.view ≡ self.now.scope.passes → result ≡ Open.Yes }
     {
-        let Stage::Held(number) = pass.stage else {
+        let Hold::Held(first, end) = pass.place.stage else {
             unreachable!()
         };
-        let first = pass.last.phase.first;
+        let phase = pass.place.phase;
         let finished = self.table.shared.load::<Look>(&mut pass.seat, 2);
-        if first <= finished {
-            pass.stage = Stage::Open(number);
+        if phase.first <= finished {
+            pass.place.stage = Hold::Open(first, end.min(phase.end), end);
+            pass.place.next = first;
             Open::Yes
         } else {
             Open::NotYet { finished }
+        }
+    }
+
+    /// The unit that the pass is at, of those that it has open: the next one to be performed.
+    pub fn next_unit(&self, pass: &Pass) -> Unit
+        requires own { IsOf self.now pass.now }
+        requires open { IsOpen pass.now.view.stage }
+        ensures { result ≡ unit_at self.now.scope.plan pass.now.view.at }
+    {
+        let Place { next, phase, .. } = pass.place;
+        Unit {
+            number: next,
+            step: phase.step,
+            kind: self.units.kind_in(phase, next),
         }
     }
 
@@ -212,7 +259,7 @@ impl<'a> Floor<'a> {
         requires table { seat.old.table_id ≡ self.now.table }
         requires number { number < unit_count self.now.scope.plan }
         requires kind { kind_at self.now.scope.plan number ≡ UnitKind.Posting }
-        requires held { seat.old.me.1 ≡ carried self.now.scope (Stage.Open number) }
+        requires held { seat.old.me.1 ≡ taken self.now.scope number }
         ensures seat { IsSameSeat seat.old seat.new }
         ensures done { seat.new.me.1 ≡ brought self.now.scope number }
     {
@@ -227,54 +274,101 @@ impl<'a> Floor<'a> {
         );
     }
 
-    // Finishes the unit that a seat has open, once its work is done: its places come home.
-    fn finish(&self, seat: &mut PassSeat)
+    // Brings the places of the unit that a seat is at home, once its work is done, and takes those
+    // of the next open one.
+    fn turn(&self, seat: &mut PassSeat)
         requires table { seat.old.table_id ≡ self.now.table }
         requires open { IsOpen seat.old.me.0.stage }
         requires weight { 1 ≤ seat.old.me.0.weight }
-        requires done { seat.old.me.1 ≡
-            brought seat.old.me.0.scope (unit_in seat.old.me.0.stage) }
+        requires more { suc seat.old.me.0.at < open_end seat.old.me.0.stage }
+        requires done { seat.old.me.1 ≡ brought seat.old.me.0.scope seat.old.me.0.at }
+        ensures table { seat.new.table_id ≡ seat.old.table_id }
+        ensures done { seat.new.me ≡ (
+          at_next seat.old.me.0,
+          taken seat.old.me.0.scope (suc seat.old.me.0.at),
+        ) }
+    {
+        self.table.shared.load::<Turn>(seat, STILL_WORD);
+    }
+
+    // Finishes the units that a seat has open, once the work of the last one is done: its places
+    // come home, and one addition tells of all.
+    fn finish(&self, seat: &mut PassSeat, many: u64)
+        requires table { seat.old.table_id ≡ self.now.table }
+        requires open { IsOpen seat.old.me.0.stage }
+        requires weight { 1 ≤ seat.old.me.0.weight }
+        requires last { suc seat.old.me.0.at ≡ open_end seat.old.me.0.stage }
+        requires all { many ≡ open_end seat.old.me.0.stage - first_in seat.old.me.0.stage }
+        requires done { seat.old.me.1 ≡ brought seat.old.me.0.scope seat.old.me.0.at }
         ensures table { seat.new.table_id ≡ seat.old.table_id }
         ensures done { seat.new.me ≡ (done_with seat.old.me.0, []) }
     {
-        self.table.shared.fetch_add::<Finish>(seat, 2, 1);
+        self.table.shared.fetch_add::<Finish>(seat, 2, many);
     }
 
-    /// Performs the unit that the pass has open, a transfer or a gather: takes its parts, does its
-    /// work, brings them home and finishes it.
+    // Goes on once the work of the unit is done that a seat is at: to the next open one or, with
+    // the last one, to what is left of the chunk.
+    #[tactic(auto, unfolding(dta_model::specs::Units::unit_count))]
+    fn go_on(&self, seat: &mut PassSeat, place: &mut Place)
+        requires table { seat.old.table_id ≡ self.now.table }
+        requires scope { seat.old.me.0.scope ≡ self.now.scope }
+        requires open { IsOpen seat.old.me.0.stage }
+        requires inside { IsInside seat.old.me.0.scope.plan seat.old.me.0.stage seat.old.me.0.at }
+        requires weight { 1 ≤ seat.old.me.0.weight }
+        requires place { IsPlace seat.old.me.0 place.old }
+        requires done { seat.old.me.1 ≡ brought seat.old.me.0.scope seat.old.me.0.at }
+        ensures table { seat.new.table_id ≡ seat.old.table_id }
+        ensures next { PerformsNext seat.old.me.0 seat.new.me.0 }
+        ensures slots { seat.new.me.1
+            ≡ carried seat.new.me.0.scope seat.new.me.0.stage seat.new.me.0.at }
+        ensures place { IsPlace seat.new.me.0 place.new }
+    {
+        let Hold::Open(first, middle, end) = place.stage else {
+            unreachable!()
+        };
+        let next = place.next + 1;
+        if next < middle {
+            self.turn(seat);
+            place.next = next;
+            return;
+        }
+        self.finish(seat, middle - first);
+        if middle < end {
+            place.stage = Hold::Held(middle, end);
+            place.phase = self.units.phase_from(place.phase, middle);
+        } else {
+            place.stage = Hold::Idle;
+        }
+    }
+
+    /// Performs the unit that the pass is at, a transfer or a gather: does its work on its parts
+    /// and brings them home. With the last open one it finishes them all.
     pub fn perform(&self, pass: &mut Pass)
         requires own { IsOf self.now pass.old }
         requires open { IsOpen pass.old.view.stage }
         requires kind { kind_in pass.old.view ≢ UnitKind.Posting }
         ensures table { pass.new.table ≡ pass.old.table }
-        ensures done { pass.new.view ≡ done_with pass.old.view }
+        ensures done { PerformsNext pass.old.view pass.new.view }
     {
-        let Stage::Open(number) = pass.stage else {
-            unreachable!()
-        };
-        let Some(half) = self.units.half_in(pass.last.phase, number) else {
+        let Place { next, phase, .. } = pass.place;
+        let Some(half) = self.units.half_in(phase, next) else {
             unreachable!()
         };
         work_held(&self.table.shared, &mut pass.seat, &self.loading, half);
-        self.finish(&mut pass.seat);
-        pass.stage = Stage::Idle;
+        self.go_on(&mut pass.seat, &mut pass.place);
     }
 
-    /// Performs the unit that the pass has open, a posting: counts the cells, posts the state to
-    /// the floor's board and finishes it.
+    /// Performs the unit that the pass is at, a posting: counts the cells, posts the state to the
+    /// floor's board and finishes it.
     pub fn perform_posting<R: Wait>(&self, rt: &R, pass: &mut Pass)
         requires own { IsOf self.now pass.old }
         requires open { IsOpen pass.old.view.stage }
         requires kind { kind_in pass.old.view ≡ UnitKind.Posting }
         ensures table { pass.new.table ≡ pass.old.table }
-        ensures done { pass.new.view ≡ done_with pass.old.view }
+        ensures done { PerformsNext pass.old.view pass.new.view }
     {
-        let Stage::Open(number) = pass.stage else {
-            unreachable!()
-        };
-        self.do_posting(rt, &mut pass.seat, number);
-        self.finish(&mut pass.seat);
-        pass.stage = Stage::Idle;
+        self.do_posting(rt, &mut pass.seat, pass.place.next);
+        self.go_on(&mut pass.seat, &mut pass.place);
     }
 
     /// Splits a pass off from one that may still do so. The first of the two keeps the rest of the
@@ -290,21 +384,18 @@ impl<'a> Floor<'a> {
         let Pass {
             mut seat,
             spare,
-            stage,
-            last,
+            place,
         } = pass;
         let other = self.table.shared.split_seat::<Cut>(&mut seat);
         let first = Pass {
             seat,
             spare: spare - 1,
-            stage,
-            last,
+            place,
         };
         let second = Pass {
             seat: other,
             spare: 0,
-            stage: Stage::Idle,
-            last: Last::none(),
+            place: Place::none(),
         };
         (first, second)
     }
@@ -318,29 +409,25 @@ impl<'a> Floor<'a> {
         ensures table { result.table ≡ a.table }
         ensures view { result.view ≡ joined a.view b.view }
     {
-        let Pass {
-            mut seat,
-            spare,
-            stage,
-            last,
-        } = a;
+        let Pass { mut seat, spare, .. } = a;
         let Pass {
             seat: other,
             spare: more,
-            stage: second,
-            last: _,
+            ..
         } = b;
         self.table.shared.join_seat::<Glue>(&mut seat, other);
         self.table.shared.load::<Bound>(&mut seat, 0);
-        let stage = match stage {
-            Stage::Ended => Stage::Ended,
-            _ => second,
+        let stage = match a.place.stage {
+            Hold::Ended => Hold::Ended,
+            _ => b.place.stage,
         };
         Pass {
             seat,
             spare: spare + more,
-            stage,
-            last,
+            place: Place {
+                stage,
+                ..Place::none()
+            },
         }
     }
 
@@ -353,7 +440,7 @@ impl<'a> Floor<'a> {
         requires free { HoldsNoUnit pass.view.stage }
         ensures early { IfErr result (λ e. IsEarly self.entry.scope pass.view e) }
         ensures closed { IfOk result (λ r. IsClosed self.entry.scope pass.view r.0 r.1 r.2) }
-        ensures ended { pass.view.stage ≡ Stage.Ended → IsOk result }
+        ensures ended { pass.view.stage ≡ Hold.Ended → IsOk result }
     {
         let Floor {
             table,
@@ -363,12 +450,7 @@ impl<'a> Floor<'a> {
             passes,
             mut loaded,
         } = self;
-        let Pass {
-            seat,
-            spare,
-            stage: _,
-            last: _,
-        } = pass;
+        let Pass { seat, spare, .. } = pass;
         let closed = table.close_with(seat);
         let finished = closed.word(2);
         if finished < units.count() {

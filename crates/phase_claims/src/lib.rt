@@ -1,9 +1,11 @@
 //! The units of a loading, claimed by passes in any threads.
 //!
 //! A [`Floor`] counts in one shared word the numbers drawn, and in another the units finished. A
-//! [`Pass`] claims the next unit, opens it as soon as all units of earlier phases are finished,
-//! and performs it. Claims and finishes are single additions and an open is one load, so no pass
-//! ever waits for another. The promise is that of the claim machine, whatever the threads do
+//! [`Pass`] claims a chunk of numbers in a row, opens those of one phase as soon as all units of
+//! earlier phases are finished, performs them one after another, and finishes them together, as
+//! the dynamic schedule of OpenMP does. Claims and finishes are single additions and an open is one
+//! load, so no pass ever waits for another. The promise is that of the claim machine, in which a
+//! pass is a worker for each number that it holds, whatever the threads do
 //! between two steps: each unit is held or performed by one pass at most, no phase begins before
 //! the earlier ones are finished, and a place that no open unit uses has what the performed units
 //! left there. specs/Running.antt is the rule that each step keeps: [`Floor::table`] says that it
@@ -28,11 +30,11 @@ mod work_posting;
 mod work_unit;
 
 pub use claim_core::UnitKind;
-pub use floor::{Floor, MOST_PASSES};
+pub use floor::{Floor, MOST_CHUNK, MOST_PASSES};
 pub use laws::{floors_are_claims, states_are_shown};
 pub use part::Part;
 pub use pass::Pass;
 pub use receipt::{Early, Receipt};
 pub use rule::{Claiming, Key, PassSeat, SharedTable};
-pub use unit::{Open, Unit};
-pub use view::{Scope, View};
+pub use unit::{Chunk, Open, Unit};
+pub use view::{Hold, Scope, View};

@@ -4,8 +4,8 @@ ghost use Rattle.std.specs.Prelude.{◌≡◌, ℕ};
 ghost use Rattle.phase_claims.specs.PlacesHome.{carried};
 
 use crate::rule::PassSeat;
+use crate::view::Hold;
 use claim_core::Phase;
-use dta_model::Stage;
 use std::marker::Model;
 
 /// The right to claim, open and perform units of a floor. To a contract it is its floor's table,
@@ -14,25 +14,29 @@ use std::marker::Model;
 pub struct Pass {
     pub(crate) seat: PassSeat,
     pub(crate) spare: u32,
-    pub(crate) stage: Stage,
-    pub(crate) last: Last,
+    pub(crate) place: Place,
 }
 
-// The phase of the last unit that a pass drew, and how many units that phase had from it on.
+// Where a pass stands in its chunk: what it holds, the unit to perform next where some are open,
+// and the phase of the first number, or the last phase that it had.
 #[derive(Clone, Copy, Drop)]
-pub struct Last {
+pub struct Place {
+    pub stage: Hold,
+    pub next: u64,
     pub phase: Phase,
-    pub left: u64,
 }
 
-impl Last {
-    // Of a pass that has drawn none yet.
+impl Place {
+    // Of a pass that has drawn no number yet.
     pub(crate) fn none() -> Self
-        ensures { (nodes : ℕ) → IsPhase nodes result.phase }
+        ensures stage { result.stage ≡ Hold.Idle }
+        ensures next { result.next ≡ 0 }
+        ensures phase { (nodes : ℕ) → IsPhase nodes result.phase }
     {
-        Last {
+        Place {
+            stage: Hold::Idle,
+            next: 0,
             phase: Phase::empty(),
-            left: 0,
         }
     }
 }
@@ -44,18 +48,26 @@ impl Model for Pass {
 
     ghost view = { λ p. record { table = p.seat.table_id; view = p.seat.me.0 } };
 
-    ghost invariant = { λ p. IsPass p.seat.me p.spare p.stage p.last.phase };
+    ghost invariant = { λ p. IsPass p.seat.me p.spare p.place };
 }
 
 impl Pass {
     /// Its seat at the floor's table. What the pass knows is the seat's view there, and the places
-    /// of the unit that it has open are with the seat: so the table's rule speaks of this pass.
+    /// of the unit that it is at are with the seat: so the table's rule speaks of this pass.
     pub fn seat(&self) -> &PassSeat
         ensures table { result.now.table_id ≡ self.now.table }
         ensures view { result.now.me.0 ≡ self.now.view }
-        ensures places { result.now.me.1 ≡ carried self.now.view.scope self.now.view.stage }
+        ensures places { result.now.me.1
+            ≡ carried self.now.view.scope self.now.view.stage self.now.view.at }
     {
         &self.seat
+    }
+
+    /// What it has of the units.
+    pub fn hold(&self) -> Hold
+        ensures { result ≡ self.now.view.stage }
+    {
+        self.place.stage
     }
 
     /// How many passes may still be split off from it.

@@ -29,7 +29,7 @@ impl<'a> TableRule<Part, View, Key<'a>> for Claiming {
     ghost first = { λ key. beginning (scope_of key) (key.passes - 1) };
 }
 
-// The step that draws a number.
+// The step that draws numbers, as many as it adds.
 pub struct Draw;
 
 impl Play<Part, View> for Draw {
@@ -38,7 +38,7 @@ impl Play<Part, View> for Draw {
     ghost then = { Draws };
 }
 
-// The step that reads how many units are finished, for a pass that holds one.
+// The step that reads how many units are finished, for a pass that holds some.
 pub struct Look;
 
 impl Play<Part, View> for Look {
@@ -47,7 +47,16 @@ impl Play<Part, View> for Look {
     ghost then = { Looks };
 }
 
-// The step that finishes the unit that is open.
+// The step that brings the places of a unit home and takes those of the next open one.
+pub struct Turn;
+
+impl Play<Part, View> for Turn {
+    ghost use Rattle.phase_claims.specs.Plays.{Turns};
+
+    ghost then = { Turns };
+}
+
+// The step that finishes the units that are open.
 pub struct Finish;
 
 impl Play<Part, View> for Finish {

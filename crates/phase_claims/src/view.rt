@@ -1,5 +1,5 @@
 // What a floor is for, and what its passes know, as plain data.
-use dta_model::{Plan, Stage};
+use dta_model::Plan;
 use monitors::Board;
 use std::collections::LinkedList;
 
@@ -11,20 +11,38 @@ pub struct Scope {
     pub passes: u64,
 }
 
+/// What a pass has of the units. A chunk is some numbers in a row, which one claim drew.
+#[derive(Clone, Copy, Debug, Drop)]
+pub enum Hold {
+    /// It holds no number.
+    Idle,
+    /// It holds the numbers from the first to below the second, and no unit is open.
+    Held(u64, u64),
+    /// The units from the first to below the second are open, and it holds the numbers from the
+    /// second to below the third.
+    Open(u64, u64, u64),
+    /// It drew numbers of no unit.
+    Ended,
+}
+
 /// What a pass knows. No value of it is made.
 pub struct View {
     /// What its floor is for.
     pub scope: Scope,
-    /// The unit that it holds, if it does.
-    pub stage: Stage,
+    /// The numbers that it holds, if it does.
+    pub stage: Hold,
+    /// The open unit whose places it has. The open ones before it are worked on, and not finished.
+    pub at: u64,
     /// How many passes may still be split off from it.
     pub spare: u64,
-    /// The units that it has performed.
+    /// The units that it has performed and finished.
     pub performed: LinkedList<u64>,
     /// How many passes were joined into it, itself included.
     pub weight: u64,
-    /// How often it drew a number of no unit.
+    /// How many numbers of no unit it drew.
     pub past: u64,
     /// The most finished units that it has seen.
     pub seen: u64,
+    /// How often it has looked how many units are finished.
+    pub looks: u64,
 }

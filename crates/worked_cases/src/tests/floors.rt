@@ -3,41 +3,40 @@
 ghost use Rattle.dta_model.specs.Lent.{plan_of};
 ghost use Rattle.dta_model.specs.Sound.{IsSound};
 ghost use Rattle.phase_claims.specs.Crews.{HasSameRights, IsReady};
-ghost use Rattle.phase_claims.specs.Passes.{IsOf, unit_at};
-ghost use Rattle.phase_claims.specs.Views.{done_with};
+ghost use Rattle.phase_claims.specs.Passes.{HasNotEnded, IsHeld, IsOf, IsOpen};
 ghost use Rattle.std.specs.Prelude.{◌≡◌, [], IsTrue};
 ghost use Rattle.worked_cases.specs.Worked.{HasWorked};
 
 use crate::{Seen, are_seen, two_links_in_a_line};
-use dta_model::{Loaded, Loading, Stage};
+use dta_model::{Loaded, Loading};
 use monitors::Board;
 use net_core::{Memory, NodeNo};
-use phase_claims::{Early, Floor, Open, Pass, Receipt, Unit, UnitKind};
+use phase_claims::{Early, Floor, Hold, Open, Pass, Receipt, UnitKind};
 use std::sync::Wait;
 use std::test::Fail;
 use std::thread;
 use std::thread::{Threads, join_mut};
 
-// Performs the unit that a pass has open.
-fn perform<R: Wait>(rt: &R, floor: &Floor, pass: &mut Pass, unit: Unit)
+// Performs the unit that a pass is at.
+fn perform<R: Wait>(rt: &R, floor: &Floor, pass: &mut Pass)
     requires own { IsOf floor.now pass.old }
-    requires open { pass.old.view.stage ≡ Stage.Open unit.number }
-    requires unit { unit ≡ unit_at floor.now.scope.plan unit.number }
+    requires open { IsOpen pass.old.view.stage }
     ensures own { IsOf floor.now pass.new }
-    ensures done { pass.new.view ≡ done_with pass.old.view }
+    ensures on { HasNotEnded pass.new.view.stage }
+    ensures rights { HasSameRights pass.old.view pass.new.view }
 {
-    match unit.kind {
+    match floor.next_unit(pass).kind {
         UnitKind::Posting => floor.perform_posting(rt, pass),
         _ => floor.perform(pass),
     }
 }
 
 // Opens the unit that a pass holds, as soon as all units of earlier phases are finished.
-fn open<R: Wait>(rt: &R, floor: &Floor, pass: &mut Pass, number: u64)
+fn open<R: Wait>(rt: &R, floor: &Floor, pass: &mut Pass)
     requires own { IsOf floor.now pass.old }
-    requires held { pass.old.view.stage ≡ Stage.Held number }
+    requires held { IsHeld pass.old.view.stage }
     ensures own { IsOf floor.now pass.new }
-    ensures open { pass.new.view.stage ≡ Stage.Open number }
+    ensures open { IsOpen pass.new.view.stage }
     ensures rights { HasSameRights pass.old.view pass.new.view }
 {
     for _ in rt.forever() {
@@ -48,17 +47,21 @@ fn open<R: Wait>(rt: &R, floor: &Floor, pass: &mut Pass, number: u64)
     }
 }
 
-// Opens the unit that a pass holds, and performs it.
-fn work_on<R: Wait>(rt: &R, floor: &Floor, pass: &mut Pass, unit: Unit)
+// Opens the units that a pass holds, and performs them.
+fn work_on<R: Wait>(rt: &R, floor: &Floor, pass: &mut Pass)
     requires own { IsOf floor.now pass.old }
-    requires held { pass.old.view.stage ≡ Stage.Held unit.number }
-    requires unit { unit ≡ unit_at floor.now.scope.plan unit.number }
+    requires on { HasNotEnded pass.old.view.stage }
     ensures own { IsOf floor.now pass.new }
-    ensures idle { pass.new.view.stage ≡ Stage.Idle }
+    ensures idle { pass.new.view.stage ≡ Hold.Idle }
     ensures rights { HasSameRights pass.old.view pass.new.view }
 {
-    open(rt, floor, pass, unit.number);
-    perform(rt, floor, pass, unit);
+    for _ in rt.forever() {
+        match pass.hold() {
+            Hold::Idle | Hold::Ended => break,
+            Hold::Held(_, _) => open(rt, floor, pass),
+            Hold::Open(_, _, _) => perform(rt, floor, pass),
+        }
+    }
 }
 
 // Works for so many turns, or until no unit is left.
@@ -67,10 +70,10 @@ fn work_turns<R: Wait>(rt: &R, floor: &Floor, pass: &mut Pass, turns: u32)
     ensures { HasWorked floor.now 1 pass.new }
 {
     for _ in 0..turns {
-        let Some(unit) = floor.claim(pass) else {
+        let Some(_) = floor.claim(pass) else {
             break;
         };
-        work_on(rt, floor, pass, unit);
+        work_on(rt, floor, pass);
     }
 }
 
@@ -96,9 +99,9 @@ fn a_new_floor_closes_too_early(rt: HostRuntime) -> Result<(), Fail> {
 // Whether the next unit is that of a number, which can be opened at once. It is performed then.
 fn performs<R: Wait>(rt: &R, floor: &Floor, pass: &mut Pass, number: u64) -> bool
     requires own { IsOf floor.now pass.old }
-    requires idle { pass.old.view.stage ≡ Stage.Idle }
+    requires idle { pass.old.view.stage ≡ Hold.Idle }
     ensures own { IsOf floor.now pass.new }
-    ensures idle { IsTrue result → pass.new.view.stage ≡ Stage.Idle }
+    ensures idle { IsTrue result → pass.new.view.stage ≡ Hold.Idle }
 {
     let Some(unit) = floor.claim(pass) else {
         return false;
@@ -106,8 +109,11 @@ fn performs<R: Wait>(rt: &R, floor: &Floor, pass: &mut Pass, number: u64) -> boo
     let Open::Yes = floor.open(pass) else {
         return false;
     };
-    perform(rt, floor, pass, unit);
-    unit.number == number
+    perform(rt, floor, pass);
+    if let Hold::Idle = pass.hold() {
+        return unit.number == number;
+    }
+    false
 }
 
 // The first pass claims a unit and takes its time. The second performs two, and has to wait with
@@ -115,8 +121,8 @@ fn performs<R: Wait>(rt: &R, floor: &Floor, pass: &mut Pass, number: u64) -> boo
 fn take_turns<R: Wait>(rt: &R, floor: &Floor, mut first: Pass, mut second: Pass) -> bool
     requires own { IsOf floor.now first }
     requires own_too { IsOf floor.now second }
-    requires idle { first.view.stage ≡ Stage.Idle }
-    requires idle_too { second.view.stage ≡ Stage.Idle }
+    requires idle { first.view.stage ≡ Hold.Idle }
+    requires idle_too { second.view.stage ≡ Hold.Idle }
 {
     let Some(slow) = floor.claim(&mut first) else {
         return false;
@@ -133,7 +139,7 @@ fn take_turns<R: Wait>(rt: &R, floor: &Floor, mut first: Pass, mut second: Pass)
     let Open::Yes = floor.open(&mut first) else {
         return false;
     };
-    perform(rt, floor, &mut first, slow);
+    perform(rt, floor, &mut first);
     let Open::Yes = floor.open(&mut second) else {
         return false;
     };

@@ -11,7 +11,7 @@ join_seat-requires c =
     let free_too = subst (λ (p : PassState). HoldsNoUnit p.view.stage) (sym c.b.view_is) c.requires.free_too in (
       same_table _ _ _ _ c.self.view_is c.a.view_is c.requires.own,
       same_table _ _ _ _ c.self.view_is c.b.view_is c.requires.own_too,
-      c.b.invariant.slots ∙ none_carried _ _ free_too,
+      c.b.invariant.slots ∙ none_carried _ _ _ free_too,
       omega (arith, c.self.invariant.words),
       joins_allowed _ _ _ _ _ free free_too c.a.invariant.weight,
     )

@@ -10,7 +10,7 @@ pub new-requires : goal.new-requires
 new-requires c =
     let start = c.in_ok-start.ensures in
     let homes = homes_start _ _ _ _ _ (c.into_vec-cells.ensures ∙ start.cells) (c.into_vec.ensures ∙ start.mail) c.requires.own c.requires.new c.in_ok-parts.ensures (c.args.passes - 1) in
-    begins_allowed _ _ homes c.requires.sound c.requires.least c.requires.most
+    begins_allowed _ _ _ homes c.requires.sound c.requires.least c.requires.most
 
 pub invariant_of-floor : goal.invariant_of-floor
 invariant_of-floor c =

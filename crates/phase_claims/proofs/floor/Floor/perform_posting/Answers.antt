@@ -1,8 +1,8 @@
-use Rattle.std.proofs.Common.{[], ap, ◌∙◌}
-use Rattle.phase_claims.specs.Views.{done_with}
-use Rattle.phase_claims.proofs.Owners.{done_pass}
+use Rattle.std.proofs.Common.{subst}
+use Rattle.phase_claims.specs.Passes.{PerformsNext}
+use Rattle.phase_claims.proofs.Owners.{next_pass}
 use Rattle.phase_claims.proofs.floor.Floor.perform_posting.Goals as goal
 
 pub invariant_of-pass : goal.invariant_of-pass
 invariant_of-pass g c =
-    done_pass c.pass.inside.seat.me c.finish.new.seat.me _ _ _ c.pass.invariant (c.finish.ensures.done ∙ ap (λ v. (done_with v, [])) c.do_posting.ensures.seat.view)
+    next_pass c.pass.inside.seat.me c.go_on.new.seat.me _ _ _ c.pass.invariant (subst (λ v. PerformsNext v c.go_on.new.seat.me.0) c.do_posting.ensures.seat.view c.go_on.ensures.next) c.go_on.ensures.slots c.go_on.ensures.place

@@ -1,6 +1,4 @@
-use Rattle.std.proofs.Common.{◌≡◌}
-use Rattle.dta_model.specs.declared.machine.Stage.TheVariants as stage
-use Rattle.phase_claims.specs.Passes.{IsOf}
+use Rattle.phase_claims.specs.Passes.{IsHeld, IsOf}
 use Rattle.phase_claims.specs.Crews.{HasSameRights}
 use Rattle.worked_cases.proofs.tests.floors.open.Given as goal
 
@@ -9,5 +7,5 @@ invariant-loop g l =
     (goal.iterator-loop g).can_next l.iterator'
     × (goal.iterator-loop g).is_finite l.iterator'
     × IsOf l.floor l.pass
-    × (l.pass.view.stage ≡ stage.Held l.number)
+    × IsHeld l.pass.view.stage
     × HasSameRights l.initial.pass.view l.pass.view

@@ -1,0 +1,129 @@
+-- Two runs over equal words and equal tables write equal texts.
+use Rattle.std.proofs.Common.{◌≡◌, ℕ, zero, suc, Bool, true, false, not, cond, List, [], ◌∷◌, refl, sym, ap, ◌∙◌}
+use Rattle.std.specs.Prelude.{Option, None, Some, get_or}
+use Rattle.std.specs.Io.KnownBytes.{append_known}
+use Rattle.desk_io.specs.Desk.{Taken, changed_at, grown, output_number, taken_of}
+use Rattle.desk_io.specs.State.{DeskState}
+use Rattle.desk_io.specs.declared.desk.Output.{Output}
+use Rattle.desk_io.specs.declared.desk.Output.TheVariants as output
+use Rattle.desk_io.specs.declared.desk.Table.{Table}
+use Rattle.reports.specs.declared.refusal.Refusal.{Refusal}
+use Rattle.reports.specs.declared.refusal.Refusal.TheVariants as refusal
+use Rattle.dta_words.specs.Grammar.{settings_of}
+use Rattle.dta_words.specs.declared.command.Settings.{Settings}
+use Rattle.jobs.specs.Jobs.{JobRows}
+use Rattle.jobs.specs.Verdict.{Accepted, Refused, Verdict, verdict}
+use Rattle.commands.specs.Laws.{OneListOfTexts}
+use Rattle.commands.specs.Outputs.{OutText, but_watch, grown_by, is_watch}
+use Rattle.commands.specs.Status.{refusal_status}
+use Rattle.commands.specs.Works.{AreTexts}
+use Rattle.commands.specs.declared.status.Status.TheVariants as status
+use Rattle.dta_run.specs.Headline.{Headline}
+use Rattle.dta_run.specs.Laws.{EqualRunsWriteEqualTexts, IsDoneOver}
+use Rattle.dta_run.specs.Outcome.{Answers}
+
+-- one element of a list, where another one may have been changed
+pick : ℕ → ℕ → (Option (List ℕ) → Option (List ℕ)) → Option (List ℕ) → Option (List ℕ)
+pick zero zero f v = f v
+pick zero (suc n) f v = v
+pick (suc m) zero f v = v
+pick (suc m) (suc n) f v = pick m n f v
+
+pick_none : (f : Option (List ℕ) → Option (List ℕ)) → f None ≡ None → (m n : ℕ) → pick m n f None ≡ None
+pick_none f is zero zero = is
+pick_none f is zero (suc n) = refl
+pick_none f is (suc m) zero = refl
+pick_none f is (suc m) (suc n) = pick_none f is m n
+
+at_changed : (f : Option (List ℕ) → Option (List ℕ)) → f None ≡ None → (m n : ℕ) (xs : Taken) → get_or (changed_at m f xs) n None ≡ pick m n f (get_or xs n None)
+at_changed f is m n [] = sym (pick_none f is m n)
+at_changed f is zero zero (x ∷ xs) = refl
+at_changed f is zero (suc n) (x ∷ xs) = refl
+at_changed f is (suc m) zero (x ∷ xs) = refl
+at_changed f is (suc m) (suc n) (x ∷ xs) = at_changed f is m n xs
+
+-- outputs that have taken the same and take the same text
+grown_same : (to o : Output) (text : List ℕ) (x y : Taken) → taken_of o x ≡ taken_of o y → taken_of o (grown to text x) ≡ taken_of o (grown to text y)
+unfolding grown
+grown_same to o text x y e =
+    at_changed (λ known. append_known known text) refl (output_number to) (output_number o) x
+    ∙ ap (pick (output_number to) (output_number o) (λ known. append_known known text)) e
+    ∙ sym (at_changed (λ known. append_known known text) refl (output_number to) (output_number o) y)
+
+-- a watch line changes no other output
+not_watch : (o : Output) → is_watch o ≡ false → (f : Option (List ℕ) → Option (List ℕ)) (v : Option (List ℕ)) → pick 4 (output_number o) f v ≡ v
+not_watch output.Agent no f v = refl
+not_watch output.LinkTime no f v = refl
+not_watch output.Gap no f v = refl
+not_watch output.Report no f v = refl
+not_watch output.Watch no f v = absurd (cc)
+not_watch output.Skim no f v = refl
+not_watch output.Counts no f v = refl
+not_watch output.Sweep no f v = refl
+
+watch_else : (to o : Output) (text : List ℕ) (x : Taken) → is_watch to ≡ true → is_watch o ≡ false → taken_of o (grown to text x) ≡ taken_of o x
+unfolding grown
+watch_else output.Watch o text x yes no =
+    at_changed (λ known. append_known known text) refl 4 (output_number o) x ∙ not_watch o no (λ known. append_known known text) (taken_of o x)
+watch_else output.Agent o text x yes no = absurd (cc)
+watch_else output.LinkTime o text x yes no = absurd (cc)
+watch_else output.Gap o text x yes no = absurd (cc)
+watch_else output.Report o text x yes no = absurd (cc)
+watch_else output.Skim o text x yes no = absurd (cc)
+watch_else output.Counts o text x yes no = absurd (cc)
+watch_else output.Sweep o text x yes no = absurd (cc)
+
+-- so the texts but those for Watch tell what the others have taken
+skips : (texts : List OutText) (o : Output) (x y : Taken) → is_watch o ≡ false → taken_of o x ≡ taken_of o y → taken_of o (grown_by texts x) ≡ taken_of o (grown_by (but_watch texts) y)
+skips [] o x y no e = e
+skips (t ∷ texts) o x y no e = by (is_watch t.to) refl
+  where
+    by : (b : Bool) → is_watch t.to ≡ b → taken_of o (grown_by texts (grown t.to t.text x)) ≡ taken_of o (grown_by (cond (not (is_watch t.to)) (t ∷ but_watch texts) (but_watch texts)) y)
+    by true w =
+        skips texts o (grown t.to t.text x) y no (watch_else t.to o t.text x w no ∙ e)
+        ∙ ap (λ b. taken_of o (grown_by (cond (not b) (t ∷ but_watch texts) (but_watch texts)) y)) (sym w)
+    by false w =
+        skips texts o (grown t.to t.text x) (grown t.to t.text y) no (grown_same t.to o t.text x y e)
+        ∙ ap (λ b. taken_of o (grown_by (cond (not b) (t ∷ but_watch texts) (but_watch texts)) y)) (sym w)
+
+-- what a run that ended with Done wrote
+Wrote : Verdict → DeskState → DeskState → Type 0
+Wrote (Refused r) before after = ⊥
+Wrote (Accepted s job) before after =
+    (texts : List OutText) × AreTexts s.command s job texts × (after.taken ≡ grown_by texts before.taken)
+
+not_refused : (r : Refusal) → status.Done ≡ refusal_status r → ⊥
+not_refused refusal.Usage e = cc
+not_refused (refusal.Table f) e = cc
+not_refused (refusal.Read t) e = cc
+not_refused (refusal.LongTable t) e = cc
+not_refused (refusal.Cells l s) e = cc
+not_refused (refusal.Vehicles l t) e = cc
+not_refused (refusal.SkimPairs n) e = cc
+not_refused (refusal.SweepCells l s) e = cc
+
+wrote : (words : List (List ℕ)) (v : Verdict) (before after : DeskState) → Answers (settings_of words) v status.Done before after → Wrote v before after
+wrote words (Refused r) before after (inl a) = not_refused r a.0
+wrote words (Refused r) before after (inr (inl h)) = cc
+wrote words (Refused r) before after (inr (inr m)) = cc
+wrote words (Accepted s job) before after (inl (inl d)) = d.2
+wrote words (Accepted s job) before after (inl (inr (inl w))) = absurd (cc)
+wrote words (Accepted s job) before after (inl (inr (inr d))) = absurd (cc)
+wrote words (Accepted s job) before after (inr (inl h)) = absurd (cc)
+wrote words (Accepted s job) before after (inr (inr m)) = absurd (cc)
+
+both_wrote : OneListOfTexts → (v : Verdict) (before after before' after' : DeskState) → Wrote v before after → Wrote v before' after' → before.taken ≡ before'.taken
+    → (o : Output) → is_watch o ≡ false → taken_of o after.taken ≡ taken_of o after'.taken
+both_wrote one (Refused r) before after before' after' a b same o no = absurd a
+both_wrote one (Accepted s job) before after before' after' a b same o no =
+    ap (taken_of o) a.2
+    ∙ skips a.0 o before.taken before.taken no refl
+    ∙ ap (λ ts. taken_of o (grown_by ts before.taken)) (one.determined s job a.0 b.0 a.1 b.1).but_watch_lines
+    ∙ sym (skips b.0 o before'.taken before.taken no (ap (taken_of o) (sym same)))
+    ∙ ap (taken_of o) (sym b.2)
+
+pub equal_runs : EqualRunsWriteEqualTexts
+equal_runs words texts before after before' after' one two same =
+    both_wrote one.headline.one_list (verdict words texts) before after before' after'
+    (wrote words (verdict words texts) before after (one.headline.told texts one.told))
+    (wrote words (verdict words texts) before' after' (two.headline.told texts two.told)) same

@@ -1,0 +1,11 @@
+use Rattle.phase_claims.specs.Passes.{HasNotEnded, IsOf}
+use Rattle.phase_claims.specs.Crews.{HasSameRights}
+use Rattle.worked_cases.proofs.tests.floors.work_on.Given as goal
+
+abbrev pub invariant-loop : goal.invariant-loop
+invariant-loop g l =
+    (goal.iterator-loop g).can_next l.iterator'
+    × (goal.iterator-loop g).is_finite l.iterator'
+    × IsOf l.floor l.pass
+    × HasNotEnded l.pass.view.stage
+    × HasSameRights l.initial.pass.view l.pass.view
