@@ -2,10 +2,10 @@
 its faults: the table, the line and the column, the law, and what is wrong in a sentence."""
 import bisect
 import itertools
-from collections import defaultdict
+from collections import Counter, defaultdict
 from dataclasses import dataclass
 
-from law_searches import NEVER, Searches, least_by_table
+from law_searches import NEVER, Searches
 from law_tables import Agent, Net, Rows, Unread, VEHICLE, above, settings_of, trips_of
 
 FIT = "the tables fit each other"
@@ -39,6 +39,7 @@ class Given:
         self.net = Net(folder, self.settings)
         self.trips = trips_of(folder, self.settings["period"])
         self.searches = Searches(self.net)
+        self.notes = []  # what wasn't checked
 
     def buckets(self):
         """The first step of each bucket and the step after its last one."""
@@ -356,12 +357,12 @@ def gap_faults(given, results, agents):
 
 def last_gap_faults(given, results, routed):
     """The last line of the gap table beside the routes and the link times that were printed. Where
-    a departure or a link time can't be, as is told already, nothing follows."""
+    a departure is out of range or a link time below free flow, as is told already, it isn't."""
     table, row = results["gap"], len(results["gap"]) - 1
     count = len(given.buckets())
     printed = [[results["link_performance"].number(number * count + bucket, "travel_steps")
                 for bucket in range(count)] for number in range(len(given.net.links))]
-    if any(time < 1 for times in printed for time in times) or any(
+    if any(min(times) < link.free for times, link in zip(printed, given.net.links)) or any(
             not 0 <= agent.departure < given.horizon for agent in routed):
         return
 
@@ -371,12 +372,25 @@ def last_gap_faults(given, results, routed):
         return printed[link][step // given.bucket]
 
     route = sum(route_time(given.net, agent, time) for agent in routed)
-    trips = [(agent.departure, agent.origin, agent.destination) for agent in routed]
-    least = sum(least_by_table(given.net, trips, time, given.horizon))
-    for column, value in (("route_steps", route), ("least_steps", least)):
-        if table.number(row, column) != value:
+    trips = Counter((agent.departure, agent.origin, agent.destination) for agent in routed)
+    for column, value in (("route_steps", route), ("least_steps", least_sum(given, trips, time))):
+        if value is not None and table.number(row, column) != value:
             yield Fault("gap", row + 2, column, GAP,
                         f"by the routes and the link times of the last iteration it is {value}")
+
+
+def least_sum(given, trips, time):
+    """The least steps of all trips, each so many times; none where the network is too large to
+    search them."""
+    total = 0
+    for trip, count in trips.items():
+        least = given.searches.least(trip, time)
+        if least is None:
+            given.notes.append("the network is too large to search the least steps of the last "
+                               "iteration again")
+            return None
+        total += count * least
+    return total
 
 
 def route_time(net, agent, time):

@@ -1,8 +1,9 @@
 """Least times between zones, for traffic_laws.py: by free-flow times (Dijkstra's way, backward from
-a zone), and by a table of link times, backward in time from the horizon."""
+a zone), and by a table of link times (the A* way, with free-flow times for what is ahead)."""
 import heapq
 
 NEVER = 10 ** 18
+MOST_STATES = 1_000_000  # links and steps that all searches by a table may look at, some minutes
 
 
 def free_ahead(net, zone):
@@ -25,57 +26,54 @@ def free_ahead(net, zone):
     return least
 
 
-def arrivals(net, zone, times, horizon):
-    """For each link and each step below the horizon the earliest step in which one who enters the
-    link then can be in the zone. `times(link, step)` is the time of a link below the horizon; from
-    then on links take their free-flow steps. A link takes one step at least, so later steps come
-    first."""
-    ahead = free_ahead(net, zone)
-    found = [[NEVER] * horizon for _ in net.links]
-
-    def onward_from(number, end):
-        return min((found[other][end + penalty] if end + penalty < horizon
-                    else end + penalty + ahead[other]
-                    for other, penalty in net.onward[number].items()), default=NEVER)
-
-    useful = [(number, net.ends_in(number, zone)) for number in range(len(net.links))
-              if ahead[number] < NEVER]
-    for step in reversed(range(horizon)):
-        for number, is_last in useful:
-            end = step + times(number, step)
-            found[number][step] = end if is_last else onward_from(number, end)
-    return found
-
-
 class Searches:
-    """Least times of a network, each destination searched once."""
+    """Least times over a network. What is ahead of each link is searched once for a zone."""
 
     def __init__(self, net):
         self.net = net
-        self.ahead = {}
+        self.ahead, self.firsts, self.states = {}, {}, 0
+
+    def prepare(self, origin, destination):
+        """The first links of the origin, and what is ahead of each link on the way to the
+        destination."""
+        if destination not in self.ahead:
+            self.ahead[destination] = free_ahead(self.net, destination)
+        if origin not in self.firsts:
+            self.firsts[origin] = self.net.first_links(origin)
+        return self.firsts[origin], self.ahead[destination]
 
     def least_free(self, origin, destination):
         """The least free-flow steps between two zones; NEVER where there is no path."""
-        if destination not in self.ahead:
-            self.ahead[destination] = free_ahead(self.net, destination)
-        ahead = self.ahead[destination]
-        return min((ahead[number] for number in self.net.first_links(origin)), default=NEVER)
+        firsts, ahead = self.prepare(origin, destination)
+        return min((ahead[number] for number in firsts), default=NEVER)
 
+    def least(self, trip, time):
+        """The least steps of a trip from its departure, where `time(link, step)` is the time of a
+        link, never below free flow. A link may be entered in several steps: where times change,
+        the later one may come to an end earlier, and a loop may pay. None where it is too much
+        work."""
+        departure, origin, destination = trip
+        firsts, ahead = self.prepare(origin, destination)
+        heap = [(departure + ahead[number], -departure, number) for number in firsts
+                if ahead[number] < NEVER]
+        heapq.heapify(heap)
+        seen = set()
+        while heap and self.states < MOST_STATES:
+            bound, step, number = heapq.heappop(heap)
+            self.states += 1
+            if number is None:
+                return bound - departure
+            if (step, number) not in seen:
+                seen.add((step, number))
+                end = time(number, -step) - step
+                for one in self.onward(number, end, ahead, destination):
+                    heapq.heappush(heap, one)
+        return None if heap else NEVER
 
-def least_by_table(net, trips, times, horizon):
-    """The least steps of each trip, a departure, an origin and a destination, by a table of link
-    times."""
-    by_zone = {}
-    for place, (_, _, destination) in enumerate(trips):
-        by_zone.setdefault(destination, []).append(place)
-    least = [NEVER] * len(trips)
-    for zone, places in by_zone.items():
-        found = arrivals(net, zone, times, horizon)
-        firsts = {}
-        for place in places:
-            departure, origin, _ = trips[place]
-            if origin not in firsts:
-                firsts[origin] = net.first_links(origin)
-            least[place] = min((found[number][departure] for number in firsts[origin]),
-                               default=NEVER) - departure
-    return least
+    def onward(self, number, end, ahead, destination):
+        """Where one may be who comes to the end of a link in this step: the earliest arrival, the
+        step (below 0, so that later ones come first) and the link, or none at the destination."""
+        if self.net.ends_in(number, destination):
+            return [(end, -end, None)]
+        return [(end + penalty + ahead[other], -end - penalty, other)
+                for other, penalty in self.net.onward[number].items() if ahead[other] < NEVER]
