@@ -2,7 +2,8 @@
 is known beforehand, and those at random."""
 import bisect
 
-from law_rules import FLOW, FREE, GAP, RESULTS, STORAGE, TIMES, Moves, agent_of, faults_of
+from law_rules import faults_of
+from law_run import FLOW, FREE, GAP, RESULTS, STORAGE, TIMES, Moves, agent_of
 
 COLUMNS = {"agent": ["agent_id", "o_zone_id", "d_zone_id", "departure_step", "arrival_step",
                      "link_ids", "entry_steps"],

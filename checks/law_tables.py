@@ -3,7 +3,7 @@ arithmetic of its own (docs/MODEL.md has the formulas, docs/FORMATS.md the colum
 import bisect
 import csv
 import os
-from dataclasses import dataclass, field
+from dataclasses import dataclass
 from fractions import Fraction
 
 csv.field_size_limit(2 ** 31 - 1)
@@ -226,20 +226,3 @@ def trips_of(folder, period):
                       for one in range(count)]
     return [(departure, origin, destination)
             for departure, _, _, origin, destination in sorted(trips)]
-
-
-@dataclass
-class Agent:
-    """A row of the agent table: its line, its route as positions of links, its entries."""
-    line: int
-    departure: int
-    origin: int
-    destination: int
-    arrival: int | None
-    status: str
-    route: list = field(default_factory=list)
-    entries: list = field(default_factory=list)
-
-    def ends(self):
-        """The step in which each visit ends, or None where it hasn't ended."""
-        return (self.entries[1:] + [self.arrival])[:len(self.entries)]

@@ -31,6 +31,7 @@ sys.dont_write_bytecode = True
 import law_cases  # noqa: E402
 import law_changes  # noqa: E402
 import law_rules  # noqa: E402
+import law_run  # noqa: E402
 
 EXAMPLES = os.path.join(os.path.dirname(os.path.abspath(__file__)), "..", "examples")
 QUEUES = ("point", "spatial", "newell")
@@ -53,17 +54,19 @@ ASSIGNED = {  # the folder of an example, and the words of its README
 }
 
 
-def tell(faults, name):
-    """Prints the faults of a run, the first ones where there are many."""
+def check(folder, words, name):
+    """Checks the run in a folder, prints its faults, the first ones where there are many, and says
+    whether there are any."""
+    given = law_run.Given(folder, words)
+    faults = law_rules.faults_of(given, law_run.results_of(folder))
     for fault in faults[:MOST_TOLD]:
         print(f"  {fault}")
     if len(faults) > MOST_TOLD:
         print(f"  and {len(faults) - MOST_TOLD} more")
+    for note in given.notes:
+        print(f"  not checked: {note}")
     print(f"{name}: {len(faults)} faults", flush=True)
-
-
-def faults_in(folder, words):
-    return law_rules.faults_of(law_rules.Given(folder, words), law_rules.results_of(folder))
+    return bool(faults)
 
 
 def assign(program, folder, words):
@@ -96,9 +99,10 @@ def try_examples(program, folder):
             rest = [word for word in words if word not in ("--queue", usual)]
             rest += ["--queue", queue]
             status = assign(program, place, rest)
-            faults = faults_in(place, rest) if status == 0 else []
-            tell(faults, f"{name} {' '.join(rest)}" + (f": status {status}" if status else ""))
-            failed += bool(status or faults)
+            told = f"{name} {' '.join(rest)}"
+            if status:
+                print(f"{told}: status {status}")
+            failed += status != 0 or check(place, rest, told)
     return failed
 
 
@@ -132,7 +136,7 @@ class Tally:
     def print_changes(self):
         for kind in law_changes.KINDS:
             print(f"{kind}: {self.told[kind]} of {self.planted[kind]} told")
-        for name in law_rules.RESULTS:
+        for name in law_run.RESULTS:
             for column in law_changes.COLUMNS[name]:
                 print(f"{name} {column}: {self.caught[name, column]} of "
                       f"{self.changed[name, column]} random changes caught")
@@ -160,11 +164,10 @@ def try_random(program, folder, settings):
                 print(f"{queue} case {number}: status {status}")
                 tally.failed += 1
                 continue
-            given, results = law_rules.Given(place, case.words), law_rules.results_of(place)
-            faults = law_rules.faults_of(given, results)
+            given, results = law_run.Given(place, case.words), law_run.results_of(place)
             tally.vehicles += len(given.trips)
-            if faults:
-                tell(faults, f"{queue} case {number}: {' '.join(case.words)}")
+            if law_rules.faults_of(given, results):
+                check(place, case.words, f"{queue} case {number}: {' '.join(case.words)}")
                 tally.failed += 1
             else:
                 tally.add_changes(r, given, results)
@@ -175,11 +178,9 @@ def try_random(program, folder, settings):
 def main():
     if sys.argv[1:2] == ["--run"] and len(sys.argv) > 2:
         try:
-            faults = faults_in(sys.argv[2], sys.argv[3:])
+            sys.exit(1 if check(sys.argv[2], sys.argv[3:], sys.argv[2]) else 0)
         except (OSError, ValueError) as why:
-            sys.exit(f"can't be checked: {why}")
-        tell(faults, sys.argv[2])
-        sys.exit(1 if faults else 0)
+            sys.exit(f"{sys.argv[2]} can't be checked: {why}")
     reader = argparse.ArgumentParser(usage=__doc__)
     reader.add_argument("program", type=os.path.abspath)
     reader.add_argument("--cases", type=int, default=200)
