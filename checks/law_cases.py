@@ -1,6 +1,6 @@
 """Random networks, demands and words for traffic_laws.py, all of which the program accepts: with
-turns, penalties, capacities in windows, capacities of 0, and links that are soon full. Equal random
-numbers make equal cases."""
+turns, penalties, capacities in windows, capacities of 0, and links that are soon full. Equal
+random numbers make equal cases."""
 from dataclasses import dataclass
 
 STEPS = ["1", "3", "6", "6", "6", "10", "30"]

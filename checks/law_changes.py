@@ -10,6 +10,7 @@ COLUMNS = {"agent": ["agent_id", "o_zone_id", "d_zone_id", "departure_step", "ar
            "link_performance": ["link_id", "from_step", "to_step", "entered", "travel_steps",
                                 "free_steps"],
            "gap": ["iteration", "route_steps", "least_steps", "gap_steps", "gap_ppm"]}
+STEPS = ["arrival_step", "entry_steps"]
 
 
 class Change:
@@ -132,11 +133,11 @@ def planted_outcomes(r, given, results):
             yield kind, any(fault.law == law for fault in faults)
 
 
-def random_change(r, given, results):
-    """Another number in place of one of the tables; none where the column that is drawn has no
-    number."""
-    name = r.choice(RESULTS)
-    column = r.choice(COLUMNS[name])
+def random_change(r, given, results, by_a_step):
+    """Another number in place of one of the tables, or a step of a move one higher or lower; none
+    where the column that is drawn has no number."""
+    name = "agent" if by_a_step else r.choice(RESULTS)
+    column = r.choice(STEPS if by_a_step else COLUMNS[name])
     rows = [row for row in range(len(results[name])) if results[name].text(row, column)]
     if not rows:
         return None
@@ -147,5 +148,5 @@ def random_change(r, given, results):
     if column in ("link_ids", "link_id") and r.random() < .8:
         others = [one for one in given.net.numbers if one != number]
         return Change(name, row, column, place, r.choice(others))
-    way = r.choice([-1, 1]) * r.choice([1, 1, r.randint(1, 10), r.randint(1, 1000)])
-    return Change(name, row, column, place, number + way)
+    far = 1 if by_a_step else r.choice([1, 1, r.randint(1, 10), r.randint(1, 1000)])
+    return Change(name, row, column, place, number + r.choice([-far, far]))

@@ -1,9 +1,10 @@
-"""The laws that hold in every run, as traffic_laws.py checks them over its tables. Each check tells
-its faults: the table, the line and the column, the law, and what is wrong in a sentence."""
+"""The laws that hold in every run, as traffic_laws.py checks them over its tables. Each check
+tells its faults: the table, the line and the column, the law, and what is wrong in a sentence."""
 import bisect
 import itertools
+from collections import defaultdict
 
-from law_run import FIT, FLOW, FREE, STORAGE, Fault, Moves, agent_of
+from law_run import FIT, FLOW, FREE, ORDER, STORAGE, Fault, Moves, agent_of
 from law_searches import NEVER
 from law_tables import VEHICLE, Unread, above
 from law_times import balance_faults, gap_faults, time_faults
@@ -24,6 +25,7 @@ def faults_of(given, results):
         faults += storage_faults(given, moves)
         for agent in agents:
             faults += free_faults(given, agent)
+        faults += order_faults(given.net, agents)
         faults += time_faults(given, results["link_performance"], agents)
         faults += balance_faults(given, results["link_performance"], agents, moves)
         faults += gap_faults(given, results, agents)
@@ -173,3 +175,23 @@ def free_faults(given, agent):
             yield Fault("agent", agent.line, "arrival_step", FREE,
                         f"the trip takes {agent.arrival - agent.departure} steps, and the least "
                         f"free-flow time between its zones is {least}")
+
+
+# First in, first out.
+
+def order_faults(net, agents):
+    """Where of two visits to a link the one that begins in a later step ends in an earlier one."""
+    visits = defaultdict(list)
+    for agent in agents:
+        for link, entry, end in zip(agent.route, agent.entries, agent.ends()):
+            visits[link].append((entry, NEVER if end is None else end, agent.line))
+    for number, some in visits.items():
+        last = before = 0  # the latest end of the visits up to now, and of those of earlier steps
+        some.sort()
+        for (entry, end, line), (earlier, _, _) in zip(some, some[:1] + some):
+            before = last if entry > earlier else before
+            last = max(last, end)
+            if end < before:
+                yield Fault("agent", line, "entry_steps", ORDER, f"it leaves link "
+                            f"{net.links[number].name} in step {end}, before a vehicle that "
+                            f"entered it before step {entry}")

@@ -10,6 +10,7 @@ FIT = "the tables fit each other"
 FLOW = "flow within capacity"
 STORAGE = "storage"
 FREE = "nobody is faster than free flow"
+ORDER = "first in, first out"
 TIMES = "link times"
 GAP = "the gap is never negative"
 RESULTS = ("agent", "link_performance", "gap")
@@ -17,6 +18,7 @@ RESULTS = ("agent", "link_performance", "gap")
 
 @dataclass
 class Fault:
+    """A place of a table at which a law is broken, and what is wrong there in a sentence."""
     table: str
     line: int
     column: str

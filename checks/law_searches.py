@@ -1,9 +1,9 @@
-"""Least times between zones, for traffic_laws.py: by free-flow times (Dijkstra's way, backward from
-a zone), and by a table of link times (the A* way, with free-flow times for what is ahead)."""
+"""Least times between zones, for traffic_laws.py: by free-flow times (Dijkstra's way, backward
+from a zone), and by a table of link times (the A* way, with free-flow times for what is ahead)."""
 import heapq
 
 NEVER = 10 ** 18
-MOST_STATES = 1_000_000  # links and steps that all searches by a table may look at, some minutes
+MOST_STATES = 10_000_000  # links and steps that all searches by a table may look at
 
 
 def free_ahead(net, zone):

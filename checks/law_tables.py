@@ -1,5 +1,5 @@
-"""The tables and the words of an assignment, as traffic_laws.py takes them: exact whole numbers, by
-arithmetic of its own (docs/MODEL.md has the formulas, docs/FORMATS.md the columns)."""
+"""The tables and the words of an assignment, as traffic_laws.py takes them: exact whole numbers,
+by arithmetic of its own (docs/MODEL.md has the formulas, docs/FORMATS.md the columns)."""
 import bisect
 import csv
 import os
@@ -18,7 +18,7 @@ SPEEDS = {"kmh": 1_000_000, "mph": 1_609_344}  # micrometres an hour of a thousa
 
 
 class Unread(Exception):
-    """A field, by its table, its line and its column, that says nothing which a run could write."""
+    """A field that no run could have written, by its table, its line and its column."""
 
     def __init__(self, table, line, column, why):
         super().__init__(f"{table} line {line} {column}: {why}")
@@ -97,8 +97,8 @@ class Rows:
 
 
 class Rates:
-    """What a link or a turn lets through. Each window has its first step and the parts of a vehicle
-    that each of its steps gives, or None where nothing is limited."""
+    """What a link or a turn lets through. Each window has its first step and the parts of a
+    vehicle that each of its steps gives, or None where nothing is limited."""
 
     def __init__(self, windows):
         self.firsts = [first for first, _ in windows]

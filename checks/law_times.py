@@ -77,8 +77,8 @@ def balance_faults(given, table, agents, moves):
 # The gap.
 
 def gap_faults(given, results, agents):
-    """Where a line of the gap table is negative or doesn't add up, is below the free-flow times, or
-    the last one isn't that of the routes in the table of link times."""
+    """Where a line of the gap table is negative, doesn't add up or is below the free-flow times,
+    or the last one isn't that of the routes in the table of link times."""
     table = results["gap"]
     routed = [agent for agent in agents if agent.route]
     free = sum(given.searches.least_free(agent.origin, agent.destination) for agent in routed)

@@ -2,21 +2,23 @@
 """traffic_laws.py PROGRAM [--cases N] [--seed S]
 traffic_laws.py --run FOLDER [WORDS..]
 
-Checks the laws that hold in every run, over its tables and by arithmetic of its own: in each step
-no more vehicles enter a link, leave it or take a limited turn than its allowance, and in any steps
-no more than rate times time, rounded up; no link holds more than its storage; nobody is faster than
-free flow; link times are those of the visits, and never below free flow; the gap is that of the
-routes in the link times, and never negative.
+Checks the laws that hold in every run (docs/LAWS.md), over its tables and by arithmetic of its
+own: in each step no more vehicles enter a link, leave it or take a limited turn than its
+allowance, and in any steps no more than rate times time, rounded up; no link holds more than its
+storage; nobody is faster than free flow; links are left in the order of entry; link times are
+those of the visits, and never below free flow; the gap is that of the routes in the link times,
+and never negative.
 
 The second form checks the run in FOLDER: node.csv, link.csv, movement.csv where there is one,
 demand.csv, and the agent.csv, link_performance.csv and gap.csv that `assign` wrote with these
 WORDS. It prints each fault with its table, line, column and law; the status is 1 where there is
 one.
 
-The first form lets PROGRAM run over all examples that assign, and over N random networks (200 where
-N isn't said) with each kind of queue. Then it changes single numbers of these tables: some by which
-a law is broken for sure, and looks whether that law is told; and some at random, and tells the
-share that is caught. The status is 1 where a run has a fault or a sure change isn't told.
+The first form lets PROGRAM run over all examples that assign, and over N random networks (200
+where N isn't said) with each kind of queue. Then it changes single numbers of the random runs'
+tables: some by which a law is broken for sure, and looks whether that law is told; and some at
+random, and tells the share that is caught. The status is 1 where a run has a fault or a sure
+change isn't told.
 """
 import argparse
 import collections
@@ -126,10 +128,11 @@ class Tally:
         for kind, is_told in law_changes.planted_outcomes(r, given, results):
             self.planted[kind] += 1
             self.told[kind] += is_told
-        for _ in range(5):
-            change = law_changes.random_change(r, given, results)
+        for place in range(8):
+            by_a_step = place > 4
+            change = law_changes.random_change(r, given, results, by_a_step)
             if change:
-                column = change.name, change.column
+                column = "agent, a step" if by_a_step else change.name, change.column
                 self.changed[column] += 1
                 self.caught[column] += bool(change.faults(given, results))
 
@@ -137,12 +140,16 @@ class Tally:
         for kind in law_changes.KINDS:
             print(f"{kind}: {self.told[kind]} of {self.planted[kind]} told")
         for name in law_run.RESULTS:
-            for column in law_changes.COLUMNS[name]:
-                print(f"{name} {column}: {self.caught[name, column]} of "
-                      f"{self.changed[name, column]} random changes caught")
-        caught, changed = sum(self.caught.values()), sum(self.changed.values())
-        print(f"all: {caught} of {changed} random changes caught, "
-              f"{1000 * caught // max(1, changed)} of 1000")
+            self.print_caught(f"{name}.csv", [(name, one) for one in law_changes.COLUMNS[name]])
+        self.print_caught("steps of agent.csv, one more or less",
+                          [("agent, a step", one) for one in law_changes.STEPS])
+
+    def print_caught(self, what, columns):
+        """Prints how many random changes were caught in all of these columns and in each."""
+        caught, changed = (sum(some[column] for column in columns)
+                           for some in (self.caught, self.changed))
+        each = ", ".join(f"{one[1]} {self.caught[one]} of {self.changed[one]}" for one in columns)
+        print(f"random numbers in {what}: {caught} of {changed} caught ({each})")
 
     def missed(self):
         """The kinds of sure changes that weren't all told, or of which there was none."""
@@ -191,8 +198,8 @@ def main():
         tally = try_random(settings.program, folder, settings)
     tally.print_changes()
     print(f"seed {settings.seed}: {settings.cases} random runs with each queue, "
-          f"{tally.vehicles} vehicles, {tally.failed} with a fault; {failed} runs of examples with "
-          f"one; kinds of sure changes that weren't told: {' '.join(tally.missed()) or 'none'}")
+          f"{tally.vehicles} vehicles, {tally.failed} with a fault; {failed} runs of examples "
+          f"with one; sure changes that weren't told: {' '.join(tally.missed()) or 'none'}")
     sys.exit(1 if failed or tally.failed or tally.missed() else 0)
 
 
