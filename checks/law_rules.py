@@ -93,12 +93,12 @@ def state_faults(given, agent):
 
 def flow_faults(net, moves):
     for number, link in enumerate(net.links):
-        yield from limit_faults(f"enter link {link.name}", link.rates, moves.entered[number])
-        yield from limit_faults(f"leave link {link.name}", link.rates, moves.left[number])
+        for what, some in (("entries into", moves.entered), ("leavings of", moves.left)):
+            yield from limit_faults(f"{what} link {link.name}", link.rates, some[number])
     for (first, second), taken in moves.taken.items():
         if (first, second) in net.listed:
             names = net.links[first].name, net.links[second].name
-            yield from limit_faults("turn from link {} into link {}".format(*names),
+            yield from limit_faults("turns from link {} into link {}".format(*names),
                                     net.listed[first, second][1], taken)
 
 
@@ -112,16 +112,16 @@ def limit_faults(what, rates, moves):
             continue
         allowance = rates.allowance(step)
         if len(group) > allowance:
-            yield Fault("agent", *group[allowance][1:], FLOW, f"{len(group)} vehicles {what} in "
-                        f"step {step}, and its allowance is {allowance}")
+            yield Fault("agent", *group[allowance][1:], FLOW, f"{what} in step {step}: "
+                        f"{len(group)}, and the allowance is {allowance}")
         start = count * VEHICLE - rates.given(step)
         lowest = min(lowest or (start, step, count), (start, step, count))
         count += len(group)
         if count * VEHICLE - rates.given(step + 1) - lowest[0] >= VEHICLE:
             first, many = lowest[1], count - lowest[2]
             parts = rates.given(step + 1) - rates.given(first)
-            yield Fault("agent", *group[-1][1:], FLOW, f"{many} vehicles {what} in steps {first} "
-                        f"to {step}, and rate times time, rounded up, is {above(parts, VEHICLE)}")
+            yield Fault("agent", *group[-1][1:], FLOW, f"{what} in steps {first} to {step}: "
+                        f"{many}, and rate times time, rounded up, is {above(parts, VEHICLE)}")
 
 
 # Storage.
@@ -142,11 +142,11 @@ def storage_faults(given, moves):
             came_back = bisect.bisect_left(left, step + 1 - back)
             if on_it > link.storage:
                 yield Fault("agent", *group[-1][1:], STORAGE, f"link {link.name} holds {on_it} "
-                            f"vehicles after step {step}, and its storage is {link.storage}")
+                            f"vehicles after step {step}, its storage is {link.storage}")
             elif count > came_back + link.storage:
                 yield Fault("agent", *group[-1][1:], STORAGE, f"{count} vehicles entered link "
-                            f"{link.name} up to step {step}; {came_back} left it {back} steps "
-                            f"before or earlier, and its storage is {link.storage}")
+                            f"{link.name} up to step {step}; {came_back} left it up to step "
+                            f"{step - back}, and its storage is {link.storage}")
 
 
 # Nobody is faster than free flow.
@@ -167,13 +167,13 @@ def free_faults(given, agent):
         least = net.links[link].free + penalty
         if end - entry < least:
             yield Fault("agent", agent.line, "entry_steps" if is_turn else "arrival_step", FREE,
-                        f"it takes {end - entry} steps over link {net.links[link].name} and the "
-                        f"turn behind it, and free flow takes {least}")
+                        f"steps over link {net.links[link].name} and the turn behind it: "
+                        f"{end - entry}, and by free flow {least}")
     if agent.arrival is not None:
         least = given.searches.least_free(agent.origin, agent.destination)
         if agent.arrival - agent.departure < least:
             yield Fault("agent", agent.line, "arrival_step", FREE,
-                        f"the trip takes {agent.arrival - agent.departure} steps, and the least "
+                        f"steps of the trip: {agent.arrival - agent.departure}, and the least "
                         f"free-flow time between its zones is {least}")
 
 

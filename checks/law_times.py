@@ -44,8 +44,8 @@ def time_faults(given, table, agents):
                             f"link table and the words it is {value}")
         if table.number(row, "travel_steps") < link.free:
             yield Fault("link_performance", row + 2, "travel_steps", TIMES,
-                        f"link {link.name} takes {table.number(row, 'travel_steps')} steps, and "
-                        f"its free-flow time is {link.free}")
+                        f"steps of link {link.name}: {table.number(row, 'travel_steps')}, and by "
+                        f"free flow {link.free}")
 
 
 def balance_faults(given, table, agents, moves):
