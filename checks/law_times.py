@@ -130,7 +130,7 @@ def last_gap_faults(given, results, routed):
 def least_sum(given, trips, time):
     """The least steps of all trips, each so many times; none where the network is too large to
     search them."""
-    total = 0
+    total = given.searches.states = 0
     for trip, count in trips.items():
         least = given.searches.least(trip, time)
         if least is None:
