@@ -67,22 +67,33 @@ class Planted:
                 if end == entry + least:
                     yield step_change(agent, place + 1, end - 1)
 
-    def entry_at(self, number, step):
-        """The first later entry into a link, in this step instead."""
-        for later, line, _ in self.moves.entered[number]:
+    def move_at(self, moves, step):
+        """The first later one of these moves, in this step instead."""
+        for later, line, _ in moves:
             if later > step:
                 agent = self.agents[line - 2]
-                place = next(place for place, one in enumerate(agent.entries) if one == later)
-                return step_change(agent, place, step)
+                return step_change(agent, (agent.entries + [agent.arrival]).index(later), step)
         return None
+
+    def above_an_allowance(self, rates, moves):
+        """One of these moves more in a step in which as many were made as the rates allow."""
+        steps = [step for step, _, _ in moves]
+        for step in set(steps):
+            change = self.move_at(moves, step)
+            if change and rates.is_limited(step) and steps.count(step) == rates.allowance(step):
+                yield change
 
     def entries_above_an_allowance(self):
         for number, link in enumerate(self.given.net.links):
-            steps = [step for step, _, _ in self.moves.entered[number]]
-            for step in set(steps):
-                change = self.entry_at(number, step)
-                if change and steps.count(step) == link.rates.allowance(step):
-                    yield change
+            yield from self.above_an_allowance(link.rates, self.moves.entered[number])
+
+    def leavings_above_an_allowance(self):
+        for number, link in enumerate(self.given.net.links):
+            yield from self.above_an_allowance(link.rates, self.moves.left[number])
+
+    def turns_above_a_limit(self):
+        for pair, (_, rates) in self.given.net.listed.items():
+            yield from self.above_an_allowance(rates, self.moves.taken[pair])
 
     def entries_onto_a_full_link(self):
         queue = self.given.settings["queue"]
@@ -92,7 +103,7 @@ class Planted:
             for step in set(steps):
                 back = link.wave if queue == "newell" else 1
                 space = bisect.bisect_left(left, step + 1 - back) + link.storage
-                change = self.entry_at(number, step)
+                change = self.move_at(self.moves.entered[number], step)
                 if change and bisect.bisect_right(steps, step) == space:
                     yield change
 
@@ -118,6 +129,7 @@ class Planted:
 
 
 KINDS = {"departures_early": FREE, "moves_early": FREE, "entries_above_an_allowance": FLOW,
+         "leavings_above_an_allowance": FLOW, "turns_above_a_limit": FLOW,
          "entries_onto_a_full_link": STORAGE, "times_below_free_flow": TIMES,
          "counts_of_buckets": TIMES, "gaps": GAP}
 
