@@ -14,6 +14,7 @@ import os
 import re
 import sys
 
+sys.dont_write_bytecode = True
 from textbook_run import Run
 
 BY_HAND = re.compile(r"    (.+): (.+) = ([0-9.]+)")
