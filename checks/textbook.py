@@ -1,8 +1,8 @@
 #!/usr/bin/env python3
 """textbook.py CASE.. or --table CASE..
 
-Reads cases of examples/textbook, each a folder in which the program was run: for words.txt in the
-folder itself, and for words_NAME.txt in its folder NAME. Prints of each case `what,by hand,dta`:
+Reads cases of examples/textbook, each a folder in which the program was run: for run.txt in the
+folder itself, and for run_NAME.txt in its folder NAME. Prints of each case `what,by hand,dta`:
 the lines that README.md has under "By hand", worked out again, and what the runs give, in their
 order.
 With --table it prints the rows of the table in docs/VALIDATION.md. Status 1 where a line by hand
@@ -165,11 +165,11 @@ def signal_delay(run):
 
 
 def runs_of(case):
-    """The runs of a case: that of words.txt first, the others by name."""
-    others = sorted(name[6:-4] for name in os.listdir(case)
-                    if name.startswith("words_") and name.endswith(".txt"))
+    """The runs of a case: that of run.txt first, the others by name."""
+    others = sorted(name[4:-4] for name in os.listdir(case)
+                    if name.startswith("run_") and name.endswith(".txt"))
     for name in [None, *others]:
-        with open(os.path.join(case, f"words_{name}.txt" if name else "words.txt")) as words:
+        with open(os.path.join(case, f"run_{name}.txt" if name else "run.txt")) as words:
             yield Run(os.path.join(case, name) if name else case, words.read().split())
 
 

@@ -20,10 +20,10 @@ run() {
 
 # run_case NAME: the runs of a case, in a folder of that name.
 run_case() {
-    cp -r "$textbook/$1" . && run "$1" words.txt
-    for words in "$1"/words_*.txt; do
+    cp -r "$textbook/$1" . && run "$1" run.txt
+    for words in "$1"/run_*.txt; do
         [ -e "$words" ] || continue
-        other=${words#*/words_}
+        other=${words#*/run_}
         other=$1/${other%.txt}
         mkdir "$other" && cp "$textbook/$1"/*.csv "$other" && run "$other" "../${words#*/}"
     done
