@@ -271,7 +271,7 @@ bad_matrices() {
     bad_matrix ',1,2\n1,0,"1\n' \
         " line 2: a quote that begins here isn't closed, or has text behind it."
     printf ',1,2\n1,0,5\n' >bad.csv
-    refused 2 '--table and --lookup are for OMX files, and bad.csv is a text.' dta-from-matrix \
+    refused 2 '--table and --lookup are for OMX files, and bad.csv is none.' dta-from-matrix \
         bad.csv --table am --to out
     refused 2 '0.001 hours are 0.6 steps of 6 seconds; a period is 1 to 86400 whole steps.' \
         dta-from-matrix bad.csv --hours 0.001 --to out
@@ -433,6 +433,8 @@ bad_networks() {
         ' line 1 column added: there is such a column already. Were connectors added before?'
     bad_network movement '2s/34/35/; 2s/^3/9/' \
         ' line 2 column node_id: there is no node 9 in node.csv.'
+    bad_network movement '2p' \
+        ' line 3 column ob_link_id: this turn from 13 to 34 has a row above.'
     bad_network movement '2s/,13,/,34,/' " line 2 column ib_link_id: link 34 isn't one of node 3."
     refused 2 '--to has to be another folder than this one, whose tables stay.' dta-connectors
     refused 2 \

@@ -9,6 +9,7 @@ BEGIN {
         else { print_line(line); gap = 0 }
     }
     if (part == "Example") print ".fi"
+    print ".SH SEE ALSO\n.BR dta (1)"
     exit
 }
 

@@ -11,13 +11,15 @@ import os
 import re
 import sys
 import tempfile
-from decimal import Decimal, localcontext
+from decimal import Decimal, getcontext
 
 USAGE, REFUSED, UNREAD, UNWRITTEN = 2, 3, 4, 5
 MOST_BYTES = 268_435_456
 MOST_QUANTITY = 1_000_000_000
 MOST_IDENTIFIER = 9_223_372_036_854_775_807
 IDENTIFIER = re.compile(r"([0-9]+)(?:\.0+)?")
+# So many digits that sums and products of quantities are exact.
+getcontext().prec = 200
 QUANTITY = re.compile(r"[+-]?(?:[0-9]+\.?[0-9]*|\.[0-9]+)(?:[eE][+-]?[0-9]{1,3})?")
 
 
@@ -82,9 +84,7 @@ def quantity(text, place, name):
 
 def plain(value):
     """A Decimal without an exponent and without zeros at its end."""
-    with localcontext() as context:
-        context.prec = 2000
-        text = f"{value:f}"
+    text = f"{value:f}"
     return text.rstrip("0").rstrip(".") if "." in text else text
 
 
@@ -96,11 +96,9 @@ class Thousandths:
         self.exact, self.written = Decimal(0), Decimal(0)
 
     def next(self, value):
-        with localcontext() as context:
-            context.prec = 200
-            self.exact += value
-            rounded = self.exact.quantize(Decimal("0.001")) - self.written
-            self.written += rounded
+        self.exact += value
+        rounded = self.exact.quantize(Decimal("0.001")) - self.written
+        self.written += rounded
         return rounded
 
 
