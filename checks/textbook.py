@@ -111,7 +111,8 @@ def two_routes(run):
     late = mean(trip.taken() for trip in run.trips if run.minutes(trip.departure) >= 12)
     delay = sum(trip.taken() - 60 for trip in run.trips)
     return [f"{run.minutes(long[0].departure):.1f}", f"{len(run.trips) - len(long)}",
-            f"{len(long)}", f"{run.minutes(late):.2f}", f"{run.hours(delay):.2f}", f"{run.gaps[-1] / 10000:.2f}"]
+            f"{len(long)}", f"{run.minutes(late):.2f}", f"{run.hours(delay):.2f}",
+            f"{run.gaps[-1] / 10000:.2f}"]
 
 
 @measure
@@ -132,10 +133,12 @@ def braess_without(run):
 
 
 @measure
-def merge(run):
-    flows = [run.left(link, 50, 650) for link in ("11", "12", "21", "22", "31", "32")]
-    half = [2 * run.left(link, 100, 400) for link in ("31", "32")]
-    return [f"{flow}" for flow in flows[:2] * 2 + flows[2:4] * 2 + half]
+def merge(run, second):
+    def flows(each, *links):
+        """Vehicles an hour that leave links in minutes 10 to 40."""
+        return [f"{2 * each.left(link, each.hour // 6, each.hour * 2 // 3)}" for link in links]
+    return (flows(run, "11", "12", "11", "12", "21", "22", "21", "22", "31", "32") +
+            flows(second, "11", "12"))
 
 
 @measure
