@@ -3,8 +3,9 @@
 
 `dta` and the tools are on the path, and examples/ is in the folder. Blocks of `sh` are run by the
 shell, those of `python` one after another as in a notebook; what the latter print is compared with
-the block of `text` behind them, or written there with --write. A block that imports what isn't
-there is left out, and this is said. Status 1 where a text is another one.
+the block of `text` behind them, or written there with --write. Where a block imports what isn't
+there, it and the rest of its section are left out, and this is said. Status 1 where a text is
+another one.
 """
 import contextlib
 import io
@@ -12,45 +13,61 @@ import re
 import subprocess
 import sys
 
-BLOCK = re.compile(r"^```(sh|python|text)\n(.*?)^```$", re.M | re.S)
+PART = re.compile(r"^(?:## .*|```(sh|python|text)\n(.*?)^```)$", re.M | re.S)
+
+
+def run_shell(code):
+    run = subprocess.run(["sh", "-e", "-c", code], capture_output=True, text=True, check=False)
+    if run.returncode:
+        sys.exit(f"status {run.returncode} of\n{code}{run.stdout}{run.stderr}")
 
 
 def printed_by(code, names):
     """What a block of Python prints, or nothing where a module of it isn't there."""
     with contextlib.redirect_stdout(io.StringIO()) as text:
         try:
-            exec(compile(code, "docs/RECIPES.md", "exec"), names)  # pylint: disable=exec-used
+            exec(compile(code, "docs/RECIPES.md", "exec"), names)
         except ModuleNotFoundError as error:
-            return f"not tried: there is no {error.name}"
+            print(f"not tried: there is no {error.name}", file=sys.stderr)
+            return None
     return text.getvalue()
+
+
+def compared(page):
+    """The page with what its blocks print, and how many of them print something else."""
+    written, at, names, printed, left_out, wrong = "", 0, {}, "", False, 0
+    for part in PART.finditer(page):
+        kind, body = part.groups()
+        if kind is None:
+            left_out = False
+        elif left_out:
+            continue
+        elif kind == "sh":
+            run_shell(body)
+        elif kind == "python":
+            printed = printed_by(body, names)
+            left_out = printed is None
+        else:
+            if printed != body:
+                print(f"wanted:\n{body}got:\n{printed}")
+                wrong += 1
+            written += page[at:part.start(2)] + printed
+            at = part.end(2)
+    return written + page[at:], wrong
 
 
 def main():
     path = sys.argv[1]
-    with open(path, encoding="utf-8") as page:
-        text = page.read()
-    written, at, names, printed, wrong = "", 0, {}, None, 0
-    for block in BLOCK.finditer(text):
-        kind, body = block.groups()
-        if kind == "sh":
-            subprocess.run(["sh", "-e", "-c", body], check=True, stdout=subprocess.DEVNULL)
-        elif kind == "python":
-            printed = printed_by(body, names)
-            if printed.startswith("not tried: "):
-                print(printed)
-                printed = None
-                if not names.get("pd"):
-                    sys.exit(0)
-        elif printed is not None:
-            if printed != body and "--write" not in sys.argv:
-                print(f"wanted:\n{body}got:\n{printed}")
-                wrong += 1
-            written += text[at:block.start(2)] + printed
-            at = block.end(2)
+    with open(path, encoding="utf-8") as file:
+        page = file.read()
+    if "import pandas" in page and printed_by("import pandas", {}) is None:
+        return
+    written, wrong = compared(page)
     if "--write" in sys.argv:
-        with open(path, "w", encoding="utf-8") as page:
-            page.write(written + text[at:])
-    sys.exit(wrong > 0)
+        with open(path, "w", encoding="utf-8") as file:
+            file.write(written)
+    elif wrong:
+        sys.exit(1)
 
 
 if __name__ == "__main__":
