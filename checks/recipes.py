@@ -13,7 +13,7 @@ import re
 import subprocess
 import sys
 
-PART = re.compile(r"^(?:## .*|```(sh|python|text)\n(.*?)^```)$", re.M | re.S)
+PART = re.compile(r"^(?:## [^\n]*|```(sh|python|text)\n(.*?)^```)$", re.M | re.S)
 
 
 def run_shell(code):
