@@ -34,8 +34,8 @@ def printed_by(code, names):
 
 
 def compared(page):
-    """The page with what its blocks print, and how many of them print something else."""
-    written, at, names, printed, left_out, wrong = "", 0, {}, "", False, 0
+    """The page with what its blocks print, how many texts were compared, how many are wrong."""
+    written, at, names, printed, left_out, texts, wrong = "", 0, {}, "", False, 0, 0
     for part in PART.finditer(page):
         kind, body = part.groups()
         if kind is None:
@@ -48,12 +48,13 @@ def compared(page):
             printed = printed_by(body, names)
             left_out = printed is None
         else:
+            texts += 1
             if printed != body:
                 print(f"wanted:\n{body}got:\n{printed}")
                 wrong += 1
             written += page[at:part.start(2)] + printed
             at = part.end(2)
-    return written + page[at:], wrong
+    return written + page[at:], texts, wrong
 
 
 def main():
@@ -62,12 +63,13 @@ def main():
         page = file.read()
     if "import pandas" in page and printed_by("import pandas", {}) is None:
         return
-    written, wrong = compared(page)
+    written, texts, wrong = compared(page)
     if "--write" in sys.argv:
         with open(path, "w", encoding="utf-8") as file:
             file.write(written)
-    elif wrong:
+    elif wrong or not texts:
         sys.exit(1)
+    print(f"{texts} texts compared")
 
 
 if __name__ == "__main__":
