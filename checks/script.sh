@@ -288,6 +288,12 @@ packages() {
     ../tree/bin/dta skim --at x 2>"$folder/said" >&2
     case_of 'a sentence by the tree' grep -q "can't be 'x'" "$folder/said"
     cd .. || exit 2
+    printf ',1,2\n1,0,5\n' >matrix.csv
+    case_of 'a tool by the tree' sh -c 'tree/bin/dta-from-matrix matrix.csv | grep -qx "volume 5"'
+    for tool in dta-from-tntp dta-from-matrix dta-connectors; do
+        zcat "tree/share/man/man1/$tool.1.gz" >manual
+        case_of "$tool in the manual" grep -qx '.B \\-\\-to FOLDER' manual
+    done
     case_of 'help by the tree' [ "$(tree/bin/dta help | head -c 4)" = 'dta ' ]
     case_of 'the page of the manual' gzip -t tree/share/man/man1/dta.1.gz
     zcat tree/share/man/man1/dta.1.gz | sed 's/\\-/-/g' >manual

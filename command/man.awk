@@ -15,6 +15,8 @@ BEGIN {
     print ".SH FILES\n.TP\n.I " ARGV[5] "/examples\nsmall networks with what comes out of them; " \
         "copy one to a folder of your own"
     print ".TP\n.I " ARGV[5] "/view/index.html\nshows the folder of a run in a browser"
+    print ".SH SEE ALSO\n.BR dta\\-connectors (1),\n.BR dta\\-from\\-matrix (1),"
+    print ".BR dta\\-from\\-tntp (1)"
     exit
 }
 
