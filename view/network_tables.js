@@ -68,7 +68,7 @@ function networkTables(csv) {
     async function readLinks(file, nodes, tell) {
         const names = new csv.Names();
         const from = new csv.Numbers(), to = new csv.Numbers();
-        const length = [], lanes = [], capacity = [], windows = new Map();
+        const length = [], lanes = [], speed = [], capacity = [], windows = new Map();
         const titles = [], shapes = [];
         let columns = null, at = null;
         const nodeOf = (places, column) => {
@@ -89,6 +89,7 @@ function networkTables(csv) {
             to.push(nodeOf(places, at.to));
             length.push(columns.quantity(places, at.length));
             lanes.push(columns.quantity(places, at.lanes, 1));
+            speed.push(columns.quantity(places, at.speed, NaN));
             capacity.push(columns.quantity(places, at.capacity, 1800));
             if (!places.isEmpty(at.windows))
                 windows.set(capacity.length - 1, windowsOf(places, at.windows));
@@ -101,6 +102,7 @@ function networkTables(csv) {
             to: to.taken(),
             length: Float64Array.from(length),
             lanes: Float64Array.from(lanes),
+            speed: Float64Array.from(speed),
             capacity: Float64Array.from(capacity),
             windows,
             titles: titles.length > 0 ? titles : null,
@@ -122,6 +124,7 @@ function networkTables(csv) {
             to: columns.required('to_node_id', places),
             length: columns.required('length', places),
             lanes: columns.optional('lanes'),
+            speed: columns.optional('free_speed'),
             capacity: columns.optional('capacity'),
             windows: columns.optional('capacity_by_step'),
             title: columns.optional('name'),

@@ -128,7 +128,12 @@ const Page = (() => {
         player.goTo(before / tick);
     }
 
+    // What isn't sure of the units is said loudly, until the planner says it.
     function showUnits() {
+        const unsure = runs.filter(({units}) => units.doubt !== '');
+        find('doubts').replaceChildren(...unsure.map(
+            ({name, units}) => Elements.make('p', {className: 'fault'}, `${name}: ${units.doubt}`)));
+        if (unsure.length > 0) find('units').closest('details').open = true;
         find('units').replaceChildren(...runs.map((run) => Units.fields(run, unitsChanged)));
         find('units-words').textContent =
             runs.map((run) => (runs.length > 1 ? `${run.name}: ` : '') + Units.wordsOf(run.units))

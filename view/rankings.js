@@ -23,8 +23,8 @@ class Rankings {
             (name) =>
                 [name,
                  ...columns.map((column) => (column.has(name) ? cell(column.get(name)) : ''))]);
-        const rows = table(({value, digits}) => Totals.format(value, digits));
-        const plain = table(({value}) => value);
+        const rows = table(({text, value, digits}) => text || Totals.format(value, digits));
+        const plain = table(({text, value}) => text || value);
         this.boxes.totals.replaceChildren(
             Elements.table(head, rows),
             Elements.button(

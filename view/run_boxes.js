@@ -108,7 +108,7 @@ class RunBoxes {
     }
 
     shownRun(box, run) {
-        return new ShownRun(this.ownName(box), run, box.units || Units.ofWords(run.words));
+        return new ShownRun(this.ownName(box), run, box.units || Units.ofRun(run));
     }
 
     // Two folders of one name are told apart.

@@ -180,11 +180,7 @@ class ShownRun {
             return;
         }
         const micrometres = {m: 1000n, km: 1000000n, mi: 1609344n}[unit];
-        // A product that is a whole number but for the last bits is meant as one.
-        const thousandths = (value) => {
-            const size = value * 1000, whole = Math.round(size);
-            return BigInt(Math.abs(size - whole) < size * 1e-15 ? whole : Math.floor(size));
-        };
+        const thousandths = (value) => BigInt(Units.thousandths(value));
         const whole = 10n ** 12n;
         this.storage = Int32Array.from(this.links.length, (length, link) => {
             const vehicles = thousandths(length) * micrometres

@@ -13,6 +13,14 @@ AGENTS = (
     '0,1,3,0,20,arrived,20;30,0;10\n'
 )
 
+# A small good run: by its free-flow steps a step has 6 or 7 seconds.
+MADE_RUN = {
+    'link.csv': 'link_id,from_node_id,to_node_id,length\n20,1,2,500\n30,2,3,500\n',
+    'link_performance.csv': TIMES.replace('10,10', '6,6'),
+    'agent.csv': AGENTS.replace('0,20,arrived,20;30,0;10', '0,12,arrived,20;30,0;6'),
+}
+IN_KILOMETRES = 'link_id,from_node_id,to_node_id,length\n20,1,2,0.3125\n30,2,3,0.31\n'
+
 SKIM = 'o_zone_id,d_zone_id,start_step,least_steps\n1,3,0,20\n3,1,0,\n'
 COUNTS = (
     'kind,first,second,from_step,to_step,vehicles\n' 'turn,20,30,0,50,7\n' 'through,1,3,0,60,7\n'
@@ -28,8 +36,8 @@ ODD_NETWORK = {
 
 # A run that has all that the checks look for, and what they must say.
 TO_CHECK = {
-    'link.csv': 'link_id,from_node_id,to_node_id,length,capacity\n'
-    '20,1,2,1000,1800\n30,2,3,1000,0\n40,2,3,10,1800\n',
+    'link.csv': 'link_id,from_node_id,to_node_id,length,free_speed,capacity\n'
+    '20,1,2,1000,60,1800\n30,2,3,1000,60,0\n40,2,3,10,60,1800\n',
     'link_performance.csv': 'link_id,from_step,to_step,entered,travel_steps,free_steps\n'
     '20,0,60,12,40,10\n30,0,60,0,10,10\n40,0,60,1,1,1\n',
     'agent.csv': AGENTS.split('\n')[0]

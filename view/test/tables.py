@@ -164,6 +164,19 @@ class Told:
         }
         return [step for step in sorted(stands) if self.stood(link, step) is not None]
 
+    def trip_minutes(self):
+        """Of a trip: the mean of those who arrived, and of all, the others up to the end."""
+        routed = [row for row, links, _ in self.agents() if links]
+        trips = [
+            (int(row['arrival_step'] or self.horizon) - int(row['departure_step']), row['status'])
+            for row in routed
+        ]
+        arrived = [steps for steps, status in trips if status == 'arrived']
+        return (
+            self.minutes(sum(arrived) / len(arrived)),
+            self.minutes(sum(steps for steps, _ in trips) / len(trips)),
+        )
+
     def minutes(self, count):
         return count * self.seconds / 60
 
