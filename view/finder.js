@@ -27,7 +27,7 @@ const Finder = (() => {
         if (place < 0) return null;
         const zoneName = run.nodes.zones[place] || '';
         const words = `node ${key}` + (zoneName === '' ? '' : ` of zone ${zoneName}`);
-        return {words, links: [], nodes: [place]};
+        return {words, links: [], nodes: [place], node: key};
     }
 
     function zone(run, key) {

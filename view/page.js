@@ -2,7 +2,7 @@
 // The page: what is chosen, and who is told when it changes.
 const Page = (() => {
     const find = (name) => document.getElementById(name);
-    let runs = [], maps = [], measure = Measures.list[0], scale = null, selected = null;
+    let runs = [], maps = [], measure = Measures.list[0], scale = null, selected = null, node = null;
     let isDrawAsked = false, pictures = 0, tick = 6, checking = 0;
     let foundNodes = new Map();
 
@@ -15,10 +15,17 @@ const Page = (() => {
         trips.showLink(run, link);
         find('trips').scrollIntoView({block: 'nearest'});
     };
-    const panel = new LinkPanel(find('link'), {pick, use});
+    const panel = new LinkPanel(find('link'), {pick, use, pickNode});
+    const nodePanel = new NodePanel(find('node'), {pick, pickNode});
     const rankings =
         new Rankings({totals: find('totals'), tables: find('tables')}, {pick: pickAt});
-    const told = {drawn: mapDrawn, picked: mapPicked, hovered: mapHovered, moved: askDraw};
+    const told = {
+        drawn: mapDrawn,
+        picked: mapPicked,
+        pickedNode: (map, place) => pickNode(map.run.nodes.names[place]),
+        hovered: mapHovered,
+        moved: askDraw
+    };
 
     function view() {
         return {
@@ -54,6 +61,7 @@ const Page = (() => {
         for (const map of maps) map.draw(view());
         legend.update(maps);
         panel.show(view(), runs);
+        nodePanel.show(node, runs);
         rankings.update(runs);
         Curves.markTime(seconds());
         find('time').textContent = timeWords();
@@ -79,6 +87,7 @@ const Page = (() => {
         document.body.classList.toggle('two', runs.length > 1);
         if (runs.length === 0) return;
         if (!runs.some((run) => run.linkPlaces.has(selected))) selected = null;
+        if (!runs.some((run) => run.nodes.names.includes(node))) node = null;
         makeMaps();
         setTimes();
         showUnits();
@@ -194,6 +203,17 @@ const Page = (() => {
         askDraw();
     }
 
+    // A node has a ring on each map that has it, and its turns beside the map.
+    function pickNode(name) {
+        node = name;
+        foundNodes = new Map();
+        for (const {run} of maps) {
+            const place = run.nodes.names.indexOf(name);
+            if (place >= 0) foundNodes.set(run, [place]);
+        }
+        askDraw();
+    }
+
     function pickAt(run, name, step) {
         goTo(run, step);
         showAtTop(name);
@@ -292,7 +312,10 @@ const Page = (() => {
             '+': () => zoomAll(1.5),
             '=': () => zoomAll(1.5),
             '-': () => zoomAll(1 / 1.5),
-            Escape: () => pick(null),
+            Escape: () => {
+                pick(null);
+                pickNode(null);
+            },
         };
         const chosen = Measures.list[Number(event.key) - 1];
         if (actions[event.key] !== undefined)
@@ -311,7 +334,7 @@ const Page = (() => {
         const first = all.find((one) => one !== null), place = all.indexOf(first);
         find('find').classList.toggle('wrong', text !== '' && first === undefined);
         find('found').textContent = first === undefined ? '' : first.words;
-        foundNodes = new Map();
+        pickNode(first !== undefined && first.node !== undefined ? first.node : null);
         maps.forEach((map, at) => {
             if (all[at] === null) return;
             map.bringIntoSight(all[at].nodes);

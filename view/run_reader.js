@@ -2,10 +2,11 @@
 // Reads the files of one run, checks that they belong together, and makes of them what the page
 // shows.
 function runReader(csv, network, results, agentRows, visitTools, places, shapes) {
-    const kinds =
-        ['node', 'link', 'demand', 'link_performance', 'agent', 'gap', 'skim', 'counts'];
+    const kinds = [
+        'node', 'link', 'movement', 'demand', 'link_performance', 'agent', 'gap', 'skim', 'counts'
+    ];
     // Tables of a run that the page has no use for.
-    const others = ['movement', 'start', 'times'];
+    const others = ['start', 'times'];
 
     const wordsName = 'words.txt';
     // The tables whose words are asked for, the first one that there is.
@@ -58,7 +59,7 @@ function runReader(csv, network, results, agentRows, visitTools, places, shapes)
             head.split(/[\r\n]/)[0].replace(/^\uFEFF/, '').replace(/["\s]/g, '').split(',');
         const has = (name) => columns.includes(name);
         if (has('entry_steps')) return 'agent';
-        if (has('ib_link_id')) return 'other';
+        if (has('ib_link_id')) return 'movement';
         if (has('volume')) return 'demand';
         if (has('from_node_id') && has('link_id')) return 'link';
         if (has('free_steps')) return 'link_performance';
@@ -185,6 +186,7 @@ function runReader(csv, network, results, agentRows, visitTools, places, shapes)
             waits: null,
             states: null,
             sums: null,
+            turns: null,
             demand: null,
             gap: null,
             skim: null,
@@ -196,6 +198,7 @@ function runReader(csv, network, results, agentRows, visitTools, places, shapes)
     async function readResults(run, links, chosen, withProgress, faults) {
         const readers = {
             times: ['link_performance', (file, tell) => results.readTimes(file, links, tell)],
+            turns: ['movement', (file, tell) => network.readTurns(file, links, tell)],
             demand: ['demand', network.readDemand],
             gap: ['gap', results.readGap],
             skim: ['skim', results.readSkim],

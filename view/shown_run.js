@@ -9,6 +9,7 @@ class ShownRun {
         this.hasLoading = run.times !== null && run.times.kind === 'loading';
         this.isFreeflow = run.times !== null && run.times.kind === 'freeflow';
         this.occupancy = run.visits === null ? null : new Occupancy(run);
+        this.movements = new Turns(this);
         this.stands = this.hasLoading && run.visits !== null ? new Stands(this) : null;
         this.linkPlaces = new Map();
         run.links.names.forEach((linkName, link) => this.linkPlaces.set(linkName, link));
@@ -107,11 +108,18 @@ class ShownRun {
         const parts = windows.get(link);
         if (parts === undefined || bucket < 0) return capacity[link] * lanes[link];
         const from = this.times.from[bucket], to = this.times.to[bucket];
+        return ShownRun.meanOver(parts, from, to) * lanes[link];
+    }
+
+    // The mean over some steps of a value that changes with time, by pairs of a first step and a
+    // value.
+    static meanOver(parts, from, to) {
         const sum = parts.reduce((before, [first, value], place) => {
             const behind = place + 1 < parts.length ? parts[place + 1][0] : Infinity;
-            return before + value * Math.max(Math.min(to, behind) - Math.max(from, first), 0);
+            const steps = Math.min(to, behind) - Math.max(from, first);
+            return steps > 0 ? before + value * steps : before;
         }, 0);
-        return sum / (to - from) * lanes[link];
+        return sum / (to - from);
     }
 
     // Flow over capacity, in percent.

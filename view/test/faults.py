@@ -3,7 +3,7 @@ import os
 import shutil
 
 NODES = 'node_id,zone_id\n1,1\n2,\n3,3\n'
-LINKS = 'link_id,from_node_id,to_node_id,length\n20,1,2,1000\n30,2,3,1000\n'
+LINKS = 'link_id,from_node_id,to_node_id,length,free_speed\n20,1,2,1000,60\n30,2,3,1000,60\n'
 TIMES = (
     'link_id,from_step,to_step,entered,travel_steps,free_steps\n'
     '20,0,50,1,10,10\n20,50,60,0,10,10\n30,0,50,1,10,10\n30,50,60,0,10,10\n'
@@ -49,8 +49,9 @@ TO_CHECK = {
 CHECKS = {
     'zones': 'look: 1 zones of demand.csv have no node: 99. Their vehicles have no way.',
     'ways': 'look: 2 pairs of zones have no way, with 2 vehicles: 3 → 99, 3 → 1.',
-    'closed': 'look: 1 of 3 (33.3 %) links have a capacity of 0, and routes may lead there all '
-    'the same.',
+    'closed': 'look: 1 of 3 (33.3 %) links have a capacity of 0 for all time, and routes may lead '
+    'there all the same. 11 vehicles stand before them at the end, and would with any horizon and '
+    'any queue. Leave them out of link.csv, and their turns out of movement.csv.',
     'short': 'look: 1 of 3 (33.3 %) links take one step at free flow: their times are rounded up '
     'most.',
     'small': 'look: 1 of 3 (33.3 %) links store fewer than three vehicles: with a spatial queue '

@@ -298,6 +298,19 @@ class Told:
                 )
         return found
 
+    def turns(self, start):
+        """How many vehicles took which turn in a bucket."""
+        counts, end = Counter(), self.buckets[start]
+        for _, links, entries in self.agents():
+            for place in range(1, len(entries)):
+                if start <= entries[place] < end:
+                    counts[links[place - 1], links[place]] += 1
+        return counts
+
+    def standing_on(self, link):
+        """Vehicles that are on a link at the end."""
+        return self.on_link(link, self.horizon - 1)
+
     def homeless(self):
         """The zones of the demand that no node has, as they come."""
         known = {row['zone_id'] for row in self.nodes.values()}

@@ -383,6 +383,7 @@ TESTS = [
     'widths_tell_importance',
     'a_run_says_how_it_was_made',
     'trips_tell_who_is_counted',
+    'turns_that_bind_are_seen',
     'a_large_run_is_fast',
 ]
 

@@ -3,7 +3,7 @@ import os
 import shutil
 
 import faults
-from checks import check, check_totals, equal, near, number
+from checks import check, check_totals, equal, facts, near, number
 from tables import Told
 
 
@@ -86,3 +86,56 @@ class WeekTests:
             gap = int(self.runs[name][1]['gap_ppm']) / 1e4
             shown = number(shown['Gap of the last iteration, in percent'])
             check(abs(shown - gap) < 0.0006, f'the gap of {name}: {shown}, {gap}')
+
+    def turns_that_bind_are_seen(self):
+        """Their flow and capacity, that they are full, and who stands before closed ones."""
+        page, told = self.page, Told(self.path('limited'))
+        self.open_run('limited')
+        start = 50
+        counts, hours = told.turns(start), told.hours(told.buckets[start] - start)
+        page.choose('#slider', start + 5)
+        page.choose('#find', '13')
+        vehicles, shown = counts['13', '34'], facts(page)
+        check(vehicles >= 10 and told.travel['13', start] > told.free['13'], 'the turn is free')
+        equal(
+            shown['turn 13 → 34'],
+            f'{vehicles / hours:.0f} vehicles an hour of 120 that it lets through '
+            f'({100 * vehicles / (120 * hours):.0f} %): it is full',
+            'the turn that is full',
+        )
+        check(shown['time'].endswith('; the turn to link 34 is full'), shown['time'])
+        check('turn 13 → 35' not in shown, 'a turn without a limit in the bucket')
+        page.click('#link .turns')
+        equal(page.text('#node h2'), 'Node 3', 'the node at the end of link 13')
+        rows = {tuple(row[:2]): row[2:] for row in page.rows('#node')}
+        for turn in (('13', '34'), ('13', '35'), ('23', '34')):
+            equal(rows[turn][0], str(counts[turn]), f'the vehicles of the turn {turn}')
+        equal(rows['13', '34'][2:], ['120', f'{100 * vehicles / (120 * hours):.0f}', 'full'], '%')
+        equal(rows['23', '34'][2:], ['0', '', 'closed'], 'the turn that is closed')
+        self.closed_is_seen(told)
+
+    def closed_is_seen(self, told):
+        """In the checks and on the map, where it looks other than empty."""
+        page, red = self.page, (179, 38, 30)
+        standing = told.standing_on('23')
+        check(standing == 10, f'{standing} vehicles stand before the closed turn')
+        said = self.checks_of('limited')
+        equal(
+            said['turns'],
+            'look: 1 of 3 (33.3 %) turns of movement.csv have a capacity of 0 for all time: '
+            f'23 → 34. {standing} vehicles stand before them at the end, and would with any '
+            'horizon and any queue. Leave these rows out where others name their node.',
+            'the closed turn',
+        )
+        check('full in some bucket while' in said['full'] and '13 → 34' in said['full'], 'full')
+        equal(page.text('#closed .count'), '1 turn', 'the legend of closed turns')
+        check(self.pixels(red) > 5, 'the closed turn has no mark')
+        page.choose('#find', '23')
+        page.choose('#slider', told.horizon - 1)
+        words = 'before a turn with a capacity of 0 for all time'
+        check(facts(page)['blocked'].endswith(words), facts(page)['blocked'])
+        self.opened(faults.make(self.folder, 'to_check', faults.TO_CHECK))
+        check(self.pixels(red) > 20, 'the closed link looks like an empty one')
+        page.choose('#find', '30')
+        closed = '0 vehicles an hour: closed for all time'
+        equal(facts(page)['capacity'], closed, 'the panel of a closed link')
