@@ -132,7 +132,8 @@ maker_of_words() {
     fi
 }
 
-# tell_outputs WORDS..: says which outputs lead elsewhere, and which are there from another command.
+# tell_outputs WORDS..: says which outputs lead elsewhere, and which are there from another
+# command.
 tell_outputs() {
     for output in $outputs $words; do
         [ ! -h "$output" ] || say "$output is a link: the run writes to $(readlink -m "$output")."
@@ -315,9 +316,10 @@ tell_unwritten() {
     [ -z "$whole" ] || say "Written whole before it:$whole."
 }
 
-# note_words WORDS..: writes to words.txt by which words the run's tables were made, and the sizes
-# of these, by which a reader sees whether they are there still. What it says of earlier runs stays,
-# but of one whose tables this run has begun to write over. Where nothing is left to say it goes.
+# note_words WORDS..: writes to words.txt by which words the run's tables were made, with the sizes
+# of these, by which a reader sees whether they are there still. What it says of earlier runs
+# stays, but of one whose tables this run has begun to write over. Where nothing is left to say it
+# goes.
 note_words() {
     [ "$(marks "$outputs")" != "$before" ] || return
     notes=$(earlier_notes)
@@ -328,7 +330,8 @@ dta $(version) wrote $(stat -L -c '%n (%s bytes),' $outputs | tr '\n' ' ' | sed 
     else [ ! -f words.txt ] || rm words.txt 2>/dev/null
     fi && return
     why=$(why_not_made words.txt)
-    say "words.txt, which tells how the tables were made, couldn't be written: ${why:-$(why_no_room)}."
+    why=${why:-$(why_no_room)}
+    say "words.txt, which tells how the tables were made, couldn't be written: $why."
 }
 
 # The notes of runs whose tables this run hasn't written over, two lines each.

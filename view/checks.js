@@ -4,8 +4,8 @@ const Checks = (() => {
     // Sentences with what they are of: a list of { id, isFine, words, links }.
     function ofRun(run) {
         return [
-            zones(run), ways(run), closed(run), closedTurns(run), fullTurns(run), short(run), small(run), departures(run),
-            unfinished(run), jam(run)
+            zones(run), ways(run), closed(run), closedTurns(run), fullTurns(run), short(run),
+            small(run), departures(run), unfinished(run), jam(run)
         ].filter((found) => found !== null);
     }
 
@@ -75,9 +75,9 @@ const Checks = (() => {
         if (links.length === 0) return check('closed', true, 'All links have a capacity.');
         return check(
             'closed', false,
-            `${share(links.length, run.links.count)} links have a capacity of 0 for all time, and ` +
-                `routes may lead there all the same.${standing(run, 'link')} Leave them out of ` +
-                'link.csv, and their turns out of movement.csv.',
+            `${share(links.length, run.links.count)} links have a capacity of 0 for all time, ` +
+                `and routes may lead there all the same.${standing(run, 'link')} Leave them out ` +
+                'of link.csv, and their turns out of movement.csv.',
             links);
     }
 
@@ -96,8 +96,8 @@ const Checks = (() => {
             return check('turns', true, 'All turns of movement.csv have a capacity.');
         return check(
             'turns', false,
-            `${share(closed.length, turns.count)} turns of movement.csv have a capacity of 0 for ` +
-                `all time: ${named(closed.map((turn) => movements.title(turn)))}.` +
+            `${share(closed.length, turns.count)} turns of movement.csv have a capacity of 0 ` +
+                `for all time: ${named(closed.map((turn) => movements.title(turn)))}.` +
                 `${standing(run, 'turn')} Leave these rows out where others name their node.`,
             [...new Set(closed.map((turn) => turns.from[turn]))]);
     }
@@ -107,7 +107,7 @@ const Checks = (() => {
         if (run.turns === null || run.visits === null || !run.hasLoading) return null;
         const {movements, turns} = run, full = movements.full();
         if (full.length === 0)
-            return check('full', true, 'No turn of movement.csv is full while vehicles lose time.');
+            return check('full', true, 'No turn is full while vehicles lose time before it.');
         const words = full.map(
             ({turn, buckets}) =>
                 `${movements.title(turn)} (${buckets} ${buckets === 1 ? 'bucket' : 'buckets'})`);
@@ -159,7 +159,7 @@ const Checks = (() => {
                 'two vehicles: a row’s only vehicle leaves in the middle of the period.';
         return check(
             'departures', count < 10 || count < all / 20,
-            `Most vehicles leave in step ${step}, at ${run.clock(step)}: ` +
+            `Most vehicles leave in step ${step}, at ${run.instant(step)}: ` +
                 `${share(count, all)}.${rows}`);
     }
 
@@ -176,18 +176,35 @@ const Checks = (() => {
     }
 
     // Where jams begin: links whose first vehicle, when they are blocked for the first time,
-    // doesn't wait for a link that is blocked too.
+    // doesn't wait for a link that is blocked too; those with the most lost on them and on the
+    // links that wait for them come first. Where there are none the links wait for each other.
     function jamStarts(run) {
-        const {stands} = run, found = [];
+        const {stands, movements} = run, found = new Map();
         for (let link = 0; link < run.links.count; link += 1) {
             const {visit} = stands.of(link);
             if (visit < 0) continue;
-            const step = stands.blockedFrom(link, visit), next = run.movements.next(link, visit);
+            const step = stands.blockedFrom(link, visit), next = movements.next(link, visit);
             const isHeld = next >= 0 && stands.at(next, stands.range(next, step), step) >= 0;
-            found.push({link, step, isHeld});
+            found.set(link, {link, step, next: isHeld ? next : -1, lost: 0});
         }
-        const free = found.filter(({isHeld}) => !isHeld);
-        return (free.length > 0 ? free : found).sort((one, other) => one.step - other.step);
+        const all = [...found.values()].sort((one, other) => one.step - other.step);
+        const free = all.filter(({next}) => next < 0);
+        for (const one of all) {
+            const begin = beginOf(one, found);
+            begin.lost += run.hours(run.sumOverBuckets(one.link, run.lost));
+        }
+        return free.length > 0 ? free.sort((one, other) => other.lost - one.lost) : all;
+    }
+
+    // The link at which the jam begins that a link stands in, or itself in a ring.
+    function beginOf(link, found) {
+        const passed = new Set();
+        let one = link;
+        while (one.next >= 0 && found.has(one.next) && !passed.has(one)) {
+            passed.add(one);
+            one = found.get(one.next);
+        }
+        return one.next < 0 ? one : link;
     }
 
     function jam(run) {
@@ -195,14 +212,18 @@ const Checks = (() => {
         const starts = jamStarts(run);
         if (starts.length === 0)
             return check('jam', true, 'No link is blocked; queues move wherever there are any.');
-        const isRing = starts[0].isHeld;
+        const isRing = starts[0].next >= 0, {names} = run.links;
+        const first = Math.min(...starts.map(({step}) => step));
+        const words = starts.map(
+            ({link, step, lost}) =>
+                `${names[link]} (${run.instant(step)}${isRing ? '' : `, ${lost.toFixed(1)}`})`);
         return check(
             'jam', false,
-            `Links are blocked from ${run.clock(starts[0].step)} on. ` +
+            `Links are blocked from ${run.instant(first)} on. ` +
                 (isRing ? 'They wait for each other: ' :
-                          `The jam begins at ${Totals.format(starts.length)} of them: `) +
-                `${named(starts.map(({link, step}) =>
-                    `${run.links.names[link]} (${run.clock(step)})`))}.`,
+                          `The jam begins at ${Totals.format(starts.length)} of them. With the ` +
+                          'vehicle-hours that are lost there and behind: ') +
+                `${named(words)}.`,
             starts.map(({link}) => link));
     }
 

@@ -1,6 +1,6 @@
 'use strict';
-// What lets nobody through for all time, on the map: links as red dashes, and turns as a red bar at
-// the end of the link that they lead from.
+// What lets nobody through for all time, on the map: links as red dashes, and turns as a red bar
+// at the end of the link that they lead from.
 const ClosedMarks = (() => {
     const colour = '#b3261e';
 

@@ -60,7 +60,8 @@ class LinkPanel {
             'Turns at its end', () => this.actions.pickNode(end),
             {className: 'turns', hidden: run.visits === null || !run.hasLoading});
         const box = Elements.make(
-            'figure', {}, isNamed ? Elements.make('h3', {}, run.name) : '', numbers, use, ' ', turns,
+            'figure', {}, isNamed ? Elements.make('h3', {}, run.name) : '', numbers, use, ' ',
+            turns,
             Elements.make(
                 'div', {className: 'curve'}, canvas, Elements.make('div', {className: 'mark'})),
             vehicles);
@@ -225,7 +226,7 @@ class LinkPanel {
         for (let visit = first; visit < Math.min(behind, first + most); visit += 1) {
             const agent = run.visits.agent[visit];
             rows.push([
-                run.agentName(agent), run.tripTitle(agent), run.clock(run.visits.enter[visit]),
+                run.agentName(agent), run.tripTitle(agent), run.instant(run.visits.enter[visit]),
                 run.minutes(run.step - run.visits.enter[visit]).toFixed(1)
             ]);
         }

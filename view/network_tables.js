@@ -1,6 +1,6 @@
 'use strict';
-// The tables that a run reads: node.csv, link.csv and movement.csv, as GMNS names their columns, and
-// demand.csv.
+// The tables that a run reads: node.csv, link.csv and movement.csv, as GMNS names their columns,
+// and demand.csv.
 function networkTables(csv) {
     async function readNodes(file, tell) {
         const names = new csv.Names();

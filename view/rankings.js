@@ -118,7 +118,7 @@ class Rankings {
             return [
                 run.agentName(agent), run.tripTitle(agent), words[agents.status[agent]],
                 Totals.format(run.minutes(run.tripSteps(agent)), 1),
-                run.clock(agents.departure[agent]), String(links)
+                run.instant(agents.departure[agent]), String(links)
             ];
         });
         const head = ['Vehicle', 'Zones', 'Status', 'Minutes', 'Departs', 'Links'];

@@ -61,8 +61,13 @@ class ShownRun {
         return steps * this.units.stepSeconds / 3600;
     }
 
+    // When a bucket begins or ends, and when something happens.
     clock(step) {
         return Clock.words(step * this.units.stepSeconds);
+    }
+
+    instant(step) {
+        return Clock.exact(step * this.units.stepSeconds);
     }
 
     kilometres(link) {

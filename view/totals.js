@@ -7,8 +7,8 @@ const Totals = (() => {
         (digits) => new Intl.NumberFormat(
             'en', {minimumFractionDigits: digits, maximumFractionDigits: digits}));
 
-    // Names with their values, counts as whole numbers and most others to a tenth; and the words by
-    // which the run was made.
+    // Names with their values, counts as whole numbers and most others to a tenth; and the words
+    // by which the run was made.
     function rowsOf(run) {
         const made = Units.madeBy(run);
         const rows = [

@@ -17,7 +17,8 @@ class Turns {
 
     static isClosed({capacity, windows}, place) {
         const parts = windows.get(place);
-        return parts === undefined ? capacity[place] === 0 : parts.every(([, value]) => value === 0);
+        if (parts === undefined) return capacity[place] === 0;
+        return parts.every(([, value]) => value === 0);
     }
 
     // The place of a turn in movement.csv, or -1 where that doesn't list it.
@@ -74,7 +75,8 @@ class Turns {
             const turn = this.placeOf(link, to);
             const capacity = turn < 0 ? Infinity : this.capacity(turn, bucket);
             const most = capacity * this.run.hours(this.run.bucketSteps(bucket));
-            return {from: link, to, vehicles, capacity, most, isFull: Turns.isFull(vehicles, most)};
+            const isFull = Turns.isFull(vehicles, most);
+            return {from: link, to, vehicles, capacity, most, isFull};
         });
     }
 
@@ -88,10 +90,10 @@ class Turns {
         return most === 0 || vehicles > 0 && vehicles >= Math.min(Math.floor(most), 0.95 * most);
     }
 
-    // Limited turns with the buckets in which they are full and vehicles lose time before them, the
-    // most first.
+    // Limited turns with the number of buckets in which they are full while vehicles lose time
+    // before them, the most first.
     full() {
-        const {run, table} = this, {times} = run, found = [];
+        const {run, table} = this, found = [];
         const counts = this.countLimited();
         for (const [turn, vehicles] of counts) {
             const buckets = vehicles.reduce((sum, count, bucket) => {
@@ -99,7 +101,7 @@ class Turns {
                 const isHeld = most > 0 && Turns.isFull(count, most);
                 return sum + (isHeld && run.lost(table.from[turn], bucket) > 0 ? 1 : 0);
             }, 0);
-            if (buckets > 0) found.push({turn, buckets, share: buckets / times.buckets});
+            if (buckets > 0) found.push({turn, buckets});
         }
         return found.sort((one, other) => other.buckets - one.buckets);
     }
@@ -148,8 +150,10 @@ class Turns {
             if (held !== '') counts[held] += behind - first;
         }
         const {status, linkStart, links, count} = run.agents;
-        for (let agent = 0; agent < count; agent += 1)
-            if (status[agent] === 2 && this.closedLinks.has(links[linkStart[agent]])) counts.link += 1;
+        for (let agent = 0; agent < count; agent += 1) {
+            const first = links[linkStart[agent]];
+            if (status[agent] === 2 && this.closedLinks.has(first)) counts.link += 1;
+        }
         return counts;
     }
 }

@@ -61,7 +61,8 @@ CHECKS = {
     'the middle of the period.',
     'unfinished': 'look: 12 of 13 (92.3 %) trips are unfinished at the horizon: 11 on links, 1 at '
     'their origins.',
-    'jam': 'look: Links are blocked from 00:02:36 on. The jam begins at 1 of them: 20 (00:02:36).',
+    'jam': 'look: Links are blocked from 00:02:36 on. The jam begins at 1 of them. With the '
+    'vehicle-hours that are lost there and behind: 20 (00:02:36, 0.8).',
 }
 
 # Name, the files that differ from a good run (None: not there), and what must be said.

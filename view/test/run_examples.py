@@ -86,6 +86,9 @@ def make_all(program, folder):
         'limited': made(
             'limited', ['assign', '--period', '60', '--horizon', '200'], 'turns', limit_turns
         ),
+        'sweep': made(
+            'sweep', ['sweep', '--scales', '0.5;1.6', '--queue', 'spatial'], 'roundabout'
+        ),
         'busy': made_by_words('busy', 'many_scenarios/scenarios/busy'),
         'steps_of_10': made_by_words(
             'steps_of_10',

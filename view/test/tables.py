@@ -188,6 +188,11 @@ class Told:
         minutes, seconds = divmod(start + step * self.seconds, 60)
         return f'{minutes // 60:02}:{minutes % 60:02}' + (f':{seconds:02}' if seconds else '')
 
+    def instant(self, step, start=0):
+        """The same with the seconds."""
+        text = self.clock(step, start)
+        return text if text.count(':') == 2 else f'{text}:00'
+
     def flow(self, link, start):
         return self.entered[link, start] / self.hours(self.buckets[start] - start)
 
@@ -322,8 +327,8 @@ class Told:
         return [float(row['volume']) for row in rows(self.folder, 'demand.csv')]
 
     def jam_starts(self):
-        """Links with the step in which each is blocked for the first time: those that don't wait
-        for a blocked link then, and all of them."""
+        """Links that don't wait for a blocked link when they are blocked for the first time, with
+        the vehicle-hours lost there and behind; and when all links are."""
         first = {link: self.blocked(link)[0] for link in self.links if self.blocked(link)}
         heads = {}
         for row, links, entries in self.agents():
@@ -333,9 +338,20 @@ class Told:
                 if link in first and entry <= first[link] < end:
                     one = entry, end, int(row['agent_id']), links[place + 1 :][:1]
                     heads[link] = min(heads.get(link, one), one)
-        starts = {
-            link: step
-            for link, step in first.items()
-            if all(self.stood(one, step) is None for one in heads[link][3])
-        }
-        return starts, first
+        held = {}
+        for link, step in first.items():
+            if any(self.stood(one, step) is not None for one in heads[link][3]):
+                held[link] = heads[link][3][0]
+        return self.lost_behind(first, held), first
+
+    def lost_behind(self, first, held):
+        """The vehicle-hours lost at each link that isn't held, and on those that wait for it."""
+        lost = {link: 0 for link in first if link not in held}
+        for link in first:
+            begin, passed = link, set()
+            while begin in held and begin not in passed:
+                passed.add(begin)
+                begin = held[begin]
+            if begin in lost:
+                lost[begin] += self.hours(self.lost.get(link, 0))
+        return lost

@@ -384,6 +384,11 @@ TESTS = [
     'a_run_says_how_it_was_made',
     'trips_tell_who_is_counted',
     'turns_that_bind_are_seen',
+    'fields_answer_enter',
+    'the_map_stays_in_sight',
+    'folders_and_sweeps_get_a_sentence',
+    'paper_and_wide_screens',
+    'projected_coordinates_are_told',
     'a_large_run_is_fast',
 ]
 

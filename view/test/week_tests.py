@@ -1,6 +1,10 @@
 """What a planner met in a first week with real networks: each test fails on the page before."""
+import json
 import os
+import re
 import shutil
+
+from selenium.webdriver.common.keys import Keys
 
 import faults
 from checks import check, check_totals, equal, facts, near, number
@@ -139,3 +143,125 @@ class WeekTests:
         page.choose('#find', '30')
         closed = '0 vehicles an hour: closed for all time'
         equal(facts(page)['capacity'], closed, 'the panel of a closed link')
+
+    def typed(self, selector, text):
+        """Types into a field as a hand does, and Enter."""
+        field = self.page.find(selector)
+        field.clear()
+        field.send_keys(text, Keys.ENTER)
+        self.page.settle()
+
+    def fields_answer_enter(self):
+        """Those of trips and of what is looked for, which is whole only then."""
+        page, told = self.page, Told(self.path('sioux_falls'))
+        self.open_run('sioux_falls')
+        page.find('#from-zone').send_keys('13')
+        self.typed('#to-zone', '7')
+        check('Zone 13 to zone 7' in page.text('#trips'), 'Enter in the field of a zone')
+        self.typed('#vehicle', '7')
+        check('Vehicle 7, zones' in page.text('#trips'), 'Enter in the field of a vehicle')
+        page.find('#find').send_keys('5')
+        check(not page.find('#link').is_displayed(), 'a link is picked while one types')
+        self.typed('#find', '5')
+        equal(page.text('#link h2'), 'Link 5', 'the link at Enter')
+        self.typed('#find', '7777')
+        equal(page.text('#found'), 'there is no “7777”', 'what isn\'t there')
+        equal(page.text('#link h2'), 'Link 5', 'the link after nothing was found')
+        self.typed('#find', 'b1')
+        check('from 3 letters on' in page.text('#found'), page.text('#found'))
+        vehicle = next(row['agent_id'] for row, links, _ in told.agents() if len(links) > 5)
+        self.typed('#find', f'vehicle {vehicle}')
+        equal(page.text('#found'), f'vehicle {vehicle}', 'the vehicle that is found')
+        check(f'Vehicle {vehicle}, zones' in page.text('#trips'), 'its way')
+        enters = page.rows('#trips table')[0][2]
+        check(re.fullmatch(r'\d\d:\d\d:\d\d', enters), f'seconds of an entry: {enters}')
+        self.typed('#find', 'vehicle 999999')
+        equal(page.text('#found'), 'there is no “vehicle 999999”', 'no such vehicle')
+
+    def the_map_stays_in_sight(self):
+        """Where the way of a vehicle is read, which the map has moved to."""
+        page, told = self.page, Told(self.path('sioux_falls'))
+        self.open_run('sioux_falls')
+        page.resize(1400, 900)
+        page.click('#worst-link')
+        for _ in range(6):
+            page.click('#nearer')
+        row, links, _ = max(told.agents(), key=lambda one: len(one[1]))
+        self.typed('#find', f'vehicle {row["agent_id"]}')
+        for link in (links[0], links[-1]):
+            self.check_in_sight(link)
+        page.run('document.querySelector("#trips table").scrollIntoView({block: "end"})')
+        page.settle()
+        top, bottom, bar = page.run(
+            'const map = document.querySelector(".map canvas").getBoundingClientRect();'
+            'const bar = document.querySelector("#bar").getBoundingClientRect();'
+            'return [map.top, map.bottom, bar.bottom]'
+        )
+        check(bar <= top and bottom <= 900, f'the map is at {top} to {bottom}, the bar to {bar}')
+
+    def folders_and_sweeps_get_a_sentence(self):
+        page, names = self.page, ['sioux_falls', 'two_routes', 'busy']
+        page.open()
+        page.drop([self.path(name) for name in names])
+        page.wait_for_runs(names[:2])
+        said = 'The page shows two runs at once: sioux_falls and two_routes. Not opened: busy.'
+        check(said in page.text('#messages'), page.text('#messages'))
+        page.open()
+        page.drop([self.path('sweep')])
+        page.wait_for_runs(['sweep ×0.5'])
+        for place, scale in enumerate(('×0.5', '×1.6')):
+            page.choose('.scenario', str(place))
+            page.wait_for_runs([f'sweep {scale}'])
+            check_totals(page, Told(self.scenario(place)))
+            check('sweep.txt has 2 scenarios' in page.text('#messages'), 'the scenarios')
+        page.drop([self.path('sweep')])
+        page.wait_for_runs(['sweep ×1.6', 'sweep ×0.5'])
+        check_totals(page, Told(self.scenario(0)), 2)
+
+    def scenario(self, place):
+        """A folder with the tables of a scenario of the sweep."""
+        folder = os.path.join(self.folder, f'scenario_{place}')
+        shutil.rmtree(folder, ignore_errors=True)
+        shutil.copytree(self.path('sweep'), folder)
+        with open(os.path.join(folder, 'sweep.txt'), encoding='utf-8') as text:
+            part = re.split(r'^scenario .*\n', text.read(), flags=re.M)[place + 1]
+        begins = [part.index(head) for head in ('agent_id', 'link_id,', 'iteration,', 'nodes ')]
+        for name, begin, end in zip(('agent', 'link_performance', 'gap'), begins, begins[1:]):
+            with open(os.path.join(folder, f'{name}.csv'), 'w', encoding='utf-8') as table:
+                table.write(part[begin:end])
+        return folder
+
+    def paper_and_wide_screens(self):
+        """Paper has the time, the units and round nodes, and a wide screen has a larger map."""
+        page = self.page
+        self.open_run('steps_of_10')
+        page.choose('#slider', 330)
+        size = 'const map = document.querySelector(".map canvas");'
+        page.resize(2400, 1400)
+        wide, high = page.run(size + 'return [map.clientWidth, map.clientHeight]')
+        check(wide > 1700 and high > 800, f'the map of a wide screen is {wide} by {high}')
+        page.driver.execute_cdp_cmd('Emulation.setEmulatedMedia', {'media': 'print'})
+        form = page.run(
+            size + 'return map.clientWidth / map.clientHeight * map.height / map.width'
+        )
+        words = page.text('#print-words')
+        charts = page.run(
+            'return [...document.querySelectorAll(".chart")].map((one) =>'
+            ' one.clientWidth / one.clientHeight * one.height / one.width)'
+        )
+        page.driver.execute_cdp_cmd('Emulation.setEmulatedMedia', {'media': ''})
+        page.resize(1400, 1000)
+        check(all(abs(one - 1) < 0.02 for one in (form, *charts)), f'stretched: {form} {charts}')
+        check('00:55:00' in words and 'steps of 10 s' in words, f'on paper: {words}')
+
+    def projected_coordinates_are_told(self):
+        for name, is_told in (('sioux_falls', True), ('country', False)):
+            page = self.page
+            self.open_run(name)
+            page.run('document.querySelectorAll(".out")[2].click()')
+            path = os.path.join(self.folder, f'links_run_{name}.geojson')
+            page.wait(lambda path=path: os.path.exists(path) and os.path.getsize(path), path)
+            with open(path, encoding='utf-8') as text:
+                note = json.load(text).get('note', '')
+            equal('they are no degrees' in note, is_told, f'the note of {name}')
+            equal('they are no degrees' in page.text('#messages'), is_told, f'the page of {name}')
