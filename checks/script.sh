@@ -172,6 +172,17 @@ told_before() {
     "$script" freeflow >/dev/null 2>&1; ends 0 'from freeflow; assign writes over it' assign
     echo link,count >counts.csv; ends 0 'counts.csv is here already, from something else' counts
     "$script" assign >/dev/null 2>&1; ends 0 '' assign
+    flags 1 ' 1.0'; ends 0 '' freeflow
+    flags 1 ''; ends 0 '' assign
+    flags 0 -1; ends 0 "in 2 rows it isn't 1:" freeflow
+    flags 1 '"-1"'; ends 0 "in line 3: '-1'. Each row is one link" assign
+    flags 0 0; ends 0 '' demo 2
+}
+
+# flags VALUE VALUE: gives both links this dir_flag.
+flags() {
+    printf 'link_id,dir_flag,from_node_id,to_node_id,length\n10,%s,1,2,9\n20,%s,2,3,9\n' "$@" \
+        >link.csv
 }
 
 # noted LINE..: the lines of words.txt are these; none is meant where it isn't there.

@@ -147,6 +147,13 @@ tell_outputs() {
     done
 }
 
+# tell_directions COMMAND: says so where link.csv has DTALite's dir_flag, and it isn't 1.
+tell_directions() {
+    [ -n "$tables" ] && [ "$1" != demo ] && [ -f link.csv ] || return
+    head -c 9999 link.csv 2>/dev/null | sed 1q | grep -q dir_flag || return
+    LC_ALL=C awk -f "$share/command/texts.awk" -f "$share/command/refusals.awk" -- directions >&2
+}
+
 # Sets `start` to what starts the program so that it ends where this script is ended, and so that
 # it is alone among the runs that write to this folder.
 prepare_start() {
@@ -395,6 +402,7 @@ run_command() {
     check_files
     prepare_start
     tell_outputs "$@"
+    tell_directions "${1:-}"
     # So that a file that grows past ulimit -f ends the run with status 5, and not by a signal.
     trap '' XFSZ
     share_memory

@@ -1,6 +1,6 @@
 'use strict';
-// The field of what is looked for. It is read once the text is whole: at Enter, or when the field is
-// left. What is found, or that nothing is, stands beside it in words.
+// The field of what is looked for. It is read once the text is whole: at Enter, or when the field
+// is left. What is found, or that nothing is, stands beside it in words.
 class FindField {
     constructor(field, words, actions) {
         Object.assign(this, {field, words, actions});

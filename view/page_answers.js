@@ -1,6 +1,7 @@
 'use strict';
-// What the test asks of the first map: the middle of a link and its points, what is known of it, the
-// words and the length of the scale bar, the width of a link's line, and the trips that are drawn.
+// What the test asks of the first map: the middle of a link and its points, what is known of it,
+// the words and the length of the scale bar, the width of a link's line, and the trips that are
+// drawn.
 Object.assign(Page, (() => {
     const first = () => Page.maps()[0];
 

@@ -11,8 +11,8 @@ const SweepFile = (() => {
     ];
     const ofRuns = [name, ...tables.map(([, file]) => file), 'words.txt'];
 
-    // Answers the scenarios of the sweep among some files, as a list of { name, files }; none where
-    // there is no sweep.
+    // Answers the scenarios of the sweep among some files, as a list of { name, files }; none
+    // where there is no sweep.
     async function scenariosOf(files, tell) {
         const sweep = files.find((file) => file.name === name);
         if (sweep === undefined) return [];
