@@ -172,6 +172,72 @@ told_before() {
     "$script" freeflow >/dev/null 2>&1; ends 0 'from freeflow; assign writes over it' assign
     echo link,count >counts.csv; ends 0 'counts.csv is here already, from something else' counts
     "$script" assign >/dev/null 2>&1; ends 0 '' assign
+    flags 1 ' 1.0'; ends 0 '' freeflow
+    flags 1 ''; ends 0 '' assign
+    flags 0 -1; ends 0 "in 2 rows it isn't 1:" freeflow
+    flags 1 '"-1"'; ends 0 "in line 3: '-1'. Each row is one link" assign
+    flags 0 0; ends 0 '' demo 2
+}
+
+# flags VALUE VALUE: gives both links this dir_flag.
+flags() {
+    printf 'link_id,dir_flag,from_node_id,to_node_id,length\n10,%s,1,2,9\n20,%s,2,3,9\n' "$@" \
+        >link.csv
+}
+
+# noted LINE..: the lines of words.txt are these; none is meant where it isn't there.
+noted() {
+    [ "$(cat words.txt 2>/dev/null)" = "$(printf '%s\n' "$@")" ]
+}
+
+# by_now FILE..: the second line of a note, with the sizes that the files have now.
+by_now() {
+    printf 'dta %s wrote ' "$(sed -n 's/^## \([0-9.]*\),.*/\1/p' "$top/CHANGELOG.md" | sed 1q)"
+    stat -c '%n (%s bytes),' "$@" | tr '\n' ' ' | sed 's/, $//'
+}
+
+# words.txt speaks of the tables that are there, and of no others.
+notes_of_runs() {
+    tables='agent.csv link_performance.csv gap.csv'
+    run assign --period=9 --horizon 60
+    loading=$(by_now $tables)
+    case_of 'the words of a run' noted 'assign --period=9 --horizon 60' "$loading"
+    cp link_performance.csv times.csv
+    "$shell" "$script" skim --at '0;9' --horizon 60 >/dev/null 2>&1
+    least=$(by_now skim.csv)
+    case_of 'the words of two runs' noted 'skim --at 0;9 --horizon 60' "$least" \
+        'assign --period=9 --horizon 60' "$loading"
+    cp words.txt kept
+    for words in 'assign --step 0' 'demo 2' 'audit'; do
+        "$shell" "$script" $words >/dev/null 2>&1
+        case_of "words.txt after $words" cmp -s words.txt kept
+    done
+    mv node.csv away
+    "$shell" "$script" assign >/dev/null 2>&1
+    case_of 'words.txt after a missing table' cmp -s words.txt kept
+    mv away node.csv
+    rm gap.csv && ln -s /dev/full gap.csv
+    "$shell" "$script" assign >/dev/null 2>&1
+    case_of 'no words of tables that are written in part' noted \
+        'skim --at 0;9 --horizon 60' "$least"
+    new_folder
+    "$script" freeflow >/dev/null 2>&1
+    case_of 'the words of freeflow' noted freeflow "$(by_now link_performance.csv)"
+    "$script" assign >/dev/null 2>&1
+    case_of 'words of a table that is written over' noted assign "$(by_now $tables)"
+    rm gap.csv && mkdir gap.csv && "$script" assign >/dev/null 2>&1
+    case_of 'no words at all' noted ''
+    new_folder
+    mkdir words.txt; ends 0 "words.txt, which tells how the tables were made, couldn't" assign
+    echo 'assign --period 9' >words.txt
+    ends 0 'words.txt is here already, from something else' assign
+    echo assign >words.txt; ends 0 '' assign
+    ln -s link.csv words.txt; ends 9 'words.txt and link.csv are one file' assign
+    ln -s gap.csv words.txt; ends 9 'words.txt and gap.csv are one file' assign
+    "$shell" "$script" assign >words.txt 2>"$folder/said"; status=$?
+    text='Standard output goes to words.txt' wanted=9
+    case_of 'standard output to words.txt' is_said
+    new_folder
 }
 
 unwritten_outputs() {
@@ -226,7 +292,7 @@ told_on_a_terminal() {
         case_of "$file of a told run" cmp -s "$file" "../$file"
     done
     case_of 'the report of a told run' cmp -s report "$folder/report"
-    case_of 'no other file' [ "$(ls | wc -l)" = 7 ]
+    case_of 'no other file but the notes' [ "$(ls | wc -l)" = 8 ]
     script -qec "$shell '$script' assign --watch 1200 --iterations 2 --plain" /dev/null \
         >"$folder/said"
     case_of 'watch lines that were asked for' grep -q '^2,1200,' "$folder/said"
@@ -319,6 +385,7 @@ for shell in dash bash; do
     refused_tables
     refused_runs
     told_before
+    notes_of_runs
     unwritten_outputs
     [ -z "$unkept" ] || unkept_outputs
     told_on_a_terminal

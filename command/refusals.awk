@@ -1,17 +1,39 @@
 # awk -f texts.awk -f refusals.awk -- LINE LENGTH_UNIT SPEED_UNIT STEP: says in sentences what a
 # line of Report means that refuses a run for a table's text or for its size, and what an audit
 # found, as docs/GUIDE.md does. Of a table it looks at the header and at the line that is named.
+# With `directions` in place of the line it says which rows of link.csv aren't one link in DTALite.
 
 BEGIN {
     MOST = 10000
     count = split(ARGV[1], word, " ")
     if (word[1] == "size:") of_size()
+    else if (word[1] == "directions") of_directions("link.csv")
     else if (word[1] == "audit:") of_audit(word[2] ".csv", word[4], word[5])
     else if (word[4] ~ /^E[0-9]+$/) of_table(word[1], word[3] + 0, word[4], word[6])
     exit
 }
 
 function say(text) { print "dta: " text }
+
+# ---- what isn't refused
+
+# The column dir_flag of DTALite isn't read, and may say that a row isn't one link as it is written.
+function of_directions(file,    line, k, value, others, first) {
+    if (!next_record(file)) return
+    columns = fields_of(record, header)
+    k = column_of("dir_flag")
+    for (line = 2; k && next_record(file); line++) {
+        if (index(record, "\"")) fields_of(record, row)
+        else split(record, row, ",")
+        value = trim(row[k])
+        if (value ~ /^\+?(1(\.0*)?)?$/) continue
+        if (!others++) first = "line " line ": " quoted(value)
+    }
+    if (!others) return
+    say("link.csv has the column dir_flag, which isn't read, and in " others " rows it isn't 1:")
+    say("first in " first ". Each row is one link from its from_node_id to its to_node_id.")
+    say("In DTALite 0 is a link both ways and -1 one the other way: write a row for each way.")
+}
 
 # ---- refusals that aren't of a table's text
 

@@ -13,11 +13,14 @@ say() {
     printf 'dta: %s\n' "$*" >&2
 }
 
+version() {
+    sed -n 's/^## \([0-9.]*\),.*/\1/p' "$share/CHANGELOG.md" | sed 1q
+}
+
 # answer_help WORDS..: prints docs/options.txt and ends, where the words ask for it.
 answer_help() {
     case "$#:${1:-}" in 1:help | 1:--help) ;; *) return ;; esac
-    version=$(sed -n 's/^## \([0-9.]*\),.*/\1/p' "$share/CHANGELOG.md" | sed 1q)
-    sed "1s/^dta:/dta $version:/" "$share/docs/options.txt"
+    sed "1s/^dta:/dta $(version):/" "$share/docs/options.txt"
     echo "The documents are in $docs; examples/ and view/ are in $share."
     exit
 }
@@ -49,8 +52,9 @@ value_of() {
     printf '%s\n' "$value"
 }
 
-# Sets `tables` to the tables of the folder that a run must not write over, and `outputs` to the
-# files that it writes. Where times.csv or start.csv isn't read it may be a link to an output.
+# Sets `tables` to the tables of the folder that a run must not write over, `outputs` to the files
+# that it writes, and `words` to the one in which this script notes how they were made. Where
+# times.csv or start.csv isn't read it may be a link to an output.
 name_files() {
     tables='node.csv link.csv movement.csv demand.csv'
     outputs=
@@ -66,6 +70,7 @@ name_files() {
         audit | demo) ;;
         *) tables= ;;
     esac
+    words=${outputs:+words.txt}
 }
 
 # ---- before the run
@@ -82,7 +87,7 @@ is_one() {
 # Ends where an output would be written over a table or over another output.
 check_files() {
     others=$tables
-    for output in $outputs; do
+    for output in $outputs $words; do
         for other in $others; do
             ! is_one "$output" "$other" || {
                 say "$output and $other are one file, by a link, and the run would write over it."
@@ -93,7 +98,7 @@ check_files() {
         others="$others $output"
     done
     [ -n "$tables" ] || return
-    for other in node.csv link.csv movement.csv demand.csv start.csv times.csv $outputs; do
+    for other in node.csv link.csv movement.csv demand.csv start.csv times.csv $outputs $words; do
         ! is_one /dev/fd/1 "$other" || refuse_stream 'Standard output' '>report.txt'
         ! is_one /dev/fd/2 "$other" || refuse_stream 'Standard error' '2>watch.txt'
     done
@@ -119,17 +124,34 @@ maker_of() {
     esac
 }
 
-# tell_outputs COMMAND: says which outputs lead elsewhere, and which are there from another command.
+# maker_of_words WORDS..: the command, where words.txt has notes of this script, or these words.
+maker_of_words() {
+    if [ ! -s words.txt ]; then echo nothing
+    elif grep -q '^dta .* wrote ' words.txt || [ "$(cat words.txt)" = "$*" ]; then echo "$1"
+    else echo 'something else'
+    fi
+}
+
+# tell_outputs WORDS..: says which outputs lead elsewhere, and which are there from another
+# command.
 tell_outputs() {
-    for output in $outputs; do
+    for output in $outputs $words; do
         [ ! -h "$output" ] || say "$output is a link: the run writes to $(readlink -m "$output")."
         [ -f "$output" ] || continue
         [ "$(stat -c %h "$output")" = 1 ] ||
             say "$output has further names (hard links): the run writes over the file of them all."
-        maker=$(maker_of "$output")
+        if [ "$output" = words.txt ]; then maker=$(maker_of_words "$@")
+        else maker=$(maker_of "$output"); fi
         [ "$maker" = "$1" ] || [ "$maker" = nothing ] ||
             say "$output is here already, from $maker; $1 writes over it once all is accepted."
     done
+}
+
+# tell_directions COMMAND: says so where link.csv has DTALite's dir_flag, and it isn't 1.
+tell_directions() {
+    [ -n "$tables" ] && [ "$1" != demo ] && [ -f link.csv ] || return
+    head -c 9999 link.csv 2>/dev/null | sed 1q | grep -q dir_flag || return
+    LC_ALL=C awk -f "$share/command/texts.awk" -f "$share/command/refusals.awk" -- directions >&2
 }
 
 # Sets `start` to what starts the program so that it ends where this script is ended, and so that
@@ -301,6 +323,35 @@ tell_unwritten() {
     [ -z "$whole" ] || say "Written whole before it:$whole."
 }
 
+# note_words WORDS..: writes to words.txt by which words the run's tables were made, with the sizes
+# of these, by which a reader sees whether they are there still. What it says of earlier runs
+# stays, but of one whose tables this run has begun to write over. Where nothing is left to say it
+# goes.
+note_words() {
+    [ "$(marks "$outputs")" != "$before" ] || return
+    notes=$(earlier_notes)
+    [ "$status" -ne 0 ] || notes="$*
+dta $(version) wrote $(stat -L -c '%n (%s bytes),' $outputs | tr '\n' ' ' | sed 's/, $//')${notes:+
+}$notes"
+    if [ -n "$notes" ]; then { printf '%s\n' "$notes" >words.txt; } 2>/dev/null
+    else [ ! -f words.txt ] || rm words.txt 2>/dev/null
+    fi && return
+    why=$(why_not_made words.txt)
+    why=${why:-$(why_no_room)}
+    say "words.txt, which tells how the tables were made, couldn't be written: $why."
+}
+
+# The notes of runs whose tables this run hasn't written over, two lines each.
+earlier_notes() {
+    [ ! -f words.txt ] || awk -v outputs=" $outputs " '
+        !/^dta .* wrote / { words = $0; next }
+        {
+            count = split($0, part, " ")
+            for (k = 1; k <= count; k++) if (index(outputs, " " part[k] " ")) next
+            print words "\n" $0
+        }' words.txt 2>/dev/null
+}
+
 # tell_status LINE BEFORE WORDS..: says what the status and the first line of Report mean.
 tell_status() {
     line=$1
@@ -350,12 +401,14 @@ run_command() {
     name_files "$@"
     check_files
     prepare_start
-    tell_outputs "${1:-}"
+    tell_outputs "$@"
+    tell_directions "${1:-}"
     # So that a file that grows past ulimit -f ends the run with status 5, and not by a signal.
     trap '' XFSZ
     share_memory
     before=$(marks "$outputs")
     run_program "$@"
+    note_words "$@"
     if (trap '' PIPE; printf '%s' "$report") 2>/dev/null || [ "$status" -ne 0 ]; then
         tell_status "$(printf '%s' "$report" | sed 1q)" "$before" "$@"
     else

@@ -4,8 +4,8 @@ const Checks = (() => {
     // Sentences with what they are of: a list of { id, isFine, words, links }.
     function ofRun(run) {
         return [
-            zones(run), ways(run), closed(run), short(run), small(run), departures(run),
-            unfinished(run), jam(run)
+            zones(run), ways(run), closed(run), closedTurns(run), fullTurns(run), short(run),
+            small(run), departures(run), unfinished(run), jam(run)
         ].filter((found) => found !== null);
     }
 
@@ -71,17 +71,51 @@ const Checks = (() => {
     }
 
     function closed(run) {
-        const {lanes, capacity, windows} = run.links;
-        const links = linksWith(run, (link) => {
-            const parts = windows.get(link) || [[0, capacity[link]]];
-            return parts.every(([, value]) => value * lanes[link] === 0);
-        });
+        const links = [...run.movements.closedLinks];
         if (links.length === 0) return check('closed', true, 'All links have a capacity.');
         return check(
             'closed', false,
-            `${share(links.length, run.links.count)} links have a capacity of 0, and routes ` +
-                'may lead there all the same.',
+            `${share(links.length, run.links.count)} links have a capacity of 0 for all time, ` +
+                `and routes may lead there all the same.${standing(run, 'link')} Leave them out ` +
+                'of link.csv, and their turns out of movement.csv.',
             links);
+    }
+
+    // Who stands before links or turns of a capacity of 0 at the end.
+    function standing(run, kind) {
+        const count = run.movements.standing()[kind];
+        return count === 0 ? '' :
+            ` ${Totals.format(count)} vehicles stand before them at the end, and would with any ` +
+                'horizon and any queue.';
+    }
+
+    function closedTurns(run) {
+        if (run.turns === null) return null;
+        const {movements, turns} = run, closed = movements.closedTurns;
+        if (closed.length === 0)
+            return check('turns', true, 'All turns of movement.csv have a capacity.');
+        return check(
+            'turns', false,
+            `${share(closed.length, turns.count)} turns of movement.csv have a capacity of 0 ` +
+                `for all time: ${named(closed.map((turn) => movements.title(turn)))}.` +
+                `${standing(run, 'turn')} Leave these rows out where others name their node.`,
+            [...new Set(closed.map((turn) => turns.from[turn]))]);
+    }
+
+    // Turns that bind: full while vehicles lose time before them.
+    function fullTurns(run) {
+        if (run.turns === null || run.visits === null || !run.hasLoading) return null;
+        const {movements, turns} = run, full = movements.full();
+        if (full.length === 0)
+            return check('full', true, 'No turn is full while vehicles lose time before it.');
+        const words = full.map(
+            ({turn, buckets}) =>
+                `${movements.title(turn)} (${buckets} ${buckets === 1 ? 'bucket' : 'buckets'})`);
+        return check(
+            'full', false,
+            `${share(full.length, turns.count)} turns of movement.csv are full in some bucket ` +
+                `while vehicles lose time before them: ${named(words)}.`,
+            [...new Set(full.map(({turn}) => turns.from[turn]))]);
     }
 
     function short(run) {
@@ -125,7 +159,7 @@ const Checks = (() => {
                 'two vehicles: a row’s only vehicle leaves in the middle of the period.';
         return check(
             'departures', count < 10 || count < all / 20,
-            `Most vehicles leave in step ${step}, at ${run.clock(step)}: ` +
+            `Most vehicles leave in step ${step}, at ${run.instant(step)}: ` +
                 `${share(count, all)}.${rows}`);
     }
 
@@ -141,27 +175,36 @@ const Checks = (() => {
                 'at their origins.');
     }
 
-    // The link on which a visit goes on, or -1 where it is the route's last one.
-    function nextLink(run, link, visit) {
-        const way = Trips.way(run, run.visits.agent[visit]);
-        const place = way.findIndex(
-            (part) => part.link === link && part.enter === run.visits.enter[visit]);
-        return place + 1 < way.length ? way[place + 1].link : -1;
-    }
-
     // Where jams begin: links whose first vehicle, when they are blocked for the first time,
-    // doesn't wait for a link that is blocked too.
+    // doesn't wait for a link that is blocked too; those with the most lost on them and on the
+    // links that wait for them come first. Where there are none the links wait for each other.
     function jamStarts(run) {
-        const {stands} = run, found = [];
+        const {stands, movements} = run, found = new Map();
         for (let link = 0; link < run.links.count; link += 1) {
             const {visit} = stands.of(link);
             if (visit < 0) continue;
-            const step = stands.blockedFrom(link, visit), next = nextLink(run, link, visit);
+            const step = stands.blockedFrom(link, visit), next = movements.next(link, visit);
             const isHeld = next >= 0 && stands.at(next, stands.range(next, step), step) >= 0;
-            found.push({link, step, isHeld});
+            found.set(link, {link, step, next: isHeld ? next : -1, lost: 0});
         }
-        const free = found.filter(({isHeld}) => !isHeld);
-        return (free.length > 0 ? free : found).sort((one, other) => one.step - other.step);
+        const all = [...found.values()].sort((one, other) => one.step - other.step);
+        const free = all.filter(({next}) => next < 0);
+        for (const one of all) {
+            const begin = beginOf(one, found);
+            begin.lost += run.hours(run.sumOverBuckets(one.link, run.lost));
+        }
+        return free.length > 0 ? free.sort((one, other) => other.lost - one.lost) : all;
+    }
+
+    // The link at which the jam begins that a link stands in, or itself in a ring.
+    function beginOf(link, found) {
+        const passed = new Set();
+        let one = link;
+        while (one.next >= 0 && found.has(one.next) && !passed.has(one)) {
+            passed.add(one);
+            one = found.get(one.next);
+        }
+        return one.next < 0 ? one : link;
     }
 
     function jam(run) {
@@ -169,14 +212,18 @@ const Checks = (() => {
         const starts = jamStarts(run);
         if (starts.length === 0)
             return check('jam', true, 'No link is blocked; queues move wherever there are any.');
-        const isRing = starts[0].isHeld;
+        const isRing = starts[0].next >= 0, {names} = run.links;
+        const first = Math.min(...starts.map(({step}) => step));
+        const words = starts.map(
+            ({link, step, lost}) =>
+                `${names[link]} (${run.instant(step)}${isRing ? '' : `, ${lost.toFixed(1)}`})`);
         return check(
             'jam', false,
-            `Links are blocked from ${run.clock(starts[0].step)} on. ` +
+            `Links are blocked from ${run.instant(first)} on. ` +
                 (isRing ? 'They wait for each other: ' :
-                          `The jam begins at ${Totals.format(starts.length)} of them: `) +
-                `${named(starts.map(({link, step}) =>
-                    `${run.links.names[link]} (${run.clock(step)})`))}.`,
+                          `The jam begins at ${Totals.format(starts.length)} of them. With the ` +
+                          'vehicle-hours that are lost there and behind: ') +
+                `${named(words)}.`,
             starts.map(({link}) => link));
     }
 

@@ -61,7 +61,7 @@ const ChosenFiles = (() => {
     }
 
     function isTable(name) {
-        return /\.csv$/i.test(name) || name === 'words.txt';
+        return /\.csv$/i.test(name) || name === 'words.txt' || name === SweepFile.name;
     }
 
     // From an input: either the files of a folder, or files one by one.

@@ -1,16 +1,18 @@
 'use strict';
 // Times of day. The tables count steps from 0; the planner says what the clock shows then.
 const Clock = (() => {
-    const clock = {start: 0, words, marks, read};
+    const clock = {start: 0, words, exact, marks, read};
 
-    // Seconds from the start of the run as hours, minutes and, where they aren't whole, seconds.
-    // The hours go on behind 24.
-    function words(seconds) {
+    // Seconds from the start of the run as hours, minutes and seconds. The hours go on behind 24.
+    function exact(seconds) {
         const whole = Math.round(seconds) + clock.start;
         const two = (value) => String(value).padStart(2, '0');
-        const rest = whole % 60;
-        return `${two(Math.floor(whole / 3600))}:${two(Math.floor(whole / 60) % 60)}`
-            + (rest === 0 ? '' : `:${two(rest)}`);
+        return [whole / 3600, whole / 60 % 60, whole % 60].map(Math.floor).map(two).join(':');
+    }
+
+    // The same without seconds where these are 0, for the bounds of buckets and for axes.
+    function words(seconds) {
+        return exact(seconds).replace(/:00$/, '');
     }
 
     // Marks of a time axis: whole minutes or hours of the clock.

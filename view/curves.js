@@ -162,11 +162,11 @@ const Curves = (() => {
             xMost: most,
             xName: 'iteration',
             xMarks: whole,
-            yName: 'gap, in millionths',
+            yName: 'gap in percent',
             series: [{
                 colour: colours.first,
                 hasDots: true,
-                points: run.gap.map((line) => [line.iteration, line.ppm])
+                points: run.gap.map((line) => [line.iteration, line.ppm / 1e4])
             }],
         };
     }

@@ -23,6 +23,12 @@ const Elements = (() => {
             make('tbody', {}, ...rows.map((row) => make('tr', {}, ...row.map(cell('td'))))));
     }
 
+    // A sentence among others, once.
+    function say(box, words) {
+        if (![...box.children].some((one) => one.textContent === words))
+            box.append(make('p', {className: 'note'}, words));
+    }
+
     function button(words, action, properties = {}) {
         return make('button', {type: 'button', onclick: action, ...properties}, words);
     }
@@ -44,5 +50,5 @@ const Elements = (() => {
         canvas.toBlob((blob) => save(`${name}.png`, blob), 'image/png');
     }
 
-    return {make, table, button, save, saveRows, saveCanvas};
+    return {make, table, say, button, save, saveRows, saveCanvas};
 })();

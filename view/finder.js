@@ -3,6 +3,8 @@
 // name. "node 7" and "zone 7" say which of them is meant.
 const Finder = (() => {
     const kinds = {link, node, zone, name};
+    // The letters from which on names are looked for.
+    const leastOfName = 3;
 
     // Answers { words, links, nodes } of the first kind that has the text, or null.
     function find(run, text) {
@@ -27,7 +29,7 @@ const Finder = (() => {
         if (place < 0) return null;
         const zoneName = run.nodes.zones[place] || '';
         const words = `node ${key}` + (zoneName === '' ? '' : ` of zone ${zoneName}`);
-        return {words, links: [], nodes: [place]};
+        return {words, links: [], nodes: [place], node: key};
     }
 
     function zone(run, key) {
@@ -38,7 +40,7 @@ const Finder = (() => {
 
     function name(run, key) {
         const {titles} = run.links, wanted = key.toLowerCase();
-        if (titles === null || wanted.length < 3) return null;
+        if (titles === null || wanted.length < leastOfName) return null;
         const links = placesWhere(titles, (title) => title.toLowerCase().includes(wanted));
         if (links.length === 0) return null;
         const words = `${titles[links[0]]}, ${counted(links, 'link')}`;
@@ -61,5 +63,5 @@ const Finder = (() => {
         return `${Totals.format(list.length)} ${noun}${list.length === 1 ? '' : 's'}`;
     }
 
-    return {find};
+    return {find, leastOfName};
 })();

@@ -27,7 +27,19 @@ class Legend {
                 Elements.make('span', {className: 'bound'}, Measures.classWords(scale, place)),
                 count));
         }
-        this.box.replaceChildren(Elements.make('strong', {}, scale.measure.name), ...parts);
+        this.box.replaceChildren(
+            Elements.make('strong', {}, scale.measure.name), ...parts, ...Legend.closed(runs));
+    }
+
+    // Links and turns that let nobody through have a mark of their own.
+    static closed(runs) {
+        const words = ClosedMarks.words(runs);
+        if (words === '') return [];
+        const swatch = Elements.make('span', {className: 'swatch closed'});
+        swatch.style.borderTopColor = ClosedMarks.colour;
+        return [Elements.make(
+            'span', {className: 'class', id: 'closed'}, swatch, 'capacity 0 for all time',
+            Elements.make('span', {className: 'count'}, words))];
     }
 
     update(maps) {

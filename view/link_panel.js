@@ -55,8 +55,13 @@ class LinkPanel {
         const use = Elements.button(
             'Who uses it', () => this.actions.use(run, link),
             {className: 'use', hidden: run.visits === null});
+        const end = run.nodes.names[run.links.to[link]];
+        const turns = Elements.button(
+            'Turns at its end', () => this.actions.pickNode(end),
+            {className: 'turns', hidden: run.visits === null || !run.hasLoading});
         const box = Elements.make(
-            'figure', {}, isNamed ? Elements.make('h3', {}, run.name) : '', numbers, use,
+            'figure', {}, isNamed ? Elements.make('h3', {}, run.name) : '', numbers, use, ' ',
+            turns,
             Elements.make(
                 'div', {className: 'curve'}, canvas, Elements.make('div', {className: 'mark'})),
             vehicles);
@@ -109,9 +114,14 @@ class LinkPanel {
                 `${Totals.format(links.length[link])} ${run.units.unit}, ` +
                     `${lanes} ${lanes === 1 ? 'lane' : 'lanes'}`,
             ],
-            ['capacity', `${Totals.format(capacity)} vehicles an hour`],
+            [
+                'capacity',
+                `${Totals.format(capacity)} vehicles an hour` +
+                    (run.movements.closedLinks.has(link) ? ': closed for all time' : '')
+            ],
             ...LinkPanel.timeFacts(run, link),
             ...LinkPanel.vehicleFacts(run, link),
+            ...LinkPanel.limits(run, link).map(LinkPanel.limitFact),
             ...LinkPanel.turns(run, link),
         ];
     }
@@ -131,7 +141,8 @@ class LinkPanel {
             free,
             [
                 'time',
-                `${words(run.travel(link, bucket))}: ×${run.ratio(link, bucket).toFixed(2)}`
+                `${words(run.travel(link, bucket))}: ×${run.ratio(link, bucket).toFixed(2)}` +
+                    LinkPanel.bound(run, link)
             ],
             ['speed', `${run.speed(link, bucket).toFixed(1)} km/h`],
             ['entered', `${Totals.format(entered)} vehicles from ${interval}`],
@@ -149,12 +160,48 @@ class LinkPanel {
         const places = `${Totals.format(storage)} that it stores (${share} %)`;
         const waiting = Totals.format(run.occupancy.waiting[link]);
         const stood = run.stoodOn(link);
-        const words = `for ${run.minutes(stood).toFixed(1)} min its first vehicle has stood`;
+        const words = `for ${run.minutes(stood).toFixed(1)} min its first vehicle has stood` +
+            (stood < 0 ? '' : LinkPanel.before(run, link));
         return [
             ...(stood < 0 ? [] : [['blocked', words]]),
             ['waiting', `${waiting} vehicles at origins for it`],
             ['on it', `${Totals.format(count)} vehicles of ${places}`],
         ];
+    }
+
+    // The first vehicle may stand before what lets nobody through.
+    static before(run, link) {
+        const held = run.movements.heldBy(link, run.occupancy.rangeOn(link)[0]);
+        return held === '' ? '' : `, before a ${held} with a capacity of 0 for all time`;
+    }
+
+    // The turns of a link that have a limit, in the bucket of the run's step.
+    static limits(run, link) {
+        if (run.turns === null || run.visits === null || !run.hasLoading) return [];
+        return run.movements.of(link, run.bucketAt(run.step))
+            .filter(({capacity}) => capacity < Infinity)
+            .map((turn) => ({...turn, run}));
+    }
+
+    static limitFact({run, from, to, vehicles, capacity, most, isFull}) {
+        const {names} = run.links, flow = vehicles * capacity / most;
+        return [
+            `turn ${names[from]} → ${names[to]}`,
+            most === 0 ? 'lets nobody through' :
+                `${Totals.format(Math.round(flow))} vehicles an hour of ` +
+                `${Totals.format(Math.round(capacity))} that it lets through ` +
+                `(${Math.round(100 * vehicles / most)} %)${isFull ? ': it is full' : ''}`
+        ];
+    }
+
+    // Which turns hold up those who are delayed.
+    static bound(run, link) {
+        if (run.ratio(link, run.bucketAt(run.step)) <= 1) return '';
+        const full = LinkPanel.limits(run, link).filter(({isFull, most}) => isFull && most > 0);
+        const names = full.map(({to}) => run.links.names[to]).join(', ');
+        return full.length === 0 ? '' :
+            full.length === 1 ? `; the turn to link ${names} is full` :
+                                `; the turns to links ${names} are full`;
     }
 
     // A count is of its own interval, which may be longer than the bucket that is shown.
@@ -179,7 +226,7 @@ class LinkPanel {
         for (let visit = first; visit < Math.min(behind, first + most); visit += 1) {
             const agent = run.visits.agent[visit];
             rows.push([
-                run.agentName(agent), run.tripTitle(agent), run.clock(run.visits.enter[visit]),
+                run.agentName(agent), run.tripTitle(agent), run.instant(run.visits.enter[visit]),
                 run.minutes(run.step - run.visits.enter[visit]).toFixed(1)
             ]);
         }

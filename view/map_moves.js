@@ -27,8 +27,11 @@ const MapMoves = (() => {
         canvas.addEventListener('pointerup', (event) => {
             fingers.delete(event.pointerId);
             if (hasMoved || map.run === null) return;
-            const [x, y] = placeOf(map, event);
-            map.told.picked(map, map.geometry.linkAt(x, y, 10));
+            const [x, y] = placeOf(map, event), node = map.nodeAt(x, y);
+            if (node >= 0)
+                map.told.pickedNode(map, node);
+            else
+                map.told.picked(map, map.geometry.linkAt(x, y, 10));
         });
         canvas.addEventListener('pointercancel', (event) => fingers.delete(event.pointerId));
         canvas.addEventListener('pointerleave', () => hover(map, null));

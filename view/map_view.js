@@ -109,6 +109,7 @@ class MapView {
             this.drawSelected(view);
             this.drawLinks();
             this.drawArrows();
+            ClosedMarks.draw(this);
             return;
         }
         this.pen.globalAlpha = 0.2;
@@ -314,6 +315,17 @@ class MapView {
                 2 * Math.PI);
             pen.stroke();
         }
+    }
+
+    // The node whose circle has a point of the screen, or -1.
+    nodeAt(x, y) {
+        const {geometry, camera, run, width, height} = this;
+        for (let node = 0; node < run.nodes.count; node += 1) {
+            const across = geometry.screenX(node, camera, width) - x;
+            const down = geometry.screenY(node, camera, height) - y;
+            if (Math.hypot(across, down) < geometry.nodeRadius) return node;
+        }
+        return -1;
     }
 
     drawNodes() {

@@ -1,5 +1,6 @@
 'use strict';
-// The tables that a run reads: node.csv and link.csv, as GMNS names their columns, demand.csv.
+// The tables that a run reads: node.csv, link.csv and movement.csv, as GMNS names their columns,
+// and demand.csv.
 function networkTables(csv) {
     async function readNodes(file, tell) {
         const names = new csv.Names();
@@ -68,7 +69,7 @@ function networkTables(csv) {
     async function readLinks(file, nodes, tell) {
         const names = new csv.Names();
         const from = new csv.Numbers(), to = new csv.Numbers();
-        const length = [], lanes = [], capacity = [], windows = new Map();
+        const length = [], lanes = [], speed = [], capacity = [], windows = new Map();
         const titles = [], shapes = [];
         let columns = null, at = null;
         const nodeOf = (places, column) => {
@@ -89,6 +90,7 @@ function networkTables(csv) {
             to.push(nodeOf(places, at.to));
             length.push(columns.quantity(places, at.length));
             lanes.push(columns.quantity(places, at.lanes, 1));
+            speed.push(columns.quantity(places, at.speed, NaN));
             capacity.push(columns.quantity(places, at.capacity, 1800));
             if (!places.isEmpty(at.windows))
                 windows.set(capacity.length - 1, windowsOf(places, at.windows));
@@ -101,6 +103,7 @@ function networkTables(csv) {
             to: to.taken(),
             length: Float64Array.from(length),
             lanes: Float64Array.from(lanes),
+            speed: Float64Array.from(speed),
             capacity: Float64Array.from(capacity),
             windows,
             titles: titles.length > 0 ? titles : null,
@@ -108,11 +111,61 @@ function networkTables(csv) {
         };
     }
 
-    // Windows of capacity, such as 0:1800;20:0, as pairs of a first step and a capacity.
+    // Windows of capacity, such as 0:1800;20:0, as pairs of a first step and a capacity. That of a
+    // turn may be none, which is no limit.
     function windowsOf(places, column) {
-        const parts = places.text(column).split(';').map((part) => part.split(':').map(Number));
-        if (parts.every((part) => part.length === 2 && part.every(Number.isFinite))) return parts;
+        const valueOf = (text) => (text === 'none' ? Infinity : Number(text));
+        const parts = places.text(column).split(';').map((part) => part.split(':').map(valueOf));
+        if (parts.every((part) => part.length === 2 && !part.some(Number.isNaN))) return parts;
         throw places.fault(`capacity_by_step "${places.text(column)}" isn't steps and numbers.`);
+    }
+
+    // The turns that movement.csv lists, in the order of the links that they lead from: `starts`
+    // has where those of each link begin. A turn without a limit has an endless capacity.
+    async function readTurns(file, links, tell) {
+        const rows = [];
+        let columns = null, at = null;
+        const linkOf = (places, column) => {
+            const key = columns.identifier(places, column), link = links.names.find(key);
+            if (link >= 0) return link;
+            throw places.fault(`${columns.names[column]} ${key} isn't in link.csv.`);
+        };
+        await csv.readRecords(file, (places) => {
+            if (columns === null) {
+                columns = new csv.Columns(places);
+                at = ['capacity', 'capacity_by_step'].map((name) => columns.optional(name));
+                at.push(...['ib_link_id', 'ob_link_id'].map(
+                    (name) => columns.required(name, places)));
+                return;
+            }
+            columns.check(places);
+            const [capacity, windows, from, to] = at;
+            rows.push({
+                from: linkOf(places, from),
+                to: linkOf(places, to),
+                capacity: columns.quantity(places, capacity, Infinity),
+                windows: places.isEmpty(windows) ? null : windowsOf(places, windows),
+            });
+        }, tell);
+        return turnsOf(rows, links.names.keys.length);
+    }
+
+    function turnsOf(rows, links) {
+        rows.sort((one, other) => one.from - other.from);
+        const starts = new Int32Array(links + 1), windows = new Map();
+        rows.forEach((row, turn) => {
+            starts[row.from + 1] += 1;
+            if (row.windows !== null) windows.set(turn, row.windows);
+        });
+        for (let link = 0; link < links; link += 1) starts[link + 1] += starts[link];
+        return {
+            count: rows.length,
+            starts,
+            from: Int32Array.from(rows, (row) => row.from),
+            to: Int32Array.from(rows, (row) => row.to),
+            capacity: Float64Array.from(rows, (row) => row.capacity),
+            windows,
+        };
     }
 
     function linkColumns(columns, places) {
@@ -122,6 +175,7 @@ function networkTables(csv) {
             to: columns.required('to_node_id', places),
             length: columns.required('length', places),
             lanes: columns.optional('lanes'),
+            speed: columns.optional('free_speed'),
             capacity: columns.optional('capacity'),
             windows: columns.optional('capacity_by_step'),
             title: columns.optional('name'),
@@ -129,5 +183,5 @@ function networkTables(csv) {
         };
     }
 
-    return {readNodes, readLinks, readDemand};
+    return {readNodes, readLinks, readTurns, readDemand};
 }

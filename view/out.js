@@ -2,6 +2,10 @@
 // All links with what the page knows of them, as GeoJSON and as a flat table with its geometry as
 // text, for QGIS and other programs.
 const Out = (() => {
+    // GeoJSON has degrees, and who reads others as degrees puts them elsewhere.
+    const notDegrees = 'The coordinates are those of node.csv, and they are no degrees: tell ' +
+        'QGIS their reference system (Layer properties, Source).';
+
     // The columns that don't change with time.
     function networkColumns(run) {
         const {links, nodes} = run;
@@ -29,7 +33,7 @@ const Out = (() => {
         return [
             ...networkColumns(run),
             ['step', () => run.step],
-            ['clock', () => run.clock(run.step)],
+            ['clock', () => run.instant(run.step)],
             ['capacity_vehicles_per_hour', (link) => run.capacity(link, bucket)],
             ...measures.map((measure) => [measure.column, (link) => {
                 const value = measure.value(run, link, bucket);
@@ -100,7 +104,8 @@ const Out = (() => {
                 geometry: {type: 'LineString', coordinates: pointsOf(run, geometry, link)},
             }));
         }
-        return `{"type":"FeatureCollection","features":[\n${features.join(',\n')}\n]}\n`;
+        const note = run.nodes.isDegrees ? '' : `"note":${JSON.stringify(notDegrees)},`;
+        return `{"type":"FeatureCollection",${note}"features":[\n${features.join(',\n')}\n]}\n`;
     }
 
     function rows(run, geometry, columns) {
@@ -127,7 +132,12 @@ const Out = (() => {
                 const {head, rows: all} = rows(run, geometry, columns);
                 Elements.saveRows(name, head, all);
             }
-        }, {className: 'out', title: 'All links with all measures, for QGIS and other programs'});
+            if (!run.nodes.isDegrees) map.say(notDegrees);
+        }, {
+            className: 'out',
+            title: 'All links with all measures, for QGIS and other programs.' +
+                (map.run.nodes.isDegrees ? '' : ` ${notDegrees}`)
+        });
         return [['this time', columnsNow], ['the run', columnsOfRun]].flatMap(
             ([time, columns]) => ['GeoJSON', 'CSV'].map((form) => make(form, time, columns)));
     }

@@ -2,23 +2,31 @@
 // The page: what is chosen, and who is told when it changes.
 const Page = (() => {
     const find = (name) => document.getElementById(name);
-    let runs = [], maps = [], measure = Measures.list[0], scale = null, selected = null;
+    let runs = [], maps = [], measure = Measures.list[0], scale = null;
+    let selected = null, node = null;
     let isDrawAsked = false, pictures = 0, tick = 6, checking = 0;
     let foundNodes = new Map();
 
     const player = new Player(
         {slider: find('slider'), play: find('play'), speed: find('speed')}, {moved: askDraw});
     const legend = new Legend(find('legend'));
-    const trips = new TripsPanel(find('trips'), {traced: askDraw});
+    const trips = new TripsPanel(find('trips'), {traced: askDraw, seek});
     const checks = new ChecksCards(find('checks'), {show: showAtTop});
     const use = (run, link) => {
         trips.showLink(run, link);
         find('trips').scrollIntoView({block: 'nearest'});
     };
-    const panel = new LinkPanel(find('link'), {pick, use});
+    const panel = new LinkPanel(find('link'), {pick, use, pickNode});
+    const nodePanel = new NodePanel(find('node'), {pick, pickNode});
     const rankings =
         new Rankings({totals: find('totals'), tables: find('tables')}, {pick: pickAt});
-    const told = {drawn: mapDrawn, picked: mapPicked, hovered: mapHovered, moved: askDraw};
+    const told = {
+        drawn: mapDrawn,
+        picked: mapPicked,
+        pickedNode: (map, place) => pickNode(map.run.nodes.names[place]),
+        hovered: mapHovered,
+        moved: askDraw
+    };
 
     function view() {
         return {
@@ -54,15 +62,17 @@ const Page = (() => {
         for (const map of maps) map.draw(view());
         legend.update(maps);
         panel.show(view(), runs);
+        nodePanel.show(node, runs);
         rankings.update(runs);
         Curves.markTime(seconds());
         find('time').textContent = timeWords();
+        find('print-words').textContent = `${timeWords()}. ${find('units-words').textContent}.`;
         pictures += 1;
         document.body.dataset.pictures = pictures;
     }
 
     function timeWords() {
-        const now = Clock.words(seconds());
+        const now = Clock.exact(seconds());
         const isOneStep = runs.every((run) => run.units.stepSeconds === tick);
         const step = isOneStep ? `step ${player.step}` :
                                  runs.map((run) => `${run.name} step ${run.step}`).join(', ');
@@ -79,6 +89,7 @@ const Page = (() => {
         document.body.classList.toggle('two', runs.length > 1);
         if (runs.length === 0) return;
         if (!runs.some((run) => run.linkPlaces.has(selected))) selected = null;
+        if (!runs.some((run) => run.nodes.names.includes(node))) node = null;
         makeMaps();
         setTimes();
         showUnits();
@@ -98,6 +109,8 @@ const Page = (() => {
                 'canvas', {tabIndex: 0, role: 'img', 'aria-label': `Map of ${run.name}`});
             const words = Elements.make('span', {className: 'words'});
             const map = new MapView(canvas, told);
+            map.show(run, camera);
+            map.say = (sentence) => Elements.say(find('messages'), sentence);
             const save = () => Elements.saveCanvas(
                 `map_${run.name}`, legend.picture(map, `${run.name}, ${timeWords()}`));
             find('maps').append(Elements.make(
@@ -108,7 +121,6 @@ const Page = (() => {
                     ...Out.buttons(map)),
                 canvas));
             map.words = words;
-            map.show(run, camera);
             return map;
         });
     }
@@ -128,7 +140,13 @@ const Page = (() => {
         player.goTo(before / tick);
     }
 
+    // What isn't sure of the units is said loudly, until the planner says it.
     function showUnits() {
+        const unsure = runs.filter(({units}) => units.doubt !== '');
+        find('doubts').replaceChildren(...unsure.map(
+            ({name, units: {doubt}}) =>
+                Elements.make('p', {className: 'fault'}, `${name}: ${doubt}`)));
+        if (unsure.length > 0) find('units').closest('details').open = true;
         find('units').replaceChildren(...runs.map((run) => Units.fields(run, unitsChanged)));
         find('units-words').textContent =
             runs.map((run) => (runs.length > 1 ? `${run.name}: ` : '') + Units.wordsOf(run.units))
@@ -186,6 +204,17 @@ const Page = (() => {
 
     function pick(name) {
         selected = name;
+        askDraw();
+    }
+
+    // A node has a ring on each map that has it, and its turns beside the map.
+    function pickNode(name) {
+        node = name;
+        foundNodes = new Map();
+        for (const {run} of maps) {
+            const place = run.nodes.names.indexOf(name);
+            if (place >= 0) foundNodes.set(run, [place]);
+        }
         askDraw();
     }
 
@@ -287,7 +316,10 @@ const Page = (() => {
             '+': () => zoomAll(1.5),
             '=': () => zoomAll(1.5),
             '-': () => zoomAll(1 / 1.5),
-            Escape: () => pick(null),
+            Escape: () => {
+                pick(null);
+                pickNode(null);
+            },
         };
         const chosen = Measures.list[Number(event.key) - 1];
         if (actions[event.key] !== undefined)
@@ -299,14 +331,11 @@ const Page = (() => {
         event.preventDefault();
     }
 
-    // Goes to what the field names, on each map that has it.
-    function findIt() {
-        const text = find('find').value.trim();
+    // Goes to what a text names, on each map that has it, and answers it in words, or null.
+    function findIt(text) {
         const all = maps.map((map) => (text === '' ? null : Finder.find(map.run, text)));
         const first = all.find((one) => one !== null), place = all.indexOf(first);
-        find('find').classList.toggle('wrong', text !== '' && first === undefined);
-        find('found').textContent = first === undefined ? '' : first.words;
-        foundNodes = new Map();
+        pickNode(first !== undefined && first.node !== undefined ? first.node : null);
         maps.forEach((map, at) => {
             if (all[at] === null) return;
             map.bringIntoSight(all[at].nodes);
@@ -315,6 +344,20 @@ const Page = (() => {
         if (first !== undefined && first.links.length > 0)
             pick(maps[place].run.links.names[first.links[0]]);
         askDraw();
+        return first === undefined ? null : first.words;
+    }
+
+    function findVehicle(name) {
+        const isThere = trips.findVehicle(name);
+        if (isThere) find('trips').scrollIntoView({block: 'nearest'});
+        return isThere;
+    }
+
+    // Moves a run's map so that a trace is in sight.
+    function seek({run, parts}) {
+        const {from, to} = run.links;
+        for (const map of maps.filter((one) => one.run === run))
+            map.bringIntoSight(parts.flatMap(({link}) => [from[link], to[link]]));
     }
 
     function start() {
@@ -325,7 +368,10 @@ const Page = (() => {
         find('nearer').addEventListener('click', () => zoomAll(1.5));
         find('farther').addEventListener('click', () => zoomAll(1 / 1.5));
         find('all').addEventListener('click', showWhole);
-        find('find').addEventListener('input', findIt);
+        new FindField(find('find'), find('found'), {find: findIt, vehicle: findVehicle});
+        new ResizeObserver(() => {
+            document.body.style.setProperty('--bar', `${find('bar').offsetHeight}px`);
+        }).observe(find('bar'));
         find('vehicles').addEventListener('change', askDraw);
         find('clock').addEventListener('change', clockChanged);
         document.addEventListener('keydown', key, true);
@@ -342,36 +388,6 @@ const Page = (() => {
         });
     }
 
-    // What the test asks of the first map: the middle of a link and its points, what is known of
-    // it, the words and the length of the scale bar, the width of a link's line, and the trips
-    // that are drawn.
-    function placeOf(name) {
-        const {run, geometry} = maps[0];
-        const {x, y} = geometry.pointAt(run.linkPlaces.get(name), 0.5);
-        return [x, y];
-    }
-
-    function bends(name) {
-        const {run, geometry} = maps[0], points = [];
-        const link = run.linkPlaces.get(name);
-        geometry.eachPiece(link, (x, y) => points.push([x, y]));
-        return [...points, [geometry.screen[link * 4 + 2], geometry.screen[link * 4 + 3]]];
-    }
-
-    function widthOf(name) {
-        return maps[0].widthOfLink(maps[0].run.linkPlaces.get(name));
-    }
-
-    function factsOf(name) {
-        const {run} = maps[0];
-        return LinkPanel.facts(run, run.linkPlaces.get(name));
-    }
-
-    function traced() {
-        const {run, parts} = trips.trace;
-        return parts.map(({link, words}) => `${run.links.names[link]}: ${words}`);
-    }
-
     start();
-    return {placeOf, bends, scale: () => maps[0].scaleBar, widthOf, factsOf, traced};
+    return {maps: () => maps, trace: () => trips.trace};
 })();

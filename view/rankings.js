@@ -23,8 +23,8 @@ class Rankings {
             (name) =>
                 [name,
                  ...columns.map((column) => (column.has(name) ? cell(column.get(name)) : ''))]);
-        const rows = table(({value, digits}) => Totals.format(value, digits));
-        const plain = table(({value}) => value);
+        const rows = table(({text, value, digits}) => text || Totals.format(value, digits));
+        const plain = table(({text, value}) => text || value);
         this.boxes.totals.replaceChildren(
             Elements.table(head, rows),
             Elements.button(
@@ -118,7 +118,7 @@ class Rankings {
             return [
                 run.agentName(agent), run.tripTitle(agent), words[agents.status[agent]],
                 Totals.format(run.minutes(run.tripSteps(agent)), 1),
-                run.clock(agents.departure[agent]), String(links)
+                run.instant(agents.departure[agent]), String(links)
             ];
         });
         const head = ['Vehicle', 'Zones', 'Status', 'Minutes', 'Departs', 'Links'];

@@ -2,17 +2,50 @@
 // Reads the files of one run, checks that they belong together, and makes of them what the page
 // shows.
 function runReader(csv, network, results, agentRows, visitTools, places, shapes) {
-    const kinds =
-        ['node', 'link', 'demand', 'link_performance', 'agent', 'gap', 'skim', 'counts'];
+    const kinds = [
+        'node', 'link', 'movement', 'demand', 'link_performance', 'agent', 'gap', 'skim', 'counts'
+    ];
     // Tables of a run that the page has no use for.
-    const others = ['movement', 'start', 'times'];
+    const others = ['start', 'times'];
 
     const wordsName = 'words.txt';
+    // The tables whose words are asked for, the first one that there is.
+    const ofRun = ['agent.csv', 'link_performance.csv', 'counts.csv', 'skim.csv'];
 
-    // The words by which the run was made, where the folder has them.
-    async function wordsOf(files) {
+    // The words by which the run was made, and the version, by words.txt. The command `dta` notes
+    // the tables that a run wrote with their sizes; where one has another size now, the words are
+    // of another run. What a person wrote there is the words alone.
+    async function wordsOf(files, faults) {
         const file = files.find(({name}) => name === wordsName);
-        return file === undefined ? [] : (await file.text()).split(/\s+/).filter(Boolean);
+        if (file === undefined) return {words: [], version: ''};
+        const text = await file.text(), sizes = new Map(files.map(({name, size}) => [name, size]));
+        const notes = [...text.matchAll(/^(.*)\r?\ndta (\S+) wrote (.*)$/gm)].map(noteOf);
+        if (notes.length === 0) return {words: split(text), version: ''};
+        for (const table of ofRun.filter((name) => sizes.has(name))) {
+            const note = notes.find(({tables}) => tables.has(table));
+            if (note === undefined) continue;
+            const other = [...note.tables].find(
+                ([name, size]) => sizes.has(name) && sizes.get(name) !== size);
+            if (other === undefined) return note;
+            faults.push(
+                `${wordsName} speaks of ${other[0]} with ${other[1]} bytes, and this one has ` +
+                `${sizes.get(other[0])}: it tells of another run, and isn't used.`);
+            break;
+        }
+        return {words: [], version: ''};
+    }
+
+    function noteOf([, words, version, tables]) {
+        const sizes = [...tables.matchAll(/(\S+) \((\d+) bytes\)/g)];
+        return {
+            words: split(words),
+            version,
+            tables: new Map(sizes.map(([, name, size]) => [name, Number(size)]))
+        };
+    }
+
+    function split(text) {
+        return text.split(/\s+/).filter(Boolean);
     }
 
     // A file is known by its name or, where a browser or a person has changed that, by its
@@ -26,7 +59,7 @@ function runReader(csv, network, results, agentRows, visitTools, places, shapes)
             head.split(/[\r\n]/)[0].replace(/^\uFEFF/, '').replace(/["\s]/g, '').split(',');
         const has = (name) => columns.includes(name);
         if (has('entry_steps')) return 'agent';
-        if (has('ib_link_id')) return 'other';
+        if (has('ib_link_id')) return 'movement';
         if (has('volume')) return 'demand';
         if (has('from_node_id') && has('link_id')) return 'link';
         if (has('free_steps')) return 'link_performance';
@@ -75,13 +108,13 @@ function runReader(csv, network, results, agentRows, visitTools, places, shapes)
     // is no run.
     async function readRun(files, tell) {
         const notes = [], faults = [];
-        const words = await wordsOf(files);
+        const {words, version} = await wordsOf(files, faults);
         const chosen = await sorted(files.filter((file) => file.name !== wordsName), notes);
         if (!chosen.has('link')) return {run: null, notes, faults: [withoutLinks(chosen)]};
         const withProgress = teller(chosen, tell);
         try {
             const tables = await readNetwork(chosen, withProgress);
-            const run = {...networkOf(tables, notes), words};
+            const run = {...networkOf(tables, notes), words, version};
             await readResults(run, tables.links, chosen, withProgress, faults);
             tell('Sorting the vehicles', 1);
             finish(run, notes, faults);
@@ -140,6 +173,7 @@ function runReader(csv, network, results, agentRows, visitTools, places, shapes)
                 to: links.to,
                 length: links.length,
                 lanes: links.lanes,
+                speed: links.speed,
                 capacity: links.capacity,
                 windows: links.windows,
                 titles: links.titles,
@@ -152,6 +186,7 @@ function runReader(csv, network, results, agentRows, visitTools, places, shapes)
             waits: null,
             states: null,
             sums: null,
+            turns: null,
             demand: null,
             gap: null,
             skim: null,
@@ -163,6 +198,7 @@ function runReader(csv, network, results, agentRows, visitTools, places, shapes)
     async function readResults(run, links, chosen, withProgress, faults) {
         const readers = {
             times: ['link_performance', (file, tell) => results.readTimes(file, links, tell)],
+            turns: ['movement', (file, tell) => network.readTurns(file, links, tell)],
             demand: ['demand', network.readDemand],
             gap: ['gap', results.readGap],
             skim: ['skim', results.readSkim],

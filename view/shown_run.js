@@ -9,6 +9,7 @@ class ShownRun {
         this.hasLoading = run.times !== null && run.times.kind === 'loading';
         this.isFreeflow = run.times !== null && run.times.kind === 'freeflow';
         this.occupancy = run.visits === null ? null : new Occupancy(run);
+        this.movements = new Turns(this);
         this.stands = this.hasLoading && run.visits !== null ? new Stands(this) : null;
         this.linkPlaces = new Map();
         run.links.names.forEach((linkName, link) => this.linkPlaces.set(linkName, link));
@@ -60,8 +61,13 @@ class ShownRun {
         return steps * this.units.stepSeconds / 3600;
     }
 
+    // When a bucket begins or ends, and when something happens.
     clock(step) {
         return Clock.words(step * this.units.stepSeconds);
+    }
+
+    instant(step) {
+        return Clock.exact(step * this.units.stepSeconds);
     }
 
     kilometres(link) {
@@ -107,11 +113,18 @@ class ShownRun {
         const parts = windows.get(link);
         if (parts === undefined || bucket < 0) return capacity[link] * lanes[link];
         const from = this.times.from[bucket], to = this.times.to[bucket];
+        return ShownRun.meanOver(parts, from, to) * lanes[link];
+    }
+
+    // The mean over some steps of a value that changes with time, by pairs of a first step and a
+    // value.
+    static meanOver(parts, from, to) {
         const sum = parts.reduce((before, [first, value], place) => {
             const behind = place + 1 < parts.length ? parts[place + 1][0] : Infinity;
-            return before + value * Math.max(Math.min(to, behind) - Math.max(from, first), 0);
+            const steps = Math.min(to, behind) - Math.max(from, first);
+            return steps > 0 ? before + value * steps : before;
         }, 0);
-        return sum / (to - from) * lanes[link];
+        return sum / (to - from);
     }
 
     // Flow over capacity, in percent.
@@ -180,11 +193,7 @@ class ShownRun {
             return;
         }
         const micrometres = {m: 1000n, km: 1000000n, mi: 1609344n}[unit];
-        // A product that is a whole number but for the last bits is meant as one.
-        const thousandths = (value) => {
-            const size = value * 1000, whole = Math.round(size);
-            return BigInt(Math.abs(size - whole) < size * 1e-15 ? whole : Math.floor(size));
-        };
+        const thousandths = (value) => BigInt(Units.thousandths(value));
         const whole = 10n ** 12n;
         this.storage = Int32Array.from(this.links.length, (length, link) => {
             const vehicles = thousandths(length) * micrometres

@@ -3,18 +3,24 @@
 // reader's eyes: the program proves none of them.
 const Totals = (() => {
     // Numbers with so many digits. To make a format costs more than to use it.
-    const formats = [0, 1].map(
+    const formats = [0, 1, 2, 3].map(
         (digits) => new Intl.NumberFormat(
             'en', {minimumFractionDigits: digits, maximumFractionDigits: digits}));
 
-    // Names with their values: counts as whole numbers, everything else to a tenth.
+    // Names with their values, counts as whole numbers and most others to a tenth; and the words
+    // by which the run was made.
     function rowsOf(run) {
-        const rows = [count('Links', run.links.count), count('Nodes', run.nodes.count)];
+        const made = Units.madeBy(run);
+        const rows = [
+            ...(made === '' ? [] : [{name: 'Made by', text: made}]),
+            count('Links', run.links.count), count('Nodes', run.nodes.count)
+        ];
         if (run.agents !== null) rows.push(...vehicleRows(run), ...tripRows(run));
         if (run.gap !== null && run.gap.length > 0) {
             const last = run.gap[run.gap.length - 1];
             rows.push(count('Iterations', last.iteration));
-            rows.push(count('Gap of the last iteration, in millionths', last.ppm));
+            rows.push(
+                {name: 'Gap of the last iteration, in percent', value: last.ppm / 1e4, digits: 3});
         }
         return rows;
     }
@@ -49,15 +55,23 @@ const Totals = (() => {
         return rows;
     }
 
+    // Those who arrived may be the few who met no jam. With the others, each up to the end, a run
+    // with a worse jam has the greater mean.
     function tripRows(run) {
-        const trips = tripSteps(run);
-        if (trips.length === 0) return [];
+        const trips = tripSteps(run), {onLinks, waited, statuses} = run.sums;
         const sum = trips.reduce((before, steps) => before + steps, 0);
+        const all = trips.length + statuses[1] + statuses[2];
+        const arrived = 'Minutes of a trip, of those who arrived';
         return [
-            tenth('Minutes of a trip: mean', run.minutes(sum / trips.length)),
-            tenth(
-                'Minutes of a trip: 95 in 100 take at most',
-                run.minutes(trips[lastOf(trips.length)])),
+            ...(trips.length === 0 ? [] : [
+                tenth(`${arrived}: mean`, run.minutes(sum / trips.length)),
+                tenth(
+                    `${arrived}: 95 in 100 take at most`,
+                    run.minutes(trips[lastOf(trips.length)])),
+            ]),
+            ...(all === 0 ? [] : [tenth(
+                'Minutes of a trip, the others counted up to the end: mean',
+                run.minutes((onLinks + waited) / all))]),
         ];
     }
 

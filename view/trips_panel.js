@@ -13,15 +13,22 @@ class TripsPanel {
     show(runs) {
         this.runs = runs.filter((run) => run.visits !== null);
         this.box.hidden = this.runs.length === 0;
-        const field = (name, words) =>
-            Elements.make('input', {type: 'text', id: name, size: 5, 'aria-label': words});
-        const from = field('from-zone', 'From zone'), to = field('to-zone', 'To zone');
-        const vehicle = field('vehicle', 'Vehicle');
+        const routes = () => this.showRoutes(this.chosenRun(), from.value.trim(), to.value.trim());
+        const way = () => this.showVehicle(this.chosenRun(), vehicle.value.trim());
+        const field = (name, words, action) => Elements.make('input', {
+            type: 'text',
+            id: name,
+            size: 5,
+            'aria-label': words,
+            onkeydown: ({key}) => {
+                if (key === 'Enter') action();
+            }
+        });
+        const from = field('from-zone', 'From zone', routes);
+        const to = field('to-zone', 'To zone', routes), vehicle = field('vehicle', 'Vehicle', way);
         this.run = Elements.make(
             'select', {'aria-label': 'Run', hidden: this.runs.length < 2},
             ...this.runs.map((run) => Elements.make('option', {}, run.name)));
-        const routes = () => this.showRoutes(this.chosenRun(), from.value.trim(), to.value.trim());
-        const way = () => this.showVehicle(this.chosenRun(), vehicle.value.trim());
         this.box.replaceChildren(
             Elements.make('h3', {}, 'Trips'), this.run,
             Elements.make(
@@ -32,6 +39,14 @@ class TripsPanel {
         this.clear();
     }
 
+    // Shows the way of a vehicle of the first run that has one of this name, and answers whether
+    // there is one.
+    findVehicle(name) {
+        const run = this.runs.find((one) => Trips.agentOf(one, name) >= 0);
+        if (run !== undefined) this.showVehicle(run, name);
+        return run !== undefined;
+    }
+
     chosenRun() {
         return this.runs[Math.max(this.run.selectedIndex, 0)];
     }
@@ -40,8 +55,11 @@ class TripsPanel {
         this.put(null, 'Of a link that is picked, “Who uses it” shows the trips over it.');
     }
 
+    // What is shown of trips, in the card and as a trace on the map. The map goes to ways and
+    // routes; for who uses a link it stays.
     put(trace, ...content) {
         this.trace = trace;
+        if (trace !== null && trace.isSought) this.actions.seek(trace);
         const close = Elements.button('Close', () => this.clear(), {className: 'close-trips'});
         this.result.replaceChildren(...content, ...(trace === null ? [] : [close]));
         this.actions.traced();
@@ -111,7 +129,7 @@ class TripsPanel {
                 words: `${Totals.format(count)} vehicles on route ${list.length - place}`,
             })));
         this.put(
-            {run, parts}, Elements.make('h4', {}, `Zone ${from} to zone ${to}`),
+            {run, parts, isSought: true}, Elements.make('h4', {}, `Zone ${from} to zone ${to}`),
             `${Totals.format(all)} vehicles on ${Totals.format(routes.length)} routes. Minutes ` +
                 'are the mean of the trips that have ended, with waiting.',
             TripsPanel.list(['', ...head], shown, 1),
@@ -126,22 +144,22 @@ class TripsPanel {
         }
         const {departure, arrival} = run.agents, visits = Trips.way(run, agent);
         const rows = visits.map(({link, enter, leave}) => [
-            run.links.names[link], run.linkTitle(link), enter < 0 ? '' : run.clock(enter),
+            run.links.names[link], run.linkTitle(link), enter < 0 ? '' : run.instant(enter),
             enter < 0 ? '' : run.minutes(leave - enter).toFixed(1)
         ]);
         const parts = visits.map(({link, enter}) => ({
             link,
             colour: TripsPanel.colours[enter < 0 ? 5 : 0],
             share: 0.5,
-            words: enter < 0 ? 'not entered' : `vehicle ${name} enters at ${run.clock(enter)}`,
+            words: enter < 0 ? 'not entered' : `vehicle ${name} enters at ${run.instant(enter)}`,
         }));
         const end =
-            arrival[agent] < 0 ? 'hasn’t arrived' : `arrives ${run.clock(arrival[agent])}`;
+            arrival[agent] < 0 ? 'hasn’t arrived' : `arrives ${run.instant(arrival[agent])}`;
         const head = ['Link', 'Way', 'Enters', 'Minutes'];
         this.put(
-            {run, parts},
+            {run, parts, isSought: true},
             Elements.make('h4', {}, `Vehicle ${name}, zones ${run.tripTitle(agent)}`),
-            `Departs ${run.clock(departure[agent])}, ${end}.`,
+            `Departs ${run.instant(departure[agent])}, ${end}.`,
             TripsPanel.list(head, rows, 2),
             TripsPanel.csv(`vehicle_${name}_${run.name}`, head, rows));
     }

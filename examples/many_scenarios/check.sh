@@ -22,7 +22,7 @@ for folder in scenarios/*/; do
     mkdir "$alone"
     for table in node link movement demand; do cp "$folder$table.csv" "$alone"; done
     # shellcheck disable=SC2046
-    (cd "$alone" && "$program" $(cat "$top/$folder/words.txt") >report.txt) ||
+    (cd "$alone" && "$program" $(sed 1q "$top/$folder/words.txt") >report.txt) ||
         fails "$name ends with $?"
     for file in agent.csv link_performance.csv gap.csv report.txt; do
         cmp "$alone/$file" "$folder$file" || fails "$name has another $file"

@@ -167,7 +167,7 @@ def sentences(told):
         'short': (short, f'{share(short, links)} links take one step at free flow'),
         'small': (small, f'{share(small, links)} links store fewer than three vehicles'),
         'departures': (most >= max(10, told.vehicles / 20), (
-            f'Most vehicles leave in step {step}, at {told.clock(step)}: '
+            f'Most vehicles leave in step {step}, at {told.instant(step)}: '
             f'{share(most, told.vehicles)}.'
             + (f' {share(tiny, len(volumes))} rows of demand.csv are of less' if tiny else '')
         )),
@@ -184,10 +184,14 @@ def jam_sentence(told):
     starts, blocked = told.jam_starts()
     if not blocked:
         return False, 'No link is blocked; queues move wherever there are any.'
-    first = sorted((starts or blocked).items(), key=lambda one: one[1])
+    first = sorted(blocked.items(), key=lambda one: one[1])
+    begin = f'Links are blocked from {told.instant(first[0][1])} on. '
+    if not starts:
+        names = [f'{link} ({told.instant(step)})' for link, step in first]
+        return True, f'{begin}They wait for each other: {named(names)}.'
+    ranked = sorted(starts, key=lambda link: (-round(starts[link], 6), blocked[link]))
+    names = [f'{link} ({told.instant(blocked[link])}, {starts[link]:.1f})' for link in ranked]
     return True, (
-        f'Links are blocked from {told.clock(min(blocked.values()))} on. '
-        + (f'The jam begins at {len(starts):,} of them: ' if starts else
-           'They wait for each other: ')
-        + f'{named([f"{link} ({told.clock(step)})" for link, step in first])}.'
+        f'{begin}The jam begins at {len(starts):,} of them. With the vehicle-hours that are lost '
+        f'there and behind: {named(names)}.'
     )

@@ -3,7 +3,7 @@ import os
 import shutil
 
 NODES = 'node_id,zone_id\n1,1\n2,\n3,3\n'
-LINKS = 'link_id,from_node_id,to_node_id,length\n20,1,2,1000\n30,2,3,1000\n'
+LINKS = 'link_id,from_node_id,to_node_id,length,free_speed\n20,1,2,1000,60\n30,2,3,1000,60\n'
 TIMES = (
     'link_id,from_step,to_step,entered,travel_steps,free_steps\n'
     '20,0,50,1,10,10\n20,50,60,0,10,10\n30,0,50,1,10,10\n30,50,60,0,10,10\n'
@@ -12,6 +12,14 @@ AGENTS = (
     'agent_id,o_zone_id,d_zone_id,departure_step,arrival_step,status,link_ids,entry_steps\n'
     '0,1,3,0,20,arrived,20;30,0;10\n'
 )
+
+# A small good run: by its free-flow steps a step has 6 or 7 seconds.
+MADE_RUN = {
+    'link.csv': 'link_id,from_node_id,to_node_id,length\n20,1,2,500\n30,2,3,500\n',
+    'link_performance.csv': TIMES.replace('10,10', '6,6'),
+    'agent.csv': AGENTS.replace('0,20,arrived,20;30,0;10', '0,12,arrived,20;30,0;6'),
+}
+IN_KILOMETRES = 'link_id,from_node_id,to_node_id,length\n20,1,2,0.3125\n30,2,3,0.31\n'
 
 SKIM = 'o_zone_id,d_zone_id,start_step,least_steps\n1,3,0,20\n3,1,0,\n'
 COUNTS = (
@@ -28,8 +36,8 @@ ODD_NETWORK = {
 
 # A run that has all that the checks look for, and what they must say.
 TO_CHECK = {
-    'link.csv': 'link_id,from_node_id,to_node_id,length,capacity\n'
-    '20,1,2,1000,1800\n30,2,3,1000,0\n40,2,3,10,1800\n',
+    'link.csv': 'link_id,from_node_id,to_node_id,length,free_speed,capacity\n'
+    '20,1,2,1000,60,1800\n30,2,3,1000,60,0\n40,2,3,10,60,1800\n',
     'link_performance.csv': 'link_id,from_step,to_step,entered,travel_steps,free_steps\n'
     '20,0,60,12,40,10\n30,0,60,0,10,10\n40,0,60,1,1,1\n',
     'agent.csv': AGENTS.split('\n')[0]
@@ -41,8 +49,9 @@ TO_CHECK = {
 CHECKS = {
     'zones': 'look: 1 zones of demand.csv have no node: 99. Their vehicles have no way.',
     'ways': 'look: 2 pairs of zones have no way, with 2 vehicles: 3 → 99, 3 → 1.',
-    'closed': 'look: 1 of 3 (33.3 %) links have a capacity of 0, and routes may lead there all '
-    'the same.',
+    'closed': 'look: 1 of 3 (33.3 %) links have a capacity of 0 for all time, and routes may lead '
+    'there all the same. 11 vehicles stand before them at the end, and would with any horizon and '
+    'any queue. Leave them out of link.csv, and their turns out of movement.csv.',
     'short': 'look: 1 of 3 (33.3 %) links take one step at free flow: their times are rounded up '
     'most.',
     'small': 'look: 1 of 3 (33.3 %) links store fewer than three vehicles: with a spatial queue '
@@ -52,7 +61,8 @@ CHECKS = {
     'the middle of the period.',
     'unfinished': 'look: 12 of 13 (92.3 %) trips are unfinished at the horizon: 11 on links, 1 at '
     'their origins.',
-    'jam': 'look: Links are blocked from 00:02:36 on. The jam begins at 1 of them: 20 (00:02:36).',
+    'jam': 'look: Links are blocked from 00:02:36 on. The jam begins at 1 of them. With the '
+    'vehicle-hours that are lost there and behind: 20 (00:02:36, 0.8).',
 }
 
 # Name, the files that differ from a good run (None: not there), and what must be said.

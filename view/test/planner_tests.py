@@ -141,7 +141,7 @@ class PlannerTests:
         page.choose('#slider', 570)
         equal(
             page.text('#time'),
-            f'{told.clock(570, 25200)} (step 570, bucket 07:55 to 08:00)',
+            f'{told.instant(570, 25200)} (step 570, bucket 07:55 to 08:00)',
             'the time of day',
         )
         for measure in COLUMNS.values():
@@ -256,7 +256,7 @@ class PlannerTests:
         end = int(row['arrival_step']) if row['arrival_step'] != '' else told.horizon
         ends = entries[1:] + [end]
         wanted = [
-            [link, told.clock(entry), f'{told.minutes(end - entry):.1f}']
+            [link, told.instant(entry), f'{told.minutes(end - entry):.1f}']
             for link, entry, end in zip(links, entries, ends)
         ] + [[link, '', ''] for link in links[len(entries) :]]
         shown = [[one[0], one[2], one[3]] for one in page.rows('#trips table')]
@@ -325,6 +325,7 @@ class PlannerTests:
         equal(facts(page)['name'], first, 'its name in the panel')
         page.choose('#find', 'no such thing')
         check('wrong' in page.find('#find').get_attribute('class'), 'what isn\'t there')
+        equal(page.text('#found'), 'there is no “no such thing”', 'words for what isn\'t there')
         page.choose('#find', f'link {link}')
         check(len(told.line(link)) > 2, f'link {link} has no bends')
         drawn = page.run('return Page.bends(arguments[0])', link)

@@ -69,6 +69,12 @@ def make_all(program, folder):
         with open(os.path.join(tables, 'words.txt'), encoding='utf-8') as words:
             return path, run(program, words.read().split(), tables, path)
 
+    def limit_turns(path):
+        """One turn lets 120 vehicles an hour through, and one nobody."""
+        with open(os.path.join(path, 'movement.csv'), 'w', encoding='utf-8') as table:
+            table.write('node_id,ib_link_id,ob_link_id,penalty,capacity,capacity_by_step\n')
+            table.write('3,13,34,0,120,\n3,13,35,6,,0:600;60:none\n3,23,34,0,,0:0\n')
+
     short = ['assign', '--period', '1', '--horizon', '60', '--iterations', '2']
     long = ['assign', '--iterations', '20']
     return {
@@ -77,6 +83,12 @@ def make_all(program, folder):
         'half_of_link_48': made('half_of_link_48', long, 'sioux_falls', halve_capacity('48')),
         'town': made_by(made_network.town, 'town'),
         'country': made_by(made_network.country, 'country'),
+        'limited': made(
+            'limited', ['assign', '--period', '60', '--horizon', '200'], 'turns', limit_turns
+        ),
+        'sweep': made(
+            'sweep', ['sweep', '--scales', '0.5;1.6', '--queue', 'spatial'], 'roundabout'
+        ),
         'busy': made_by_words('busy', 'many_scenarios/scenarios/busy'),
         'steps_of_10': made_by_words(
             'steps_of_10',

@@ -164,6 +164,19 @@ class Told:
         }
         return [step for step in sorted(stands) if self.stood(link, step) is not None]
 
+    def trip_minutes(self):
+        """Of a trip: the mean of those who arrived, and of all, the others up to the end."""
+        routed = [row for row, links, _ in self.agents() if links]
+        trips = [
+            (int(row['arrival_step'] or self.horizon) - int(row['departure_step']), row['status'])
+            for row in routed
+        ]
+        arrived = [steps for steps, status in trips if status == 'arrived']
+        return (
+            self.minutes(sum(arrived) / len(arrived)),
+            self.minutes(sum(steps for steps, _ in trips) / len(trips)),
+        )
+
     def minutes(self, count):
         return count * self.seconds / 60
 
@@ -174,6 +187,11 @@ class Told:
         """The time of day of a step in a run that starts so many seconds after midnight."""
         minutes, seconds = divmod(start + step * self.seconds, 60)
         return f'{minutes // 60:02}:{minutes % 60:02}' + (f':{seconds:02}' if seconds else '')
+
+    def instant(self, step, start=0):
+        """The same with the seconds."""
+        text = self.clock(step, start)
+        return text if text.count(':') == 2 else f'{text}:00'
 
     def flow(self, link, start):
         return self.entered[link, start] / self.hours(self.buckets[start] - start)
@@ -285,6 +303,19 @@ class Told:
                 )
         return found
 
+    def turns(self, start):
+        """How many vehicles took which turn in a bucket."""
+        counts, end = Counter(), self.buckets[start]
+        for _, links, entries in self.agents():
+            for place in range(1, len(entries)):
+                if start <= entries[place] < end:
+                    counts[links[place - 1], links[place]] += 1
+        return counts
+
+    def standing_on(self, link):
+        """Vehicles that are on a link at the end."""
+        return self.on_link(link, self.horizon - 1)
+
     def homeless(self):
         """The zones of the demand that no node has, as they come."""
         known = {row['zone_id'] for row in self.nodes.values()}
@@ -296,8 +327,8 @@ class Told:
         return [float(row['volume']) for row in rows(self.folder, 'demand.csv')]
 
     def jam_starts(self):
-        """Links with the step in which each is blocked for the first time: those that don't wait
-        for a blocked link then, and all of them."""
+        """Links that don't wait for a blocked link when they are blocked for the first time, with
+        the vehicle-hours lost there and behind; and when all links are."""
         first = {link: self.blocked(link)[0] for link in self.links if self.blocked(link)}
         heads = {}
         for row, links, entries in self.agents():
@@ -307,9 +338,20 @@ class Told:
                 if link in first and entry <= first[link] < end:
                     one = entry, end, int(row['agent_id']), links[place + 1 :][:1]
                     heads[link] = min(heads.get(link, one), one)
-        starts = {
-            link: step
-            for link, step in first.items()
-            if all(self.stood(one, step) is None for one in heads[link][3])
-        }
-        return starts, first
+        held = {}
+        for link, step in first.items():
+            if any(self.stood(one, step) is not None for one in heads[link][3]):
+                held[link] = heads[link][3][0]
+        return self.lost_behind(first, held), first
+
+    def lost_behind(self, first, held):
+        """The vehicle-hours lost at each link that isn't held, and on those that wait for it."""
+        lost = {link: 0 for link in first if link not in held}
+        for link in first:
+            begin, passed = link, set()
+            while begin in held and begin not in passed:
+                passed.add(begin)
+                begin = held[begin]
+            if begin in lost:
+                lost[begin] += self.hours(self.lost.get(link, 0))
+        return lost

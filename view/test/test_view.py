@@ -38,9 +38,10 @@ from checks import (
 )
 from planner_tests import PlannerTests
 from tables import Told
+from week_tests import WeekTests
 
 
-class Test(PlannerTests):
+class Test(PlannerTests, WeekTests):
     def __init__(self, page, program, runs, folder, pictures):
         self.page, self.program, self.runs = page, program, runs
         self.folder, self.pictures = folder, pictures
@@ -71,11 +72,6 @@ class Test(PlannerTests):
         check_totals(page, told)
         report = self.runs['sioux_falls'][1]
         shown = {row[0]: row[1] for row in page.rows('#totals')}
-        equal(
-            int(number(shown['Gap of the last iteration, in millionths'])),
-            int(report['gap_ppm']),
-            'the gap',
-        )
         equal(int(number(shown['arrived'])), int(report['arrived']), 'who arrived')
         check_rankings(page, told)
         check_worst(page, told)
@@ -385,6 +381,14 @@ TESTS = [
     'things_are_found',
     'links_go_out',
     'widths_tell_importance',
+    'a_run_says_how_it_was_made',
+    'trips_tell_who_is_counted',
+    'turns_that_bind_are_seen',
+    'fields_answer_enter',
+    'the_map_stays_in_sight',
+    'folders_and_sweeps_get_a_sentence',
+    'paper_and_wide_screens',
+    'projected_coordinates_are_told',
     'a_large_run_is_fast',
 ]
 
