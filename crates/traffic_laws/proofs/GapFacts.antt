@@ -1,18 +1,15 @@
 -- The two sums of a gap, and what it means that they are equal.
 use Rattle.std.specs.Prelude.{slice_get}
 use Rattle.std.proofs.Common.{◌≡◌, ◌⊎◌, inl, inr, ℕ, zero, suc, ◌+◌, ◌<◌, ◌≤◌, List, length, ap}
-use Rattle.std.proofs.Common.{◌∙◌, sym, subst, arith, Option, Some, None, get_or}
+use Rattle.std.proofs.Common.{◌∙◌, subst, arith, Option, Some, None, get_or}
 use Rattle.std.proofs.lemmas.Bool.{cases_lt}
-use Rattle.std.proofs.lemmas.Option.{none-some, slice_get-get_or, slice_get_within}
+use Rattle.std.proofs.lemmas.Option.{slice_get-get_or, slice_get_within}
 use Rattle.net_core.specs.declared.rows.LinkNo.{LinkNo}
 use Rattle.net_core.specs.declared.rows.NetRows.{NetRows}
 use Rattle.dta_model.specs.Plans.{link_numbers}
-use Rattle.dta_model.specs.TimedWalks.{walk_time}
-use Rattle.dta_model.specs.Walks.{IsWalk}
 use Rattle.dta_model.specs.declared.trip.Trip.{Trip}
 use Rattle.dta_model.proofs.Steady.{some_trip}
-use Rattle.gap.specs.Gap.{AreLeasts, IsLeastOf, over_vehicles, route_time}
-use Rattle.gap.specs.declared.line.GapLine.{GapLine}
+use Rattle.gap.specs.Gap.{AreLeasts, over_vehicles, route_time}
 use Rattle.gap.proofs.Sums.{over-le, over-more, route_time-is}
 use Rattle.traffic_laws.specs.Equilibrium.{AreRoutesOf, GapIsNeverNegative, IsUserEquilibrium}
 use Rattle.traffic_laws.specs.Equilibrium.{NoGapIsEquilibrium}

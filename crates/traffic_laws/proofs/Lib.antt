@@ -1,1 +1,3 @@
 pub mod GapFacts
+pub mod BucketTimes
+pub mod Flows

@@ -1,1 +1,2 @@
 pub mod Equilibrium
+pub mod Buckets

@@ -4,6 +4,11 @@
 //! this crate.
 #![tactic(auto)]
 
+mod buckets;
 mod equilibrium;
 
+pub use buckets::{
+    entered_are_those_who_entered_then, entries_are_departures_and_turns,
+    leavings_are_turns_and_arrivals, link_times_are_not_below_free_flow,
+};
 pub use equilibrium::{no_gap_means_user_equilibrium, the_gap_is_never_negative};
