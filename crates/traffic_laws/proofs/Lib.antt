@@ -1,3 +1,5 @@
 pub mod GapFacts
 pub mod BucketTimes
 pub mod Flows
+pub mod Journeying
+pub mod NoFaster

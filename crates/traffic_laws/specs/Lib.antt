@@ -1,2 +1,3 @@
 pub mod Equilibrium
 pub mod Buckets
+pub mod FreeFlow

@@ -1,0 +1,24 @@
+// Laws of free flow. Each is the contract of a function that does nothing.
+ghost use Rattle.traffic_laws.specs.FreeFlow.{MovesOnceInAStep, NobodyIsEarly};
+ghost use Rattle.traffic_laws.specs.FreeFlow.{TripsAreNoFaster, VisitsAreNoFaster};
+
+/// Each visit takes at least the link's free-flow steps, and with a turn its penalty besides.
+pub fn no_visit_is_faster_than_free_flow()
+    ensures { VisitsAreNoFaster }
+{}
+
+/// Nobody enters a link before the departure of the trip.
+pub fn nobody_departs_early()
+    ensures { NobodyIsEarly }
+{}
+
+/// A vehicle moves at most once in a step.
+pub fn nobody_moves_twice_in_a_step()
+    ensures { MovesOnceInAStep }
+{}
+
+/// A trip takes at least the free-flow time of its route, and so at least the least free-flow time
+/// between its zones.
+pub fn no_trip_is_faster_than_free_flow()
+    ensures { TripsAreNoFaster }
+{}
