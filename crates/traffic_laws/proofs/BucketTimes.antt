@@ -98,7 +98,7 @@ visits_least p l (m ∷ T) s i d h =
     by true e ih (suc i) d h = ih i d (omega (arith, h))
     by false e ih i d h = ih i d h
 
-all_filter : (P : Visit → Type 0) (q : Visit → Bool) (L : List Visit) → All P L → All P (filter q L)
+pub all_filter : (P : Visit → Type 0) (q : Visit → Bool) (L : List Visit) → All P L → All P (filter q L)
 all_filter P q [] all = all
 all_filter P q (x ∷ L) all = by (q x) (all_filter P q L (All-tail P x L all))
   where
@@ -120,7 +120,7 @@ sum_least free (x ∷ L) all =
     grown n s t a r h m = grind arith
 
 -- a mean that is rounded up is no less than what each is
-mean_least : (free : ℕ) (total n : ℕ) → free * n ≤ total → free ≤ mean_time free total n
+pub mean_least : (free : ℕ) (total n : ℕ) → free * n ≤ total → free ≤ mean_time free total n
 mean_least free total zero h = omega arith
 mean_least free total (suc n) h =
     let c = (div_ceil_times total (suc n) (omega arith)).0 in

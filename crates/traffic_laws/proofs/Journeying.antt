@@ -118,7 +118,7 @@ not_early p (suc t) =
     (λ n. node_not_early p t n))
 
 -- what is true of all moves is true of a vehicle's, with the vehicle
-all_own : (P : Move → Type 0) (v : ℕ) (T : List Move) → All P T
+pub all_own : (P : Move → Type 0) (v : ℕ) (T : List Move) → All P T
     → All (λ m. P m × (m.vehicle ≡ v)) (moves_of v T)
 unfolding moves_of
 all_own P v [] all i d h = absurd (omega (arith, h))

@@ -3,3 +3,5 @@ pub mod BucketTimes
 pub mod Flows
 pub mod Journeying
 pub mod NoFaster
+pub mod OnTime
+pub mod AtFreeFlow

@@ -68,7 +68,7 @@ no_out : (o : Option ℕ) → Arrived ≡ target_at o → o ≡ None
 no_out None e = refl
 no_out (Some l) e = cc
 
-past : (xs : List ℕ) (i : ℕ) → slice_get xs i ≡ None → length xs ≤ i
+pub past : (xs : List ℕ) (i : ℕ) → slice_get xs i ≡ None → length xs ≤ i
 past [] i e = omega arith
 past (x ∷ xs) zero e = cc
 past (x ∷ xs) (suc i) e = let k = past xs i e in omega (arith, k)
@@ -80,7 +80,7 @@ module _ (p : Plan) (sound : IsSound p) (v arrival : ℕ) (trip : Trip) (route :
   gone : HasGone p v route journey.entries journey.arrival
   gone = gone_by p sound v (journeys_of p) route route journey journey.entries r refl refl there refl
 
-  departs : departure_of p v ≡ trip.departure
+  pub departs : departure_of p v ≡ trip.departure
   unfolding departure_of
   departs = ap departure_in t
 
@@ -96,7 +96,7 @@ module _ (p : Plan) (sound : IsSound p) (v arrival : ℕ) (trip : Trip) (route :
       ∙ along_end v route journey.entries journey.arrival (length journey.entries) gone.within refl
       ∙ ap (out_in v) out
 
-  many : length journey.entries ≡ length route
+  pub many : length journey.entries ≡ length route
   many =
       let x = routes_are_followed p p.horizon v (length journey.entries)
       (record { step = arrival; vehicle = v; target = Arrived }) arrives in

@@ -1,18 +1,21 @@
--- Free flow: nobody is faster. A table of link times says how many steps a link takes who enters it
--- in a step.
-use Rattle.std.specs.Prelude.{◌≡◌, ◌≤◌, ℕ, suc, ◌+◌, ◌&&◌, nat_eq, List, Some, count_by}
-use Rattle.std.specs.Prelude.{slice_get}
+-- Free flow: nobody is faster, and nobody is slower where nothing binds. A table of link times says
+-- how many steps a link takes who enters it in a step.
+use Rattle.std.specs.Prelude.{◌≡◌, ◌<◌, ◌≤◌, ℕ, suc, ◌+◌, ◌&&◌, true, nat_eq, List, length, None}
+use Rattle.std.specs.Prelude.{Some, count_by, slice_get}
 use Rattle.net_core.specs.declared.rows.LinkNo.{LinkNo}
+use Rattle.net_core.specs.declared.rows.Turn.{Turn}
 use Rattle.dta_model.specs.Laws.{visit_begins, visit_ends}
 use Rattle.dta_model.specs.Least.{IsLeast}
-use Rattle.dta_model.specs.LinkTimes.{penalty_to}
-use Rattle.dta_model.specs.Loading.{journeys_of, trace_after}
-use Rattle.dta_model.specs.Plans.{departure_of, link_at, link_numbers, route_of}
+use Rattle.dta_model.specs.LinkTimes.{penalty_to, table_of, time_at}
+use Rattle.dta_model.specs.Loading.{journeys_of, step_moves, trace_after}
+use Rattle.dta_model.specs.Plans.{all_nodes, departure_of, has_pass, link_allowance, link_at}
+use Rattle.dta_model.specs.Plans.{link_numbers, route_of, turn, turn_rates}
 use Rattle.dta_model.specs.Sound.{IsSound}
 use Rattle.dta_model.specs.TimedWalks.{walk_time}
-use Rattle.dta_model.specs.Trace.{is_of, target_at}
+use Rattle.dta_model.specs.Trace.{Move, is_of, leads_to, stands_on, target_at}
 use Rattle.dta_model.specs.declared.loaded.Journey.{Journey}
 use Rattle.dta_model.specs.declared.plan.Plan.{Plan}
+use Rattle.dta_model.specs.declared.queue.Queue.TheVariants as queue
 use Rattle.dta_model.specs.declared.trip.Trip.{Trip}
 
 -- the table of free flow: a link takes its free-flow steps, whenever it is entered
@@ -53,3 +56,56 @@ TripsAreNoFaster =
     → slice_get p.trips v ≡ Some trip → slice_get p.routes v ≡ Some (Some route)
     → slice_get (journeys_of p) v ≡ Some journey → journey.arrival ≡ Some arrival
     → IsNoFaster p trip route arrival
+
+-- ---- where nothing binds
+-- the moves of a step, and how many of them enter a link, leave it, and take the turn from a link to
+-- another
+abbrev pub moves_in : Plan → ℕ → List Move
+moves_in p t = step_moves p t (trace_after p t) (all_nodes p)
+
+abbrev pub entries_in : Plan → ℕ → ℕ → ℕ
+entries_in p t l = count_by (leads_to l) (moves_in p t)
+
+abbrev pub leavings_in : Plan → ℕ → ℕ → ℕ
+leavings_in p t l = count_by (λ m. stands_on l (trace_after p t) m.vehicle) (moves_in p t)
+
+abbrev pub turns_in : Plan → ℕ → ℕ → ℕ → ℕ
+turns_in p t a b =
+    count_by (λ m. leads_to b m && stands_on a (trace_after p t) m.vehicle) (moves_in p t)
+
+-- nothing binds in a loading: queues are points, in each step fewer vehicles enter a link, leave it
+-- and take a limited turn than it allows, and turns have no penalty. With a penalty the head of a
+-- link would hold up those behind it that turn elsewhere
+pub record NothingBinds (p : Plan) : Type 0 where
+  pub points : p.queue ≡ queue.Point
+  pub entries : (t l : ℕ) → t < p.horizon → l < length p.net.links
+      → entries_in p t l < link_allowance p l t
+  pub leavings : (t l : ℕ) → t < p.horizon → l < length p.net.links
+      → leavings_in p t l < link_allowance p l t
+  pub turns : (t a b : ℕ) → t < p.horizon → has_pass p (turn_rates p a b) t (turns_in p t a b) ≡ true
+  pub penalties : (a b : ℕ) (way : Turn) → turn p a b ≡ Some way → way.penalty ≡ 0
+
+-- a trip arrives exactly its route's free-flow time after its departure; one that hasn't arrived by
+-- the horizon would have arrived at the horizon or later
+pub record IsAtFreeFlow (p : Plan) (trip : Trip) (route : List LinkNo) (journey : Journey)
+    : Type 0 where
+  pub arrives : (arrival : ℕ) → journey.arrival ≡ Some arrival
+      → arrival
+      ≡ trip.departure + walk_time (free_flow p) p.net trip.departure (link_numbers route)
+  pub later : journey.arrival ≡ None
+      → p.horizon
+      ≤ trip.departure + walk_time (free_flow p) p.net trip.departure (link_numbers route)
+
+abbrev pub TripsAreAtFreeFlow : Type 0
+TripsAreAtFreeFlow =
+    (p : Plan) → IsSound p → NothingBinds p
+    → (v : ℕ) (trip : Trip) (route : List LinkNo) (journey : Journey)
+    → slice_get p.trips v ≡ Some trip → slice_get p.routes v ≡ Some (Some route)
+    → slice_get (journeys_of p) v ≡ Some journey → IsAtFreeFlow p trip route journey
+
+-- and each link time is the free-flow time
+abbrev pub TimesAreFree : Type 0
+TimesAreFree =
+    (p : Plan) → IsSound p → NothingBinds p
+    → (bucket l step : ℕ) → 1 ≤ bucket → l < length p.net.links
+    → time_at (table_of p bucket) l step ≡ (link_at p l).free

@@ -1,6 +1,7 @@
 // Laws of free flow. Each is the contract of a function that does nothing.
 ghost use Rattle.traffic_laws.specs.FreeFlow.{MovesOnceInAStep, NobodyIsEarly};
-ghost use Rattle.traffic_laws.specs.FreeFlow.{TripsAreNoFaster, VisitsAreNoFaster};
+ghost use Rattle.traffic_laws.specs.FreeFlow.{TimesAreFree, TripsAreAtFreeFlow, TripsAreNoFaster};
+ghost use Rattle.traffic_laws.specs.FreeFlow.{VisitsAreNoFaster};
 
 /// Each visit takes at least the link's free-flow steps, and with a turn its penalty besides.
 pub fn no_visit_is_faster_than_free_flow()
@@ -21,4 +22,14 @@ pub fn nobody_moves_twice_in_a_step()
 /// between its zones.
 pub fn no_trip_is_faster_than_free_flow()
     ensures { TripsAreNoFaster }
+{}
+
+/// Where nothing binds each trip takes the free-flow time of its route.
+pub fn trips_take_free_flow_where_nothing_binds()
+    ensures { TripsAreAtFreeFlow }
+{}
+
+/// Where nothing binds each link time is the free-flow time.
+pub fn links_take_free_flow_where_nothing_binds()
+    ensures { TimesAreFree }
 {}
