@@ -4,4 +4,6 @@ pub mod Flows
 pub mod Journeying
 pub mod NoFaster
 pub mod OnTime
-pub mod AtFreeFlow
+pub mod ExactMoves
+pub mod FreeLinks
+pub mod FreeTrips

@@ -3,13 +3,12 @@
 use Rattle.std.specs.Prelude.{◌≡◌, ◌<◌, ◌≤◌, ℕ, suc, ◌+◌, ◌&&◌, true, nat_eq, List, length, None}
 use Rattle.std.specs.Prelude.{Some, count_by, slice_get}
 use Rattle.net_core.specs.declared.rows.LinkNo.{LinkNo}
-use Rattle.net_core.specs.declared.rows.Turn.{Turn}
 use Rattle.dta_model.specs.Laws.{visit_begins, visit_ends}
 use Rattle.dta_model.specs.Least.{IsLeast}
 use Rattle.dta_model.specs.LinkTimes.{penalty_to, table_of, time_at}
 use Rattle.dta_model.specs.Loading.{journeys_of, step_moves, trace_after}
 use Rattle.dta_model.specs.Plans.{all_nodes, departure_of, has_pass, link_allowance, link_at}
-use Rattle.dta_model.specs.Plans.{link_numbers, route_of, turn, turn_rates}
+use Rattle.dta_model.specs.Plans.{link_numbers, route_of, turn_rates}
 use Rattle.dta_model.specs.Sound.{IsSound}
 use Rattle.dta_model.specs.TimedWalks.{walk_time}
 use Rattle.dta_model.specs.Trace.{Move, is_of, leads_to, stands_on, target_at}
@@ -73,17 +72,18 @@ abbrev pub turns_in : Plan → ℕ → ℕ → ℕ → ℕ
 turns_in p t a b =
     count_by (λ m. leads_to b m && stands_on a (trace_after p t) m.vehicle) (moves_in p t)
 
--- nothing binds in a loading: queues are points, in each step fewer vehicles enter a link, leave it
--- and take a limited turn than it allows, and turns have no penalty. With a penalty the head of a
--- link would hold up those behind it that turn elsewhere
-pub record NothingBinds (p : Plan) : Type 0 where
+-- nothing binds in a loading: queues are points; in each step fewer vehicles enter a link, leave it
+-- and take a limited turn than it allows; and all routes leave a link with one penalty, here `wait`.
+-- With several penalties the head of a link could hold up those behind it, who turn elsewhere
+pub record NothingBinds (p : Plan) (wait : ℕ → ℕ) : Type 0 where
   pub points : p.queue ≡ queue.Point
   pub entries : (t l : ℕ) → t < p.horizon → l < length p.net.links
       → entries_in p t l < link_allowance p l t
   pub leavings : (t l : ℕ) → t < p.horizon → l < length p.net.links
       → leavings_in p t l < link_allowance p l t
   pub turns : (t a b : ℕ) → t < p.horizon → has_pass p (turn_rates p a b) t (turns_in p t a b) ≡ true
-  pub penalties : (a b : ℕ) (way : Turn) → turn p a b ≡ Some way → way.penalty ≡ 0
+  pub penalties : (v i l : ℕ) → slice_get (route_of p v) i ≡ Some l
+      → penalty_to p l (target_at (slice_get (route_of p v) (suc i))) ≡ wait l
 
 -- a trip arrives exactly its route's free-flow time after its departure; one that hasn't arrived by
 -- the horizon would have arrived at the horizon or later
@@ -98,14 +98,15 @@ pub record IsAtFreeFlow (p : Plan) (trip : Trip) (route : List LinkNo) (journey 
 
 abbrev pub TripsAreAtFreeFlow : Type 0
 TripsAreAtFreeFlow =
-    (p : Plan) → IsSound p → NothingBinds p
+    (p : Plan) (wait : ℕ → ℕ) → IsSound p → NothingBinds p wait
     → (v : ℕ) (trip : Trip) (route : List LinkNo) (journey : Journey)
     → slice_get p.trips v ≡ Some trip → slice_get p.routes v ≡ Some (Some route)
     → slice_get (journeys_of p) v ≡ Some journey → IsAtFreeFlow p trip route journey
 
--- and each link time is the free-flow time
+-- and where turns cost nothing each link time is the free-flow time. With a penalty the visit of one
+-- who waits for it at the horizon counts longer
 abbrev pub TimesAreFree : Type 0
 TimesAreFree =
-    (p : Plan) → IsSound p → NothingBinds p
+    (p : Plan) → IsSound p → NothingBinds p (λ l. 0)
     → (bucket l step : ℕ) → 1 ≤ bucket → l < length p.net.links
     → time_at (table_of p bucket) l step ≡ (link_at p l).free

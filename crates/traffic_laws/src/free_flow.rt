@@ -24,12 +24,13 @@ pub fn no_trip_is_faster_than_free_flow()
     ensures { TripsAreNoFaster }
 {}
 
-/// Where nothing binds each trip takes the free-flow time of its route.
+/// Where nothing binds each trip takes the free-flow time of its route: the free-flow steps of its
+/// links and the penalties of its turns.
 pub fn trips_take_free_flow_where_nothing_binds()
     ensures { TripsAreAtFreeFlow }
 {}
 
-/// Where nothing binds each link time is the free-flow time.
+/// Where nothing binds, and turns cost nothing, each link time is the free-flow time.
 pub fn links_take_free_flow_where_nothing_binds()
     ensures { TimesAreFree }
 {}
