@@ -35,9 +35,10 @@ use Rattle.link_times.proofs.Sums.{sum_in, sum_in-more, sum_in-none}
 use Rattle.counts.specs.Turns.{takes, timed, times_taken}
 use Rattle.counts.proofs.OverVehicles.{taken, taken-more, taken-none}
 use Rattle.gap.proofs.Sums.{over-le}
+use Rattle.traffic_laws.proofs.Arriving.{arrivals_are, arrived, ends, nobody_arrived}
 use Rattle.traffic_laws.proofs.BucketTimes.{count-more, entered_is, one_if}
 use Rattle.traffic_laws.specs.Buckets.{EntriesComeFrom, LeavingsGoTo, departures_onto}
-use Rattle.traffic_laws.specs.Buckets.{entries_of_link, leavings_of, sum_below, turns_between}
+use Rattle.traffic_laws.specs.Buckets.{arrivals_from, entries_of_link, leavings_of, sum_below, turns_between}
 
 -- equal numbers below a bound have equal sums
 sum_same : (n : ℕ) (f g : ℕ → ℕ) → ((k : ℕ) → k < n → f k ≡ g k) → sum_below n f ≡ sum_below n g
@@ -396,15 +397,24 @@ module _ (p : Plan) (bucket l : ℕ) (sound : IsSound p) (some : 1 ≤ bucket)
       (numbers_below (length p.net.links)) in
       omega (arith, all, split, first, turns)
 
+  arrivals : arrivals_from p l
+      ≡ count_by (λ m. not (is_entry m)) (leavings l [] (trace_after p p.horizon))
+  unfolding arrived ends
+  arrivals =
+      let are = arrivals_are p p.horizon l [] (trace_after p p.horizon) refl
+      (trace-follows p p.horizon) (λ i d k. (trace-lawful p p.horizon i d k).below) in
+      let none = nobody_arrived p l in
+      omega (arith, are, none)
+
   left_by : length (leavings_of p l)
-      ≡ sum_below (length p.net.links) (λ b. turns_between p bucket l b)
-      + count_by (λ m. not (is_entry m)) (leavings_of p l)
+      ≡ sum_below (length p.net.links) (λ b. turns_between p bucket l b) + arrivals_from p l
   left_by =
       let split = leavings_split (length p.net.links) l [] (trace_after p p.horizon) in_links in
       let turns = sum_alike (λ b. turns_between p bucket l b)
       (λ b. turning l b [] (trace_after p p.horizon)) (λ b. turns_are l b)
       (numbers_below (length p.net.links)) in
-      omega (arith, split, turns)
+      let out = arrivals in
+      omega (arith, split, turns, out)
 
 pub entries_come_from : EntriesComeFrom
 entries_come_from p bucket l sound some h = come_from p bucket l sound some h

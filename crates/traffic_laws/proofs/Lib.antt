@@ -1,5 +1,6 @@
 pub mod GapFacts
 pub mod BucketTimes
+pub mod Arriving
 pub mod Flows
 pub mod Journeying
 pub mod NoFaster

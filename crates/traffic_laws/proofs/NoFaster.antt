@@ -64,7 +64,7 @@ arrives_after p step l e s (b ∷ rest) (x ∷ entries) h many spaced last =
     (omega (arith, h, k)) (omega (arith, many))
     (λ i j. spaced (suc i) (omega (arith, j))) (λ i j. last (suc i) (ap suc j))
 
-no_out : (o : Option ℕ) → Arrived ≡ target_at o → o ≡ None
+pub no_out : (o : Option ℕ) → Arrived ≡ target_at o → o ≡ None
 no_out None e = refl
 no_out (Some l) e = cc
 

@@ -292,7 +292,7 @@ last_from x [] f e = (0, refl, e)
 last_from x (y ∷ L) f e =
     let r = last_from y L f e in (suc (r.0), ap suc (r.1), r.2)
 
-last_get : (L : List Move) (f : Move) → last_or None L ≡ Some f
+pub last_get : (L : List Move) (f : Move) → last_or None L ≡ Some f
     → (k : ℕ) × (suc k ≡ length L) × (slice_get L k ≡ Some f)
 last_get [] f e = cc
 last_get (x ∷ L) f e = last_from x L f e

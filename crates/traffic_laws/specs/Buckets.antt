@@ -1,14 +1,16 @@
 -- What link times and the numbers beside them mean, and how entries, turns, departures and arrivals
 -- add up.
-use Rattle.std.specs.Prelude.{[], ◌≡◌, ℕ, suc, ◌+◌, ◌*◌, ◌<◌, ◌≤◌, Bool, ◌&&◌, not, nat_le, nat_lt}
-use Rattle.std.specs.Prelude.{List, length, count_by, sum_by}
+use Rattle.std.specs.Prelude.{[], ◌≡◌, ℕ, suc, ◌+◌, ◌-◌, ◌*◌, ◌<◌, ◌≤◌, Bool, false, ◌&&◌, nat_eq}
+use Rattle.std.specs.Prelude.{nat_le, nat_lt, List, length, count_by, sum_by, Option, None, Some}
+use Rattle.std.specs.Prelude.{slice_get}
 use Rattle.net_core.specs.Network.{numbers_below}
 use Rattle.dta_model.specs.LinkTimes.{buckets_to, entered_in, table_of, time_at}
-use Rattle.dta_model.specs.Loading.{is_entry, trace_after}
+use Rattle.dta_model.specs.Loading.{trace_after}
 use Rattle.dta_model.specs.NodeMoves.{is_first}
-use Rattle.dta_model.specs.Plans.{first_link, link_at, vehicles_of}
+use Rattle.dta_model.specs.Plans.{first_link, link_at, route_of, vehicles_of}
 use Rattle.dta_model.specs.Room.{leavings}
 use Rattle.dta_model.specs.Sound.{IsSound}
+use Rattle.dta_model.specs.State.{has_arrived}
 use Rattle.dta_model.specs.Trace.{Move, has_moved, leads_to, queue_of}
 use Rattle.dta_model.specs.declared.plan.Plan.{Plan}
 use Rattle.counts.specs.Turns.{timed, times_taken}
@@ -52,12 +54,23 @@ departures_onto p l =
     count_by (λ v. is_first l (first_link p v) && has_moved v (trace_after p p.horizon))
     (vehicles_of p)
 
--- the moves by which a link is left, and how many of them leave the network
+-- the last link of a vehicle's route, and whether it is link l
+abbrev pub last_link : Plan → ℕ → Option ℕ
+last_link p v = slice_get (route_of p v) (length (route_of p v) - 1)
+
+abbrev pub is_last : ℕ → Option ℕ → Bool
+is_last l None = false
+is_last l (Some b) = nat_eq b l
+
+-- how many vehicles arrived from a link: their routes end there, and they have arrived
+abbrev pub arrivals_from : Plan → ℕ → ℕ
+arrivals_from p l =
+    count_by (λ v. is_last l (last_link p v) && has_arrived (trace_after p p.horizon) v)
+    (vehicles_of p)
+
+-- the moves by which a link is left
 abbrev pub leavings_of : Plan → ℕ → List Move
 leavings_of p l = leavings l [] (trace_after p p.horizon)
-
-abbrev pub arrivals_from : Plan → ℕ → ℕ
-arrivals_from p l = count_by (λ m. not (is_entry m)) (leavings_of p l)
 
 -- the entries of a link are the departures onto it and the turns into it from any link
 abbrev pub EntriesComeFrom : Type 0
