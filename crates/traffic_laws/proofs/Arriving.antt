@@ -1,8 +1,10 @@
 -- Who leaves the network from a link has it last in the route.
 use Rattle.std.specs.Prelude.{All, count_by, nat_eq, slice_get, ◌≢◌}
-use Rattle.std.proofs.Common.{◌≡◌, ◌⊎◌, inl, inr, ℕ, zero, suc, ◌+◌, ◌-◌, ◌<◌, ◌≤◌, Bool, true, false}
-use Rattle.std.proofs.Common.{cond, not, ◌&&◌, List, [], ◌∷◌, ◌++◌, length, refl, ap, sym, ◌∙◌, subst}
-use Rattle.std.proofs.Common.{arith, Option, Some, None, append_assoc, append-nil}
+use Rattle.std.proofs.Common.{◌≡◌, ◌⊎◌, inl, inr, ℕ, zero, suc, ◌+◌, ◌-◌, ◌<◌, Bool, true}
+use Rattle.std.proofs.Common.{false}
+use Rattle.std.proofs.Common.{cond, not, ◌&&◌, List, [], ◌∷◌, ◌++◌, length, refl, ap, sym, ◌∙◌}
+use Rattle.std.proofs.Common.{subst}
+use Rattle.std.proofs.Common.{arith, Some, None, append_assoc, append-nil}
 use Rattle.std.proofs.lemmas.Bool.{cases_Bool}
 use Rattle.std.proofs.lemmas.Bool.Decides.{eqb_tells}
 use Rattle.std.proofs.lemmas.List.Elements.{All-head, All-tail}
@@ -13,8 +15,8 @@ use Rattle.dta_model.specs.Plans.{route_of, vehicle_count, vehicles_of}
 use Rattle.dta_model.specs.Room.{leavings}
 use Rattle.dta_model.specs.State.{has_arrived, leads_out}
 use Rattle.dta_model.specs.Trace.{Arrived, Move, Onto, Target, has_moved, is_link, last_move}
-use Rattle.dta_model.specs.Trace.{leads_there, leads_to, moves_made, moves_of, next_target, queue_of}
-use Rattle.dta_model.specs.Trace.{stands_on, target_at}
+use Rattle.dta_model.specs.Trace.{leads_there, moves_made, moves_of, next_target}
+use Rattle.dta_model.specs.Trace.{stands_on}
 use Rattle.dta_model.specs.declared.plan.Plan.{Plan}
 use Rattle.dta_model.proofs.InOrder.{Fits, Follows}
 use Rattle.dta_model.proofs.Journeys.{routes_are_followed}

@@ -28,7 +28,8 @@ use Rattle.link_times.proofs.TravelTimes.{Lasts, Spaced, moves_are_spaced}
 use Rattle.traffic_laws.specs.Buckets.{EnteredAreCounted, TimesAreNotBelowFree, enters_in}
 
 -- the vehicle's next move after one of its moves, among its own
-next_spaced : (p : Plan) (m next : Move) (T : List Move) → Spaced p None (moves_of m.vehicle (m ∷ T))
+next_spaced : (p : Plan) (m next : Move) (T : List Move)
+    → Spaced p None (moves_of m.vehicle (m ∷ T))
     → find (is_of m.vehicle) T ≡ Some next → Lasts p m next
 unfolding moves_of
 next_spaced p m next T s e =
@@ -98,7 +99,8 @@ visits_least p l (m ∷ T) s i d h =
     by true e ih (suc i) d h = ih i d (omega (arith, h))
     by false e ih i d h = ih i d h
 
-pub all_filter : (P : Visit → Type 0) (q : Visit → Bool) (L : List Visit) → All P L → All P (filter q L)
+pub all_filter : (P : Visit → Type 0) (q : Visit → Bool) (L : List Visit) → All P L
+    → All P (filter q L)
 all_filter P q [] all = all
 all_filter P q (x ∷ L) all = by (q x) (all_filter P q L (All-tail P x L all))
   where
@@ -242,7 +244,8 @@ visits_many p bucket l b some (m ∷ T) =
     omega (arith, more, counted, rest, here)
   where
     by : (on : Bool)
-        → nat_eq (m.step / bucket) b ≡ (nat_le (b * bucket) m.step && nat_lt m.step (suc b * bucket))
+        → nat_eq (m.step / bucket) b
+        ≡ (nat_le (b * bucket) m.step && nat_lt m.step (suc b * bucket))
         → cond on (one_if (nat_eq (m.step / bucket) b)) 0
         ≡ one_if (on && nat_le (b * bucket) m.step && nat_lt m.step (suc b * bucket))
     by true e = ap one_if e

@@ -100,7 +100,8 @@ module _ (p : Plan) (sound : IsSound p) (wait : ℕ → ℕ) (binds : NothingBin
     early : (i : ℕ) (b : Move) → slice_get own i ≡ Some b → b.step < p.horizon
     early i b e =
         (all_at (λ m. (m.step < p.horizon) × (m.vehicle ≡ v)) own i b
-        (all_own (λ m. m.step < p.horizon) v (trace_after p p.horizon) (steps_below p p.horizon)) e).0
+        (all_own (λ m. m.step < p.horizon) v (trace_after p p.horizon)
+        (steps_below p p.horizon)) e).0
 
     -- the moves before a step
     before : (t : ℕ) → t ≤ p.horizon → (i : ℕ) (b : Move) → slice_get own i ≡ Some b

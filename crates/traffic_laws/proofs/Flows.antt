@@ -38,7 +38,8 @@ use Rattle.gap.proofs.Sums.{over-le}
 use Rattle.traffic_laws.proofs.Arriving.{arrivals_are, arrived, ends, nobody_arrived}
 use Rattle.traffic_laws.proofs.BucketTimes.{count-more, entered_is, one_if}
 use Rattle.traffic_laws.specs.Buckets.{EntriesComeFrom, LeavingsGoTo, departures_onto}
-use Rattle.traffic_laws.specs.Buckets.{arrivals_from, entries_of_link, leavings_of, sum_below, turns_between}
+use Rattle.traffic_laws.specs.Buckets.{arrivals_from, entries_of_link, leavings_of, sum_below}
+use Rattle.traffic_laws.specs.Buckets.{turns_between}
 
 -- equal numbers below a bound have equal sums
 sum_same : (n : ℕ) (f g : ℕ → ℕ) → ((k : ℕ) → k < n → f k ≡ g k) → sum_below n f ≡ sum_below n g
@@ -102,7 +103,8 @@ module _ (bucket buckets : ℕ) where
   all_entered : (p : Plan) (l : ℕ) (M : List Move) → All (λ m. m.step / bucket < buckets) M
       → sum_below buckets (λ k. sum_in (λ v. 1) p bucket l k M) ≡ count_by (leads_to l) M
   all_entered p l [] inside =
-      none_of buckets (λ k. sum_in (λ v. 1) p bucket l k []) (λ k. sum_in-none (λ v. 1) p bucket l k)
+      none_of buckets (λ k. sum_in (λ v. 1) p bucket l k [])
+      (λ k. sum_in-none (λ v. 1) p bucket l k)
   all_entered p l (m ∷ M) inside =
       let later : ℕ → ℕ = λ k. sum_in (λ v. 1) p bucket l k M in
       let here : ℕ → ℕ = λ k. cond (leads_to l m) (one_if (nat_eq (m.step / bucket) k)) 0 in

@@ -12,7 +12,8 @@ use Rattle.std.proofs.lemmas.Grind.{div_ceil_times}
 use Rattle.std.proofs.lemmas.List.Elements.{All-head, All-tail}
 use Rattle.std.proofs.lemmas.List.Sums.{sum_by-cons}
 use Rattle.std.proofs.Math.Dec.{eqb}
-use Rattle.dta_model.specs.LinkTimes.{Visit, bucket_time, buckets_to, mean_time, penalty_to, table_in}
+use Rattle.dta_model.specs.LinkTimes.{Visit, bucket_time, buckets_to, mean_time, penalty_to}
+use Rattle.dta_model.specs.LinkTimes.{table_in}
 use Rattle.dta_model.specs.LinkTimes.{table_of, time_at, visit, visit_time, visits, visits_in}
 use Rattle.dta_model.specs.Loading.{trace_after}
 use Rattle.dta_model.specs.Plans.{link_at}

@@ -86,7 +86,8 @@ module _ (p : Plan) (sound : IsSound p) (wait : ℕ → ℕ) (binds : NothingBin
     (r : slice_get p.routes v ≡ Some (Some route))
     (there : slice_get (journeys_of p) v ≡ Some journey) where
   gone : HasGone p v route journey.entries journey.arrival
-  gone = gone_by p sound v (journeys_of p) route route journey journey.entries r refl refl there refl
+  gone =
+      gone_by p sound v (journeys_of p) route route journey journey.entries r refl refl there refl
 
   entry_at : (i : ℕ) → i < length journey.entries
       → slice_get (moves_of v (trace_after p p.horizon)) i
@@ -173,7 +174,8 @@ module _ (p : Plan) (sound : IsSound p) (wait : ℕ → ℕ) (binds : NothingBin
   stays none i h =
       let at = entry_at i (omega (arith, h)) in
       let end : slice_get (moves_of v (trace_after p p.horizon)) (suc i) ≡ None =
-      ap (λ k. slice_get (moves_of v (trace_after p p.horizon)) k) h ∙ out_at ∙ ap (out_in v) none in
+      ap (λ k. slice_get (moves_of v (trace_after p p.horizon)) k) h ∙ out_at
+      ∙ ap (out_in v) none in
       let most = long (moves_of v (trace_after p p.horizon)) (suc i) end in
       let least = within (moves_of v (trace_after p p.horizon)) i _ at in
       let last = exact_last p sound wait binds v (link_on route i)

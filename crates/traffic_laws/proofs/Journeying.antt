@@ -104,7 +104,8 @@ node_not_early p t n i d h =
     let x : Move = get_or (node_moves p n t (trace_after p t)) i d in
     let a = node-lawful p n t (trace_after p t) (trace-lawful p t) i d h in
     let now = node_now p n t (trace_after p t) i d h in
-    let parts = and_parts (is_routed p x.vehicle) (nat_lt (departure_of p x.vehicle) (suc t)) a.due in
+    let parts = and_parts (is_routed p x.vehicle)
+    (nat_lt (departure_of p x.vehicle) (suc t)) a.due in
     let late = lt_holds (departure_of p x.vehicle) (suc t) parts.1 in
     omega (arith, late, now)
 
@@ -125,9 +126,11 @@ all_own P v [] all i d h = absurd (omega (arith, h))
 all_own P v (m ∷ T) all i d h =
     by (eqb_tells m.vehicle v) (all_own P v T (All-tail P m T all)) i d h
   where
-    by : ((eqb m.vehicle v ≡ true) × (m.vehicle ≡ v)) ⊎ ((eqb m.vehicle v ≡ false) × (m.vehicle ≢ v))
+    by : ((eqb m.vehicle v ≡ true) × (m.vehicle ≡ v))
+        ⊎ ((eqb m.vehicle v ≡ false) × (m.vehicle ≢ v))
         → All (λ m. P m × (m.vehicle ≡ v)) (moves_of v T)
-        → All (λ m. P m × (m.vehicle ≡ v)) (cond (eqb m.vehicle v) (m ∷ moves_of v T) (moves_of v T))
+        → All (λ m. P m × (m.vehicle ≡ v)) (cond (eqb m.vehicle v) (m ∷ moves_of v T)
+        (moves_of v T))
     by (inl (t, same)) ih = rw t (λ i d h. first i d h)
       where
         first : All (λ m. P m × (m.vehicle ≡ v)) (m ∷ moves_of v T)
@@ -179,7 +182,8 @@ next_later p sound t v i a b e f =
     let on = onto a.target entry in
     later (a.target) (on.0) (on.1) (next_lasts p t v i a b e f)
   where
-    later : (x : Target) (l : ℕ) → x ≡ Onto l → Lasts p (record a { target = x }) b → a.step < b.step
+    later : (x : Target) (l : ℕ) → x ≡ Onto l → Lasts p (record a { target = x }) b
+        → a.step < b.step
     later x l q lasts =
         let k = subst (λ y. Lasts p (record a { target = y }) b) q lasts in
         let free = (steady_of p sound).free l in
@@ -219,7 +223,8 @@ once_then step (x ∷ L) h =
         ≡ one_if (nat_eq x.step step) + count_by (λ m. nat_eq m.step step) L
     more = count-more (λ m. nat_eq m.step step) x L
 
-    by : ((eqb x.step step ≡ true) × (x.step ≡ step)) ⊎ ((eqb x.step step ≡ false) × (x.step ≢ step))
+    by : ((eqb x.step step ≡ true) × (x.step ≡ step))
+        ⊎ ((eqb x.step step ≡ false) × (x.step ≢ step))
         → count_by (λ m. nat_eq m.step step) L ≤ 1
         → count_by (λ m. nat_eq m.step step) (x ∷ L) ≤ 1
     by (inl (t, same)) rest =
@@ -237,7 +242,8 @@ own_count : (q : Move → Bool) (v : ℕ) (T : List Move)
     → count_by (λ m. is_of v m && q m) T ≡ count_by q (moves_of v T)
 unfolding moves_of
 own_count q v [] = refl
-own_count q v (m ∷ T) = by (eqb m.vehicle v) (own_count q v T) (count-more (λ x. is_of v x && q x) m T)
+own_count q v (m ∷ T) =
+    by (eqb m.vehicle v) (own_count q v T) (count-more (λ x. is_of v x && q x) m T)
   where
     by : (b : Bool) → count_by (λ x. is_of v x && q x) T ≡ count_by q (moves_of v T)
         → count_by (λ x. is_of v x && q x) (m ∷ T)

@@ -76,9 +76,11 @@ past (x ∷ xs) (suc i) e = let k = past xs i e in omega (arith, k)
 module _ (p : Plan) (sound : IsSound p) (v arrival : ℕ) (trip : Trip) (route : List LinkNo)
     (journey : Journey) (t : slice_get p.trips v ≡ Some trip)
     (r : slice_get p.routes v ≡ Some (Some route))
-    (there : slice_get (journeys_of p) v ≡ Some journey) (out : journey.arrival ≡ Some arrival) where
+    (there : slice_get (journeys_of p) v ≡ Some journey)
+    (out : journey.arrival ≡ Some arrival) where
   gone : HasGone p v route journey.entries journey.arrival
-  gone = gone_by p sound v (journeys_of p) route route journey journey.entries r refl refl there refl
+  gone =
+      gone_by p sound v (journeys_of p) route route journey journey.entries r refl refl there refl
 
   pub departs : departure_of p v ≡ trip.departure
   unfolding departure_of

@@ -40,7 +40,8 @@ use Rattle.dta_model.proofs.Fuel.{All-flat, last_in, no_move_is_left}
 use Rattle.dta_model.proofs.Journeys.{routes_are_followed, steps_below, steps_rise}
 use Rattle.dta_model.proofs.NoMoves.{no-moves}
 use Rattle.dta_model.proofs.Onward.{onto_one}
-use Rattle.dta_model.proofs.Pushes.{has_moved-append, last_move-still, moves_made_is, moves_of-append}
+use Rattle.dta_model.proofs.Pushes.{has_moved-append, last_move-still, moves_made_is}
+use Rattle.dta_model.proofs.Pushes.{moves_of-append}
 use Rattle.dta_model.proofs.Riders.{last_move_is}
 use Rattle.dta_model.proofs.Standing.{in-queue}
 use Rattle.dta_model.proofs.Steady.{all_at, some_trip, steady_of}
@@ -149,7 +150,8 @@ still_in v f (suc count) from n low high h =
   where
     parts : (has_moved v (f from) ≡ false)
         × (has_moved v (flat_map f (range_with_len (from + 1) count)) ≡ false)
-    parts = or_parts (has_moved v (f from)) (has_moved v (flat_map f (range_with_len (from + 1) count)))
+    parts = or_parts (has_moved v (f from))
+        (has_moved v (flat_map f (range_with_len (from + 1) count)))
         (sym (has_moved-append v (f from) (flat_map f (range_with_len (from + 1) count))) ∙ h)
 
     by : ((eqb from n ≡ true) × (from ≡ n)) ⊎ ((eqb from n ≡ false) × (from ≢ n))
@@ -385,7 +387,8 @@ module _ (p : Plan) (sound : IsSound p) (wait : ℕ → ℕ) (binds : NothingBin
 
     -- who is ready may go
     goes : (w l : ℕ) (f : Move) → last_move w (trace_after p t) ≡ Some f → f.target ≡ Onto l
-        → has_moved w here ≡ false → f.step + (link_at p l).free + wait l ≤ t → l < length p.net.links
+        → has_moved w here ≡ false → f.step + (link_at p l).free + wait l ≤ t
+        → l < length p.net.links
         → may_move p n t (trace_after p t) here l (f.step + (link_at p l).free)
         (next_target p (trace_after p t ++ here) w) ≡ true
     unfolding next_target may_move
@@ -440,9 +443,11 @@ module _ (p : Plan) (sound : IsSound p) (wait : ℕ → ℕ) (binds : NothingBin
     none_left =
         let T = trace_after p t in
         let parts = either_none (first_of (head_move p n t T here) (in_order p n t T))
-        (first_of (admission p n t T here) (network.outs p.net n)) (no_move_is_left p sound n t) in (
+        (first_of (admission p n t T here) (network.outs p.net n))
+        (no_move_is_left p sound n t) in (
           turned_back (λ l. head_move p n t T here l ≡ None) (t % length (network.ins p.net n))
-              (network.ins p.net n) (none_first (head_move p n t T here) (in_order p n t T) (parts.0)),
+              (network.ins p.net n) (none_first (head_move p n t T here) (in_order p n t T)
+              (parts.0)),
           none_first (admission p n t T here) (network.outs p.net n) (parts.1),
         )
 
@@ -465,7 +470,8 @@ module _ (p : Plan) (sound : IsSound p) (wait : ℕ → ℕ) (binds : NothingBin
     rising : Rise (trace_after p t ++ here)
     rising =
         rise_append t (trace_after p t) here
-        (rise_of (trace_after p t) [] (trace_after p t) (λ A B a e. (steps_rise p t A B a e).1) refl)
+        (rise_of (trace_after p t) [] (trace_after p t)
+        (λ A B a e. (steps_rise p t A B a e).1) refl)
         (steps_below p t) (node_now p n t (trace_after p t))
 
     -- so nobody who is ready is left on a link that ends here
@@ -545,7 +551,8 @@ module _ (p : Plan) (sound : IsSound p) (wait : ℕ → ℕ) (binds : NothingBin
       by : (has_moved v (moves_in p t) ≡ true) ⊎ (has_moved v (moves_in p t) ≡ false)
           → suc t ≤ e.step + (link_at p l).free + wait l
       by (inl moved) =
-          let x = last_in (λ m. m.step ≡ t) v (moves_in p t) (trace_after p t) (moves_now p t) moved in
+          let x = last_in (λ m. m.step ≡ t) v (moves_in p t) (trace_after p t)
+          (moves_now p t) moved in
           let same : x.0 ≡ e = some_move (x.0) e (sym (x.1) ∙ last) in
           let step : (x.0).step ≡ e.step = ap (λ m. m.step) same in
           let is = x.2 in
@@ -589,7 +596,8 @@ module _ (p : Plan) (sound : IsSound p) (wait : ℕ → ℕ) (binds : NothingBin
           (sym (has_moved-append v (trace_after p t) (moves_in p t)) ∙ still) in
           let quiet = still_at v (link_at p b).from.0 n parts.1 in
           absurd (nobody_waits (link_at p b).from.0 n v b h refl below first
-          (has_moved-append v (trace_after p t) (node_moves p (link_at p b).from.0 t (trace_after p t))
+          (has_moved-append v (trace_after p t) (node_moves p (link_at p b).from.0 t
+          (trace_after p t))
           ∙ rw (parts.0, quiet) refl) due)
 
 pub on_time : (p : Plan) → IsSound p → (wait : ℕ → ℕ) → NothingBinds p wait → (t : ℕ)

@@ -40,8 +40,8 @@ MovesOnceInAStep =
     (p : Plan) → IsSound p → (t v step : ℕ)
     → count_by (λ m. is_of v m && nat_eq m.step step) (trace_after p t) ≤ 1
 
--- a trip that arrives in a step has taken the free-flow time of its route at least, and so the least
--- free-flow time between its zones
+-- a trip that arrives in a step has taken the free-flow time of its route at least, and so the
+-- least free-flow time between its zones
 pub record IsNoFaster (p : Plan) (trip : Trip) (route : List LinkNo) (arrival : ℕ) : Type 0 where
   pub by_route : trip.departure + walk_time (free_flow p) p.net trip.departure (link_numbers route)
       ≤ arrival
@@ -57,8 +57,8 @@ TripsAreNoFaster =
     → IsNoFaster p trip route arrival
 
 -- ---- where nothing binds
--- the moves of a step, and how many of them enter a link, leave it, and take the turn from a link to
--- another
+-- the moves of a step, and how many of them enter a link, leave it, and take the turn from a link
+-- to another
 abbrev pub moves_in : Plan → ℕ → List Move
 moves_in p t = step_moves p t (trace_after p t) (all_nodes p)
 
@@ -73,15 +73,17 @@ turns_in p t a b =
     count_by (λ m. leads_to b m && stands_on a (trace_after p t) m.vehicle) (moves_in p t)
 
 -- nothing binds in a loading: queues are points; in each step fewer vehicles enter a link, leave it
--- and take a limited turn than it allows; and all routes leave a link with one penalty, here `wait`.
--- With several penalties the head of a link could hold up those behind it, who turn elsewhere
+-- and take a limited turn than it allows; and all routes leave a link with one penalty, here
+-- `wait`. With several penalties the head of a link could hold up those behind it, who turn
+-- elsewhere
 pub record NothingBinds (p : Plan) (wait : ℕ → ℕ) : Type 0 where
   pub points : p.queue ≡ queue.Point
   pub entries : (t l : ℕ) → t < p.horizon → l < length p.net.links
       → entries_in p t l < link_allowance p l t
   pub leavings : (t l : ℕ) → t < p.horizon → l < length p.net.links
       → leavings_in p t l < link_allowance p l t
-  pub turns : (t a b : ℕ) → t < p.horizon → has_pass p (turn_rates p a b) t (turns_in p t a b) ≡ true
+  pub turns : (t a b : ℕ) → t < p.horizon
+      → has_pass p (turn_rates p a b) t (turns_in p t a b) ≡ true
   pub penalties : (v i l : ℕ) → slice_get (route_of p v) i ≡ Some l
       → penalty_to p l (target_at (slice_get (route_of p v) (suc i))) ≡ wait l
 
@@ -103,8 +105,8 @@ TripsAreAtFreeFlow =
     → slice_get p.trips v ≡ Some trip → slice_get p.routes v ≡ Some (Some route)
     → slice_get (journeys_of p) v ≡ Some journey → IsAtFreeFlow p trip route journey
 
--- and where turns cost nothing each link time is the free-flow time. With a penalty the visit of one
--- who waits for it at the horizon counts longer
+-- and where turns cost nothing each link time is the free-flow time. With a penalty the visit of
+-- one who waits for it at the horizon counts longer
 abbrev pub TimesAreFree : Type 0
 TimesAreFree =
     (p : Plan) → IsSound p → NothingBinds p (λ l. 0)
