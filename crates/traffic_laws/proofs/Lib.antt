@@ -8,3 +8,4 @@ pub mod OnTime
 pub mod ExactMoves
 pub mod FreeLinks
 pub mod FreeTrips
+pub mod OneVehicle

@@ -1,3 +1,4 @@
 pub mod Equilibrium
 pub mod Buckets
 pub mod FreeFlow
+pub mod WideLinks

@@ -1,5 +1,7 @@
 // Laws of free flow. Each is the contract of a function that does nothing.
-ghost use Rattle.traffic_laws.specs.FreeFlow.{MovesOnceInAStep, NobodyIsEarly};
+ghost use Rattle.dta_model.specs.Sound.{IsSound};
+ghost use Rattle.traffic_laws.specs.WideLinks.{one_vehicle};
+ghost use Rattle.traffic_laws.specs.FreeFlow.{MovesOnceInAStep, NobodyIsEarly, NothingBinds};
 ghost use Rattle.traffic_laws.specs.FreeFlow.{TimesAreFree, TripsAreAtFreeFlow, TripsAreNoFaster};
 ghost use Rattle.traffic_laws.specs.FreeFlow.{VisitsAreNoFaster};
 
@@ -33,4 +35,10 @@ pub fn trips_take_free_flow_where_nothing_binds()
 /// Where nothing binds, and turns cost nothing, each link time is the free-flow time.
 pub fn links_take_free_flow_where_nothing_binds()
     ensures { TimesAreFree }
+{}
+
+/// All this can be met: nothing binds in a sound loading of one vehicle on two links.
+pub fn nothing_binds_on_wide_links()
+    ensures sound { IsSound one_vehicle }
+    ensures free { NothingBinds one_vehicle (λ l. 0) }
 {}

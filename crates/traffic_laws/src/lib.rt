@@ -16,5 +16,5 @@ pub use equilibrium::{no_gap_means_user_equilibrium, the_gap_is_never_negative};
 pub use free_flow::{
     links_take_free_flow_where_nothing_binds, no_trip_is_faster_than_free_flow,
     no_visit_is_faster_than_free_flow, nobody_departs_early, nobody_moves_twice_in_a_step,
-    trips_take_free_flow_where_nothing_binds,
+    nothing_binds_on_wide_links, trips_take_free_flow_where_nothing_binds,
 };
