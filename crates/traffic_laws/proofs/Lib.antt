@@ -4,3 +4,14 @@ pub mod WithinRates
 pub mod Storing
 pub mod Holding
 pub mod Telling
+pub mod GapFacts
+pub mod BucketTimes
+pub mod Arriving
+pub mod Flows
+pub mod Journeying
+pub mod NoFaster
+pub mod OnTime
+pub mod ExactMoves
+pub mod FreeLinks
+pub mod FreeTrips
+pub mod OneVehicle

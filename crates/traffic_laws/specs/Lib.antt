@@ -3,3 +3,7 @@ pub mod Storage
 pub mod Waiting
 pub mod Examples
 pub mod Told
+pub mod Equilibrium
+pub mod Buckets
+pub mod FreeFlow
+pub mod WideLinks

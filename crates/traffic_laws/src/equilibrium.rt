@@ -1,0 +1,14 @@
+// Laws of the gap. Each is the contract of a function that does nothing.
+ghost use Rattle.traffic_laws.specs.Equilibrium.{GapIsNeverNegative, NoGapIsEquilibrium};
+
+/// The gap is never negative: the routes of an iteration take no less than the least times, one by
+/// one and in all.
+pub fn the_gap_is_never_negative()
+    ensures { GapIsNeverNegative }
+{}
+
+/// The gap is 0 exactly in a user equilibrium, by Wardrop's first principle: no vehicle that has a
+/// route would take less time on another one, in the same table of link times.
+pub fn no_gap_means_user_equilibrium()
+    ensures { NoGapIsEquilibrium }
+{}
