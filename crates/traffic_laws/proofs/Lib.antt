@@ -15,3 +15,4 @@ pub mod ExactMoves
 pub mod FreeLinks
 pub mod FreeTrips
 pub mod OneVehicle
+pub mod Skimming

@@ -7,3 +7,4 @@ pub mod Equilibrium
 pub mod Buckets
 pub mod FreeFlow
 pub mod WideLinks
+pub mod LeastTimes
