@@ -69,7 +69,7 @@ module _ (me : Me Part View) (left : ℕ) (own : Place) (a b : ℕ) (is : IsPass
       let made : IsPass (having_open me.0 n, m.1) left (record { stage = hold.Open a stop b; next = a; phase = own.phase }) = record {
         slots = slots ∙ ap (λ (v : View). carried me.0.scope v.stage v.at) e;
         inside = subst (λ s. IsInside me.0.scope.plan s (first_in me.0.stage)) (sym open_is) (subst (λ at. IsInside me.0.scope.plan (hold.Open a stop b) at) (sym first)
-        (omega arith, some_open, omega (arith, to, ap (λ (x : Phase). x.end) held_phase), omega (arith, to), held_inside.1));
+            (omega arith, some_open, omega (arith, to, ap (λ (x : Phase). x.end) held_phase), omega (arith, to), held_inside.1));
         weight = is.weight;
         spare = is.spare;
         place = record {

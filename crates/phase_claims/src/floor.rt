@@ -16,7 +16,9 @@ ghost use Rattle.phase_claims.specs.Views.{less_spare, open_end, rights};
 use crate::part::Part;
 use crate::pass::{Pass, Place};
 use crate::receipt::{Early, Receipt};
-use crate::rule::{Bound, Claiming, Cut, Draw, Finish, Glue, Key, Look, PassSeat, SharedTable, Turn};
+use crate::rule::{
+    Bound, Claiming, Cut, Draw, Finish, Glue, Key, Look, PassSeat, SharedTable, Turn,
+};
 use crate::start::parts_at_start;
 use crate::unit::{Chunk, Open, Unit};
 use crate::view::{Hold, View};
@@ -409,7 +411,11 @@ impl<'a> Floor<'a> {
         ensures table { result.table ≡ a.table }
         ensures view { result.view ≡ joined a.view b.view }
     {
-        let Pass { mut seat, spare, .. } = a;
+        let Pass {
+            mut seat,
+            spare,
+            ..
+        } = a;
         let Pass {
             seat: other,
             spare: more,
