@@ -1,6 +1,6 @@
 -- A skim is of least times, and a route is a walk.
 use Rattle.std.specs.Prelude.{IsSomeAnd, MatchOption, slice_get}
-use Rattle.std.proofs.Common.{◌≡◌, ◌≤◌, ℕ, List, Option, Some, None, refl, subst, sym, ◌∙◌}
+use Rattle.std.proofs.Common.{◌≡◌, ℕ, List, Option, Some, None, refl, subst, sym, ◌∙◌}
 use Rattle.std.proofs.lemmas.Slice.Zip.{AllZip-right}
 use Rattle.net_core.specs.Network.{zones}
 use Rattle.net_core.specs.declared.rows.LinkNo.{LinkNo}
