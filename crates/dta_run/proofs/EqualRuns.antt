@@ -1,5 +1,6 @@
 -- Two runs over equal words and equal tables write equal texts.
-use Rattle.std.proofs.Common.{◌≡◌, ℕ, zero, suc, Bool, true, false, not, cond, List, [], ◌∷◌, refl, sym, ap, ◌∙◌}
+use Rattle.std.proofs.Common.{◌≡◌, ℕ, zero, suc, Bool, true, false, not, cond, List, [], ◌∷◌, inl, inr}
+use Rattle.std.proofs.Common.{refl, sym, ap, ◌∙◌}
 use Rattle.std.specs.Prelude.{Option, None, Some, get_or}
 use Rattle.std.specs.Io.KnownBytes.{append_known}
 use Rattle.desk_io.specs.Desk.{Taken, changed_at, grown, output_number, taken_of}
@@ -23,7 +24,7 @@ use Rattle.dta_run.specs.Laws.{EqualRunsWriteEqualTexts, IsDoneOver}
 use Rattle.dta_run.specs.Outcome.{Answers}
 
 -- one element of a list, where another one may have been changed
-pick : ℕ → ℕ → (Option (List ℕ) → Option (List ℕ)) → Option (List ℕ) → Option (List ℕ)
+abbrev pick : ℕ → ℕ → (Option (List ℕ) → Option (List ℕ)) → Option (List ℕ) → Option (List ℕ)
 pick zero zero f v = f v
 pick zero (suc n) f v = v
 pick (suc m) zero f v = v
@@ -51,40 +52,52 @@ grown_same to o text x y e =
     ∙ sym (at_changed (λ known. append_known known text) refl (output_number to) (output_number o) y)
 
 -- a watch line changes no other output
-not_watch : (o : Output) → is_watch o ≡ false → (f : Option (List ℕ) → Option (List ℕ)) (v : Option (List ℕ)) → pick 4 (output_number o) f v ≡ v
-not_watch output.Agent no f v = refl
-not_watch output.LinkTime no f v = refl
-not_watch output.Gap no f v = refl
-not_watch output.Report no f v = refl
-not_watch output.Watch no f v = absurd (cc)
-not_watch output.Skim no f v = refl
-not_watch output.Counts no f v = refl
-not_watch output.Sweep no f v = refl
+not_watch : (o : Output) → is_watch o ≡ false → (f : Option (List ℕ) → Option (List ℕ))
+    (v : Option (List ℕ)) → pick 4 (output_number o) f v ≡ v
+not_watch output.Agent kept f v = refl
+not_watch output.LinkTime kept f v = refl
+not_watch output.Gap kept f v = refl
+not_watch output.Report kept f v = refl
+not_watch output.Watch kept f v = absurd (cc)
+not_watch output.Skim kept f v = refl
+not_watch output.Counts kept f v = refl
+not_watch output.Sweep kept f v = refl
 
-watch_else : (to o : Output) (text : List ℕ) (x : Taken) → is_watch to ≡ true → is_watch o ≡ false → taken_of o (grown to text x) ≡ taken_of o x
+watch_else : (to o : Output) (text : List ℕ) (x : Taken) → is_watch to ≡ true → is_watch o ≡ false
+    → taken_of o (grown to text x) ≡ taken_of o x
 unfolding grown
-watch_else output.Watch o text x yes no =
-    at_changed (λ known. append_known known text) refl 4 (output_number o) x ∙ not_watch o no (λ known. append_known known text) (taken_of o x)
-watch_else output.Agent o text x yes no = absurd (cc)
-watch_else output.LinkTime o text x yes no = absurd (cc)
-watch_else output.Gap o text x yes no = absurd (cc)
-watch_else output.Report o text x yes no = absurd (cc)
-watch_else output.Skim o text x yes no = absurd (cc)
-watch_else output.Counts o text x yes no = absurd (cc)
-watch_else output.Sweep o text x yes no = absurd (cc)
+watch_else output.Watch o text x is kept =
+    at_changed (λ known. append_known known text) refl 4 (output_number o) x
+    ∙ not_watch o kept (λ known. append_known known text) (taken_of o x)
+watch_else output.Agent o text x is kept = absurd (cc)
+watch_else output.LinkTime o text x is kept = absurd (cc)
+watch_else output.Gap o text x is kept = absurd (cc)
+watch_else output.Report o text x is kept = absurd (cc)
+watch_else output.Skim o text x is kept = absurd (cc)
+watch_else output.Counts o text x is kept = absurd (cc)
+watch_else output.Sweep o text x is kept = absurd (cc)
 
 -- so the texts but those for Watch tell what the others have taken
-skips : (texts : List OutText) (o : Output) (x y : Taken) → is_watch o ≡ false → taken_of o x ≡ taken_of o y → taken_of o (grown_by texts x) ≡ taken_of o (grown_by (but_watch texts) y)
-skips [] o x y no e = e
-skips (t ∷ texts) o x y no e = by (is_watch t.to) refl
-  where
-    by : (b : Bool) → is_watch t.to ≡ b → taken_of o (grown_by texts (grown t.to t.text x)) ≡ taken_of o (grown_by (cond (not (is_watch t.to)) (t ∷ but_watch texts) (but_watch texts)) y)
-    by true w =
-        skips texts o (grown t.to t.text x) y no (watch_else t.to o t.text x w no ∙ e)
-        ∙ ap (λ b. taken_of o (grown_by (cond (not b) (t ∷ but_watch texts) (but_watch texts)) y)) (sym w)
-    by false w =
-        skips texts o (grown t.to t.text x) (grown t.to t.text y) no (grown_same t.to o t.text x y e)
-        ∙ ap (λ b. taken_of o (grown_by (cond (not b) (t ∷ but_watch texts) (but_watch texts)) y)) (sym w)
+one_skipped : (t : OutText) (texts : List OutText) (o : Output) (x y : Taken) → is_watch o ≡ false
+    → taken_of o x ≡ taken_of o y
+    → ((x' y' : Taken) → taken_of o x' ≡ taken_of o y'
+    → taken_of o (grown_by texts x') ≡ taken_of o (grown_by (but_watch texts) y'))
+    → (b : Bool) → is_watch t.to ≡ b
+    → taken_of o (grown_by texts (grown t.to t.text x))
+    ≡ taken_of o (grown_by (cond (not (is_watch t.to)) (t ∷ but_watch texts) (but_watch texts)) y)
+one_skipped t texts o x y kept e more true w =
+    more (grown t.to t.text x) y (watch_else t.to o t.text x w kept ∙ e)
+    ∙ ap (λ b. taken_of o (grown_by (cond (not b) (t ∷ but_watch texts) (but_watch texts)) y)) (sym w)
+one_skipped t texts o x y kept e more false w =
+    more (grown t.to t.text x) (grown t.to t.text y) (grown_same t.to o t.text x y e)
+    ∙ ap (λ b. taken_of o (grown_by (cond (not b) (t ∷ but_watch texts) (but_watch texts)) y)) (sym w)
+
+skips : (texts : List OutText) (o : Output) (x y : Taken) → is_watch o ≡ false
+    → taken_of o x ≡ taken_of o y
+    → taken_of o (grown_by texts x) ≡ taken_of o (grown_by (but_watch texts) y)
+skips [] o x y kept e = e
+skips (t ∷ texts) o x y kept e =
+    one_skipped t texts o x y kept e (λ x' y' e'. skips texts o x' y' kept e') (is_watch t.to) refl
 
 -- what a run that ended with Done wrote
 Wrote : Verdict → DeskState → DeskState → Type 0
@@ -102,24 +115,39 @@ not_refused (refusal.Vehicles l t) e = cc
 not_refused (refusal.SkimPairs n) e = cc
 not_refused (refusal.SweepCells l s) e = cc
 
-wrote : (words : List (List ℕ)) (v : Verdict) (before after : DeskState) → Answers (settings_of words) v status.Done before after → Wrote v before after
-wrote words (Refused r) before after (inl a) = not_refused r a.0
-wrote words (Refused r) before after (inr (inl h)) = cc
-wrote words (Refused r) before after (inr (inr m)) = cc
-wrote words (Accepted s job) before after (inl (inl d)) = d.2
-wrote words (Accepted s job) before after (inl (inr (inl w))) = absurd (cc)
-wrote words (Accepted s job) before after (inl (inr (inr d))) = absurd (cc)
-wrote words (Accepted s job) before after (inr (inl h)) = absurd (cc)
-wrote words (Accepted s job) before after (inr (inr m)) = absurd (cc)
+not_read : status.Done ≡ status.ReadFault → ⊥
+not_read e = cc
 
-both_wrote : OneListOfTexts → (v : Verdict) (before after before' after' : DeskState) → Wrote v before after → Wrote v before' after' → before.taken ≡ before'.taken
+not_memory : status.Done ≡ status.Memory → ⊥
+not_memory e = cc
+
+not_unwritten : status.Done ≡ status.WriteFault → ⊥
+not_unwritten e = cc
+
+not_different : status.Done ≡ status.Differs → ⊥
+not_different e = cc
+
+wrote : (words : List (List ℕ)) (v : Verdict) (before after : DeskState)
+    → Answers (settings_of words) v status.Done before after → Wrote v before after
+wrote words (Refused r) before after (inl a) = not_refused r a.0
+wrote words (Refused r) before after (inr (inl h)) = not_read h.0
+wrote words (Refused r) before after (inr (inr m)) = not_memory m
+wrote words (Accepted s job) before after (inl (inl d)) = d.2
+wrote words (Accepted s job) before after (inl (inr (inl w))) = absurd (not_unwritten w.0)
+wrote words (Accepted s job) before after (inl (inr (inr d))) = absurd (not_different d.0)
+wrote words (Accepted s job) before after (inr (inl h)) = absurd (not_read h.0)
+wrote words (Accepted s job) before after (inr (inr m)) = absurd (not_memory m)
+
+both_wrote : OneListOfTexts → (v : Verdict) (before after before' after' : DeskState)
+    → Wrote v before after → Wrote v before' after' → before.taken ≡ before'.taken
     → (o : Output) → is_watch o ≡ false → taken_of o after.taken ≡ taken_of o after'.taken
-both_wrote one (Refused r) before after before' after' a b same o no = absurd a
-both_wrote one (Accepted s job) before after before' after' a b same o no =
+both_wrote one (Refused r) before after before' after' a b same o kept = absurd a
+both_wrote one (Accepted s job) before after before' after' a b same o kept =
     ap (taken_of o) a.2
-    ∙ skips a.0 o before.taken before.taken no refl
-    ∙ ap (λ ts. taken_of o (grown_by ts before.taken)) (one.determined s job a.0 b.0 a.1 b.1).but_watch_lines
-    ∙ sym (skips b.0 o before'.taken before.taken no (ap (taken_of o) (sym same)))
+    ∙ skips a.0 o before.taken before.taken kept refl
+    ∙ ap (λ ts. taken_of o (grown_by ts before.taken))
+    (one.determined s job a.0 b.0 a.1 b.1).but_watch_lines
+    ∙ sym (skips b.0 o before'.taken before.taken kept (ap (taken_of o) (sym same)))
     ∙ ap (taken_of o) (sym b.2)
 
 pub equal_runs : EqualRunsWriteEqualTexts
