@@ -100,7 +100,7 @@ skips (t ∷ texts) o x y kept e =
     one_skipped t texts o x y kept e (λ x' y' e'. skips texts o x' y' kept e') (is_watch t.to) refl
 
 -- what a run that ended with Done wrote
-Wrote : Verdict → DeskState → DeskState → Type 0
+abbrev Wrote : Verdict → DeskState → DeskState → Type 0
 Wrote (Refused r) before after = ⊥
 Wrote (Accepted s job) before after =
     (texts : List OutText) × AreTexts s.command s job texts × (after.taken ≡ grown_by texts before.taken)
