@@ -370,7 +370,8 @@ const Page = (() => {
         find('all').addEventListener('click', showWhole);
         new FindField(find('find'), find('found'), {find: findIt, vehicle: findVehicle});
         new ResizeObserver(() => {
-            document.body.style.setProperty('--bar', `${find('bar').offsetHeight}px`);
+            document.documentElement.style.setProperty(
+                '--bar', `${find('bar').offsetHeight}px`);
         }).observe(find('bar'));
         find('vehicles').addEventListener('change', askDraw);
         find('clock').addEventListener('change', clockChanged);
