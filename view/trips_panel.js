@@ -120,7 +120,9 @@ class TripsPanel {
         const all = routes.reduce((sum, {count}) => sum + count, 0);
         const least = TripsPanel.leastTimes(run, from, to);
         if (all === 0) {
-            this.put(null, `No vehicle has a route from zone ${from} to zone ${to}.${least}`);
+            const none = run.agents === null ? 'There is no agent.csv, and so no route.' :
+                `No vehicle has a route from zone ${from} to zone ${to}.`;
+            this.put(null, none + least);
             return;
         }
         const rows = routes.map(({links, count, ended, steps}) => [
