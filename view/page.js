@@ -3,7 +3,7 @@
 const Page = (() => {
     const find = (name) => document.getElementById(name);
     let runs = [], maps = [], measure = Measures.list[0], scale = null;
-    let selected = null, node = null;
+    let selected = null, node = null, newCard = '';
     let isDrawAsked = false, pictures = 0, tick = 6, checking = 0;
     let foundNodes = new Map();
 
@@ -63,12 +63,24 @@ const Page = (() => {
         legend.update(maps);
         panel.show(view(), runs);
         nodePanel.show(node, runs);
+        bringNewCard();
         rankings.update(runs);
         Curves.markTime(seconds());
         find('time').textContent = timeWords();
         find('print-words').textContent = `${timeWords()}. ${find('units-words').textContent}.`;
         pictures += 1;
         document.body.dataset.pictures = pictures;
+    }
+
+    // What was picked is brought into sight in its column, beside the map that stays. Where the map
+    // would go from sight by it, nothing is scrolled.
+    function bringNewCard() {
+        const card = newCard === '' ? null : find(newCard);
+        newCard = '';
+        if (card === null || card.hidden || !matchMedia('(min-width: 1100px)').matches) return;
+        const {top} = card.getBoundingClientRect(), isOne = runs.length === 1;
+        if (isOne && (top < find('bar').offsetHeight || top > innerHeight - 200))
+            card.scrollIntoView({block: 'start'});
     }
 
     function timeWords() {
@@ -204,12 +216,14 @@ const Page = (() => {
 
     function pick(name) {
         selected = name;
+        if (name !== null) newCard = 'link';
         askDraw();
     }
 
     // A node has a ring on each map that has it, and its turns beside the map.
     function pickNode(name) {
         node = name;
+        if (name !== null) newCard = 'node';
         foundNodes = new Map();
         for (const {run} of maps) {
             const place = run.nodes.names.indexOf(name);
@@ -225,7 +239,7 @@ const Page = (() => {
 
     function showAtTop(name) {
         show(name);
-        find('bar').scrollIntoView({block: 'start'});
+        find('stage').scrollIntoView({block: 'start'});
     }
 
     // Picks a link and moves the maps so that it is in sight.
@@ -370,7 +384,8 @@ const Page = (() => {
         find('all').addEventListener('click', showWhole);
         new FindField(find('find'), find('found'), {find: findIt, vehicle: findVehicle});
         new ResizeObserver(() => {
-            document.body.style.setProperty('--bar', `${find('bar').offsetHeight}px`);
+            document.documentElement.style.setProperty(
+                '--bar', `${find('bar').offsetHeight}px`);
         }).observe(find('bar'));
         find('vehicles').addEventListener('change', askDraw);
         find('clock').addEventListener('change', clockChanged);

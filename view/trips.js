@@ -79,6 +79,7 @@ const Trips = (() => {
 
     // The place of a vehicle by its identifier, or -1.
     function agentOf(run, name) {
+        if (run.agents === null) return -1;
         const {ids, count} = run.agents;
         if (ids !== null) return ids.map(String).indexOf(name);
         return /^\d+$/.test(name) && Number(name) < count ? Number(name) : -1;

@@ -11,7 +11,7 @@ class TripsPanel {
     }
 
     show(runs) {
-        this.runs = runs.filter((run) => run.visits !== null);
+        this.runs = runs.filter((run) => run.visits !== null || run.skim !== null);
         this.box.hidden = this.runs.length === 0;
         const routes = () => this.showRoutes(this.chosenRun(), from.value.trim(), to.value.trim());
         const way = () => this.showVehicle(this.chosenRun(), vehicle.value.trim());
@@ -104,11 +104,25 @@ class TripsPanel {
             TripsPanel.csv(`pairs_over_${name}_${run.name}`, head, rows));
     }
 
+    // The shortest paths of a pair, by skim.csv.
+    static leastTimes(run, from, to) {
+        const starts = (run.skim || []).filter(
+            ({origin, destination}) => origin === from && destination === to);
+        if (starts.length === 0) return '';
+        const words = starts.slice(0, 8).map(
+            ({start, least}) => (least < 0 ? `none at ${run.clock(start)}` :
+                `${run.minutes(least).toFixed(1)} min at ${run.clock(start)}`));
+        return ` The shortest path by skim.csv: ${words.join(', ')}.`;
+    }
+
     showRoutes(run, from, to) {
-        const routes = Trips.routes(run, from, to);
+        const routes = run.agents === null ? [] : Trips.routes(run, from, to);
         const all = routes.reduce((sum, {count}) => sum + count, 0);
+        const least = TripsPanel.leastTimes(run, from, to);
         if (all === 0) {
-            this.put(null, `No vehicle has a route from zone ${from} to zone ${to}.`);
+            const none = run.agents === null ? 'There is no agent.csv, and so no route.' :
+                `No vehicle has a route from zone ${from} to zone ${to}.`;
+            this.put(null, none + least);
             return;
         }
         const rows = routes.map(({links, count, ended, steps}) => [
@@ -131,7 +145,7 @@ class TripsPanel {
         this.put(
             {run, parts, isSought: true}, Elements.make('h4', {}, `Zone ${from} to zone ${to}`),
             `${Totals.format(all)} vehicles on ${Totals.format(routes.length)} routes. Minutes ` +
-                'are the mean of the trips that have ended, with waiting.',
+                `are the mean of the trips that have ended, with waiting.${least}`,
             TripsPanel.list(['', ...head], shown, 1),
             TripsPanel.csv(`routes_${from}_${to}_${run.name}`, head, rows));
     }

@@ -298,6 +298,11 @@ class Test(PlannerTests, WeekTests):
         )
         page.wait_for_runs(['skims_and_counts'])
         equal(page.rows('[data-table=skim]'), [['1 → 3', '00:00', '20', '2.0']], 'the skim')
+        page.run('document.querySelector("#from-zone").value = "1"')
+        page.run('document.querySelector("#to-zone").value = "3"')
+        page.click('#routes')
+        said = 'The shortest path by skim.csv: 2.0 min at 00:00.'
+        check(said in page.text('#trips'), 'the least time of a pair')
         equal(page.rows('[data-table=turn]'), [['20', '30', '00:00 to 00:05', '7']], 'the turns')
         equal(page.rows('[data-table=through]'), [['1', '3', '00:00 to 00:06', '7']], 'the pairs')
         page.choose('#find', '20')

@@ -198,6 +198,12 @@ class WeekTests:
             'return [map.top, map.bottom, bar.bottom]'
         )
         check(bar <= top and bottom <= 900, f'the map is at {top} to {bottom}, the bar to {bar}')
+        page.click('#worst-link')
+        top, bar = page.run(
+            'return ["#link", "#bar"].map((one) => document.querySelector(one)'
+            '.getBoundingClientRect()[one === "#bar" ? "bottom" : "top"])'
+        )
+        check(bar <= top < 700, f'the picked link is at {top}, the bar ends at {bar}')
 
     def folders_and_sweeps_get_a_sentence(self):
         page, names = self.page, ['sioux_falls', 'two_routes', 'busy']
