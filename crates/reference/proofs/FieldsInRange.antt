@@ -13,13 +13,14 @@ use Rattle.fixed_units.specs.Quantity.{within as within_limit}
 use Rattle.fixed_units.specs.declared.quantity.TheConstants.{MOST_THOUSANDTHS}
 use Rattle.fixed_units.specs.declared.turn.TheConstants.{MOST_PENALTY, MOST_PENALTY_STEPS}
 use Rattle.fixed_units.specs.Units.{penalty_steps_of}
-use Rattle.row_reader.specs.Fields.{numbered, option_of, optional_quantity, quantity, quantity_or, within}
+use Rattle.row_reader.specs.Fields.{identifier, numbered, option_of, optional_quantity, quantity, quantity_or, within}
 use Rattle.fixed_units.specs.declared.fault.NumberFault.{NumberFault}
 use Rattle.row_reader.specs.declared.faults.Column.{Column}
 use Rattle.row_reader.specs.declared.faults.Complaint.{Complaint}
+use Rattle.demand.specs.DemandRows.{step_or}
 use Rattle.net_core.specs.Ids.{pair_eq}
 use Rattle.net_core.proofs.IdsFacts.{is_some-position}
-use Rattle.row_reader.proofs.Kept.{chosen, otherwise, same_Ok}
+use Rattle.row_reader.proofs.Kept.{chosen, next_ok, otherwise, same_Ok}
 
 -- ---- numbers
 
@@ -64,6 +65,21 @@ pub within-high : (what : Column) (low high n k : ℕ) → within what low high 
 within-high what low high n k e =
     let is = chosen (nat_le low n && nat_le n high) (Ok n) _ k e in
     subst (λ k. k ≤ high) (same_Ok n k is.1) (leb-true n high (and_parts _ _ is.0).1)
+
+within-low : (what : Column) (low high n k : ℕ) → within what low high n ≡ Ok k → low ≤ k
+within-low what low high n k e =
+    let is = chosen (nat_le low n && nat_le n high) (Ok n) _ k e in
+    subst (λ k. low ≤ k) (same_Ok n k is.1) (leb-true low n (and_parts _ _ is.0).0)
+
+-- a step that was read, or the one in its place, lies within the bounds
+pub step-within : (default : ℕ) (what : Column) (low high : ℕ) (text : List ℕ) (step : ℕ) → low ≤ default → default ≤ high
+    → step_or default what low high text ≡ Ok step → (low ≤ step) × (step ≤ high)
+unfolding step_or
+step-within default what low high text step least most e = elim (nat_eq (length text) 0) as (λ b. nat_eq (length text) 0 ≡ b → (low ≤ step) × (step ≤ high)) [
+  | true ↦ λ none. subst (λ k. (low ≤ k) × (k ≤ high)) (same_Ok default step (rw none at e)) (least, most)
+  | false ↦ λ some. next_ok (identifier what text) (within what low high) step (rw some at e) (λ n _ is.
+      (within-low what low high n step is, within-high what low high n step is))
+] refl
 
 -- ---- steps, vehicles and rates
 
