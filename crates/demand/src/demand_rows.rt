@@ -130,11 +130,7 @@ impl Accepted for DemandRows {
 /// with the period at the latest. A zone may be one that the network doesn't have, and each demand
 /// cell keeps its line. The columns are this project's own. The refusal is the table's first
 /// fault, or want of memory.
-pub fn read_demand(
-    alloc: Global,
-    text: &[u8],
-    period: u32,
-) -> Result<Vec<DemandCell>, TableRefusal>
+pub fn read_demand(alloc: Global, text: &[u8], period: u32) -> Result<Vec<DemandCell>, TableRefusal>
     requires lasts { 1 ≤ period }
     ensures cells { IfOk result (λ cells.
         demand_verdict period (records text.now) ≡ Ok cells.items) }

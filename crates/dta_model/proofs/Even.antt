@@ -47,11 +47,17 @@ tells_between a b d = grind (arith, nat_tests)
 tells_of : (from n w a b x : ℕ) (p : Bool) → 0 < n → from ≤ a → a ≤ b → Tells p a b (from + x / (2 * n))
     → Tells p ((a - from) * (2 * n)) ((b - from) * (2 * n)) x
 tells_of from n w a b x p some fa ab (inl t) =
-    inl (let low = t.1 in let high = t.2 in (t.0,
-    (le-div_iff_mul-le (omega (arith, some))).0 (omega (arith, low, fa)), (div-lt_iff_lt-mul (omega (arith, some))).0 (omega (arith, high, fa, ab))))
+    inl (let low = t.1 in let high = t.2 in (
+      t.0,
+      (le-div_iff_mul-le (omega (arith, some))).0 (omega (arith, low, fa)),
+      (div-lt_iff_lt-mul (omega (arith, some))).0 (omega (arith, high, fa, ab)),
+    ))
 tells_of from n w a b x p some fa ab (inr t) =
-    inr (t.0, ⊎_elim (λ below. inl ((div-lt_iff_lt-mul (omega (arith, some))).0 (omega (arith, below, fa))))
-    (λ past. inr ((le-div_iff_mul-le (omega (arith, some))).0 (omega (arith, past, fa, ab)))) t.1)
+    inr (
+      t.0,
+      ⊎_elim (λ below. inl ((div-lt_iff_lt-mul (omega (arith, some))).0 (omega (arith, below, fa))))
+          (λ past. inr ((le-div_iff_mul-le (omega (arith, some))).0 (omega (arith, past, fa, ab)))) t.1,
+    )
 
 -- from a few to the share
 share_of : (from n w a b count : ℕ) → 0 < w → from ≤ a → a ≤ b
@@ -78,7 +84,7 @@ departures_are_even cells row cell a b at some fa ab bt =
     let steps : 0 < w = omega (arith, some) in
     let f = vehicle_of_row cells row in
     let few = few_among (λ (r : Released). nat_le a r.departs && nat_lt r.departs b) f (λ j. (2 * j + 1) * w) ((a - cell.from) * (2 * n)) ((b - cell.from) * (2 * n)) (2 * w) n
-        (omega (arith, steps)) (λ j. omega arith) (λ j inside.
-        tells_of cell.from n w a b ((2 * j + 1) * w) _ (omega (arith, inside)) fa ab
-        (subst (λ d. Tells (nat_le a (f j).departs && nat_lt (f j).departs b) a b d) (departs_in (slice_get cells row) cell n j at) (tells_between a b (f j).departs))) n 0 (omega arith) in
+    (omega (arith, steps)) (λ j. omega arith) (λ j inside.
+    tells_of cell.from n w a b ((2 * j + 1) * w) _ (omega (arith, inside)) fa ab
+    (subst (λ d. Tells (nat_le a (f j).departs && nat_lt (f j).departs b) a b d) (departs_in (slice_get cells row) cell n j at) (tells_between a b (f j).departs))) n 0 (omega arith) in
     share_of cell.from n w a b (departing a b (released_by cells row)) steps fa ab (⊎_elim (λ none. inl none) (λ more. inr more.0) few)
