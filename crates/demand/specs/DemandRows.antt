@@ -50,13 +50,6 @@ abbrev pub demand_verdict : ℕ → List Record → Result (List DemandCell) Tab
 demand_verdict period records =
     verdict table.Demand MOST_DEMAND_CELLS demand_columns (demand_cell_of period) records
 
--- a demand cell that may come after these
-pub record IsNextCell (period : ℕ) (cells : List DemandCell) (cell : DemandCell) : Type 0 where
-  pub line : cell.line ≡ length cells + FIRST_LINE
-  pub volume : cell.volume ≤ MOST_THOUSANDTHS
-  pub some : cell.from < cell.to
-  pub within : cell.to ≤ period
-
 -- what is true of the demand cells of every table
 pub record AreDemandCells (period : ℕ) (cells : List DemandCell) : Type 0 where
   pub few : length cells ≤ MOST_DEMAND_CELLS
@@ -66,8 +59,3 @@ pub record AreDemandCells (period : ℕ) (cells : List DemandCell) : Type 0 wher
   pub lines : map (λ cell. cell.line) cells ≡ range_with_len FIRST_LINE (length cells)
   -- windows have a step, and end with the period at the latest
   pub windows : HaveWindows period cells
-
--- demand cells, and the steps of the period
-pub record PeriodCells : Type 0 where
-  pub period : ℕ
-  pub cells : List DemandCell

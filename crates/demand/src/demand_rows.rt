@@ -1,10 +1,10 @@
 // Demand tables.
-ghost use Rattle.std.specs.Prelude.{◌≡◌, ◌≤◌, [], Ok, Err, IfOk, IfErr};
+ghost use Rattle.std.specs.Prelude.{◌≡◌, ◌≤◌, Ok, Err, IfOk, IfErr};
 ghost use Rattle.row_reader.specs.Columns.{text};
 ghost use Rattle.row_reader.specs.FirstFault.{Tells};
 ghost use Rattle.row_reader.specs.Records.{records};
-ghost use Rattle.demand.specs.DemandRows.{AreDemandCells, IsNextCell, demand_cell_of};
-ghost use Rattle.demand.specs.DemandRows.{demand_verdict, step_or as step_or_of};
+ghost use Rattle.demand.specs.DemandRows.{AreDemandCells, demand_cell_of, demand_verdict};
+ghost use Rattle.demand.specs.DemandRows.{step_or as step_or_of};
 ghost use Rattle.demand.specs.declared.demand_rows.TheConstants.{MOST_DEMAND_CELLS};
 
 use desk_io::Table;
@@ -13,7 +13,6 @@ use row_reader::{
     Accepted, Column, Complaint, Fields, RowRefusal, TableRefusal, read_rows, within,
 };
 use std::alloc::{AllocError, Global};
-use std::marker::Model;
 
 /// The most rows of a demand table.
 pub const MOST_DEMAND_CELLS: usize = 4_000_000;
@@ -44,56 +43,22 @@ fn step_or(
     Ok(step as u32)
 }
 
-// The demand cells of a table that is being read, in its order, each with its line, and the steps
-// of the period.
+// A demand table that is being read, for a period of so many steps.
 #[derive(Drop)]
-struct DemandRows {
+struct DemandTable {
     period: u32,
     cells: Vec<DemandCell>,
+    ghost some_steps: { 1 ≤ period },
 }
 
-impl Model for DemandRows {
-    ghost use Rattle.std.specs.Prelude.{◌≤◌};
-    ghost use Rattle.demand.specs.DemandRows.{AreDemandCells, PeriodCells};
-
-    ghost Value = { PeriodCells };
-
-    ghost view = { λ a. record { period = a.period; cells = a.cells.items } };
-
-    ghost invariant = { λ a. (1 ≤ a.period) × AreDemandCells a.period a.cells.items };
-}
-
-impl DemandRows {
-    // No demand cells yet.
-    fn new(alloc: Global, period: u32) -> Self
-        requires { 1 ≤ period }
-        ensures { result ≡ record { period = period; cells = [] } }
-    {
-        DemandRows {
-            period,
-            cells: Vec::new(alloc),
-        }
-    }
-
-    // The demand cells.
-    fn into_vec(self) -> Vec<DemandCell>
-        ensures cells { result.items ≡ self.cells }
-        ensures sound { AreDemandCells self.period self.cells }
-    {
-        self.cells
-    }
-}
-
-impl Accepted for DemandRows {
+impl Accepted for DemandTable {
     type Item = DemandCell;
 
     ghost limit = { MOST_DEMAND_CELLS };
 
-    ghost rows = { λ rows. rows.cells };
+    ghost rows = { λ t. t.cells.items };
 
-    ghost checks = { λ rows. demand_cell_of rows.period };
-
-    ghost fits = { λ rows. IsNextCell rows.period rows.cells };
+    ghost checks = { λ t. demand_cell_of t.period };
 
     fn most(&self) -> usize {
         MOST_DEMAND_CELLS
@@ -116,7 +81,6 @@ impl Accepted for DemandRows {
         })
     }
 
-    #[tactic(auto, using(crate::proofs::DemandFacts::one_demand_cell_more))]
     fn push(&mut self, cell: DemandCell) -> Result<(), AllocError> {
         self.cells.push(cell)?;
         Ok(())
@@ -138,13 +102,11 @@ pub fn read_demand(alloc: Global, text: &[u8], period: u32) -> Result<Vec<Demand
         Tells (demand_verdict period (records text.now)) (Err refusal)) }
     ensures sound { IfOk result (λ cells. AreDemandCells period cells.items) }
 {
+    let table = DemandTable {
+        period,
+        cells: Vec::new(alloc),
+    };
     let required = [Column::OZoneId, Column::DZoneId, Column::Volume];
-    let rows = read_rows(
-        alloc,
-        Table::Demand,
-        &required,
-        text,
-        DemandRows::new(alloc, period),
-    )?;
-    Ok(rows.into_vec())
+    let table = read_rows(alloc, Table::Demand, &required, text, table)?;
+    Ok(table.cells)
 }

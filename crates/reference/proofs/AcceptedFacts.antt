@@ -48,7 +48,8 @@ use Rattle.jobs.proofs.TableFacts.{joined-net}
 use Rattle.reference.specs.Laws.{IsAccepted}
 use Rattle.row_reader.proofs.Kept.{next_ok, same_Ok}
 use Rattle.reference.proofs.NetTables.{are-between, are-links, are-nodes, are-turning, are-turns}
-use Rattle.reference.proofs.OtherTables.{are-cells, are-starts, are-times, no-windows}
+use Rattle.demand.proofs.DemandFacts.{are-cells, no-windows}
+use Rattle.reference.proofs.OtherTables.{are-starts, are-times}
 use Rattle.dta_words.proofs.RangeFacts.{settings_in_range}
 use Rattle.reference.proofs.SweepFacts.{trips-below}
 

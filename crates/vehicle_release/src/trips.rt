@@ -56,11 +56,7 @@ fn all_trips(alloc: Global, cells: &[DemandCell], total: usize) -> Result<Vec<Tr
 
 /// The trips of rows that make so many vehicles, row by row and not yet numbered.
 #[tactic(auto, using(crate::proofs::MadeFacts::making))]
-fn trips_by_row(
-    alloc: Global,
-    cells: &[DemandCell],
-    total: usize,
-) -> Result<Vec<Trip>, AllocError>
+fn trips_by_row(alloc: Global, cells: &[DemandCell], total: usize) -> Result<Vec<Trip>, AllocError>
     requires windows { All (λ cell. cell.from < cell.to) cells.now }
     requires total { total ≡ vehicles_before cells.now (length cells.now) }
     requires few { total ≤ MOST_TRIPS }
