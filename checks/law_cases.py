@@ -84,6 +84,14 @@ def demand_rows(r, zones):
     return rows
 
 
+def add_demand_windows(r, columns, rows, period):
+    """The steps in which the vehicles of each row depart, some of them left out."""
+    columns += ["from_step", "to_step"]
+    for row in rows:
+        first = r.randrange(period)
+        row += [r.choice(["", first]), r.choice(["", r.randint(first + 1, period)])]
+
+
 def make_case(r, queue):
     """A case with this kind of queue."""
     horizon = r.choice([40, 90, 150, 240, r.randint(20, 240)])
@@ -108,6 +116,8 @@ def make_case(r, queue):
              "bucket": r.choice([1, 5, 10, 50, horizon]), "iterations": r.choice([1, 2, 3, 5]),
              "jam": r.choice([10, 30, 60, 125]), "wave": r.choice([2, 5, 10, 20, 60]),
              "workers": r.choice([1, 2])}
+    if r.random() < .4:
+        add_demand_windows(r, *tables["demand"], words["period"])
     return Case(["assign"] + [f"--{name}={value}" for name, value in words.items()], tables)
 
 
