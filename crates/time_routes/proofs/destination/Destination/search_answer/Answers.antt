@@ -10,7 +10,7 @@ use Rattle.time_routes.specs.Destinations.{asked_least, asked_walk, asks_least, 
 use Rattle.time_routes.specs.Searches.{GoesTo}
 use Rattle.time_routes.specs.declared.destination.Destination.{Destination}
 use Rattle.time_routes.proofs.TellFacts.{apart_of, begins_at, number_is, leads, nowhere_of, right_between, right_of}
-use Rattle.time_routes.proofs.destination.Destination.answer_of.Goals as goal
+use Rattle.time_routes.proofs.destination.Destination.search_answer.Goals as goal
 
 abbrev no_trip : Trip
 no_trip = record { number = 0; origin = 0; destination = 0; departure = 0 }
