@@ -2,12 +2,14 @@
 //!
 //! A case has the words of a command line (`words.txt`), the tables that the run reads, and what
 //! it is to put (`expected/`): its status, and each output under the name of its file. An output
-//! without a file there takes nothing. The program runs each case over a desk in memory, prints
-//! `right` and its name or what is otherwise than wanted, and then how many cases are right. It
-//! ends with 1 where one isn't.
+//! without a file there takes nothing. The program runs each case over a desk in memory, and those
+//! whose names begin with `over_files` over the files of its own folder, by the call that `dta`
+//! makes: their reports go to standard output. It prints `right` and the case's name or what is
+//! otherwise than wanted, and then how many cases are right. It ends with 1 where one isn't.
 #![tactic(auto)]
 
 mod difference;
+mod files;
 mod folder;
 mod outputs;
 mod runs;
@@ -15,12 +17,12 @@ mod runs;
 mod tests;
 mod watch;
 
+use difference::{Difference, Unread};
+use files::differences_of_files;
 use folder::Folder;
 use runs::differences;
 use std::process::ExitCode;
 use std::rt::Files;
-use std::sync::Wait;
-use std::thread::Threads;
 use std::{fs, io};
 
 // The names of the cases, in order.
@@ -36,12 +38,19 @@ fn names<R: Files + AllocGlobal + Clone + Drop>(rt: &R) -> io::Result<Vec<String
     Ok(names)
 }
 
+// Runs a case, and answers what isn't as it is wanted.
+fn found_in(rt: &HostRuntime, name: &str) -> Result<Vec<Difference>, Unread> {
+    let folder = Folder::new(rt, name);
+    if name.starts_with("over_files") {
+        differences_of_files(rt, &folder)
+    } else {
+        differences(rt, &folder)
+    }
+}
+
 // Runs a case, prints how it went, and answers whether it is right.
-fn is_right<R: Files + Print + AllocGlobal + Threads + Wait + Sync>(
-    rt: &R,
-    name: &str,
-) -> io::Result<bool> {
-    let found = match differences(rt, &Folder::new(rt, name)) {
+fn is_right(rt: &HostRuntime, name: &str) -> io::Result<bool> {
+    let found = match found_in(rt, name) {
         Ok(found) => found,
         Err(unread) => {
             println!(rt; "{name}: {unread}")?;
