@@ -8,6 +8,8 @@ use std::env::Args;
 use std::fs;
 use std::os::unix::fs::symlink;
 use std::rt::Files;
+use std::sync::Wait;
+use std::thread::Threads;
 
 const TABLES: [&str; 6] = [
     "node.csv",
@@ -38,13 +40,14 @@ const UNWRITTEN: &str = "unwritten";
 
 /// What the run of a case over files gives that isn't as it is wanted. Its report goes to standard
 /// output. Tables stand as they are, and so do older texts where nothing is put.
-pub(crate) fn differences_of_files(
-    rt: &HostRuntime,
-    folder: &Folder<'_, HostRuntime>,
+pub(crate) fn differences_of_files<R: Files + AllocGlobal + Threads + Wait + Sync>(
+    rt: &R,
+    host: HostRuntime,
+    folder: &Folder<'_, R>,
 ) -> Result<Vec<Difference>, Unread> {
     lay_tables(rt, folder)?;
     lay_outputs(rt, folder)?;
-    let given = number_of(rt, arguments(rt, folder)?);
+    let given = number_of(rt, host, arguments(rt, folder)?);
     let wanted = status_wanted(folder)?;
     let mut found = Vec::new(rt.alloc());
     if given != wanted {
@@ -113,7 +116,7 @@ fn has_file<R: Files + AllocGlobal>(rt: &R, file: &str, wanted: Option<Vec<u8>>)
 }
 
 // The arguments of a case: the program's name and the words.
-fn arguments(rt: &HostRuntime, folder: &Folder<'_, HostRuntime>) -> Result<Args, Unread> {
+fn arguments<R: Files + AllocGlobal>(rt: &R, folder: &Folder<'_, R>) -> Result<Args, Unread> {
     let text = text_of_words(folder)?;
     let mut words = Vec::new(rt.alloc());
     words.push(String::from_str(rt.alloc(), "dta")?)?;
@@ -124,6 +127,10 @@ fn arguments(rt: &HostRuntime, folder: &Folder<'_, HostRuntime>) -> Result<Args,
 }
 
 // The number with which the program ends. It tells nothing more, as `status_of` of runs.rt.
-fn number_of(rt: &HostRuntime, arguments: Args) -> u8 {
-    program(rt, Ok(arguments), &mut FileDesk::here(*rt))
+fn number_of<R: AllocGlobal + Threads + Wait + Sync>(
+    rt: &R,
+    host: HostRuntime,
+    arguments: Args,
+) -> u8 {
+    program(rt, Ok(arguments), &mut FileDesk::here(host))
 }

@@ -23,6 +23,8 @@ use folder::Folder;
 use runs::differences;
 use std::process::ExitCode;
 use std::rt::Files;
+use std::sync::Wait;
+use std::thread::Threads;
 use std::{fs, io};
 
 // The names of the cases, in order.
@@ -39,18 +41,26 @@ fn names<R: Files + AllocGlobal + Clone + Drop>(rt: &R) -> io::Result<Vec<String
 }
 
 // Runs a case, and answers what isn't as it is wanted.
-fn found_in(rt: &HostRuntime, name: &str) -> Result<Vec<Difference>, Unread> {
+fn found_in<R: Files + AllocGlobal + Threads + Wait + Sync>(
+    rt: &R,
+    host: HostRuntime,
+    name: &str,
+) -> Result<Vec<Difference>, Unread> {
     let folder = Folder::new(rt, name);
     if name.starts_with("over_files") {
-        differences_of_files(rt, &folder)
+        differences_of_files(rt, host, &folder)
     } else {
         differences(rt, &folder)
     }
 }
 
 // Runs a case, prints how it went, and answers whether it is right.
-fn is_right(rt: &HostRuntime, name: &str) -> io::Result<bool> {
-    let found = match found_in(rt, name) {
+fn is_right<R: Files + Print + AllocGlobal + Threads + Wait + Sync>(
+    rt: &R,
+    host: HostRuntime,
+    name: &str,
+) -> io::Result<bool> {
+    let found = match found_in(rt, host, name) {
         Ok(found) => found,
         Err(unread) => {
             println!(rt; "{name}: {unread}")?;
@@ -70,7 +80,7 @@ fn main(rt: HostRuntime) -> io::Result<ExitCode> {
     let names = names(&rt)?;
     let mut wrong = Vec::new(rt.alloc());
     for name in &names {
-        if !is_right(&rt, name)? {
+        if !is_right(&rt, rt, name)? {
             wrong.push(name)?;
         }
     }
