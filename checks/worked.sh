@@ -8,9 +8,17 @@ cases=$(realpath "$checks/../crates/worked_runs/data")
 outputs='agent.csv link_performance.csv gap.csv skim.csv counts.csv sweep.txt'
 ran=0
 
-# has FILE WANTED: a file has these bytes, and isn't there or is empty where none are wanted.
+# has FILE WANTED: a file has these bytes. Where none are wanted it isn't there or is empty, or a
+# folder has its name.
 has() {
-    if [ -e "$2" ]; then cmp -s "$1" "$2"; else [ ! -s "$1" ]; fi
+    if [ -e "$2" ]; then cmp -s "$1" "$2"; else [ ! -s "$1" ] || [ -d "$1" ]; fi
+}
+
+# hinders CASE: lays a table that can't be opened, and an output that can't be made, where the case
+# names one.
+hinders() {
+    if [ -e "$1/unread" ]; then ln -s "$(cat "$1/unread")" "$(cat "$1/unread")"; fi
+    if [ -e "$1/unwritten" ]; then mkdir "$(cat "$1/unwritten")"; fi
 }
 
 # rises LAST: the iterations and steps of the watch lines rise, and the last line is that of a file.
@@ -32,6 +40,7 @@ for case in "$cases"/*/; do
     wrong=
     mkdir "$folder/$name" && cd "$folder/$name" || exit 2
     cp "$case"*.csv . 2>/dev/null
+    hinders "$case"
     # shellcheck disable=SC2046
     "$program" $(cat "$case/words.txt") >report 2>watch
     status=$?

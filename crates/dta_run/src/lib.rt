@@ -4,15 +4,17 @@
 //! Over any desk it answers Done only where every table that its command reads is accepted and the
 //! outputs grew by exactly the texts of the definitions, and it says what holds of each iteration.
 //! Every other answer but Memory has its cause in the contract. `run_arguments` hands it the words
-//! of a command line.
+//! of a command line, and `program` gives the number with which the program ends.
 #![tactic(auto)]
 
 mod arguments;
+mod exit_number;
 mod laws;
 mod top_call;
 
 pub use arguments::run_arguments;
 pub use commands::Status;
+pub use exit_number::program;
 pub use jobs::{TooBig, sizes};
 pub use laws::equal_runs_write_equal_texts;
 pub use loader::{CountGate, Gate, NoGate};

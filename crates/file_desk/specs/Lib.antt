@@ -3,3 +3,5 @@ pub mod Parts
 pub mod Folders
 pub mod Slots
 pub mod FileDesk
+pub mod MemFolder
+pub mod Examples

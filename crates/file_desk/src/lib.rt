@@ -10,8 +10,10 @@
 mod current_folder;
 mod file_desk;
 mod folder;
+mod mem_folder;
 mod slots;
 
 pub use current_folder::CurrentFolder;
 pub use file_desk::FileDesk;
 pub use folder::{Folder, MadeFile, OpenedFile, Stream};
+pub use mem_folder::{MemFolder, MemMade, MemOpened};

@@ -2,8 +2,8 @@
 //!
 //! No library below has tests: a crate with tests is proved twice, once with them and once
 //! without. A call that `run` makes is tried by whole runs. Here stand the tests of what no whole
-//! run shows: calls that no command makes, puts that fail in mid-stream, real files, and threads
-//! that work at the same time.
+//! run shows: calls that no command makes, puts that fail in mid-stream, and threads that work at
+//! the same time.
 //!
 //! A [`Case`] is a sound loading that is written out. A test takes one, makes its call over
 //! [`Case::loading`], and compares with the values that it expects.

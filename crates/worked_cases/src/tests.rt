@@ -1,7 +1,6 @@
 // What no whole run shows.
 mod boards;
 mod cases;
-mod files;
 mod floors;
 mod machines;
 mod puts;

@@ -8,6 +8,7 @@ use std::fmt::{Display, Formatter};
 pub(crate) enum Difference {
     Status { given: u8, wanted: u8 },
     Output(&'static str),
+    Table(&'static str),
 }
 
 /// Why a case can't be run.
@@ -22,6 +23,7 @@ impl Display for Difference {
         match self {
             Difference::Status { given, wanted } => write!(f, "status {given}, not {wanted}"),
             Difference::Output(file) => write!(f, "{file} differs"),
+            Difference::Table(file) => write!(f, "{file} is changed"),
         }
     }
 }

@@ -2,12 +2,14 @@
 //!
 //! A case has the words of a command line (`words.txt`), the tables that the run reads, and what
 //! it is to put (`expected/`): its status, and each output under the name of its file. An output
-//! without a file there takes nothing. The program runs each case over a desk in memory, prints
-//! `right` and its name or what is otherwise than wanted, and then how many cases are right. It
-//! ends with 1 where one isn't.
+//! without a file there takes nothing. The program runs each case over a desk in memory, and those
+//! whose names begin with `over_files` over the files of its own folder, by the call that `dta`
+//! makes: their reports go to standard output. It prints `right` and the case's name or what is
+//! otherwise than wanted, and then how many cases are right. It ends with 1 where one isn't.
 #![tactic(auto)]
 
 mod difference;
+mod files;
 mod folder;
 mod outputs;
 mod runs;
@@ -15,6 +17,8 @@ mod runs;
 mod tests;
 mod watch;
 
+use difference::{Difference, Unread};
+use files::differences_of_files;
 use folder::Folder;
 use runs::differences;
 use std::process::ExitCode;
@@ -36,12 +40,27 @@ fn names<R: Files + AllocGlobal + Clone + Drop>(rt: &R) -> io::Result<Vec<String
     Ok(names)
 }
 
+// Runs a case, and answers what isn't as it is wanted.
+fn found_in<R: Files + AllocGlobal + Threads + Wait + Sync>(
+    rt: &R,
+    host: HostRuntime,
+    name: &str,
+) -> Result<Vec<Difference>, Unread> {
+    let folder = Folder::new(rt, name);
+    if name.starts_with("over_files") {
+        differences_of_files(rt, host, &folder)
+    } else {
+        differences(rt, &folder)
+    }
+}
+
 // Runs a case, prints how it went, and answers whether it is right.
 fn is_right<R: Files + Print + AllocGlobal + Threads + Wait + Sync>(
     rt: &R,
+    host: HostRuntime,
     name: &str,
 ) -> io::Result<bool> {
-    let found = match differences(rt, &Folder::new(rt, name)) {
+    let found = match found_in(rt, host, name) {
         Ok(found) => found,
         Err(unread) => {
             println!(rt; "{name}: {unread}")?;
@@ -61,7 +80,7 @@ fn main(rt: HostRuntime) -> io::Result<ExitCode> {
     let names = names(&rt)?;
     let mut wrong = Vec::new(rt.alloc());
     for name in &names {
-        if !is_right(&rt, name)? {
+        if !is_right(&rt, rt, name)? {
             wrong.push(name)?;
         }
     }

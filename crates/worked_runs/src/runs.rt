@@ -31,9 +31,16 @@ pub(crate) fn differences<R: Files + AllocGlobal + Threads + Wait + Sync>(
     Ok(found)
 }
 
-// The words of a case, on one line between single blanks.
+/// The words of a case, on one line between single blanks.
+pub(crate) fn text_of_words<R: Files + AllocGlobal>(
+    folder: &Folder<'_, R>,
+) -> Result<String, Unread> {
+    folder.text(WORDS)
+}
+
+// The words of a case.
 fn words<R: Files + AllocGlobal>(rt: &R, folder: &Folder<'_, R>) -> Result<Words, Unread> {
-    let text = folder.text(WORDS)?;
+    let text = text_of_words(folder)?;
     let mut words = Words::new(rt.alloc());
     for line in text.lines() {
         for word in line.split(' ') {
@@ -55,8 +62,8 @@ fn desk<R: Files + AllocGlobal>(rt: &R, folder: &Folder<'_, R>) -> Result<MemDes
     Ok(desk)
 }
 
-// The status that is wanted.
-fn status_wanted<R: Files + AllocGlobal>(folder: &Folder<'_, R>) -> Result<u8, Unread> {
+/// The status that is wanted.
+pub(crate) fn status_wanted<R: Files + AllocGlobal>(folder: &Folder<'_, R>) -> Result<u8, Unread> {
     match folder.text(STATUS)?.trim_end().parse::<u8>() {
         Ok(status) => Ok(status),
         Err(_) => Err(Unread::File(STATUS)),

@@ -1,5 +1,5 @@
 // Runs that no folder of worked_runs can show: with a gate of their own, with reads and puts that
-// fail, with workers that are held, over files, and at limits.
+// fail, with workers that are held, and at limits.
 //
 // What a test knows of a run and of a desk stands in the proof of the test, which gets long where
 // it is much, and longer where a desk lives in a loop that may be left. So `status_of` and

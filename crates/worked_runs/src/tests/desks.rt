@@ -1,12 +1,8 @@
-// Runs over files, over a desk that moves a byte at a time, and over desks that count.
-use crate::tests::{
-    AGENTS, ASSIGN, DEMAND, GAPS, LINK_TIMES, LINKS, NODES, desk_of, has_taken_all, run_over,
-    two_links,
-};
-use desk_io::{FileDesk, Output, TallyDesk};
+// Runs over a desk that moves a byte at a time, and over desks that count.
+use crate::tests::{ASSIGN, desk_of, has_taken_all, run_over, two_links};
+use desk_io::{Output, TallyDesk};
 use dta_run::Status;
 use std::alloc::Global;
-use std::fs;
 use std::sync::Wait;
 use std::test::Fail;
 use std::thread::Threads;
@@ -19,18 +15,6 @@ fn two_links_byte_by_byte(rt: HostRuntime) -> Result<(), Fail> {
     assert!(rt; has_taken_all(&desk));
     // The tables are read to their ends.
     assert!(rt; run_over(&rt, ASSIGN, &mut desk)? == Status::Table);
-    Ok(())
-}
-
-#[test]
-fn two_links_over_files(rt: HostRuntime) -> Result<(), Fail> {
-    fs::write(&rt, "node.csv", NODES)?;
-    fs::write(&rt, "link.csv", LINKS)?;
-    fs::write(&rt, "demand.csv", DEMAND)?;
-    assert!(rt; run_over(&rt, ASSIGN, &mut FileDesk::here(rt))? == Status::Done);
-    assert!(rt; fs::read(&rt, "link_performance.csv")?.as_slice() == LINK_TIMES);
-    assert!(rt; fs::read(&rt, "agent.csv")?.as_slice() == AGENTS);
-    assert!(rt; fs::read(&rt, "gap.csv")?.as_slice() == GAPS);
     Ok(())
 }
 
