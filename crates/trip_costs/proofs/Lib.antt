@@ -1,0 +1,4 @@
+pub mod Rising
+pub mod Later
+pub mod Rounds
+pub mod Agreeing

@@ -1,0 +1,7 @@
+pub mod Greatest
+pub mod OriginWaits
+pub mod TripCosts
+pub mod TripWalks
+pub mod Changes
+pub mod Laws
+pub mod Examples
