@@ -2,3 +2,4 @@ pub mod Rising
 pub mod Later
 pub mod Rounds
 pub mod Agreeing
+pub mod Buckets
