@@ -1,0 +1,5 @@
+pub mod Rising
+pub mod Later
+pub mod Rounds
+pub mod Agreeing
+pub mod Buckets
