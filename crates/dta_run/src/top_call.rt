@@ -25,6 +25,7 @@ use std::sync::Wait;
 use std::thread::Threads;
 
 // Does the work over an accepted job whose loadings are by workers.
+#[tactic(auto, using(crate::proofs::ReceiptFacts::assigning))]
 fn work_by_workers<R: AllocGlobal + Threads + Wait + Sync, D: Desk + Send, G: Gate + Sync>(
     rt: &R,
     settings: &Settings,

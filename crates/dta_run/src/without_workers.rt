@@ -64,12 +64,19 @@ pub fn run_without_workers<R: AllocGlobal + Threads + Sync, D: Desk>(
 ) -> Status
     requires settings { AreSettings settings.now }
     requires alone { takes_workers settings.now ≡ false }
-    ensures headline { (words : List (List ℕ)) (gate : GateState)
+    ensures { (words : List (List ℕ)) (gate : GateState)
         → settings_of words ≡ Some settings.now
         → Headline words result (D.state desk.old) (D.state desk.new) gate gate }
 {
     texts_are_one();
-    accept_and_work(rt.alloc(), settings, &mut NoGate, desk, |job, _, desk| {
-        work(rt, settings, job, desk)
-    })
+    accept_and_work(
+        rt.alloc(),
+        settings,
+        &mut NoGate,
+        desk,
+        |job, _, desk|
+            requires { AreSettings settings.now × IsJob settings.now (rows_in_job job.now)
+                × IsFor settings.now.command job.now }
+        { work(rt, settings, job, desk) },
+    )
 }
