@@ -8,6 +8,10 @@
 #   turns    1,000 links into a node and 1,000 out of it; 48 vehicles go from each on to 16 of 200
 #   listed   the same node, with 4 vehicles from each link on to 4; each of the 1,000,000 turns has
 #            a row in movement.csv, a third of them take 1 to 10 seconds, a fourth have a capacity
+#   zone     50,000 links into a node; 40,000 of them begin in one zone, from which 100,000 vehicles
+#            go to that node
+#   halves   a hub with a link from and to each of 50,000 ends; each half of the ends is one zone,
+#            and 10,000 vehicles go from one to the other
 
 # star ENDS: a hub, node 0, and a link from and to each end. End k is in zone k. Link k begins
 # there, and link ENDS + k leads there.
@@ -79,5 +83,22 @@ case ${1:-} in
         trips 1 1000 1001 4 200 4 1
         list_turns 1000
         ;;
-    *) echo 'usage: hub.sh star|jam|turns|listed' >&2; exit 2 ;;
+    zone)
+        awk 'BEGIN {
+            print "node_id,zone_id\n0,2" >"node.csv"
+            print "link_id,from_node_id,to_node_id,length" >"link.csv"
+            for (k = 1; k <= 50000; k++) {
+                print k "," (k <= 40000 ? 1 : "") >"node.csv"
+                print k "," k ",0,50" >"link.csv"
+            }
+        }'
+        trips 1 1 2 1 1 1 100000
+        ;;
+    halves)
+        star 50000
+        awk -F , -v OFS=, 'NR > 2 { $2 = $1 <= 25000 ? 1 : 2 } { print }' node.csv >two
+        mv two node.csv
+        trips 1 1 2 1 1 1 10000
+        ;;
+    *) echo 'usage: hub.sh star|jam|turns|listed|zone|halves' >&2; exit 2 ;;
 esac

@@ -36,7 +36,9 @@ audit_differs | changed_results | audit --step 60 --horizon 7200 | --period=6000
 star | hub star | assign --period 300 --horizon 600 --iterations 2 | --plain
 jam | hub jam | assign --period 100 --horizon 2400 --iterations 2 --queue spatial | --plain
 turns | hub turns | assign --period 200 --horizon 1200 --iterations 2 | --plain
-listed | hub listed | assign --period 150 --horizon 200 --iterations 2 | --plain'
+listed | hub listed | assign --period 150 --horizon 200 --iterations 2 | --plain
+zone | hub zone | assign --horizon 100 | --plain
+halves | hub halves | assign --horizon 200 --iterations 2 --queue spatial | --plain'
 
 bench=$(dirname "$(readlink -f "$0")")
 program=$(realpath -m "${PROGRAM:-$bench/../crates/dta/out/dta}")

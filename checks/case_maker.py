@@ -502,6 +502,29 @@ def demand_table(r, net):
     return Table(["o_zone_id", "d_zone_id", "volume"], rows)
 
 
+def period_of(words):
+    """The period of a run by its words."""
+    given = {name: int(word.rpartition("=")[2]) for before, word in zip([""] + words, words)
+             for name in ("period", "horizon")
+             if before == f"--{name}" or word.startswith(f"--{name}=")}
+    return given.get("period", min(600, given.get("horizon", 1200)))
+
+
+def add_demand_windows(r, demand, period):
+    """Columns with the steps in which the vehicles of a row depart. Some fields are empty, some
+    windows have one step, some are the whole period, and now and then one is refused."""
+    demand.columns += ["from_step", "to_step"]
+    for row in demand.rows:
+        first = r.choice([0, period - 1, r.randrange(period), r.randrange(period)])
+        last = r.choice([period, first + 1, r.randint(first + 1, period)])
+        if r.random() < .02:
+            first, last = r.choice([(period, last), (first, first), (first, period + 1), (last, first)])
+        row += ["" if r.random() < .15 else str(first), "" if r.random() < .15 else str(last)]
+    for column in ("from_step", "to_step"):
+        if r.random() < .15:
+            drop_column(demand, demand.place(column))
+
+
 def make_tables(r, words, features=()):
     """The tables of a sound case. The movement table is left out every second time."""
     net = make_net(r)
@@ -525,6 +548,8 @@ def make_tables(r, words, features=()):
             tables["demand.csv"].rows.append(ends + [str(r.randint(1, most))])
     if "windows" in features:
         add_windows(r, tables)
+    if words[0] in ("assign", "counts", "sweep", "audit") and r.random() < .4:
+        add_demand_windows(r, tables["demand.csv"], period_of(words))
     return tables
 
 
@@ -674,7 +699,7 @@ UNREAD = {"node.csv": ["x_coord", "y_coord", "name", "ctrl_type"],
           "link.csv": ["directed", "directed", "geometry", "name", "dir_flag",
                        "capacity_by_steps"],
           "movement.csv": ["mvmt_id", "type", "Capacity_by_step", "name"],
-          "demand.csv": ["time_periods", "name", "Volume", "volume2"],
+          "demand.csv": ["time_periods", "name", "Volume", "volume2", "From_step", "to_steps"],
           TIMES: ["name", "Entered", "queue", "volume", "storage"],
           START: ["name", "agent_type", "route_iteration", "node_ids", "link_id", "volume"]}
 TEXTS = ["", "1", "true", "Mill, North", 'a "quoted" name', "two\nlines", "ümlaut", "0:600;20:0",

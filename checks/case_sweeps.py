@@ -44,7 +44,8 @@ def too_many(r, demand):
         volume = r.choice(["1e9", "999999999.999", "4e6", "2000001", "2000000", "1000001",
                            str(r.randint(1300000, 5000000))])
         ends = list(r.choice(demand.rows)[:2]) if demand.rows else ["1", "3"]
-        demand.rows.insert(r.randint(0, len(demand.rows)), ends + [volume])
+        others = [""] * (len(demand.columns) - 3)
+        demand.rows.insert(r.randint(0, len(demand.rows)), ends + [volume] + others)
 
 
 def many_links(r, links):

@@ -41,6 +41,10 @@ begin backward_wave
 run assign --period 96 --horizon 138 --bucket 6 --queue newell
 writes link_performance.csv
 
+begin morning_peak
+run assign --period 900 --horizon 1500 --bucket 150
+writes link_performance.csv
+
 begin sioux_falls
 run assign --horizon 2400 --iterations 20
 cp agent.csv "$folder/start.csv"

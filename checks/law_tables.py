@@ -222,7 +222,9 @@ def trips_of(folder, period):
             before = total // 1000
             total += thousandths(table.text(row, "volume"))
             count = total // 1000 - before
-            trips += [((2 * one + 1) * period // (2 * count), row, one, *ends)
+            first = identifier(table.text(row, "from_step") or "0")
+            steps = identifier(table.text(row, "to_step") or str(period)) - first
+            trips += [(first + (2 * one + 1) * steps // (2 * count), row, one, *ends)
                       for one in range(count)]
     return [(departure, origin, destination)
             for departure, _, _, origin, destination in sorted(trips)]

@@ -156,7 +156,7 @@ const Checks = (() => {
         const rows = run.demand === null || run.demand.small === 0 ?
             '' :
             ` ${share(run.demand.small, run.demand.rows)} rows of demand.csv are of less than ` +
-                'two vehicles: a row’s only vehicle leaves in the middle of the period.';
+                'two vehicles: a row’s only vehicle leaves in the middle of its window.';
         return check(
             'departures', count < 10 || count < all / 20,
             `Most vehicles leave in step ${step}, at ${run.instant(step)}: ` +

@@ -58,7 +58,7 @@ CHECKS = {
     'they let little through.',
     'departures': 'look: Most vehicles leave in step 5, at 00:00:30: 11 of 15 (73.3 %). 2 of 3 '
     '(66.7 %) rows of demand.csv are of less than two vehicles: a row’s only vehicle leaves in '
-    'the middle of the period.',
+    'the middle of its window.',
     'unfinished': 'look: 12 of 13 (92.3 %) trips are unfinished at the horizon: 11 on links, 1 at '
     'their origins.',
     'jam': 'look: Links are blocked from 00:02:36 on. The jam begins at 1 of them. With the '

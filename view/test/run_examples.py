@@ -80,6 +80,11 @@ def make_all(program, folder):
     return {
         'two_routes': made('two_routes', short, 'two_routes'),
         'sioux_falls': made('sioux_falls', long, 'sioux_falls'),
+        'morning_peak': made(
+            'morning_peak',
+            ['assign', '--period', '900', '--horizon', '1500', '--bucket', '150'],
+            'morning_peak',
+        ),
         'half_of_link_48': made('half_of_link_48', long, 'sioux_falls', halve_capacity('48')),
         'town': made_by(made_network.town, 'town'),
         'country': made_by(made_network.country, 'country'),

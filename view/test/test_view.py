@@ -85,6 +85,9 @@ class Test(PlannerTests, WeekTests):
         self.picture(['#curves'], 'curves.png')
         page.choose('#measure', 'waiting')
         self.picture(['#bar', '#stage'], 'waiting_at_origins.png')
+        self.open_run('morning_peak')
+        page.resize(1280, 1400)
+        self.picture(['#curves > :nth-child(1)', '#curves > :nth-child(2)'], 'morning_peak.png')
         for name, measure in (('town', 'speed'), ('country', 'lost')):
             self.open_run(name)
             page.resize(900, 900)

@@ -150,7 +150,7 @@ scenarios-same one s net cells [] [] (y ∷ ys) h k = absurd k
 scenarios-same one s net cells (scale ∷ scales) [] ys h k = absurd h
 scenarios-same one s net cells (scale ∷ scales) (x ∷ xs) [] h k = absurd k
 scenarios-same one s net cells (scale ∷ scales) (x ∷ xs) (y ∷ ys) h k =
-    let agree : Agree s s = record { step = refl; horizon = refl; period = refl; iterations = refl; bucket = refl; queue = refl } in
+    let agree : Agree s s = record { step = refl; horizon = refl; iterations = refl; bucket = refl; queue = refl } in
     ap (λ (a : Scenario). a ∷ xs) (one s s net cells scale x y agree h.0 k.0)
     ∙ ap (λ (as' : List Scenario). y ∷ as') (scenarios-same one s net cells scales xs ys h.1 k.1)
 
@@ -174,12 +174,12 @@ texts_are_determined laws one s job xs ys a b = determined-by laws one (kind_of 
 -- ---- a scenario of a sweep, and the assignment over the demand times its scale
 
 module _ (laws : RouteLaws) (s : Settings) (job : JobRows) (scale workers watch : ℕ) (plain : Bool) (it : Scenario)
-    (h : HasTexts s (traffic_at s job.net job.demand_cells scale) it) where
+    (h : HasTexts s (traffic_at job.net job.demand_cells scale) it) where
   abbrev own : Settings
   own = alone s workers watch plain
 
   abbrev by_itself : Traffic
-  by_itself = traffic_at s job.net job.demand_cells scale
+  by_itself = traffic_at job.net job.demand_cells scale
 
   -- the texts after its last iteration are those of the scenario
   told-alone : last_texts command.Assign own by_itself h.last None h.lines h.line ≡ scenario_texts it

@@ -3,7 +3,7 @@ use Rattle.std.proofs.Common.{◌≡◌, ℕ, ◌<◌, List, ◌++◌, length, r
 use Rattle.std.proofs.lemmas.List.Elements.{All-weaker}
 use Rattle.dta_model.specs.LinkTimes.{table_of}
 use Rattle.dta_model.specs.Loading.{journeys_of}
-use Rattle.dta_model.specs.Release.{vehicles_before}
+use Rattle.dta_model.specs.Release.{HaveWindows, vehicles_before}
 use Rattle.dta_model.specs.declared.trip.DemandCell.{DemandCell}
 use Rattle.dta_model.specs.declared.trip.Trip.{Trip}
 use Rattle.vehicle_release.specs.Limits.{IsWithin}
@@ -18,6 +18,7 @@ use Rattle.assignment.specs.Iterations.{IsSoundLoading}
 use Rattle.assignment.specs.Traffic.{AreTripsBelow}
 use Rattle.assignment.proofs.SoundFacts.{sound-iterations, sound-loading}
 use Rattle.sweep.specs.Scales.{scaled, trips_at}
+use Rattle.sweep.proofs.LimitFacts.{scaled_windows}
 use Rattle.sweep.specs.Scenarios.{traffic_at}
 use Rattle.jobs.specs.Inputs.{Assigning, Auditing, Kind, Sweeping, kind_of}
 use Rattle.jobs.specs.Jobs.{IsJob, JobRows, traffic_of}
@@ -27,17 +28,17 @@ use Rattle.dta_model.proofs.Steady.{all_at}
 
 -- ---- a scenario
 
-trips-below : (s : Settings) (cells : List DemandCell) (scale : ℕ) → AreSettings s → IsWithin (scaled scale cells)
-    → AreTripsBelow s.horizon (trips_at scale cells s.period)
-trips-below s cells scale settings within =
+trips-below : (s : Settings) (cells : List DemandCell) (scale : ℕ) → AreSettings s → HaveWindows s.period cells
+    → IsWithin (scaled scale cells) → AreTripsBelow s.horizon (trips_at scale cells)
+trips-below s cells scale settings given within =
     let demand = scaled scale cells in
-    let trips = trips_at scale cells s.period in
-    let lasts = settings.period.0 in
+    let windows = scaled_windows s.period scale cells given in
+    let trips = trips_at scale cells in
     let most = settings.period.1 in record {
-      in_order = are_trips demand s.period (vehicles_before demand (length demand)) trips lasts refl (all_within demand within) refl;
-      rising = are_rising demand s.period trips lasts refl;
+      in_order = are_trips demand (vehicles_before demand (length demand)) trips windows.some refl (all_within demand within) refl;
+      rising = are_rising demand trips windows.some refl;
       early = All-weaker (λ (trip : Trip). trip.departure < s.period) (λ (trip : Trip). trip.departure < s.horizon) (λ trip h. omega (arith, h, most)) trips
-          (are_early demand s.period trips lasts refl);
+          (are_early demand s.period trips windows refl);
     }
 
 -- ---- an audit
@@ -65,8 +66,8 @@ audit-sound s job settings good passes =
 by-kind : (k : Kind) (s : Settings) (job : JobRows) → kind_of s.command ≡ k → AreSettings s → IsJob s job → (work_by k).sound s job
 by-kind Assigning s job is settings good = sound-iterations s (traffic_of job) settings good.net good.trips
 by-kind Sweeping s job is settings good = λ place scale at.
-    sound-iterations s (traffic_at s job.net job.demand_cells scale) settings good.net
-    (trips-below s job.demand_cells scale settings
+    sound-iterations s (traffic_at job.net job.demand_cells scale) settings good.net
+    (trips-below s job.demand_cells scale settings (good.sweep is).cells.windows
     (all_at (λ (m : ℕ). IsWithin (scaled m job.demand_cells)) s.scales place scale (good.sweep is).within at))
 by-kind Auditing s job is settings good = audit-sound s job settings good
 by-kind k s job is settings good = tt

@@ -49,7 +49,7 @@ ScenariosAreAlone =
     (s : Settings) (job : JobRows) (scale workers watch : ℕ) (plain : Bool) (it : Scenario)
     (texts : List OutText) → IsScenario s job.net job.demand_cells scale it
     → AreAssigned (alone s workers watch plain)
-    (traffic_at s job.net job.demand_cells scale) texts
+    (traffic_at job.net job.demand_cells scale) texts
     → but_watch texts ≡ scenario_texts it
 
 -- an audit of a job has one verdict

@@ -62,7 +62,7 @@ unwatched_work texts = record {
 abbrev pub SweepsSoundly : Settings → JobRows → Type 0
 SweepsSoundly s job =
     (place scale : ℕ) → slice_get s.scales place ≡ Some scale
-    → AreSoundIterations s (traffic_at s job.net job.demand_cells scale)
+    → AreSoundIterations s (traffic_at job.net job.demand_cells scale)
 
 -- where no check of an audit fails, the loading over the agent table's routes is sound
 abbrev pub AuditsSoundly : Settings → JobRows → Type 0

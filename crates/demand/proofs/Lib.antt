@@ -1,1 +1,1 @@
-mod DemandFacts
+pub mod DemandFacts

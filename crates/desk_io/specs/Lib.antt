@@ -3,7 +3,6 @@ pub mod Faults
 pub mod Transfers
 pub mod MemDesk
 pub mod MemInside
-pub mod FileDesk
 pub mod State
 pub mod TallyDesk
 pub mod TallyInside

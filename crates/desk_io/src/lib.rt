@@ -7,14 +7,12 @@
 #![tactic(auto)]
 
 mod desk;
-mod file_desk;
 mod mem_desk;
 mod source;
 mod tally_desk;
 mod transfers;
 
 pub use desk::{Desk, Failed, Output, Table};
-pub use file_desk::FileDesk;
 use item_list::List;
 pub use mem_desk::MemDesk;
 use std::alloc::AllocError;

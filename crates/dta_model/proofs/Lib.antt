@@ -27,3 +27,4 @@ pub mod Arrivals
 pub mod NoMoves
 pub mod Flat
 pub mod Left
+pub mod Even

@@ -52,8 +52,20 @@ parts_of_a_vehicle = refl
 unfoldable pub trip : ℕ → ℕ → Trip
 trip number departs = record { number = number; origin = 1; destination = 3; departure = departs }
 
+-- a row whose vehicles depart in these steps
+abbrev row_within : ℕ → ℕ → ℕ → ℕ → DemandCell
+row_within line volume from to = record {
+  line = line;
+  origin = 1;
+  destination = 3;
+  volume = volume;
+  from = from;
+  to = to;
+}
+
+-- a row over thirty steps
 abbrev row : ℕ → ℕ → DemandCell
-row line volume = record { line = line; origin = 1; destination = 3; volume = volume }
+row line volume = row_within line volume 0 30
 
 abbrev pub node : ℕ → NodeRow
 node zone = record { id = zone; zone = Some zone }
@@ -95,20 +107,35 @@ arrivals count T = map (arrival_of T) (numbers_below count)
 
 -- ---- release
 -- three vehicles in thirty steps
-three_in_thirty_steps : trips_of (row 2 3000 ∷ []) 30 ≡ trip 0 5 ∷ trip 1 15 ∷ trip 2 25 ∷ []
+three_in_thirty_steps : trips_of (row 2 3000 ∷ []) ≡ trip 0 5 ∷ trip 1 15 ∷ trip 2 25 ∷ []
 unfolding releases_on_literals trip
 three_in_thirty_steps = refl
 
 -- three rows of 0.4 vehicles make one, of the third row
-three_small_volumes : trips_of (row 2 400 ∷ row 3 400 ∷ row 4 400 ∷ []) 30 ≡ trip 0 15 ∷ []
+three_small_volumes : trips_of (row 2 400 ∷ row 3 400 ∷ row 4 400 ∷ []) ≡ trip 0 15 ∷ []
 unfolding releases_on_literals trip
 three_small_volumes = refl
 
 -- a row from a zone to itself makes none
 a_row_within_a_zone :
-    trips_of (record (row 2 3000) { destination = 1 } ∷ row 3 1000 ∷ []) 30 ≡ trip 0 15 ∷ []
+    trips_of (record (row 2 3000) { destination = 1 } ∷ row 3 1000 ∷ []) ≡ trip 0 15 ∷ []
 unfolding releases_on_literals trip
 a_row_within_a_zone = refl
+
+-- two vehicles from step 5 to before 9, one before step 4, and one from step 12 to the end
+windows_of_their_own :
+    trips_of (row_within 2 2000 5 9 ∷ row_within 3 1000 0 4 ∷ row_within 4 1000 12 16 ∷ [])
+    ≡ trip 0 2 ∷ trip 1 6 ∷ trip 2 8 ∷ trip 3 14 ∷ []
+unfolding releases_on_literals trip
+windows_of_their_own = refl
+
+-- a window of one step is a given departure; several vehicles may leave in it. Vehicles of one
+-- step stand by row
+windows_of_one_step :
+    trips_of (row_within 2 2000 7 8 ∷ row_within 3 3000 0 2 ∷ row_within 4 1000 15 16 ∷ [])
+    ≡ trip 0 0 ∷ trip 1 1 ∷ trip 2 1 ∷ trip 3 7 ∷ trip 4 7 ∷ trip 5 15 ∷ []
+unfolding releases_on_literals trip
+windows_of_one_step = refl
 
 -- ---- allowances
 -- a window from a step on

@@ -7,7 +7,7 @@ ghost use Rattle.dta_model.specs.Laws.{VisitsEndInOrder};
 ghost use Rattle.dta_model.specs.Leavings.{EntriesAddUp, LinksAreLeftAtTheirEnds};
 ghost use Rattle.dta_model.specs.Leavings.{OneStepIsSpatial, StepsAreBelow};
 ghost use Rattle.dta_model.specs.Orders.{AnyOrder, SameJourneys};
-ghost use Rattle.dta_model.specs.Released.{TripsAreReleased};
+ghost use Rattle.dta_model.specs.Released.{DeparturesAreEven, TripsAreReleased};
 ghost use Rattle.dta_model.specs.Sound.{IsSound};
 
 /// The nodes of a step may be taken in any order.
@@ -77,10 +77,16 @@ pub fn journeys_end_in_order()
     ensures { JourneysEndInOrder }
 {}
 
-/// A table releases as many trips as its volumes make whole vehicles, numbered in order, by
-/// departures below the period.
+/// A table releases as many trips as its volumes make whole vehicles, numbered in order by
+/// departures. Each departs within the window of its row.
 pub fn trips_are_released()
     ensures { TripsAreReleased }
+{}
+
+/// A row's departures are even over its window: over steps within it fewer vehicles depart than
+/// the share of these steps and one.
+pub fn departures_are_even()
+    ensures { DeparturesAreEven }
 {}
 
 /// No vehicle is on a link that isn't in the table.

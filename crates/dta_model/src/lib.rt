@@ -19,11 +19,11 @@ mod trip;
 pub use credit::PARTS_OF_A_VEHICLE;
 pub use eight::Eight;
 pub use laws::{
-    arrival_is_last, entries_add_up, heads_move, journeys_end_in_order, journeys_in_any_order,
-    links_are_left_at_their_ends, links_are_left_in_order, no_move_is_left, nodes_in_any_order,
-    none_outside, nothing_at_the_start, one_step_is_spatial, queues_add_up, routes_are_followed,
-    steps_are_below, steps_rise, trips_are_released, two_links_are_sound, vehicles_are_conserved,
-    visits_end_in_order,
+    arrival_is_last, departures_are_even, entries_add_up, heads_move, journeys_end_in_order,
+    journeys_in_any_order, links_are_left_at_their_ends, links_are_left_in_order, no_move_is_left,
+    nodes_in_any_order, none_outside, nothing_at_the_start, one_step_is_spatial, queues_add_up,
+    routes_are_followed, steps_are_below, steps_rise, trips_are_released, two_links_are_sound,
+    vehicles_are_conserved, visits_end_in_order,
 };
 pub use loaded::{Journey, Loaded, Steps};
 pub use loading::{Loading, MOST_HORIZON, MOST_LINK_STEPS};

@@ -76,30 +76,35 @@ zones_from o = flat_map (λ d. if nat_eq o d then [] else (o, d) ∷ []) zones
 abbrev pub zone_pairs : List (ℕ × ℕ)
 zone_pairs = flat_map zones_from zones
 
--- the demand cells: 25 n vehicles for each pair, at the lines below the header
-abbrev pub demand_cell : ℕ → ℕ × (ℕ × ℕ) → DemandCell
-demand_cell n pair = record {
+-- the demand cells: 25 n vehicles for each pair over the whole period, at the lines below the
+-- header
+abbrev pub demand_cell : (period n : ℕ) → ℕ × (ℕ × ℕ) → DemandCell
+demand_cell period n pair = record {
   line = pair.0 + 1;
   origin = pair.1.0;
   destination = pair.1.1;
   volume = 1000 * (25 * n);
+  from = 0;
+  to = period;
 }
 
-abbrev pub demand_cells : ℕ → List DemandCell
-demand_cells n = map (demand_cell n) (numbered zone_pairs)
+abbrev pub demand_cells : (period n : ℕ) → List DemandCell
+demand_cells period n = map (demand_cell period n) (numbered zone_pairs)
 
 -- what the readers tell of the tables of a grid: none has a fault, whatever the step, the jam
--- density and the unit of speeds, and none is too long
+-- density, the unit of speeds and the period, and none is too long
 pub record IsAcceptedGrid (n : ℕ) : Type 0 where
   pub nodes : node_verdict (records (node_text n)) ≡ Ok (node_rows n)
   pub links : (units : Units) → 1 ≤ units.delta → units.length ≡ Metre
       → link_verdict (node_rows n) units (records (link_text n)) ≡ Ok (link_rows n units)
-  pub demand : demand_verdict (records (demand_text n)) ≡ Ok (demand_cells n)
+  pub demand : (period : ℕ) → 1 ≤ period
+      → demand_verdict period (records (demand_text n)) ≡ Ok (demand_cells period n)
   pub short : (length (node_text n) ≤ MOST_TABLE_BYTES) × (length (link_text n) ≤ MOST_TABLE_BYTES)
       × (length (demand_text n) ≤ MOST_TABLE_BYTES)
   -- there are 4 n (n - 1) links and 300 n vehicles
   pub link_count : length (grid.links n) ≡ 4 * (n * (n - 1))
-  pub vehicle_count : vehicles_before (demand_cells n) (length zone_pairs) ≡ 300 * n
+  pub vehicle_count : (period : ℕ)
+      → vehicles_before (demand_cells period n) (length zone_pairs) ≡ 300 * n
 
 -- the law that each grid is accepted
 abbrev pub GridsAreAccepted : Type 0

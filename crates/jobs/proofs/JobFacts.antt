@@ -49,13 +49,9 @@ use Rattle.jobs.specs.declared.stop.Stop.TheVariants.{Refused, Memory}
 
 -- ---- the trips of no rows
 
-none-in-any-step : (xs : List ℕ) → flat_map (λ (step : ℕ). filter (λ (r : Released). nat_eq r.departs step) []) xs ≡ []
-none-in-any-step [] = refl
-none-in-any-step (x ∷ xs) = none-in-any-step xs
-
-pub trips_of-none : (period : ℕ) → trips_of [] period ≡ []
+pub trips_of-none : trips_of [] ≡ []
 unfolding trips_of released in_order_of_departure
-trips_of-none period = rw (none-in-any-step (numbers_below period)) refl
+trips_of-none = refl
 
 -- no vehicles
 pub no-trips : (horizon : ℕ) → AreTripsBelow horizon []
@@ -306,16 +302,16 @@ module _ (s : Settings) {tables : List Table} {limits : Limits} (has : HasInputs
 -- the jobs of some commands, made of rows of which some are missing
 pub free-job : (s : Settings) (nodes : List NodeRow) (links : List (WithWindows LinkRow)) → kind_of s.command ≡ FreeFlow
     → record { net = net_rows nodes links []; trips = []; start = []; times = []; demand_cells = []; agents = [] } ≡ job_of s (road_rows nodes links)
-free-job s nodes links is = rw (is, trips_of-none s.period) refl
+free-job s nodes links is = rw (is, trips_of-none) refl
 
 pub skim-job : (s : Settings) (rows : TableRows) → kind_of s.command ≡ Skimming → rows.demand_cells ≡ [] → rows.start ≡ [] → rows.agents ≡ []
     → record { net = net_of rows; trips = []; start = []; times = rows.times; demand_cells = []; agents = [] } ≡ job_of s rows
-skim-job s rows asks none unstarted unaudited = rw (asks, none, unstarted, unaudited, trips_of-none s.period) refl
+skim-job s rows asks none unstarted unaudited = rw (asks, none, unstarted, unaudited, trips_of-none) refl
 
 pub audit-job : (s : Settings) (rows : TableRows) → kind_of s.command ≡ Auditing
     → record {
       net = net_of rows;
-      trips = trips_of rows.demand_cells s.period;
+      trips = trips_of rows.demand_cells;
       start = rows.start;
       times = rows.times;
       demand_cells = [];

@@ -118,10 +118,10 @@ pub turns-told : (settings : Settings) (rows : TableRows) (text : List ℕ) (why
     → IsToldBy settings table.Movement rows text why
 turns-told settings rows text why = told-by settings table.Movement rows text (turns_of settings rows text) _ why refl (turns-table settings rows text)
 
-pub demand_cells-told : (settings : Settings) (rows : TableRows) (text : List ℕ) (why : TableRefusal) → Tells (demand_verdict (records text)) (Err why)
+pub demand_cells-told : (settings : Settings) (rows : TableRows) (text : List ℕ) (why : TableRefusal) → Tells (demand_verdict settings.period (records text)) (Err why)
     → IsToldBy settings table.Demand rows text why
 demand_cells-told settings rows text why =
-    told-by settings table.Demand rows text (demand_verdict (records text)) _ why refl (verdict-table table.Demand MOST_DEMAND_CELLS demand_columns demand_cell_of (records text))
+    told-by settings table.Demand rows text (demand_verdict settings.period (records text)) _ why refl (verdict-table table.Demand MOST_DEMAND_CELLS demand_columns (demand_cell_of settings.period) (records text))
 
 -- what a start table of an assignment gives, and the agent table of an audit
 pub start-with : (settings : Settings) (rows : TableRows) (bytes : List ℕ) → settings.command ≡ command.Assign

@@ -42,7 +42,7 @@ pub record JobRows : Type 0 where
 abbrev pub job_of : Settings → TableRows → JobRows
 job_of s rows = record {
   net = net_of rows;
-  trips = trips_of ((inputs_of s.command).released rows.demand_cells) s.period;
+  trips = trips_of ((inputs_of s.command).released rows.demand_cells);
   start = rows.start;
   times = rows.times;
   demand_cells = (inputs_of s.command).swept rows.demand_cells;
@@ -63,7 +63,7 @@ IsAcceptedJob s job before after = Reading s.command (IsJobOf s job) before afte
 -- what is true of the job of a sweep: its demand is that of a table, its network times its steps
 -- is not too much, and no scenario has too many vehicles
 pub record IsSweepJob (s : Settings) (job : JobRows) : Type 0 where
-  pub cells : AreDemandCells job.demand_cells
+  pub cells : AreDemandCells s.period job.demand_cells
   pub few : length job.net.links * s.horizon ≤ MOST_SWEEP_LINK_STEPS
   pub within : AreAllWithin job.demand_cells s.scales
 

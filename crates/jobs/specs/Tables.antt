@@ -37,7 +37,7 @@ with_table settings rows table.Link bytes =
 with_table settings rows table.Movement bytes =
     then_with (turns_of settings rows bytes) (λ turns. Ok (record rows { turns = turns }))
 with_table settings rows table.Demand bytes =
-    then_with (demand_verdict (records bytes))
+    then_with (demand_verdict settings.period (records bytes))
     (λ demand_cells. Ok (record rows { demand_cells = demand_cells }))
 with_table settings rows table.Start bytes =
     (inputs_of settings.command).with_agents rows bytes

@@ -76,9 +76,8 @@ pub(crate) fn trips_within(
     settings: &Settings,
 ) -> Result<Vec<Trip>, Stop>
     requires settings { AreSettings settings.now }
-    requires demand_cells { AreDemandCells demand_cells.now }
-    ensures trips { IfOk result (λ trips.
-        trips.items ≡ trips_of demand_cells.now settings.now.period) }
+    requires demand_cells { AreDemandCells settings.now.period demand_cells.now }
+    ensures trips { IfOk result (λ trips. trips.items ≡ trips_of demand_cells.now) }
     ensures sound { IfOk result (λ trips. AreTripsBelow settings.now.horizon trips.items) }
     ensures within { OnOk result (
         (links * settings.now.horizon ≤ MOST_LINK_STEPS) × IsWithin demand_cells.now) }
@@ -92,7 +91,7 @@ pub(crate) fn trips_within(
             steps: settings.horizon,
         }));
     }
-    Ok(release(alloc, demand_cells, settings.period)?)
+    Ok(release(alloc, demand_cells)?)
 }
 
 // The job of accepted tables.
@@ -106,7 +105,7 @@ fn assign_job_of(
     requires command { Assigns settings.now.command }
     requires net { let network = tables.network in
         IsNet (joined network.roads.nodes network.roads.links network.turns) }
-    requires demand_cells { AreDemandCells tables.demand_cells.items }
+    requires demand_cells { AreDemandCells settings.now.period tables.demand_cells.items }
     requires start { AreStartRows start }
     ensures makes { IfOk result (λ job.
         rows_in_job job

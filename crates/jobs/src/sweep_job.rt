@@ -37,7 +37,7 @@ pub struct SweepJob {
 fn sweep_sizes(links: u32, demand_cells: &[DemandCell], settings: &Settings) -> Result<(), Stop>
     requires settings { AreSettings settings.now }
     requires kind { kind_of settings.now.command ≡ Sweeping }
-    requires demand_cells { AreDemandCells demand_cells.now }
+    requires demand_cells { AreDemandCells settings.now.period demand_cells.now }
     ensures within { (rows : TableRows)
         → length rows.links ≡ links → rows.demand_cells ≡ demand_cells.now
         → OnOk result (sweep_limits.within settings.now rows) }
@@ -59,7 +59,7 @@ fn sweep_job_of(alloc: Global, tables: Tables, settings: &Settings) -> Result<Jo
     requires kind { kind_of settings.now.command ≡ Sweeping }
     requires net { let network = tables.network in
         IsNet (joined network.roads.nodes network.roads.links network.turns) }
-    requires demand_cells { AreDemandCells tables.demand_cells.items }
+    requires demand_cells { AreDemandCells settings.now.period tables.demand_cells.items }
     ensures makes { IfOk result (λ job.
         rows_in_job job ≡ job_of_rows settings.now (rows_in_tables tables)) }
     ensures sound { IfOk result (λ job. IsJob settings.now (rows_in_job job)) }

@@ -146,14 +146,20 @@ fn accept_turns<D: Desk>(
 }
 
 // Reads and checks the demand table.
-fn accept_demand_cells<D: Desk>(alloc: Global, desk: &mut D) -> Result<Vec<DemandCell>, Stop>
-    ensures reads { (settings : Settings) (rows : TableRows)
-        → Accepts settings table.Demand rows (with_demand_cells rows) (D.state desk.old)
+fn accept_demand_cells<D: Desk>(
+    alloc: Global,
+    desk: &mut D,
+    settings: &Settings,
+) -> Result<Vec<DemandCell>, Stop>
+    requires settings { AreSettings settings.now }
+    ensures reads { (rows : TableRows)
+        → Accepts settings.now table.Demand rows (with_demand_cells rows) (D.state desk.old)
         (D.state desk.new) result }
-    ensures sound { IfOk result (λ demand_cells. AreDemandCells demand_cells.items) }
+    ensures sound { IfOk result (λ demand_cells.
+        AreDemandCells settings.now.period demand_cells.items) }
 {
     let bytes = bytes_of(alloc, desk, Table::Demand)?;
-    Ok(read_demand(alloc, &bytes)?)
+    Ok(read_demand(alloc, &bytes, settings.period)?)
 }
 
 /// Reads and checks the start table.
@@ -235,10 +241,11 @@ pub(crate) fn accept_all<D: Desk>(
         (D.state desk.old) (D.state desk.new) result }
     ensures net { IfOk result (λ t.
         IsNet (joined t.network.roads.nodes t.network.roads.links t.network.turns)) }
-    ensures demand_cells { IfOk result (λ t. AreDemandCells t.demand_cells.items) }
+    ensures demand_cells { IfOk result (λ t.
+        AreDemandCells settings.now.period t.demand_cells.items) }
 {
     let network = accept_network(alloc, desk, settings)?;
-    let demand_cells = accept_demand_cells(alloc, desk)?;
+    let demand_cells = accept_demand_cells(alloc, desk, settings)?;
     Ok(Tables {
         network,
         demand_cells,

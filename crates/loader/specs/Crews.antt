@@ -1,7 +1,11 @@
--- The pass of a crew, lent in an option.
-use Rattle.std.specs.Prelude.{ℕ, Option, Some, None}
+-- The pass of a crew, lent in an option, and what a worker's pass holds.
+use Rattle.std.specs.Prelude.{◌≡◌, ℕ, Option, Some, None}
 use Rattle.phase_claims.specs.Crews.{HasEnded, IsReady}
-use Rattle.phase_claims.specs.Passes.{FloorState, PassState}
+use Rattle.phase_claims.specs.Passes.{FloorState, IsOpen, PassState}
+use Rattle.phase_claims.specs.Views.{first_in}
+use Rattle.phase_claims.specs.declared.view.Hold.{Hold}
+use Rattle.phase_claims.specs.declared.view.Hold.TheVariants as hold
+use Rattle.phase_claims.specs.declared.view.View.{View}
 
 -- a pass for a crew of n, of a worker for each pass that can be split off, and one more
 abbrev pub IsCrewReady : FloorState → ℕ → Option PassState → Type 0
@@ -12,3 +16,14 @@ IsCrewReady f n None = ⊥
 abbrev pub HasCrewEnded : FloorState → ℕ → Option PassState → Type 0
 HasCrewEnded f n (Some p) = HasEnded f n p
 HasCrewEnded f n None = ⊥
+
+-- it has some units open, and is at the first of them
+abbrev pub IsAtFirst : View → Type 0
+IsAtFirst v = IsOpen v.stage × (v.at ≡ first_in v.stage)
+
+-- it holds numbers of which none is open, or it holds none and may get some
+abbrev pub HasNoneOpen : Hold → Type 0
+HasNoneOpen hold.Idle = Unit {0}
+HasNoneOpen (hold.Held a b) = Unit {0}
+HasNoneOpen (hold.Open a m b) = ⊥
+HasNoneOpen hold.Ended = ⊥

@@ -2,11 +2,12 @@
 ghost use Rattle.std.specs.Prelude.{◌≡◌, ◌<◌, ◌≤◌, ◌+◌, ◌-◌};
 ghost use Rattle.std.specs.Thread.{IsSync};
 ghost use Rattle.desk_io.specs.State.{DeskState};
-ghost use Rattle.loader.specs.Crews.{HasCrewEnded, IsCrewReady};
+ghost use Rattle.loader.specs.Crews.{HasCrewEnded, IsAtFirst, IsCrewReady};
 ghost use Rattle.phase_claims.specs.Crews.{HasEnded, HasSameRights, IsReady};
 ghost use Rattle.loader.specs.Watching.{HasWatched, IsSameWatch};
 ghost use Rattle.loader.specs.declared.loading.TheConstants.{MOST_WORKERS};
-ghost use Rattle.phase_claims.specs.Passes.{HasNotEnded, IsHeld, IsOf, IsOpen};
+ghost use Rattle.phase_claims.specs.Passes.{IsHeld, IsOf};
+ghost use Rattle.phase_claims.specs.Views.{left_of};
 
 use crate::gate::Gate;
 use crate::pauses::Pauses;
@@ -38,12 +39,13 @@ fn wait_for_unit<R: Wait>(rt: &R, floor: &Floor) {
     }
 }
 
-// Opens units that a pass holds, as soon as all units of earlier phases are finished.
+// Opens units that a pass holds, as soon as all units of earlier phases are finished. It is at the
+// first of them then.
 fn open<R: Wait>(rt: &R, floor: &Floor, pass: &mut Pass)
     requires own { IsOf floor.now pass.old }
     requires held { IsHeld pass.old.view.stage }
     ensures own { IsOf floor.now pass.new }
-    ensures open { IsOpen pass.new.view.stage }
+    ensures first { IsAtFirst pass.new.view }
     ensures rights { HasSameRights pass.old.view pass.new.view }
 {
     let Open::NotYet { finished: _ } = floor.open(pass) else {
@@ -58,36 +60,40 @@ fn open<R: Wait>(rt: &R, floor: &Floor, pass: &mut Pass)
     }
 }
 
-// Passes the gate and performs the unit that a pass is at.
-fn perform_next<R: Wait, G: Gate>(rt: &R, floor: &Floor, gate: &G, pass: &mut Pass, worker: u32)
+// Performs the units that a pass has open, each once the gate is passed.
+fn perform_open<R: Wait, G: Gate>(rt: &R, floor: &Floor, gate: &G, pass: &mut Pass, worker: u32)
     requires own { IsOf floor.now pass.old }
-    requires open { IsOpen pass.old.view.stage }
+    requires first { IsAtFirst pass.old.view }
     ensures own { IsOf floor.now pass.new }
-    ensures on { HasNotEnded pass.new.view.stage }
+    ensures left { pass.new.view.stage ≡ left_of pass.old.view.stage }
     ensures rights { HasSameRights pass.old.view pass.new.view }
 {
-    let unit = floor.next_unit(pass);
-    gate.at(worker, unit.number);
-    match unit.kind {
-        UnitKind::Posting => floor.perform_posting(rt, pass),
-        _ => floor.perform(pass),
+    let Hold::Open(first, middle, _) = pass.hold() else {
+        unreachable!()
+    };
+    for number in first..middle {
+        gate.at(worker, number);
+        match floor.next_unit(pass).kind {
+            UnitKind::Posting => floor.perform_posting(rt, pass),
+            _ => floor.perform(pass),
+        }
     }
 }
 
 // Performs all units that a pass holds.
 fn work_on<R: Wait, G: Gate>(rt: &R, floor: &Floor, gate: &G, pass: &mut Pass, worker: u32)
     requires own { IsOf floor.now pass.old }
-    requires on { HasNotEnded pass.old.view.stage }
+    requires held { IsHeld pass.old.view.stage }
     ensures own { IsOf floor.now pass.new }
     ensures idle { pass.new.view.stage ≡ Hold.Idle }
     ensures rights { HasSameRights pass.old.view pass.new.view }
 {
     for _ in rt.forever() {
-        match pass.hold() {
-            Hold::Idle | Hold::Ended => break,
-            Hold::Held(_, _) => open(rt, floor, pass),
-            Hold::Open(_, _, _) => perform_next(rt, floor, gate, pass, worker),
-        }
+        let Hold::Held(_, _) = pass.hold() else {
+            break;
+        };
+        open(rt, floor, pass);
+        perform_open(rt, floor, gate, pass, worker);
     }
 }
 

@@ -15,7 +15,7 @@ use Rattle.phase_claims.specs.declared.view.Hold.{Hold}
 use Rattle.phase_claims.specs.declared.view.Hold.TheVariants as hold
 use Rattle.phase_claims.specs.declared.view.Scope.{Scope}
 use Rattle.phase_claims.specs.declared.view.View.{View}
-use Rattle.phase_claims.specs.Passes.{FloorState, IsHeld, IsInside, IsLastPhase, IsOf, IsOpen, IsPass, IsPlace, Opens, PassState, PerformsNext}
+use Rattle.phase_claims.specs.Passes.{FloorState, IsAmongOpen, IsHeld, IsInside, IsLastPhase, IsOf, IsOpen, IsPass, IsPlace, Opens, PassState, PerformsNext}
 use Rattle.phase_claims.specs.Plays.{LooksAt}
 use Rattle.phase_claims.specs.PlacesHome.{carried, taken}
 use Rattle.phase_claims.specs.Views.{at_next, done_with, first_in, first_of_phase, having_open, held_end, left_of, open_end, with_open}
@@ -180,6 +180,12 @@ next_pass me m left own own' is next slots place =
       spare = is.spare ∙ ap (λ (v : View). v.spare) (sym e);
       place = place;
     })
+
+pub among_open : (p : Plan) (s : Hold) (at : ℕ) → IsInside p s at → IsAmongOpen s at
+among_open p hold.Idle at i = tt
+among_open p (hold.Held a b) at i = tt
+among_open p (hold.Open a m b) at i = (i.0, i.1)
+among_open p hold.Ended at i = tt
 
 -- the unit that a pass is at is one of the plan, and it has its places
 module _ (v : View) (f : Scope) (own : Place) (scope : v.scope ≡ f) (is : IsPlace v own) (opened : IsOpen v.stage) where

@@ -1,5 +1,5 @@
 -- The state of a loading, counted node by node.
-use Rattle.std.specs.Prelude.{min, nat_eq, nat_lt, slice_get, slice_set}
+use Rattle.std.specs.Prelude.{nat_eq, nat_lt, slice_get, slice_set}
 use Rattle.std.specs.List.{range_with_len, sum_by}
 use Rattle.std.proofs.Common.{◌≡◌, ◌≢◌, ℕ, zero, suc, ◌+◌, ◌<◌, ◌≤◌, ◌^◌, Bool, true, false, ◌&&◌, ◌||◌, cond, List, [], ◌∷◌, ◌++◌, length, take, get_or, refl, sym, ap, ◌∙◌, add-one, lt_of_not-le, arith, Some}
 use Rattle.std.proofs.lemmas.Bool.Decides.{nat_tests}
@@ -7,6 +7,7 @@ use Rattle.std.proofs.lemmas.Grind.{get_or-set_at}
 use Rattle.std.proofs.lemmas.List.{get_or-set_other, length-set, take_all}
 use Rattle.std.proofs.lemmas.List.FromFn.{length-range_with_len}
 use Rattle.std.proofs.lemmas.List.Sums.{count_by-le-length, sum_by-append}
+use Rattle.std.proofs.lemmas.Option.{same_Some}
 use mathlib.Core.Logic.{dite}
 use native.Mathlib.Decide.{dec_le}
 use Rattle.net_core.specs.Network.{numbers_below}
@@ -125,19 +126,19 @@ four (x ∷ y ∷ z ∷ []) a b c d h ea eb ec ed = absurd (omega arith)
 four (x ∷ y ∷ z ∷ w ∷ []) a b c d h ea eb ec ed = λ i. ea i ∷ eb i ∷ ec i ∷ ed i ∷ []
 four (x ∷ y ∷ z ∷ w ∷ v ∷ xs) a b c d h ea eb ec ed = absurd (omega arith)
 
--- the first four of numbers that rise have all that are below four
-among_first : (m low high : ℕ) (xs : List ℕ) → Rises low high xs → (l : ℕ) → l < low + m → is_among (take m xs) l ≡ is_among xs l
-among_first zero low high [] r l h = refl
-among_first (suc m) low high [] r l h = refl
-among_first zero low high (x ∷ xs) r l h = sym (none low high (x ∷ xs) r l (omega (arith, h)))
+-- of numbers that rise, those before one of them have all that are below it
+none_below : (low high : ℕ) (xs : List ℕ) → Rises low high xs → (l : ℕ) → l < low → is_among xs l ≡ false
+none_below low high [] r l h = refl
+none_below low high (x ∷ xs) r l h = let z : nat_eq x l ≡ false = (let ne : l < x = omega (arith, h, r.0) in other x l ne) in (λ i. z i || none_below (suc x) high xs r.2 l (omega (arith, h, r.0)) i)
   where
-    none : (low high : ℕ) (xs : List ℕ) → Rises low high xs → (l : ℕ) → l < low → is_among xs l ≡ false
-    none low high [] r l h = refl
-    none low high (x ∷ xs) r l h = let z : nat_eq x l ≡ false = (let ne : l < x = omega (arith, h, r.0) in other x l ne) in (λ i. z i || none (suc x) high xs r.2 l (omega (arith, h, r.0)) i)
-      where
-        other : (x l : ℕ) → l < x → nat_eq x l ≡ false
-        other x l h = grind (arith, nat_tests)
-among_first (suc m) low high (x ∷ xs) r l h = ap (λ b. nat_eq x l || b) (among_first m (suc x) high xs r.2 l (omega (arith, h, r.0)))
+    other : (x l : ℕ) → l < x → nat_eq x l ≡ false
+    other x l h = grind (arith, nat_tests)
+
+among_before : (j low high b : ℕ) (xs : List ℕ) → Rises low high xs → slice_get xs j ≡ Some b → (l : ℕ) → l < b → is_among (take j xs) l ≡ is_among xs l
+among_before zero low high b [] r at l h = refl
+among_before (suc j) low high b [] r at l h = refl
+among_before zero low high b (x ∷ xs) r at l h = let same : x ≡ b = same_Some x b at in sym (none_below x high (x ∷ xs) (omega arith, r.1, r.2) l (omega (arith, h, same)))
+among_before (suc j) low high b (x ∷ xs) r at l h = ap (λ t. nat_eq x l || t) (among_before j (suc x) high b xs r.2 at l h)
 
 module _ (p : Plan) (t n : ℕ) (h : n < node_count p) where
   abbrev f : ℕ → ℕ
@@ -169,19 +170,21 @@ module _ (p : Plan) (t n : ℕ) (h : n < node_count p) where
       by_among true e past = absurd (omega (arith, past, ins-among p n l e))
       by_among false e past = refl
 
-  pub all_put : (j : ℕ) → min (length (ins p n)) 4 ≤ j → puts f (take j (ins p n)) (firsts_on p t n) ≡ firsts_on p t (suc n)
-  all_put j over =
+  all_put : (j : ℕ) → ((i : ℕ) → i < 4 → is_among (take j (ins p n)) i ≡ is_among (ins p n) i) → puts f (take j (ins p n)) (firsts_on p t n) ≡ firsts_on p t (suc n)
+  all_put j same =
       let xs : List ℕ = puts f (take j (ins p n)) (firsts_on p t n) in
       four xs (first_on p t (suc n) 0) (first_on p t (suc n) 1) (first_on p t (suc n) 2) (first_on p t (suc n) 3) (puts_count f (take j (ins p n)) (firsts_on p t n))
       (at 0 (omega arith) ∙ next 0) (at 1 (omega arith) ∙ next 1) (at 2 (omega arith) ∙ next 2) (at 3 (omega arith) ∙ next 3)
     where
-      same : (i : ℕ) → i < 4 → is_among (take j (ins p n)) i ≡ is_among (ins p n) i
-      same i l = dite (dec_le (length (ins p n)) j)
-          (λ long. ap (λ ks. is_among ks i) (take_all j (ins p n) long))
-          (λ short. let s : j < length (ins p n) = lt_of_not-le short in among_first j 0 (length p.net.links) (ins p n) (ins_rise p n) i (omega (arith, l, over, s)))
-
       at : (i : ℕ) → i < 4 → get_or (puts f (take j (ins p n)) (firsts_on p t n)) i 0 ≡ cond (is_among (ins p n) i) (f i) (get_or (firsts_on p t n) i 0)
       at i l = puts_at f (take j (ins p n)) (firsts_on p t n) i l ∙ ap (λ b. cond b (f i) (get_or (firsts_on p t n) i 0)) (same i l)
+
+  -- all in-links, or those before one that is none of the first four links
+  pub put_whole : (j : ℕ) → length (ins p n) ≤ j → puts f (take j (ins p n)) (firsts_on p t n) ≡ firsts_on p t (suc n)
+  put_whole j over = all_put j (λ i l. ap (λ ks. is_among ks i) (take_all j (ins p n) over))
+
+  pub put_before : (j b : ℕ) → slice_get (ins p n) j ≡ Some b → 4 ≤ b → puts f (take j (ins p n)) (firsts_on p t n) ≡ firsts_on p t (suc n)
+  put_before j b at past = all_put j (λ i l. among_before j 0 (length p.net.links) b (ins p n) (ins_rise p n) at i (omega (arith, l, past)))
 
 -- all nodes
 module _ (p : Plan) (sound : IsSound p) (t : ℕ) where

@@ -56,6 +56,13 @@ holds_no_unit hold.Ended = true
 abbrev pub HoldsNoUnit : Hold → Type 0
 HoldsNoUnit s = holds_no_unit s ≡ true
 
+-- the unit that it is at is one of those that it has open, where it has some
+abbrev pub IsAmongOpen : Hold → ℕ → Type 0
+IsAmongOpen hold.Idle at = Unit {0}
+IsAmongOpen (hold.Held a b) at = Unit {0}
+IsAmongOpen (hold.Open a m b) at = (a ≤ at) × (at < m)
+IsAmongOpen hold.Ended at = Unit {0}
+
 -- it may get units still
 abbrev pub HasNotEnded : Hold → Type 0
 HasNotEnded s = s ≢ hold.Ended

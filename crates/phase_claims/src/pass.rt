@@ -1,6 +1,7 @@
 // The passes of a floor.
 ghost use Rattle.claim_core.specs.Phases.{IsPhase};
 ghost use Rattle.std.specs.Prelude.{◌≡◌, ℕ};
+ghost use Rattle.phase_claims.specs.Passes.{IsAmongOpen};
 ghost use Rattle.phase_claims.specs.PlacesHome.{carried};
 
 use crate::rule::PassSeat;
@@ -65,7 +66,8 @@ impl Pass {
 
     /// What it has of the units.
     pub fn hold(&self) -> Hold
-        ensures { result ≡ self.now.view.stage }
+        ensures stage { result ≡ self.now.view.stage }
+        ensures at { IsAmongOpen self.now.view.stage self.now.view.at }
     {
         self.place.stage
     }

@@ -1,13 +1,9 @@
 // The counts of a node's cell are added to those of the nodes before it.
 ghost use Rattle.dta_model.specs.Lent.{plan_of};
-ghost use Rattle.dta_model.specs.Loading.{trace_after};
-ghost use Rattle.dta_model.specs.Plans.{ins as ins_of};
 ghost use Rattle.dta_model.specs.Sound.{IsSound};
-ghost use Rattle.dta_model.specs.State.{count_on};
-ghost use Rattle.dta_model.specs.declared.plan.Plan.{Plan};
 ghost use Rattle.cell_stages.specs.Contents.{away, cell_before};
 ghost use Rattle.phase_claims.specs.PlacesCounted.{counted_in, firsts_on};
-ghost use Rattle.std.specs.Prelude.{◌≡◌, ◌<◌, ℕ, Some, suc, length, slice_get, slice_set};
+ghost use Rattle.std.specs.Prelude.{◌≡◌, ◌<◌, suc, length};
 
 use crate::noted_cell::NotedCell;
 use dta_model::{Eight, Loading};
@@ -43,19 +39,11 @@ fn add_links(loading: &Loading, node: NodeNo, steps: u32, cell: &NotedCell, firs
     ensures { first.new ≡ firsts_on (plan_of loading.now) steps (suc node.0) }
 {
     let ins = loading.net.ins(node);
-    for place in 0..ins.len().min(4) {
-        put_count(first, ins[place].0, cell, place);
-    }
-}
-
-// Puts the count of the in-link of a place, where it is one of the first four links.
-fn put_count(first: &mut [u64; 4], link: u32, cell: &NotedCell, place: usize)
-    requires { place < length cell.now.ins }
-    ensures { (p : Plan) (n t : ℕ) → cell.now ≡ cell_before p n t away away
-        → slice_get (ins_of p n) place ≡ Some link
-        → first.new ≡ slice_set first.old link (count_on (trace_after p t) link) }
-{
-    if (link as usize) < first.len() {
-        first[link as usize] = cell.on_link(place);
+    for place in 0..ins.len() {
+        let link = ins[place].0 as usize;
+        if link >= first.len() {
+            return;
+        }
+        first[link] = cell.on_link(place);
     }
 }

@@ -17,7 +17,7 @@ use Rattle.net_core.specs.Rows.{IsTurning}
 use Rattle.net_core.specs.declared.rows.LinkRow.{LinkRow}
 use Rattle.net_core.specs.declared.rows.NodeRow.{NodeRow}
 use Rattle.net_core.specs.declared.rows.TurnRow.{TurnRow}
-use Rattle.dta_model.specs.Release.{vehicles_before}
+use Rattle.dta_model.specs.Release.{HaveWindows, vehicles_before}
 use Rattle.dta_model.specs.declared.trip.DemandCell.{DemandCell}
 use Rattle.dta_model.specs.declared.trip.TheConstants.{MOST_TRIPS}
 use Rattle.gmns_tables.specs.Links.{link_verdict}
@@ -48,7 +48,8 @@ use Rattle.jobs.proofs.TableFacts.{joined-net}
 use Rattle.reference.specs.Laws.{IsAccepted}
 use Rattle.row_reader.proofs.Kept.{next_ok, same_Ok}
 use Rattle.reference.proofs.NetTables.{are-between, are-links, are-nodes, are-turning, are-turns}
-use Rattle.reference.proofs.OtherTables.{are-cells, are-starts, are-times}
+use Rattle.demand.proofs.DemandFacts.{are-cells, no-windows}
+use Rattle.reference.proofs.OtherTables.{are-starts, are-times}
 use Rattle.dta_words.proofs.RangeFacts.{settings_in_range}
 use Rattle.reference.proofs.SweepFacts.{trips-below}
 
@@ -121,6 +122,7 @@ module _ (s : Settings) (in_range : AreSettings s) (given : Settings) (job : Job
   -- what is true of the rows of all tables
   record AreSound (rows : TableRows) : Type 0 where
     net : IsNet (net_of rows)
+    windows : HaveWindows s.period ((inputs_by k).released rows.demand_cells)
     few : IsWithin ((inputs_by k).released rows.demand_cells)
     start : AreStartRows rows.start
     times : (inputs_by k).takes_times → AreRowsOf (net_of rows) s.bucket s.horizon rows.times
@@ -132,7 +134,8 @@ module _ (s : Settings) (in_range : AreSettings s) (given : Settings) (job : Job
       let made : job_of s rows ≡ job = cc in
       let good : IsJob s (job_of s rows) = record {
         net = sound.net;
-        trips = trips-below s in_range ((inputs_of s.command).released rows.demand_cells) (subst (λ (x : Kind). IsWithin ((inputs_by x).released rows.demand_cells)) (sym is) sound.few);
+        trips = trips-below s in_range ((inputs_of s.command).released rows.demand_cells) (subst (λ (x : Kind). HaveWindows s.period ((inputs_by x).released rows.demand_cells)) (sym is) sound.windows)
+            (subst (λ (x : Kind). IsWithin ((inputs_by x).released rows.demand_cells)) (sym is) sound.few);
         start = sound.start;
         times = subst (λ (x : Kind). (inputs_by x).takes_times → AreRowsOf (net_of rows) s.bucket s.horizon rows.times) (sym is) sound.times;
         sweep = λ asks. sound.sweep (sym is ∙ asks);
@@ -188,10 +191,10 @@ module _ (s : Settings) (in_range : AreSettings s) (given : Settings) (job : Job
         }) e1)
 
     with-cells : {P : Type 0} (others : List Table) (rows : TableRows) → Says (table.Demand ∷ others) rows
-        → ((cells : List DemandCell) → AreDemandCells cells → Says others (record rows { demand_cells = cells }) → P) → P
+        → ((cells : List DemandCell) → AreDemandCells s.period cells → Says others (record rows { demand_cells = cells }) → P) → P
     with-cells others rows e then =
-        one-table table.Demand others rows (demand_verdict (records (texts table.Demand))) (λ cells. record rows { demand_cells = cells }) refl e (λ cells is e1.
-        then cells (are-cells _ cells is) e1)
+        one-table table.Demand others rows (demand_verdict s.period (records (texts table.Demand))) (λ cells. record rows { demand_cells = cells }) refl e (λ cells is e1.
+        then cells (are-cells s.period in_range.period.0 _ cells is) e1)
 
     with-times : {P : Type 0} (others : List Table) (rows : TableRows) → Says (table.Times ∷ others) rows
         → ((times : List TimeRow) → AreRowsOf (net_of rows) s.bucket s.horizon times → Says others (record rows { times = times }) → P) → P
@@ -214,6 +217,7 @@ module _ (s : Settings) (in_range : AreSettings s) (given : Settings) (job : Job
       roads s in_range given job FreeFlow is texts (sized FreeFlow) [] e (λ nodes links net e1.
       accepted s in_range given job FreeFlow is (road_rows nodes links) (record {
         net = net;
+        windows = no-windows s.period;
         few = none-within;
         start = no-start-rows;
         times = λ k. absurd k;
@@ -228,6 +232,7 @@ module _ (s : Settings) (in_range : AreSettings s) (given : Settings) (job : Job
       with-times s in_range given job Skimming is texts next [] (record (road_rows nodes links) { turns = turns }) e2 (λ times are e3.
       accepted s in_range given job Skimming is (record (road_rows nodes links) { turns = turns; times = times }) (record {
         net = whole;
+        windows = no-windows s.period;
         few = none-within;
         start = no-start-rows;
         times = λ k. are;
@@ -240,13 +245,14 @@ module _ (s : Settings) (in_range : AreSettings s) (given : Settings) (job : Job
       roads s in_range given job Assigning is texts next (table.Movement ∷ table.Demand ∷ start_tables s.start) e (λ nodes links net e1.
       with-turns s in_range given job Assigning is texts next (table.Demand ∷ start_tables s.start) (road_rows nodes links) net e1 (λ turns whole e2.
       with-cells s in_range given job Assigning is texts next (start_tables s.start) (record (road_rows nodes links) { turns = turns }) e2 (λ cells cells-are e3.
-      rest nodes links turns cells whole s.start e3)))
+      rest nodes links turns cells whole cells-are.windows s.start e3)))
     where
-      finish : (rows : TableRows) → IsNet (net_of rows) → AreStartRows rows.start → Accepts given job (sized Assigning rows) → IsAccepted given job
-      finish rows net start e =
+      finish : (rows : TableRows) → IsNet (net_of rows) → HaveWindows s.period rows.demand_cells → AreStartRows rows.start → Accepts given job (sized Assigning rows) → IsAccepted given job
+      finish rows net windows start e =
           let loaded = unlimited given job _ s rows e in
           accepted s in_range given job Assigning is rows (record {
             net = net;
+            windows = windows;
             few = on-sizes s rows loaded.0;
             start = start;
             times = λ k. absurd k;
@@ -254,14 +260,14 @@ module _ (s : Settings) (in_range : AreSettings s) (given : Settings) (job : Job
           }) loaded.1
 
       rest : (nodes : List NodeRow) (links : List (WithWindows LinkRow)) (turns : List (WithWindows TurnRow)) (cells : List DemandCell)
-          → IsNet (net_of (record (road_rows nodes links) { turns = turns })) → (start : Bool)
+          → IsNet (net_of (record (road_rows nodes links) { turns = turns })) → HaveWindows s.period cells → (start : Bool)
           → Accepts given job (verdict_on s (start_tables start) texts (record (road_rows nodes links) { turns = turns; demand_cells = cells }) (sized Assigning)) → IsAccepted given job
-      rest nodes links turns cells whole false e = finish (record (road_rows nodes links) { turns = turns; demand_cells = cells }) whole no-start-rows e
-      rest nodes links turns cells whole true e =
+      rest nodes links turns cells whole windows false e = finish (record (road_rows nodes links) { turns = turns; demand_cells = cells }) whole windows no-start-rows e
+      rest nodes links turns cells whole windows true e =
           let rows : TableRows = record (road_rows nodes links) { turns = turns; demand_cells = cells } in
           one-table s in_range given job Assigning is texts (sized Assigning) table.Start [] rows (start_verdict (records (texts table.Start))) (λ start. record rows { start = start })
           (ap (λ (k : Kind). (inputs_by k).with_agents rows (texts table.Start)) is) e (λ start starts e1.
-          finish (record rows { start = start }) whole (are-starts _ start starts) e1)
+          finish (record rows { start = start }) whole windows (are-starts _ start starts) e1)
 
   sweep : kind_of s.command ≡ Sweeping → Comes Sweeping → IsAccepted given job
   sweep is e =
@@ -275,11 +281,12 @@ module _ (s : Settings) (in_range : AreSettings s) (given : Settings) (job : Job
       let same : (inputs_of s.command).swept cells ≡ cells = ap (λ (k : Kind). (inputs_by k).swept cells) is in
       accepted s in_range given job Sweeping is rows (record {
         net = whole;
+        windows = no-windows s.period;
         few = none-within;
         start = no-start-rows;
         times = λ k. absurd k;
         sweep = λ k. record {
-          cells = subst AreDemandCells (sym same) cells-are;
+          cells = subst (AreDemandCells s.period) (sym same) cells-are;
           few = rw (length-map links (λ (link : WithWindows LinkRow). link.row)) (leb-true _ _ roomy.0);
           within = subst (λ (cs : List DemandCell). AreAllWithin cs s.scales) (sym same) (on-scales cells s.scales roomy.1);
         };
@@ -299,6 +306,7 @@ module _ (s : Settings) (in_range : AreSettings s) (given : Settings) (job : Job
       let loaded = unlimited given job _ s all e5 in
       accepted s in_range given job Auditing is all (record {
         net = whole;
+        windows = cells-are.windows;
         few = on-sizes s all loaded.0;
         start = no-start-rows;
         times = λ k. are;

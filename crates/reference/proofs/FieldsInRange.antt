@@ -13,34 +13,16 @@ use Rattle.fixed_units.specs.Quantity.{within as within_limit}
 use Rattle.fixed_units.specs.declared.quantity.TheConstants.{MOST_THOUSANDTHS}
 use Rattle.fixed_units.specs.declared.turn.TheConstants.{MOST_PENALTY, MOST_PENALTY_STEPS}
 use Rattle.fixed_units.specs.Units.{penalty_steps_of}
-use Rattle.row_reader.specs.Fields.{numbered, option_of, optional_quantity, quantity, quantity_or, within}
+use Rattle.row_reader.specs.Fields.{numbered, option_of, optional_quantity, quantity_or}
 use Rattle.fixed_units.specs.declared.fault.NumberFault.{NumberFault}
 use Rattle.row_reader.specs.declared.faults.Column.{Column}
 use Rattle.row_reader.specs.declared.faults.Complaint.{Complaint}
+use Rattle.demand.proofs.DemandFacts.{milli-below, numbered-ok}
 use Rattle.net_core.specs.Ids.{pair_eq}
 use Rattle.net_core.proofs.IdsFacts.{is_some-position}
-use Rattle.row_reader.proofs.Kept.{chosen, otherwise, same_Ok}
+use Rattle.row_reader.proofs.Kept.{same_Ok}
 
 -- ---- numbers
-
-pub within-limit : (limit value n : ℕ) → within_limit limit value ≡ Ok n → n ≤ limit
-within-limit limit value n e =
-    let is = chosen (nat_le value limit) (Ok value) _ n e in
-    subst (λ k. k ≤ limit) (same_Ok value n is.1) (leb-true value limit is.0)
-
-pub milli-below : (text : List ℕ) (n : ℕ) → milli_of text ≡ Ok n → n ≤ MOST_THOUSANDTHS
-milli-below text n e =
-    let form = chosen (is_quantity text) _ _ n e in
-    let sign = otherwise _ _ _ n form.1 in
-    within-limit MOST_THOUSANDTHS (1000 * numerator (unsigned text) / denominator (unsigned text)) n sign.1
-
-numbered-ok : (what : Column) (r : Result ℕ NumberFault) (n : ℕ) → numbered what r ≡ Ok n → r ≡ Ok n
-numbered-ok what (Ok k) n e = ap Ok (same_Ok k n e)
-numbered-ok what (Err fault) n e = absurd cc
-
-pub quantity-below : (what : Column) (text : List ℕ) (n : ℕ) → quantity what text ≡ Ok n → n ≤ MOST_THOUSANDTHS
-unfolding quantity
-quantity-below what text n e = milli-below text n (numbered-ok what (milli_of text) n (otherwise _ _ _ n e).1)
 
 pub quantity_or-below : (default : ℕ) (what : Column) (text : List ℕ) (n : ℕ) → default ≤ MOST_THOUSANDTHS → quantity_or default what text ≡ Ok n → n ≤ MOST_THOUSANDTHS
 unfolding quantity_or
@@ -59,11 +41,6 @@ optional-below what text o e = elim (nat_eq (length text) 0) as (λ b. nat_eq (l
   | true ↦ λ none. subst (λ o. IfSome o (λ n. n ≤ MOST_THOUSANDTHS)) (same_Ok None o (rw none at e)) tt
   | false ↦ λ some. option_of-below what (numbered what (milli_of text)) o (λ n k. milli-below text n (numbered-ok what (milli_of text) n k)) (rw some at e)
 ] refl
-
-pub within-high : (what : Column) (low high n k : ℕ) → within what low high n ≡ Ok k → k ≤ high
-within-high what low high n k e =
-    let is = chosen (nat_le low n && nat_le n high) (Ok n) _ k e in
-    subst (λ k. k ≤ high) (same_Ok n k is.1) (leb-true n high (and_parts _ _ is.0).1)
 
 -- ---- steps, vehicles and rates
 

@@ -47,7 +47,8 @@ use Rattle.gmns_tables.proofs.NetFacts.{no-turns}
 use Rattle.gmns_tables.proofs.StepsFacts.{are_windows}
 use Rattle.gmns_tables.proofs.TableFacts.{tells-all}
 use Rattle.gmns_tables.proofs.TurningFacts.{movement_of-turning}
-use Rattle.reference.proofs.FieldsInRange.{fresh, milli-below, optional-below, pair_eq_equiv, penalty-below, quantity_or-below, rate-below, stored, within-high, within-limit}
+use Rattle.demand.proofs.DemandFacts.{milli-below, within-high, within-limit}
+use Rattle.reference.proofs.FieldsInRange.{fresh, optional-below, pair_eq_equiv, penalty-below, quantity_or-below, rate-below, stored}
 use Rattle.row_reader.proofs.Kept.{Before, chosen, kept, next_ok, same_Ok}
 
 -- ---- nodes

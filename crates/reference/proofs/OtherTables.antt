@@ -1,5 +1,5 @@
--- The rows of accepted demand, start and times tables are in range.
-use Rattle.std.proofs.Common.{◌≡◌, ◌≤◌, ◌<◌, ◌+◌, ◌∙◌, ℕ, zero, suc, List, [], ◌∷◌, ◌++◌, length, length-append, refl, ap, subst, arith}
+-- The rows of accepted start and times tables are in range.
+use Rattle.std.proofs.Common.{◌≡◌, ◌≤◌, ◌<◌, ◌+◌, ◌-◌, ◌∙◌, ℕ, zero, suc, List, [], ◌∷◌, ◌++◌, length, length-append, refl, ap, subst, arith}
 use Rattle.std.specs.Prelude.{Ok, is_some}
 use Rattle.std.specs.Cmp.{nat_eq_equiv}
 use Rattle.std.specs.List.{range_with_len}
@@ -16,10 +16,9 @@ use Rattle.row_reader.specs.declared.faults.Code.TheVariants as code
 use Rattle.row_reader.specs.declared.faults.Column.TheVariants as column
 use Rattle.net_core.specs.Ids.{place_of}
 use Rattle.net_core.specs.declared.rows.NetRows.{NetRows}
+use Rattle.dta_model.specs.Release.{HaveWindows}
 use Rattle.dta_model.specs.declared.trip.DemandCell.{DemandCell}
 use Rattle.gmns_tables.proofs.ChainFacts.{unless-ok}
-use Rattle.demand.specs.DemandRows.{AreDemandCells, demand_cell_of, demand_columns, demand_verdict}
-use Rattle.demand.specs.declared.demand_rows.TheConstants.{MOST_DEMAND_CELLS}
 use Rattle.start_table.specs.Starts.{AreStartRows, agents_of}
 use Rattle.start_table.specs.StartTable.{ids_in, start_columns, start_row_of, start_verdict}
 use Rattle.start_table.specs.declared.rows.StartRow.{StartRow}
@@ -30,43 +29,8 @@ use Rattle.skims.specs.declared.time_rows.TimeRow.{TimeRow}
 use Rattle.skims.specs.declared.times_table.TheConstants.{MOST_TIME_ROWS}
 use Rattle.skims.proofs.TimesFacts.{rows-told}
 use Rattle.assignment.proofs.AssignmentFacts.{no-start-rows}
-use Rattle.reference.proofs.FieldsInRange.{fresh, quantity-below}
+use Rattle.reference.proofs.FieldsInRange.{fresh}
 use Rattle.row_reader.proofs.Kept.{kept, next_ok, same_Ok}
-
--- ---- demand
-
-one-number-more : (n a b : ℕ) → a + n ≡ b → range_with_len a n ++ b ∷ [] ≡ range_with_len a (suc n)
-one-number-more zero a b e = let same : a ≡ b = omega arith in rw same refl
-one-number-more (suc n) a b e = ap (λ l. a ∷ l) (one-number-more n (a + 1) b (omega arith))
-
-one-cell-more : (cells : List DemandCell) (cell : DemandCell) → AreDemandCells cells → length cells < MOST_DEMAND_CELLS → cell.line ≡ length cells + 2
-    → cell.volume ≤ MOST_THOUSANDTHS → AreDemandCells (cells ++ cell ∷ [])
-one-cell-more cells cell are room line volume =
-    let more : length (cells ++ cell ∷ []) ≡ suc (length cells) = omega (arith, length-append cells (cell ∷ [])) in
-    let below : 2 + length cells ≡ cell.line = omega arith in
-    record {
-      few = omega arith;
-      volumes = All-push (λ c. c.volume ≤ MOST_THOUSANDTHS) cells cell are.volumes volume;
-      lines = rw more (map_push (λ (c : DemandCell). c.line) cells cell ∙ ap (λ l. l ++ cell.line ∷ []) are.lines
-          ∙ one-number-more (length cells) 2 cell.line below);
-    }
-
-cell-more : (before : List DemandCell) (r : FieldsView) (cell : DemandCell) → demand_cell_of before r ≡ Ok cell
-    → length before < MOST_DEMAND_CELLS → AreDemandCells before → AreDemandCells (before ++ cell ∷ [])
-unfolding demand_cell_of
-cell-more before r cell e room are =
-    next_ok (identifier column.OZoneId (text r column.OZoneId)) _ cell e (λ origin _ e1.
-    next_ok (identifier column.DZoneId (text r column.DZoneId)) _ cell e1 (λ destination _ e2.
-    next_ok (quantity column.Volume (text r column.Volume)) _ cell e2 (λ volume volume-is e3.
-    subst (λ (c : DemandCell). AreDemandCells (before ++ c ∷ [])) (same_Ok _ _ e3)
-    (one-cell-more before (record { line = length before + 2; origin = origin; destination = destination; volume = volume }) are room refl
-    (quantity-below column.Volume (text r column.Volume) volume volume-is)))))
-
-pub no-cells : AreDemandCells []
-no-cells = record { few = omega arith; volumes = All-nil _; lines = refl }
-
-pub are-cells : (all : List Record) (cells : List DemandCell) → demand_verdict all ≡ Ok cells → AreDemandCells cells
-are-cells all cells e = kept AreDemandCells table.Demand MOST_DEMAND_CELLS demand_columns demand_cell_of cell-more all cells e no-cells
 
 -- ---- the start table
 

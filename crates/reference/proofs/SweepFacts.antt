@@ -2,7 +2,7 @@
 use Rattle.std.proofs.Common.{ℕ, ◌-◌, ◌<◌, List, [], ◌∷◌, length, map, refl, arith}
 use Rattle.std.proofs.lemmas.List.Elements.{All-head, All-tail, All-weaker}
 use Rattle.std.proofs.lemmas.List.FromFn.{length-map-range_with_len}
-use Rattle.dta_model.specs.Release.{trips_of, vehicles_before}
+use Rattle.dta_model.specs.Release.{HaveWindows, trips_of, vehicles_before}
 use Rattle.dta_model.specs.declared.trip.DemandCell.{DemandCell}
 use Rattle.dta_model.specs.declared.trip.Trip.{Trip}
 use Rattle.vehicle_release.specs.Limits.{IsWithin}
@@ -10,6 +10,7 @@ use Rattle.vehicle_release.proofs.WholeFacts.{all_within, are_early, are_rising,
 use Rattle.dta_words.specs.Ranges.{AreSettings}
 use Rattle.dta_words.specs.declared.command.Settings.{Settings}
 use Rattle.sweep.specs.Scales.{AreAllWithin, scaled}
+use Rattle.sweep.proofs.LimitFacts.{scaled_windows}
 use Rattle.sweep.specs.Scenarios.{AreScenarios, IsScenario, traffic_at}
 use Rattle.assignment.specs.Traffic.{AreTripsBelow}
 use Rattle.jobs.specs.Jobs.{IsJob, IsSweepJob, JobRows}
@@ -21,22 +22,21 @@ use Rattle.reference.proofs.AssignedFacts.{before-last}
 use Rattle.reference.proofs.Iterated.{iterated, place-of}
 
 -- the trips of a demand that is within the limit
-pub trips-below : (s : Settings) → AreSettings s → (cells : List DemandCell) → IsWithin cells → AreTripsBelow s.horizon (trips_of cells s.period)
-trips-below s settings cells within =
-    let trips = trips_of cells s.period in
-    let lasts = settings.period.0 in
+pub trips-below : (s : Settings) → AreSettings s → (cells : List DemandCell) → HaveWindows s.period cells → IsWithin cells → AreTripsBelow s.horizon (trips_of cells)
+trips-below s settings cells windows within =
+    let trips = trips_of cells in
     let most = settings.period.1 in record {
-      in_order = are_trips cells s.period (vehicles_before cells (length cells)) trips lasts refl (all_within cells within) refl;
-      rising = are_rising cells s.period trips lasts refl;
+      in_order = are_trips cells (vehicles_before cells (length cells)) trips windows.some refl (all_within cells within) refl;
+      rising = are_rising cells trips windows.some refl;
       early = All-weaker (λ (trip : Trip). trip.departure < s.period) (λ (trip : Trip). trip.departure < s.horizon) (λ trip h. omega (arith, h, most)) trips
-          (are_early cells s.period trips lasts refl);
+          (are_early cells s.period trips windows refl);
     }
 
 module _ (s : Settings) (job : JobRows) (settings : AreSettings s) (good : IsJob s job) where
-  scenario-is : (scale : ℕ) → IsWithin (scaled scale job.demand_cells)
-      → IsScenario s job.net job.demand_cells scale (scenario_over s scale (traffic_at s job.net job.demand_cells scale))
-  scenario-is scale within =
-      let traffic = traffic_at s job.net job.demand_cells scale in
+  scenario-is : (scale : ℕ) → HaveWindows s.period job.demand_cells → IsWithin (scaled scale job.demand_cells)
+      → IsScenario s job.net job.demand_cells scale (scenario_over s scale (traffic_at job.net job.demand_cells scale))
+  scenario-is scale windows within =
+      let traffic = traffic_at job.net job.demand_cells scale in
       let last = s.iterations - 1 in record {
         scale_is = refl;
         texts = record {
@@ -44,7 +44,7 @@ module _ (s : Settings) (job : JobRows) (settings : AreSettings s) (good : IsJob
           lines = all_gaps s traffic;
           last = routes_at s traffic last;
           line = gap_at s traffic last;
-          iterations = iterated s traffic settings good.net (trips-below s settings (scaled scale job.demand_cells) within) no-start-rows;
+          iterations = iterated s traffic settings good.net (trips-below s settings (scaled scale job.demand_cells) (scaled_windows s.period scale job.demand_cells windows) within) no-start-rows;
           as_many = length-map-range_with_len (routes_at s traffic) 0 s.iterations;
           with_gaps = length-map-range_with_len (gap_at s traffic) 0 s.iterations;
           last_routes = place-of (routes_at s traffic) s.iterations last (before-last s.iterations settings.iterations.0);
@@ -56,18 +56,18 @@ module _ (s : Settings) (job : JobRows) (settings : AreSettings s) (good : IsJob
         };
       }
 
-  scenarios-are : (scales : List ℕ) → AreAllWithin job.demand_cells scales
-      → AreScenarios s job.net job.demand_cells scales (map (λ scale. scenario_over s scale (traffic_at s job.net job.demand_cells scale)) scales)
-  scenarios-are [] within = tt
-  scenarios-are (scale ∷ scales) within = (
-    scenario-is scale (All-head (λ n. IsWithin (scaled n job.demand_cells)) scale scales within),
-    scenarios-are scales (All-tail (λ n. IsWithin (scaled n job.demand_cells)) scale scales within),
+  scenarios-are : (scales : List ℕ) → HaveWindows s.period job.demand_cells → AreAllWithin job.demand_cells scales
+      → AreScenarios s job.net job.demand_cells scales (map (λ scale. scenario_over s scale (traffic_at job.net job.demand_cells scale)) scales)
+  scenarios-are [] windows within = tt
+  scenarios-are (scale ∷ scales) windows within = (
+    scenario-is scale windows (All-head (λ n. IsWithin (scaled n job.demand_cells)) scale scales within),
+    scenarios-are scales windows (All-tail (λ n. IsWithin (scaled n job.demand_cells)) scale scales within),
   )
 
   pub swept : IsSweepJob s job → AreSwept s job (sweep_texts (scenarios_of s job))
   unfolding scenarios_of
   swept sweep = record {
     scenarios = scenarios_of s job;
-    sweep = scenarios-are s.scales sweep.within;
+    sweep = scenarios-are s.scales sweep.cells.windows sweep.within;
     texts_are = refl;
   }

@@ -28,4 +28,4 @@ scenario_over s scale traffic = record {
 -- the scenarios of a job's sweep
 unfoldable pub scenarios_of : Settings → JobRows → List Scenario
 scenarios_of s job =
-    map (λ scale. scenario_over s scale (traffic_at s job.net job.demand_cells scale)) s.scales
+    map (λ scale. scenario_over s scale (traffic_at job.net job.demand_cells scale)) s.scales

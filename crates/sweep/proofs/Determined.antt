@@ -12,7 +12,6 @@ use Rattle.reports.specs.declared.summary.Summary.{Summary}
 use Rattle.dta_words.specs.declared.command.Settings.{Settings}
 use Rattle.assignment.specs.Assignment.{AreIterations, Traffic, VehicleRoutes, plan_of, summary_of, times_of, unrouted}
 use Rattle.assignment.proofs.Determined.{RouteLaws, by-same-times, same-lines, same-routes}
-use Rattle.sweep.specs.Scales.{trips_at}
 use Rattle.sweep.specs.Laws.{Agree, ScenariosStandAlone}
 use Rattle.sweep.specs.Scenarios.{HasTexts, traffic_at}
 use Rattle.sweep.specs.declared.scenario.Scenario.{Scenario}
@@ -97,11 +96,9 @@ same-scenario x y scale agent link_time gap report =
 
 pub scenarios_stand_alone : RouteLaws → ScenariosStandAlone
 scenarios_stand_alone laws a b net cells scale x y agree p q =
-    let traffic = traffic_at a net cells scale in
-    let same : traffic_at b net cells scale ≡ traffic = ap (λ n. record { net = net; trips = trips_at scale cells n; start = [] }) (sym agree.period) in
-    let others : HasTexts b traffic y = subst (λ (t : Traffic). HasTexts b t y) same q.texts in
+    let traffic = traffic_at net cells scale in
     same-scenario x y (p.scale_is ∙ sym q.scale_is)
-    (agent-same a b agree traffic laws x y p.texts others)
-    (link-time-same a b agree traffic laws x y p.texts others)
-    (gap-same a b agree traffic laws x y p.texts others)
-    (report-same a b agree traffic laws x y p.texts others)
+    (agent-same a b agree traffic laws x y p.texts q.texts)
+    (link-time-same a b agree traffic laws x y p.texts q.texts)
+    (gap-same a b agree traffic laws x y p.texts q.texts)
+    (report-same a b agree traffic laws x y p.texts q.texts)

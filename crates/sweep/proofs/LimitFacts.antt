@@ -2,10 +2,10 @@
 use Rattle.std.proofs.Common.{◌≡◌, ◌≢◌, ℕ, ◌+◌, ◌/◌, ◌<◌, ◌≤◌, ◌^◌, List, length, get_or, arith, refl, ap, sym, subst, ◌∙◌}
 use Rattle.std.specs.Prelude.{Result, Err, Some, ◌↔◌, slice_get}
 use Rattle.std.proofs.lemmas.List.{get_or-map, length-map}
-use Rattle.std.proofs.lemmas.List.Elements.{All-get_or}
+use Rattle.std.proofs.lemmas.List.Elements.{All-get_or, All-map}
 use Rattle.std.proofs.lemmas.Option.{slice_get-get_or, slice_get_within, get_or_from_slice_get}
 use Rattle.fixed_units.specs.declared.quantity.TheConstants.{MOST_THOUSANDTHS}
-use Rattle.dta_model.specs.Release.{counted}
+use Rattle.dta_model.specs.Release.{HaveWindows, counted}
 use Rattle.dta_model.specs.declared.trip.DemandCell.{DemandCell}
 use Rattle.dta_model.specs.declared.trip.TheConstants.{MOST_TRIPS, VOLUME_OF_A_VEHICLE}
 use Rattle.vehicle_release.specs.Limits.{IsFirstAbove, IsWithin}
@@ -17,6 +17,13 @@ use Rattle.sweep.specs.declared.fault.SweepFault.TheVariants as fault
 -- no scaled volume is above the greatest
 scaled_most : (scale volume : ℕ) → scaled_volume scale volume ≤ MOST_THOUSANDTHS
 scaled_most scale volume = grind arith
+
+-- windows stay
+pub scaled_windows : (steps scale : ℕ) (cells : List DemandCell) → HaveWindows steps cells → HaveWindows steps (scaled scale cells)
+scaled_windows steps scale cells windows = record {
+  some = All-map (λ cell. cell.from < cell.to) (scaled_cell scale) cells windows.some;
+  within = All-map (λ cell. cell.to ≤ steps) (scaled_cell scale) cells windows.within;
+}
 
 counted_most : (cell : DemandCell) → cell.volume ≤ MOST_THOUSANDTHS → counted cell ≤ MOST_THOUSANDTHS
 counted_most cell h = grind arith

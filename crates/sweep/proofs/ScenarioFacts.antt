@@ -49,12 +49,12 @@ has-texts s traffic a it done agent link_time gap report =
 
 -- the scenario of a scale, over trips that were released and no start rows
 pub scenario-over : (s : Settings) (net : NetRows) (cells : List DemandCell) (scale : ℕ) (lent trips : List Trip) (start : List StartRow) (it : Scenario)
-    → lent ≡ trips → trips ≡ trips_at scale cells s.period → start ≡ [] → it.scale ≡ scale
+    → lent ≡ trips → trips ≡ trips_at scale cells → start ≡ [] → it.scale ≡ scale
     → HasTexts s (record { net = net; trips = lent; start = start }) it → IsScenario s net cells scale it
 scenario-over s net cells scale lent trips start it same are none scale_is texts = record {
   scale_is = scale_is;
   texts =
-      subst (λ (rows : List StartRow). HasTexts s (record { net = net; trips = trips_at scale cells s.period; start = rows }) it) none
+      subst (λ (rows : List StartRow). HasTexts s (record { net = net; trips = trips_at scale cells; start = rows }) it) none
       (subst (λ (all : List Trip). HasTexts s (record { net = net; trips = all; start = start }) it) (same ∙ are) texts);
 }
 

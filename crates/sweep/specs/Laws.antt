@@ -6,11 +6,11 @@ use Rattle.dta_words.specs.declared.command.Settings.{Settings}
 use Rattle.sweep.specs.Scenarios.{IsScenario}
 use Rattle.sweep.specs.declared.scenario.Scenario.{Scenario}
 
--- settings agree on all that a scenario depends on. Workers, scales and the command may differ
+-- settings agree on all that a scenario depends on. Workers, scales, the command and the
+-- period may differ: the demand has its windows
 pub record Agree (a b : Settings) : Type 0 where
   pub step : a.units.delta ≡ b.units.delta
   pub horizon : a.horizon ≡ b.horizon
-  pub period : a.period ≡ b.period
   pub iterations : a.iterations ≡ b.iterations
   pub bucket : a.bucket ≡ b.bucket
   pub queue : a.queue ≡ b.queue

@@ -10,7 +10,7 @@ use Rattle.vehicle_release.specs.Limits.{IsFirstAbove, IsWithin}
 abbrev pub scaled_volume : ℕ → ℕ → ℕ
 scaled_volume scale volume = min MOST_THOUSANDTHS (volume * scale / 1000)
 
--- a demand row with its volume times a scale
+-- a demand row with its volume times a scale; its window stays
 abbrev pub scaled_cell : ℕ → DemandCell → DemandCell
 scaled_cell scale cell = record cell { volume = scaled_volume scale cell.volume }
 
@@ -19,8 +19,8 @@ abbrev pub scaled : ℕ → List DemandCell → List DemandCell
 scaled scale cells = map (scaled_cell scale) cells
 
 -- the trips of a scenario
-abbrev pub trips_at : ℕ → List DemandCell → ℕ → List Trip
-trips_at scale cells period = trips_of (scaled scale cells) period
+abbrev pub trips_at : ℕ → List DemandCell → List Trip
+trips_at scale cells = trips_of (scaled scale cells)
 
 -- the vehicles of each scenario are no more than there may be
 abbrev pub AreAllWithin : List DemandCell → List ℕ → Type 0

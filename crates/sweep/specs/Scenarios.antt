@@ -13,9 +13,8 @@ use Rattle.sweep.specs.Scales.{trips_at}
 use Rattle.sweep.specs.declared.scenario.Scenario.{Scenario}
 
 -- the traffic of a scenario: the trips of the demand times its scale, without a start table
-abbrev pub traffic_at : Settings → NetRows → List DemandCell → ℕ → Traffic
-traffic_at s net cells scale =
-    record { net = net; trips = trips_at scale cells s.period; start = [] }
+abbrev pub traffic_at : NetRows → List DemandCell → ℕ → Traffic
+traffic_at net cells scale = record { net = net; trips = trips_at scale cells; start = [] }
 
 -- the texts of an assignment of this traffic, as `assign` puts them
 pub record HasTexts (s : Settings) (traffic : Traffic) (it : Scenario) : Type 0 where
@@ -38,7 +37,7 @@ pub record HasTexts (s : Settings) (traffic : Traffic) (it : Scenario) : Type 0 
 pub record IsScenario (s : Settings) (net : NetRows) (cells : List DemandCell) (scale : ℕ)
     (it : Scenario) : Type 0 where
   pub scale_is : it.scale ≡ scale
-  pub texts : HasTexts s (traffic_at s net cells scale) it
+  pub texts : HasTexts s (traffic_at net cells scale) it
 
 -- the scenarios of scales, in their order
 abbrev pub AreScenarios :

@@ -3,6 +3,7 @@ ghost use Rattle.std.specs.Prelude.{◌≡◌, ◌<◌, ◌≤◌, ◌↔◌, �
 ghost use Rattle.std.specs.List.{AllZip};
 ghost use Rattle.fixed_units.specs.declared.quantity.TheConstants.{MOST_THOUSANDTHS};
 ghost use Rattle.dta_model.specs.Loading.{journeys_of};
+ghost use Rattle.dta_model.specs.Release.{HaveWindows};
 ghost use Rattle.assignment.specs.Lent.{IsAssignment, plan_in, settings_in, traffic_in};
 ghost use Rattle.assignment.specs.Progress.{IsAssigned};
 ghost use Rattle.assignment.specs.Traffic.{AreRoutesOf, AreTripsBelow};
@@ -46,14 +47,14 @@ fn released(
 ) -> Result<Vec<Trip>, Memory>
     requires settings { AreSettings settings.now }
     requires volumes { All (λ cell. cell.volume ≤ MOST_THOUSANDTHS) cells.now }
+    requires windows { HaveWindows settings.now.period cells.now }
     requires scale { scale ≤ GREATEST_SCALE }
     requires within { IsWithin (scaled scale cells.now) }
-    ensures trips { IfOk result (λ trips.
-        trips.items ≡ trips_at scale cells.now settings.now.period) }
+    ensures trips { IfOk result (λ trips. trips.items ≡ trips_at scale cells.now) }
     ensures below { IfOk result (λ trips. AreTripsBelow settings.now.horizon trips.items) }
 {
     let scaled = all_times(alloc, cells, scale)?;
-    match release(alloc, &scaled, settings.period) {
+    match release(alloc, &scaled) {
         Ok(trips) => Ok(trips),
         Err(ReleaseFault::TooMany { .. }) => unreachable!(),
         Err(ReleaseFault::Memory) => Err(AllocError),
@@ -100,6 +101,7 @@ fn worked<R: AllocGlobal + Threads + Sync>(
 ) -> Result<Scenario, Memory>
     requires settings { AreSettings settings.now }
     requires volumes { All (λ cell. cell.volume ≤ MOST_THOUSANDTHS) cells.now }
+    requires windows { HaveWindows settings.now.period cells.now }
     requires scale { scale ≤ GREATEST_SCALE }
     requires within { IsWithin (scaled scale cells.now) }
     ensures { IfOk result (IsScenario settings.now net.now cells.now scale) }
@@ -130,6 +132,7 @@ fn side_by_side<R: AllocGlobal + Threads + Sync>(
 ) -> Result<Vec<Result<Scenario, Memory>>, Memory>
     requires settings { AreSettings settings.now }
     requires volumes { All (λ cell. cell.volume ≤ MOST_THOUSANDTHS) cells.now }
+    requires windows { HaveWindows settings.now.period cells.now }
     requires scales { All (λ scale. scale ≤ GREATEST_SCALE) scales.now }
     requires within { AreAllWithin cells.now scales.now }
     ensures { IfOk result (λ all. AllZip (λ scale one.
@@ -138,6 +141,7 @@ fn side_by_side<R: AllocGlobal + Threads + Sync>(
     let one = |place: usize| -> Result<Scenario, Memory>
         requires { AreSettings settings.now
             × All (λ cell. cell.volume ≤ MOST_THOUSANDTHS) cells.now
+            × HaveWindows settings.now.period cells.now
             × All (λ scale. scale ≤ GREATEST_SCALE) scales.now
             × AreAllWithin cells.now scales.now × (place < length scales.now) }
         ensures { IfOk result (IsScenario settings.entry.now net.entry.now cells.entry.now
@@ -177,6 +181,7 @@ fn all_scenarios<R: AllocGlobal + Threads + Sync>(
 ) -> Result<Vec<Scenario>, Memory>
     requires settings { AreSettings settings.now }
     requires volumes { All (λ cell. cell.volume ≤ MOST_THOUSANDTHS) cells.now }
+    requires windows { HaveWindows settings.now.period cells.now }
     requires scales { All (λ scale. scale ≤ GREATEST_SCALE) scales.now }
     requires within { AreAllWithin cells.now scales.now }
     requires workers { 1 ≤ workers }
@@ -210,6 +215,7 @@ pub fn sweep<R: AllocGlobal + Threads + Sync>(
     requires settings { AreSettings settings.now }
     requires scales { AreScales scales.now }
     requires volumes { All (λ cell. cell.volume ≤ MOST_THOUSANDTHS) cells.now }
+    requires windows { HaveWindows settings.now.period cells.now }
     requires workers { 1 ≤ workers }
     ensures scenarios { IfOk result (AreScenarios settings.now net.now cells.now scales.now) }
 

@@ -21,7 +21,7 @@ fn times_scale(volume: u64, scale: u64) -> u64
     (volume * scale / THOUSANDTHS).min(MOST_THOUSANDTHS)
 }
 
-/// A demand row with its volume times a scale.
+/// A demand row with its volume times a scale. Its window stays.
 pub(crate) fn times(cell: &DemandCell, scale: u64) -> DemandCell
     requires volume { cell.now.volume ≤ MOST_THOUSANDTHS }
     requires scale { scale ≤ GREATEST_SCALE }

@@ -1,6 +1,7 @@
 // What is answered of vehicles that go to some zones, a group of zones after another.
-ghost use Rattle.std.specs.Prelude.{◌≡◌, IfOk, OnOk};
+ghost use Rattle.std.specs.Prelude.{◌≡◌, All, IfOk, OnOk};
 ghost use Rattle.time_routes.specs.Searches.{Answers, AreOfZones, AreZones, GoesToAny};
+ghost use Rattle.time_routes.specs.Searches.{IsRightAnswer};
 ghost use Rattle.labels.specs.ToZone.{zone_numbers};
 
 use crate::destination::Destination;
@@ -19,22 +20,31 @@ pub(crate) struct Answer {
     pub(crate) walk: Option<Route>,
 }
 
+/// Answers one after another, with the place of the last that was searched from each zone, and a
+/// list in which the links of a walk are gathered.
+#[derive(Drop)]
+pub(crate) struct Gathered {
+    pub(crate) answers: Vec<Answer>,
+    pub(crate) searched: Vec<usize>,
+    pub(crate) links: Vec<LinkNo>,
+}
+
 impl<'a> Search<'a> {
     // Answers of the vehicles that go to the zones of a group.
     fn answer_group(
         &self,
         alloc: Global,
-        links: &mut Vec<LinkNo>,
         labels: &GroupLabels,
         zones: &[ZoneNo],
-        answers: &mut Vec<Answer>,
+        gathered: &mut Gathered,
     ) -> Result<(), Memory>
         requires net { labels.now.net ≡ self.now.net.now }
         requires times { labels.now.times ≡ self.now.times.now }
         requires of { labels.now.zones ≡ zone_numbers zones.now }
         requires zones { AreZones self.now zones.now }
-        ensures { OnOk result (Answers self.now (GoesToAny self.now zones.now) answers.old.items
-            answers.new.items) }
+        requires right { All (IsRightAnswer self.now) gathered.old.answers.items }
+        ensures { OnOk result (Answers self.now (GoesToAny self.now zones.now)
+            gathered.old.answers.items gathered.new.answers.items) }
     {
         for place in 0..zones.len() {
             let vehicles = self.lists.get(zones[place].0);
@@ -43,7 +53,7 @@ impl<'a> Search<'a> {
                 labels: &*labels,
                 place,
             };
-            there.answer_vehicles(alloc, links, vehicles, answers)?;
+            there.answer_vehicles(alloc, vehicles, gathered)?;
         }
         Ok(())
     }
@@ -61,8 +71,11 @@ impl<'a> Search<'a> {
         requires { AreZones self.now zones.now }
         ensures { IfOk result (λ r. AreOfZones self.now zones.now r.0.items) }
     {
-        let mut answers = Vec::new(alloc);
-        let mut links = Vec::new(alloc);
+        let mut gathered = Gathered {
+            answers: Vec::new(alloc),
+            searched: Vec::from_elem(alloc, 0, self.net.zone_count() as usize)?,
+            links: Vec::new(alloc),
+        };
         let mut spare = spare;
         let mut first = 0;
         while first < zones.len() {
@@ -75,16 +88,10 @@ impl<'a> Search<'a> {
                 spare,
             )?;
             let next = first + labels.count();
-            self.answer_group(
-                alloc,
-                &mut links,
-                &labels,
-                &zones[first..next],
-                &mut answers,
-            )?;
+            self.answer_group(alloc, &labels, &zones[first..next], &mut gathered)?;
             spare = labels.into_spare(alloc);
             first = next;
         }
-        Ok((answers, spare))
+        Ok((gathered.answers, spare))
     }
 }

@@ -5,7 +5,8 @@ ghost use Rattle.dta_model.specs.LinkTimes.{time_at};
 ghost use Rattle.labels.specs.Named.{zone_named};
 ghost use Rattle.labels.specs.ToZone.{destination, TellsLeast, TellsWalk};
 
-use crate::answers::Answer;
+use crate::answers::{Answer, Gathered};
+use crate::answers_again::note_searched;
 use crate::search::Search;
 use dta_model::Route;
 use labels::{GroupLabels, NO_ZONE};
@@ -64,17 +65,18 @@ impl<'a> Destination<'a> {
         }
     }
 
-    // What is answered of a vehicle that goes there.
-    fn answer_of(
+    // What is answered of a vehicle that goes there, searched in the labels.
+    fn search_answer(
         &self,
         alloc: Global,
-        links: &mut Vec<LinkNo>,
+        gathered: &mut Gathered,
         vehicle: u32,
     ) -> Result<Answer, Memory>
         requires { GoesTo self.now.search.now (slice_index self.now.labels.now.zones self.now.place)
             vehicle }
         ensures of { IfOk result (λ answer. answer.vehicle ≡ vehicle) }
         ensures right { IfOk result (IsRightAnswer self.now.search.now) }
+        ensures kept { gathered.new.answers.items ≡ gathered.old.answers.items }
     {
         let from = self.search.origins[vehicle as usize];
         if from == NO_ZONE {
@@ -88,7 +90,8 @@ impl<'a> Destination<'a> {
         let step = self.search.trips[vehicle as usize].departure;
         let ask = self.search.asks[vehicle as usize];
         let least = self.least_if(ask.least, origin, step);
-        let walk = self.walk_if(alloc, links, ask.walk, origin, step)?;
+        let walk = self.walk_if(alloc, &mut gathered.links, ask.walk, origin, step)?;
+        note_searched(gathered, from);
         Ok(Answer {
             vehicle,
             least,
@@ -96,21 +99,43 @@ impl<'a> Destination<'a> {
         })
     }
 
+    // What is answered of a vehicle that goes there, by what was answered of another where that
+    // serves: a zone's links are searched once for all vehicles that leave it in a step.
+    fn answer_of(
+        &self,
+        alloc: Global,
+        gathered: &mut Gathered,
+        vehicle: u32,
+    ) -> Result<Answer, Memory>
+        requires goes { GoesTo self.now.search.now
+            (slice_index self.now.labels.now.zones self.now.place) vehicle }
+        requires right { All (IsRightAnswer self.now.search.now) gathered.old.answers.items }
+        ensures of { IfOk result (λ answer. answer.vehicle ≡ vehicle) }
+        ensures right { IfOk result (IsRightAnswer self.now.search.now) }
+        ensures kept { gathered.new.answers.items ≡ gathered.old.answers.items }
+    {
+        match self.search.answer_again(alloc, gathered, vehicle)? {
+            Some(answer) => Ok(answer),
+            None => self.search_answer(alloc, gathered, vehicle),
+        }
+    }
+
     /// Answers of some vehicles that go there.
     pub(crate) fn answer_vehicles(
         &self,
         alloc: Global,
-        links: &mut Vec<LinkNo>,
         vehicles: &[u32],
-        answers: &mut Vec<Answer>,
+        gathered: &mut Gathered,
     ) -> Result<(), Memory>
-        requires { All (GoesTo self.now.search.now
+        requires goes { All (GoesTo self.now.search.now
             (slice_index self.now.labels.now.zones self.now.place)) vehicles.now }
-        ensures { OnOk result (Answers self.now.search.now (Stands vehicles.now) answers.old.items
-            answers.new.items) }
+        requires right { All (IsRightAnswer self.now.search.now) gathered.old.answers.items }
+        ensures { OnOk result (Answers self.now.search.now (Stands vehicles.now)
+            gathered.old.answers.items gathered.new.answers.items) }
     {
         for vehicle in vehicles {
-            answers.push(self.answer_of(alloc, links, *vehicle)?)?;
+            let answer = self.answer_of(alloc, gathered, *vehicle)?;
+            gathered.answers.push(answer)?;
         }
         Ok(())
     }

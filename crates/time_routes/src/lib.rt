@@ -4,9 +4,14 @@
 //! walks from their departures, whatever their zones, by the labels of a group of destinations
 //! after another: the first in the calling thread, the second by up to four shares of the groups
 //! side by side. None is told exactly where there is no walk, or where it wasn't asked.
+//!
+//! A vehicle takes the answer that was searched last from its zone where that is of the same zones
+//! and departure. So the links that begin in a zone are looked at once for all of these vehicles; a
+//! share takes 8 bytes for each zone of the network to find the answer.
 #![tactic(auto)]
 
 mod answers;
+mod answers_again;
 mod destination;
 mod groups;
 mod put_answers;

@@ -9,13 +9,13 @@ use Rattle.vehicle_release.specs.Unnumbered.{by_departure, renumbered}
 use Rattle.vehicle_release.proofs.OrderFacts.{sorted_by_steps}
 
 -- ---- the order
-pub ordered : (period : ℕ) (xs ys : List Trip) → All (λ trip. trip.departure < period) xs
+pub ordered : (steps : ℕ) (xs ys : List Trip) → All (λ trip. trip.departure < steps) xs
     → IsPermutation xs ys
     → IsNonDecreasingBy (λ trip. trip.departure) ys
-    → IsStableByKey (λ trip. trip.departure) nat_cmp xs ys → ys ≡ by_departure period xs
+    → IsStableByKey (λ trip. trip.departure) nat_cmp xs ys → ys ≡ by_departure steps xs
 unfolding by_departure
-ordered period xs ys early same up stable =
-    sorted_by_steps (λ trip. trip.departure) (λ step. record { number = 0; origin = 0; destination = 0; departure = step }) (λ step. refl) period xs ys early same up stable
+ordered steps xs ys early same up stable =
+    sorted_by_steps (λ trip. trip.departure) (λ step. record { number = 0; origin = 0; destination = 0; departure = step }) (λ step. refl) steps xs ys early same up stable
 
 -- ---- the numbers
 renumbered-append : (from : ℕ) (xs : List Trip) (trip : Trip)

@@ -8,8 +8,8 @@ use Rattle.std.proofs.lemmas.List.{map-append}
 use Rattle.net_core.specs.Network.{numbers_below}
 use Rattle.dta_model.specs.Released.{IsRelease}
 use Rattle.dta_model.specs.Sound.{AreTrips}
-use Rattle.dta_model.proofs.Releases.{departs_is, trips_are_released}
-use Rattle.dta_model.specs.Release.{Released, in_order_of_departure, numbered, released, trip_by, trips_of, vehicles_before}
+use Rattle.dta_model.proofs.Releases.{departs_is, last_windows, trips_are_released}
+use Rattle.dta_model.specs.Release.{HaveWindows, Released, in_order_of_departure, last_end, numbered, released, trip_by, trips_of, vehicles_before}
 use Rattle.dta_model.specs.declared.trip.DemandCell.{DemandCell}
 use Rattle.dta_model.specs.declared.trip.TheConstants.{MOST_TRIPS}
 use Rattle.dta_model.specs.declared.trip.Trip.{Trip}
@@ -17,6 +17,7 @@ use Rattle.vehicle_release.specs.declared.fault.ReleaseFault.{ReleaseFault}
 use Rattle.vehicle_release.specs.declared.fault.ReleaseFault.TheVariants.{TooMany}
 use Rattle.vehicle_release.specs.Limits.{IsWithin, IsFirstAbove}
 use Rattle.vehicle_release.specs.Unnumbered.{by_departure, renumbered, unnumbered}
+use Rattle.vehicle_release.proofs.MadeFacts.{released_early}
 use Rattle.vehicle_release.proofs.NumbersFacts.{length-renumbered, lent}
 use Rattle.vehicle_release.proofs.SumsFacts.{vehicles_before-volume}
 
@@ -53,52 +54,59 @@ by_steps-map cells from (suc n) all =
     ∙ sym (map-append (unnumbered cells) (filter (λ r. nat_eq r.departs from) all) (flat_map (λ step. filter (λ r. nat_eq r.departs step) all) (range_with_len (from + 1) n)))
 
 -- what is in order and numbered is the definition's trips
-trips_made : (cells : List DemandCell) (period : ℕ)
-    → renumbered 0 (by_departure period (map (unnumbered cells) (released cells period))) ≡ trips_of cells period
+trips_made : (cells : List DemandCell)
+    → renumbered 0 (by_departure (last_end cells) (map (unnumbered cells) (released cells))) ≡ trips_of cells
 unfolding trips_of in_order_of_departure by_departure
-trips_made cells period =
-    ap (renumbered 0) (by_steps-map cells 0 period (released cells period))
-    ∙ renumbered-numbered cells 0 (flat_map (λ step. filter (λ r. nat_eq r.departs step) (released cells period)) (numbers_below period))
+trips_made cells =
+    ap (renumbered 0) (by_steps-map cells 0 (last_end cells) (released cells))
+    ∙ renumbered-numbered cells 0 (flat_map (λ step. filter (λ r. nat_eq r.departs step) (released cells)) (numbers_below (last_end cells)))
 
 -- ---- the whole
-module _ (cells : List DemandCell) (period : ℕ) where
+module _ (cells : List DemandCell) where
   -- trips that were made and put in order are the definition's, once they are numbered
-  ordered-numbered : (made ordered : List Trip) → made ≡ map (unnumbered cells) (released cells period)
-      → ordered ≡ by_departure period made
-      → renumbered 0 ordered ≡ trips_of cells period
+  ordered-numbered : (made ordered : List Trip) → made ≡ map (unnumbered cells) (released cells)
+      → ordered ≡ by_departure (last_end cells) made
+      → renumbered 0 ordered ≡ trips_of cells
   ordered-numbered made ordered made_is order =
-      ap (renumbered 0) (order ∙ ap (by_departure period) made_is) ∙ trips_made cells period
+      ap (renumbered 0) (order ∙ ap (by_departure (last_end cells)) made_is) ∙ trips_made cells
 
-  pub ordered_few : (total : ℕ) (made ordered now : List Trip) → 1 ≤ period
+  -- the same of what a sort gives, whose trips depart before the last window ends
+  pub in_order : (made ordered : List Trip) → All (λ cell. cell.from < cell.to) cells
+      → made ≡ map (unnumbered cells) (released cells)
+      → ((steps : ℕ) → All (λ trip. trip.departure < steps) made → ordered ≡ by_departure steps made)
+      → ordered ≡ by_departure (last_end cells) made
+  in_order made ordered windows made_is order = order (last_end cells) (released_early cells made windows made_is)
+
+  pub ordered_few : (total : ℕ) (made ordered now : List Trip) → All (λ cell. cell.from < cell.to) cells
       → total ≡ vehicles_before cells (length cells) → total ≤ MOST_TRIPS
-      → made ≡ map (unnumbered cells) (released cells period) → ordered ≡ by_departure period made
+      → made ≡ map (unnumbered cells) (released cells) → ordered ≡ by_departure (last_end cells) made
       → now ≡ ordered → length now ≤ MOST_TRIPS
-  ordered_few total made ordered now lasts total_is few made_is order is =
+  ordered_few total made ordered now windows total_is few made_is order is =
       let whole = ap length (ordered-numbered made ordered made_is order) in
-      omega (arith, few, total_is, ap length is, length-renumbered 0 ordered, whole, (trips_are_released cells period lasts).total)
+      omega (arith, few, total_is, ap length is, length-renumbered 0 ordered, whole, (trips_are_released cells (last_end cells) (last_windows cells windows)).total)
 
   pub numbered_whole : (n : ℕ) (made ordered now numbered : List Trip)
-      → made ≡ map (unnumbered cells) (released cells period) → ordered ≡ by_departure period made
+      → made ≡ map (unnumbered cells) (released cells) → ordered ≡ by_departure (last_end cells) made
       → n ≡ length ordered → now ≡ ordered → numbered ≡ renumbered 0 now
-      → take n (numbered ++ drop (length numbered) ordered) ≡ trips_of cells period
+      → take n (numbered ++ drop (length numbered) ordered) ≡ trips_of cells
   numbered_whole n made ordered now numbered made_is order long is numbered_is =
       lent n ordered now numbered long is numbered_is ∙ ordered-numbered made ordered made_is order
 
 -- what is true of the definition's trips
-pub are_trips : (cells : List DemandCell) (period total : ℕ) (trips : List Trip) → 1 ≤ period
-    → total ≡ vehicles_before cells (length cells) → total ≤ MOST_TRIPS → trips ≡ trips_of cells period
+pub are_trips : (cells : List DemandCell) (total : ℕ) (trips : List Trip) → All (λ cell. cell.from < cell.to) cells
+    → total ≡ vehicles_before cells (length cells) → total ≤ MOST_TRIPS → trips ≡ trips_of cells
     → AreTrips trips
-are_trips cells period total trips lasts total_is few is =
-    let law = subst (IsRelease cells period) (sym is) (trips_are_released cells period lasts) in
+are_trips cells total trips windows total_is few is =
+    let law = subst (IsRelease cells (last_end cells)) (sym is) (trips_are_released cells (last_end cells) (last_windows cells windows)) in
     record { few = omega (arith, few, total_is, law.total); numbered = law.numbered; apart = law.apart }
 
-pub are_rising : (cells : List DemandCell) (period : ℕ) (trips : List Trip) → 1 ≤ period
-    → trips ≡ trips_of cells period → IsNonDecreasingBy (λ trip. trip.departure) trips
-are_rising cells period trips lasts is = (subst (IsRelease cells period) (sym is) (trips_are_released cells period lasts)).rising
+pub are_rising : (cells : List DemandCell) (trips : List Trip) → All (λ cell. cell.from < cell.to) cells
+    → trips ≡ trips_of cells → IsNonDecreasingBy (λ trip. trip.departure) trips
+are_rising cells trips windows is = (subst (IsRelease cells (last_end cells)) (sym is) (trips_are_released cells (last_end cells) (last_windows cells windows))).rising
 
-pub are_early : (cells : List DemandCell) (period : ℕ) (trips : List Trip) → 1 ≤ period
-    → trips ≡ trips_of cells period → All (λ trip. trip.departure < period) trips
-are_early cells period trips lasts is = (subst (IsRelease cells period) (sym is) (trips_are_released cells period lasts)).early
+pub are_early : (cells : List DemandCell) (steps : ℕ) (trips : List Trip) → HaveWindows steps cells
+    → trips ≡ trips_of cells → All (λ trip. trip.departure < steps) trips
+are_early cells steps trips windows is = (subst (IsRelease cells steps) (sym is) (trips_are_released cells steps windows)).early
 
 -- ---- the limit
 pub all_within : (cells : List DemandCell) → IsWithin cells

@@ -5,10 +5,16 @@ use Rattle.dta_model.specs.declared.trip.DemandCell.{DemandCell}
 use Rattle.dta_model.specs.declared.trip.Trip.{Trip}
 use Rattle.vehicle_release.specs.Unnumbered.{by_departure, renumbered}
 
--- a row of a line, with a volume in thousandths
+-- a row of a line, with a volume in thousandths, over thirty steps
 abbrev row : ℕ → ℕ → ℕ → DemandCell
-row line destination volume =
-    record { line = line; origin = 1; destination = destination; volume = volume }
+row line destination volume = record {
+  line = line;
+  origin = 1;
+  destination = destination;
+  volume = volume;
+  from = 0;
+  to = 30;
+}
 
 -- a trip to a zone
 abbrev trip : ℕ → ℕ → ℕ → Trip

@@ -11,19 +11,19 @@ abbrev pub unnumbered : List DemandCell → Released → Trip
 unnumbered cells r = trip_by (slice_get cells r.row) 0 r.departs
 
 -- the same of vehicle j of the so many that a row has
-abbrev pub trip_at : ℕ → ℕ → DemandCell → ℕ → Trip
-trip_at period vehicles cell j =
+abbrev pub trip_at : ℕ → DemandCell → ℕ → Trip
+trip_at vehicles cell j =
     record {
       number = 0;
       origin = cell.origin;
       destination = cell.destination;
-      departure = departure period vehicles j;
+      departure = departure cell.from cell.to vehicles j;
     }
 
--- trips by the steps of a period in which they depart, those of one step as they stand
+-- trips by the steps in which they depart, of so many steps, those of one step as they stand
 unfoldable pub by_departure : ℕ → List Trip → List Trip
-by_departure period trips =
-    flat_map (λ step. filter (λ trip. nat_eq trip.departure step) trips) (numbers_below period)
+by_departure steps trips =
+    flat_map (λ step. filter (λ trip. nat_eq trip.departure step) trips) (numbers_below steps)
 
 -- trips as they stand, numbered from one on
 abbrev pub renumbered : ℕ → List Trip → List Trip

@@ -1,4 +1,4 @@
-//! The vehicles that a demand table releases over a period.
+//! The vehicles that a demand table releases, each row over its window.
 //!
 //! [`release`] answers exactly the trips of the definition, or the first row with which the
 //! vehicles are too many.

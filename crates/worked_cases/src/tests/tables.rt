@@ -28,7 +28,7 @@ fn have_a_network(alloc: Global, texts: &Texts) -> bool {
 
 // Whether the demand table has the trips between the corners.
 fn have_a_demand(alloc: Global, texts: &Texts) -> bool {
-    match read_demand(alloc, texts.demand.as_slice()) {
+    match read_demand(alloc, texts.demand.as_slice(), 600) {
         Ok(cells) => cells.len() == 12 && cells.iter().all(|cell| cell.volume == 1_500_000),
         Err(_) => false,
     }

@@ -24,7 +24,7 @@ pub returns-clause-makes : goal.returns-clause-makes
 returns-clause-makes c = rw (
   c.in_ok-net.ensures,
   c.requires.kind,
-  trips_of-none c.args.settings.now.period,
+  trips_of-none,
 ) refl
 
 pub returns-clause-sound : goal.returns-clause-sound

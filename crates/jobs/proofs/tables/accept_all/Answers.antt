@@ -17,7 +17,7 @@ returns-in_err-demand_cells-clause-reads g c =
     let p = err_from_is_err_and c.from_residual-in_err-demand_cells.result c.from_residual-in_err-demand_cells.ensures.1 in
     let network = rows_in_network c.in_ok-network.network in
     let r = c.in_ok-network.ensures.reads in
-    let d = c.in_err-demand_cells.ensures.reads c.args.settings.now network in
+    let d = c.in_err-demand_cells.ensures.reads network in
     rw (p.1, p.2) (reads-stopped (reads-both r d) (among-then c.args.settings.now network_tables [] table.Demand no_rows network _ _ _ _ r.done r.later d.stops))
 
 pub returns-clause-reads : goal.returns-clause-reads
@@ -26,6 +26,6 @@ returns-clause-reads g c =
     let network = rows_in_network c.in_ok-network.network in
     let cells = with_demand_cells network c.in_ok-demand_cells.demand_cells in
     let r = c.in_ok-network.ensures.reads in
-    let d = c.in_ok-demand_cells.ensures.reads s network in
+    let d = c.in_ok-demand_cells.ensures.reads network in
     reads-done (reads-both r d) (accepted-both s network_tables (table.Demand ∷ []) no_rows network cells _ _ _ r.done
     (accepted-one s table.Demand network cells _ _ d.done))

@@ -12,14 +12,14 @@ returns-in_err-all_trips-clause-too_many c =
     answers_within _ _ c.in_ok-total.ensures.within (λ line total e. cc (p.1, p.2, e))
 
 pub returns-clause-sound : goal.returns-clause-sound
-returns-clause-sound c = are_trips _ _ c.in_ok-total.total _ c.requires.lasts c.in_ok-total.ensures.total
+returns-clause-sound c = are_trips _ c.in_ok-total.total _ c.requires.windows c.in_ok-total.ensures.total
     (omega (arith, all_within _ c.in_ok-total.ensures.within, c.in_ok-total.ensures.total)) c.in_ok-all_trips.ensures
 
 pub returns-clause-rising : goal.returns-clause-rising
-returns-clause-rising c = are_rising _ _ _ c.requires.lasts c.in_ok-all_trips.ensures
+returns-clause-rising c = are_rising _ _ c.requires.windows c.in_ok-all_trips.ensures
 
 pub returns-clause-early : goal.returns-clause-early
-returns-clause-early c = are_early _ _ _ c.requires.lasts c.in_ok-all_trips.ensures
+returns-clause-early c = λ steps windows. are_early _ steps _ windows c.in_ok-all_trips.ensures
 
 pub returns-clause-too_many : goal.returns-clause-too_many
 returns-clause-too_many c = answers_within _ _ c.in_ok-total.ensures.within (λ line total e. cc)

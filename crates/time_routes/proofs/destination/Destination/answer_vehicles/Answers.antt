@@ -1,4 +1,4 @@
-use Rattle.std.proofs.Common.{◌≡◌, get_or, subst, sym}
+use Rattle.std.proofs.Common.{◌≡◌, ◌∷◌, ◌++◌, [], ap, get_or, subst, sym, ◌∙◌}
 use Rattle.dta_model.specs.LinkTimes.{time_at}
 use Rattle.time_routes.specs.Searches.{Answers}
 use Rattle.time_routes.specs.Tell.{StandsBefore}
@@ -6,20 +6,23 @@ use Rattle.time_routes.proofs.AnswerFacts.{answers_fewer, answers_push, answers_
 use Rattle.time_routes.proofs.TellFacts.{all_before, before_more}
 use Rattle.time_routes.proofs.destination.Destination.answer_vehicles.Goals as goal
 
+pub answer_of-requires-clause-right : goal.answer_of-requires-clause-right
+answer_of-requires-clause-right c = c.loop-vehicle.invariant.right c.requires.right
+
 pub loop-vehicle-preserved : goal.loop-vehicle-preserved
 loop-vehicle-preserved c =
     let s = c.args.self.now.search.now in
     let at = time_at s.times.now in
     let vs = c.args.vehicles.now in
     let i = c.loop-vehicle.vehicle-index in
-    answers_then at s.net.now s.trips.now s.asks.now (StandsBefore vs i) _ _ c.args.answers.now.items c.loop-vehicle.answers.items _
+    answers_then at s.net.now s.trips.now s.asks.now (StandsBefore vs i) _ _ c.args.gathered.now.answers.items c.loop-vehicle.gathered.answers.items _
     c.loop-vehicle.invariant
-    (subst (λ l. Answers s (λ w. w ≡ get_or vs i 0) c.loop-vehicle.answers.items l) (sym c.in_ok-push.ensures.items)
-    (answers_push at s.net.now s.trips.now s.asks.now (get_or vs i 0) c.loop-vehicle.answers.items c.in_ok-answer_of.field-0 c.in_ok-answer_of.ensures.of c.in_ok-answer_of.ensures.right))
+    (subst (λ l. Answers s (λ w. w ≡ get_or vs i 0) c.loop-vehicle.gathered.answers.items l) (sym (c.in_ok-push.ensures.items ∙ ap (λ l. l ++ c.in_ok-answer.answer ∷ []) c.answer_of.ensures.kept))
+    (answers_push at s.net.now s.trips.now s.asks.now (get_or vs i 0) c.loop-vehicle.gathered.answers.items c.in_ok-answer.answer c.in_ok-answer.ensures.of c.in_ok-answer.ensures.right))
     (before_more vs i 0)
 
 pub returns : goal.returns
 returns c =
     let s = c.args.self.now.search.now in
-    answers_fewer (time_at s.times.now) s.net.now s.trips.now s.asks.now (StandsBefore c.args.vehicles.now c.loop-vehicle.vehicle-index) _ c.args.answers.now.items c.loop-vehicle.answers.items c.loop-vehicle.invariant
+    answers_fewer (time_at s.times.now) s.net.now s.trips.now s.asks.now (StandsBefore c.args.vehicles.now c.loop-vehicle.vehicle-index) _ c.args.gathered.now.answers.items c.loop-vehicle.gathered.answers.items c.loop-vehicle.invariant
     (λ v h. all_before c.args.vehicles.now c.loop-vehicle.vehicle-index v c.loop-vehicle-test.false h)

@@ -9,8 +9,8 @@ use Rattle.time_routes.proofs.AnswerFacts.{answers_fewer, answers_then, in_all}
 use Rattle.time_routes.proofs.TellFacts.{first_more, vehicles_lead}
 use Rattle.time_routes.proofs.search.Search.answer_group.Goals as goal
 
-pub answer_vehicles-requires : goal.answer_vehicles-requires
-answer_vehicles-requires c =
+pub answer_vehicles-requires-clause-goes : goal.answer_vehicles-requires-clause-goes
+answer_vehicles-requires-clause-goes c =
     let s = c.args.self.now in
     let place = c.loop-place.place in
     let d : ZoneNo = record { 0 = 0 } in
@@ -21,6 +21,9 @@ answer_vehicles-requires c =
     ap (λ zs. slice_index zs place) c.requires.of ∙ get_or-map (λ z. z.0) c.args.zones.now place d 0 c.loop-place-test.true in
     subst (λ z. All (GoesTo s z) c.get-vehicles.result.now) (sym same) (subst (λ l. All (GoesTo s zone) l) c.get-vehicles.ensures all)
 
+pub answer_vehicles-requires-clause-right : goal.answer_vehicles-requires-clause-right
+answer_vehicles-requires-clause-right c = c.loop-place.invariant.right c.requires.right
+
 pub loop-place-preserved : goal.loop-place-preserved
 loop-place-preserved c =
     let s = c.args.self.now in
@@ -28,12 +31,12 @@ loop-place-preserved c =
     let trips = s.trips.now in
     let asks = s.asks.now in
     let place = c.loop-place.place in
-    answers_then (time_at s.times.now) net trips asks (LeadsToFirst net trips asks c.args.zones.now place) (Stands c.get-vehicles.result.now) _ c.args.answers.now.items c.loop-place.answers.items c.answer_vehicles.new.answers.items
+    answers_then (time_at s.times.now) net trips asks (LeadsToFirst net trips asks c.args.zones.now place) (Stands c.get-vehicles.result.now) _ c.args.gathered.now.answers.items c.loop-place.gathered.answers.items c.answer_vehicles.new.gathered.answers.items
     c.loop-place.invariant c.in_ok-answer_vehicles.ensures
     (first_more net trips asks s.lists s.is.grouped s.is.numbers c.args.zones.now place (record { 0 = 0 }) c.get-vehicles.result.now c.requires.zones c.get-vehicles.ensures)
 
 pub returns : goal.returns
 returns c =
     let s = c.args.self.now in
-    answers_fewer (time_at s.times.now) s.net.now s.trips.now s.asks.now (LeadsToFirst s.net.now s.trips.now s.asks.now c.args.zones.now c.loop-place.place) _ c.args.answers.now.items c.loop-place.answers.items
+    answers_fewer (time_at s.times.now) s.net.now s.trips.now s.asks.now (LeadsToFirst s.net.now s.trips.now s.asks.now c.args.zones.now c.loop-place.place) _ c.args.gathered.now.answers.items c.loop-place.gathered.answers.items
     c.loop-place.invariant (λ v h. in_all s.net.now s.trips.now s.asks.now c.args.zones.now c.loop-place.place v c.loop-place-test.false h)

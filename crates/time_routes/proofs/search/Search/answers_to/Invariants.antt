@@ -5,7 +5,7 @@ use Rattle.time_routes.proofs.search.Search.answers_to.Given as goal
 
 abbrev pub invariant-loop-first : goal.invariant-loop-first
 invariant-loop-first l =
-    Answers l.self (LeadsToFirst l.self.net.now l.self.trips.now l.self.asks.now l.zones l.first) [] l.answers.items
+    Answers l.self (LeadsToFirst l.self.net.now l.self.trips.now l.self.asks.now l.zones l.first) [] l.gathered.answers.items
     × (l.first ≤ length l.zones)
 
 abbrev pub decreases-loop-first : goal.decreases-loop-first
