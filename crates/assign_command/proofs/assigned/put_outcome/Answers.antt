@@ -11,27 +11,6 @@ use Rattle.assign_command.specs.declared.halt.Halt.{Halt}
 use Rattle.assign_command.proofs.AssignFacts.{assigned-cut, assigned-done, halted-memory, halted-watch}
 use Rattle.assign_command.proofs.assigned.put_outcome.Goals as goal
 
-pub put_assigned-requires-clause-last : goal.put_assigned-requires-clause-last
-put_assigned-requires-clause-last g c =
-    let a = c.args.assignment.now in
-    let w = c.requires.watches in
-    (subst (λ (r : Result Iterated Halt). OnlyWatches (IsAssigned (settings_in a) (traffic_in a)) (Halts (settings_in a) (traffic_in a)) w.0 (g.D.Desk.state c.args.desk.now) r)
-    c.in-Ok.is w.1).done.last
-
-pub put_assigned-requires-clause-since : goal.put_assigned-requires-clause-since
-put_assigned-requires-clause-since g c =
-    let a = c.args.assignment.now in
-    let w = c.requires.watches in
-    (subst (λ (r : Result Iterated Halt). OnlyWatches (IsAssigned (settings_in a) (traffic_in a)) (Halts (settings_in a) (traffic_in a)) w.0 (g.D.Desk.state c.args.desk.now) r)
-    c.in-Ok.is w.1).done.since_told
-
-pub put_assigned-requires-clause-counts : goal.put_assigned-requires-clause-counts
-put_assigned-requires-clause-counts g c =
-    let a = c.args.assignment.now in
-    let w = c.requires.watches in
-    (subst (λ (r : Result Iterated Halt). OnlyWatches (IsAssigned (settings_in a) (traffic_in a)) (Halts (settings_in a) (traffic_in a)) w.0 (g.D.Desk.state c.args.desk.now) r)
-    c.in-Ok.is w.1).done.counted
-
 pub returns-in-Ok-put_assigned-clause-works : goal.returns-in-Ok-put_assigned-clause-works
 returns-in-Ok-put_assigned-clause-works g c = λ start job over watches.
     let a = c.args.assignment.now in
