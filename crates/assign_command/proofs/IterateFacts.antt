@@ -1,10 +1,8 @@
 -- The iterations of an assignment, one after another, with what goes out.
 use Rattle.std.specs.Prelude.{Result, Ok, Err, IfOk, IfErr}
 use Rattle.std.proofs.Common.{◌≡◌, ℕ, ◌+◌, ◌≤◌, List, [], ◌∷◌, ◌++◌, refl, sym, subst, ◌∙◌, arith, length-append, inl, inr}
-use Rattle.std.proofs.lemmas.Result.{IfErr-weaker, IfOk-weaker}
 use Rattle.std.proofs.lemmas.Option.{slice_get_within}
 use Rattle.desk_io.specs.Desk.{Taken}
-use Rattle.desk_io.specs.Faults.{Rose}
 use Rattle.desk_io.specs.State.{DeskState}
 use Rattle.dta_model.specs.LinkTimes.{time_at}
 use Rattle.dta_model.specs.declared.eight.Eight.{Eight}
@@ -16,9 +14,9 @@ use Rattle.dta_words.specs.declared.command.Settings.{Settings}
 use Rattle.assignment.specs.Assignment.{AreIterations, Traffic, VehicleRoutes, end_of, times_of}
 use Rattle.assignment.specs.Progress.{HasBegun, HasEnded, HasNext}
 use Rattle.assignment.proofs.AssignmentFacts.{get-kept, only-first, with-gap, with-next}
-use Rattle.assign_command.specs.Calls.{HaltsFrom, IsFinished, OnlyWatches}
+use Rattle.assign_command.specs.Calls.{OnlyWatches}
 use Rattle.commands.specs.Outputs.{AreSinceTold, AreWatchLines, IsCutOff, end_lines}
-use Rattle.assign_command.specs.Progress.{Halts, HaltsIn, IsAssigned, IsAt, IsWatched}
+use Rattle.assign_command.specs.Progress.{Halts, HaltsIn, IsAssigned, IsAt, IsMeasured, IsWatched}
 use Rattle.commands.specs.Counted.{HasCounts}
 use Rattle.commands.specs.declared.iterated.Iterated.{Iterated}
 use Rattle.assign_command.specs.declared.halt.Halt.{Halt}
@@ -32,29 +30,6 @@ pub watch-halts : (s : Settings) (traffic : Traffic) (iteration : ℕ) (r : Vehi
     → IsCutOff (end_lines s.watch iteration end) before now → HaltsIn s traffic iteration r why before now
 watch-halts s traffic iteration r end why before now settings is watch cut =
     rw watch (end_lines s.watch iteration end, end-lines s traffic iteration r end settings is, cut)
-
--- a count that rose in a call rose since an earlier moment
-pub rose-since : {T : Type 0} (r : Result T Halt) (earlier before now : ℕ) → earlier ≤ before
-    → IfErr r (λ why. why ≡ halt.Watch → Rose before now)
-    → IfErr r (λ why. why ≡ halt.Watch → Rose earlier now)
-rose-since r earlier before now h rose =
-    IfErr-weaker r (λ why. why ≡ halt.Watch → Rose before now)
-    (λ why. why ≡ halt.Watch → Rose earlier now)
-    (λ why k watch. rose-earlier earlier before now h (k watch)) rose
-
--- the last iteration, where those before it were done
-module _ (s : Settings) (traffic : Traffic) (r : Result Iterated Halt) (routes : VehicleRoutes)
-    (lines : List GapLine) (start before now : Taken)
-    (at : IsAt s traffic s.iterations routes lines start before) where
-  pub all-done : IfOk r (λ a. IsFinished s traffic routes lines a before now)
-      → IfOk r (λ a. IsAssigned s traffic a start now)
-  all-done h = IfOk-weaker r (λ a. IsFinished s traffic routes lines a before now)
-      (λ a. IsAssigned s traffic a start now) (λ a k. k start at) h
-
-  pub all-halts : IfErr r (λ why. HaltsFrom s traffic s.iterations routes lines why before now)
-      → IfErr r (λ why. Halts s traffic why start now)
-  all-halts h = IfErr-weaker r (λ why. HaltsFrom s traffic s.iterations routes lines why before now)
-      (λ why. Halts s traffic why start now) (λ why k. k start at) h
 
 -- the iterations of a traffic
 module _ (s : Settings) (traffic : Traffic) where
@@ -200,27 +175,47 @@ module _ (s : Settings) (traffic : Traffic) where
     refl,
   )
 
-  -- a loading halted, or memory was wanting once it was done
+  -- a loading of an iteration, once those before it are done
   module _ {T U : Type 0} {Done : U → Taken → Taken → Type 0} (number : ℕ) (r : VehicleRoutes) (lines : List GapLine)
-      (few : number ≤ s.iterations) (before after : DeskState) where
-    pub load-halts : (why : Halt) → OnlyWatches {T = T} (λ _. IsWatched s traffic number r) (HaltsIn s traffic number r) before after (Err why)
-        → OnlyWatches {T = U} Done (HaltsFrom s traffic number r lines) before after (Err why)
+      (few : number ≤ s.iterations) (start between after : DeskState) (at : IsAt s traffic number r lines start.taken between.taken)
+      (later : start.put_faults ≤ between.put_faults) (left : between.left ≡ start.left) (reads : between.read_faults ≡ start.read_faults) where
+    -- it halted
+    pub load-halts : (why : Halt) → OnlyWatches {T = T} (λ _. IsWatched s traffic number r) (HaltsIn s traffic number r) between after (Err why)
+        → OnlyWatches {T = U} Done (Halts s traffic) start after (Err why)
     load-halts why w = record {
       done = tt;
-      halts = λ start at. halts-in why number r lines start before.taken after.taken at few w.halts;
-      failed = w.failed;
-      later = w.later;
-      left = w.left;
-      reads = w.reads;
+      halts = halts-in why number r lines start.taken between.taken after.taken at few w.halts;
+      failed = λ watch. rose-earlier start.put_faults between.put_faults after.put_faults later (w.failed watch);
+      later = (let b = w.later in omega (arith, later, b));
+      left = w.left ∙ left;
+      reads = w.reads ∙ reads;
     }
 
-    pub memory-halts : (x : T) → OnlyWatches {T = T} (λ _. IsWatched s traffic number r) (HaltsIn s traffic number r) before after (Ok x)
-        → OnlyWatches {T = U} Done (HaltsFrom s traffic number r lines) before after (Err halt.Memory)
+    -- memory was wanting once it was done
+    pub memory-halts : (x : T) → OnlyWatches {T = T} (λ _. IsWatched s traffic number r) (HaltsIn s traffic number r) between after (Ok x)
+        → OnlyWatches {T = U} Done (Halts s traffic) start after (Err halt.Memory)
     memory-halts x w = record {
       done = tt;
-      halts = λ start at. halts-after number r lines start before.taken after.taken at few w.done;
+      halts = halts-after number r lines start.taken between.taken after.taken at few w.done;
       failed = λ e. absurd cc;
-      later = w.later;
-      left = w.left;
-      reads = w.reads;
+      later = (let b = w.later in omega (arith, later, b));
+      left = w.left ∙ left;
+      reads = w.reads ∙ reads;
     }
+
+  -- the last one, and what was measured of it
+  module _ {T : Type 0} (r : VehicleRoutes) (lines : List GapLine) (start between after : DeskState)
+      (at : IsAt s traffic s.iterations r lines start.taken between.taken)
+      (later : start.put_faults ≤ between.put_faults) (left : between.left ≡ start.left) (reads : between.read_faults ≡ start.read_faults)
+      (x : T) (w : OnlyWatches {T = T} (λ _. IsWatched s traffic s.iterations r) (HaltsIn s traffic s.iterations r) between after (Ok x)) where
+    pub last-measured : (outcome : Result Iterated Halt) → IfOk outcome (IsMeasured s traffic r lines) → IfErr outcome (λ why. why ≡ halt.Memory)
+        → OnlyWatches (IsAssigned s traffic) (Halts s traffic) start after outcome
+    last-measured (Ok a) has memory = record {
+      done = assigned a r lines start.taken between.taken after.taken at w.done has.ended has.since_told has.counted;
+      halts = tt;
+      failed = tt;
+      later = (let b = w.later in omega (arith, later, b));
+      left = w.left ∙ left;
+      reads = w.reads ∙ reads;
+    }
+    last-measured (Err why) has memory = rw memory (memory-halts s.iterations r lines (omega arith) start between after at later left reads x w)

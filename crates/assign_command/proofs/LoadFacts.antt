@@ -2,6 +2,7 @@
 use Rattle.std.proofs.Common.{◌≡◌, ℕ, false, List, refl, ap, subst, ◌∙◌, arith, inl}
 use Rattle.std.specs.Prelude.{Result, Ok, Err}
 use Rattle.desk_io.specs.State.{DeskState}
+use Rattle.dta_model.specs.Loading.{journeys_of}
 use Rattle.dta_model.specs.declared.loaded.Journey.{Journey}
 use Rattle.dta_model.specs.declared.plan.Plan.{Plan}
 use Rattle.dta_words.specs.declared.command.Settings.{Settings}
@@ -30,6 +31,10 @@ module _ (s : Settings) (traffic : Traffic) (iteration : ℕ) (routes : VehicleR
 
   one : now ≡ taking (numbers_by (plan_of s traffic routes) s.workers) gate → now ≡ taking (numbers_in s traffic) gate
   one took = took ∙ ap (λ (n : Numbers). taking n gate) (numbers-are s traffic routes)
+
+  pub journeys-are : (journeys : List Journey) (p : Plan) → p ≡ plan_of s traffic routes → LoadsBy p (Ok journeys)
+      → journeys ≡ journeys_of (plan_of s traffic routes)
+  journeys-are journeys p e loads = (its-own p (Ok journeys) e loads).loaded
 
   pub loaded-watches : {T : Type 0} (x : T) (journeys : List Journey) (p : Plan) → p ≡ plan_of s traffic routes → LoadsBy p (Ok journeys)
       → OnlyWatches {T = T} (λ _. IsWatched s traffic iteration routes) (HaltsIn s traffic iteration routes) before after (Ok x)

@@ -1,6 +1,6 @@
 -- How many receipts a gate took of loadings.
-use Rattle.std.proofs.Common.{◌≡◌, ℕ, zero, suc, ◌+◌, ◌≤◌, Bool, true, false, refl, sym, ap, subst, ◌∙◌, arith}
-use Rattle.std.specs.Prelude.{Result, Ok, Err}
+use Rattle.std.proofs.Common.{◌≡◌, ◌≢◌, ℕ, zero, suc, ◌+◌, ◌≤◌, Bool, true, false, refl, sym, ap, subst, ◌∙◌, arith}
+use Rattle.std.specs.Prelude.{Result, Ok, Err, OnErr}
 use Rattle.dta_model.specs.Units.{unit_count}
 use Rattle.dta_words.specs.declared.command.Command.{Command}
 use Rattle.dta_words.specs.declared.command.Settings.{Settings}
@@ -37,6 +37,12 @@ receipts-more false n m k e = omega (arith, e)
 receipts-least : (plain : Bool) (n k : ℕ) → n ≤ k → by_workers plain n ≤ by_workers plain k
 receipts-least true n k h = omega arith
 receipts-least false n k h = h
+
+-- a call that gave so many gave them, whether it is done or not
+pub gives-all : {T E : Type 0} (r : Result T E) (n : ℕ) (numbers : Numbers) (gate now : GateState) → now ≡ taking_all n numbers gate
+    → Gives n numbers gate now r
+gives-all (Ok x) n numbers gate now took = record { all = took; some = tt }
+gives-all (Err x) n numbers gate now took = record { all = tt; some = (n, omega arith, took) }
 
 -- the receipts of so many loadings
 module _ (plain : Bool) (numbers : Numbers) (gate : GateState) where
@@ -89,15 +95,47 @@ module _ (s : Settings) (job : JobRows) (gate now : GateState) where
       → now ≡ taking_all (receipts_in s.command s) (numbers_in s (traffic_of job)) gate
   work-all-own loads took = took ∙ ap (λ (n : ℕ). taking_all n (numbers_in s (traffic_of job)) gate) (receipts-are s.command s loads)
 
-  pub work-all : Assigns s.command → (own : Settings) (traffic : Traffic) → own ≡ s → traffic ≡ traffic_of job
+  work-all : Assigns s.command → (own : Settings) (traffic : Traffic) → own ≡ s → traffic ≡ traffic_of job
       → now ≡ taking_all (by_workers own.plain own.iterations) (numbers_in own traffic) gate
       → now ≡ taking_all (receipts_in s.command s) (numbers_in s (traffic_of job)) gate
   work-all loads own traffic same over took =
       work-all-own loads (subst (λ (t : Traffic). now ≡ taking_all (by_workers s.plain s.iterations) (numbers_in s t) gate) over
       (subst (λ (z : Settings). now ≡ taking_all (by_workers z.plain z.iterations) (numbers_in z traffic) gate) same took))
 
+  work-some : Assigns s.command → (own : Settings) (traffic : Traffic) → own ≡ s → traffic ≡ traffic_of job
+      → TookAtMost (by_workers own.plain own.iterations) (numbers_in own traffic) gate now
+      → TookAtMost (receipts_in s.command s) (numbers_in s (traffic_of job)) gate now
+  work-some loads own traffic same over took =
+      subst (λ (n : ℕ). TookAtMost n (numbers_in s (traffic_of job)) gate now) (receipts-are s.command s loads)
+      (subst (λ (t : Traffic). TookAtMost (by_workers s.plain s.iterations) (numbers_in s t) gate now) over
+      (subst (λ (z : Settings). TookAtMost (by_workers z.plain z.iterations) (numbers_in z traffic) gate now) same took))
+
+  took-all : (answer : Status) → now ≡ taking_all (receipts_in s.command s) (numbers_in s (traffic_of job)) gate → WorkGives s job answer gate now
+  took-all status.Done took = took
+  took-all answer took = (receipts_in s.command s, omega arith, took)
+
+  took-some : (answer : Status) → answer ≢ status.Done → TookAtMost (receipts_in s.command s) (numbers_in s (traffic_of job)) gate now
+      → WorkGives s job answer gate now
+  took-some status.Done other took = absurd (other refl)
+  took-some answer other took = took
+
+  -- the receipts of iterations that came to this
+  pub outcome-gives : {T E : Type 0} (r : Result T E) (answer : Status) → Assigns s.command → (own : Settings) (traffic : Traffic)
+      → own ≡ s → traffic ≡ traffic_of job → Gives (by_workers own.plain own.iterations) (numbers_in own traffic) gate now r
+      → OnErr r (answer ≢ status.Done) → WorkGives s job answer gate now
+  outcome-gives (Ok x) answer loads own traffic same over gave other = took-all answer (work-all loads own traffic same over gave.all)
+  outcome-gives (Err x) answer loads own traffic same over gave other = took-some answer other (work-some loads own traffic same over gave.some)
+
 -- work without loadings by workers gives none, however it ends
 pub none-given : (s : Settings) (job : JobRows) (answer : Status) (gate : GateState) → receipts_in s.command s ≡ 0
     → WorkGives s job answer gate gate
 none-given s job status.Done gate none = ap (λ (n : ℕ). taking_all n (numbers_in s (traffic_of job)) gate) (sym none)
 none-given s job answer gate none = (0, omega arith, refl)
+
+-- so does an assignment whose loader is plain
+pub plain_gives : (s : Settings) (job : JobRows) (answer : Status) (gate : GateState) → Assigns s.command → s.plain ≡ true
+    → WorkGives s job answer gate gate
+plain_gives s job answer gate loads plain =
+    none-given s job answer gate (sym (receipts-are s.command s loads) ∙ ap (λ (b : Bool). by_workers b s.iterations) plain)
+
+pub ruleset plainly = (plain_gives)

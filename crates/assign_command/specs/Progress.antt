@@ -6,7 +6,7 @@ use Rattle.loader.specs.declared.loading.LoadFault.{LoadFault}
 use Rattle.loader.specs.declared.loading.LoadFault.TheVariants as fault
 use Rattle.dta_words.specs.declared.command.Settings.{Settings}
 use Rattle.assignment.specs.Assignment.{AreIterations, Traffic, VehicleRoutes}
-use Rattle.assignment.specs.Progress.{IsLast}
+use Rattle.assignment.specs.Progress.{HasEnded, IsLast}
 use Rattle.commands.specs.Outputs.{AreSinceTold, AreWatchLines, AreWatchTexts, AreWatched, IsCutOff}
 use Rattle.commands.specs.Outputs.{OutText, grown_by}
 use Rattle.commands.specs.declared.iterated.Iterated.{Iterated}
@@ -57,6 +57,13 @@ HaltsIn s traffic iteration routes halt.Memory before now =
     (now ≡ before) ⊎ IsWatched s traffic iteration routes before now
 HaltsIn s traffic iteration routes halt.Watch before now =
     IsWatchCut s traffic iteration routes before now
+
+-- the last iteration, over these routes, was measured, and what its texts tell beside it was found
+pub record IsMeasured (s : Settings) (traffic : Traffic) (routes : VehicleRoutes)
+    (lines : List GapLine) (x : Iterated) : Type 0 where
+  pub ended : HasEnded s traffic routes lines x.last
+  pub since_told : AreSinceTold s.start s traffic x.since
+  pub counted : HasCounts s traffic x.last.routes x.counts
 
 -- all iterations are done: these are the last one's routes, journeys, link times, last state and
 -- gap, the gaps of all, and the iterations of the routes and the counts where they are told

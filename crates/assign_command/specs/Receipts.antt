@@ -1,14 +1,18 @@
 -- The receipts that the loadings of a run give its gate.
-use Rattle.std.specs.Prelude.{ℕ, ◌≡◌, ◌≤◌, ◌*◌, suc, zero, length, Result, OnOk, OnErr}
+use Rattle.std.specs.Prelude.{ℕ, ◌≡◌, ◌≤◌, ◌*◌, suc, zero, length, List, None, Result, OnOk, OnErr}
 use Rattle.dta_model.specs.Units.{step_units}
+use Rattle.dta_model.specs.declared.loaded.Journey.{Journey}
 use Rattle.dta_words.specs.declared.command.Command.{Command}
 use Rattle.dta_words.specs.declared.command.Settings.{Settings}
 use Rattle.loader.specs.Gates.{GateState, Numbers, taking}
 use Rattle.assignment.specs.Assignment.{Traffic}
+use Rattle.assignment.specs.Lent.{settings_in, traffic_in}
+use Rattle.assignment.specs.declared.lent.Assignment.{Assignment}
 use Rattle.jobs.specs.Jobs.{JobRows, traffic_of}
-use Rattle.commands.specs.Works.{work_of}
+use Rattle.commands.specs.Works.{by_workers, work_of}
 use Rattle.commands.specs.declared.status.Status.{Status}
 use Rattle.commands.specs.declared.status.Status.TheVariants as status
+use Rattle.assign_command.specs.declared.halt.Halt.{Halt}
 
 -- the numbers of the receipt of each loading: the units of all steps, a pass for each worker, and
 -- the vehicles
@@ -38,6 +42,16 @@ pub record Gives {T E : Type 0} (n : ℕ) (numbers : Numbers) (gate now : GateSt
     (result : Result T E) : Type 0 where
   pub all : OnOk result (now ≡ taking_all n numbers gate)
   pub some : OnErr result (TookAtMost n numbers gate now)
+
+-- a loading of an iteration gave the gate its receipt, where it was by workers
+abbrev pub GivesOne : Assignment → GateState → GateState → Result (List Journey) Halt → Type 0
+GivesOne a gate now result =
+    Gives (by_workers (settings_in a).plain 1) (numbers_in (settings_in a) (traffic_in a)) gate now
+    result
+
+-- all that is seen of a gate that tells nothing
+abbrev pub silent : GateState
+silent = record { closes = None; last = None }
 
 -- the receipts of the work over a job, by the status with which it ended
 abbrev pub WorkGives : Settings → JobRows → Status → GateState → GateState → Type 0

@@ -10,4 +10,4 @@ mod halt;
 mod iterate;
 mod load;
 
-pub use assigned::assign;
+pub use assigned::{assign, assign_plainly};

@@ -1,15 +1,12 @@
 // The loading of an iteration: by workers, or by the plain loader.
-ghost use Rattle.std.specs.Prelude.{◌≡◌, IfOk};
-ghost use Rattle.dta_model.specs.Loading.{journeys_of};
+ghost use Rattle.std.specs.Prelude.{◌≡◌, false};
 ghost use Rattle.loader.specs.Gates.{gate_of};
-ghost use Rattle.assignment.specs.Lent.{IsAssignment, plan_in, settings_in, traffic_in};
+ghost use Rattle.assignment.specs.Lent.{IsAssignment, settings_in, traffic_in};
 ghost use Rattle.assignment.specs.Traffic.{AreRoutesOf};
-ghost use Rattle.assign_command.specs.Calls.{OnlyWatches};
+ghost use Rattle.assign_command.specs.Calls.{LoadsIteration};
 ghost use Rattle.commands.specs.Calls.{PutsAll};
 ghost use Rattle.commands.specs.Outputs.{end_lines};
-ghost use Rattle.assign_command.specs.Progress.{HaltsIn, IsWatched};
-ghost use Rattle.assign_command.specs.Receipts.{Gives, numbers_in};
-ghost use Rattle.commands.specs.Works.{by_workers};
+ghost use Rattle.assign_command.specs.Receipts.{GivesOne};
 
 use crate::halt::Halt;
 use assignment::Assignment;
@@ -41,8 +38,8 @@ fn watch<D: Desk>(
     put_watch(desk, iteration, end)
 }
 
-// Loads by the plain loader, and then puts the watch line of the last step.
-fn load_plainly<D: Desk>(
+/// Loads an iteration by the plain loader, and then puts the watch line of the last step.
+pub(crate) fn load_plainly<D: Desk>(
     alloc: Global,
     assignment: &Assignment,
     routes: &Routes,
@@ -51,12 +48,8 @@ fn load_plainly<D: Desk>(
 ) -> Result<Loaded, Halt>
     requires is { IsAssignment assignment.now }
     requires routes { AreRoutesOf (traffic_in assignment.now) routes.now }
-    ensures loaded { IfOk result (λ loaded.
-        loaded ≡ journeys_of (plan_in assignment.now routes.now)) }
-    ensures watches { let s = settings_in assignment.now in
-        let traffic = traffic_in assignment.now in
-        OnlyWatches (λ _. IsWatched s traffic iteration routes.now)
-        (HaltsIn s traffic iteration routes.now) (D.state desk.old) (D.state desk.new) result }
+    ensures { LoadsIteration assignment.now iteration routes.now
+        (D.state desk.old) (D.state desk.new) result }
 {
     let loading = assignment.loading(routes);
     let loaded = load_plain(alloc, &loading)?;
@@ -65,9 +58,12 @@ fn load_plainly<D: Desk>(
     Ok(loaded)
 }
 
-/// Loads an iteration by workers, of which the calling thread puts the watch lines meanwhile, or
-/// where the settings ask for it by the plain loader.
-pub(crate) fn load_watched<R: AllocGlobal + Threads + Wait + Sync, D: Desk + Send, G: Gate + Sync>(
+/// Loads an iteration by workers, of which the calling thread puts the watch lines meanwhile.
+pub(crate) fn load_by_workers<
+    R: AllocGlobal + Threads + Wait + Sync,
+    D: Desk + Send,
+    G: Gate + Sync,
+>(
     rt: &R,
     assignment: &Assignment,
     routes: &Routes,
@@ -77,20 +73,12 @@ pub(crate) fn load_watched<R: AllocGlobal + Threads + Wait + Sync, D: Desk + Sen
 ) -> Result<Loaded, Halt>
     requires is { IsAssignment assignment.now }
     requires routes { AreRoutesOf (traffic_in assignment.now) routes.now }
-    ensures loaded { IfOk result (λ loaded.
-        loaded ≡ journeys_of (plan_in assignment.now routes.now)) }
-    ensures watches { let s = settings_in assignment.now in
-        let traffic = traffic_in assignment.now in
-        OnlyWatches (λ _. IsWatched s traffic iteration routes.now)
-        (HaltsIn s traffic iteration routes.now) (D.state desk.old) (D.state desk.new) result }
+    requires workers { (settings_in assignment.now).plain ≡ false }
+    ensures loads { LoadsIteration assignment.now iteration routes.now
+        (D.state desk.old) (D.state desk.new) result }
     ensures receipts { let shown = gate_of G.closes G.last in
-        let s = settings_in assignment.now in
-        Gives (by_workers s.plain 1) (numbers_in s (traffic_in assignment.now))
-        (shown gate.old) (shown gate.new) result }
+        GivesOne assignment.now (shown gate.old) (shown gate.new) result }
 {
-    if assignment.settings.plain {
-        return load_plainly(rt.alloc(), assignment, routes, iteration, desk);
-    }
     let loading = assignment.loading(routes);
     let watch = Watch {
         iteration,

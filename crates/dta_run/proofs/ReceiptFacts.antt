@@ -1,6 +1,6 @@
 -- How many receipts a gate took of a run.
-use Rattle.std.proofs.Common.{◌≡◌, ◌≢◌, ℕ, ◌≤◌, List, refl, sym, ap, subst, ◌∙◌, arith, inl, inr}
-use Rattle.std.specs.Prelude.{Option, Some}
+use Rattle.std.proofs.Common.{◌≡◌, ◌≢◌, ℕ, ◌≤◌, Bool, true, false, List, refl, sym, ap, subst, ◌∙◌, arith, inl, inr}
+use Rattle.std.specs.Prelude.{IfSome, Option, Some, not}
 use Rattle.desk_io.specs.declared.desk.Table.{Table}
 use Rattle.desk_io.specs.Desk.{Left, Taken}
 use Rattle.dta_words.specs.Grammar.{settings_of}
@@ -9,14 +9,20 @@ use Rattle.loader.specs.Gates.{GateState}
 use Rattle.reports.specs.declared.refusal.Refusal.{Refusal}
 use Rattle.reports.specs.declared.refusal.Refusal.TheVariants as refusal
 use Rattle.dta_run.specs.Headline.{Headline}
-use Rattle.jobs.specs.Inputs.{Auditing, Kind, kind_of}
+use Rattle.jobs.specs.Inputs.{Assigning, Auditing, FreeFlow, Kind, Skimming, Sweeping, kind_of}
 use Rattle.jobs.specs.Jobs.{IsAcceptedJob, JobRows, traffic_of}
+use Rattle.jobs.specs.Kinds.{IsFor}
+use Rattle.jobs.specs.declared.assign_job.AssignJob.{AssignJob}
+use Rattle.jobs.specs.declared.job.Job.{Job}
+use Rattle.jobs.specs.declared.job.Job.TheVariants as job-kind
 use Rattle.jobs.specs.Verdict.{Accepted, AreToldBy, Refused, Verdict, verdict, verdict_by}
 use Rattle.commands.specs.Laws.{OneListOfTexts}
 use Rattle.desk_io.specs.State.{DeskState}
-use Rattle.commands.specs.Works.{Works, work_by}
+use Rattle.commands.specs.Works.{Works, by_workers, work_by}
+use Rattle.assign_command.proofs.ReceiptFacts.{none-given}
 use Rattle.assign_command.specs.Receipts.{TookAtMost, WorkGives, numbers_in, receipts_in, taking_all}
-use Rattle.dta_run.specs.Receipts.{HasWorked, RunGives, ToldGives}
+use Rattle.dta_run.specs.Outcome.{Means}
+use Rattle.dta_run.specs.Receipts.{HasWorked, RunGives, ToldGives, takes_by, takes_workers}
 use Rattle.commands.specs.Status.{refusal_status}
 use Rattle.commands.specs.declared.status.Status.{Status}
 use Rattle.commands.specs.declared.status.Status.TheVariants as status
@@ -98,6 +104,73 @@ told_gives words texts status.Size left rest gate now h told = none-told (verdic
 told_gives words texts status.Differs left rest gate now h told = none-told (verdict words texts) status.Differs gate now (λ e. absurd cc) h
 
 pub ruleset answers = (told, told_gives)
+
+-- ---- a run that takes no workers
+
+plain-none : (plain : Bool) (n : ℕ) → not plain ≡ false → by_workers plain n ≡ 0
+plain-none true n alone = refl
+plain-none false n alone = absurd cc
+
+none-by : (k : Kind) (s : Settings) → takes_by k s.plain ≡ false → (work_by k).loaded_by_workers s ≡ 0
+none-by FreeFlow s alone = refl
+none-by Assigning s alone = plain-none s.plain s.iterations alone
+none-by Skimming s alone = refl
+none-by Sweeping s alone = refl
+none-by Auditing s alone = refl
+
+-- the settings of some words take no workers, where those of the words do not
+still-alone : (words : List (List ℕ)) (s own : Settings) → settings_of words ≡ Some s → takes_workers s ≡ false → settings_of words ≡ Some own
+    → takes_workers own ≡ false
+still-alone words s own told alone is =
+    subst (λ (o : Option Settings). IfSome o (λ z. takes_workers z ≡ false)) (sym told ∙ is) alone
+
+worked-alone : (words : List (List ℕ)) (s : Settings) (answer : Status) (left rest : Left) (quiet still gate : GateState)
+    → settings_of words ≡ Some s → takes_workers s ≡ false → HasWorked words answer left rest quiet still → HasWorked words answer left rest gate gate
+worked-alone words s answer left rest quiet still gate told alone h = record {
+  settings = h.settings;
+  told = h.told;
+  job = h.job;
+  accepted = h.accepted;
+  receipts = none-given h.settings h.job answer gate (none-by (kind_of h.settings.command) h.settings (still-alone words s h.settings told alone h.told));
+}
+
+-- it gives none to any gate
+gives-none : (words : List (List ℕ)) (s : Settings) (answer : Status) (left rest : Left) (quiet still gate : GateState)
+    → settings_of words ≡ Some s → takes_workers s ≡ false → RunGives words answer left rest quiet still → RunGives words answer left rest gate gate
+gives-none words s status.Done left rest quiet still gate told alone h = worked-alone words s status.Done left rest quiet still gate told alone h
+gives-none words s status.WriteFault left rest quiet still gate told alone h = worked-alone words s status.WriteFault left rest quiet still gate told alone h
+gives-none words s status.Memory left rest quiet still gate told alone (inl h) = inl refl
+gives-none words s status.Memory left rest quiet still gate told alone (inr h) = inr (worked-alone words s status.Memory left rest quiet still gate told alone h)
+gives-none words s status.Usage left rest quiet still gate told alone h = refl
+gives-none words s status.Table left rest quiet still gate told alone h = refl
+gives-none words s status.ReadFault left rest quiet still gate told alone h = refl
+gives-none words s status.Size left rest quiet still gate told alone h = refl
+gives-none words s status.Differs left rest quiet still gate told alone h = refl
+
+pub alone-headline : (words : List (List ℕ)) (s : Settings) (answer : Status) (before after : DeskState) (quiet still gate : GateState)
+    → settings_of words ≡ Some s → takes_workers s ≡ false → Means words answer before after → RunGives words answer before.left after.left quiet still
+    → before.read_faults ≤ after.read_faults → before.put_faults ≤ after.put_faults → OneListOfTexts → Headline words answer before after gate gate
+alone-headline words s answer before after quiet still gate is alone means given reads puts laws =
+    let gives = gives-none words s answer before.left after.left quiet still gate is alone given in
+    record {
+      means = means;
+      told = λ texts t. told words texts answer before after means t;
+      receipts = gives;
+      told_receipts = λ texts t. told_gives words texts answer before.left after.left gate gate gives t;
+      reads = reads;
+      puts = puts;
+      one_list = laws;
+    }
+
+-- only the work of an assignment takes workers
+pub assigns_alone : (s : Settings) (job : Job) → IsFor s.command job → takes_workers s ≡ true → (own : AssignJob) × (job ≡ job-kind.Assign own)
+assigns_alone s (job-kind.Assign own) is takes = (own, refl)
+assigns_alone s (job-kind.Freeflow net) is takes = let no-workers = subst (λ (k : Kind). takes_by k s.plain ≡ true) is takes in absurd cc
+assigns_alone s (job-kind.Skim own) is takes = let no-workers = subst (λ (k : Kind). takes_by k s.plain ≡ true) is takes in absurd cc
+assigns_alone s (job-kind.Sweep own) is takes = let no-workers = subst (λ (k : Kind). takes_by k s.plain ≡ true) is takes in absurd cc
+assigns_alone s (job-kind.Audit own) is takes = let no-workers = subst (λ (k : Kind). takes_by k s.plain ≡ true) is takes in absurd cc
+
+pub ruleset assigning = (assigns_alone)
 
 -- memory was wanting for the words: nothing was done
 pub starved : (words : List (List ℕ)) (desk : DeskState) (gate : GateState) → OneListOfTexts → Headline words status.Memory desk desk gate gate

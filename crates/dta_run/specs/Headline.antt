@@ -5,7 +5,7 @@
 --
 -- Read on in Outcome (what each answer says), Outputs (the texts), Assignment (an iteration),
 -- Verdict (what words and bytes come to), Receipts and Laws.
-use Rattle.std.specs.Prelude.{ℕ, ◌≤◌, List, None}
+use Rattle.std.specs.Prelude.{ℕ, ◌≤◌, List}
 use Rattle.desk_io.specs.declared.desk.Table.{Table}
 use Rattle.dta_words.specs.Grammar.{settings_of}
 use Rattle.loader.specs.Gates.{GateState}
@@ -42,7 +42,3 @@ pub record Headline (words : List (List ℕ)) (answer : Status) (before after : 
   -- Watch, and where the loader is plain one list of all texts, in whatever order loadings take
   -- the nodes of a step; a scenario has the texts that it has alone, and an audit has one verdict
   pub one_list : OneListOfTexts
-
--- all that is seen of a gate that tells nothing
-abbrev pub silent : GateState
-silent = record { closes = None; last = None }

@@ -1,14 +1,27 @@
 -- The receipts that a run gives its gate.
-use Rattle.std.specs.Prelude.{ℕ, ◌≡◌, ◌⊎◌, List, Some}
+use Rattle.std.specs.Prelude.{ℕ, ◌≡◌, ◌⊎◌, Bool, false, not, List, Some}
 use Rattle.desk_io.specs.Desk.{Left}
 use Rattle.dta_words.specs.Grammar.{settings_of}
 use Rattle.dta_words.specs.declared.command.Settings.{Settings}
 use Rattle.loader.specs.Gates.{GateState}
+use Rattle.jobs.specs.Inputs.{Assigning, Auditing, FreeFlow, Kind, Skimming, Sweeping, kind_of}
 use Rattle.jobs.specs.Jobs.{IsAcceptedJob, JobRows}
 use Rattle.jobs.specs.Verdict.{Accepted, Refused, Verdict}
 use Rattle.commands.specs.declared.status.Status.{Status}
 use Rattle.commands.specs.declared.status.Status.TheVariants as status
 use Rattle.assign_command.specs.Receipts.{WorkGives}
+
+-- whether work of a kind takes workers: an assignment does, unless its loader is plain
+abbrev pub takes_by : Kind → (plain : Bool) → Bool
+takes_by FreeFlow plain = false
+takes_by Assigning plain = not plain
+takes_by Skimming plain = false
+takes_by Sweeping plain = false
+takes_by Auditing plain = false
+
+-- whether a run with these settings takes workers
+abbrev pub takes_workers : Settings → Bool
+takes_workers s = takes_by (kind_of s.command) s.plain
 
 -- the words have settings, and their tables were accepted and make a job, whose work ended with
 -- this status and gave the gate its receipts

@@ -1,7 +1,8 @@
 // From the arguments of the program to the status with which it ends.
 ghost use Rattle.std.specs.Prelude.{drop, map, string_bytes};
 ghost use Rattle.std.specs.Vec.Iter.{into_iter_items};
-ghost use Rattle.dta_run.specs.Headline.{Headline, silent};
+ghost use Rattle.dta_run.specs.Headline.{Headline};
+ghost use Rattle.assign_command.specs.Receipts.{silent};
 
 use crate::NoGate;
 use crate::top_call::run;

@@ -7,10 +7,12 @@
 //! of a command line, and `program` gives the number with which the program ends.
 #![tactic(auto)]
 
+mod accepted;
 mod arguments;
 mod exit_number;
 mod laws;
 mod top_call;
+mod without_workers;
 
 pub use arguments::run_arguments;
 pub use commands::Status;
@@ -19,3 +21,4 @@ pub use jobs::{TooBig, sizes};
 pub use laws::equal_runs_write_equal_texts;
 pub use loader::{CountGate, Gate, NoGate};
 pub use top_call::run;
+pub use without_workers::{run_without_workers, takes_workers};

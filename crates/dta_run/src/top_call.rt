@@ -1,55 +1,32 @@
 // The public call.
-ghost use Rattle.std.specs.Prelude.{◌≡◌, ◌≤◌, ℕ, List, Some};
+ghost use Rattle.std.specs.Prelude.{◌≡◌, ◌≤◌, ℕ, List, Some, true};
+ghost use Rattle.std.specs.Thread.{IsSync};
 ghost use Rattle.dta_words.specs.Ranges.{AreSettings};
 ghost use Rattle.jobs.specs.Jobs.{IsJob};
 ghost use Rattle.jobs.specs.Kinds.{IsFor, rows_in_job};
 ghost use Rattle.dta_words.specs.Grammar.{settings_of};
 ghost use Rattle.loader.specs.Gates.{gate_of};
-ghost use Rattle.commands.specs.Status.{refusal_status as status_of_refusal};
 ghost use Rattle.commands.specs.Calls.{DoesWork};
-ghost use Rattle.dta_run.specs.Calls.{Refuses};
 ghost use Rattle.dta_run.specs.Headline.{Headline};
 ghost use Rattle.dta_run.specs.Outcome.{Means};
-ghost use Rattle.dta_run.specs.Receipts.{RunGives};
+ghost use Rattle.dta_run.specs.Receipts.{RunGives, takes_workers};
 ghost use Rattle.assign_command.specs.Receipts.{WorkGives};
 
+use crate::accepted::{accept_and_work, refuse};
+use crate::without_workers::{run_without_workers, takes_workers};
 use assign_command::assign;
-use commands::{Status, put_least_times, put_scenarios, put_verdict, texts_are_one};
-use desk_io::{Desk, Failed};
+use commands::{Status, texts_are_one};
+use desk_io::Desk;
 use dta_words::{Settings, Words, WordsRefusal, settings};
-use jobs::{Job, Stop, accept};
+use jobs::Job;
 use loader::Gate;
-use reports::{Refusal, put_free, put_refusal};
+use reports::Refusal;
 use std::sync::Wait;
 use std::thread::Threads;
 
-// The status of a run that is refused.
-fn refusal_status(refusal: Refusal) -> Status
-    ensures { result ≡ status_of_refusal refusal }
-{
-    match refusal {
-        Refusal::Usage => Status::Usage,
-        Refusal::Table(_) => Status::Table,
-        Refusal::Read(_) => Status::ReadFault,
-        Refusal::LongTable(_)
-        | Refusal::Cells { .. }
-        | Refusal::Vehicles { .. }
-        | Refusal::SkimPairs { .. }
-        | Refusal::SweepCells { .. } => Status::Size,
-    }
-}
-
-// Puts the line of a refusal to Report, and answers the refusal's status, also where the put
-// fails. It takes no memory.
-fn refuse<D: Desk>(desk: &mut D, refusal: Refusal) -> Status
-    ensures { Refuses refusal (D.state desk.old) (D.state desk.new) result }
-{
-    let _ = put_refusal(desk, &refusal);
-    refusal_status(refusal)
-}
-
-// Does the work over an accepted job.
-fn work<R: AllocGlobal + Threads + Wait + Sync, D: Desk + Send, G: Gate + Sync>(
+// Does the work over an accepted job whose loadings are by workers.
+#[tactic(auto, using(crate::proofs::ReceiptFacts::assigning))]
+fn work_by_workers<R: AllocGlobal + Threads + Wait + Sync, D: Desk + Send, G: Gate + Sync>(
     rt: &R,
     settings: &Settings,
     job: &Job,
@@ -59,25 +36,20 @@ fn work<R: AllocGlobal + Threads + Wait + Sync, D: Desk + Send, G: Gate + Sync>(
     requires settings { AreSettings settings.now }
     requires job { IsJob settings.now (rows_in_job job.now) }
     requires own { IsFor settings.now.command job.now }
+    requires workers { takes_workers settings.now ≡ true }
     ensures works { DoesWork settings.now (rows_in_job job.now)
         (D.state desk.old) (D.state desk.new) result }
     ensures receipts { let shown = gate_of G.closes G.last in
         WorkGives settings.now (rows_in_job job.now) result (shown gate.old) (shown gate.new) }
 {
-    match job {
-        Job::Freeflow(net) => match put_free(desk, net) {
-            Ok(()) => Status::Done,
-            Err(Failed) => Status::WriteFault,
-        },
-        Job::Assign(job) => assign(rt, settings, job, gate, desk),
-        Job::Skim(job) => put_least_times(rt.alloc(), settings, job, desk),
-        Job::Sweep(job) => put_scenarios(rt, settings, job, desk),
-        Job::Audit(job) => put_verdict(rt.alloc(), settings, job, desk),
-    }
+    let Job::Assign(job) = job else {
+        unreachable!()
+    };
+    assign(rt, settings, job, gate, desk)
 }
 
-// Checks the tables, and does the work.
-fn accept_and_work<R: AllocGlobal + Threads + Wait + Sync, D: Desk + Send, G: Gate + Sync>(
+// Does what settings ask for, by workers where they take some.
+fn run_settings<R: AllocGlobal + Threads + Wait + Sync, D: Desk + Send, G: Gate + Sync>(
     rt: &R,
     settings: &Settings,
     gate: &mut G,
@@ -93,15 +65,20 @@ fn accept_and_work<R: AllocGlobal + Threads + Wait + Sync, D: Desk + Send, G: Ga
     ensures reads { (D.state desk.old).read_faults ≤ (D.state desk.new).read_faults }
     ensures puts { (D.state desk.old).put_faults ≤ (D.state desk.new).put_faults }
 {
-    match accept(rt.alloc(), desk, settings) {
-        Ok(job) => {
-            let status = work(rt, settings, &job, gate, desk);
-            drop(job);
-            status
-        }
-        Err(Stop::Refused(refusal)) => refuse(desk, refusal),
-        Err(Stop::Memory) => Status::Memory,
+    if !takes_workers(settings) {
+        return run_without_workers(rt, settings, desk);
     }
+    accept_and_work(
+        rt.alloc(),
+        settings,
+        gate,
+        desk,
+        |job, gate, desk|
+            requires { IsSync R.row × IsSync G.row × AreSettings settings.now
+                × IsJob settings.now (rows_in_job job.now) × IsFor settings.now.command job.now
+                × (takes_workers settings.now ≡ true) }
+        { work_by_workers(rt, settings, job, gate, desk) },
+    )
 }
 
 // Checks the words and the tables, and does the work.
@@ -119,7 +96,7 @@ fn answer<R: AllocGlobal + Threads + Wait + Sync, D: Desk + Send, G: Gate + Sync
     ensures puts { (D.state desk.old).put_faults ≤ (D.state desk.new).put_faults }
 {
     match settings(rt.alloc(), words) {
-        Ok(settings) => accept_and_work(rt, &settings, gate, desk),
+        Ok(settings) => run_settings(rt, &settings, gate, desk),
         Err(WordsRefusal::Usage) => refuse(desk, Refusal::Usage),
         Err(WordsRefusal::Memory) => Status::Memory,
     }

@@ -1,10 +1,11 @@
 // Floors: one that is closed too early, two passes on one thread that take turns, and two threads
 // that work at the same time.
 ghost use Rattle.dta_model.specs.Lent.{plan_of};
+ghost use Rattle.phase_claims.specs.declared.floor.TheConstants.{MOST_CHUNK};
 ghost use Rattle.dta_model.specs.Sound.{IsSound};
 ghost use Rattle.phase_claims.specs.Crews.{HasSameRights, IsReady};
 ghost use Rattle.phase_claims.specs.Passes.{HasNotEnded, IsHeld, IsOf, IsOpen};
-ghost use Rattle.std.specs.Prelude.{◌≡◌, [], IsTrue};
+ghost use Rattle.std.specs.Prelude.{◌≡◌, ◌≤◌, [], IsTrue};
 ghost use Rattle.worked_cases.specs.Worked.{HasWorked};
 
 use crate::{Seen, are_seen, two_links_in_a_line};
@@ -232,5 +233,41 @@ fn take_half_each<R: AllocGlobal + Threads + Wait + Sync>(
 fn two_threads_take_half_the_units_each(rt: HostRuntime) -> Result<(), Fail> {
     let case = two_links_in_a_line(rt.alloc())?;
     assert!(rt; take_half_each(&rt, &case.loading())?);
+    Ok(())
+}
+
+// Whether one pass performs all units, and then another could go on at once: there is no next unit,
+// as it finds where it draws so many numbers past the last.
+fn goes_on_past_the_last<R: Wait>(rt: &R, floor: &Floor, pass: Pass, past: u32) -> bool
+    requires ready { IsReady floor.now 2 pass }
+    requires least { 1 ≤ past }
+    requires most { past ≤ MOST_CHUNK }
+{
+    let (mut first, mut second) = floor.split(pass);
+    work_turns(rt, floor, &mut first, u32::MAX);
+    floor.can_open_next() && floor.claim_chunk(&mut second, past).is_none() && floor.can_open_next()
+}
+
+// The same of a loading, on a floor of its own.
+fn ends_past_the_last<R: AllocGlobal + Wait>(
+    rt: &R,
+    loading: &Loading,
+    past: u32,
+) -> Result<bool, Memory>
+    requires sound { IsSound (plan_of loading.now) }
+    requires least { 1 ≤ past }
+    requires most { past ≤ MOST_CHUNK }
+{
+    let (board, writer, _monitor) = Board::new(rt)?;
+    let (floor, pass) = Floor::new(rt.alloc(), loading, &board, writer, 2)?;
+    Ok(goes_on_past_the_last(rt, &floor, pass, past))
+}
+
+#[test]
+fn who_finds_no_unit_goes_on(rt: HostRuntime) -> Result<(), Fail> {
+    let case = two_links_in_a_line(rt.alloc())?;
+    for past in 1..8 {
+        assert!(rt; ends_past_the_last(&rt, &case.loading(), past)?);
+    }
     Ok(())
 }

@@ -1,7 +1,8 @@
 // The receipts of runs by workers, and that they work side by side.
-use crate::tests::{ASSIGN, NODES, desk_of, status_of, two_links, words_in};
+use crate::tests::{ASSIGN, NODES, desk_of, has_taken_all, status_of, two_links, words_in};
 use desk_io::MemDesk;
-use dta_run::{CountGate, Gate, Status};
+use dta_run::{CountGate, Gate, Status, run_without_workers, takes_workers};
+use dta_words::{Words, settings};
 use phase_claims::Receipt;
 use std::hint;
 use std::sync::Wait;
@@ -56,6 +57,33 @@ fn two_iterations_give_two_receipts(rt: HostRuntime) -> Result<(), Fail> {
     };
     let desk = desk_of(rt.alloc(), NODES, A_WAY_ROUND, FOUR_VEHICLES)?;
     assert!(rt; gives(&rt, words, desk, receipt)?);
+    Ok(())
+}
+
+// The status of a run that takes no workers; there is none of another. Its handle has no `Wait`, so
+// this wouldn't compile if such a run could wait.
+fn status_alone<R: AllocGlobal + Threads + Sync>(
+    rt: &R,
+    words: &Words,
+    desk: &mut MemDesk,
+) -> Option<Status> {
+    let Ok(settings) = settings(rt.alloc(), words) else {
+        return None;
+    };
+    if takes_workers(&settings) {
+        return None;
+    }
+    Some(run_without_workers(rt, &settings, desk))
+}
+
+#[test]
+fn the_plain_loader_waits_for_nobody(rt: HostRuntime) -> Result<(), Fail> {
+    let plain = words_in(rt.alloc(), "assign --period 30 --horizon 60 --plain")?;
+    let mut desk = two_links(rt.alloc())?;
+    assert!(rt; status_alone(&rt, &plain, &mut desk) == Some(Status::Done));
+    assert!(rt; has_taken_all(&desk));
+    let by_workers = words_in(rt.alloc(), ASSIGN)?;
+    assert!(rt; status_alone(&rt, &by_workers, &mut desk).is_none());
     Ok(())
 }
 

@@ -1,4 +1,4 @@
-use Rattle.dta_run.specs.Headline.{silent}
+use Rattle.assign_command.specs.Receipts.{silent}
 use Rattle.dta_run.proofs.ReceiptFacts.{starved}
 use Rattle.dta_run.proofs.arguments.run_arguments.Goals as goal
 

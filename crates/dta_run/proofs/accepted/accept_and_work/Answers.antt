@@ -8,12 +8,13 @@ use Rattle.jobs.specs.declared.stop.Stop.{Stop}
 use Rattle.dta_run.proofs.ReceiptFacts.{refused-gives, work-gives}
 use Rattle.dta_run.proofs.RunFacts.{refused-means, works-means}
 use Rattle.commands.proofs.SoundFacts.{loads-soundly}
-use Rattle.dta_run.proofs.top_call.accept_and_work.Goals as goal
+use Rattle.dta_run.proofs.accepted.accept_and_work.Goals as goal
 
 pub returns-in-Ok-clause-means : goal.returns-in-Ok-clause-means
 returns-in-Ok-clause-means g c = λ words told.
-    works-means words c.args.settings.now _ c.work-status.result (g.D.Desk.state c.args.desk.now) (g.D.Desk.state c.accept.new.desk) (g.D.Desk.state c.work-status.new.desk) told
-    c.in-Ok.ensures.reads.done c.in-Ok.ensures.reads.taken (sym c.in-Ok.ensures.reads.puts) c.work-status.ensures.works.left c.work-status.ensures.works.work c.work-status.ensures.works.failed c.work-status.ensures.works.differs
+    let w = c.requires.works _ _ _ _ _ _ c.in-Ok.ensures.sound c.in-Ok.ensures.own c.work-status.ensures in
+    works-means words c.args.settings.now _ c.work-status.result (g.D.Desk.state c.args.desk.now) (g.D.Desk.state c.accept.new.desk) (g.D.Desk.state c.work-status.new.arg4) told
+    c.in-Ok.ensures.reads.done c.in-Ok.ensures.reads.taken (sym c.in-Ok.ensures.reads.puts) w.left w.work w.failed w.differs
     (loads-soundly c.args.settings.now (rows_in_job c.in-Ok.job) c.requires.settings c.in-Ok.ensures.sound)
 
 pub returns-in-Err-Refused-clause-means : goal.returns-in-Err-Refused-clause-means
@@ -25,12 +26,14 @@ returns-in-Err-Refused-clause-means g c = λ words told.
 
 pub returns-in-Ok-clause-receipts : goal.returns-in-Ok-clause-receipts
 returns-in-Ok-clause-receipts g c = λ words told.
+    let w = c.requires.works _ _ _ _ _ _ c.in-Ok.ensures.sound c.in-Ok.ensures.own c.work-status.ensures in
+    let gives = c.requires.receipts _ _ _ _ _ _ c.in-Ok.ensures.sound c.in-Ok.ensures.own c.work-status.ensures in
     let shown = gate_of g.G.Gate.closes g.G.Gate.last in
-    work-gives words c.args.settings.now (rows_in_job c.in-Ok.job) c.work-status.result (g.D.Desk.state c.args.desk.now).left (g.D.Desk.state c.work-status.new.desk).left
-    (g.D.Desk.state c.accept.new.desk).taken (g.D.Desk.state c.work-status.new.desk).taken
-    (shown c.args.gate.now) (shown c.work-status.new.gate) told
-    (subst (λ (rest : Left). IsAcceptedJob c.args.settings.now (rows_in_job c.in-Ok.job) (g.D.Desk.state c.args.desk.now).left rest) (sym c.work-status.ensures.works.left) c.in-Ok.ensures.reads.done)
-    c.work-status.ensures.works.work (λ found. (c.work-status.ensures.works.differs found).is) c.work-status.ensures.receipts
+    work-gives words c.args.settings.now (rows_in_job c.in-Ok.job) c.work-status.result (g.D.Desk.state c.args.desk.now).left (g.D.Desk.state c.work-status.new.arg4).left
+    (g.D.Desk.state c.accept.new.desk).taken (g.D.Desk.state c.work-status.new.arg4).taken
+    (shown c.args.gate.now) (shown c.work-status.new.arg3) told
+    (subst (λ (rest : Left). IsAcceptedJob c.args.settings.now (rows_in_job c.in-Ok.job) (g.D.Desk.state c.args.desk.now).left rest) (sym w.left) c.in-Ok.ensures.reads.done)
+    w.work (λ found. (w.differs found).is) gives
 
 pub returns-in-Err-Refused-clause-receipts : goal.returns-in-Err-Refused-clause-receipts
 returns-in-Err-Refused-clause-receipts g c = λ words told.
