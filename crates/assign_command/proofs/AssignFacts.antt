@@ -104,3 +104,5 @@ module _ (s : Settings) (job : JobRows) (loads : Assigns s.command) (own : Setti
   halted-memory why start now is h =
       let k = subst (λ (w : Halt). Halts s (traffic_of job) w start now) is (halted why start now h) in
       (k.0, watched-so-far s.command s job k.0 loads k.1, k.2)
+
+pub ruleset halts = (halted-watch, halted-memory)

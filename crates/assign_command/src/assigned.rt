@@ -28,6 +28,7 @@ use std::sync::Wait;
 use std::thread::Threads;
 
 // Puts the outputs of an assignment whose iterations came to this, and answers its status.
+#[tactic(auto, using(crate::proofs::AssignFacts::halts))]
 fn put_outcome<D: Desk>(
     desk: &mut D,
     assignment: &Assignment,

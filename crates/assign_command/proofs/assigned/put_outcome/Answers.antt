@@ -8,7 +8,7 @@ use Rattle.jobs.proofs.ChainFacts.{rose-earlier}
 use Rattle.assign_command.specs.Calls.{OnlyWatches}
 use Rattle.assign_command.specs.Progress.{Halts, IsAssigned}
 use Rattle.assign_command.specs.declared.halt.Halt.{Halt}
-use Rattle.assign_command.proofs.AssignFacts.{assigned-cut, assigned-done, halted-memory, halted-watch}
+use Rattle.assign_command.proofs.AssignFacts.{assigned-cut, assigned-done}
 use Rattle.assign_command.proofs.assigned.put_outcome.Goals as goal
 
 pub returns-in-Ok-put_assigned-clause-works : goal.returns-in-Ok-put_assigned-clause-works
@@ -39,32 +39,4 @@ returns-in-Ok-clause-works g c = λ start job over watches.
       later = (let p = i.later in let q = o.cause.later in omega (arith, p, q));
       left = o.left ∙ i.left;
       reads = o.reads ∙ i.reads;
-    }
-
-pub returns-in-Err-Watch-clause-works : goal.returns-in-Err-Watch-clause-works
-returns-in-Err-Watch-clause-works g c = λ start job over watches.
-    let a = c.args.assignment.now in
-    let i = subst (λ (r : Result Iterated Halt). OnlyWatches (IsAssigned (settings_in a) (traffic_in a)) (Halts (settings_in a) (traffic_in a)) start (g.D.Desk.state c.args.desk.now) r)
-    c.in-Err-Watch.is watches in
-    record {
-      work = halted-watch (settings_in a) job c.requires.command (settings_in a) (traffic_in a) refl over _ _ _ c.in-Err-Watch.field-0-is i.halts;
-      failed = λ _. i.failed c.in-Err-Watch.field-0-is;
-      differs = λ (k : status.WriteFault ≡ status.Differs). absurd cc;
-      later = i.later;
-      left = i.left;
-      reads = i.reads;
-    }
-
-pub returns-clause-works : goal.returns-clause-works
-returns-clause-works g c = λ start job over watches.
-    let a = c.args.assignment.now in
-    let i = subst (λ (r : Result Iterated Halt). OnlyWatches (IsAssigned (settings_in a) (traffic_in a)) (Halts (settings_in a) (traffic_in a)) start (g.D.Desk.state c.args.desk.now) r)
-    c.in-Err-Memory.is watches in
-    record {
-      work = halted-memory (settings_in a) job c.requires.command (settings_in a) (traffic_in a) refl over _ _ _ c.in-Err-Memory.field-0-is i.halts;
-      failed = λ (k : status.Memory ≡ status.WriteFault). absurd cc;
-      differs = λ (k : status.Memory ≡ status.Differs). absurd cc;
-      later = i.later;
-      left = i.left;
-      reads = i.reads;
     }
