@@ -2,7 +2,7 @@
 # script.sh DTA: tries the script `dta` of the repository, which is built, or the installed command:
 # what it says on standard error, what it refuses to run, that standard output, files and statuses
 # are those of the program, and what `package` makes. Prints each case that isn't as wanted, and how
-# many are; ends with 0 where all are. It takes less than a minute.
+# many are; ends with 0 where all are. It takes some two minutes.
 checks=$(dirname "$(readlink -f "$0")")
 . "$checks/begin.sh"
 top=$(dirname "$checks")

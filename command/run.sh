@@ -325,9 +325,10 @@ run_alone() {
     skip=
     for word in "$@"; do
         shift
-        case $skip$word in
-            --workers) skip=1 ;;
-            1* | --workers=*) skip= ;;
+        case ${skip:-$word} in
+            skip) skip= ;;
+            --workers) skip=skip ;;
+            --workers=*) ;;
             *) set -- "$@" "$word" ;;
         esac
     done
