@@ -1,7 +1,6 @@
 -- Jobs of accepted tables, and what stops a run before its work.
 use Rattle.std.proofs.Common.{◌≡◌, ◌≢◌, ◌<◌, ℕ, List, [], ◌∷◌, ◌++◌, length, refl, sym, ap, subst, arith, rules, inl, inr, ◌∙◌}
-use Rattle.std.specs.Prelude.{◌↔◌, ⊤, Result, Ok, Err, OnOk, IfOk, IfErr, filter, nat_eq}
-use Rattle.std.specs.List.{flat_map}
+use Rattle.std.specs.Prelude.{◌↔◌, ⊤, Result, Ok, Err, OnOk, IfOk, IfErr}
 use Rattle.std.proofs.lemmas.List.{length-map}
 use Rattle.std.proofs.lemmas.List.Elements.{All-nil}
 use Rattle.std.proofs.lemmas.Result.{IfErr-weaker, IfOk-weaker}
@@ -10,7 +9,7 @@ use Rattle.desk_io.specs.Desk.{Left}
 use Rattle.desk_io.specs.Faults.{Rose}
 use Rattle.desk_io.specs.MemDesk.{all_left}
 use Rattle.desk_io.specs.Transfers.{IsBegun, IsLong}
-use Rattle.net_core.specs.Network.{IsNet, numbers_below}
+use Rattle.net_core.specs.Network.{IsNet}
 use Rattle.net_core.specs.declared.rows.LinkRow.{LinkRow}
 use Rattle.net_core.specs.declared.rows.NetRows.{NetRows}
 use Rattle.net_core.specs.declared.rows.NodeRow.{NodeRow}
@@ -19,7 +18,7 @@ use Rattle.gmns_tables.specs.RowsWithWindows.{rows_of}
 use Rattle.start_table.specs.Starts.{AreStartRows}
 use Rattle.start_table.specs.declared.rows.StartRow.{StartRow}
 use Rattle.gmns_tables.specs.declared.with_windows.WithWindows.{WithWindows}
-use Rattle.dta_model.specs.Release.{in_order_of_departure, released, Released, trips_of}
+use Rattle.dta_model.specs.Release.{in_order_of_departure, released, trips_of}
 use Rattle.dta_model.specs.declared.trip.DemandCell.{DemandCell}
 use Rattle.dta_model.specs.declared.trip.Trip.{Trip}
 use Rattle.grid_maker.specs.Grid.{node_text, link_text, demand_text}

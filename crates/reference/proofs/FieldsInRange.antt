@@ -1,20 +1,18 @@
 -- The numbers of fields that were accepted are in range.
-use Rattle.std.proofs.Common.{◌≡◌, ◌≤◌, ◌<◌, ◌*◌, ◌/◌, ◌+◌, ℕ, Bool, true, false, List, [], ◌∷◌, ◌++◌, length, map, refl, ap, ap₂, sym, ◌∙◌, subst}
-use Rattle.std.proofs.Common.{arith, inl, inr, min, max, nat_eq, nat_le, ◌&&◌, mul-le-mul}
+use Rattle.std.proofs.Common.{◌≡◌, ◌≤◌, ◌<◌, ◌*◌, ◌+◌, ℕ, Bool, true, false, List, [], ◌∷◌, ◌++◌, length, map, refl, ap₂, sym, ◌∙◌, subst}
+use Rattle.std.proofs.Common.{arith, inl, inr, min, max, nat_eq, ◌&&◌, mul-le-mul}
 use Rattle.std.specs.Prelude.{Option, None, Some, Result, Ok, Err, IfSome, is_some, position}
 use Rattle.std.specs.Cmp.{IsEquivalence, nat_eq_equiv}
 use Rattle.std.specs.List.{IsDistinct}
-use Rattle.std.proofs.lemmas.Bool.{and_parts, cases_lt, leb-true}
+use Rattle.std.proofs.lemmas.Bool.{and_parts, cases_lt}
 use Rattle.std.proofs.lemmas.Grind.{div_ceil_times}
 use Rattle.std.proofs.lemmas.List.{map_push}
 use Rattle.std.proofs.lemmas.Map.Keys.{IsDistinct-push}
-use Rattle.fixed_units.specs.Quantity.{is_quantity, milli_of, numerator, denominator, unsigned}
-use Rattle.fixed_units.specs.Quantity.{within as within_limit}
+use Rattle.fixed_units.specs.Quantity.{milli_of}
 use Rattle.fixed_units.specs.declared.quantity.TheConstants.{MOST_THOUSANDTHS}
 use Rattle.fixed_units.specs.declared.turn.TheConstants.{MOST_PENALTY, MOST_PENALTY_STEPS}
 use Rattle.fixed_units.specs.Units.{penalty_steps_of}
 use Rattle.row_reader.specs.Fields.{numbered, option_of, optional_quantity, quantity_or}
-use Rattle.fixed_units.specs.declared.fault.NumberFault.{NumberFault}
 use Rattle.row_reader.specs.declared.faults.Column.{Column}
 use Rattle.row_reader.specs.declared.faults.Complaint.{Complaint}
 use Rattle.demand.proofs.DemandFacts.{milli-below, numbered-ok}

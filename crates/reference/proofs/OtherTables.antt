@@ -1,14 +1,10 @@
 -- The rows of accepted start and times tables are in range.
-use Rattle.std.proofs.Common.{◌≡◌, ◌≤◌, ◌<◌, ◌+◌, ◌-◌, ◌∙◌, ℕ, zero, suc, List, [], ◌∷◌, ◌++◌, length, length-append, refl, ap, subst, arith}
+use Rattle.std.proofs.Common.{◌≡◌, ◌≤◌, ◌<◌, ◌+◌, ℕ, List, [], ◌∷◌, ◌++◌, length, length-append, refl, subst, arith}
 use Rattle.std.specs.Prelude.{Ok, is_some}
 use Rattle.std.specs.Cmp.{nat_eq_equiv}
-use Rattle.std.specs.List.{range_with_len}
-use Rattle.std.proofs.lemmas.List.{map_push}
-use Rattle.std.proofs.lemmas.List.Elements.{All-nil, All-push}
 use Rattle.desk_io.specs.declared.desk.Table.TheVariants as table
-use Rattle.fixed_units.specs.declared.quantity.TheConstants.{MOST_THOUSANDTHS}
 use Rattle.row_reader.specs.Columns.{text}
-use Rattle.row_reader.specs.Fields.{identifier, quantity, unless}
+use Rattle.row_reader.specs.Fields.{identifier, unless}
 use Rattle.row_reader.specs.FirstFault.{verdict}
 use Rattle.row_reader.specs.Records.{Record}
 use Rattle.row_reader.specs.Rows.{FieldsView}
@@ -16,8 +12,6 @@ use Rattle.row_reader.specs.declared.faults.Code.TheVariants as code
 use Rattle.row_reader.specs.declared.faults.Column.TheVariants as column
 use Rattle.net_core.specs.Ids.{place_of}
 use Rattle.net_core.specs.declared.rows.NetRows.{NetRows}
-use Rattle.dta_model.specs.Release.{HaveWindows}
-use Rattle.dta_model.specs.declared.trip.DemandCell.{DemandCell}
 use Rattle.gmns_tables.proofs.ChainFacts.{unless-ok}
 use Rattle.start_table.specs.Starts.{AreStartRows, agents_of}
 use Rattle.start_table.specs.StartTable.{ids_in, start_columns, start_row_of, start_verdict}

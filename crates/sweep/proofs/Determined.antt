@@ -1,5 +1,5 @@
 -- A scale of the demand has one scenario.
-use Rattle.std.proofs.Common.{◌≡◌, ℕ, ◌-◌, List, [], length, refl, sym, ap, subst, ◌∙◌}
+use Rattle.std.proofs.Common.{◌≡◌, ℕ, ◌-◌, List, length, refl, sym, ap, ◌∙◌}
 use Rattle.std.specs.Prelude.{Some, slice_get}
 use Rattle.dta_model.specs.LinkTimes.{table_of}
 use Rattle.dta_model.specs.Loading.{journeys_of}
