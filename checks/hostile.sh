@@ -4,8 +4,8 @@
 # where none did. Groups of cases are the functions that `groups` names, and all of them run where
 # none is said. Where it is run by root it also tries a full disk (a small file system in memory),
 # and calls the program as another user. It takes some minutes, and 1 GB in the folder of mktemp.
-groups='folder_without_writing full_outputs full_disk broken_streams closed_streams no_files pipes
-longest_tables long_rows odd_bytes most_vehicles little_memory little_memory_for_shares
+groups='folder_without_writing full_outputs full_disk broken_streams closed_streams
+interrupted_calls lacking_syncs no_files pipes longest_tables long_rows odd_bytes most_vehicles little_memory little_memory_for_shares
 little_memory_for_threads no_threads times_tables skims_and_counts windows waves start_tables sweeps
 sweeps_in_little_memory audits audited_tables kills'
 checks=$(dirname "$(readlink -f "$0")")
@@ -200,6 +200,63 @@ closed_streams() {
     { sleep 1; "$program" assign --watch 10 2>&1 >"$work/report"; echo $? >"$work/status"; } | true
     status=$(cat "$work/status")
     check 'Watch to a pipe that nobody reads' '5 none none none -' "$(outcome)"
+}
+
+# A library by which each third read and write is interrupted, as INTERRUPTED says, and by which
+# syncs end with the number SYNC.
+make_answers() {
+    command -v cc >/dev/null || { echo 'not tried: there is no C compiler'; return 1; }
+    cc -shared -fPIC -o "$work/answers.so" -x c - <<'C'
+#define _GNU_SOURCE
+#include <errno.h>
+#include <stdlib.h>
+#include <sys/syscall.h>
+#include <unistd.h>
+static int calls;
+static int is_interrupted(void) {
+    if (!getenv("INTERRUPTED") || __sync_add_and_fetch(&calls, 1) % 3) return 0;
+    errno = EINTR;
+    return 1;
+}
+ssize_t read(int file, void *bytes, size_t count) {
+    return is_interrupted() ? -1 : syscall(SYS_read, file, bytes, count);
+}
+ssize_t write(int file, const void *bytes, size_t count) {
+    return is_interrupted() ? -1 : syscall(SYS_write, file, bytes, count);
+}
+int fsync(int file) {
+    if (!getenv("SYNC")) return syscall(SYS_fsync, file);
+    errno = atoi(getenv("SYNC"));
+    return -1;
+}
+C
+}
+
+# answered NAME WANTED SETTING: how a run ends by these answers of the system.
+answered() {
+    begin
+    env LD_PRELOAD="$work/answers.so" "$3" "$program" assign --watch 100 \
+        >"$work/report" 2>"$work/watch"
+    status=$?
+    check "$1" "$2" "$(outcome)"
+}
+
+# What a signal interrupts is tried again, as FUSE may ask.
+interrupted_calls() {
+    make_answers || return
+    answered 'reads and writes that are interrupted' '0 whole whole whole report' INTERRUPTED=1
+}
+
+# A file system that knows no sync, and a disk that fails: EINVAL, EROFS, ENOSYS, ENOTSUP; EIO,
+# ENOSPC, EDQUOT.
+lacking_syncs() {
+    make_answers || return
+    for number in 22 30 38 95; do
+        answered "a sync that ends with $number" '0 whole whole whole report' SYNC=$number
+    done
+    for number in 5 28 122; do
+        answered "a sync that ends with $number" '5 whole whole whole report' SYNC=$number
+    done
 }
 
 # What stands in place of a table.

@@ -194,7 +194,8 @@ threads() {
 
 # ---- stacks and files
 
-# Each command with a small stack, which is also that of each thread.
+# Each command with a small stack, which is also that of each thread. Beside 128 KB it has to hold
+# the environment.
 stacks() {
     for command in $commands; do
         set -- $(words_of "$command")
@@ -203,6 +204,9 @@ stacks() {
             (ulimit -s $size) 2>/dev/null || continue
             is_case is_done "-s $size" "$@"
         done
+        start="env LONG=$(head -c 120000 /dev/zero | tr '\0' x)"
+        for size in 248 252 256 512 8192; do is_case is_done "-s $size" "$@"; done
+        start=
     done
 }
 
@@ -261,23 +265,51 @@ shared_memory() {
 # in_order: whether a run ended with 6, or with 0 as each one in less memory since the first did.
 in_order() {
     case $status in
-        0) enough=${enough:-$bound}; cmp -s report "$folder/whole" ;;
+        0) enough=${enough:-$bound}; what_is_put | cmp -s - "$folder/whole" ;;
         6) [ -z "$enough" ] && [ ! -s report ] ;;
         *) false ;;
     esac
 }
 
-# What is done in some memory is done in more, by the command, whose program has threads.
-more_is_enough() {
-    make_command "$program"
-    program=$folder/dta
-    tables='no table'
-    set -- demo 40 --horizon 3000 --period 200 --iterations 2
+# ever_more FIRST STRIDE LAST WORDS..: what is done in some memory is done in more, by the command,
+# whose program has threads. Bounds are in KB.
+ever_more() {
+    bounds=$(seq "$1" "$2" "$3")
+    shift 3
     keep_whole "$@"
     enough=
-    for bound in $(seq 100000 10000 400000); do is_case in_order "-v $bound" "$@"; done
-    echo "the demonstration of 40 by 40 nodes is done in ${enough:-more than $bound} KB"
-    [ -n "$enough" ] || fails 'the demonstration of 40 by 40 nodes lacks memory'
+    for bound in $bounds; do is_case in_order "-v $bound" "$@"; done
+    echo "dta $* over $tables is done in ${enough:-more than $bound} KB"
+    [ -n "$enough" ] || fails "dta $* over $tables lacks memory"
+}
+
+# Networks from 4 MB on, 1 MB apart: the stacks of 16 threads may take more than what is left.
+more_is_enough() {
+    tables='no table'
+    ever_more 100000 10000 400000 demo 40 --horizon 3000 --period 200 --iterations 2
+    loading='--horizon 300 --period 300'
+    for tables in sioux_falls roundabout; do
+        rm -f ./*.csv
+        cp "$top/examples/$tables"/*.csv .
+        awk -F , -v OFS=, '
+            NR == 1 { for (at = 1; at <= NF && $at != "volume"; at++); }
+            NR > 1 { $at /= 50 }
+            { print }' "$top/examples/$tables/demand.csv" >demand.csv
+        ever_more 4096 1024 45000 assign $loading
+        ever_more 4096 1024 45000 assign $loading --iterations 2 --workers 16
+        ever_more 4096 1024 45000 assign $loading --plain --workers=16
+        ever_more 4096 1024 45000 counts --workers 16 $loading
+        ever_more 4096 1024 45000 sweep $loading --scales '1;1.5;1;1'
+    done
+}
+
+# A long environment leaves no room in a small stack, and too many words can't be passed.
+long_environment() {
+    tables='sioux_falls and a long environment'
+    start="env LONG=$(head -c 120000 /dev/zero | tr '\0' x) SECOND=$(head -c 120000 /dev/zero |
+        tr '\0' x)"
+    ever_more 16384 16384 65536 assign $loading --workers 16
+    start=
 }
 
 find_begin
@@ -293,5 +325,8 @@ many_nodes 300000 60
 pages_around
 begin_case
 shared_memory
+make_command "$program"
+program=$folder/dta
 more_is_enough
+long_environment
 end_cases

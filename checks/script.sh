@@ -2,7 +2,7 @@
 # script.sh DTA: tries the script `dta` of the repository, which is built, or the installed command:
 # what it says on standard error, what it refuses to run, that standard output, files and statuses
 # are those of the program, and what `package` makes. Prints each case that isn't as wanted, and how
-# many are; ends with 0 where all are. It takes less than a minute.
+# many are; ends with 0 where all are. It takes some two minutes.
 checks=$(dirname "$(readlink -f "$0")")
 . "$checks/begin.sh"
 top=$(dirname "$checks")
@@ -68,6 +68,9 @@ refused_words() {
     ends 2 "demo can't have the number '61': it goes from 2 to 60" demo 61
     ends 2 "'3' is a second number; demo takes one" demo 2 3
     ends 2 'dta help shows the commands and options' demo
+    for word in '\377' 'M\374nchen' '\355\240\200' '\302\342\202'; do
+        ends 1 "has a letter that isn't UTF-8 text" assign --step "$(printf %b "$word")"
+    done
 }
 
 # refused STATUS TEXT FILE BYTES [WORDS..]: how a run ends over a table that has these bytes.
@@ -131,11 +134,18 @@ is_gone() {
 
 # Two runs of one folder, and files under two names.
 refused_runs() {
-    flock -F . sleep 9 &
+    flock -s . sleep 9 &
     sleep 0.2
-    ends 9 'Another run is at work in this folder' freeflow
-    ends 0 '' demo 2 --horizon 1
+    run demo 2 --horizon 1
+    wanted=0 text=
+    case_of 'a demonstration writes no file' is_said
+    run freeflow
+    wanted=9 text="Somebody has locked this folder, and it isn't a run of dta"
+    case_of "a lock of somebody else: $(cat "$folder/said")" is_said
+    text="of $(id -un): flock -s . sleep 9"
+    case_of "who has the lock: $(cat "$folder/said")" is_said
     kill $!
+    new_folder
     "$script" assign --horizon 86400 --iterations 1000 >/dev/null 2>&1 &
     sleep 0.5
     run freeflow
@@ -160,6 +170,147 @@ refused_runs() {
     text='Standard output goes to gap.csv'
     case_of 'standard output to an output' is_said
     new_folder
+}
+
+# held WORDS..: begins a run that waits for its demand table, a pipe, which is then open as file 9.
+held() {
+    rm -f demand.csv
+    mkfifo demand.csv
+    env --default-signal=INT "$shell" "$script" "$@" >report 2>said &
+    exec 9>demand.csv
+}
+
+# Gives a held run its demand, and sets `status`.
+let_go() {
+    printf 'o_zone_id,d_zone_id,volume\n1,3,3\n' >&9
+    exec 9>&-
+    wait $!
+    status=$?
+}
+
+# linked TARGET FOLDER..: new folders whose gap.csv is a link to this file.
+linked() {
+    for place in "$folder/first" "$folder/second"; do
+        rm -rf "$place" && cp -r "$folder/case" "$place" && ln -s "$1" "$place/gap.csv"
+    done
+    cd "$folder/first" || exit 2
+}
+
+# beside STATUS TEXT: how a run in the second folder ends, beside one that is held in the first.
+beside() {
+    wanted=$1 text=$2
+    held assign
+    cd ../second && run assign
+    case_of "a link to the output of another run, $text: $status, $(cat "$folder/said")" is_said
+    cd ../first && let_go
+    case_of 'the other run ends' [ $status = 0 ]
+}
+
+# Two folders with an output that is a link to one file, or in one folder.
+shared_outputs() {
+    mkdir "$folder/target"
+    linked ../target/gap.csv; beside 9 "Another run is at work in $folder/target, where an output"
+    linked ../target/gap.csv; beside 9 "at work in $folder/target/gap.csv, where an output leads"
+    linked ../target/gap.csv
+    rm ../second/gap.csv && ln -s ../target/own.csv ../second/gap.csv && : >../target/own.csv
+    beside 0 'the run writes to'
+    linked ../first/words.txt
+    rm gap.csv
+    beside 9 "Another run is at work in $folder/first, where an output leads"
+    linked no
+    rm gap.csv ../second/gap.csv && : >gap.csv && ln gap.csv ../second
+    beside 9 "Another run is at work in $folder/second/gap.csv, where an output leads"
+    rm -rf "$folder/first" "$folder/second" "$folder/target"
+    new_folder
+}
+
+# The status of a run whose standard error nobody reads.
+unread() {
+    { sleep 0.3; run_here "$@"; } | true
+    status=$(cat "$folder/status")
+}
+
+run_here() {
+    { "$shell" "$script" "$@" >"$folder/report"; } 2>&1
+    echo $? >"$folder/status"
+}
+
+unread_sentences() {
+    echo x >link_performance.csv
+    unread assign
+    case_of "a sentence before a run that nobody reads: $status" [ "$status" = 0 ]
+    lines=$(cat gap.csv agent.csv link_performance.csv | wc -l)
+    case_of 'the tables of that run' [ "$lines" = 55 ]
+    unread assign --step 0
+    case_of "refused words, and nobody reads why: $status" [ "$status" = 2 ]
+    rm demand.csv
+    unread assign
+    case_of "no table, and nobody reads why: $status" [ "$status" = 4 ]
+    new_folder
+}
+
+# A signal that the script gets alone. The report is put all the same.
+interrupted_script() {
+    held assign
+    kill -INT $!
+    let_go
+    case_of "INT to the script alone: $status" [ "$status" = 0 ]
+    case_of 'the report of an interrupted script' grep -qx 'arrived 3' report
+    case_of 'the notes of an interrupted script' grep -q ' wrote agent.csv' words.txt
+    new_folder
+}
+
+# Folders and files that are gone, or lead nowhere.
+lost_places() {
+    rm -r ../case; ends 4 'This folder was removed.' assign
+    rm -r ../case
+    run demo 2 --horizon 1
+    case_of "a demonstration where the folder was removed: $status" [ "$status" = 0 ]
+    new_folder
+    held assign
+    mv said report "$folder"
+    rm -r ../case
+    let_go
+    wanted=5 text="agent.csv couldn't be written: the folder was removed."
+    case_of "a folder that is removed in mid-run: $status, $(cat "$folder/said")" is_said
+    new_folder
+    rm node.csv; ln -s node.csv node.csv
+    run freeflow
+    wanted=4 text='node.csv is a link that leads to no file.'
+    case_of "a link to itself: $(cat "$folder/said")" is_said
+    case_of 'nothing else of it' [ "$(wc -l <"$folder/said")" = 1 ]
+    new_folder
+    printf 'o_zone_id,d_zone_id,volume\n1,3,9000\n' >demand.csv
+    mkfifo agent.csv words.txt
+    head -c 100 agent.csv >/dev/null &
+    ends 5 "agent.csv couldn't be written: it is a pipe, and nobody reads it to its end." assign
+    mkfifo words.txt
+    ends 0 "words.txt, which tells how the tables were made, couldn't be written" assign
+}
+
+# without TOOL WORDS..: the status of a run where there is no such tool.
+without() {
+    mkdir "$folder/tools" && ln -s /usr/bin/* /bin/* "$folder/tools" 2>/dev/null
+    rm "$folder/tools/$1"
+    shift
+    printf '%s\n' "program='$program' share='$top' docs='$top/docs'" \
+        ". '$top/command/run.sh'" 'run_command "$@"' >"$folder/command"
+    shell_path=$(command -v "$shell")
+    PATH=$folder/tools "$shell_path" "$folder/command" "$@" >"$folder/report" 2>"$folder/said"
+    status=$?
+    rm -rf "$folder/tools"
+}
+
+lost_tools() {
+    wanted=0 text=
+    for tool in stat readlink setpriv flock df env; do
+        for words in '' --plain; do
+            without $tool assign $words
+            case_of "without $tool: $status, $(cat "$folder/said")" is_said
+        done
+        case_of "the notes without $tool" [ "$(wc -l <words.txt)" = 2 ]
+        new_folder
+    done
 }
 
 # What is said before a run that is done.
@@ -332,6 +483,35 @@ BOTH
     case_of "the grammar differs: $(cat "$folder/differs")" [ ! -s "$folder/differs" ]
 }
 
+# bounded_sentence LINE TEXT: what refusals.awk says of a line of Report has this text, within two
+# seconds of a processor and 50 MB.
+bounded_sentence() {
+    (ulimit -t 2; ulimit -v 51200; LC_ALL=C exec awk -f "$top/command/texts.awk" \
+        -f "$top/command/refusals.awk" -- "$1" m kmh 6) >"$folder/said" 2>&1
+    case_of "the sentence of $1: $(cat "$folder/said")" grep -Fq -- "$2" "$folder/said"
+}
+
+# Tables of bytes that nobody writes by hand.
+bounded_sentences() {
+    cd "$folder/case" || exit 2
+    table=demand.csv
+    truncate -s 64M $table
+    bounded_sentence 'demand line 3: E2 BadRecord -' 'Line 3 of demand.csv has NULs'
+    truncate -s 256M $table
+    bounded_sentence 'demand line 3: E2 BadRecord -' 'Line 3 of demand.csv has NULs'
+    : >$table; truncate -s 256M $table
+    bounded_sentence 'demand line 1: E1 MissingColumn o_zone_id' 'has no column o_zone_id'
+    for piece in x ',' '"' '","' '"\n' '\n,' 'x,\n' '1\n'; do
+        { echo o_zone_id,d_zone_id,volume; printf '1,2,'
+            yes "$(printf "$piece.")" | tr -d . | head -c 16000000; } >$table
+        bounded_sentence 'demand line 2: E4 NotNumber volume' 'Line 2 of demand.csv'
+        bounded_sentence 'demand line 9000000: E4 NotNumber volume' "these sentences don't look"
+    done
+    { echo node_id,zone_id; yes 11,2222222 | head -n 280000; echo 1,3; } >node.csv
+    bounded_sentence 'node line 280002: E6 Duplicate node_id' 'has the same node_id as an earlier'
+    new_folder
+}
+
 # completed WORDS..: what bash completes of the words.
 completed() {
     bash -c '. tree/share/bash-completion/completions/dta
@@ -384,6 +564,11 @@ for shell in dash bash; do
     refused_words
     refused_tables
     refused_runs
+    shared_outputs
+    unread_sentences
+    interrupted_script
+    lost_places
+    lost_tools
     told_before
     notes_of_runs
     unwritten_outputs
@@ -392,6 +577,7 @@ for shell in dash bash; do
     help_of
 done
 same_grammar
+bounded_sentences
 [ ! -x "$top/package" ] || packages
 echo "$((cases - failures)) of $cases cases are as wanted"
 exit "$((failures > 0))"

@@ -1,10 +1,15 @@
 # awk -f texts.awk -f refusals.awk -- LINE LENGTH_UNIT SPEED_UNIT STEP: says in sentences what a
 # line of Report means that refuses a run for a table's text or for its size, and what an audit
-# found, as docs/GUIDE.md does. Of a table it looks at the header and at the line that is named.
-# With `directions` in place of the line it says which rows of link.csv aren't one link in DTALite.
+# found, as docs/GUIDE.md does. Of a table it looks at the header and at the line that is named,
+# and no further than at its first 4,000,000 bytes and 300,000 lines, so that it takes a second at
+# most. With `directions` in place of the line it says which rows of link.csv aren't one link in
+# DTALite.
 
 BEGIN {
     MOST = 10000
+    LONGEST = 65536
+    PART = 4000000
+    LINES = 300000
     count = split(ARGV[1], word, " ")
     if (word[1] == "size:") of_size()
     else if (word[1] == "directions") of_directions("link.csv")
@@ -18,7 +23,10 @@ function say(text) { print "dta: " text }
 # ---- what isn't refused
 
 # The column dir_flag of DTALite isn't read, and may say that a row isn't one link as it is written.
+# A link table has a million rows at most.
 function of_directions(file,    line, k, value, others, first) {
+    PART = 268435456
+    LINES = 2000000
     if (!next_record(file)) return
     columns = fields_of(record, header)
     k = column_of("dir_flag")
@@ -71,16 +79,24 @@ function is_open(line, open) {
     return line ~ /(^|,)"/
 }
 
+# What prints the part of a file that is looked at, without NULs and with lines cut off.
+function part_of(file) {
+    return "{ head -c " PART " " file " | tr '\\000' '\\001' | cut -b 1-" LONGEST "; } 2>/dev/null"
+}
+
 # Takes the next record of the file to `record`, from the line of the file that `first_line` says
-# to the one that `last_line` says. Of a very long record the rest is left out.
+# to the one that `last_line` says. Of a very long record the rest is left out. Where a line is cut
+# off that has quotes nobody knows where its record ends, and there is no next one.
 function next_record(file,    line, open) {
     record = ""
-    while ((getline line <file) > 0) {
+    while (!is_lost && last_line < LINES && (part_of(file) | getline line) > 0) {
         last_line++
         sub(/\r$/, "", line)
         if (line == "" && !open) continue
         if (!open) first_line = last_line
         if (length(record) < MOST) record = open ? record " " line : line
+        if (length(record) > MOST) record = substr(record, 1, MOST)
+        is_lost = length(line) == LONGEST && index(line, "\"")
         open = index(line, "\"") || open ? is_open(line, open) : 0
         if (!open) return 1
     }
@@ -117,14 +133,6 @@ function field(name,    k) {
     return k && k <= fields ? row[k] : ""
 }
 
-# Whether a text isn't UTF-8. The locale is C, so that a character is a byte.
-function is_other_text(text) {
-    gsub(/[\302-\337][\200-\277]/, "", text)
-    gsub(/[\340-\357][\200-\277][\200-\277]/, "", text)
-    gsub(/[\360-\364][\200-\277][\200-\277][\200-\277]/, "", text)
-    return text ~ /[\200-\377]/
-}
-
 # The line of the first record that has these two identifiers in these columns, before `most`.
 function line_with(name, id, name_2, id_2, most,    line, found, k, k_2) {
     k = column_of(name)
@@ -154,6 +162,10 @@ function of_table(table, line, code, column,    at) {
         text = record
         if (at == 1) columns = fields_of(record, header)
     }
+    if (at <= line && code !~ /^E1[23]?$/) {
+        say(where " lies far behind, where these sentences don't look: " fault_of(code, column) ".")
+        return
+    }
     fields = fields_of(text, row)
     value = field(column)
     tell_place(line)
@@ -165,6 +177,20 @@ function of_table(table, line, code, column,    at) {
     else if (code == "E6") of_twin(column, line)
     else if (code ~ /^E[789]$/) of_unknown(code, column)
     else of_other(code, line, column)
+}
+
+# What a code says of a line that isn't looked at.
+function fault_of(code, column) {
+    if (code == "E2") return "it has more or fewer fields than the header, or isn't UTF-8"
+    if (code == "E3") return "it has no " column
+    if (code == "E4") return "its " column " is not " form_of(column)
+    if (code == "E5") return "its " column " is out of range: " range_of(column)
+    if (code == "E6") return "an earlier line has the same " column
+    if (code == "E7") return "its " column " names a node that isn't in node.csv"
+    if (code == "E8") return "its " column " names a link that isn't in link.csv"
+    if (code == "E9") return "its " column " is no link of the turn's node"
+    if (code == "E10") return "it is a link of both directions"
+    return "its link takes more than 10000 steps"
 }
 
 # Says where an editor has the line, where it counts in another way.
@@ -180,11 +206,11 @@ function has_value(column) { return where " has " quoted(value) " as its " colum
 
 # Whether the file can be looked at as lines; what stands in the way is said.
 function is_text_table(    first) {
-    if ((getline first <file) <= 0) {
+    if ((part_of(file) | getline first) <= 0) {
         say(file " is empty.")
         return 0
     }
-    close(file)
+    close(part_of(file))
     if (first ~ /^(\377\376|\376\377)/) {
         say(file " is UTF-16 text, which spreadsheets call Unicode.")
         say("Save it as CSV in UTF-8.")
@@ -221,8 +247,11 @@ function of_record() {
         say("Save it as UTF-8, or: iconv -f WINDOWS-1252 -t UTF-8 " file " >new.csv")
         return
     }
-    if (length(text) < MOST)
+    if (text ~ /\001/)
+        say(where " has NULs, bytes that are no text, as a power cut may leave them.")
+    else if (length(text) < MOST)
         say(where " has " fields " fields, and the header has " columns ".")
+    else say(where " has " MOST " bytes or more, and the header has " columns " fields.")
     if (is_blank_row(text)) of_blank_rows()
     else if (text !~ /,/ && text ~ /[;\t|]/)
         say("The line isn't separated by commas, as the header is.")
@@ -288,7 +317,8 @@ function range_of(column) {
 
 function of_twin(column, line,    name, earlier) {
     name = column == "ob_link_id" ? "ib_link_id" : column
-    close(file)
+    close(part_of(file))
+    is_lost = last_line = 0
     earlier = line_with(column, value, name, field(name), line)
     say(where " has the same " (name == column ? column : "two links") " as " \
         (earlier ? "line " earlier ": " : "an earlier line: ") value ".")

@@ -9,8 +9,9 @@
 # The status with which nothing was run: the folder is in use, or two files are one.
 in_the_way=9
 
+# Says a sentence. Where nobody reads standard error the signal PIPE would end this script.
 say() {
-    printf 'dta: %s\n' "$*" >&2
+    (trap '' PIPE; printf 'dta: %s\n' "$*" >&2 2>/dev/null)
 }
 
 version() {
@@ -75,12 +76,13 @@ name_files() {
 
 # ---- before the run
 
-# is_one FILE FILE: whether two names lead to one file, also to one that isn't there yet.
+# is_one FILE FILE: whether two names lead to one file, also to one that isn't there yet. In a
+# folder that was removed no name leads anywhere.
 is_one() {
     if [ -e "$1" ]; then
         [ -f "$1" ] && [ "$1" -ef "$2" ]
     else
-        [ "$(readlink -m "$1")" = "$(readlink -m "$2")" ]
+        way=$(readlink -m "$1" 2>/dev/null) && [ "$way" = "$(readlink -m "$2")" ]
     fi
 }
 
@@ -127,9 +129,19 @@ maker_of() {
 # maker_of_words WORDS..: the command, where words.txt has notes of this script, or these words.
 maker_of_words() {
     if [ ! -s words.txt ]; then echo nothing
-    elif grep -q '^dta .* wrote ' words.txt || [ "$(cat words.txt)" = "$*" ]; then echo "$1"
+    elif all_notes | grep -q '^dta .* wrote ' || [ "$(all_notes)" = "$*" ]; then echo "$1"
     else echo 'something else'
     fi
+}
+
+# What words.txt says, if it isn't the work of somebody else and very long.
+all_notes() {
+    head -c 999999 words.txt | tr -d '\0'
+}
+
+# Whether a file has several names.
+has_names() {
+    marks "$1" | grep -qv '^[^ ]* [^ ]* 1 '
 }
 
 # tell_outputs WORDS..: says which outputs lead elsewhere, and which are there from another
@@ -138,7 +150,7 @@ tell_outputs() {
     for output in $outputs $words; do
         [ ! -h "$output" ] || say "$output is a link: the run writes to $(readlink -m "$output")."
         [ -f "$output" ] || continue
-        [ "$(stat -c %h "$output")" = 1 ] ||
+        ! has_names "$output" ||
             say "$output has further names (hard links): the run writes over the file of them all."
         if [ "$output" = words.txt ]; then maker=$(maker_of_words "$@")
         else maker=$(maker_of "$output"); fi
@@ -154,37 +166,127 @@ tell_directions() {
     LC_ALL=C awk -f "$share/command/texts.awk" -f "$share/command/refusals.awk" -- directions >&2
 }
 
-# Sets `start` to what starts the program so that it ends where this script is ended, and so that
-# it is alone among the runs that write to this folder.
+# Sets `start` to what starts the program so that it ends where this script is ended, and `locks`
+# to the locks by which it is alone among the runs that write to the same files.
 prepare_start() {
     start='setpriv --pdeathsig TERM'
     $start true 2>/dev/null || start=
-    [ -n "$outputs" ] || return
-    flock -n -E $in_the_way . true 2>/dev/null
-    case $? in
-        0) start="$start flock -n -F -E $in_the_way ." ;;
-        "$in_the_way") tell_holder; exit $in_the_way ;;
-    esac
+    locks=
+    [ -z "$outputs" ] || name_locks
+    try_locks
 }
 
-# Where memory is bounded all threads share one region of it. Else the C library gives each its own,
-# while there is room for them, and the labels of shortest paths may lack it. It slows runs down in
-# which threads make the routes of many vehicles, so it isn't done where memory isn't bounded.
+# Sets `locks`, one a line, each a kind of flock and a path: this folder, and where an output is a
+# file of several names, or a link, that file. The folder of such a file may be that of a run, and
+# is shared by those whose links lead there; where the file isn't there yet it can't be shared.
+name_locks() {
+    locks='-x .
+'
+    for output in $outputs $words; do
+        [ ! -h "$output" ] || [ -e "$output" ] || add_lock -x "$(way_of "$output")/."
+    done
+    for output in $outputs $words; do
+        [ -f "$output" ] || continue
+        [ ! -h "$output" ] || add_lock -s "$(way_of "$output")/."
+        { [ ! -h "$output" ] && ! has_names "$output"; } ||
+            add_lock -x "$(readlink -f "$output" 2>/dev/null)"
+    done
+}
+
+# The folder of the file to which a link leads.
+way_of() {
+    way=$(readlink -m "$1" 2>/dev/null)
+    printf '%s\n' "${way%/*}"
+}
+
+# add_lock KIND PATH: one more lock, unless it is there.
+add_lock() {
+    case $locks in *" $2
+"*) return ;; esac
+    [ ! -e "$2" ] || [ "$2" -ef . ] || locks="$locks$1 $2
+"
+}
+
+# Ends where somebody has one of the locks; leaves out those that can't be had.
+try_locks() {
+    wanted=$locks
+    locks=
+    part_lines
+    for lock in $wanted; do
+        flock -n -E $in_the_way "${lock%% *}" "${lock#* }" true 2>/dev/null
+        case $? in
+            0) locks="$locks$lock
+" ;;
+            "$in_the_way") part_words; tell_holder "${lock#* }"; exit $in_the_way ;;
+        esac
+    done
+    part_words
+}
+
+# Whether texts are parted into lines or into words where no quotes are.
+part_lines() {
+    set -f
+    IFS='
+'
+}
+
+part_words() {
+    set +f
+    unset IFS
+}
+
+# start_program WORDS..: the program takes the place of this shell, with its locks.
+start_program() {
+    share_memory "$@"
+    set -- "$program" "$@"
+    part_lines
+    for lock in $locks; do
+        set -- flock -n -F -E $in_the_way "${lock%% *}" "${lock#* }" "$@"
+    done
+    part_words
+    exec $start "$@"
+}
+
+# Where memory is bounded all threads share one region of it, and each has a small stack. Else the C
+# library gives each a region and 8 MB of its own, while there is room for them, and what is needed
+# later may lack it. Regions of their own make runs faster in which threads make the routes of many
+# vehicles, so it isn't done where memory isn't bounded. The stack has to hold words and environment
+# too.
 share_memory() {
-    [ "$(ulimit -v)" != unlimited ] || return
+    is_bounded || return
     export MALLOC_ARENA_MAX="${MALLOC_ARENA_MAX-1}"
+    [ "$( (env; printf '%s\n' "$@") | wc -c)" -gt 32000 ] ||
+        [ "$(ulimit -S -s)" -le 256 ] 2>/dev/null || ulimit -S -s 256
 }
 
-# Says who has the lock: the program itself, under its process id.
+is_bounded() {
+    [ "$(ulimit -v)" != unlimited ]
+}
+
+# tell_holder PATH: says who has the lock of the folder or file: the program itself, under its
+# process id, or somebody else.
 tell_holder() {
-    process=$(awk -v end=":$(stat -c %i .)" '
+    place='this folder'
+    [ "$1" = . ] || place="${1%/.}, where an output leads"
+    inode=$(ls -diL "$1" | sed 's/^ *\([0-9]*\) .*/\1/')
+    process=$(awk -v end=":$inode" '
         $2 == "FLOCK" && substr($6, length($6) - length(end) + 1) == end { print $5; exit }
         ' /proc/locks 2>/dev/null)
-    say 'Another run is at work in this folder, and two at once would mix their files.'
-    say 'Nothing was run. Wait until it ends, or run in a copy of the folder.'
+    holder=
     [ -z "$process" ] || [ ! -r "/proc/$process/cmdline" ] ||
-        say "It is process $process of $(stat -c %U "/proc/$process"): dta$(
-            tail -z -n +2 "/proc/$process/cmdline" | tr '\0' ' ' | sed 's/^/ /; s/ $//')"
+        holder=$(head -c 500 "/proc/$process/cmdline" | tr '\0\n' '  ' | sed 's/ $//')
+    first=${holder%% *}
+    case ${first##*/} in
+        '') say "Another run is at work in $place, or somebody has locked it." ;;
+        "${program##*/}")
+            say "Another run is at work in $place, and two at once would mix their files."
+            holder=dta${holder#"$first"}
+            ;;
+        *) say "Somebody has locked $place, and it isn't a run of dta." ;;
+    esac
+    say 'Nothing was run. Wait until it ends, or run in a copy of the folder.'
+    [ -z "$holder" ] ||
+        say "It is process $process of $(ls -ld "/proc/$process" | awk '{ print $3 }'): $holder"
 }
 
 # ---- the run
@@ -202,21 +304,41 @@ is_told() {
 run_program() {
     if is_told "$@"; then
         report=$(run_told "$@" --watch "$((horizon / 10 + 1))")
-        status=${report##*=}
-        report=${report%=*}
+        status=$?
+        case $report in *=*) status=${report##*=} report=${report%=*} ;; esac
     else
         # The program takes the place of the inner shell, so this script is its parent.
-        report=$(exec $start "$program" "$@")
+        report=$(start_program "$@")
         status=$?
         report=$report${report:+"
 "}
     fi
 }
 
+# Runs the program once more where memory is bounded and threads may have taken what there was. The
+# one worker has no thread, and the results are the same.
+run_alone() {
+    [ "$status" = 6 ] && is_bounded && ! is_given watch "$@" || return
+    case $1 in assign | demo | counts | sweep) ;; *) return ;; esac
+    [ "$(value_of workers 4 "$@")" -ne 1 ] || return
+    say 'There was not enough memory for several threads. Once more, with one worker:'
+    skip=
+    for word in "$@"; do
+        shift
+        case ${skip:-$word} in
+            skip) skip= ;;
+            --workers) skip=skip ;;
+            --workers=*) ;;
+            *) set -- "$@" "$word" ;;
+        esac
+    done
+    run_program "$@" --workers 1
+}
+
 # Runs the program, and makes sentences of its watch lines. Prints what it puts to standard output,
 # and then `=` and its status.
 run_told() {
-    { { $start "$program" "$@" 2>&3 3>&- 4>&-; printf '=%s' $?; } 3>&1 >&4 |
+    { { (start_program "$@") 2>&3 3>&- 4>&-; printf '=%s' $?; } 3>&1 >&4 |
         tell_progress >&2 4>&-; } 4>&1
 }
 
@@ -262,14 +384,20 @@ tell_state() {
 
 # ---- after the run
 
-# What tells of each output whether the run began it.
+# What tells of each output whether the run began it: a line as of ls.
 marks() {
-    [ -z "$1" ] || stat -L -c '%n %i %s %.9Z' $1 2>/dev/null
+    [ -z "$1" ] || ls -dLinU --full-time $1 2>/dev/null | tr -s ' '
+}
+
+# Whether the folder was removed since somebody went there.
+is_removed() {
+    ! env pwd >/dev/null 2>&1
 }
 
 # Why an output couldn't be made, where that is seen.
 why_not_made() {
-    if [ -d "$1" ]; then echo 'a folder has its name'
+    if is_removed; then echo 'the folder was removed'
+    elif [ -d "$1" ]; then echo 'a folder has its name'
     elif [ -e "$1" ] && [ ! -w "$1" ]; then echo 'it may not be written over'
     elif [ -e "$1" ] && [ ! -f "$1" ]; then echo 'it is a device or a pipe, which may be full'
     elif [ -h "$1" ] && [ ! -e "$1" ]; then echo 'it is a link that leads nowhere'
@@ -312,6 +440,7 @@ tell_unwritten() {
     done
     why=${next:+$(why_not_made "$next")}
     if [ -n "$why" ]; then whole="$whole${begun:+ $begun}" begun=$next
+    elif [ -p "$begun" ]; then why='it is a pipe, and nobody reads it to its end'
     elif [ -n "$begun" ]; then
         why=$(why_not_whole)
         # On a full disk the next one may have found no room to begin.
@@ -331,10 +460,11 @@ note_words() {
     [ "$(marks "$outputs")" != "$before" ] || return
     notes=$(earlier_notes)
     [ "$status" -ne 0 ] || notes="$*
-dta $(version) wrote $(stat -L -c '%n (%s bytes),' $outputs | tr '\n' ' ' | sed 's/, $//')${notes:+
+dta $(version) wrote $(marks "$outputs" | awk '
+        { printf "%s%s (%s bytes)", comma, $NF, $2 ~ /^[bc]/ ? 0 : $6; comma = ", " }')${notes:+
 }$notes"
-    if [ -n "$notes" ]; then { printf '%s\n' "$notes" >words.txt; } 2>/dev/null
-    else [ ! -f words.txt ] || rm words.txt 2>/dev/null
+    if [ -z "$notes" ]; then [ ! -f words.txt ] || rm words.txt 2>/dev/null
+    else [ ! -p words.txt ] && { printf '%s\n' "$notes" >words.txt; } 2>/dev/null
     fi && return
     why=$(why_not_made words.txt)
     why=${why:-$(why_no_room)}
@@ -343,13 +473,13 @@ dta $(version) wrote $(stat -L -c '%n (%s bytes),' $outputs | tr '\n' ' ' | sed 
 
 # The notes of runs whose tables this run hasn't written over, two lines each.
 earlier_notes() {
-    [ ! -f words.txt ] || awk -v outputs=" $outputs " '
+    [ ! -f words.txt ] || all_notes | awk -v outputs=" $outputs " '
         !/^dta .* wrote / { words = $0; next }
         {
             count = split($0, part, " ")
             for (k = 1; k <= count; k++) if (index(outputs, " " part[k] " ")) next
             print words "\n" $0
-        }' words.txt 2>/dev/null
+        }'
 }
 
 # tell_status LINE BEFORE WORDS..: says what the status and the first line of Report mean.
@@ -358,7 +488,7 @@ tell_status() {
     before=$2
     shift 2
     case $status in
-        2) tell_words "$@" ;;
+        1 | 2) tell_words "$@" ;;
         4) tell_read_fault "${line##* }" ;;
         3 | 7 | 8)
             LC_ALL=C awk -f "$share/command/texts.awk" -f "$share/command/refusals.awk" -- \
@@ -370,7 +500,7 @@ tell_status() {
             say 'There was not enough memory. No output was begun.'
             say 'A shorter --horizon, a longer --step or fewer --workers take less.'
             ;;
-        "$in_the_way") tell_holder ;;
+        "$in_the_way") try_locks; say 'Another run was at work in this folder. Nothing was run.' ;;
         137) say 'The program was killed. The system does so where memory runs out.' ;;
     esac
 }
@@ -379,9 +509,11 @@ tell_status() {
 tell_read_fault() {
     if [ -d "$1.csv" ]; then say "$1.csv is a folder."
     elif [ -e "$1.csv" ]; then say "$1.csv can't be read: look at who may read it."
+    elif [ -h "$1.csv" ]; then say "$1.csv is a link that leads to no file."
+    elif is_removed; then say 'This folder was removed.'
     else
         say "There is no $1.csv in this folder, $(pwd)."
-        other=$(ls | grep -i "^$1.*[.]\(csv\|txt\)" | head -n 1)
+        other=$(ls -f | grep -ai "^$1.*[.]\(csv\|txt\)" | head -n 1)
         [ -z "$other" ] || say "Is $other this table? Its name has to be $1.csv."
     fi
     case $1 in
@@ -390,7 +522,7 @@ tell_read_fault() {
     esac
 }
 
-# tell_words WORDS..: names the first of refused words that isn't in the grammar.
+# tell_words WORDS..: names the first of refused words that isn't text, or isn't in the grammar.
 tell_words() {
     LC_ALL=C awk -f "$share/command/texts.awk" -f "$share/command/options.awk" \
         -f "$share/command/words.awk" -- "$share/docs/options.txt" "$@" >&2
@@ -405,9 +537,12 @@ run_command() {
     tell_directions "${1:-}"
     # So that a file that grows past ulimit -f ends the run with status 5, and not by a signal.
     trap '' XFSZ
-    share_memory
+    # Where INT reaches this script alone the run goes on, and its report is put.
+    trap 'interrupted=1' INT
+    interrupted=
     before=$(marks "$outputs")
     run_program "$@"
+    run_alone "$@"
     note_words "$@"
     if (trap '' PIPE; printf '%s' "$report") 2>/dev/null || [ "$status" -ne 0 ]; then
         tell_status "$(printf '%s' "$report" | sed 1q)" "$before" "$@"
@@ -416,5 +551,7 @@ run_command() {
         say "The report couldn't be written to standard output."
         [ -z "$outputs" ] || say "Written whole before it: $outputs."
     fi
+    # As after Ctrl-C, which ends the program by the same signal.
+    [ -z "$interrupted" ] || [ "$status" -ne 130 ] || { trap - INT; kill -INT $$; }
     exit "$status"
 }

@@ -1,5 +1,6 @@
 # awk -f texts.awk -f options.awk -f words.awk -- OPTIONS WORDS..: names the first of the words that
-# isn't in the grammar, which docs/options.txt tells. Prints nothing where it finds none.
+# isn't text, or else isn't in the grammar, which docs/options.txt tells. Prints nothing where it
+# finds none.
 
 BEGIN {
     read_options(ARGV[1])
@@ -139,7 +140,20 @@ function missing(    k) {
     return ""
 }
 
+# A word that isn't text, before which the program doesn't look at the others.
+function fault_of_text(    k, word) {
+    for (k = 2; k < ARGC; k++) {
+        word = ARGV[k]
+        if (!is_other_text(word)) continue
+        gsub(/[\200-\377]/, "?", word)
+        return quoted(word) " has a letter that isn't UTF-8 text"
+    }
+    return ""
+}
+
 function fault_of_words(    fault) {
+    fault = fault_of_text()
+    if (fault != "") return fault
     if (ARGC < 3) return "a command has to come first: " list_of(command, commands, "or")
     horizon = horizon_of_words()
     fault = fault_of_command(ARGV[2])

@@ -14,7 +14,8 @@ function runReader(csv, network, results, agentRows, visitTools, places, shapes)
 
     // The words by which the run was made, and the version, by words.txt. The command `dta` notes
     // the tables that a run wrote with their sizes; where one has another size now, the words are
-    // of another run. What a person wrote there is the words alone.
+    // of another run. What a person wrote there is the words alone. A note without tables is of
+    // all.
     async function wordsOf(files, faults) {
         const file = files.find(({name}) => name === wordsName);
         if (file === undefined) return {words: [], version: ''};
@@ -22,7 +23,7 @@ function runReader(csv, network, results, agentRows, visitTools, places, shapes)
         const notes = [...text.matchAll(/^(.*)\r?\ndta (\S+) wrote (.*)$/gm)].map(noteOf);
         if (notes.length === 0) return {words: split(text), version: ''};
         for (const table of ofRun.filter((name) => sizes.has(name))) {
-            const note = notes.find(({tables}) => tables.has(table));
+            const note = notes.find(({tables}) => tables.has(table) || tables.size === 0);
             if (note === undefined) continue;
             const other = [...note.tables].find(
                 ([name, size]) => sizes.has(name) && sizes.get(name) !== size);

@@ -49,12 +49,12 @@ const SweepFile = (() => {
             async (at) => ({at, text: await file.slice(at, at + longestHead).text()})));
     }
 
-    // The words of the sweep, without what words.txt notes of other runs.
+    // The words of the sweep and the version, without what words.txt notes of other runs.
     async function wordsOf(files, sweep) {
         const file = files.find((one) => one.name === 'words.txt');
         if (file === undefined) return [];
         const text = await file.text();
-        const found = /^(.*)\r?\ndta \S+ wrote sweep\.txt \((\d+) bytes\)/m.exec(text);
+        const found = /^(.*\r?\ndta \S+ wrote )sweep\.txt \((\d+) bytes\)/m.exec(text);
         if (found === null) return /^dta \S+ wrote /m.test(text) ? [] : [file];
         return Number(found[2]) === sweep.size ? [new File([found[1]], 'words.txt')] : [];
     }

@@ -67,7 +67,7 @@ def facts_of(page, links):
 def classes(page):
     """The words of the legend's classes and how many links each has."""
     return page.run(
-        'return [...document.querySelectorAll("#legend .class")].map((one) =>'
+        'return [...document.querySelectorAll("#legend .class:not(#closed)")].map((one) =>'
         ' [one.querySelector(".bound").textContent,'
         '  Number(one.querySelector(".count").textContent.replaceAll(",", ""))])'
     )

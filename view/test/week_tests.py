@@ -220,6 +220,10 @@ class WeekTests:
             page.wait_for_runs([f'sweep {scale}'])
             check_totals(page, Told(self.scenario(place)))
             check('sweep.txt has 2 scenarios' in page.text('#messages'), 'the scenarios')
+            with open(os.path.join(self.path('sweep'), 'words.txt'), encoding='utf-8') as notes:
+                words, note = notes.read().splitlines()
+            made = f'dta {note.split()[1]}: {words}'
+            equal(page.rows('#totals')[0], ['Made by', made], 'how the sweep was made')
         page.drop([self.path('sweep')])
         page.wait_for_runs(['sweep ×1.6', 'sweep ×0.5'])
         check_totals(page, Told(self.scenario(0)), 2)

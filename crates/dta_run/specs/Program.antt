@@ -7,7 +7,8 @@ use Rattle.desk_io.specs.State.{DeskState}
 use Rattle.commands.specs.Status.{number_of}
 use Rattle.commands.specs.declared.status.Status.{Status}
 use Rattle.commands.specs.declared.status.Status.TheVariants as status
-use Rattle.dta_run.specs.Headline.{Headline, silent}
+use Rattle.assign_command.specs.Receipts.{silent}
+use Rattle.dta_run.specs.Headline.{Headline}
 
 -- the status of a run of which a file isn't kept
 abbrev pub lost_status : Status → Status
