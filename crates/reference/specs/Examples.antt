@@ -10,6 +10,7 @@ use Rattle.net_core.specs.declared.rows.LinkRow.{LinkRow}
 use Rattle.net_core.specs.declared.rows.NetRows.{NetRows}
 use Rattle.dta_model.specs.Examples.{link, trip}
 use Rattle.dta_model.specs.declared.queue.Queue.TheVariants as queue
+use Rattle.dta_model.specs.declared.trip.DemandCell.{DemandCell}
 use Rattle.dta_model.specs.declared.trip.Trip.{Trip}
 use Rattle.dta_words.specs.Examples.{defaults}
 use Rattle.dta_words.specs.declared.command.Command.{Command}
@@ -220,10 +221,20 @@ a_skim : texts_of command.Skim (record (settings command.Skim) { starts = 0 ∷ 
 unfolding others_on_literals
 a_skim = refl
 
+-- three vehicles over the whole period
+abbrev row_of_three : DemandCell
+row_of_three = record {
+  line = 2;
+  origin = 1;
+  destination = 3;
+  volume = 3000;
+  from = 0;
+  to = 30;
+}
+
 -- a third of three vehicles is one, and a thousandth none
 a_sweep : texts_of command.Sweep (record (settings command.Sweep) { scales = 334 ∷ 1 ∷ [] })
-    (record (job two_links [])
-    { demand_cells = record { line = 2; origin = 1; destination = 3; volume = 3000 } ∷ [] }) ≡
+    (record (job two_links []) { demand_cells = row_of_three ∷ [] }) ≡
     text_to output.Sweep (codes "scenario 0 scale 334\n" ++ agents
     ++ codes "0,1,3,15,35,arrived,10;20,15;25\n" ++ link_times
     ++ codes "10,0,50,1,10,10\n10,50,60,0,10,10\n20,0,50,1,10,10\n20,50,60,0,10,10\n" ++ gaps
