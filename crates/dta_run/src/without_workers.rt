@@ -1,5 +1,5 @@
 // The runs that take no workers: nothing in them waits for another thread, so they end.
-ghost use Rattle.std.specs.Prelude.{◌≡◌, ℕ, List, Some, false};
+ghost use Rattle.std.specs.Prelude.{◌≡◌, ◌≤◌, ℕ, List, Some, false};
 ghost use Rattle.dta_words.specs.Grammar.{settings_of};
 ghost use Rattle.dta_words.specs.Ranges.{AreSettings};
 ghost use Rattle.loader.specs.Gates.{GateState};
@@ -64,9 +64,11 @@ pub fn run_without_workers<R: AllocGlobal + Threads + Sync, D: Desk>(
 ) -> Status
     requires settings { AreSettings settings.now }
     requires alone { takes_workers settings.now ≡ false }
-    ensures { (words : List (List ℕ)) (gate : GateState)
+    ensures headline { (words : List (List ℕ)) (gate : GateState)
         → settings_of words ≡ Some settings.now
         → Headline words result (D.state desk.old) (D.state desk.new) gate gate }
+    ensures reads { (D.state desk.old).read_faults ≤ (D.state desk.new).read_faults }
+    ensures puts { (D.state desk.old).put_faults ≤ (D.state desk.new).put_faults }
 {
     texts_are_one();
     accept_and_work(
