@@ -1,6 +1,7 @@
 // What no whole run shows.
 mod boards;
 mod cases;
+mod exits;
 mod floors;
 mod machines;
 mod puts;
