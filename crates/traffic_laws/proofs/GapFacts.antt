@@ -6,13 +6,16 @@ use Rattle.std.proofs.lemmas.Bool.{cases_lt}
 use Rattle.std.proofs.lemmas.Option.{slice_get-get_or, slice_get_within}
 use Rattle.net_core.specs.declared.rows.LinkNo.{LinkNo}
 use Rattle.net_core.specs.declared.rows.NetRows.{NetRows}
+use Rattle.dta_model.specs.LinkTimes.{table_of, time_at}
 use Rattle.dta_model.specs.Plans.{link_numbers}
 use Rattle.dta_model.specs.declared.trip.Trip.{Trip}
 use Rattle.dta_model.proofs.Steady.{some_trip}
 use Rattle.gap.specs.Gap.{AreLeasts, over_vehicles, route_time}
 use Rattle.gap.proofs.Sums.{over-le, over-more, route_time-is}
-use Rattle.traffic_laws.specs.Equilibrium.{AreRoutesOf, GapIsNeverNegative, IsUserEquilibrium}
-use Rattle.traffic_laws.specs.Equilibrium.{NoGapIsEquilibrium}
+use Rattle.assignment.proofs.SoundFacts.{sound-iterations}
+use Rattle.traffic_laws.specs.Equilibrium.{AreRoutesOf, GapIsNeverNegative}
+use Rattle.traffic_laws.specs.Equilibrium.{GapsAreOfTheirLoadings, IsUserEquilibrium}
+use Rattle.traffic_laws.specs.Equilibrium.{NoGapIsEquilibrium, loading_over}
 
 -- where sums are equal whose numbers are no greater one by one, the numbers are equal
 over-same : (n : ℕ) (f g : ℕ → ℕ) → ((v : ℕ) → v < n → f v ≤ g v)
@@ -130,3 +133,16 @@ no_gap_is_equilibrium at net trips routes line are is = (there, back)
         let low = over-le (length trips) (route_time at net trips routes) (is.by_leasts.0)
         (no_more at net trips routes (is.by_leasts.0) are (is.by_leasts.1) eq) in
         omega (arith, s, a, b, low)
+
+pub gaps_are_of_their_loadings : GapsAreOfTheirLoadings
+gaps_are_of_their_loadings s traffic all lines settings are it i routes line at on =
+    let sound = (sound-iterations s traffic settings are.net are.trips all lines it i routes line
+    at on).loading.sound in
+    let gap = it.gaps i routes line at on in
+    record {
+      not_negative = (let sums = gap.above in omega (arith, sums));
+      no_gap = no_gap_is_equilibrium
+          (time_at (table_of (loading_over s traffic routes) s.bucket))
+          traffic.net traffic.trips routes line
+          (record { each = sound.each; walks = sound.walks }) gap;
+    }

@@ -3,11 +3,17 @@
 use Rattle.std.specs.Prelude.{◌≡◌, ◌≤◌, ◌↔◌, ℕ, List, length, Option, Some, slice_get}
 use Rattle.net_core.specs.declared.rows.LinkNo.{LinkNo}
 use Rattle.net_core.specs.declared.rows.NetRows.{NetRows}
+use Rattle.dta_model.specs.LinkTimes.{table_of, time_at}
 use Rattle.dta_model.specs.Plans.{link_numbers}
 use Rattle.dta_model.specs.Sound.{AreWalks}
 use Rattle.dta_model.specs.TimedWalks.{walk_time}
 use Rattle.dta_model.specs.Walks.{IsWalk}
+use Rattle.dta_model.specs.declared.plan.Plan.{Plan}
 use Rattle.dta_model.specs.declared.trip.Trip.{Trip}
+use Rattle.dta_words.specs.Ranges.{AreSettings}
+use Rattle.dta_words.specs.declared.command.Settings.{Settings}
+use Rattle.assignment.specs.Assignment.{AreIterations, Traffic, VehicleRoutes}
+use Rattle.assignment.specs.Traffic.{IsTraffic}
 use Rattle.gap.specs.Gap.{AreLeasts, IsGapLine, over_vehicles, route_time}
 use Rattle.gap.specs.declared.line.GapLine.{GapLine}
 
@@ -47,3 +53,34 @@ NoGapIsEquilibrium =
     (at : ℕ → ℕ → ℕ) (net : NetRows) (trips : List Trip) (routes : List (Option (List LinkNo)))
     (line : GapLine) → AreRoutesOf net trips routes → IsGapLine at net trips routes line
     → (line.gap_steps ≡ 0) ↔ IsUserEquilibrium at net trips routes
+
+-- ---- the gaps that an assignment tells
+-- the loading over the routes of an iteration
+abbrev pub loading_over : Settings → Traffic → VehicleRoutes → Plan
+loading_over s traffic routes = record {
+  net = traffic.net;
+  queue = s.queue;
+  delta = s.units.delta;
+  horizon = s.horizon;
+  trips = traffic.trips;
+  routes = routes;
+}
+
+-- a gap of an iteration, in the link times that the loading over its own routes gave: the least
+-- steps are no more than those of the routes, and there is no gap exactly where no vehicle that
+-- has a route would take less time on another one
+pub record IsGapOfItsLoading (s : Settings) (traffic : Traffic) (routes : VehicleRoutes)
+    (line : GapLine) : Type 0 where
+  pub not_negative : line.least_steps ≤ line.route_steps
+  pub no_gap : (line.gap_steps ≡ 0)
+      ↔ IsUserEquilibrium (time_at (table_of (loading_over s traffic routes) s.bucket))
+      traffic.net traffic.trips routes
+
+-- so is each gap that an assignment tells of its iterations
+abbrev pub GapsAreOfTheirLoadings : Type 0
+GapsAreOfTheirLoadings =
+    (s : Settings) (traffic : Traffic) (all : List VehicleRoutes) (lines : List GapLine)
+    → AreSettings s → IsTraffic s.horizon traffic → AreIterations s traffic all lines
+    → (i : ℕ) (routes : VehicleRoutes) (line : GapLine)
+    → slice_get all i ≡ Some routes → slice_get lines i ≡ Some line
+    → IsGapOfItsLoading s traffic routes line

@@ -8,3 +8,4 @@ pub mod Buckets
 pub mod FreeFlow
 pub mod WideLinks
 pub mod LeastTimes
+pub mod RoundTrips

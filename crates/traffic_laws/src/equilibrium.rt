@@ -1,5 +1,6 @@
 // Laws of the gap. Each is the contract of a function that does nothing.
-ghost use Rattle.traffic_laws.specs.Equilibrium.{GapIsNeverNegative, NoGapIsEquilibrium};
+ghost use Rattle.traffic_laws.specs.Equilibrium.{GapIsNeverNegative, GapsAreOfTheirLoadings};
+ghost use Rattle.traffic_laws.specs.Equilibrium.{NoGapIsEquilibrium};
 
 /// The gap is never negative: the routes of an iteration take no less than the least times, one by
 /// one and in all.
@@ -11,4 +12,10 @@ pub fn the_gap_is_never_negative()
 /// route would take less time on another one, in the same table of link times.
 pub fn no_gap_means_user_equilibrium()
     ensures { NoGapIsEquilibrium }
+{}
+
+/// The gap that an assignment tells of an iteration is taken in the link times of that iteration's
+/// own loading: it is never negative, and 0 exactly in a user equilibrium over them.
+pub fn gaps_are_of_their_own_loadings()
+    ensures { GapsAreOfTheirLoadings }
 {}

@@ -1,0 +1,8 @@
+// Round trips: what one command writes another one reads.
+ghost use Rattle.traffic_laws.specs.RoundTrips.{LinkTimesAreReadBack};
+
+/// The link times of a loading, written as `assign` writes them, are accepted as a table of link
+/// times, and tell the very numbers of the loading.
+pub fn link_times_are_read_back()
+    ensures { LinkTimesAreReadBack }
+{}
