@@ -1,4 +1,7 @@
 // How a worker waits for the others.
+ghost use Rattle.std.specs.Duration.{as_nanos};
+ghost use Rattle.std.specs.Prelude.{◌≡◌, ◌*◌, ◌≤◌};
+
 use std::sync::Wait;
 use std::thread::Parker;
 use std::time::Duration;
@@ -39,18 +42,27 @@ impl Pauses {
         } else if taken < SPINS + YIELDS {
             thread::yield_now();
         } else {
-            self.sleep(rt, taken - (SPINS + YIELDS));
+            sleep(rt, self.next_sleep(taken - (SPINS + YIELDS)));
         }
     }
 
-    // Sleeps, after so many sleeps.
-    fn sleep<R: Wait>(&self, rt: &R, slept: u32) {
+    // The microseconds of the sleep that comes after so many sleeps.
+    fn next_sleep(&self, slept: u32) -> u32
+        ensures { result ≤ self.now.longest }
+    {
         let wanted = slept.saturating_add(1).saturating_mul(FIRST_SLEEP);
-        sleep(rt, wanted.min(self.longest));
+        wanted.min(self.longest)
     }
+}
+
+// So many microseconds, as the system counts time.
+fn span_of(microseconds: u32) -> Duration
+    ensures { as_nanos result ≡ microseconds * 1_000 }
+{
+    Duration::from_micros(u64::from(microseconds))
 }
 
 /// Sleeps for so many microseconds, or about as many.
 pub fn sleep<R: Wait>(rt: &R, microseconds: u32) {
-    Parker::new().park_timeout(rt, Duration::from_micros(u64::from(microseconds)));
+    Parker::new().park_timeout(rt, span_of(microseconds));
 }
