@@ -1,7 +1,6 @@
 // What no whole run shows.
 mod boards;
 mod cases;
-mod exits;
 mod floors;
 mod machines;
 mod puts;
