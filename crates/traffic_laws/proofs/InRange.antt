@@ -196,7 +196,8 @@ time_short p sound bucket some l step hl early =
     let test : nat_lt step p.horizon ≡ true = grind (arith, nat_tests) in
     let inside = bucket_inside bucket p.horizon step some early in
     let at = by_bucket-get (length p.net.links) (buckets_to bucket p.horizon)
-    (λ l b. bucket_time (link_at p l).free (visits_in p bucket l b T)) l (step / bucket) hl inside in
+    (λ l b. bucket_time (link_at p l).free (visits_in p bucket l b T)) l (step / bucket) hl
+    inside in
     let low = bucket_short (link_at p l).free
     (filter (λ v. nat_eq (v.entry / bucket) (step / bucket)) (visits p l T))
     (free_short p sound l hl)

@@ -16,6 +16,6 @@ pub mod FreeLinks
 pub mod FreeTrips
 pub mod OneVehicle
 pub mod Skimming
-pub mod CellLists
+pub mod BucketLists
 pub mod InRange
 pub mod ReadBack

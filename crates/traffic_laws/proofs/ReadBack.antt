@@ -36,8 +36,8 @@ use Rattle.link_times.proofs.Places.{bucket_inside, by_bucket-get, by_bucket-is,
 use Rattle.link_times.proofs.Places.{place_inside}
 use Rattle.skims.specs.GivenTimes.{table_given}
 use Rattle.skims.specs.TimesTable.{has_link, link_of, row_count, same_number}
-use Rattle.skims.specs.TimesTable.{time_row_of, times_columns, times_verdict, travel_of, wanted_after}
-use Rattle.skims.specs.TimesTable.{wanted_in}
+use Rattle.skims.specs.TimesTable.{time_row_of, times_columns, times_verdict, travel_of}
+use Rattle.skims.specs.TimesTable.{wanted_after, wanted_in}
 use Rattle.skims.specs.declared.time_rows.TimeRow.{TimeRow}
 use Rattle.skims.specs.declared.times_table.TheConstants.{MOST_TIME_ROWS, MOST_TRAVEL_STEPS}
 use Rattle.grid_maker.proofs.LinesFacts.{AreFields, line-is, table-accepted}
@@ -45,8 +45,8 @@ use Rattle.grid_maker.proofs.WrittenFacts.{decimal-field, identifier-read}
 use Rattle.traffic_laws.specs.RoundTrips.{IsWithinLimits, LinkTimesAreReadBack}
 use Rattle.reports.specs.Texts.{bucket_line, link_lines, link_time_header, link_time_text}
 use Rattle.traffic_laws.proofs.BucketTimes.{times_are_not_below_free}
-use Rattle.traffic_laws.proofs.CellLists.{Cell, all_cells, by_cells, cells_from, cells_many, cells_rise}
-use Rattle.traffic_laws.proofs.CellLists.{flat_cells, number_in}
+use Rattle.traffic_laws.proofs.BucketLists.{LinkBucket, all_buckets, buckets_from, buckets_many}
+use Rattle.traffic_laws.proofs.BucketLists.{buckets_rise, by_buckets, flat_buckets, number_in}
 use Rattle.traffic_laws.proofs.InRange.{bucket_begins, few_buckets, few_entered, time_short}
 
 abbrev names : Record
@@ -116,24 +116,24 @@ module _ (net : NetRows) (bucket horizon : ℕ) (entered travel : ℕ → ℕ �
   abbrev buckets : ℕ
   buckets = buckets_to bucket horizon
 
-  abbrev cell-fields : Cell → Record
-  cell-fields c =
+  abbrev row-fields : LinkBucket → Record
+  row-fields c =
       decimal (link_at net c.0).id ∷ decimal (c.1 * bucket)
       ∷ decimal (min ((c.1 + 1) * bucket) horizon) ∷ decimal (entered c.0 c.1)
       ∷ decimal (travel c.0 c.1) ∷ decimal (link_at net c.0).free ∷ []
 
-  abbrev cell-line : Cell → List ℕ
-  cell-line c =
+  abbrev row-line : LinkBucket → List ℕ
+  row-line c =
       decimal (link_at net c.0).id ++ codes "," ++ decimal (c.1 * bucket) ++ codes ","
       ++ decimal (min ((c.1 + 1) * bucket) horizon) ++ codes ","
       ++ decimal (entered c.0 c.1) ++ codes ","
       ++ decimal (travel c.0 c.1) ++ codes ","
       ++ decimal (link_at net c.0).free ++ codes "\n"
 
-  abbrev cell-row : Cell → TimeRow
-  cell-row c = record { entered = entered c.0 c.1; travel = travel c.0 c.1 }
+  abbrev row-told : LinkBucket → TimeRow
+  row-told c = record { entered = entered c.0 c.1; travel = travel c.0 c.1 }
 
-  record CellFits (c : Cell) : Type 0 where
+  record RowFits (c : LinkBucket) : Type 0 where
     link : c.0 < length net.links
     inside : c.1 < buckets
     id : (link_at net c.0).id ≤ GREATEST_IDENTIFIER
@@ -145,11 +145,11 @@ module _ (net : NetRows) (bucket horizon : ℕ) (entered travel : ℕ → ℕ �
     most : travel c.0 c.1 ≤ MOST_TRAVEL_STEPS
     number : number_in buckets c ≤ MOST_TIME_ROWS
 
-  ends : (c : Cell) → CellFits c → min ((c.1 + 1) * bucket) horizon ≤ GREATEST_IDENTIFIER
+  ends : (c : LinkBucket) → RowFits c → min ((c.1 + 1) * bucket) horizon ≤ GREATEST_IDENTIFIER
   ends c f = let k = f.short in omega (arith, k)
 
-  cell-are : (c : Cell) → CellFits c → AreFields (cell-fields c)
-  cell-are c f =
+  row-are : (c : LinkBucket) → RowFits c → AreFields (row-fields c)
+  row-are c f =
       let a = f.id in
       let b = f.free in
       let d = f.begins in
@@ -175,14 +175,14 @@ module _ (net : NetRows) (bucket horizon : ℕ) (entered travel : ℕ → ℕ �
         ),
       )
 
-  cell-line-is : (c : Cell) → CellFits c → cell-line c ≡ row_text default_writer (cell-fields c)
-  cell-line-is c f =
+  row-line-is : (c : LinkBucket) → RowFits c → row-line c ≡ row_text default_writer (row-fields c)
+  row-line-is c f =
       rw (← line-is (decimal (link_at net c.0).id) (decimal (c.1 * bucket))
       (decimal (min ((c.1 + 1) * bucket) horizon) ∷ decimal (entered c.0 c.1)
-      ∷ decimal (travel c.0 c.1) ∷ decimal (link_at net c.0).free ∷ []) (cell-are c f))
+      ∷ decimal (travel c.0 c.1) ∷ decimal (link_at net c.0).free ∷ []) (row-are c f))
       (simp append_assoc)
 
-  wanted-is : (c : Cell) (n : ℕ) → CellFits c → number_in buckets c ≡ n + 1
+  wanted-is : (c : LinkBucket) (n : ℕ) → RowFits c → number_in buckets c ≡ n + 1
       → wanted_after net bucket horizon n ≡ Some (wanted_in bucket horizon c.1 (link_at net c.0))
   wanted-is c n f e =
       let place : n ≡ c.0 * buckets + c.1 = omega (arith, e) in
@@ -192,19 +192,19 @@ module _ (net : NetRows) (bucket horizon : ℕ) (entered travel : ℕ → ℕ �
       ≡ Some (wanted_in bucket horizon c.1 (link_at net c.0))) (sym place)
       (rw (l, b, link-there net c.0 f.link) refl)
 
-  cell-accepted : (before : List Cell) (c : Cell) → CellFits c
+  row-accepted : (before : List LinkBucket) (c : LinkBucket) → RowFits c
       → map (number_in buckets) before ≡ range_with_len 1 (length before)
       → number_in buckets c ≡ length before + 1
-      → time_row_of net bucket horizon (map cell-row before) (record {
+      → time_row_of net bucket horizon (map row-told before) (record {
         header = names;
-        fields = cell-fields c;
-        line = length (map cell-row before) + 2;
+        fields = row-fields c;
+        line = length (map row-told before) + 2;
       })
-      ≡ Ok (cell-row c)
+      ≡ Ok (row-told c)
   unfolding time_row_of field_at
-  cell-accepted before c f b n =
-      let long = length-map before cell-row in
-      let wanted = wanted-is c (length (map cell-row before)) f (omega (arith, n, long)) in
+  row-accepted before c f b n =
+      let long = length-map before row-told in
+      let wanted = wanted-is c (length (map row-told before)) f (omega (arith, n, long)) in
       let link = link-read net.links bucket horizon c.1 (link_at net c.0) f.id
       (link-known net c.0 f.link) in
       rw (
@@ -223,30 +223,31 @@ module _ (net : NetRows) (bucket horizon : ℕ) (entered travel : ℕ → ℕ �
         same-read column.FreeSteps (link_at net c.0).free f.free,
       ) refl
 
-  abbrev all-cells : List Cell
-  all-cells = cells_from buckets 0 (length net.links)
+  abbrev all-buckets : List LinkBucket
+  all-buckets = buckets_from buckets 0 (length net.links)
 
   abbrev all-rows : List TimeRow
-  all-rows = map cell-row all-cells
+  all-rows = map row-told all-buckets
 
   rows-many : length all-rows ≡ row_count net bucket horizon
-  rows-many = length-map all-cells cell-row ∙ cells_many buckets 0 (length net.links)
+  rows-many = length-map all-buckets row-told ∙ buckets_many buckets 0 (length net.links)
 
-  rows-read : All CellFits all-cells
-      → times_verdict net bucket horizon (records (link_time_header ++ flat_map cell-line all-cells))
+  rows-read : All RowFits all-buckets
+      → times_verdict net bucket horizon
+      (records (link_time_header ++ flat_map row-line all-buckets))
       ≡ Ok all-rows
   unfolding tables_on_literals link_time_header is_blank fields_text
   rows-read fit =
       let many = rows-many in
       let none : nat_lt (length all-rows) (row_count net bucket horizon) ≡ false =
       le-ltb (length all-rows) (row_count net bucket horizon) (omega (arith, many)) in
-      let read = table-accepted cell-fields cell-line (number_in buckets) CellFits table.Times
+      let read = table-accepted row-fields row-line (number_in buckets) RowFits table.Times
       MOST_TIME_ROWS times_columns (time_row_of net bucket horizon) names
-      (λ c f. (refl, cell-are c f, f.number)) cell-line-is (λ _. refl) cell-row cell-accepted
-      all-cells (link_time_header ++ flat_map cell-line all-cells) fit refl refl refl refl refl
-      (cells_rise buckets 0 (length net.links)
+      (λ c f. (refl, row-are c f, f.number)) row-line-is (λ _. refl) row-told row-accepted
+      all-buckets (link_time_header ++ flat_map row-line all-buckets) fit refl refl refl refl refl
+      (buckets_rise buckets 0 (length net.links)
       ∙ ap (λ a. range_with_len a (length net.links * buckets)) (from-one buckets)
-      ∙ ap (range_with_len 1) (sym (cells_many buckets 0 (length net.links)))) in
+      ∙ ap (range_with_len 1) (sym (buckets_many buckets 0 (length net.links)))) in
       rw (read, none) refl
     where
       from-one : (b : ℕ) → 0 * b + 1 ≡ 1
@@ -266,7 +267,7 @@ module _ (p : Plan) (bucket : ℕ) (sound : IsSound p) (limits : IsWithinLimits 
   link-is l h = ap or_no_link (slice_get-get_or p.net.links l no_link h)
 
   fits : (l b : ℕ) → 0 ≤ l → l < 0 + length p.net.links → b < buckets_to bucket p.horizon
-      → CellFits p.net bucket p.horizon in-bucket of-bucket (l, b)
+      → RowFits p.net bucket p.horizon in-bucket of-bucket (l, b)
   fits l b none hl hb =
       let inside : l < length p.net.links = omega (arith, hl) in
       let row = sound.net.links.range l no_link inside in
@@ -304,36 +305,37 @@ module _ (p : Plan) (bucket : ℕ) (sound : IsSound p) (limits : IsWithinLimits 
           omega (arith, more, k)
 
   line-same : (l b : ℕ) → bucket_line p.net (table_of p bucket) l b
-      ≡ cell-line p.net bucket p.horizon in-bucket of-bucket (l, b)
+      ≡ row-line p.net bucket p.horizon in-bucket of-bucket (l, b)
   unfolding bucket_line table_in
   line-same l b = refl
 
   lines-same : (l : ℕ) → link_lines p.net (table_of p bucket) l
-      ≡ flat_map (λ b. cell-line p.net bucket p.horizon in-bucket of-bucket (l, b))
+      ≡ flat_map (λ b. row-line p.net bucket p.horizon in-bucket of-bucket (l, b))
       (range_with_len 0 (buckets_to bucket p.horizon))
   unfolding link_lines table_in
   lines-same l =
       λ i. flat_map (λ b. line-same l b i) (range_with_len 0 (buckets_to bucket p.horizon))
 
   text-same : link_time_text p.net (table_of p bucket)
-      ≡ link_time_header ++ flat_map (cell-line p.net bucket p.horizon in-bucket of-bucket)
-      (all-cells p.net bucket p.horizon in-bucket of-bucket)
+      ≡ link_time_header ++ flat_map (row-line p.net bucket p.horizon in-bucket of-bucket)
+      (all-buckets p.net bucket p.horizon in-bucket of-bucket)
   unfolding link_time_text
   text-same =
       ap (λ t. link_time_header ++ t)
       ((λ i. flat_map (λ l. lines-same l i) (numbers_below (length p.net.links)))
-      ∙ flat_cells (λ l b. cell-line p.net bucket p.horizon in-bucket of-bucket (l, b))
+      ∙ flat_buckets (λ l b. row-line p.net bucket p.horizon in-bucket of-bucket (l, b))
       (buckets_to bucket p.horizon) 0 (length p.net.links))
 
   abbrev rows : List TimeRow
   rows = all-rows p.net bucket p.horizon in-bucket of-bucket
 
-  accepted : times_verdict p.net bucket p.horizon (records (link_time_text p.net (table_of p bucket)))
+  accepted : times_verdict p.net bucket p.horizon
+      (records (link_time_text p.net (table_of p bucket)))
       ≡ Ok rows
   accepted =
       ap (λ t. times_verdict p.net bucket p.horizon (records t)) text-same
       ∙ rows-read p.net bucket p.horizon in-bucket of-bucket
-      (all_cells (CellFits p.net bucket p.horizon in-bucket of-bucket)
+      (all_buckets (RowFits p.net bucket p.horizon in-bucket of-bucket)
       (buckets_to bucket p.horizon) 0 (length p.net.links) fits)
 
   -- the numbers of rows are those of the table, bucket by bucket
@@ -371,9 +373,9 @@ module _ (p : Plan) (bucket : ℕ) (sound : IsSound p) (limits : IsWithinLimits 
   unfolding table_in
   travel-same =
       map-map (λ (row : TimeRow). row.travel)
-      (cell-row p.net bucket p.horizon in-bucket of-bucket)
-      (all-cells p.net bucket p.horizon in-bucket of-bucket)
-      ∙ by_cells of-bucket (buckets_to bucket p.horizon) (length p.net.links)
+      (row-told p.net bucket p.horizon in-bucket of-bucket)
+      (all-buckets p.net bucket p.horizon in-bucket of-bucket)
+      ∙ by_buckets of-bucket (buckets_to bucket p.horizon) (length p.net.links)
       ∙ numbers-same of-bucket
       (λ l b. bucket_time (link_at_of p l).free (visits_in p bucket l b (trace_after p p.horizon)))
       each-time
@@ -389,9 +391,9 @@ module _ (p : Plan) (bucket : ℕ) (sound : IsSound p) (limits : IsWithinLimits 
   unfolding table_in
   entered-same =
       map-map (λ (row : TimeRow). row.entered)
-      (cell-row p.net bucket p.horizon in-bucket of-bucket)
-      (all-cells p.net bucket p.horizon in-bucket of-bucket)
-      ∙ by_cells in-bucket (buckets_to bucket p.horizon) (length p.net.links)
+      (row-told p.net bucket p.horizon in-bucket of-bucket)
+      (all-buckets p.net bucket p.horizon in-bucket of-bucket)
+      ∙ by_buckets in-bucket (buckets_to bucket p.horizon) (length p.net.links)
       ∙ numbers-same in-bucket (λ l b. length (visits_in p bucket l b (trace_after p p.horizon)))
       each-number
 

@@ -1,7 +1,8 @@
 -- The buckets of all links one after another, and lists that have something of each.
 use Rattle.std.specs.Prelude.{map}
 use Rattle.std.specs.List.{flat_map, range_with_len}
-use Rattle.std.proofs.Common.{◌≡◌, ℕ, zero, suc, ◌+◌, ◌*◌, ◌<◌, ◌≤◌, List, ◌∷◌, ◌++◌, length, refl, arith, ap, sym, ◌∙◌, All}
+use Rattle.std.proofs.Common.{◌≡◌, ℕ, zero, suc, ◌+◌, ◌*◌, ◌<◌, ◌≤◌, List, ◌∷◌, ◌++◌, length}
+use Rattle.std.proofs.Common.{refl, arith, ap, sym, ◌∙◌, All}
 use Rattle.std.proofs.lemmas.Grind.{flat_map-append}
 use Rattle.std.proofs.lemmas.List.{length-map, map-append}
 use Rattle.std.proofs.lemmas.List.Elements.{All-append, All-cons, All-nil}
@@ -11,46 +12,50 @@ use Rattle.std.proofs.lemmas.Simd.{map-map}
 use Rattle.dta_model.specs.LinkTimes.{by_bucket}
 
 -- a bucket of a link
-abbrev pub Cell : Type 0
-Cell = ℕ × ℕ
+abbrev pub LinkBucket : Type 0
+LinkBucket = ℕ × ℕ
 
-abbrev pub of_link : ℕ → ℕ → List Cell
+abbrev pub of_link : ℕ → ℕ → List LinkBucket
 of_link buckets l = map (λ b. (l, b)) (range_with_len 0 buckets)
 
-abbrev pub cells_from : ℕ → ℕ → ℕ → List Cell
-cells_from buckets from links = flat_map (of_link buckets) (range_with_len from links)
+abbrev pub buckets_from : ℕ → ℕ → ℕ → List LinkBucket
+buckets_from buckets from links = flat_map (of_link buckets) (range_with_len from links)
 
 -- how many buckets stand up to one, with it
-abbrev pub number_in : ℕ → Cell → ℕ
+abbrev pub number_in : ℕ → LinkBucket → ℕ
 number_in buckets c = c.0 * buckets + c.1 + 1
 
 -- ---- texts
-pub flat_cells : (g : ℕ → ℕ → List ℕ) (buckets from links : ℕ)
+pub flat_buckets : (g : ℕ → ℕ → List ℕ) (buckets from links : ℕ)
     → flat_map (λ l. flat_map (g l) (range_with_len 0 buckets)) (range_with_len from links)
-    ≡ flat_map (λ c. g c.0 c.1) (cells_from buckets from links)
-flat_cells g buckets from zero = refl
-flat_cells g buckets from (suc links) =
-    ap (λ t. flat_map (g from) (range_with_len 0 buckets) ++ t) (flat_cells g buckets (from + 1) links)
-    ∙ ap (λ t. t ++ flat_map (λ (c : Cell). g c.0 c.1) (cells_from buckets (from + 1) links))
-    (sym (flat_map-map (λ (c : Cell). g c.0 c.1) (λ b. (from, b)) (range_with_len 0 buckets)))
-    ∙ sym (flat_map-append (λ (c : Cell). g c.0 c.1) (of_link buckets from)
-    (cells_from buckets (from + 1) links))
+    ≡ flat_map (λ c. g c.0 c.1) (buckets_from buckets from links)
+flat_buckets g buckets from zero = refl
+flat_buckets g buckets from (suc links) =
+    ap (λ t. flat_map (g from) (range_with_len 0 buckets) ++ t)
+    (flat_buckets g buckets (from + 1) links)
+    ∙ ap (λ t. t
+    ++ flat_map (λ (c : LinkBucket). g c.0 c.1) (buckets_from buckets (from + 1) links))
+    (sym (flat_map-map (λ (c : LinkBucket). g c.0 c.1) (λ b. (from, b)) (range_with_len 0 buckets)))
+    ∙ sym (flat_map-append (λ (c : LinkBucket). g c.0 c.1) (of_link buckets from)
+    (buckets_from buckets (from + 1) links))
 
 -- ---- numbers
-pub number_cells : (f : ℕ → ℕ → ℕ) (buckets from links : ℕ)
-    → map (λ (c : Cell). f c.0 c.1) (cells_from buckets from links)
+pub number_buckets : (f : ℕ → ℕ → ℕ) (buckets from links : ℕ)
+    → map (λ (c : LinkBucket). f c.0 c.1) (buckets_from buckets from links)
     ≡ flat_map (λ l. map (f l) (range_with_len 0 buckets)) (range_with_len from links)
-number_cells f buckets from zero = refl
-number_cells f buckets from (suc links) =
-    map-append (λ (c : Cell). f c.0 c.1) (of_link buckets from) (cells_from buckets (from + 1) links)
-    ∙ ap (λ t. t ++ map (λ (c : Cell). f c.0 c.1) (cells_from buckets (from + 1) links))
-    (map-map (λ (c : Cell). f c.0 c.1) (λ b. (from, b)) (range_with_len 0 buckets))
-    ∙ ap (λ t. map (f from) (range_with_len 0 buckets) ++ t) (number_cells f buckets (from + 1) links)
+number_buckets f buckets from zero = refl
+number_buckets f buckets from (suc links) =
+    map-append (λ (c : LinkBucket). f c.0 c.1) (of_link buckets from)
+    (buckets_from buckets (from + 1) links)
+    ∙ ap (λ t. t ++ map (λ (c : LinkBucket). f c.0 c.1) (buckets_from buckets (from + 1) links))
+    (map-map (λ (c : LinkBucket). f c.0 c.1) (λ b. (from, b)) (range_with_len 0 buckets))
+    ∙ ap (λ t. map (f from) (range_with_len 0 buckets) ++ t)
+    (number_buckets f buckets (from + 1) links)
 
-pub by_cells : (f : ℕ → ℕ → ℕ) (buckets links : ℕ)
-    → map (λ (c : Cell). f c.0 c.1) (cells_from buckets 0 links) ≡ by_bucket links buckets f
+pub by_buckets : (f : ℕ → ℕ → ℕ) (buckets links : ℕ)
+    → map (λ (c : LinkBucket). f c.0 c.1) (buckets_from buckets 0 links) ≡ by_bucket links buckets f
 unfolding by_bucket
-by_cells f buckets links = number_cells f buckets 0 links
+by_buckets f buckets links = number_buckets f buckets 0 links
 
 -- ---- places
 range_joined : (a m n : ℕ)
@@ -83,19 +88,21 @@ range_moved a from (suc n) =
     next : (a from : ℕ) → a + (from + 1) + 1 ≡ a + from + 1 + 1
     next a from = omega arith
 
-pub cells_rise : (buckets from links : ℕ)
-    → map (number_in buckets) (cells_from buckets from links)
+pub buckets_rise : (buckets from links : ℕ)
+    → map (number_in buckets) (buckets_from buckets from links)
     ≡ range_with_len (from * buckets + 1) (links * buckets)
-cells_rise buckets from zero = ap (range_with_len (from * buckets + 1)) (none buckets)
+buckets_rise buckets from zero = ap (range_with_len (from * buckets + 1)) (none buckets)
   where
     none : (b : ℕ) → 0 ≡ 0 * b
     none b = omega arith
-cells_rise buckets from (suc links) =
-    map-append (number_in buckets) (of_link buckets from) (cells_from buckets (from + 1) links)
-    ∙ ap (λ t. t ++ map (number_in buckets) (cells_from buckets (from + 1) links))
+buckets_rise buckets from (suc links) =
+    map-append (number_in buckets) (of_link buckets from) (buckets_from buckets (from + 1) links)
+    ∙ ap (λ t. t ++ map (number_in buckets) (buckets_from buckets (from + 1) links))
     (map-map (number_in buckets) (λ b. (from, b)) (range_with_len 0 buckets)
-    ∙ range_moved (from * buckets) 0 buckets ∙ ap (λ x. range_with_len x buckets) (start (from * buckets)))
-    ∙ ap (λ t. range_with_len (from * buckets + 1) buckets ++ t) (cells_rise buckets (from + 1) links)
+    ∙ range_moved (from * buckets) 0 buckets
+    ∙ ap (λ x. range_with_len x buckets) (start (from * buckets)))
+    ∙ ap (λ t. range_with_len (from * buckets + 1) buckets ++ t)
+    (buckets_rise buckets (from + 1) links)
     ∙ ap (λ x. range_with_len (from * buckets + 1) buckets ++ range_with_len x (links * buckets))
     (next from)
     ∙ range_joined (from * buckets + 1) buckets (links * buckets)
@@ -110,22 +117,22 @@ cells_rise buckets from (suc links) =
     more : (links : ℕ) → buckets + links * buckets ≡ suc links * buckets
     more links = grind arith
 
-pub cells_many : (buckets from links : ℕ)
-    → length (cells_from buckets from links) ≡ links * buckets
-cells_many buckets from links =
-    sym (length-map (cells_from buckets from links) (number_in buckets))
-    ∙ ap (λ L. length L) (cells_rise buckets from links)
+pub buckets_many : (buckets from links : ℕ)
+    → length (buckets_from buckets from links) ≡ links * buckets
+buckets_many buckets from links =
+    sym (length-map (buckets_from buckets from links) (number_in buckets))
+    ∙ ap (λ L. length L) (buckets_rise buckets from links)
     ∙ length-range_with_len (from * buckets + 1) (links * buckets)
 
 -- ---- what is true of each
-pub all_cells : (P : Cell → Type 0) (buckets from links : ℕ)
+pub all_buckets : (P : LinkBucket → Type 0) (buckets from links : ℕ)
     → ((l b : ℕ) → from ≤ l → l < from + links → b < buckets → P (l, b))
-    → All P (cells_from buckets from links)
-all_cells P buckets from zero h = All-nil P
-all_cells P buckets from (suc links) h =
-    All-append P (of_link buckets from) (cells_from buckets (from + 1) links)
+    → All P (buckets_from buckets from links)
+all_buckets P buckets from zero h = All-nil P
+all_buckets P buckets from (suc links) h =
+    All-append P (of_link buckets from) (buckets_from buckets (from + 1) links)
     (row 0 buckets (λ b k. h from b (omega arith) (omega arith) (omega (arith, k))))
-    (all_cells P buckets (from + 1) links
+    (all_buckets P buckets (from + 1) links
     (λ l b i j k. h l b (omega (arith, i)) (omega (arith, j)) k))
   where
     row : (a n : ℕ) → ((b : ℕ) → b < a + n → P (from, b))
