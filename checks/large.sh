@@ -1,9 +1,10 @@
 #!/bin/sh
 # large.sh PROGRAM [CASE..]: large input gets an answer, which no clause says: each leaves want of
-# memory free. Runs a built program over large tables, with --plain and with workers, one run after
-# another. Each must end with status 0, and all must write the same tables and the same report.
-# Prints the seconds and the peak memory of each run; ends with 0 where all is as it should be.
-# Cases are the functions that `cases` names, and all of them run where none is said.
+# memory free. Runs a built program over large tables, with --plain and with 16 workers, one run
+# after another, with stacks of 128 KB, which docs/FORMATS.md calls enough. Each must end with status
+# 0, and all must write the same tables and the same report. Prints the seconds and the peak memory
+# of each run; ends with 0 where all is as it should be. Cases are the functions that `cases` names,
+# and all of them run where none is said.
 #
 # PEER, in the environment, is the path of another program of the same rules, which takes the same
 # words, writes the same files and ends with the same status. Where it is set each case runs it
@@ -19,6 +20,7 @@ if [ -z "$peer" ]; then echo "PEER isn't set: the program is compared with itsel
 elif [ ! -x "$peer" ]; then echo "large.sh: PEER isn't a program: $peer" >&2; exit 2; fi
 outputs='agent.csv link_performance.csv gap.csv skim.csv counts.csv sweep.txt'
 runs=0
+small_stack='prlimit --stack=131072'
 
 # timed NAME COMMAND..: runs a command in the current folder, and prints what it took.
 timed() {
@@ -47,16 +49,16 @@ compare() {
     ways=$1
     shift
     [ -z "$peer" ] || same 'the other program' "$peer" "$@" ${ways%% *}
-    [ -n "$ways" ] || same dta "$program" "$@"
-    for way in $ways; do same "dta $way" "$program" "$@" "$way"; done
+    [ -n "$ways" ] || same dta $small_stack "$program" "$@"
+    for way in $ways; do same "dta $way" $small_stack "$program" "$@" "$way"; done
     tr '\n' ';' <first/report
     echo
     cd "$folder" && rm -rf tables
 }
 
 # assign WORDS.., counts WORDS..: the same of these commands, plainly and by workers.
-assign() { compare '--plain --workers=4' assign "$@"; }
-counts() { compare '--plain --workers=4' counts "$@"; }
+assign() { compare '--plain --workers=16' assign "$@"; }
+counts() { compare '--plain --workers=16' counts "$@"; }
 
 # earlier WORDS..: a run from which a case begins, by the other program where there is one.
 earlier() {
@@ -313,7 +315,7 @@ many_scales() {
     begin 'four scenarios of up to 1,900,000 vehicles'
     grid 12 4
     demand 1,2,500000 2,3,500000 3,4,500000 4,1,400000
-    compare '--workers=1 --workers=4' sweep --scales '1;0.5;0.25;0.75' --queue spatial
+    compare '--workers=1 --workers=16' sweep --scales '1;0.5;0.25;0.75' --queue spatial
 }
 
 many_audits() {

@@ -132,45 +132,29 @@ is_gone() {
     return 1
 }
 
-# The command that has a lock of this folder.
-holder() {
-    process=$(awk -v end=":$(stat -c %i .)" '
-        $2 == "FLOCK" && substr($6, length($6) - length(end) + 1) == end { print $5; exit }
-        ' /proc/locks)
-    [ -z "$process" ] || tr '\0' ' ' <"/proc/$process/cmdline"
-}
-
-# Waits, for half a minute at most, until a command that begins so has a lock of this folder.
-wait_for() {
-    for _ in $(seq 150); do
-        case $(holder) in "$1"*) return ;; esac
-        sleep 0.2
-    done
-}
-
 # Two runs of one folder, and files under two names.
 refused_runs() {
-    flock -F -s . sleep 600 &
-    wait_for sleep
+    flock -s -F . sleep 99 &
+    while flock -n -x . true; do sleep 0.1; done
     run demo 2 --horizon 1
     wanted=0 text=
     case_of 'a demonstration writes no file' is_said
     run freeflow
     wanted=9 text="Somebody has locked this folder, and it isn't a run of dta"
     case_of "a lock of somebody else: $(cat "$folder/said")" is_said
-    text="of $(id -un): sleep 600"
+    text="of $(id -un): sleep 99"
     case_of "who has the lock: $(cat "$folder/said")" is_said
     kill $!
     new_folder
-    "$script" assign --horizon 86400 --iterations 1000 >/dev/null 2>&1 &
-    wait_for "$program"
+    held assign --horizon 86400 --iterations 1000
     run freeflow
     text='of '$(id -un)': dta assign --horizon 86400 --iterations 1000' wanted=9
     case_of "who has the folder: $(cat "$folder/said")" is_said
     kill $!
-    wait
     process=$(sed -n 's/.*It is process \([0-9]*\) .*/\1/p' "$folder/said")
     case_of 'the program ends with the script' is_gone "$process"
+    exec 9>&-
+    wait
     new_folder
     ln -s demand.csv link_performance.csv
     ends 9 'link_performance.csv and demand.csv are one file' freeflow
@@ -309,10 +293,8 @@ without() {
     mkdir "$folder/tools" && ln -s /usr/bin/* /bin/* "$folder/tools" 2>/dev/null
     rm "$folder/tools/$1"
     shift
-    printf '%s\n' "program='$program' share='$top' docs='$top/docs'" \
-        ". '$top/command/run.sh'" 'run_command "$@"' >"$folder/command"
     shell_path=$(command -v "$shell")
-    PATH=$folder/tools "$shell_path" "$folder/command" "$@" >"$folder/report" 2>"$folder/said"
+    PATH=$folder/tools "$shell_path" "$script" "$@" >"$folder/report" 2>"$folder/said"
     status=$?
     rm -rf "$folder/tools"
 }
@@ -327,6 +309,17 @@ lost_tools() {
         case_of "the notes without $tool" [ "$(wc -l <words.txt)" = 2 ]
         new_folder
     done
+}
+
+# A stack on which a long environment leaves the program no room.
+small_stack() {
+    long=$(head -c 84000 /dev/zero | tr '\0' x)
+    (ulimit -s 128; exec env -i PATH="$PATH" LONG="$long" "$shell" "$script" sweep \
+        --scales '1;2;1;1' >"$folder/report" 2>"$folder/said")
+    status=$?
+    wanted=139 text='The program was ended by the signal SEGV, as where the stack'
+    case_of "a small stack: $status, $(cat "$folder/said")" is_said
+    new_folder
 }
 
 # What is said before a run that is done.
@@ -593,6 +586,7 @@ for shell in dash bash; do
     interrupted_script
     lost_places
     lost_tools
+    small_stack
     told_before
     notes_of_runs
     unwritten_outputs

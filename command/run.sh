@@ -502,6 +502,10 @@ tell_status() {
             ;;
         "$in_the_way") try_locks; say 'Another run was at work in this folder. Nothing was run.' ;;
         137) say 'The program was killed. The system does so where memory runs out.' ;;
+        139)
+            say 'The program was ended by the signal SEGV, as where the stack (ulimit -s) is small.'
+            say 'The system keeps words and environment there too.'
+            ;;
     esac
 }
 
