@@ -3,3 +3,4 @@ pub mod Later
 pub mod Rounds
 pub mod Agreeing
 pub mod Buckets
+pub mod Waits

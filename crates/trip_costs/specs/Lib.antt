@@ -1,5 +1,7 @@
 pub mod Greatest
 pub mod OriginWaits
+pub mod WaitSums
+pub mod WaitTables
 pub mod TripCosts
 pub mod TripWalks
 pub mod Latest

@@ -9,9 +9,11 @@
 //! program uses them yet.
 #![tactic(auto)]
 
+mod adding;
 mod changes;
 mod exits;
 mod laws;
+mod origin_waits;
 
 pub use changes::{PER_ITERATION, PER_VEHICLE, PRIME, changes_after};
 pub use exits::Exits;
@@ -20,3 +22,4 @@ pub use laws::{
     free_flow_past_the_horizon, later_never_arrives_earlier, links_are_the_table,
     no_chosen_trip_has_a_link_twice, times_agree_where_nothing_falls,
 };
+pub use origin_waits::OriginWaits;
