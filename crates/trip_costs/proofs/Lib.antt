@@ -4,3 +4,4 @@ pub mod Rounds
 pub mod Agreeing
 pub mod Buckets
 pub mod Waits
+pub mod Entering

@@ -4,7 +4,9 @@ pub mod WaitSums
 pub mod WaitTables
 pub mod TripCosts
 pub mod TripWalks
+pub mod Numbers
 pub mod Latest
+pub mod Entries
 pub mod Changes
 pub mod Laws
 pub mod Examples

@@ -14,4 +14,5 @@ wait_view w = record {
 
 pub record IsWaitTable (w : Inside) : Type 0 where
   pub lasts : 1 ≤ w.bucket
+  pub begins : 1 ≤ w.horizon
   pub buckets : w.buckets ≡ buckets_to w.bucket w.horizon

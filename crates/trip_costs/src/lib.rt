@@ -11,11 +11,14 @@
 
 mod adding;
 mod changes;
+mod entries;
 mod exits;
 mod laws;
 mod origin_waits;
+mod places;
 
 pub use changes::{PER_ITERATION, PER_VEHICLE, PRIME, changes_after};
+pub use entries::Entries;
 pub use exits::Exits;
 pub use laws::{
     entries_and_exits_are_bounded, entries_never_fall, exits_never_fall,

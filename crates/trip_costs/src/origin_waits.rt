@@ -8,6 +8,7 @@ ghost use Rattle.trip_costs.specs.OriginWaits.{waits_of};
 ghost use Rattle.trip_costs.specs.WaitSums.{AreMeanWaits, AreShortWaits, longest_wait};
 
 use crate::adding::{WaitSums, wait_sums};
+use crate::places::number_at;
 use dta_model::{Loaded, Loading};
 use net_core::{LinkNo, Memory};
 use std::alloc::Global;
@@ -93,8 +94,7 @@ impl OriginWaits {
         ensures { result ≡ slice_index self.now.waits
             (place_in (buckets_to self.now.bucket self.now.horizon) link.0 bucket) }
     {
-        let place = link.0 as usize * self.buckets as usize + bucket as usize;
-        self.waits.get(place).copied().unwrap_or(0)
+        number_at(&self.waits, self.buckets, link, bucket)
     }
 
     /// How many depart in a bucket and begin with a link, entered or not.
@@ -102,13 +102,13 @@ impl OriginWaits {
         ensures { result ≡ slice_index self.now.departed
             (place_in (buckets_to self.now.bucket self.now.horizon) link.0 bucket) }
     {
-        let place = link.0 as usize * self.buckets as usize + bucket as usize;
-        self.departed.get(place).copied().unwrap_or(0)
+        number_at(&self.departed, self.buckets, link, bucket)
     }
 
     /// The number of buckets of a link.
     pub fn buckets(&self) -> u32
-        ensures { result ≡ buckets_to self.now.bucket self.now.horizon }
+        ensures is { result ≡ buckets_to self.now.bucket self.now.horizon }
+        ensures last { 1 ≤ self.now.bucket }
     {
         self.buckets
     }
@@ -123,7 +123,8 @@ impl OriginWaits {
 
     /// The horizon, in steps.
     pub fn horizon(&self) -> u32
-        ensures { result ≡ self.now.horizon }
+        ensures is { result ≡ self.now.horizon }
+        ensures some { 1 ≤ result }
     {
         self.horizon
     }
