@@ -12,7 +12,8 @@ use Rattle.dta_model.specs.declared.loading.TheConstants.{MOST_HORIZON}
 use Rattle.link_times.specs.TimeTables.{IsShort}
 use Rattle.link_times.proofs.Places.{place_inside, place_tells, product_le}
 use Rattle.trip_costs.specs.Greatest.{greatest_to}
-use Rattle.trip_costs.specs.Latest.{AreLatest, latest_before}
+use Rattle.trip_costs.specs.Latest.{latest_before}
+use Rattle.trip_costs.specs.Numbers.{AreNumbers}
 use Rattle.trip_costs.specs.TripCosts.{after_time, exit_step}
 use Rattle.trip_costs.proofs.Rising.{greatest_least, greatest_most, greatest_rises}
 use Rattle.trip_costs.proofs.Agreeing.{exits_then, free_then}
@@ -126,8 +127,8 @@ begins_early bucket horizon b some h =
         absurd (omega (arith, a, c, e, k))
 
 -- one number more
-pub latest_more : (f : ℕ → ℕ → ℕ) (bucket buckets l b x : ℕ) (xs ys : List ℕ) → b < buckets → AreLatest f bucket buckets (place_in buckets l b) xs → x ≡ latest_before (f l) bucket b → ys ≡ xs ++ x ∷ [] → AreLatest f bucket buckets (place_in buckets l b + 1) ys
-latest_more f bucket buckets l b x xs ys inside are e added = record {
+pub number_more : (number : ℕ → ℕ → ℕ) (buckets l b x : ℕ) (xs ys : List ℕ) → b < buckets → AreNumbers number buckets (place_in buckets l b) xs → x ≡ number l b → ys ≡ xs ++ x ∷ [] → AreNumbers number buckets (place_in buckets l b + 1) ys
+number_more number buckets l b x xs ys inside are e added = record {
   many = ap (λ zs. length zs) added ∙ length-append xs (x ∷ []) ∙ ap (λ n. n + 1) are.many;
   each = λ k c hc h. by k c hc h (cases_lt (place_in buckets k c) (place_in buckets l b));
 }
@@ -138,7 +139,7 @@ latest_more f bucket buckets l b x xs ys inside are e added = record {
 
     by : (k c : ℕ) → c < buckets → place_in buckets k c < place_in buckets l b + 1
         → (place_in buckets k c < place_in buckets l b) ⊎ (place_in buckets l b ≤ place_in buckets k c)
-        → get_or ys (place_in buckets k c) 0 ≡ latest_before (f k) bucket c
+        → get_or ys (place_in buckets k c) 0 ≡ number k c
     by k c hc h (inl low) =
         ap (λ zs. get_or zs (place_in buckets k c) 0) added
         ∙ get_or_append_left xs (x ∷ []) 0 (place_in buckets k c) (let m = are.many in omega (arith, low, m))
@@ -149,18 +150,18 @@ latest_more f bucket buckets l b x xs ys inside are e added = record {
         ap (λ zs. get_or zs (place_in buckets k c) 0) added
         ∙ ap (λ n. get_or (xs ++ x ∷ []) n 0) (place ∙ sym are.many)
         ∙ last xs
-        ∙ e ∙ ap (λ n. latest_before (f n) bucket b) (sym same.0) ∙ ap (λ n. latest_before (f k) bucket n) (sym same.1)
+        ∙ e ∙ ap (λ n. number n b) (sym same.0) ∙ ap (λ n. number k n) (sym same.1)
 
 -- before the first number
-pub latest_first : (t : TimeTable) (count : ℕ) → count ≡ 0 → AreLatest (after_time t) t.bucket (bucket_count t) count []
-latest_first t count e = record { many = sym e; each = λ l b hb h. absurd (omega (arith, e, h)) }
+pub number_first : (number : ℕ → ℕ → ℕ) (buckets count : ℕ) → count ≡ 0 → AreNumbers number buckets count []
+number_first number buckets count e = record { many = sym e; each = λ l b hb h. absurd (omega (arith, e, h)) }
 
 -- the number of a bucket, where it is read
-pub latest_at : (t : TimeTable) (l b d place : ℕ) (xs : List ℕ) → l < length t.free → b < bucket_count t → place ≡ place_in (bucket_count t) l b → AreLatest (after_time t) t.bucket (bucket_count t) (length t.free * bucket_count t) xs
-    → (place < length xs) × (get_or xs place d ≡ latest_before (after_time t l) t.bucket b)
-latest_at t l b d place xs h i at are =
-    let in_all = place_inside (length t.free) (bucket_count t) l b h i in
-    let there : place < length xs = subst (λ n. n < length xs) (sym at) (subst (λ n. place_in (bucket_count t) l b < n) (sym are.many) in_all) in
+pub number_read : (number : ℕ → ℕ → ℕ) (links buckets l b d place : ℕ) (xs : List ℕ) → l < links → b < buckets → place ≡ place_in buckets l b → AreNumbers number buckets (links * buckets) xs
+    → (place < length xs) × (get_or xs place d ≡ number l b)
+number_read number links buckets l b d place xs h i at are =
+    let in_all = place_inside links buckets l b h i in
+    let there : place < length xs = subst (λ n. n < length xs) (sym at) (subst (λ n. place_in buckets l b < n) (sym are.many) in_all) in
     (there, default_is xs place d there ∙ ap (λ n. get_or xs n 0) at ∙ are.each l b i in_all)
   where
     default_is : (zs : List ℕ) (q e : ℕ) → q < length zs → get_or zs q e ≡ get_or zs q 0

@@ -3,3 +3,6 @@ pub mod Later
 pub mod Rounds
 pub mod Agreeing
 pub mod Buckets
+pub mod Waits
+pub mod Entering
+pub mod Walks

@@ -1,8 +1,13 @@
 pub mod Greatest
 pub mod OriginWaits
+pub mod WaitSums
+pub mod WaitTables
 pub mod TripCosts
 pub mod TripWalks
+pub mod Numbers
 pub mod Latest
+pub mod Entries
+pub mod Costs
 pub mod Changes
 pub mod Laws
 pub mod Examples
