@@ -20,9 +20,13 @@ const ClosedMarks = (() => {
         for (const turn of closedTurns) drawBar(map, run.turns.from[turn]);
     }
 
-    function drawBar({pen, geometry}, link) {
+    // Its ends stand out on both sides of the link, whose vehicles may hide its middle.
+    function drawBar(map, link) {
+        const {pen, geometry} = map;
         if (!geometry.isVisible[link] || geometry.isLoop(link)) return;
-        const {x, y, alongX, alongY} = geometry.pointAt(link, 0.94), half = geometry.unit + 4;
+        const {x, y, alongX, alongY} = geometry.pointAt(link, 0.94);
+        const half = map.widthOfLink(link) / 2 + geometry.unit + 4;
+        pen.lineWidth = Math.max(geometry.unit, 3);
         pen.beginPath();
         pen.moveTo(x - alongY * half, y + alongX * half);
         pen.lineTo(x + alongY * half, y - alongX * half);

@@ -109,8 +109,9 @@ function csvReader() {
         }
     }
 
+    // Digits and semicolons, of which tables are full, are told by one comparison.
     function endsField(byte) {
-        return byte === comma || byte === lineFeed || byte === carriageReturn;
+        return byte <= comma && (byte === comma || byte === lineFeed || byte === carriageReturn);
     }
 
     // A quote that is written twice belongs to the field.

@@ -117,6 +117,7 @@ class MapView {
         this.pen.globalAlpha = 1;
         this.drawSelected(view);
         this.drawTrace(trace);
+        ClosedMarks.draw(this);
     }
 
     traceOf({trace}) {

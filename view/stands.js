@@ -55,11 +55,13 @@ class Stands {
     }
 
     // Of the whole run: the steps in which the link is blocked, the visit with which that
-    // begins, and for how long a first vehicle stands at most.
+    // begins, and for how long a first vehicle stands at most. Of those who go on once their
+    // free-flow time is over nobody stands.
     of(link) {
-        const {linkStarts, leave} = this.visits;
+        const {linkStarts, enter, leave} = this.visits, free = this.free[link];
         const found = {steps: 0, visit: -1, longest: 0};
         for (let visit = linkStarts[link]; visit < linkStarts[link + 1]; visit += 1) {
+            if (leave[visit] - enter[visit] <= free) continue;
             const from = this.blockedFrom(link, visit);
             if (from >= leave[visit]) continue;
             if (found.visit < 0) found.visit = visit;

@@ -145,8 +145,10 @@ class Turns {
         const {linkStarts, leave} = run.visits;
         for (let link = 0; link < run.links.count; link += 1) {
             const behind = linkStarts[link + 1];
+            const isEmpty = behind === linkStarts[link] || leave[behind - 1] < run.horizon;
+            if (isEmpty) continue;
             const first = Stands.above(leave, linkStarts[link], behind, run.horizon - 1);
-            const held = first < behind ? this.heldBy(link, first) : '';
+            const held = this.heldBy(link, first);
             if (held !== '') counts[held] += behind - first;
         }
         const {status, linkStart, links, count} = run.agents;

@@ -42,6 +42,7 @@ class Page:
             },
         )
         self.driver = webdriver.Chrome(options=options, service=Service('/usr/bin/chromedriver'))
+        self.driver.execute_cdp_cmd('Performance.enable', {})
         self.open()
 
     def open(self):
@@ -153,6 +154,12 @@ class Page:
 
     def pictures(self):
         return int(self.run('return document.body.dataset.pictures'))
+
+    def processor_seconds(self, of='ProcessTime'):
+        """Seconds of the processor that the page has taken: with all its threads, or those of the
+        one that draws as ThreadTime."""
+        metrics = self.driver.execute_cdp_cmd('Performance.getMetrics', {})['metrics']
+        return next(one['value'] for one in metrics if one['name'] == of)
 
     def errors(self):
         """What the console has told since the last call, but for mere notes."""

@@ -313,24 +313,26 @@ class Test(PlannerTests, WeekTests):
         equal(facts(page)['turn to 30'], turn, 'the turn in the panel')
 
     def a_large_run_is_fast(self):
+        """By processor time, since other work on the machine slows the clock alone."""
         page, folder = self.page, os.path.join(self.folder, 'large')
         big_run.make(folder)
         page.open()
         page.resize(1400, 1000)
-        begin = time.time()
+        before, begin = page.processor_seconds(), time.time()
         page.drop([folder])
-        page.wait_for_runs(['large'], 60)
-        opened = time.time() - begin
-        speeds = {measure: self.speed_of(measure) for measure in ('delay', 'on', 'storage')}
+        page.wait_for_runs(['large'], 300)
+        opened, clock = page.processor_seconds() - before, time.time() - begin
+        costs = {measure: self.picture_cost(measure) for measure in ('delay', 'on', 'storage')}
         size = os.path.getsize(os.path.join(folder, 'agent.csv')) / 1e6
         print(
-            f'    an agent table of {size:.0f} MB: open after {opened:.1f} s; pictures a second: '
-            + ', '.join(f'{speed:.0f} by {measure}' for measure, speed in speeds.items()),
+            f'    an agent table of {size:.0f} MB: open after {opened:.1f} s of the processor, '
+            f'{clock:.1f} s by the clock; milliseconds of the processor for a picture: '
+            + ', '.join(f'{1000 * cost:.0f} by {measure}' for measure, cost in costs.items()),
             flush=True,
         )
         self.check_large(Told(folder))
-        check(opened < 15, 'it takes more than 15 s to open')
-        check(min(speeds.values()) >= 15, 'it plays fewer than 15 pictures a second')
+        check(opened < 15, 'it takes more than 15 s of the processor to open')
+        check(max(costs.values()) <= 1 / 15, 'a picture takes more than a fifteenth of a second')
 
     def check_large(self, told):
         """The numbers of all that a planner asks, on the large run."""
@@ -352,16 +354,17 @@ class Test(PlannerTests, WeekTests):
         self.check_the_checks(told, 'large')
         self.check_out('large', told)
 
-    def speed_of(self, measure):
+    def picture_cost(self, measure):
+        """Seconds of the processor that the thread that draws takes for a picture."""
         page = self.page
         page.choose('#measure', measure)
         page.choose('#slider', 300)
         page.click('#play')
-        before, begin = page.pictures(), time.time()
-        time.sleep(4)
-        speed = (page.pictures() - before) / (time.time() - begin)
+        before, begin = page.pictures(), page.processor_seconds('ThreadTime')
+        page.wait(lambda: page.pictures() >= before + 40, '40 pictures')
+        cost = (page.processor_seconds('ThreadTime') - begin) / (page.pictures() - before)
         page.click('#play')
-        return speed
+        return cost
 
 
 TESTS = [

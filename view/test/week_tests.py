@@ -138,6 +138,9 @@ class WeekTests:
         page.choose('#slider', told.horizon - 1)
         words = 'before a turn with a capacity of 0 for all time'
         check(facts(page)['blocked'].endswith(words), facts(page)['blocked'])
+        check(self.pixels(red) > 40, 'a queue hides the mark of the closed turn')
+        self.typed('#find', 'vehicle 2')
+        check(self.pixels(red) > 40, 'a way hides the mark of the closed turn')
         self.opened(faults.make(self.folder, 'to_check', faults.TO_CHECK))
         check(self.pixels(red) > 20, 'the closed link looks like an empty one')
         page.choose('#find', '30')
@@ -254,15 +257,22 @@ class WeekTests:
         form = page.run(
             size + 'return map.clientWidth / map.clientHeight * map.height / map.width'
         )
-        words = page.text('#print-words')
+        words, table = page.text('#print-words'), page.text('[data-table=links] table')
         charts = page.run(
             'return [...document.querySelectorAll(".chart")].map((one) =>'
             ' one.clientWidth / one.clientHeight * one.height / one.width)'
         )
         page.driver.execute_cdp_cmd('Emulation.setEmulatedMedia', {'media': ''})
         page.resize(1400, 1000)
+        hidden = page.run(
+            'const box = document.querySelector("[data-table=links] .scroll");'
+            'return box.scrollWidth - box.clientWidth'
+        )
+        equal(hidden, 0, 'what a screen of 1,400 hides of the most delayed links')
         check(all(abs(one - 1) < 0.02 for one in (form, *charts)), f'stretched: {form} {charts}')
         check('00:55:00' in words and 'steps of 10 s' in words, f'on paper: {words}')
+        worst = Told(self.path('steps_of_10'), seconds=10).most_delayed()
+        equal(table.splitlines()[1].split()[0], worst, 'the first link of the table on paper')
 
     def projected_coordinates_are_told(self):
         for name, is_told in (('sioux_falls', True), ('country', False)):
