@@ -1,5 +1,7 @@
 pub mod Owners
 pub mod Stays
+pub mod Told
+pub mod PlacesTold
 pub mod Counts
 pub mod Works
 pub mod Steps

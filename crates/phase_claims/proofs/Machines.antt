@@ -6,7 +6,7 @@ use native.Mathlib.Decide.{dec_le}
 use lib.ListN.{get_elem?}
 use Rattle.atomic_table.specs.Table.{State}
 use Rattle.atomic_table.proofs.Lists.{set_else}
-use Rattle.dta_model.specs.Machine.{Claims, finished, holds_unit}
+use Rattle.dta_model.specs.Machine.{Claims, finished}
 use Rattle.dta_model.specs.Plans.{ins, outs}
 use Rattle.dta_model.specs.Units.{Gather, Posting, Transfer, node_count, phase_end, phase_start, posting_part, step_units, task_of, unit_count}
 use Rattle.dta_model.specs.declared.plan.Plan.{Plan}
@@ -30,7 +30,7 @@ use Rattle.phase_claims.specs.declared.view.Hold.{Hold}
 use Rattle.phase_claims.specs.declared.view.Hold.TheVariants as hold
 use Rattle.phase_claims.specs.declared.view.Scope.{Scope}
 use Rattle.phase_claims.specs.declared.view.View.{View}
-use Rattle.phase_claims.specs.Laws.{AreApart, AreClaims, AreOfOnePhase, claims_of, opens, workers_of}
+use Rattle.phase_claims.specs.Laws.{AreApart, AreClaims, AreOfOnePhase, claims_of, workers_of}
 use Rattle.phase_claims.specs.PlacesHome.{home_of, part_at}
 use Rattle.phase_claims.specs.Running.{EarlierArePerformed, FitsStage, Holds, Running}
 use Rattle.phase_claims.specs.Views.{first_in, held_by, holds, holds_in, nobody, open_end, performed_by, performs, worked, worked_by, worked_in}

@@ -197,3 +197,13 @@ module _ (v : View) (f : Scope) (own : Place) (scope : v.scope ≡ f) (is : IsPl
 
   pub taken_here : (xs : List (ℕ × Part)) → xs ≡ carried v.scope v.stage v.at → xs ≡ taken f own.next
   taken_here xs e = e ∙ ap (λ s. carried v.scope s v.at) opened ∙ ap (λ k. taken k v.at) scope ∙ ap (taken f) (sym is.next)
+
+-- a pass that has told some nodes stands where it stood
+pub same_place : (v w : View) → w ≡ record v { told = w.told } → (own : Place) → IsPlace v own → IsPlace w own
+same_place v w only own is = subst (λ (u : View). IsPlace u own) (sym only) record { stage = is.stage; next = is.next; phase = is.phase }
+
+-- and goes on as if it had told none
+pub next_told : (v w new : View) → w ≡ record v { told = w.told } → PerformsNext w new → PerformsNext v new
+next_told v w new only next =
+    let q : PerformsNext (record v { told = w.told }) new = subst (λ (u : View). PerformsNext u new) only next in
+    record { goes_on = q.goes_on; ends = q.ends }

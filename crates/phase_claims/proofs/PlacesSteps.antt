@@ -148,10 +148,10 @@ module _ (k : Scope) where
           (apart_of (part_at k) all_slots (places k.plan a) (λ slot. stage_of k.plan (worked_by views) slot) (places_once k a))
           (all_home Q (moves k.plan) (part_at k) Has worked all_slots homes views h (places k.plan a) (places_once k a) closed))
 
-      pub opens_places : (seen looks : ℕ) → AreHome k (homes_after homes [] (takes_all (taken k a))) (set views by (record v { stage = hold.Open a m b; at = a; seen = seen; looks = looks }))
+      pub opens_places : (seen looks : ℕ) → AreHome k (homes_after homes [] (takes_all (taken k a))) (set views by (record v { stage = hold.Open a m b; at = a; told = []; seen = seen; looks = looks }))
       unfolding stage_of
       opens_places seen looks =
-          let v' : View = record v { stage = hold.Open a m b; at = a; seen = seen; looks = looks } in
+          let v' : View = record v { stage = hold.Open a m b; at = a; told = []; seen = seen; looks = looks } in
           subst (λ xs. AreHome k (homes_after homes [] (takes_all xs)) (set views by v')) (now_taken a mine_left mine_held in_it)
           (opens_homes Q (moves k.plan) (part_at k) Has worked all_slots by (places k.plan a) homes views v v' h e (places_once k a)
           (λ slot. (let z : has_slot k.plan slot v.stage v.at ≡ 0 = ap (λ s. has_slot k.plan slot s v.at) is in omega (arith, z)))
@@ -181,7 +181,7 @@ module _ (k : Scope) where
       here_below : v.at < b
       here_below = omega (arith, at_one.1, order.1)
 
-      drawn : v.at < Q
+      pub drawn : v.at < Q
       drawn = omega (arith, at_one.1, all_drawn k w n views r by a m b v e is)
 
       -- the places of the unit that it is at come home: v' has none, and has worked that unit too
@@ -201,13 +201,24 @@ module _ (k : Scope) where
       more_worked : (x : ℕ) → worked_in v.stage v.at x + is_at x v.at ≡ among a (suc v.at) x
       more_worked x = omega (arith, ap (λ s. worked_in s v.at x) is, among_two a v.at (suc v.at) x at_one.0 (omega arith), among_one v.at x)
 
+      -- its places are at the stages before its phase
+      pub stage_now : (slot : ℕ) → 1 ≤ times slot (places k.plan v.at) → stage_of k.plan (worked_by views) slot ≡ stage_before k.plan v.at slot
+      stage_now slot in_c =
+          let in_it = of_phase v.at (omega arith) at_one.1 in
+          stage_is k w n views r v.at slot (not_worked v.at (left_all v.at (omega arith) here_below) (held_all v.at (omega arith) here_below) in_it) in_it in_c
+
       -- a finish
-      pub finishes_places : suc v.at ≡ m → (xs : List (ℕ × Part)) → xs ≡ brought k v.at → AreHome k (homes_after homes xs (gives_all (length xs))) (set views by (record v { stage = left_of (hold.Open a m b); performed = v.performed ++ numbers a m }))
+      pub finish_worked : suc v.at ≡ m → (x : ℕ) → worked x (record v { stage = left_of (hold.Open a m b); told = []; performed = v.performed ++ numbers a m }) ≡ worked x v + is_at x v.at
+      finish_worked last x =
+          let v' : View = record v { stage = left_of (hold.Open a m b); told = []; performed = v.performed ++ numbers a m } in
+          let none : worked_in v'.stage v'.at x ≡ 0 = left_by (λ s. worked_in s v.at x ≡ 0) a m b (λ _. refl) (λ _. refl) in
+          omega (arith, none, plus k w n views r by a m b v e is x, more_worked x, ap (λ c. among a c x) last)
+
+      pub finishes_places : suc v.at ≡ m → (xs : List (ℕ × Part)) → xs ≡ brought k v.at → AreHome k (homes_after homes xs (gives_all (length xs))) (set views by (record v { stage = left_of (hold.Open a m b); told = []; performed = v.performed ++ numbers a m }))
       finishes_places last xs back =
-          let v' : View = record v { stage = left_of (hold.Open a m b); performed = v.performed ++ numbers a m } in
+          let v' : View = record v { stage = left_of (hold.Open a m b); told = []; performed = v.performed ++ numbers a m } in
           comes_home v' (λ slot. left_by (λ s. has_slot k.plan slot s v.at ≡ 0) a m b (λ _. refl) (λ _. refl))
-          (λ x. (let none : worked_in v'.stage v.at x ≡ 0 = left_by (λ s. worked_in s v.at x ≡ 0) a m b (λ _. refl) (λ _. refl) in
-          omega (arith, none, plus k w n views r by a m b v e is x, more_worked x, ap (λ c. among a c x) last)))
+          (finish_worked last)
           xs back
 
       -- a turn to the next unit: in two, with a view between that has no place
@@ -216,10 +227,13 @@ module _ (k : Scope) where
         v1 = record v { stage = hold.Idle; performed = v.performed ++ numbers a (suc v.at) }
 
         abbrev v2 : View
-        v2 = record v { at = suc v.at }
+        v2 = record v { at = suc v.at; told = [] }
 
         abbrev homes1 : List (Option Part)
         homes1 = homes_after homes xs (gives_all (length xs))
+
+        pub turn_worked : (x : ℕ) → worked x v2 ≡ worked x v + is_at x v.at
+        turn_worked x = (let z : worked_in v.stage (suc v.at) x ≡ among a (suc v.at) x = ap (λ s. worked_in s (suc v.at) x) is in omega (arith, z, more_worked x))
 
         one_more : (x : ℕ) → worked x v1 ≡ worked x v + is_at x v.at
         one_more x = omega (arith, total-append (is_at x) v.performed (numbers a (suc v.at)), times_numbers a (suc v.at) x (omega (arith, at_one.0)), more_worked x)

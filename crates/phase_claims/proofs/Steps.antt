@@ -21,7 +21,7 @@ use Rattle.phase_claims.specs.declared.view.Scope.{Scope}
 use Rattle.phase_claims.specs.declared.view.View.{View}
 use Rattle.phase_claims.specs.Passes.{holds_no_unit}
 use Rattle.phase_claims.specs.Running.{EarlierArePerformed, FitsPast, FitsStage, FitsView, Running}
-use Rattle.phase_claims.specs.Views.{beginning, both_stages, ended, held_by, holding, holds, joined, left_of, less_spare, nobody, performed_by, performed_count, performs, rights, seeing}
+use Rattle.phase_claims.specs.Views.{beginning, both_stages, ended, held_by, holding, holds, joined, left_of, less_spare, nobody, performed_by, performed_count, performs, rights, seeing, telling}
 use Rattle.phase_claims.proofs.Counts.{claimed_same, each_set, holds_held, holds_idle, holds_left, holds_none, holds_open, left_by, none_both}
 
 module _ (k : Scope) (w n : ℕ) (views : List View) (r : Running k w n views) where
@@ -133,10 +133,10 @@ module _ (k : Scope) (w n : ℕ) (views : List View) (r : Running k w n views) w
         let now = open_now N g n (performed_by views) (held_by views) r.claimed a (held_in by a v e first).0 le in
         (now.0, omega (arith, in_order, lt_stop N a), omega (arith, same_stop N n a now.0 now.1))
 
-    pub opens : 1 ≤ v.weight → Running k w n (set views by (record v { stage = hold.Open a stop_of b; at = a; seen = n; looks = v.looks + 1 }))
+    pub opens : 1 ≤ v.weight → Running k w n (set views by (record v { stage = hold.Open a stop_of b; at = a; told = []; seen = n; looks = v.looks + 1 }))
     opens has =
         let f = r.each by v e in
-        looks by v (record v { stage = hold.Open a stop_of b; at = a; seen = n; looks = v.looks + 1 }) e (λ x. sym (holds_held v.stage a b x is)) refl refl refl refl record {
+        looks by v (record v { stage = hold.Open a stop_of b; at = a; told = []; seen = n; looks = v.looks + 1 }) e (λ x. sym (holds_held v.stage a b x is)) refl refl refl refl record {
           scope = f.scope;
           seen = omega arith;
           past = subst (λ (s : Hold). FitsPast s v.weight v.past) is f.past;
@@ -149,6 +149,12 @@ module _ (k : Scope) (w n : ℕ) (views : List View) (r : Running k w n views) w
   waits by v e has =
       let f = r.each by v e in
       looks by v (seeing v n) e (λ x. refl) refl refl refl refl record { scope = f.scope; seen = omega arith; past = f.past; empty = λ z. absurd (omega (arith, z, has)); stage = f.stage }
+
+  -- a node is told
+  pub tells : (by node : ℕ) (v : View) → get_elem? views by ≡ some v → 1 ≤ v.weight → Running k w n (set views by (telling v node))
+  tells by node v e has =
+      let f = r.each by v e in
+      looks by v (telling v node) e (λ x. refl) refl refl refl refl record { scope = f.scope; seen = f.seen; past = f.past; empty = λ z. absurd (omega (arith, z, has)); stage = f.stage }
 
   pub earlier : (c : ℕ) → 1 ≤ held_by views c → phase_start N c ≤ n → EarlierArePerformed N c views
   earlier c held le x lt =
@@ -178,7 +184,7 @@ module _ (k : Scope) (w n : ℕ) (views : List View) (r : Running k w n views) w
   -- a finish of the open numbers
   module _ (by a m b : ℕ) (v : View) (e : get_elem? views by ≡ some v) (is : v.stage ≡ hold.Open a m b) where
     abbrev done_view : View
-    done_view = record v { stage = left_of (hold.Open a m b); performed = v.performed ++ numbers a m }
+    done_view = record v { stage = left_of (hold.Open a m b); told = []; performed = v.performed ++ numbers a m }
 
     abbrev views' : List View
     views' = set views by done_view
@@ -194,10 +200,10 @@ module _ (k : Scope) (w n : ℕ) (views : List View) (r : Running k w n views) w
     is_at_one = (fits.0, fits.1)
 
     -- the next one is, where there is one
-    pub turns : 1 ≤ v.weight → suc v.at < m → Running k w n (set views by (record v { at = suc v.at }))
+    pub turns : 1 ≤ v.weight → suc v.at < m → Running k w n (set views by (record v { at = suc v.at; told = [] }))
     turns has lt =
         let f = r.each by v e in
-        looks by v (record v { at = suc v.at }) e (λ x. refl) refl refl refl refl record {
+        looks by v (record v { at = suc v.at; told = [] }) e (λ x. refl) refl refl refl refl record {
           scope = f.scope;
           seen = f.seen;
           past = f.past;

@@ -100,6 +100,7 @@ split_and_joined : joined (less_spare (done_with at_work)) (ended (beginning fou
       scope = four_passes;
       stage = hold.Ended;
       at = 0;
+      told = [];
       spare = 2;
       performed = 1 ∷ [];
       weight = 2;

@@ -1,5 +1,6 @@
 pub mod Scopes
 pub mod Views
+pub mod Told
 pub mod Running
 pub mod Laws
 pub mod Plays

@@ -6,8 +6,9 @@ use Rattle.dta_model.specs.declared.plan.Plan.{Plan}
 use Rattle.node_transfer.specs.Exchange.{is_among}
 use Rattle.node_transfer.specs.Halves.{leaving_cell, left_mail, links_of, taken_mail, taking_cell}
 use Rattle.node_transfer.specs.Inside.Counted.{counted}
-use Rattle.node_transfer.specs.Rest.{IsQuiet}
+use Rattle.node_transfer.specs.Rest.{IsIdle, IsQuiet}
 use Rattle.node_transfer.specs.declared.cell.CellCounts.{CellCounts}
+use Rattle.node_transfer.specs.declared.half.Half.TheVariants as Half
 use Rattle.node_transfer.specs.declared.half.HalfStep.{HalfStep}
 
 -- how many of a cell wait, run and have arrived
@@ -24,3 +25,8 @@ pub record IsNoted (s : CellState) (wake : ℕ) (known : Option CellCounts) : Ty
 pub record StaysAsItIs (p : Plan) (h : HalfStep) : Type 0 where
   pub cell : leaving_cell p h away ≡ taking_cell p h away
   pub mail : (l : ℕ) → is_among (links_of p h) l ≡ true → left_mail p h l ≡ taken_mail p h l
+
+-- it does, and a transfer moves nobody
+pub record Rests (p : Plan) (h : HalfStep) : Type 0 where
+  pub stays : StaysAsItIs p h
+  pub idle : h.half ≡ Half.Transfer → IsIdle p h.node.0 h.step

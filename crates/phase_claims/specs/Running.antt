@@ -14,6 +14,7 @@ use Rattle.phase_claims.specs.declared.view.Hold.TheVariants as hold
 use Rattle.phase_claims.specs.declared.view.Scope.{Scope}
 use Rattle.phase_claims.specs.declared.view.View.{View}
 use Rattle.phase_claims.specs.PlacesHome.{AreHome}
+use Rattle.phase_claims.specs.Told.{AreReached}
 use Rattle.phase_claims.specs.Views.{held_by, nobody, performed_by}
 use Rattle.phase_claims.specs.Views.{performed_count, rights}
 
@@ -60,8 +61,9 @@ pub record Running (k : Scope) (drawn finished : ℕ) (views : List View) : Type
   pub rights : total rights views ≡ k.passes
   pub each : (by : ℕ) (v : View) → get_elem? views by ≡ some v → FitsView k finished v
 
--- the rule: the second word counts the numbers drawn, and the third the units finished, and no
--- other changes; each place that no pass has holds its part, and the others are out
+-- the rule: the second word counts the numbers drawn, and the third the units finished, and the
+-- nodes' words tell of those who come; each place that no pass has holds its part, and the others
+-- are out
 pub record Holds (k : Scope) (s : State Part View) : Type 0 where
   pub few : k.passes ≤ MOST_PASSES
   pub small : unit_count k.plan < 2 ^ 50
@@ -71,6 +73,7 @@ pub record Holds (k : Scope) (s : State Part View) : Type 0 where
   pub words : s.words ≡ 0 ∷ drawn ∷ finished ∷ others
   pub running : Running k drawn finished s.views
   pub homes : AreHome k s.homes s.views
+  pub reached : AreReached k s.words s.views
 
 -- a view is that of a pass in a state in which the rule holds, and so many units are finished
 pub record StandsIn (v : View) (finished : ℕ) : Type 0 where

@@ -1,5 +1,6 @@
 -- What a pass knows, its view, and what the steps make of it.
-use Rattle.std.specs.Prelude.{ℕ, suc, ◌+◌, ◌-◌, max, min, nat_lt, cond, List, [], ◌++◌, length}
+use Rattle.std.specs.Prelude.{ℕ, suc, ◌+◌, ◌-◌, max, min, nat_lt, cond, List, [], ◌∷◌}
+use Rattle.std.specs.Prelude.{◌++◌, length}
 use Rattle.atomic_table.specs.Seated.{TableId}
 use Rattle.dta_model.specs.Units.{node_count, phase_end, phase_start, unit_count}
 use Rattle.dta_model.specs.declared.queue.Queue.TheVariants as queue
@@ -16,6 +17,7 @@ beginning k spare = record {
   scope = k;
   stage = hold.Idle;
   at = 0;
+  told = [];
   spare = spare;
   performed = [];
   weight = 1;
@@ -56,6 +58,7 @@ nobody = record {
   scope = no_scope;
   stage = hold.Idle;
   at = 0;
+  told = [];
   spare = 0;
   performed = [];
   weight = 0;
@@ -148,13 +151,18 @@ abbrev pub having_open : View → ℕ → View
 having_open v finished = record v {
   stage = with_open (node_count v.scope.plan) v.stage;
   at = first_in v.stage;
+  told = [];
   seen = finished;
   looks = v.looks + 1;
 }
 
 -- it is at the next of its open units
 abbrev pub at_next : View → View
-at_next v = record v { at = suc v.at }
+at_next v = record v { at = suc v.at; told = [] }
+
+-- it has told a node that somebody comes
+abbrev pub telling : View → ℕ → View
+telling v n = record v { told = n ∷ v.told }
 
 -- it has performed its open units, and holds the others, if there are any
 abbrev pub left_of : Hold → Hold
@@ -164,6 +172,7 @@ left_of s =
 abbrev pub done_with : View → View
 done_with v = record v {
   stage = left_of v.stage;
+  told = [];
   performed = v.performed ++ numbers (first_in v.stage) (open_end v.stage);
 }
 
@@ -187,6 +196,7 @@ joined v u = record {
   scope = v.scope;
   stage = both_stages v.stage u.stage;
   at = 0;
+  told = [];
   spare = v.spare + u.spare;
   performed = v.performed ++ u.performed;
   weight = v.weight + u.weight;

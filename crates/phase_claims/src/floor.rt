@@ -1,15 +1,17 @@
 // The floor and its calls.
 ghost use Rattle.atomic_table.specs.Table.{State};
-ghost use Rattle.std.specs.Prelude.{◌≡◌, ◌≢◌, ◌<◌, ◌≤◌, ◌-◌, [], suc, IfErr, IfOk, IsOk};
+ghost use Rattle.std.specs.Prelude.{◌≡◌, ◌≢◌, ◌<◌, ◌≤◌, ◌-◌, [], suc, IfErr, IfOk, IsOk, Some};
 ghost use Rattle.dta_model.specs.Lent.{plan_of};
 ghost use Rattle.dta_model.specs.Sound.{IsSound};
-ghost use Rattle.dta_model.specs.Units.{node_count, unit_count};
+ghost use Rattle.dta_model.specs.Units.{node_count, step_of, task_of, unit_count};
 ghost use Rattle.phase_claims.specs.Passes.{Claims, ClaimsChunk, HoldsNoUnit, IsHeld, IsOf, IsOpen};
 ghost use Rattle.phase_claims.specs.Passes.{IsInside, IsPlace, Opens, PerformsNext, kind_at, kind_in, unit_at};
 ghost use Rattle.phase_claims.specs.PlacesEnd.{IsClosed, IsEarly};
 ghost use Rattle.phase_claims.specs.PlacesHeld.{IsSameSeat};
 ghost use Rattle.phase_claims.specs.PlacesHome.{brought, carried, taken};
 ghost use Rattle.phase_claims.specs.Running.{Holds};
+ghost use Rattle.phase_claims.specs.Told.{HasOnlyTold, TellsAll};
+ghost use Rattle.claim_core.specs.Kinds.{half_by};
 ghost use Rattle.phase_claims.specs.Views.{at_next, beginning, done_with, first_in, joined};
 ghost use Rattle.phase_claims.specs.Views.{less_spare, open_end, rights};
 
@@ -19,18 +21,19 @@ use crate::receipt::{Early, Receipt};
 use crate::rule::{
     Bound, Claiming, Cut, Draw, Finish, Glue, Key, Look, PassSeat, SharedTable, Turn,
 };
-use crate::start::parts_at_start;
+use crate::start::{parts_at_start, words_at_start};
 use crate::unit::{Chunk, Open, Unit};
 use crate::view::{Hold, View};
 use crate::work_close::{drop_parts, take_parts};
 use crate::work_posting::post_held;
+use crate::work_told::{rests, tell_all};
 use crate::work_unit::work_held;
 use atomic_table::{Table, TableRule};
 use claim_core::{UnitKind, Units};
 use dta_model::{Loaded, Loading};
 use monitors::{Board, WriterPass};
 use net_core::Memory;
-use node_transfer::opening;
+use node_transfer::{Half, HalfStep, opening};
 use std::alloc::{AllocError, Global};
 use std::marker::Model;
 use std::sync::Wait;
@@ -106,7 +109,8 @@ impl<'a> Floor<'a> {
             passes,
         };
         let units = Units::of(loading);
-        let (table, seat) = match Table::new(alloc, &[0; STILL_WORD + 1], parts, &key) {
+        let words = words_at_start(alloc, units.nodes)?;
+        let (table, seat) = match Table::new(alloc, &words, parts, &key) {
             Ok(made) => made,
             Err(_) => return Err(AllocError),
         };
@@ -255,14 +259,43 @@ impl<'a> Floor<'a> {
         }
     }
 
+    // Does the work of a half of a node's step, on the places that a seat has for it. Where that
+    // changes nothing these stay as they are.
+    #[tactic(auto, unfolding(dta_model::specs::Units::unit_count))]
+    fn do_half(&self, seat: &mut PassSeat, half: HalfStep)
+        requires table { seat.old.table_id ≡ self.now.table }
+        requires scope { seat.old.me.0.scope ≡ self.now.scope }
+        requires open { IsOpen seat.old.me.0.stage }
+        requires weight { 1 ≤ seat.old.me.0.weight }
+        requires inside { seat.old.me.0.at < unit_count seat.old.me.0.scope.plan }
+        requires unit { half_by (step_of (node_count seat.old.me.0.scope.plan) seat.old.me.0.at)
+            (task_of (node_count seat.old.me.0.scope.plan) seat.old.me.0.at) ≡ Some half }
+        requires held { seat.old.me.1 ≡ taken seat.old.me.0.scope seat.old.me.0.at }
+        ensures seat { HasOnlyTold seat.old seat.new }
+        ensures told { TellsAll seat.new.me.0.scope.plan seat.new.me.0.at seat.new.me.0.told }
+        ensures done { seat.new.me.1 ≡ brought seat.new.me.0.scope seat.new.me.0.at }
+    {
+        if rests(&self.table.shared, seat, half) {
+            return;
+        }
+        work_held(&self.table.shared, seat, &self.loading, half);
+        match half.half {
+            Half::Transfer => tell_all(&self.table.shared, seat, &self.loading, half),
+            Half::Gather => (),
+        }
+    }
+
     // Does the work of a posting, on the places that a seat has for it.
     #[tactic(auto, unfolding(dta_model::specs::Units::unit_count))]
     fn do_posting<R: Wait>(&self, rt: &R, seat: &mut PassSeat, number: u64)
         requires table { seat.old.table_id ≡ self.now.table }
+        requires scope { seat.old.me.0.scope ≡ self.now.scope }
+        requires at { number ≡ seat.old.me.0.at }
         requires number { number < unit_count self.now.scope.plan }
         requires kind { kind_at self.now.scope.plan number ≡ UnitKind.Posting }
         requires held { seat.old.me.1 ≡ taken self.now.scope number }
         ensures seat { IsSameSeat seat.old seat.new }
+        ensures told { TellsAll seat.new.me.0.scope.plan seat.new.me.0.at seat.new.me.0.told }
         ensures done { seat.new.me.1 ≡ brought self.now.scope number }
     {
         let step = self.units.step_of(number);
@@ -284,6 +317,7 @@ impl<'a> Floor<'a> {
         requires weight { 1 ≤ seat.old.me.0.weight }
         requires more { suc seat.old.me.0.at < open_end seat.old.me.0.stage }
         requires done { seat.old.me.1 ≡ brought seat.old.me.0.scope seat.old.me.0.at }
+        requires told { TellsAll seat.old.me.0.scope.plan seat.old.me.0.at seat.old.me.0.told }
         ensures table { seat.new.table_id ≡ seat.old.table_id }
         ensures done { seat.new.me ≡ (
           at_next seat.old.me.0,
@@ -302,6 +336,7 @@ impl<'a> Floor<'a> {
         requires last { suc seat.old.me.0.at ≡ open_end seat.old.me.0.stage }
         requires all { many ≡ open_end seat.old.me.0.stage - first_in seat.old.me.0.stage }
         requires done { seat.old.me.1 ≡ brought seat.old.me.0.scope seat.old.me.0.at }
+        requires told { TellsAll seat.old.me.0.scope.plan seat.old.me.0.at seat.old.me.0.told }
         ensures table { seat.new.table_id ≡ seat.old.table_id }
         ensures done { seat.new.me ≡ (done_with seat.old.me.0, []) }
     {
@@ -319,6 +354,7 @@ impl<'a> Floor<'a> {
         requires weight { 1 ≤ seat.old.me.0.weight }
         requires place { IsPlace seat.old.me.0 place.old }
         requires done { seat.old.me.1 ≡ brought seat.old.me.0.scope seat.old.me.0.at }
+        requires told { TellsAll seat.old.me.0.scope.plan seat.old.me.0.at seat.old.me.0.told }
         ensures table { seat.new.table_id ≡ seat.old.table_id }
         ensures next { PerformsNext seat.old.me.0 seat.new.me.0 }
         ensures slots { seat.new.me.1
@@ -356,7 +392,7 @@ impl<'a> Floor<'a> {
         let Some(half) = self.units.half_in(phase, next) else {
             unreachable!()
         };
-        work_held(&self.table.shared, &mut pass.seat, &self.loading, half);
+        self.do_half(&mut pass.seat, half);
         self.go_on(&mut pass.seat, &mut pass.place);
     }
 

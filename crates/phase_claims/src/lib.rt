@@ -27,6 +27,7 @@ mod work_close;
 mod work_counts;
 mod work_links;
 mod work_posting;
+mod work_told;
 mod work_unit;
 
 pub use claim_core::UnitKind;

@@ -65,6 +65,24 @@ impl Play<Part, View> for Finish {
     ghost then = { Finishes };
 }
 
+// A look at a node's word, for a gather: whether somebody comes.
+pub struct See;
+
+impl Play<Part, View> for See {
+    ghost use Rattle.phase_claims.specs.Plays.{Sees};
+
+    ghost then = { Sees };
+}
+
+// The step that tells a node that somebody comes.
+pub struct Tell;
+
+impl Play<Part, View> for Tell {
+    ghost use Rattle.phase_claims.specs.Plays.{Tells};
+
+    ghost then = { Tells };
+}
+
 // A look that tells that a pass has no more rights than there are passes.
 pub struct Bound;
 

@@ -33,6 +33,8 @@ pub struct View {
     pub stage: Hold,
     /// The open unit whose places it has. The open ones before it are worked on, and not finished.
     pub at: u64,
+    /// The nodes that it has told that somebody comes, by the unit that it is at.
+    pub told: LinkedList<u64>,
     /// How many passes may still be split off from it.
     pub spare: u64,
     /// The units that it has performed and finished.

@@ -3,8 +3,6 @@
 ghost use Rattle.atomic_table.specs.Table.{rest, turned};
 ghost use Rattle.phase_claims.specs.PlacesHeld.{HoldsCell, HoldsMail, HoldsNothing, IfMail};
 ghost use Rattle.phase_claims.specs.PlacesHeld.{IsSameSeat};
-ghost use Rattle.cell_stages.specs.declared.mail.Mail.{Mail};
-ghost use Rattle.cell_stages.specs.Contents.{tells};
 ghost use Rattle.cell_stages.specs.CellState.{CellState};
 ghost use Rattle.dta_model.specs.declared.loading.TheConstants.{MOST_HORIZON};
 ghost use Rattle.link_queues.specs.declared.line.TheConstants.{MOST_RIDERS};
@@ -12,13 +10,13 @@ ghost use Rattle.node_transfer.specs.Exchange.{IsKept, is_room};
 ghost use Rattle.node_transfer.specs.Gathered.{grown_by, mail_line, room_told};
 ghost use Rattle.node_transfer.specs.Places.{changed_at, out_mail, with_out_mail};
 ghost use Rattle.node_transfer.specs.Rest.{IsQuiet};
-ghost use Rattle.std.specs.Prelude.{◌≡◌, ◌∷◌, ◌+◌, ◌<◌, ◌≤◌, true, IfSome, IsSome, IsSomeAnd};
+ghost use Rattle.std.specs.Prelude.{◌≡◌, ◌∷◌, ◌+◌, ◌<◌, ◌≤◌, [], false, true, IfSome, IsSome, IsSomeAnd};
 ghost use Rattle.std.specs.Prelude.{length, slice_get};
 
 use crate::noted_cell::NotedCell;
 use crate::part::Part;
 use atomic_table::{Seat, Shared, TableRule};
-use node_transfer::{NodeCell, tells_room};
+use node_transfer::{Mail, NodeCell};
 
 /// Tells an out-link of a cell the room that the mail in the first place tells, which stays there.
 /// The seat turns to the next place.
@@ -100,26 +98,25 @@ pub(crate) fn gather_link<V, K, P: TableRule<Part, V, K>>(
     seat.turn();
 }
 
-/// Whether the mail in the first place that the seat holds tells a room. It stays there, and the
-/// seat turns to the next place.
-pub(crate) fn is_told<V, K, P: TableRule<Part, V, K>>(
+/// Whether somebody comes with the mail in the first place that the seat holds. It stays there, and
+/// the seat turns to the next place.
+pub(crate) fn brings_somebody<V, K, P: TableRule<Part, V, K>>(
     shared: &Shared<Part, V, K, P>,
     seat: &mut Seat<Part, V>,
     slot: usize,
-    room: Option<u32>,
 ) -> bool
     requires table { seat.old.table_id ≡ shared.now.table_id }
     requires held { HoldsMail slot seat.old.me.1 }
     ensures seat { IsSameSeat seat.old seat.new }
-    ensures told { IfMail slot seat.old.me.1 (λ mail. result ≡ tells room mail) }
+    ensures nobody { IfMail slot seat.old.me.1 (λ mail. result ≡ false → mail_line mail ≡ []) }
     ensures held { seat.new.me.1 ≡ turned seat.old.me.1 }
 {
     let Part::Mail(mail) = seat.slot_mut(shared, slot) else {
         unreachable!()
     };
-    let told = tells_room(mail, room);
+    let comes = matches!(mail, Mail::Batch { .. });
     seat.turn();
-    told
+    comes
 }
 
 /// Whether it is known that nobody of the cell in the first place that the seat holds is ready in

@@ -3,15 +3,14 @@ ghost use Rattle.cell_stages.specs.Contents.{IsStep, away, batch_of, cell_after,
 ghost use Rattle.cell_stages.specs.Contents.{room_of};
 ghost use Rattle.dta_model.specs.Lent.{plan_of};
 ghost use Rattle.dta_model.specs.Plans.{ins as ins_of, outs as outs_of};
-ghost use Rattle.node_transfer.specs.Rest.{AreTold};
 ghost use Rattle.phase_claims.specs.PlacesHeld.{IsSameSeat, after_cell, before_cell};
 ghost use Rattle.phase_claims.specs.PlacesHeld.{mail_places};
-ghost use Rattle.std.specs.Prelude.{◌≡◌, ◌∷◌, IfSome, None, suc, true};
+ghost use Rattle.std.specs.Prelude.{◌≡◌, suc};
 
 use crate::part::Part;
-use crate::work::{gather_link, is_told, send_batch, tell_room};
+use crate::work::{gather_link, send_batch, tell_room};
 use atomic_table::{Seat, Shared, TableRule};
-use dta_model::{Loading, Queue};
+use dta_model::Loading;
 use net_core::NodeNo;
 use node_transfer::NodeCell;
 
@@ -71,43 +70,4 @@ pub(crate) fn gather<V, K, P: TableRule<Part, V, K>>(
         let slot = nodes + ins[place].0 as usize;
         gather_link(shared, seat, slot, cell, place, step);
     }
-}
-
-/// Whether the mail of all in-links of a node tells the rooms that these leave after the transfer
-/// of a step. The cell tells them, where queues have a bound; where they have none it isn't looked
-/// at, since it may be far from the processor's cache. The seat holds the mail after another
-/// place, and turns to where it was.
-pub(crate) fn are_told<V, K, P: TableRule<Part, V, K>>(
-    shared: &Shared<Part, V, K, P>,
-    seat: &mut Seat<Part, V>,
-    loading: &Loading,
-    node: NodeNo,
-    step: u32,
-    cell: Option<&NodeCell>,
-) -> bool
-    requires table { seat.old.table_id ≡ shared.now.table_id }
-    requires step { IsStep (plan_of loading.now) node.0 step }
-    requires cell { IfSome cell
-        (λ cell. cell.now ≡ cell_after (plan_of loading.now) node.0 step away away) }
-    requires none { cell ≡ None → loading.now.queue ≡ Queue.Point }
-    requires held { (part : Part) × (seat.old.me.1 ≡ (node.0, part)
-        ∷ mail_places (plan_of loading.now) (batch_of (plan_of loading.now) step)
-        (ins_of (plan_of loading.now) node.0)) }
-    ensures seat { IsSameSeat seat.old seat.new }
-    ensures told { result ≡ true → AreTold (plan_of loading.now) node.0 step }
-    ensures held { seat.new.me.1 ≡ seat.old.me.1 }
-{
-    let nodes = loading.net.node_count() as usize;
-    let ins = loading.net.ins(node);
-    let mut all = true;
-    seat.turn();
-    for place in 0..ins.len() {
-        let room = match cell {
-            None => None,
-            Some(cell) => cell.room(place),
-        };
-        let here = is_told(shared, seat, nodes + ins[place].0 as usize, room);
-        all = all && here;
-    }
-    all
 }

@@ -7,5 +7,5 @@ pub fetch_add-requires : goal.fetch_add-requires
 fetch_add-requires c = (
   c.requires.table ∙ sym (ap (λ (f : FloorState). f.table) c.self.view_is),
   omega (arith, c.self.invariant.words),
-  finishes_allowed _ _ _ _ _ c.requires.open c.requires.weight c.requires.last c.requires.all c.requires.done,
+  finishes_allowed _ _ _ _ _ c.requires.open c.requires.weight c.requires.last c.requires.all c.requires.done c.requires.told,
 )

@@ -1,5 +1,5 @@
 use Rattle.std.proofs.Common.{ap, arith, sym, subst, ◌∙◌}
-use Rattle.claim_core.specs.Phases.{IsPhase, phase_of}
+use Rattle.claim_core.specs.Phases.{IsPhase}
 use Rattle.dta_model.specs.Units.{node_count}
 use Rattle.phase_claims.specs.Passes.{FloorState}
 use Rattle.phase_claims.specs.declared.view.Scope.{Scope}

@@ -1,7 +1,10 @@
-use Rattle.std.proofs.Common.{subst}
-use Rattle.phase_claims.specs.Passes.{PerformsNext}
+use Rattle.std.proofs.Common.{ap, ◌∙◌, subst}
+use Rattle.phase_claims.specs.Passes.{PassState, PerformsNext}
 use Rattle.phase_claims.proofs.Owners.{next_pass}
 use Rattle.phase_claims.proofs.floor.Floor.perform_posting.Goals as goal
+
+pub do_posting-requires-clause-scope : goal.do_posting-requires-clause-scope
+do_posting-requires-clause-scope g c = ap (λ (x : PassState). x.view.scope) c.pass.view_is ∙ c.requires.own.scope
 
 pub invariant_of-pass : goal.invariant_of-pass
 invariant_of-pass g c =

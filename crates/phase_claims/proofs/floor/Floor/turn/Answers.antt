@@ -7,5 +7,5 @@ pub load-requires : goal.load-requires
 load-requires c = (
   c.requires.table ∙ sym (ap (λ (f : FloorState). f.table) c.self.view_is),
   omega (arith, c.self.invariant.words),
-  turns_allowed _ _ _ _ c.requires.open c.requires.weight c.requires.more c.requires.done,
+  turns_allowed _ _ _ _ c.requires.open c.requires.weight c.requires.more c.requires.done c.requires.told,
 )
