@@ -1,6 +1,6 @@
 // The desk over the files of a folder and two streams.
-ghost use Rattle.std.specs.Prelude.{◌≡◌, ◌≢◌, ℕ, List, [], None, Ok, Some, IfOk, IsErr, OnErr, OnOk};
-ghost use Rattle.std.specs.Prelude.{option_copied};
+ghost use Rattle.std.specs.Prelude.{◌≡◌, ◌≢◌, ℕ, List, [], None, Ok, Some, IfOk, IsErr};
+ghost use Rattle.std.specs.Prelude.{OnErr, OnOk, option_copied};
 ghost use Rattle.desk_io.specs.Faults.{HasCause};
 ghost use Rattle.desk_io.specs.State.{PutsSome, ReadsSome};
 ghost use Rattle.file_desk.specs.FileDesk.{AreKept, MakesAtMost, file_state, made_for};

@@ -1,5 +1,6 @@
 // The files of a desk: opened at the first read, made at the first put.
-ghost use Rattle.std.specs.Prelude.{◌≡◌, ◌⊎◌, ◌≢◌, ℕ, List, IsErr, IsNone, IsTrue, None, Some, false};
+ghost use Rattle.std.specs.Prelude.{◌≡◌, ◌⊎◌, ◌≢◌, ℕ, List, IsErr, IsNone, IsTrue};
+ghost use Rattle.std.specs.Prelude.{None, Some, false};
 ghost use Rattle.file_desk.specs.Folders.{Names, SameTables, no_bytes, with_name};
 ghost use Rattle.file_desk.specs.Names.{output_name};
 ghost use Rattle.file_desk.specs.Parts.{AddsPart, ReadsPart};

@@ -11,8 +11,8 @@ use Rattle.node_transfer.specs.Start.{no_journeys}
 use Rattle.phase_claims.specs.declared.view.Scope.{Scope}
 use Rattle.phase_claims.specs.declared.work_told.TheConstants.{FIRST_NODE_WORD}
 
--- its table has a word for each node behind those of all passes, and is for its loading and its board,
--- its units are those of the loading, and no journey has begun
+-- its table has a word for each node behind those of all passes, and is for its loading and its
+-- board, its units are those of the loading, and no journey has begun
 pub record IsFloor (k : Scope) (count parts : ℕ) (p : Plan) (shown : TableId) (own : Units)
     (most : ℕ) (journeys : List Journey) : Type 0 where
   pub words : count ≡ FIRST_NODE_WORD + node_count k.plan

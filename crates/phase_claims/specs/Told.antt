@@ -71,8 +71,8 @@ pub record TellsAll (p : Plan) (c : ℕ) (told : List ℕ) : Type 0 where
       → KeepsRooms p n t
       ⊎ ((suc (stage_before p c n) ≤ 2 * step_of (node_count p) c + 1) × (1 ≤ times n told))
 
--- the nodes to which a node's transfer of step t sends somebody are among these, and the node itself
--- where its rooms may change
+-- the nodes to which a node's transfer of step t sends somebody are among these, and the node
+-- itself where its rooms may change
 pub record AreAmong (p : Plan) (n t : ℕ) (told : List ℕ) : Type 0 where
   pub own : KeepsRooms p n t ⊎ (1 ≤ times n told)
   pub ends : (l : ℕ) → l < length p.net.links → (link_at p l).from.0 ≡ n → batch_mail p l t ≢ []

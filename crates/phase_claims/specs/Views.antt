@@ -141,8 +141,8 @@ holding v a many = record v {
 abbrev pub ended : View → ℕ → View
 ended v many = record v { stage = hold.Ended; past = v.past + many }
 
--- it has looked: where so many are finished it has those of its units open that are of the phase of the first
--- one, and is at the first
+-- it has looked: where so many are finished it has those of its units open that are of the phase of
+-- the first one, and is at the first
 abbrev pub with_open : ℕ → Hold → Hold
 with_open n s =
     hold.Open (first_in s) (min (held_end s) (phase_end n (first_in s))) (held_end s)

@@ -10,7 +10,8 @@ ghost use Rattle.node_transfer.specs.Exchange.{IsKept, is_room};
 ghost use Rattle.node_transfer.specs.Gathered.{grown_by, mail_line, room_told};
 ghost use Rattle.node_transfer.specs.Places.{changed_at, out_mail, with_out_mail};
 ghost use Rattle.node_transfer.specs.Rest.{IsQuiet};
-ghost use Rattle.std.specs.Prelude.{◌≡◌, ◌∷◌, ◌+◌, ◌<◌, ◌≤◌, [], false, true, IfSome, IsSome, IsSomeAnd};
+ghost use Rattle.std.specs.Prelude.{◌≡◌, ◌∷◌, ◌+◌, ◌<◌, ◌≤◌, [], false, true};
+ghost use Rattle.std.specs.Prelude.{IfSome, IsSome, IsSomeAnd};
 ghost use Rattle.std.specs.Prelude.{length, slice_get};
 
 use crate::noted_cell::NotedCell;

@@ -1,5 +1,6 @@
-// A transfer tells those nodes to which it sends somebody, by a word for each node; where queues have
-// a bound, it tells its own node too. So an idle gather looks at one word, and not at its in-links.
+// A transfer tells those nodes to which it sends somebody, by a word for each node. Where queues
+// have a bound, it tells its own node too. So an idle gather looks at one word, and not at its
+// in-links.
 ghost use Rattle.atomic_table.specs.Table.{turned};
 ghost use Rattle.cell_stages.specs.Contents.{away};
 ghost use Rattle.claim_core.specs.Kinds.{half_by};
@@ -7,10 +8,12 @@ ghost use Rattle.claim_core.specs.Sums.{times};
 ghost use Rattle.dta_model.specs.Lent.{plan_of};
 ghost use Rattle.dta_model.specs.Units.{node_count, step_of, task_of};
 ghost use Rattle.node_transfer.specs.Gathered.{mail_line};
-ghost use Rattle.node_transfer.specs.Halves.{IsHalf, leaving_cell, left_mail, links_of, taken_mail, taking_cell};
+ghost use Rattle.node_transfer.specs.Halves.{IsHalf, leaving_cell, left_mail, links_of};
+ghost use Rattle.node_transfer.specs.Halves.{taken_mail, taking_cell};
 ghost use Rattle.phase_claims.specs.Noted.{Rests};
 ghost use Rattle.phase_claims.specs.Passes.{IsOpen};
-ghost use Rattle.phase_claims.specs.PlacesHeld.{HoldsCell, HoldsMail, IfMail, IsSameSeat, node_places};
+ghost use Rattle.phase_claims.specs.PlacesHeld.{HoldsCell, HoldsMail, IfMail, IsSameSeat};
+ghost use Rattle.phase_claims.specs.PlacesHeld.{node_places};
 ghost use Rattle.phase_claims.specs.Scopes.{scope_of};
 ghost use Rattle.phase_claims.specs.Told.{AreAmong, HasOnlyTold, KeepsRooms};
 ghost use Rattle.std.specs.Prelude.{◌≡◌, ◌≢◌, ◌⊎◌, ◌+◌, ◌*◌, ◌≤◌, ◌<◌, [], Some, true};
