@@ -123,31 +123,47 @@ refused_tables() {
     ends 7 'Choose a shorter --horizon' demo 60 --horizon 86400
 }
 
-# Whether a process ends within two seconds.
+# Whether a process ends within half a minute.
 is_gone() {
-    for _ in 1 2 3 4 5 6 7 8 9 10; do
+    for _ in $(seq 150); do
         [ -e "/proc/$1/cmdline" ] || return 0
         sleep 0.2
     done
     return 1
 }
 
+# The command that has a lock of this folder.
+holder() {
+    process=$(awk -v end=":$(stat -c %i .)" '
+        $2 == "FLOCK" && substr($6, length($6) - length(end) + 1) == end { print $5; exit }
+        ' /proc/locks)
+    [ -z "$process" ] || tr '\0' ' ' <"/proc/$process/cmdline"
+}
+
+# Waits, for half a minute at most, until a command that begins so has a lock of this folder.
+wait_for() {
+    for _ in $(seq 150); do
+        case $(holder) in "$1"*) return ;; esac
+        sleep 0.2
+    done
+}
+
 # Two runs of one folder, and files under two names.
 refused_runs() {
-    flock -s . sleep 9 &
-    sleep 0.2
+    flock -F -s . sleep 600 &
+    wait_for sleep
     run demo 2 --horizon 1
     wanted=0 text=
     case_of 'a demonstration writes no file' is_said
     run freeflow
     wanted=9 text="Somebody has locked this folder, and it isn't a run of dta"
     case_of "a lock of somebody else: $(cat "$folder/said")" is_said
-    text="of $(id -un): flock -s . sleep 9"
+    text="of $(id -un): sleep 600"
     case_of "who has the lock: $(cat "$folder/said")" is_said
     kill $!
     new_folder
     "$script" assign --horizon 86400 --iterations 1000 >/dev/null 2>&1 &
-    sleep 0.5
+    wait_for "$program"
     run freeflow
     text='of '$(id -un)': dta assign --horizon 86400 --iterations 1000' wanted=9
     case_of "who has the folder: $(cat "$folder/said")" is_said
@@ -422,22 +438,30 @@ unkept_outputs() {
     new_folder
 }
 
-# Sentences of a run on a terminal, which takes two seconds; the files are those of a run without
-# one.
+# Runs the script on a terminal, in the folder `terminal`, for so many iterations.
+run_on_a_terminal() {
+    (cd terminal && script -qec "$shell '$script' assign --iterations $1 --horizon 01200 >report" \
+        /dev/null) >"$folder/said"
+}
+
+# Whether the run of so many iterations said what is left.
+told_what_is_left() {
+    grep -Eq "dta: iteration [0-9]+ of $1, [0-9]+ % arrived, (less than|about) .* left" \
+        "$folder/said"
+}
+
+# Sentences of a run on a terminal; the files are those of a run without one. A run that is over in
+# a second or two may not say what is left, so one of twice as many iterations comes after it.
 told_on_a_terminal() {
     printf 'o_zone_id,d_zone_id,volume\n1,3,3000\n' >demand.csv
     mkdir terminal && cp ./*.csv terminal || exit 2
-    began=$(date +%s%N)
-    "$program" assign --iterations 50 --horizon 01200 >"$folder/report"
-    iterations=$((50 * 2000000000 / ($(date +%s%N) - began)))
-    [ "$iterations" -lt 1000 ] || iterations=1000
-    set -- assign --iterations "$iterations" --horizon 01200
-    "$program" "$@" >"$folder/report"
+    for iterations in 125 250 500 1000; do
+        run_on_a_terminal "$iterations"
+        if told_what_is_left "$iterations"; then break; fi
+    done
+    case_of 'a line of a long run' told_what_is_left "$iterations"
+    "$program" assign --iterations "$iterations" --horizon 01200 >"$folder/report"
     cd terminal || exit 2
-    script -qec "$shell '$script' $* >report" /dev/null >"$folder/said"
-    case_of 'a line of a long run' grep -Eq \
-        "dta: iteration [0-9]+ of $iterations, [0-9]+ % arrived, less than a minute left" \
-        "$folder/said"
     case_of 'nothing but sentences' [ -z "$(grep -v '^dta: iteration' "$folder/said")" ]
     for file in agent.csv link_performance.csv gap.csv; do
         case_of "$file of a told run" cmp -s "$file" "../$file"

@@ -38,7 +38,7 @@ fn refusal_status(refusal: Refusal) -> Status
 
 /// Puts the line of a refusal to Report, and answers the refusal's status, also where the put
 /// fails. It takes no memory.
-pub fn refuse<D: Desk>(desk: &mut D, refusal: Refusal) -> Status
+pub(crate) fn refuse<D: Desk>(desk: &mut D, refusal: Refusal) -> Status
     ensures { Refuses refusal (D.state desk.old) (D.state desk.new) result }
 {
     let _ = put_refusal(desk, &refusal);
@@ -46,7 +46,7 @@ pub fn refuse<D: Desk>(desk: &mut D, refusal: Refusal) -> Status
 }
 
 /// Checks the tables, and does the given work over their job.
-pub fn accept_and_work<D: Desk, G: Gate, F>(
+pub(crate) fn accept_and_work<D: Desk, G: Gate, F>(
     alloc: Global,
     settings: &Settings,
     gate: &mut G,

@@ -64,6 +64,16 @@ module _ {F R W O M : Type 0} where
   slot_of Start d = d.start
   slot_of Times d = d.times
 
+  -- the file that was made for an output: Report and Watch have none
+  abbrev pub made_for : Output → FileDesk F R W O M → Option M
+  made_for Agent d = d.agent
+  made_for LinkTime d = d.link_time
+  made_for Gap d = d.gap
+  made_for Skim d = d.skim
+  made_for Counts d = d.counts
+  made_for Sweep d = d.sweep
+  made_for _ d = None
+
   -- all that was put to files is on the disk
   pub record AreKept (holds kept : M → List ℕ → Option (List ℕ)) (d : FileDesk F R W O M)
       : Type 0 where

@@ -1,8 +1,10 @@
 // The desk over the files of a folder and two streams.
 ghost use Rattle.std.specs.Prelude.{◌≡◌, ◌≢◌, ℕ, List, [], None, Ok, Some, IfOk, IsErr, OnErr, OnOk};
+ghost use Rattle.std.specs.Prelude.{option_copied};
 ghost use Rattle.desk_io.specs.Faults.{HasCause};
 ghost use Rattle.desk_io.specs.State.{PutsSome, ReadsSome};
-ghost use Rattle.file_desk.specs.FileDesk.{AreKept, MakesAtMost, file_state, new_desk, slot_of};
+ghost use Rattle.file_desk.specs.FileDesk.{AreKept, MakesAtMost, file_state, made_for};
+ghost use Rattle.file_desk.specs.FileDesk.{new_desk, slot_of};
 ghost use Rattle.file_desk.specs.Names.{output_name, table_file};
 ghost use Rattle.file_desk.specs.declared.slots.TableFile.TheVariants as file;
 
@@ -74,6 +76,28 @@ impl<F: Folder, R, W> FileDesk<F, R, W> {
             read_faults: 0,
             put_faults: 0,
         }
+    }
+
+    /// The file that was made for an output, lent. Report and Watch have none.
+    pub fn made(&self, output: Output) -> Option<&F::Made>
+        ensures { option_copied result ≡ made_for output self.now }
+    {
+        match output {
+            Output::Agent => self.agent.as_ref(),
+            Output::LinkTime => self.link_time.as_ref(),
+            Output::Gap => self.gap.as_ref(),
+            Output::Skim => self.skim.as_ref(),
+            Output::Counts => self.counts.as_ref(),
+            Output::Sweep => self.sweep.as_ref(),
+            Output::Report | Output::Watch => None,
+        }
+    }
+
+    /// The stream of Report, lent.
+    pub fn report(&self) -> &R
+        ensures { result.now ≡ self.now.report }
+    {
+        &self.report
     }
 }
 

@@ -45,6 +45,15 @@ impl MemFolder {
     }
 }
 
+impl MemMade {
+    /// The bytes that it holds.
+    pub fn bytes(&self) -> &[u8]
+        ensures { result.now ≡ self.now.bytes.items }
+    {
+        &self.bytes
+    }
+}
+
 impl Folder for MemFolder {
     type Opened = MemOpened;
 

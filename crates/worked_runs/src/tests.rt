@@ -6,6 +6,7 @@
 // `has_taken` tell nothing, and what is done in a turn of a loop is a function of its own.
 mod desks;
 mod faults;
+mod files;
 mod gates;
 mod held;
 mod limits;
