@@ -65,7 +65,8 @@ fn run_settings<R: AllocGlobal + Threads + Wait + Sync, D: Desk + Send, G: Gate 
     ensures reads { (D.state desk.old).read_faults ≤ (D.state desk.new).read_faults }
     ensures puts { (D.state desk.old).put_faults ≤ (D.state desk.new).put_faults }
 {
-    if !takes_workers(settings) {
+    let alone = !takes_workers(settings);
+    if alone {
         return run_without_workers(rt, settings, desk);
     }
     accept_and_work(
