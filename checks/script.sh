@@ -445,7 +445,7 @@ told_on_a_terminal() {
     cd terminal || exit 2
     script -qec "$shell '$script' $* >report" /dev/null >"$folder/said"
     case_of 'a line of a long run' grep -Eq \
-        "dta: iteration [0-9]+ of $iterations, [0-9]+ % arrived, less than a minute left" \
+        "dta: iteration [0-9]+ of $iterations, [0-9]+ % arrived, [a-z0-9 ]+ left" \
         "$folder/said"
     case_of 'nothing but sentences' [ -z "$(grep -v '^dta: iteration' "$folder/said")" ]
     for file in agent.csv link_performance.csv gap.csv; do
