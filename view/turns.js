@@ -153,8 +153,8 @@ class Turns {
         }
         const {status, linkStart, links, count} = run.agents;
         for (let agent = 0; agent < count; agent += 1) {
-            const first = links[linkStart[agent]];
-            if (status[agent] === 2 && this.closedLinks.has(first)) counts.link += 1;
+            const isWaiting = status[agent] === 2;
+            if (isWaiting && this.closedLinks.has(links[linkStart[agent]])) counts.link += 1;
         }
         return counts;
     }
