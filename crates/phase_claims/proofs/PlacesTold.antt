@@ -1,5 +1,5 @@
 -- A half of a node's step, on the places that a seat has for it: what it takes, brings and tells.
-use Rattle.std.proofs.Common.{◌≡◌, ℕ, ◌<◌, ◌⊎◌, List, refl, sym, ap, ◌∙◌, subst, Some}
+use Rattle.std.proofs.Common.{◌≡◌, ℕ, ◌+◌, ◌<◌, ◌⊎◌, List, refl, sym, ap, ◌∙◌, subst, arith, Some}
 use Rattle.dta_model.specs.Sound.{IsSound}
 use Rattle.dta_model.specs.Units.{node_count, step_of, task_of, unit_count}
 use Rattle.dta_model.specs.declared.plan.Plan.{Plan}
@@ -12,7 +12,9 @@ use Rattle.claim_core.specs.Kinds.{half_by}
 use Rattle.claim_core.proofs.Working.{half_node, half_step}
 use Rattle.phase_claims.specs.Noted.{Rests}
 use Rattle.phase_claims.specs.declared.part.Part.{Part}
+use Rattle.phase_claims.specs.declared.view.Scope.{Scope}
 use Rattle.phase_claims.specs.declared.view.View.{View}
+use Rattle.phase_claims.specs.declared.work_told.TheConstants.{FIRST_NODE_WORD}
 use Rattle.phase_claims.specs.PlacesHeld.{node_places}
 use Rattle.phase_claims.specs.PlacesHome.{brought, taken}
 use Rattle.phase_claims.specs.Told.{AreAmong, TellsAll}
@@ -20,10 +22,23 @@ use Rattle.phase_claims.proofs.PlacesRound.{places_stay}
 use Rattle.phase_claims.proofs.PlacesUnit.{half_brought, half_carried}
 use Rattle.phase_claims.proofs.Told.{half_tells, step_is}
 
-module _ (v : View) (q : Plan) (sound : IsSound v.scope.plan) (few : v.at < unit_count v.scope.plan) (same : q ≡ v.scope.plan)
+-- q is the plan that the code has, k the scope that the table was told, and k' that of the floor
+module _ (k k' : Scope) (v : View) (q : Plan) (own : k ≡ k') (scope : v.scope ≡ k') (plan : q ≡ k.plan) (sound_here : IsSound k.plan) (few : v.at < unit_count v.scope.plan)
     (h : HalfStep) (is_half : half_by (step_of (node_count v.scope.plan) v.at) (task_of (node_count v.scope.plan) v.at) ≡ Some h) where
-  pub node_there : h.node.0 < node_count v.scope.plan
+  here : k ≡ v.scope
+  here = own ∙ sym scope
+
+  pub same : q ≡ v.scope.plan
+  same = plan ∙ ap (λ (j : Scope). j.plan) here
+
+  sound : IsSound v.scope.plan
+  sound = subst (λ (j : Scope). IsSound j.plan) here sound_here
+
+  node_there : h.node.0 < node_count v.scope.plan
   node_there = (half_node v.scope.plan sound v.at (node_count v.scope.plan) few refl h is_half).node
+
+  pub node_inside : (words : ℕ) → words ≡ FIRST_NODE_WORD + node_count k.plan → FIRST_NODE_WORD + h.node.0 < words
+  node_inside words are = let nodes = ap (λ (j : Scope). node_count j.plan) here in omega (arith, are, node_there, nodes)
 
   pub half_may : IsHalf v.scope.plan h
   half_may = half_step v.scope.plan sound v.at (node_count v.scope.plan) few refl h is_half
