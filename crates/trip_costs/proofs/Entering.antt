@@ -1,6 +1,6 @@
 -- Entries of first links by the numbers of a table.
-use Rattle.std.specs.Prelude.{max, min, slice_index}
-use Rattle.std.proofs.Common.{◌≡◌, ◌⊎◌, inl, inr, ℕ, zero, suc, ◌+◌, ◌-◌, ◌*◌, ◌/◌, ◌<◌, ◌≤◌, cond, List, length, refl, arith, ap, sym, ◌∙◌, subst, get_or}
+use Rattle.std.specs.Prelude.{max, min}
+use Rattle.std.proofs.Common.{◌≡◌, ◌⊎◌, inl, inr, ℕ, zero, suc, ◌+◌, ◌-◌, ◌*◌, ◌/◌, ◌<◌, ◌≤◌, cond, List, length, refl, arith, ap, sym, ◌∙◌, get_or}
 use Rattle.std.proofs.lemmas.Bool.{cases_lt}
 use Rattle.std.proofs.lemmas.List.{get_or_past}
 use Rattle.std.proofs.Math.Nat.{div-eq_of_lt-le, lt-div-mul-add}
@@ -13,7 +13,7 @@ use Rattle.trip_costs.specs.Latest.{latest_before}
 use Rattle.trip_costs.specs.OriginWaits.{WaitTable, wait_at}
 use Rattle.trip_costs.specs.TripCosts.{after_wait, enter_step}
 use Rattle.trip_costs.proofs.Agreeing.{entries_then, no_wait_then}
-use Rattle.trip_costs.proofs.Buckets.{begins_early, bucket_begins, greatest_in, latest_next}
+use Rattle.trip_costs.proofs.Buckets.{begins_early, greatest_in, latest_next}
 use Rattle.trip_costs.proofs.Rising.{greatest_is, greatest_most}
 
 -- a wait rises no entry within a bucket

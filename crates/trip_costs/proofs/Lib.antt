@@ -5,3 +5,4 @@ pub mod Agreeing
 pub mod Buckets
 pub mod Waits
 pub mod Entering
+pub mod Walks

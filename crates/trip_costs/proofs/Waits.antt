@@ -1,6 +1,6 @@
 -- Waits at origins, one vehicle more.
 use Rattle.std.specs.Prelude.{All, ◌≢◌, IfSome, slice_get, slice_set, sum_by, filter, nat_eq, option_map}
-use Rattle.std.proofs.Common.{◌≡◌, ◌⊎◌, inl, inr, ℕ, ◌+◌, ◌*◌, ◌/◌, ◌<◌, ◌≤◌, Bool, true, false, cond, ◌&&◌, List, [], ◌∷◌, ◌++◌, length, refl, arith, ap, sym, ◌∙◌, subst, get_or, Option, None, Some}
+use Rattle.std.proofs.Common.{◌≡◌, ◌⊎◌, inl, inr, ℕ, ◌+◌, ◌*◌, ◌/◌, ◌<◌, ◌≤◌, Bool, true, false, cond, ◌&&◌, List, [], ◌∷◌, length, refl, arith, ap, sym, ◌∙◌, subst, get_or, Option, None, Some}
 use Rattle.std.proofs.Math.Dec.{eqb}
 use Rattle.std.proofs.lemmas.Bool.{eq-eqb}
 use Rattle.std.proofs.lemmas.Bool.Decides.{eqb_tells}
@@ -22,7 +22,7 @@ use Rattle.dta_model.specs.declared.plan.Plan.{Plan}
 use Rattle.link_times.proofs.Places.{bucket_inside, by_bucket-is, place_inside, place_tells}
 use Rattle.link_times.proofs.Totals.{zero_at}
 use Rattle.trip_costs.specs.OriginWaits.{WaitTable, belongs, first_entry, is_first, mean_wait, origin_wait, steps_to_entry, waits_in, who_belong}
-use Rattle.trip_costs.specs.WaitSums.{AreMeanWaits, AreShortWaits, AreWaitSums, first_who_belong, longest_wait}
+use Rattle.trip_costs.specs.WaitSums.{AreMeanWaits, AreWaitSums, first_who_belong, longest_wait}
 
 -- a number that grows at one place
 grown_at : (xs : List ℕ) (place x q : ℕ) → q ≡ place → place < length xs → get_or (slice_set xs place (get_or xs place 0 + x)) q 0 ≡ get_or xs q 0 + x

@@ -1,6 +1,8 @@
 -- The latest exits of those who enter before a bucket.
-use Rattle.std.specs.Prelude.{ℕ, zero, suc, ◌-◌, ◌*◌, List, length}
+use Rattle.std.specs.Prelude.{ℕ, zero, suc, ◌-◌, ◌*◌, ◌≤◌, List, length}
 use Rattle.dta_model.specs.LinkTimes.{TimeTable, bucket_count}
+use Rattle.dta_model.specs.declared.loading.TheConstants.{MOST_HORIZON}
+use Rattle.link_times.specs.TimeTables.{IsShort}
 use Rattle.trip_costs.specs.Greatest.{greatest_to}
 use Rattle.trip_costs.specs.Numbers.{AreNumbers}
 use Rattle.trip_costs.specs.TripCosts.{after_time}
@@ -19,6 +21,9 @@ latest_exit t l b = latest_before (after_time t l) t.bucket b
 abbrev pub AreLatestExits : TimeTable → ℕ → List ℕ → Type 0
 AreLatestExits t count latest = AreNumbers (latest_exit t) (bucket_count t) count latest
 
--- those of all links
-abbrev pub IsOfTimes : Inside → Type 0
-IsOfTimes e = AreLatestExits e.times (length e.times.free * bucket_count e.times) e.latest.items
+-- those of all links, over a table of short times
+pub record IsOfTimes (e : Inside) : Type 0 where
+  pub latest :
+      AreLatestExits e.times (length e.times.free * bucket_count e.times) e.latest.items
+  pub short : IsShort e.times
+  pub horizon : e.times.horizon ≤ MOST_HORIZON

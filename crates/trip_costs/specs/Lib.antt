@@ -7,6 +7,7 @@ pub mod TripWalks
 pub mod Numbers
 pub mod Latest
 pub mod Entries
+pub mod Costs
 pub mod Changes
 pub mod Laws
 pub mod Examples

@@ -37,9 +37,13 @@ pub record TravelCosts : Type 0 where
 abbrev pub by_links : (ℕ → ℕ → ℕ) → TravelCosts
 by_links at = record { enter = λ l step. step; at = at }
 
+-- the steps that a link takes by trips who enters it in a step
+abbrev pub steps_by_trips : TimeTable → ℕ → ℕ → ℕ
+steps_by_trips t l step = exit_step t l step - step
+
 -- costs of whole trips, over a table of link times and one of waits
 abbrev pub by_trips : TimeTable → WaitTable → TravelCosts
-by_trips t w = record { enter = enter_step w; at = λ l step. exit_step t l step - step }
+by_trips t w = record { enter = enter_step w; at = steps_by_trips t }
 
 -- the step in which the first link of a walk is entered
 abbrev pub begin_step : TravelCosts → ℕ → List ℕ → ℕ

@@ -105,7 +105,8 @@ impl Entries {
     /// The step in which who departs in a step for a link enters it. Who departs later never
     /// enters earlier. It takes two look-ups, side by side.
     pub fn enter(&self, link: LinkNo, step: u64) -> u64
-        ensures { result ≡ entry_at self.now link.0 step }
+        ensures step { result ≡ entry_at self.now link.0 step }
+        ensures later { step ≤ result }
     {
         if step < u64::from(self.horizon) {
             let bucket = step as u32 / self.bucket;
@@ -113,7 +114,9 @@ impl Entries {
             let number = number_at(&self.numbers, self.buckets, link, bucket);
             let before = number_before(&self.numbers, self.buckets, link, bucket);
             let own = (step + u64::from(number)).saturating_sub(u64::from(last));
-            own.max(u64::from(before)).min(u64::from(self.horizon)).max(step)
+            own.max(u64::from(before))
+                .min(u64::from(self.horizon))
+                .max(step)
         } else {
             step
         }

@@ -98,7 +98,9 @@ impl Exits {
     pub fn exit(&self, link: LinkNo, step: u64) -> u64
         requires link { link.0 < length self.now.free }
         requires step { step < 2 ^ 62 }
-        ensures { result ≡ exit_step self.now link.0 step }
+        ensures step { result ≡ exit_step self.now link.0 step }
+        ensures later { step < result }
+        ensures soon { result ≤ step + MOST_HORIZON }
     {
         let own = own_exit(&self.times, link, step);
         if step < self.times.horizon() as u64 {

@@ -4,20 +4,26 @@
 //! A walk's time over link times leaves two things out: the wait at the origin for a full first
 //! link, and that nobody passes on a link, though a mean time falls from one bucket to the next. By
 //! costs of trips both count (specs/TripCosts.antt). The crate has the laws of these definitions:
-//! who starts later never arrives earlier, and no chosen walk has a link twice. [`Exits`] tells when
-//! a link is left, by one number of 32 bits for each link and bucket beside the link times. No
-//! program uses them yet.
+//! who starts later never arrives earlier, and no chosen walk has a link twice.
+//!
+//! [`OriginWaits::of`] goes once over the journeys of a loading, and adds each wait to its first link
+//! and bucket. [`Entries`] tells when a first link is entered, and [`Exits`] when a link is left, each
+//! by one number of 32 bits for each link and bucket, beside the link times. [`TripCosts`] has both,
+//! and times walks by them. No program uses them yet.
 #![tactic(auto)]
 
 mod adding;
 mod changes;
+mod costs;
 mod entries;
 mod exits;
 mod laws;
 mod origin_waits;
 mod places;
+mod walked;
 
 pub use changes::{PER_ITERATION, PER_VEHICLE, PRIME, changes_after};
+pub use costs::TripCosts;
 pub use entries::Entries;
 pub use exits::Exits;
 pub use laws::{

@@ -75,7 +75,8 @@ impl OriginWaits {
         requires bucket { 1 ≤ bucket }
         ensures table { IfOk result (λ waits. waits ≡ waits_of (plan_of loading.now) bucket) }
         ensures size { IfOk result (λ waits. length waits.waits
-            ≡ length loading.now.net.now.links * buckets_to bucket loading.now.horizon) }
+            ≡ length loading.now.net.now.links * buckets_to waits.bucket waits.horizon) }
+        ensures horizon { IfOk result (λ waits. waits.horizon ≡ loading.now.horizon) }
     {
         let buckets = loading.horizon.div_ceil(bucket);
         let WaitSums { sums, departed } = wait_sums(alloc, loading, loaded, bucket, buckets)?;

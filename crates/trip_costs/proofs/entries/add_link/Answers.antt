@@ -25,8 +25,8 @@ loop-bucket-preserved c =
     let next : suc c.loop-bucket.bucket ≡ c.loop-bucket.bucket + 1 = omega arith in (
       subst (λ n. AreEntryNumbers c.args.waits.now n c.push.new.self.items) (omega arith) more,
       λ h. (let early = begins_early w.bucket w.horizon (b + 1) some h in
-      let cut = number_cut w c.args.link.0 b some (subst (λ n. n * c.args.waits.now.bucket ≤ c.args.waits.now.horizon) (sym next) (omega (arith, early))) in
-      let number = c.number_of-number.ensures in
-      let is : c.min-before.result ≡ entry_before c.args.waits.now c.args.link.0 (suc c.loop-bucket.bucket) = omega (arith, cut, number, c.horizon.ensures.is, c.min-before.ensures) in
-      is ∙ ap (λ n. entry_before c.args.waits.now c.args.link.0 n) next),
+          let cut = number_cut w c.args.link.0 b some (subst (λ n. n * c.args.waits.now.bucket ≤ c.args.waits.now.horizon) (sym next) (omega (arith, early))) in
+          let number = c.number_of-number.ensures in
+          let is : c.min-before.result ≡ entry_before c.args.waits.now c.args.link.0 (suc c.loop-bucket.bucket) = omega (arith, cut, number, c.horizon.ensures.is, c.min-before.ensures) in
+          is ∙ ap (λ n. entry_before c.args.waits.now c.args.link.0 n) next),
     )

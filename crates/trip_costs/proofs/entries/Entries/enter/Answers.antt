@@ -4,8 +4,8 @@ use Rattle.trip_costs.specs.Entries.{EntryTable, entry_at, number_at, number_bef
 use Rattle.trip_costs.proofs.Entering.{among_told, entry_early, entry_late}
 use Rattle.trip_costs.proofs.entries.Entries.enter.Goals as goal
 
-pub returns-then-step-from : goal.returns-then-step-from
-returns-then-step-from c =
+pub returns-then-step-from-clause-step : goal.returns-then-step-from-clause-step
+returns-then-step-from-clause-step c =
     let e : EntryTable = record { bucket = c.self.inside.bucket; horizon = c.self.inside.horizon; numbers = c.self.inside.numbers.items } in
     let early : c.args.step < c.self.inside.horizon = omega (arith, c.if-step-from.true, c.from.ensures) in
     let number : c.number_at-number.result ≡ number_at c.self.inside.numbers.items (numbers_to e) c.args.link.0 (c.args.step / c.self.inside.bucket) =
@@ -18,8 +18,8 @@ returns-then-step-from c =
     ∙ sym (entry_early e c.args.link.0 c.args.step early)
     ∙ ap (λ t. entry_at t c.args.link.0 c.args.step) c.self.view_is
 
-pub returns-else-step-from : goal.returns-else-step-from
-returns-else-step-from c =
+pub returns-else-step-from-clause-step : goal.returns-else-step-from-clause-step
+returns-else-step-from-clause-step c =
     let e : EntryTable = record { bucket = c.self.inside.bucket; horizon = c.self.inside.horizon; numbers = c.self.inside.numbers.items } in
     let late : c.self.inside.horizon ≤ c.args.step = omega (arith, c.if-step-from.false, c.from.ensures) in
     sym (entry_late e c.args.link.0 c.args.step late) ∙ ap (λ t. entry_at t c.args.link.0 c.args.step) c.self.view_is

@@ -1,4 +1,4 @@
-use Rattle.std.proofs.Common.{◌≡◌, ◌≤◌, ◌∙◌, length, ap, sym, subst}
+use Rattle.std.proofs.Common.{◌≤◌, ◌∙◌, length, ap, sym, subst}
 use Rattle.dta_model.specs.Lent.{plan_of}
 use Rattle.dta_model.proofs.Ends.{journeys_many}
 use Rattle.trip_costs.specs.OriginWaits.{waits_in}
