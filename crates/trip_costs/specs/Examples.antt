@@ -12,7 +12,9 @@ use Rattle.dta_model.specs.TimedWalks.{arrival_after}
 use Rattle.dta_model.specs.declared.plan.Plan.{Plan}
 use Rattle.dta_model.specs.declared.queue.Queue.TheVariants as queue
 use Rattle.trip_costs.specs.Changes.{changes_after}
+use Rattle.trip_costs.specs.Entries.{entry_at, entry_before, entry_number}
 use Rattle.trip_costs.specs.Greatest.{greatest_to}
+use Rattle.trip_costs.specs.Latest.{latest_before}
 use Rattle.trip_costs.specs.OriginWaits.{WaitTable, mean_wait, origin_wait, wait_at, waits_in}
 use Rattle.trip_costs.specs.OriginWaits.{waits_of, who_belong}
 use Rattle.trip_costs.specs.TripCosts.{by_links, by_trips, enter_step, exit_step, time_by}
@@ -88,6 +90,18 @@ falling_wait : map (enter_step (record some_waits { waits = 6 ∷ 0 ∷ 0 ∷ []
     (4 ∷ 5 ∷ 9 ∷ 10 ∷ 11 ∷ []) ≡ 10 ∷ 10 ∷ 10 ∷ 10 ∷ 11 ∷ []
 unfolding enter_step greatest_to wait_at
 falling_wait = refl
+
+-- the numbers of these waits, and the entries that they tell
+entry_numbers : map (entry_number some_waits 0) (0 ∷ 1 ∷ 2 ∷ []) ≡ 8 ∷ 15 ∷ 15 ∷ []
+unfolding entry_number entry_before latest_before greatest_to wait_at
+entry_numbers = refl
+
+entries_by_numbers :
+    map (entry_at (record { bucket = 5; horizon = 13; numbers = 8 ∷ 15 ∷ 15 ∷ [] }) 0)
+    (0 ∷ 4 ∷ 5 ∷ 6 ∷ 7 ∷ 9 ∷ 10 ∷ 12 ∷ 13 ∷ 14 ∷ [])
+    ≡ 4 ∷ 8 ∷ 11 ∷ 12 ∷ 13 ∷ 13 ∷ 13 ∷ 13 ∷ 13 ∷ 14 ∷ []
+unfolding entry_at
+entries_by_numbers = refl
 
 -- ---- link times that rise and fall
 abbrev pub rise_and_fall : TimeTable
