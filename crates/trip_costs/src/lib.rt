@@ -6,10 +6,10 @@
 //! costs of trips both count (specs/TripCosts.antt). The crate has the laws of these definitions:
 //! who starts later never arrives earlier, and no chosen walk has a link twice.
 //!
-//! [`OriginWaits::of`] goes once over the journeys of a loading, and adds each wait to its first link
-//! and bucket. [`Entries`] tells when a first link is entered, and [`Exits`] when a link is left, each
-//! by one number of 32 bits for each link and bucket, beside the link times. [`TripCosts`] has both,
-//! and times walks by them. No program uses them yet.
+//! [`OriginWaits::of`] goes once over the journeys of a loading, and adds each wait to its first
+//! link and bucket. [`Entries`] tells when a first link is entered, and [`Exits`] when a link is
+//! left, each by one number of 32 bits for each link and bucket, beside the link times.
+//! [`TripCosts`] has both, and times walks by them. No program uses them yet.
 #![tactic(auto)]
 
 mod adding;
