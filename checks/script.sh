@@ -431,14 +431,14 @@ unkept_outputs() {
     new_folder
 }
 
-# Sentences of a run on a terminal, which takes two seconds; the files are those of a run without
-# one.
+# Sentences of a run on a terminal, which takes some four seconds; the files are those of a run
+# without one.
 told_on_a_terminal() {
     printf 'o_zone_id,d_zone_id,volume\n1,3,3000\n' >demand.csv
     mkdir terminal && cp ./*.csv terminal || exit 2
     began=$(date +%s%N)
     "$program" assign --iterations 50 --horizon 01200 >"$folder/report"
-    iterations=$((50 * 2000000000 / ($(date +%s%N) - began)))
+    iterations=$((50 * 4000000000 / ($(date +%s%N) - began)))
     [ "$iterations" -lt 1000 ] || iterations=1000
     set -- assign --iterations "$iterations" --horizon 01200
     "$program" "$@" >"$folder/report"
