@@ -36,7 +36,7 @@ use Rattle.traffic_laws.specs.FreeFlow.{MovesOnceInAStep}
 abbrev pub steps_in : Journey → List ℕ
 steps_in j = j.entries ++ option_to_list j.arrival
 
-steps_are : (p : Plan) (v : ℕ)
+pub steps_are : (p : Plan) (v : ℕ)
     → map (λ m. m.step) (moves_of v (trace_after p p.horizon)) ≡ steps_in (journey_of p v)
 unfolding journey_of entries_of arrival_of
 steps_are p v =

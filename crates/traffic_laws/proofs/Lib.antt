@@ -19,3 +19,6 @@ pub mod Skimming
 pub mod BucketLists
 pub mod InRange
 pub mod ReadBack
+pub mod Joined
+pub mod AgentLines
+pub mod RoutesBack

@@ -96,7 +96,7 @@ unfolding link_of
 link-read links bucket horizon b link h has =
     rw (identifier-read column.LinkId link.id h, has, eq-eqb link.id link.id refl) refl
 
-link-there : (net : NetRows) (l : ℕ) → l < length net.links
+pub link-there : (net : NetRows) (l : ℕ) → l < length net.links
     → slice_get net.links l ≡ Some (link_at net l)
 unfolding link_in
 link-there net l h =

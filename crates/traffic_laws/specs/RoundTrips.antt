@@ -1,15 +1,26 @@
 -- Round trips: what a command writes another one reads.
-use Rattle.std.specs.Prelude.{◌≡◌, ℕ, ◌*◌, ◌≤◌, List, All, length, map, Ok}
+use Rattle.std.specs.Prelude.{◌≡◌, ℕ, ◌*◌, ◌≤◌, List, [], All, length, map, slice_get, Ok, Option}
+use Rattle.std.specs.Prelude.{None, Some, IfSome}
 use Rattle.fixed_units.specs.declared.identifier.TheConstants.{GREATEST_IDENTIFIER}
 use Rattle.row_reader.specs.Records.{records}
+use Rattle.net_core.specs.declared.rows.LinkNo.{LinkNo}
+use Rattle.net_core.specs.declared.rows.NetRows.{NetRows}
 use Rattle.dta_model.specs.LinkTimes.{table_of, time_at}
+use Rattle.dta_model.specs.Loading.{journeys_of}
 use Rattle.dta_model.specs.Sound.{IsSound}
 use Rattle.dta_model.specs.declared.loading.TheConstants.{MOST_LINK_STEPS}
 use Rattle.dta_model.specs.declared.plan.Plan.{Plan}
+use Rattle.dta_model.specs.declared.trip.Trip.{Trip}
+use Rattle.start_table.specs.StartTable.{start_verdict}
+use Rattle.start_table.specs.Starts.{AreStartRows, Fits, TellsStart}
+use Rattle.start_table.specs.declared.rows.StartRow.{StartRow}
+use Rattle.route_flows.specs.Averages.{AreStartedRoutes}
 use Rattle.skims.specs.GivenTimes.{table_given}
 use Rattle.skims.specs.TimesTable.{times_verdict}
 use Rattle.skims.specs.declared.time_rows.TimeRow.{TimeRow}
-use Rattle.reports.specs.Texts.{link_time_text}
+use Rattle.reports.specs.Texts.{agent_text_by, link_time_text}
+
+-- ---- link times
 
 -- the limits of a network that was read: identifiers of links are those that a table may have, and
 -- links times steps are no more than there may be
@@ -32,3 +43,50 @@ pub record AreReadBack (p : Plan) (bucket : ℕ) : Type 0 where
 abbrev pub LinkTimesAreReadBack : Type 0
 LinkTimesAreReadBack =
     (p : Plan) (bucket : ℕ) → IsSound p → IsWithinLimits p → 1 ≤ bucket → AreReadBack p bucket
+
+-- ---- routes
+
+-- identifiers that were read: those of links and of the zones of trips are such as a table may have
+pub record HasIdentifiersInRange (p : Plan) : Type 0 where
+  pub links : All (λ link. link.id ≤ GREATEST_IDENTIFIER) p.net.links
+  pub origins : All (λ trip. trip.origin ≤ GREATEST_IDENTIFIER) p.trips
+  pub destinations : All (λ trip. trip.destination ≤ GREATEST_IDENTIFIER) p.trips
+
+-- iterations, where the agents tell those of their routes: a number for each vehicle
+abbrev pub AreIterationsTold : Plan → Option (List ℕ) → Type 0
+AreIterationsTold p since =
+    IfSome since (λ told. (length told ≡ length p.trips)
+    × All (λ n. n ≤ GREATEST_IDENTIFIER) told)
+
+-- the row of a vehicle: it fits the vehicle by the vehicle's very route, and has no links where
+-- the vehicle has no route
+abbrev pub TellsRoute : NetRows → Trip → Option (List LinkNo) → StartRow → Type 0
+TellsRoute net trip None row = (row.agent ≡ trip.number) × (row.links ≡ [])
+TellsRoute net trip (Some route) row = Fits net trip row route
+
+-- the agents of a loading, written as `assign` does, without a start table or with one, and read as
+-- a start table: they are accepted, and there is a row for each vehicle in order, which tells the
+-- vehicle's route. So does the table: no row of it fits a vehicle without a route. And in any first
+-- iteration from these rows a vehicle that has a route has the same one
+pub record AreRoutesReadBack (p : Plan) (since : Option (List ℕ)) : Type 0 where
+  pub rows : List StartRow
+  pub accepted :
+      start_verdict (records (agent_text_by p.net p.trips p.routes (journeys_of p) since))
+      ≡ Ok rows
+  pub sound : AreStartRows rows
+  pub many : length rows ≡ length p.trips
+  pub each : (v : ℕ) (trip : Trip) (route : Option (List LinkNo)) → slice_get p.trips v ≡ Some trip
+      → slice_get p.routes v ≡ Some route
+      → (row : StartRow) × (slice_get rows v ≡ Some row) × TellsRoute p.net trip route row
+  pub starts : (v : ℕ) (trip : Trip) (route : Option (List LinkNo))
+      → slice_get p.trips v ≡ Some trip → slice_get p.routes v ≡ Some route
+      → TellsStart p.net rows trip route
+  pub again : (routes : List (Option (List LinkNo)))
+      → AreStartedRoutes p.net rows p.trips routes
+      → (v : ℕ) (route : List LinkNo) → slice_get p.routes v ≡ Some (Some route)
+      → slice_get routes v ≡ Some (Some route)
+
+abbrev pub RoutesAreReadBack : Type 0
+RoutesAreReadBack =
+    (p : Plan) (since : Option (List ℕ)) → IsSound p → HasIdentifiersInRange p
+    → AreIterationsTold p since → AreRoutesReadBack p since
