@@ -89,7 +89,11 @@ function part_of(file) {
 # off that has quotes nobody knows where its record ends, and there is no next one.
 function next_record(file,    line, open) {
     record = ""
-    while (!is_lost && last_line < LINES && (part_of(file) | getline line) > 0) {
+    if (file != begun) {
+        begun = file
+        part = part_of(file)
+    }
+    while (!is_lost && last_line < LINES && (part | getline line) > 0) {
         last_line++
         sub(/\r$/, "", line)
         if (line == "" && !open) continue
@@ -137,10 +141,13 @@ function field(name,    k) {
 function line_with(name, id, name_2, id_2, most,    line, found, k, k_2) {
     k = column_of(name)
     k_2 = column_of(name_2)
+    id = plain(id)
+    id_2 = plain(id_2)
     for (line = 1; !found && line < most && next_record(file); line++) {
-        if (line == 1 || !index(record, plain(id))) continue
-        fields_of(record, other)
-        if (plain(other[k]) == plain(id) && plain(other[k_2]) == plain(id_2)) found = line
+        if (line == 1 || !index(record, id)) continue
+        if (index(record, "\"")) fields_of(record, other)
+        else split(record, other, ",")
+        if (plain(trim(other[k])) == id && plain(trim(other[k_2])) == id_2) found = line
     }
     return found
 }
