@@ -32,6 +32,7 @@ use Rattle.reports.specs.Texts.{Vehicle, agent_columns, agent_header, agent_line
 use Rattle.reports.specs.Texts.{agent_text_by, agent_text_from, ids_of, joined, line_end}
 use Rattle.reports.specs.Texts.{number_or_nothing, routed_status, since_header, status_name}
 use Rattle.reports.specs.Texts.{trip_columns, vehicles, way_columns}
+use Rattle.audit.specs.Agents.{agent_columns as audited_columns}
 use Rattle.traffic_laws.proofs.Joined.{ids-read, joined-field, shorter}
 
 -- ---- headers
@@ -41,37 +42,47 @@ abbrev last-name : Bool → Record
 last-name false = []
 last-name true = codes "route_iteration" ∷ []
 
-abbrev names : Bool → Record
+abbrev pub names : Bool → Record
 names told =
     codes "agent_id" ∷ codes "o_zone_id" ∷ codes "d_zone_id" ∷ codes "departure_step"
     ∷ codes "arrival_step" ∷ codes "status" ∷ codes "link_ids" ∷ codes "entry_steps"
     ∷ last-name told
 
-abbrev header-text : Bool → List ℕ
+abbrev pub header-text : Bool → List ℕ
 header-text false = agent_header
 header-text true = since_header
 
-record IsHeader (told : Bool) : Type 0 where
-  agent : place_of (names told) column.AgentId ≡ Some 0
-  origin : place_of (names told) column.OZoneId ≡ Some 1
-  destination : place_of (names told) column.DZoneId ≡ Some 2
-  links : place_of (names told) column.LinkIds ≡ Some 6
-  back : read_back (names told) ≡ names told
-  text : is_text (names told) ≡ true
-  columns : has_columns (names told) start_columns ≡ Ok tt
-  bom : (rest : List ℕ) → strip_bom (header-text told ++ rest) ≡ header-text told ++ rest
-  written : header-text told ≡ row_text default_writer (names told)
+pub record IsHeader (told : Bool) : Type 0 where
+  pub agent : place_of (names told) column.AgentId ≡ Some 0
+  pub origin : place_of (names told) column.OZoneId ≡ Some 1
+  pub destination : place_of (names told) column.DZoneId ≡ Some 2
+  pub departure : place_of (names told) column.DepartureStep ≡ Some 3
+  pub arrival : place_of (names told) column.ArrivalStep ≡ Some 4
+  pub status : place_of (names told) column.Status ≡ Some 5
+  pub links : place_of (names told) column.LinkIds ≡ Some 6
+  pub entries : place_of (names told) column.EntrySteps ≡ Some 7
+  pub back : read_back (names told) ≡ names told
+  pub text : is_text (names told) ≡ true
+  pub columns : has_columns (names told) start_columns ≡ Ok tt
+  pub audited : has_columns (names told) audited_columns ≡ Ok tt
+  pub bom : (rest : List ℕ) → strip_bom (header-text told ++ rest) ≡ header-text told ++ rest
+  pub written : header-text told ≡ row_text default_writer (names told)
 
-is-header : (told : Bool) → IsHeader told
+pub is-header : (told : Bool) → IsHeader told
 unfolding tables_on_literals agent_header since_header is_blank fields_text
 is-header false = record {
   agent = refl;
   origin = refl;
   destination = refl;
+  departure = refl;
+  arrival = refl;
+  status = refl;
   links = refl;
+  entries = refl;
   back = refl;
   text = refl;
   columns = refl;
+  audited = refl;
   bom = λ rest. refl;
   written = refl;
 }
@@ -79,10 +90,15 @@ is-header true = record {
   agent = refl;
   origin = refl;
   destination = refl;
+  departure = refl;
+  arrival = refl;
+  status = refl;
   links = refl;
+  entries = refl;
   back = refl;
   text = refl;
   columns = refl;
+  audited = refl;
   bom = λ rest. refl;
   written = refl;
 }
@@ -98,7 +114,7 @@ abbrev pub arrival-at : Option (List LinkNo) → Journey → Option ℕ
 arrival-at None journey = None
 arrival-at (Some route) journey = journey.arrival
 
-abbrev status-at : Option (List LinkNo) → Journey → List ℕ
+abbrev pub status-at : Option (List LinkNo) → Journey → List ℕ
 status-at None journey = codes "unrouted"
 status-at (Some route) journey = status_name (routed_status journey)
 
@@ -188,14 +204,14 @@ less-one f from (x ∷ xs) e =
     ap (λ n. n ∷ map f xs) same ∙ ap (λ l. from ∷ l) (less-one f (from + 1) xs rest)
 
 module _ (net : NetRows) (told : Bool) where
-  abbrev agent-fields : Agent → Record
+  abbrev pub agent-fields : Agent → Record
   agent-fields a =
       decimal a.0.trip.number ∷ decimal a.0.trip.origin ∷ decimal a.0.trip.destination
       ∷ decimal a.0.trip.departure ∷ number_or_nothing (arrival-at a.0.route a.0.journey)
       ∷ status-at a.0.route a.0.journey ∷ joined (ids-at net a.0.route)
       ∷ joined (entries-at a.0.route a.0.journey) ∷ last-field a.0.route a.1
 
-  abbrev line-of : Agent → List ℕ
+  abbrev pub line-of : Agent → List ℕ
   line-of a = agent_line net a.0.trip a.0.route a.0.journey a.1
 
   -- the row that the line tells
@@ -218,7 +234,7 @@ module _ (net : NetRows) (told : Bool) where
     pub iteration : IfSome a.1 (λ n. n < 2 ^ 64)
     pub as_told : is_some a.1 ≡ told
 
-  fields-are : (a : Agent) → AgentFits a → AreFields (agent-fields a)
+  pub fields-are : (a : Agent) → AgentFits a → AreFields (agent-fields a)
   fields-are a f =
       let n = f.few in
       let o = f.origin in
@@ -248,10 +264,10 @@ module _ (net : NetRows) (told : Bool) where
         ),
       )
 
-  many-fields : (a : Agent) → AgentFits a → length (agent-fields a) ≡ length (names told)
+  pub many-fields : (a : Agent) → AgentFits a → length (agent-fields a) ≡ length (names told)
   many-fields a f = let k = last-many a.0.route a.1 told f.as_told in omega (arith, k)
 
-  line-of-is : (a : Agent) → AgentFits a → line-of a ≡ row_text default_writer (agent-fields a)
+  pub line-of-is : (a : Agent) → AgentFits a → line-of a ≡ row_text default_writer (agent-fields a)
   unfolding agent_line
   line-of-is a f =
       let are = fields-are a f in

@@ -134,6 +134,15 @@ number-read what k h =
     inside c false (Ok n) e = let is : n ≡ k = cc in ap Ok is
     inside c false (Err fault) e = cc
 
+-- a number's field isn't empty
+pub number-some : (k : ℕ) → k ≤ GREATEST_IDENTIFIER
+    → (length (trimmed (decimal k)) == 0) ≡ false
+number-some k h =
+    let short : k < 2 ^ 64 = omega (arith, h) in
+    let some = (digits-are k short).some in
+    rw (trimmed-same (decimal k) (decimal-marks k short)) (ne_eqb (length (decimal k)) 0
+    (λ e. omega (arith, some, e)))
+
 -- ---- all numbers
 joined-marks : (ns : List ℕ) → All (λ n. n < 2 ^ 64) ns → are_marks (joined ns) ≡ true
 joined-marks [] h = refl

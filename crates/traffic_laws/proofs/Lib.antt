@@ -22,3 +22,5 @@ pub mod ReadBack
 pub mod Joined
 pub mod AgentLines
 pub mod RoutesBack
+pub mod AuditLines
+pub mod Audited

@@ -85,7 +85,7 @@ named-own net l apart h =
     (place-own (link_ids net.links) l.0 apart (omega (arith, many, h))))
 
 -- so the identifiers of a route name it
-names-own : (net : NetRows) (route : List LinkNo) → IsDistinct nat_eq (link_ids net.links)
+pub names-own : (net : NetRows) (route : List LinkNo) → IsDistinct nat_eq (link_ids net.links)
     → AreLinksOf net route → AreNamed net (ids_of net route) route
 names-own net [] apart all = refl
 names-own net (l ∷ route) apart all =
@@ -130,7 +130,7 @@ steps-early p v =
     (All-filter (is_of v) (λ (m : Move). m.step < p.horizon) (trace_after p p.horizon)
     (steps_below p p.horizon)))
 
-journey-early : (p : Plan) (v : ℕ) (j : Journey) → slice_get (journeys_of p) v ≡ Some j
+pub journey-early : (p : Plan) (v : ℕ) (j : Journey) → slice_get (journeys_of p) v ≡ Some j
     → All (λ s. s < p.horizon) (steps_in j)
 journey-early p v j e =
     subst (λ (y : Journey). All (λ s. s < p.horizon) (steps_in y)) (sym (journey_is p v j e))
@@ -138,15 +138,15 @@ journey-early p v j e =
 
 -- ---- vehicles
 
-record IsAt (trips : List Trip) (routes : List (Option (List LinkNo))) (journeys : List Journey)
+pub record IsAt (trips : List Trip) (routes : List (Option (List LinkNo))) (journeys : List Journey)
     (i : ℕ) (v : Vehicle) : Type 0 where
-  trip : slice_get trips i ≡ Some v.trip
-  route : slice_get routes i ≡ Some v.route
-  journey : slice_get journeys i ≡ Some v.journey
+  pub trip : slice_get trips i ≡ Some v.trip
+  pub route : slice_get routes i ≡ Some v.route
+  pub journey : slice_get journeys i ≡ Some v.journey
 
-vehicle-at : (trips : List Trip) (routes : List (Option (List LinkNo))) (journeys : List Journey)
-    (i : ℕ) (v : Vehicle) → slice_get (vehicles trips routes journeys) i ≡ Some v
-    → IsAt trips routes journeys i v
+pub vehicle-at : (trips : List Trip) (routes : List (Option (List LinkNo)))
+    (journeys : List Journey) (i : ℕ) (v : Vehicle)
+    → slice_get (vehicles trips routes journeys) i ≡ Some v → IsAt trips routes journeys i v
 unfolding vehicles
 vehicle-at [] routes journeys i v e = absurd (none-some v e)
 vehicle-at (t ∷ trips) [] journeys i v e = absurd (none-some v e)
@@ -174,7 +174,7 @@ vehicle-trips (t ∷ trips) (r ∷ routes) (j ∷ journeys) a b =
 
 -- ---- vehicles with their iterations
 
-zip-at : {A B : Type 0} (xs : List A) (ys : List B) (i : ℕ) (z : A × B)
+pub zip-at : {A B : Type 0} (xs : List A) (ys : List B) (i : ℕ) (z : A × B)
     → slice_get (zip xs ys) i ≡ Some z
     → (slice_get xs i ≡ Some z.0) × (slice_get ys i ≡ Some z.1)
 zip-at [] ys i z e = absurd (none-some z e)
@@ -185,10 +185,10 @@ zip-at (x ∷ xs) (y ∷ ys) zero z e =
 zip-at (x ∷ xs) (y ∷ ys) (suc i) z e = zip-at xs ys i z e
 
 -- the iteration of a vehicle at a place is told where iterations are, and is small
-record IsToldAt (vs : List Vehicle) (since : Option (List ℕ)) (i : ℕ) (a : Agent) : Type 0 where
-  vehicle : slice_get vs i ≡ Some a.0
-  told : is_some a.1 ≡ is_some since
-  small : IfSome a.1 (λ n. n < 2 ^ 64)
+pub record IsToldAt (vs : List Vehicle) (since : Option (List ℕ)) (i : ℕ) (a : Agent) : Type 0 where
+  pub vehicle : slice_get vs i ≡ Some a.0
+  pub told : is_some a.1 ≡ is_some since
+  pub small : IfSome a.1 (λ n. n < 2 ^ 64)
 
 agent-at : (vs : List Vehicle) (since : Option (List ℕ)) (i : ℕ) (a : Agent)
     → IfSome since (λ told. All (λ n. n ≤ GREATEST_IDENTIFIER) told)
@@ -260,10 +260,10 @@ no-trip = record { number = 0; origin = 0; destination = 0; departure = 0 }
 -- ---- the table of a sound loading
 module _ (p : Plan) (since : Option (List ℕ)) (sound : IsSound p) (ids : HasIdentifiersInRange p)
     (told : AreIterationsTold p since) where
-  abbrev all-vehicles : List Vehicle
+  abbrev pub all-vehicles : List Vehicle
   all-vehicles = vehicles p.trips p.routes (journeys_of p)
 
-  abbrev agents : List Agent
+  abbrev pub agents : List Agent
   agents = agents-with all-vehicles since
 
   journeys-many : length (journeys_of p) ≡ length p.trips
@@ -277,10 +277,10 @@ module _ (p : Plan) (since : Option (List ℕ)) (sound : IsSound p) (ids : HasId
       ∙ sym (length-vehicles p.trips p.routes (journeys_of p) sound.each journeys-many)))
       ∙ vehicle-trips p.trips p.routes (journeys_of p) sound.each journeys-many
 
-  agents-many : length agents ≡ length p.trips
+  pub agents-many : length agents ≡ length p.trips
   agents-many = sym (length-map agents (λ a. a.0.trip)) ∙ ap length trips-are
 
-  rise : map number-in agents ≡ range_with_len 1 (length agents)
+  pub rise : map number-in agents ≡ range_with_len 1 (length agents)
   rise =
       sym (map-map (λ (t : Trip). t.number + 1) (λ (a : Agent). a.0.trip) agents)
       ∙ ap (map (λ (t : Trip). t.number + 1)) trips-are
@@ -290,14 +290,14 @@ module _ (p : Plan) (since : Option (List ℕ)) (sound : IsSound p) (ids : HasId
       ∙ ap (range_with_len 1) (sym agents-many)
 
   -- the number of a trip is its place
-  number-is : (i : ℕ) (trip : Trip) → slice_get p.trips i ≡ Some trip → trip.number ≡ i
+  pub number-is : (i : ℕ) (trip : Trip) → slice_get p.trips i ≡ Some trip → trip.number ≡ i
   number-is i trip e =
       got_number (length p.trips) i trip.number
       (ap (λ L. slice_get L i) (sym sound.trips.numbered)
       ∙ slice_get-map (λ (t : Trip). t.number) p.trips i
       ∙ ap (option_map (λ (t : Trip). t.number)) e)
 
-  on-net : (i : ℕ) (route : Option (List LinkNo)) → slice_get p.routes i ≡ Some route
+  pub on-net : (i : ℕ) (route : Option (List LinkNo)) → slice_get p.routes i ≡ Some route
       → IfSome route (AreLinksOf p.net)
   on-net i route e =
       all_at (λ route. IfSome route (AreLinksOf p.net)) p.routes i route
@@ -306,29 +306,31 @@ module _ (p : Plan) (since : Option (List ℕ)) (sound : IsSound p) (ids : HasId
   short : (n : ℕ) → n < p.horizon → n < 2 ^ 64
   short n h = let most = sound.horizon_most in omega (arith, h, most)
 
-  arrival-small : (route : Option (List LinkNo)) (j : Journey)
-      → All (λ s. s < p.horizon) (steps_in j) → IfSome (arrival-at route j) (λ n. n < 2 ^ 64)
-  arrival-small None j h = tt
-  arrival-small (Some route) j h =
-      IfSome_then j.arrival (all-one (λ s. s < p.horizon) j.arrival
-      (all-rest (λ s. s < p.horizon) j.entries (option_to_list j.arrival) h)) short
+  -- what is true of steps below the horizon is true of those that are told
+  module _ (P : ℕ → Type 0) (below : (n : ℕ) → n < p.horizon → P n) where
+    pub arrival-below : (route : Option (List LinkNo)) (j : Journey)
+        → All (λ s. s < p.horizon) (steps_in j) → IfSome (arrival-at route j) P
+    arrival-below None j h = tt
+    arrival-below (Some route) j h =
+        IfSome_then j.arrival (all-one (λ s. s < p.horizon) j.arrival
+        (all-rest (λ s. s < p.horizon) j.entries (option_to_list j.arrival) h)) below
 
-  entries-small : (route : Option (List LinkNo)) (j : Journey)
-      → All (λ s. s < p.horizon) (steps_in j) → All (λ n. n < 2 ^ 64) (entries-at route j)
-  entries-small None j h = All-nil (λ n. n < 2 ^ 64)
-  entries-small (Some route) j h =
-      All-weaker (λ s. s < p.horizon) (λ n. n < 2 ^ 64) short j.entries
-      (all-first (λ s. s < p.horizon) j.entries (option_to_list j.arrival) h)
+    pub entries-below : (route : Option (List LinkNo)) (j : Journey)
+        → All (λ s. s < p.horizon) (steps_in j) → All P (entries-at route j)
+    entries-below None j h = All-nil P
+    entries-below (Some route) j h =
+        All-weaker (λ s. s < p.horizon) P below j.entries
+        (all-first (λ s. s < p.horizon) j.entries (option_to_list j.arrival) h)
 
   links-small : (route : Option (List LinkNo)) → IfSome route (AreLinksOf p.net)
       → All (λ n. n ≤ GREATEST_IDENTIFIER) (ids-at p.net route)
   links-small None h = All-nil (λ n. n ≤ GREATEST_IDENTIFIER)
   links-small (Some route) h = ids-small p.net route ids.links h
 
-  at : (i : ℕ) (a : Agent) → slice_get agents i ≡ Some a → IsToldAt all-vehicles since i a
+  pub at : (i : ℕ) (a : Agent) → slice_get agents i ≡ Some a → IsToldAt all-vehicles since i a
   at i a e = agent-at all-vehicles since i a (IfSome_then since told (λ ns both. both.1)) e
 
-  fits-at : (i : ℕ) (a : Agent) → slice_get agents i ≡ Some a
+  pub fits-at : (i : ℕ) (a : Agent) → slice_get agents i ≡ Some a
       → AgentFits p.net (is_some since) a
   fits-at i a e =
       let own = at i a e in
@@ -344,9 +346,9 @@ module _ (p : Plan) (since : Option (List ℕ)) (sound : IsSound p) (ids : HasId
             ids.destinations v.trip;
         departure = short a.0.trip.departure
             (all_at (λ t. t.departure < p.horizon) p.trips i a.0.trip sound.early v.trip);
-        arrival = arrival-small a.0.route a.0.journey early;
+        arrival = arrival-below (λ n. n < 2 ^ 64) short a.0.route a.0.journey early;
         ids = links-small a.0.route (on-net i a.0.route v.route);
-        entries = entries-small a.0.route a.0.journey early;
+        entries = entries-below (λ n. n < 2 ^ 64) short a.0.route a.0.journey early;
         iteration = own.small;
         as_told = own.told;
       }

@@ -19,6 +19,12 @@ use Rattle.skims.specs.GivenTimes.{table_given}
 use Rattle.skims.specs.TimesTable.{times_verdict}
 use Rattle.skims.specs.declared.time_rows.TimeRow.{TimeRow}
 use Rattle.reports.specs.Texts.{agent_text_by, link_time_text}
+use Rattle.audit.specs.Agents.{agents_verdict}
+use Rattle.audit.specs.Audit.{IsAudit}
+use Rattle.audit.specs.declared.agent_rows.AgentRow.{AgentRow}
+use Rattle.audit.specs.declared.plan.Plan.{Plan as AuditPlan}
+use Rattle.audit.specs.declared.verdict.Verdict.{Verdict}
+use Rattle.audit.specs.declared.verdict.Verdict.TheVariants.{Yes}
 
 -- ---- link times
 
@@ -90,3 +96,35 @@ abbrev pub RoutesAreReadBack : Type 0
 RoutesAreReadBack =
     (p : Plan) (since : Option (List ℕ)) → IsSound p → HasIdentifiersInRange p
     → AreIterationsTold p since → AreRoutesReadBack p since
+
+-- ---- audits
+
+-- how a loading was made, as an audit of its tables is told: with buckets of so many steps
+abbrev pub made_as : Plan → ℕ → AuditPlan
+made_as p bucket = record {
+  queue = p.queue;
+  delta = p.delta;
+  horizon = p.horizon;
+  bucket = bucket;
+}
+
+-- the agents and the link times of a loading, written as `assign` does, without a start table or
+-- with one, and read as `audit` does: both are accepted, and the audit over the same network and
+-- trips, of a loading that was made in the same way, says yes and nothing else
+pub record PassesAudit (p : Plan) (since : Option (List ℕ)) (bucket : ℕ) : Type 0 where
+  pub agents : List AgentRow
+  pub times : List TimeRow
+  pub agents_accepted :
+      agents_verdict (records (agent_text_by p.net p.trips p.routes (journeys_of p) since))
+      ≡ Ok agents
+  pub times_accepted :
+      times_verdict p.net bucket p.horizon (records (link_time_text p.net (table_of p bucket)))
+      ≡ Ok times
+  pub yes : IsAudit p.net p.trips agents times (made_as p bucket) Yes
+  pub only : (v : Verdict) → IsAudit p.net p.trips agents times (made_as p bucket) v → v ≡ Yes
+
+abbrev pub AnAuditSaysYes : Type 0
+AnAuditSaysYes =
+    (p : Plan) (since : Option (List ℕ)) (bucket : ℕ) → IsSound p → IsWithinLimits p
+    → HasIdentifiersInRange p → AreIterationsTold p since → 1 ≤ bucket
+    → PassesAudit p since bucket

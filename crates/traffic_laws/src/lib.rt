@@ -1,8 +1,8 @@
 //! Laws of traffic, in the words of the field: what a planner checks first of any loading.
 //!
 //! Each function does nothing, and no program calls one. Its contract is a law of the definitions
-//! of `dta_model`, `start_table`, `link_times`, `gap`, `route_flows`, `assignment`, `skims` and
-//! `reports` (docs/LAWS.md has them all, with what can be checked by hand).
+//! of `dta_model`, `start_table`, `link_times`, `gap`, `route_flows`, `assignment`, `skims`,
+//! `audit` and `reports` (docs/LAWS.md has them all, with what can be checked by hand).
 #![tactic(auto)]
 
 mod buckets;
@@ -31,7 +31,7 @@ pub use free_flow::{
     nothing_binds_on_wide_links, trips_take_free_flow_where_nothing_binds,
 };
 pub use least_times::no_route_is_faster_than_a_skim;
-pub use round_trips::{link_times_are_read_back, routes_are_read_back};
+pub use round_trips::{an_audit_says_yes, link_times_are_read_back, routes_are_read_back};
 pub use storage::{entries_follow_the_wave, links_hold_no_more_than_their_storage};
 pub use told::{journeys_tell_the_entries, journeys_tell_the_leavings};
 pub use waiting::{a_ready_vehicle_is_held_for_a_reason, an_origin_is_held_for_a_reason};
