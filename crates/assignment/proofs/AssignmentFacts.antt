@@ -1,4 +1,5 @@
 -- The iterations of an assignment, one after another.
+use Rattle.trip_costs.specs.Timings.{Links, Timing}
 use Rattle.std.specs.Prelude.{All, Bool, count_by, slice_get}
 use Rattle.std.proofs.Common.{◌≡◌, ℕ, ◌+◌, ◌<◌, ◌≤◌, List, [], ◌∷◌, ◌++◌, length, refl, ap, sym, subst, ◌∙◌, arith, rules, length-append, ◌⊎◌, inl, inr, Some}
 use Rattle.std.specs.List.{IsDistinct}
@@ -128,7 +129,7 @@ module _ (s : Settings) (traffic : Traffic) where
 
   -- the gap of the last iteration
   pub with-gap : (done : List VehicleRoutes) (r : VehicleRoutes) (lines : List GapLine) (line : GapLine) → length lines ≡ length done
-      → IsGapLine (time_at (times_of s traffic r)) traffic.net traffic.trips r line
+      → IsGapLine (Links (time_at (times_of s traffic r))) traffic.net traffic.trips r line
       → AreIterations s traffic (done ++ r ∷ []) lines → AreIterations s traffic (done ++ r ∷ []) (lines ++ line ∷ [])
   with-gap done r lines line many gap it = record {
     start = it.start;
@@ -138,15 +139,15 @@ module _ (s : Settings) (traffic : Traffic) where
   }
     where
       by : (i : ℕ) (z : VehicleRoutes) (l : GapLine) → slice_get (done ++ r ∷ []) i ≡ Some z → slice_get (lines ++ line ∷ []) i ≡ Some l
-          → (i < length lines) ⊎ (i ≡ length lines) → IsGapLine (time_at (times_of s traffic z)) traffic.net traffic.trips z l
+          → (i < length lines) ⊎ (i ≡ length lines) → IsGapLine (Links (time_at (times_of s traffic z))) traffic.net traffic.trips z l
       by i z l e f (inl h) = it.gaps i z l e (get-back lines (line ∷ []) i l f h)
       by i z l e f (inr h) =
-          subst (λ (z : VehicleRoutes). IsGapLine (time_at (times_of s traffic z)) traffic.net traffic.trips z l) (get-last done r i z e (h ∙ many))
-          (subst (IsGapLine (time_at (times_of s traffic r)) traffic.net traffic.trips r) (get-last lines line i l f h) gap)
+          subst (λ (z : VehicleRoutes). IsGapLine (Links (time_at (times_of s traffic z))) traffic.net traffic.trips z l) (get-last done r i z e (h ∙ many))
+          (subst (IsGapLine (Links (time_at (times_of s traffic r))) traffic.net traffic.trips r) (get-last lines line i l f h) gap)
 
   -- the routes of one more iteration
   pub with-next : (done : List VehicleRoutes) (r next : VehicleRoutes) (lines : List GapLine) → length lines ≡ length done + 1
-      → AreNextRoutes (time_at (times_of s traffic r)) traffic.net traffic.trips (length done + 1) r next
+      → AreNextRoutes (Links (time_at (times_of s traffic r))) traffic.net traffic.trips (length done + 1) r next
       → AreIterations s traffic (done ++ r ∷ []) lines → AreIterations s traffic ((done ++ r ∷ []) ++ next ∷ []) lines
   with-next done r next lines many are it = record {
     start = it.start;
@@ -164,16 +165,16 @@ module _ (s : Settings) (traffic : Traffic) where
       long = omega (arith, length-append done (r ∷ []))
 
       by : (i : ℕ) (old new : VehicleRoutes) → slice_get ((done ++ r ∷ []) ++ next ∷ []) i ≡ Some old → slice_get ((done ++ r ∷ []) ++ next ∷ []) (i + 1) ≡ Some new
-          → (i + 1 < length (done ++ r ∷ [])) ⊎ (i + 1 ≡ length (done ++ r ∷ [])) → AreNextRoutes (time_at (times_of s traffic old)) traffic.net traffic.trips (i + 1) old new
+          → (i + 1 < length (done ++ r ∷ [])) ⊎ (i + 1 ≡ length (done ++ r ∷ [])) → AreNextRoutes (Links (time_at (times_of s traffic old))) traffic.net traffic.trips (i + 1) old new
       by i old new e f (inl h) =
           it.next i old new (get-back (done ++ r ∷ []) (next ∷ []) i old e (omega (arith, h))) (get-back (done ++ r ∷ []) (next ∷ []) (i + 1) new f h)
       by i old new e f (inr h) =
           let at : i ≡ length done = omega (arith, h, long) in
           let was = get-last done r i old (get-back (done ++ r ∷ []) (next ∷ []) i old e (omega (arith, h))) at in
           let is = get-last (done ++ r ∷ []) next (i + 1) new f h in
-          subst (λ (n : ℕ). AreNextRoutes (time_at (times_of s traffic old)) traffic.net traffic.trips (n + 1) old new) (sym at)
-          (subst (λ (old : VehicleRoutes). AreNextRoutes (time_at (times_of s traffic old)) traffic.net traffic.trips (length done + 1) old new) was
-          (subst (AreNextRoutes (time_at (times_of s traffic r)) traffic.net traffic.trips (length done + 1) r) is are))
+          subst (λ (n : ℕ). AreNextRoutes (Links (time_at (times_of s traffic old))) traffic.net traffic.trips (n + 1) old new) (sym at)
+          (subst (λ (old : VehicleRoutes). AreNextRoutes (Links (time_at (times_of s traffic old))) traffic.net traffic.trips (length done + 1) old new) was
+          (subst (AreNextRoutes (Links (time_at (times_of s traffic r))) traffic.net traffic.trips (length done + 1) r) is are))
 
   -- an iteration that isn't the last is done
   pub ahead : (number : ℕ) (r next : VehicleRoutes) (lines more : List GapLine)
@@ -188,7 +189,7 @@ module _ (s : Settings) (traffic : Traffic) where
         as_many = omega (arith, many, long);
         with_gaps = omega (arith, gaps, long, added);
         iterations = with-next at.done r next (lines ++ has.line ∷ []) (omega (arith, gaps, added))
-            (subst (λ (n : ℕ). AreNextRoutes (time_at (times_of s traffic r)) traffic.net traffic.trips n r next) (sym many) has.next_are)
+            (subst (λ (n : ℕ). AreNextRoutes (Links (time_at (times_of s traffic r))) traffic.net traffic.trips n r next) (sym many) has.next_are)
             (with-gap at.done r lines has.line gaps has.gap at.iterations);
         routed = has.routed;
       }
@@ -220,21 +221,27 @@ module _ (s : Settings) (traffic : Traffic) where
   -- what a call says of an iteration by its link times, and of its routes where these were moved
   pub has-next : (number : ℕ) (r old next : VehicleRoutes) (lines more : List GapLine) (line : GapLine) (times : TimeTable)
       → old ≡ r → times ≡ times_of s traffic r → more ≡ lines ++ line ∷ []
-      → IsGapLine (time_at times) traffic.net traffic.trips old line
-      → AreNextRoutes (time_at times) traffic.net traffic.trips number old next
+      → IsGapLine (Links (time_at times)) traffic.net traffic.trips old line
+      → AreNextRoutes (Links (time_at times)) traffic.net traffic.trips number old next
       → AreWalks traffic.net traffic.trips next
       → HasNext s traffic number r next lines more
   has-next number r old next lines more line times same is pushed gap are walks = record {
     line = line;
     pushed = pushed;
     gap =
-        subst (λ (t : TimeTable). IsGapLine (time_at t) traffic.net traffic.trips r line) is
-        (subst (λ (x : VehicleRoutes). IsGapLine (time_at times) traffic.net traffic.trips x line) same gap);
+        subst (λ (t : TimeTable). IsGapLine (Links (time_at t)) traffic.net traffic.trips r line) is
+        (subst (λ (x : VehicleRoutes). IsGapLine (Links (time_at times)) traffic.net traffic.trips x line) same gap);
     next_are =
-        subst (λ (t : TimeTable). AreNextRoutes (time_at t) traffic.net traffic.trips number r next) is
-        (subst (λ (x : VehicleRoutes). AreNextRoutes (time_at times) traffic.net traffic.trips number x next) same are);
+        subst (λ (t : TimeTable). AreNextRoutes (Links (time_at t)) traffic.net traffic.trips number r next) is
+        (subst (λ (x : VehicleRoutes). AreNextRoutes (Links (time_at times)) traffic.net traffic.trips number x next) same are);
     routed = record { each = are.as_many; walks = walks };
   }
+
+-- what is true over trips and costs is true over the same ones, lent together
+pub over-timed : {s t : Timing} {n m : NetRows} {ts us : List Trip} (P : Timing → NetRows → List Trip → Type 0)
+    → s ≡ t → n ≡ m → ts ≡ us → P s n ts → P t m us
+over-timed {s} {t} {n} {m} {ts} P same net trips p =
+    subst (λ us. P t m us) trips (subst (λ m. P t m ts) net (subst (λ t. P t n ts) same p))
 
 -- walks stay walks in another place
 pub walks-too : (net : NetRows) (trips : List Trip) (old r : VehicleRoutes) → old ≡ r → AreWalks net trips r → AreWalks net trips old

@@ -1,4 +1,5 @@
 -- Traffic and link times have one list of routes and one list of gaps.
+use Rattle.trip_costs.specs.Timings.{Links}
 use Rattle.std.proofs.Common.{◌≡◌, ℕ, zero, suc, ◌+◌, List, [], length}
 use Rattle.std.proofs.Common.{sym, subst, arith}
 use Rattle.std.specs.Prelude.{Some, get_or, slice_get}
@@ -32,7 +33,7 @@ module _ (laws : RouteLaws) (times : VehicleRoutes → TimeTable) (traffic : Tra
       (a.next i (get_or ra i []) x old (subst (λ n. slice_get ra n ≡ Some x) (omega arith) e)).as_many
 
   same-at : (i : ℕ) (x y : VehicleRoutes) → slice_get ra i ≡ Some x → slice_get rb i ≡ Some y → x ≡ y
-  same-at zero x y e f = laws.started (free_time traffic.net) traffic.net traffic.start traffic.trips x y a.start (a.first x e) (b.first y f)
+  same-at zero x y e f = laws.started (Links (free_time traffic.net)) traffic.net traffic.start traffic.trips x y a.start (a.first x e) (b.first y f)
   same-at (suc i) x y e f =
       let h = slice_get_within ra (suc i) x e in
       let k = slice_get_within rb (suc i) y f in
@@ -41,7 +42,7 @@ module _ (laws : RouteLaws) (times : VehicleRoutes → TimeTable) (traffic : Tra
       let p : get_or rb i [] ≡ get_or ra i [] = sym (same-at i (get_or ra i []) (get_or rb i []) old other) in
       let next = a.next i (get_or ra i []) x old (subst (λ n. slice_get ra n ≡ Some x) (omega arith) e) in
       let again = b.next i (get_or ra i []) y (subst (λ (r : VehicleRoutes). slice_get rb i ≡ Some r) p other) (subst (λ n. slice_get rb n ≡ Some y) (omega arith) f) in
-      laws.next (time_at (times (get_or ra i []))) traffic.net traffic.trips (i + 1) (get_or ra i []) x y next again
+      laws.next (Links (time_at (times (get_or ra i [])))) traffic.net traffic.trips (i + 1) (get_or ra i []) x y next again
 
   pub same-routes : length ra ≡ length rb → ra ≡ rb
   same-routes e = ext_get_or [] ra rb e (λ i h.
@@ -52,7 +53,7 @@ module _ (laws : RouteLaws) (times : VehicleRoutes → TimeTable) (traffic : Tra
       let r = get_or ra i [] in
       let there = slice_get-get_or ra i [] (omega (arith, h, n)) in
       let here : slice_get rb i ≡ Some r = subst (λ (rs : List VehicleRoutes). slice_get rs i ≡ Some r) same there in
-      lines_are_determined (time_at (times r)) traffic.net traffic.trips r (get_or la i no_line) (get_or lb i no_line) (many i r there)
+      lines_are_determined (Links (time_at (times r))) traffic.net traffic.trips r (get_or la i no_line) (get_or lb i no_line) (many i r there)
       (a.gaps i r (get_or la i no_line) there (slice_get-get_or la i no_line h))
       (b.gaps i r (get_or lb i no_line) here (slice_get-get_or lb i no_line (omega (arith, h, e)))))
 
@@ -62,6 +63,6 @@ pub by-same-times : (t u : VehicleRoutes → TimeTable) (traffic : Traffic) (rou
 by-same-times t u traffic routes lines same it = record {
   start = it.start;
   first = it.first;
-  next = λ i old new e f. subst (λ (x : TimeTable). AreNextRoutes (time_at x) traffic.net traffic.trips (i + 1) old new) (same old) (it.next i old new e f);
-  gaps = λ i r line e f. subst (λ (x : TimeTable). IsGapLine (time_at x) traffic.net traffic.trips r line) (same r) (it.gaps i r line e f);
+  next = λ i old new e f. subst (λ (x : TimeTable). AreNextRoutes (Links (time_at x)) traffic.net traffic.trips (i + 1) old new) (same old) (it.next i old new e f);
+  gaps = λ i r line e f. subst (λ (x : TimeTable). IsGapLine (Links (time_at x)) traffic.net traffic.trips r line) (same r) (it.gaps i r line e f);
 }

@@ -1,4 +1,5 @@
 -- Each loading of an assignment is sound.
+use Rattle.trip_costs.specs.Timings.{Links}
 use Rattle.std.proofs.Common.{◌≡◌, ℕ, zero, suc, ◌+◌, List, [], ◌∷◌, Some, refl, subst, arith}
 use Rattle.std.specs.Prelude.{slice_get}
 use Rattle.net_core.specs.Network.{IsNet}
@@ -41,7 +42,7 @@ module _ (s : Settings) (traffic : Traffic) (all : List VehicleRoutes) (lines : 
   routed : (i : ℕ) (r : VehicleRoutes) → slice_get all i ≡ Some r → AreRoutesOf traffic r × ComeFrom s traffic all i r
   routed zero r e =
       let first = it.first r e in (
-        record { each = first.as_many; walks = started_walk (free_time traffic.net) traffic.net traffic.start traffic.trips r first },
+        record { each = first.as_many; walks = started_walk (Links (free_time traffic.net)) traffic.net traffic.start traffic.trips r first },
         first,
       )
   routed (suc i) r e =
@@ -50,7 +51,7 @@ module _ (s : Settings) (traffic : Traffic) (all : List VehicleRoutes) (lines : 
       let was = routed i old before.1 in
       let one : suc i ≡ i + 1 = omega arith in
       let next = it.next i old r before.1 (subst (λ (n : ℕ). slice_get all n ≡ Some r) one e) in (
-        record { each = next.as_many; walks = next_walk (time_at (times_of s traffic old)) traffic.net traffic.trips (i + 1) old r was.0.walks next },
+        record { each = next.as_many; walks = next_walk (Links (time_at (times_of s traffic old))) traffic.net traffic.trips (i + 1) old r was.0.walks next },
         (old, before.1, next),
       )
 

@@ -1,5 +1,6 @@
 -- The iterations of an assignment: routes, loadings, tables of link times and gaps (successive
 -- averages over loadings, Zhou and Taylor 2014), and the numbers of its report.
+use Rattle.trip_costs.specs.Timings.{Links, Timing}
 use Rattle.std.specs.Prelude.{ℕ, ◌≡◌, ◌+◌, List, count_by, is_none, length, Option, Some, slice_get}
 use Rattle.net_core.specs.declared.rows.LinkNo.{LinkNo}
 use Rattle.net_core.specs.declared.rows.NetRows.{NetRows}
@@ -41,6 +42,10 @@ plan_of s traffic routes = record {
 abbrev pub times_of : Settings → Traffic → VehicleRoutes → TimeTable
 times_of s traffic routes = table_of (plan_of s traffic routes) s.bucket
 
+-- the costs by which the walks of an iteration are timed: those of links, over these link times
+abbrev pub costs_of : Settings → Traffic → VehicleRoutes → Timing
+costs_of s traffic routes = Links (time_at (times_of s traffic routes))
+
 -- the state after the last step of that loading
 abbrev pub end_of : Settings → Traffic → VehicleRoutes → Eight
 end_of s traffic routes = eight_after (plan_of s traffic routes) s.horizon
@@ -60,12 +65,12 @@ pub record AreIterationsBy (times : VehicleRoutes → TimeTable) (traffic : Traf
   pub next :
       (i : ℕ) (old new : VehicleRoutes) → slice_get routes i ≡ Some old
       → slice_get routes (i + 1) ≡ Some new
-      → AreNextRoutes (time_at (times old)) traffic.net traffic.trips (i + 1) old new
+      → AreNextRoutes (Links (time_at (times old))) traffic.net traffic.trips (i + 1) old new
   -- each gap is that of an iteration's routes in its own table
   pub gaps :
       (i : ℕ) (r : VehicleRoutes) (line : GapLine) → slice_get routes i ≡ Some r
       → slice_get lines i ≡ Some line
-      → IsGapLine (time_at (times r)) traffic.net traffic.trips r line
+      → IsGapLine (Links (time_at (times r))) traffic.net traffic.trips r line
 
 -- the same by the loadings of this traffic
 abbrev pub AreIterations :

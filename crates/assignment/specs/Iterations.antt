@@ -1,7 +1,6 @@
 -- What is true of each iteration of an assignment.
 use Rattle.std.specs.Prelude.{ℕ, zero, suc, ◌≡◌, ◌+◌, List, Some, slice_get}
 use Rattle.dta_model.specs.Laws.{EndInOrder, LinksAreLeftInOrder, StaysConserved}
-use Rattle.dta_model.specs.LinkTimes.{time_at}
 use Rattle.dta_model.specs.Loading.{journeys_of}
 use Rattle.dta_model.specs.Sound.{IsSound}
 use Rattle.dta_model.specs.declared.plan.Plan.{Plan}
@@ -9,7 +8,7 @@ use Rattle.gap.specs.Gap.{IsGapLine}
 use Rattle.gap.specs.declared.line.GapLine.{GapLine}
 use Rattle.route_flows.specs.Averages.{AreNextRoutes, AreStartedRoutes}
 use Rattle.dta_words.specs.declared.command.Settings.{Settings}
-use Rattle.assignment.specs.Assignment.{AreIterations, Traffic, VehicleRoutes, plan_of, times_of}
+use Rattle.assignment.specs.Assignment.{AreIterations, Traffic, VehicleRoutes, costs_of, plan_of}
 
 -- a loading is sound: its vehicles depart in order and have walks over its network. After every
 -- step each due vehicle that has a route waits, is on one link of the network or has arrived, and
@@ -28,8 +27,7 @@ ComeFrom s traffic all zero routes =
     AreStartedRoutes traffic.net traffic.start traffic.trips routes
 ComeFrom s traffic all (suc i) routes =
     (before : VehicleRoutes) × (slice_get all i ≡ Some before)
-    × AreNextRoutes (time_at (times_of s traffic before)) traffic.net traffic.trips (i + 1) before
-    routes
+    × AreNextRoutes (costs_of s traffic before) traffic.net traffic.trips (i + 1) before routes
 
 -- an iteration: where its routes come from, the loading over them, and their gap in the link times
 -- of that loading
@@ -37,7 +35,7 @@ pub record IsIteration (s : Settings) (traffic : Traffic) (all : List VehicleRou
     (routes : VehicleRoutes) (line : GapLine) : Type 0 where
   pub chosen : ComeFrom s traffic all place routes
   pub loading : IsSoundLoading (plan_of s traffic routes)
-  pub gap : IsGapLine (time_at (times_of s traffic routes)) traffic.net traffic.trips routes line
+  pub gap : IsGapLine (costs_of s traffic routes) traffic.net traffic.trips routes line
 
 -- each iteration over this traffic is one
 abbrev pub AreSoundIterations : Settings → Traffic → Type 0

@@ -1,13 +1,12 @@
 -- How far an assignment came.
 use Rattle.std.specs.Prelude.{ℕ, ◌≡◌, ◌+◌, List, [], ◌∷◌, ◌++◌, length}
-use Rattle.dta_model.specs.LinkTimes.{time_at}
 use Rattle.dta_model.specs.Loading.{journeys_of}
 use Rattle.gap.specs.Gap.{IsGapLine}
 use Rattle.gap.specs.declared.line.GapLine.{GapLine}
 use Rattle.route_flows.specs.Averages.{AreNextRoutes, AreStartedRoutes}
 use Rattle.dta_words.specs.declared.command.Settings.{Settings}
 use Rattle.assignment.specs.Assignment.{AreIterations, Traffic, VehicleRoutes, end_of, plan_of}
-use Rattle.assignment.specs.Assignment.{times_of}
+use Rattle.assignment.specs.Assignment.{costs_of, times_of}
 use Rattle.assignment.specs.Traffic.{AreRoutesOf}
 use Rattle.assignment.specs.declared.iterations.Assigned.{Assigned}
 
@@ -24,9 +23,9 @@ pub record HasNext (s : Settings) (traffic : Traffic) (number : ℕ) (routes nex
     (lines more : List GapLine) : Type 0 where
   pub line : GapLine
   pub pushed : more ≡ lines ++ line ∷ []
-  pub gap : IsGapLine (time_at (times_of s traffic routes)) traffic.net traffic.trips routes line
-  pub next_are : AreNextRoutes (time_at (times_of s traffic routes)) traffic.net traffic.trips
-      number routes next
+  pub gap : IsGapLine (costs_of s traffic routes) traffic.net traffic.trips routes line
+  pub next_are : AreNextRoutes (costs_of s traffic routes) traffic.net traffic.trips number routes
+      next
   pub routed : AreRoutesOf traffic next
 
 -- the routes, the journeys, the link times and the last state of an iteration belong together
@@ -41,8 +40,7 @@ pub record HasEnded (s : Settings) (traffic : Traffic) (routes : VehicleRoutes)
     (lines : List GapLine) (a : Assigned) : Type 0 where
   pub same : a.routes ≡ routes
   pub pushed : a.lines.items ≡ lines ++ a.line ∷ []
-  pub gap : IsGapLine (time_at (times_of s traffic a.routes)) traffic.net traffic.trips a.routes
-      a.line
+  pub gap : IsGapLine (costs_of s traffic a.routes) traffic.net traffic.trips a.routes a.line
   pub last : IsLast s traffic a
 
 -- an iteration is about to be loaded over these routes, and those before it are done

@@ -11,7 +11,7 @@ ghost use Rattle.assignment.specs.Traffic.{AreRoutesOf};
 use crate::lent::Assignment;
 use dta_model::{Eight, Loaded, Routes};
 use final_state::final_state;
-use gap::{GapLine, TimedTrips, gap_by_shares};
+use gap::{GapLine, gap_by_shares};
 use link_times::LinkTimes;
 use net_core::Memory;
 use route_flows::{gap_and_next_routes, started_routes};
@@ -19,6 +19,7 @@ use std::alloc::Global;
 use std::mem;
 use std::thread::Threads;
 use time_routes::TablePool;
+use trip_costs::WalkCosts;
 
 /// An iteration that is about to be loaded: its routes, and the gaps of those before it. The
 /// labels of each are filled in the memory of the one before.
@@ -116,11 +117,7 @@ pub fn advance<R: AllocGlobal + Threads + Sync>(
     let times = times_of(rt.alloc(), assignment, &it.routes, &loaded)?;
     drop(loaded);
     let old = mem::replace(&mut it.routes, Routes::of(Vec::new(rt.alloc())));
-    let timed = TimedTrips {
-        net: assignment.net,
-        times: &times,
-        trips: assignment.trips,
-    };
+    let timed = assignment.timed(WalkCosts::Links(&times));
     let (line, next) = gap_and_next_routes(rt, &timed, old, number, &it.pool)?;
     it.routes = next;
     it.lines.push(line)?;
@@ -149,7 +146,8 @@ pub fn finish<R: AllocGlobal + Threads + Sync>(
     let times = times_of(rt.alloc(), assignment, &routes, &loaded)?;
     let end = end_of(assignment, &routes, &loaded);
     let (net, trips) = (assignment.net, assignment.trips);
-    let line = gap_by_shares(rt, net, &times, trips, &routes, &pool)?;
+    let costs = WalkCosts::Links(&times);
+    let line = gap_by_shares(rt, net, costs, trips, &routes, &pool)?;
     lines.push(line)?;
     Ok(Assigned {
         routes,

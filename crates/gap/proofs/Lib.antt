@@ -1,4 +1,3 @@
-pub mod Shorts
 pub mod Sums
 pub mod Parts
 pub mod Determined

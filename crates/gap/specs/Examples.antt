@@ -1,6 +1,6 @@
 -- Parts per million of small gaps.
 use Rattle.std.specs.Prelude.{◌≡◌, refl}
-use Rattle.gap.specs.Gap.{most_of_a_link, ppm_of}
+use Rattle.gap.specs.Gap.{ppm_of}
 use Rattle.gap.specs.declared.measure.TheConstants.{PER_MILLION}
 
 four_of_eighty_four : ppm_of 4 84 ≡ 47619
@@ -15,6 +15,3 @@ above_nothing = refl
 -- ---- limits
 a_million : PER_MILLION ≡ 1000000
 a_million = refl
-
-longest_link : most_of_a_link ≡ 122400
-longest_link = refl

@@ -1,8 +1,8 @@
 -- Sums over vehicles by shares of them, one share after another.
 use Rattle.std.specs.Prelude.{◌≡◌, ℕ, ◌+◌, ◌*◌, ◌≤◌, ◌^◌, List, length, min, Option}
 use Rattle.net_core.specs.declared.rows.LinkNo.{LinkNo}
-use Rattle.dta_model.specs.LinkTimes.{time_at}
 use Rattle.dta_model.specs.Sound.{AreWalks}
+use Rattle.trip_costs.specs.WalkCosts.{timing}
 use Rattle.gap.specs.Gap.{over_vehicles, route_time}
 use Rattle.gap.specs.declared.timed_trips.TimedTrips.{TimedTrips}
 
@@ -18,7 +18,7 @@ IsPart number size count share part =
 
 -- the steps of the route of the vehicle at a place of the list
 abbrev pub steps_over : TimedTrips → List (Option (List LinkNo)) → ℕ → ℕ
-steps_over timed routes = route_time (time_at timed.times.now) timed.net.now timed.trips.now routes
+steps_over timed routes = route_time (timing timed.costs) timed.net.now timed.trips.now routes
 
 -- routes of trips: a walk for each that has a route
 pub record AreRoutes (timed : TimedTrips) (routes : List (Option (List LinkNo))) : Type 0 where

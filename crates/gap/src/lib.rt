@@ -1,7 +1,7 @@
 //! How far the routes of an iteration are from the least ones, in whole steps.
 //!
 //! [`gap`] tells the least times of all vehicles that have routes, walks their routes over the
-//! same table of link times, and sums both in 128 bits. Its contract is the gap of an iteration
+//! same costs, and sums both in 128 bits. Its contract is the gap of an iteration
 //! (specs/Gap.antt). [`gap_line`] is the same where the least times are told already;
 //! [`gap_by_shares`] and [`gap_line_by_shares`] work in threads.
 //!
@@ -14,7 +14,6 @@ mod line;
 mod measure;
 mod shares;
 mod timed_trips;
-mod walked;
 
 pub use laws::gap_lines_are_determined;
 pub use line::GapLine;

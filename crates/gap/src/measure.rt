@@ -1,6 +1,5 @@
 // The gap of an iteration.
 ghost use Rattle.std.specs.Prelude.{◌≡◌, ◌+◌, ◌<◌, ◌≤◌, ◌*◌, ◌^◌, ℕ, List, length, All, Some, IfOk};
-ghost use Rattle.dta_model.specs.LinkTimes.{time_at};
 ghost use Rattle.dta_model.specs.Sound.{AreTrips};
 ghost use Rattle.dta_model.specs.Sound.{AreWalks};
 ghost use Rattle.link_times.specs.TimeTables.{IsShort};
@@ -10,32 +9,32 @@ ghost use Rattle.gap.specs.Shares.{AreRoutes, steps_over};
 ghost use Rattle.gap.specs.Told.{asks_for, least_at, least_in};
 ghost use Rattle.net_core.specs.declared.rows.LinkNo.{LinkNo as LinkOf};
 ghost use Rattle.time_routes.specs.Destinations.{AreTold, LeastOf};
+ghost use Rattle.trip_costs.specs.WalkCosts.{table_in, timing};
 
 use crate::line::GapLine;
 use crate::shares::route_steps_by_shares;
 use crate::timed_trips::TimedTrips;
-use crate::walked::time_of;
 use dta_model::{MOST_TRIPS, Route, Routes, Trip};
-use link_times::LinkTimes;
 use net_core::{Memory, Net};
 use std::alloc::Global;
 use std::thread::Threads;
 use time_routes::{Ask, TablePool, tell, tell_by_shares};
+use trip_costs::WalkCosts;
 
 // Parts per million are of so many.
 const PER_MILLION: u128 = 1_000_000;
 
 // The steps of a trip's route, and 0 where there is none.
-fn route_steps(net: &Net, times: &LinkTimes, trip: &Trip, route: &Option<Route>) -> u128
-    requires table { length times.now.free ≡ length net.now.links }
-    requires short { IsShort times.now }
+fn route_steps(net: &Net, costs: &WalkCosts, trip: &Trip, route: &Option<Route>) -> u128
+    requires table { length (table_in costs.now).free ≡ length net.now.links }
+    requires short { IsShort (table_in costs.now) }
     requires links { (links : List LinkOf) → route.now ≡ Some links
         → All (λ l. l.0 < length net.now.links) links }
-    ensures is { result ≡ steps_of (time_at times.now) net.now (Some trip.now) (Some route.now) }
+    ensures is { result ≡ steps_of (timing costs.now) net.now (Some trip.now) (Some route.now) }
     ensures low { result < 2 ^ 82 }
 {
     match route {
-        Some(route) => time_of(net, times, trip.departure, route.as_slice()),
+        Some(route) => costs.time_of(net, trip.departure, route.as_slice()),
         None => 0,
     }
 }
@@ -56,7 +55,7 @@ pub(crate) fn steps_between(
 {
     let mut total: u128 = 0;
     for v in from..to {
-        total += route_steps(timed.net, timed.times, &timed.trips[v], &routes[v]);
+        total += route_steps(timed.net, &timed.costs, &timed.trips[v], &routes[v]);
     }
     total
 }
@@ -104,12 +103,12 @@ fn line_of(
     route_steps: u128,
 ) -> GapLine
     requires routes { AreRoutes timed.now routes.now }
-    requires told { AreTold (LeastOf (time_at timed.now.times.now) timed.now.net.now)
+    requires told { AreTold (LeastOf (timing timed.now.costs) timed.now.net.now)
         (has_route routes.now) timed.now.trips.now told.now }
     requires steps { route_steps ≡ over_vehicles (length timed.now.trips.now)
         (steps_over timed.now routes.now) }
     requires low { route_steps < 2 ^ 108 }
-    ensures { IsGapLine (time_at timed.now.times.now) timed.now.net.now timed.now.trips.now
+    ensures { IsGapLine (timing timed.now.costs) timed.now.net.now timed.now.trips.now
         routes.now result }
 {
     let least_steps = all_least_steps(routes, told);
@@ -122,13 +121,13 @@ fn line_of(
     }
 }
 
-/// The line of the gap of routes over a table, where the least times of the vehicles that have
+/// The line of the gap of routes over costs, where the least times of the vehicles that have
 /// routes are told. It takes no memory.
 pub fn gap_line(timed: &TimedTrips, routes: &Routes, told: &[Option<u64>]) -> GapLine
     requires routes { AreRoutes timed.now routes.now }
-    requires told { AreTold (LeastOf (time_at timed.now.times.now) timed.now.net.now)
+    requires told { AreTold (LeastOf (timing timed.now.costs) timed.now.net.now)
         (has_route routes.now) timed.now.trips.now told.now }
-    ensures { IsGapLine (time_at timed.now.times.now) timed.now.net.now timed.now.trips.now
+    ensures { IsGapLine (timing timed.now.costs) timed.now.net.now timed.now.trips.now
         routes.now result }
 {
     let routes = routes.as_slice();
@@ -146,10 +145,10 @@ pub fn gap_line_by_shares<R: AllocGlobal + Threads + Sync>(
     workers: u32,
 ) -> Result<GapLine, Memory>
     requires routes { AreRoutes timed.now routes.now }
-    requires told { AreTold (LeastOf (time_at timed.now.times.now) timed.now.net.now)
+    requires told { AreTold (LeastOf (timing timed.now.costs) timed.now.net.now)
         (has_route routes.now) timed.now.trips.now told.now }
     requires workers { 1 ≤ workers }
-    ensures { IfOk result (IsGapLine (time_at timed.now.times.now) timed.now.net.now
+    ensures { IfOk result (IsGapLine (timing timed.now.costs) timed.now.net.now
         timed.now.trips.now routes.now) }
 {
     let routes = routes.as_slice();
@@ -171,25 +170,25 @@ fn asks_of(alloc: Global, routes: &[Option<Route>]) -> Result<Vec<Ask>, Memory>
     Ok(asks)
 }
 
-/// The line of the gap of routes over a table: how many steps the routes take, started at the
+/// The line of the gap of routes over costs: how many steps the routes take, started at the
 /// departures, and how many the least ones of the same vehicles.
 pub fn gap(
     alloc: Global,
     net: &Net,
-    times: &LinkTimes,
+    costs: WalkCosts,
     trips: &[Trip],
     routes: &Routes,
 ) -> Result<GapLine, Memory>
-    requires table { length times.now.free ≡ length net.now.links }
-    requires short { IsShort times.now }
+    requires table { length (table_in costs).free ≡ length net.now.links }
+    requires short { IsShort (table_in costs) }
     requires trips { AreTrips trips.now }
     requires each { length routes.now ≡ length trips.now }
     requires walks { AreWalks net.now trips.now routes.now }
-    ensures { IfOk result (IsGapLine (time_at times.now) net.now trips.now routes.now) }
+    ensures { IfOk result (IsGapLine (timing costs.entry) net.now trips.now routes.now) }
 {
     let asks = asks_of(alloc, routes.as_slice())?;
-    let told = tell(alloc, net, times, trips, &asks)?;
-    Ok(gap_line(&TimedTrips { net, times, trips }, routes, &told.leasts))
+    let told = tell(alloc, net, costs, trips, &asks)?;
+    Ok(gap_line(&TimedTrips { net, costs, trips }, routes, &told.leasts))
 }
 
 /// The same as [`gap`], by shares of the destinations side by side, at most as many as the pool
@@ -197,21 +196,21 @@ pub fn gap(
 pub fn gap_by_shares<R: AllocGlobal + Threads + Sync>(
     rt: &R,
     net: &Net,
-    times: &LinkTimes,
+    costs: WalkCosts,
     trips: &[Trip],
     routes: &Routes,
     pool: &TablePool,
 ) -> Result<GapLine, Memory>
-    requires table { length times.now.free ≡ length net.now.links }
-    requires short { IsShort times.now }
+    requires table { length (table_in costs).free ≡ length net.now.links }
+    requires short { IsShort (table_in costs) }
     requires trips { AreTrips trips.now }
     requires each { length routes.now ≡ length trips.now }
     requires walks { AreWalks net.now trips.now routes.now }
-    ensures { IfOk result (IsGapLine (time_at times.now) net.now trips.now routes.now) }
+    ensures { IfOk result (IsGapLine (timing costs.entry) net.now trips.now routes.now) }
 {
     let asks = asks_of(rt.alloc(), routes.as_slice())?;
-    let told = tell_by_shares(rt, net, times, trips, &asks, pool)?;
-    let timed = TimedTrips { net, times, trips };
+    let told = tell_by_shares(rt, net, costs, trips, &asks, pool)?;
+    let timed = TimedTrips { net, costs, trips };
     let line = gap_line_by_shares(rt, &timed, routes, &told.leasts, pool.workers())?;
     Ok(line)
 }

@@ -1,15 +1,16 @@
-// Trips over a table of link times.
+// Trips over costs.
 ghost use Rattle.gap.specs.Timed.{AreTimed};
+ghost use Rattle.trip_costs.specs.WalkCosts.{table_in};
 
 use dta_model::Trip;
-use link_times::LinkTimes;
 use net_core::Net;
+use trip_costs::WalkCosts;
 
-/// The trips of vehicles, and a table of the link times of their network.
+/// The trips of vehicles, and the costs of walks over their network.
 #[derive(Clone, Copy, Drop)]
 pub struct TimedTrips<'a> {
     pub net: &'a Net,
-    pub times: &'a LinkTimes,
+    pub costs: WalkCosts<'a>,
     pub trips: &'a [Trip],
-    ghost are: { AreTimed net.now times.now trips.now },
+    ghost are: { AreTimed net.now (table_in costs) trips.now },
 }

@@ -1,4 +1,5 @@
 -- The line of a gap by the chosen walks is the line of the gap.
+use Rattle.trip_costs.specs.Timings.{Links}
 use Rattle.std.proofs.Common.{◌≡◌, ℕ, ◌+◌, ◌-◌, ◌≤◌, List, length, refl, ap, sym, ◌∙◌, subst, arith, Option, None, Some}
 use Rattle.std.specs.Prelude.{slice_get}
 use Rattle.net_core.specs.Network.{IsNet}
@@ -21,27 +22,27 @@ with-rest all least h = omega (arith, h)
 
 module _ (at : ℕ → ℕ → ℕ) (net : NetRows) (sound : IsNet net) (times : AreTimes at net) (trips : List Trip) (routes : List (Option (List LinkNo))) (walks : AreWalks net trips routes) where
   least-by-walk : (trip : Trip) (route : List LinkNo) → IsWalk net trip.origin trip.destination (link_numbers route)
-      → IsLeastOf at net trip (Some route) (steps_of at net (Some trip) (Some (chosen_route at net trip)))
+      → IsLeastOf (Links at) net trip (Some route) (steps_of (Links at) net (Some trip) (Some (chosen_route at net trip)))
   least-by-walk trip route walk = by (chosen_route at net trip) (chosen at net sound times trip)
     where
-      by : (o : Option (List LinkNo)) → WalkOf at net trip o → IsLeastOf at net trip (Some route) (steps_of at net (Some trip) (Some o))
+      by : (o : Option (List LinkNo)) → WalkOf (Links at) net trip o → IsLeastOf (Links at) net trip (Some route) (steps_of (Links at) net (Some trip) (Some o))
       by None none = absurd (none (link_numbers route) walk)
       by (Some links) is = record { some_walk = (link_numbers links, is.walks, refl); none_less = is.none_less }
 
   leasts-at : (v : ℕ) (trip : Trip) (route : Option (List LinkNo)) → slice_get trips v ≡ Some trip → slice_get routes v ≡ Some route
-      → IsLeastOf at net trip route (least_of at net (Some trip) (Some route))
+      → IsLeastOf (Links at) net trip route (least_of at net (Some trip) (Some route))
   leasts-at v trip None t r = refl
   leasts-at v trip (Some route) t r = least-by-walk trip route (walks v trip route t r)
 
-  are-leasts : AreLeasts at net trips routes (least_time at net trips routes)
+  are-leasts : AreLeasts (Links at) net trips routes (least_time at net trips routes)
   are-leasts v trip route t r =
-      subst (λ n. IsLeastOf at net trip route n)
+      subst (λ n. IsLeastOf (Links at) net trip route n)
       (sym (ap (λ o. least_of at net o (slice_get routes v)) t ∙ ap (λ o. least_of at net (Some trip) o) r)) (leasts-at v trip route t r)
 
-  none-less : (v : ℕ) → least_time at net trips routes v ≤ route_time at net trips routes v
+  none-less : (v : ℕ) → least_time at net trips routes v ≤ route_time (Links at) net trips routes v
   none-less v = by (slice_get trips v) refl (slice_get routes v) refl
     where
-      by : (t : Option Trip) → slice_get trips v ≡ t → (r : Option (Option (List LinkNo))) → slice_get routes v ≡ r → least_of at net t r ≤ steps_of at net t r
+      by : (t : Option Trip) → slice_get trips v ≡ t → (r : Option (Option (List LinkNo))) → slice_get routes v ≡ r → least_of at net t r ≤ steps_of (Links at) net t r
       by None e r f = omega arith
       by (Some trip) e None f = omega arith
       by (Some trip) e (Some None) f = omega arith
@@ -49,12 +50,12 @@ module _ (at : ℕ → ℕ → ℕ) (net : NetRows) (sound : IsNet net) (times :
           let walk = walks v trip route e f in
           (least-by-walk trip route walk).none_less (link_numbers route) walk
 
-  pub gap-is : IsGapLine at net trips routes (gap_of at net trips routes)
+  pub gap-is : IsGapLine (Links at) net trips routes (gap_of at net trips routes)
   unfolding gap_of
   gap-is = record {
     by_routes = refl;
     by_leasts = (least_time at net trips routes, are-leasts, refl);
-    above = with-rest (over_vehicles (length trips) (route_time at net trips routes)) (over_vehicles (length trips) (least_time at net trips routes))
-        (over-le (length trips) (least_time at net trips routes) (route_time at net trips routes) (λ v h. none-less v));
+    above = with-rest (over_vehicles (length trips) (route_time (Links at) net trips routes)) (over_vehicles (length trips) (least_time at net trips routes))
+        (over-le (length trips) (least_time at net trips routes) (route_time (Links at) net trips routes) (λ v h. none-less v));
     per_million = refl;
   }

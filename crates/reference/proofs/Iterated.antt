@@ -1,4 +1,5 @@
 -- The iterations of the reference are those of the definitions.
+use Rattle.trip_costs.specs.Timings.{Links}
 use Rattle.std.proofs.Common.{◌≡◌, ℕ, zero, suc, ◌+◌, ◌<◌, map, ap, sym, ◌∙◌, subst, arith, Some}
 use Rattle.std.specs.Prelude.{slice_get}
 use Rattle.std.proofs.lemmas.List.FromFn.{get_or-map-range_with_len, length-map-range_with_len}
@@ -45,27 +46,27 @@ module _ (s : Settings) (traffic : Traffic) (settings : AreSettings s) (net : Is
   first-at = first-are traffic.net traffic.start net start (free-times traffic.net net) traffic.trips
 
   next-of : (i : ℕ) (old : VehicleRoutes) → AreRoutesOf traffic old
-      → AreNextRoutes (time_at (times_of s traffic old)) traffic.net traffic.trips (i + 1) old (routes_after s traffic (i + 1) old)
+      → AreNextRoutes (Links (time_at (times_of s traffic old))) traffic.net traffic.trips (i + 1) old (routes_after s traffic (i + 1) old)
   next-of i old are = next-are (time_at (times_of s traffic old)) traffic.net net (times-of-loading old are) traffic.trips (i + 1) old are.each
 
   next-routed : (i : ℕ) (old new : VehicleRoutes) → AreRoutesOf traffic old
-      → AreNextRoutes (time_at (times_of s traffic old)) traffic.net traffic.trips (i + 1) old new → AreRoutesOf traffic new
+      → AreNextRoutes (Links (time_at (times_of s traffic old))) traffic.net traffic.trips (i + 1) old new → AreRoutesOf traffic new
   next-routed i old new are next = record {
     each = next.as_many;
-    walks = next_walk (time_at (times_of s traffic old)) traffic.net traffic.trips (i + 1) old new are.walks next;
+    walks = next_walk (Links (time_at (times_of s traffic old))) traffic.net traffic.trips (i + 1) old new are.walks next;
   }
 
   pub routed : (i : ℕ) → AreRoutesOf traffic (routes_at s traffic i)
   unfolding routes_at
   routed zero = record {
     each = first-at.as_many;
-    walks = started_walk (free_time traffic.net) traffic.net traffic.start traffic.trips (routes_at s traffic 0) first-at;
+    walks = started_walk (Links (free_time traffic.net)) traffic.net traffic.start traffic.trips (routes_at s traffic 0) first-at;
   }
   routed (suc i) =
       let before = routed i in
       next-routed i (routes_at s traffic i) (routes_after s traffic (i + 1) (routes_at s traffic i)) before (next-of i (routes_at s traffic i) before)
 
-  next-at : (i : ℕ) → AreNextRoutes (time_at (times_of s traffic (routes_at s traffic i))) traffic.net traffic.trips (i + 1) (routes_at s traffic i) (routes_at s traffic (suc i))
+  next-at : (i : ℕ) → AreNextRoutes (Links (time_at (times_of s traffic (routes_at s traffic i)))) traffic.net traffic.trips (i + 1) (routes_at s traffic i) (routes_at s traffic (suc i))
   unfolding routes_at
   next-at i = next-of i (routes_at s traffic i) (routed i)
 
@@ -76,21 +77,21 @@ module _ (s : Settings) (traffic : Traffic) (settings : AreSettings s) (net : Is
     first = λ r e. subst (λ x. AreStartedRoutes traffic.net traffic.start traffic.trips x) (at-place (routes_at s traffic) s.iterations 0 r e) first-at;
     next = λ i old new e f. next-there i old new (at-place (routes_at s traffic) s.iterations i old e) (at-place (routes_at s traffic) s.iterations (i + 1) new f);
     gaps = λ i r line e f.
-        subst (λ g. IsGapLine (time_at (times_of s traffic r)) traffic.net traffic.trips r g) (at-place (gap_at s traffic) s.iterations i line f)
+        subst (λ g. IsGapLine (Links (time_at (times_of s traffic r))) traffic.net traffic.trips r g) (at-place (gap_at s traffic) s.iterations i line f)
         (gap-there i r (at-place (routes_at s traffic) s.iterations i r e));
   }
     where
       next-there : (i : ℕ) (old new : VehicleRoutes) → routes_at s traffic i ≡ old → routes_at s traffic (i + 1) ≡ new
-          → AreNextRoutes (time_at (times_of s traffic old)) traffic.net traffic.trips (i + 1) old new
+          → AreNextRoutes (Links (time_at (times_of s traffic old))) traffic.net traffic.trips (i + 1) old new
       next-there i old new e f =
           let up : i + 1 ≡ suc i = omega arith in
           let there : routes_at s traffic (suc i) ≡ new = ap (routes_at s traffic) (sym up) ∙ f in
-          subst (λ x. AreNextRoutes (time_at (times_of s traffic x)) traffic.net traffic.trips (i + 1) x new) e
-          (subst (λ y. AreNextRoutes (time_at (times_of s traffic (routes_at s traffic i))) traffic.net traffic.trips (i + 1) (routes_at s traffic i) y) there (next-at i))
+          subst (λ x. AreNextRoutes (Links (time_at (times_of s traffic x))) traffic.net traffic.trips (i + 1) x new) e
+          (subst (λ y. AreNextRoutes (Links (time_at (times_of s traffic (routes_at s traffic i)))) traffic.net traffic.trips (i + 1) (routes_at s traffic i) y) there (next-at i))
 
-      gap-there : (i : ℕ) (r : VehicleRoutes) → routes_at s traffic i ≡ r → IsGapLine (time_at (times_of s traffic r)) traffic.net traffic.trips r (gap_at s traffic i)
+      gap-there : (i : ℕ) (r : VehicleRoutes) → routes_at s traffic i ≡ r → IsGapLine (Links (time_at (times_of s traffic r))) traffic.net traffic.trips r (gap_at s traffic i)
       gap-there i r e =
           let routes = routes_at s traffic i in
           let are = routed i in
-          subst (λ x. IsGapLine (time_at (times_of s traffic x)) traffic.net traffic.trips x (gap_at s traffic i)) e
+          subst (λ x. IsGapLine (Links (time_at (times_of s traffic x))) traffic.net traffic.trips x (gap_at s traffic i)) e
           (gap-is (time_at (times_of s traffic routes)) traffic.net net (times-of-loading routes are) traffic.trips routes are.walks)

@@ -1,4 +1,5 @@
 -- The skim of the reference is the skim.
+use Rattle.trip_costs.specs.Timings.{Links}
 use Rattle.std.proofs.Common.{◌≡◌, ℕ, ◌*◌, ◌<◌, ◌≤◌, List, [], ◌∷◌, length, map, refl, ap, sym, ◌∙◌, arith, Option, None, Some}
 use Rattle.std.specs.Prelude.{All, fold, max, option_map}
 use Rattle.std.specs.List.{AllZip}
@@ -82,7 +83,7 @@ module _ (most : ℕ) (at : ℕ → ℕ → ℕ) (net : NetRows) (sound : IsNet 
   }
     where
       by : (o : Option (List ℕ)) → Finds at net question.origin question.destination question.start o
-          → TellsLeast at net question.origin question.destination question.start (option_map (walk_time at net question.start) o)
+          → TellsLeast (Links at) net question.origin question.destination question.start (option_map (walk_time at net question.start) o)
       by None none = none
       by (Some walk) is = record { some_walk = (walk, is.walks, refl); none_less = is.none_less }
 

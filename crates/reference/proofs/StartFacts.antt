@@ -1,4 +1,5 @@
 -- The routes of a start table, the first routes, the next ones, and since when each is there.
+use Rattle.trip_costs.specs.Timings.{Links}
 use Rattle.std.proofs.Common.{◌≡◌, ◌⊎◌, inl, inr, ℕ, zero, suc, ◌+◌, ◌<◌, ◌≤◌, Bool, true, false, cond, List, [], ◌∷◌, length, map, refl, ap, sym, ◌∙◌, subst, arith, Option, None, Some}
 use Rattle.std.specs.Prelude.{if◌then◌else◌, nat_eq, nat_lt, option_map, slice_get, ◌&&◌}
 use Rattle.std.specs.List.{enumerate_from, zip}
@@ -35,11 +36,11 @@ numbers-back [] = refl
 numbers-back (l ∷ walk) = ap (λ rest. l ∷ rest) (numbers-back walk)
 
 module _ (at : ℕ → ℕ → ℕ) (net : NetRows) (sound : IsNet net) (times : AreTimes at net) where
-  pub chosen : (trip : Trip) → WalkOf at net trip (chosen_route at net trip)
+  pub chosen : (trip : Trip) → WalkOf (Links at) net trip (chosen_route at net trip)
   unfolding chosen_route
   chosen trip = told (search at net trip.origin trip.destination trip.departure) (walks_are_found MOST_HORIZON at net sound times trip.origin trip.destination trip.departure)
     where
-      told : (o : Option (List ℕ)) → Finds at net trip.origin trip.destination trip.departure o → WalkOf at net trip (option_map as_links o)
+      told : (o : Option (List ℕ)) → Finds at net trip.origin trip.destination trip.departure o → WalkOf (Links at) net trip (option_map as_links o)
       told None none = none
       told (Some walk) is = subst (λ w. IsChosen at net trip.origin trip.destination trip.departure w) (sym (numbers-back walk)) is
 
@@ -153,10 +154,10 @@ same-some x y e = cc
 
 -- ---- the first routes
 module _ (net : NetRows) (start : List StartRow) (sound : IsNet net) (rows : AreStartRows start) (times : AreTimes (free_time net) net) where
-  starts-on : (trip : Trip) → StartsOn (free_time net) net start trip (first_route net start trip)
+  starts-on : (trip : Trip) → StartsOn (Links (free_time net)) net start trip (first_route net start trip)
   starts-on trip = by (started_route net start trip) (started-tells net start trip rows)
     where
-      by : (o : Option (List LinkNo)) → TellsStart net start trip o → StartsOn (free_time net) net start trip (or_other o (chosen_route (free_time net) net trip))
+      by : (o : Option (List LinkNo)) → TellsStart net start trip o → StartsOn (Links (free_time net)) net start trip (or_other o (chosen_route (free_time net) net trip))
       by (Some walk) is = inl (walk, refl, is)
       by None none = inr (none, chosen (free_time net) net sound times trip)
 
@@ -165,7 +166,7 @@ module _ (net : NetRows) (start : List StartRow) (sound : IsNet net) (rows : Are
   first-are trips = record {
     as_many = length-map trips (first_route net start);
     each = λ v trip route t r.
-        subst (λ x. StartsOn (free_time net) net start trip x) (mapped (first_route net start) trips v trip route t r) (starts-on trip);
+        subst (λ x. StartsOn (Links (free_time net)) net start trip x) (mapped (first_route net start) trips v trip route t r) (starts-on trip);
   }
 
 -- ---- the next routes
@@ -221,11 +222,11 @@ module _ (at : ℕ → ℕ → ℕ) (net : NetRows) (sound : IsNet net) (times :
       let trip = get-there trips v (omega (arith, within, each)) in
       next-at v (trip.0) route (trip.1) e ∙ ap (λ b. Some (cond b (chosen_route at net (trip.0)) route)) s
 
-  pub next-are : AreNextRoutes at net trips k old (next_routes at net trips k old)
+  pub next-are : AreNextRoutes (Links at) net trips k old (next_routes at net trips k old)
   next-are = record {
     as_many = next-long;
     selected = λ v trip route s t n.
-        subst (λ r. WalkOf at net trip r) (taken v trip route s t n) (chosen at net sound times trip);
+        subst (λ r. WalkOf (Links at) net trip r) (taken v trip route s t n) (chosen at net sound times trip);
     others = λ v s. kept v s (slice_get old v) refl;
   }
 

@@ -1,4 +1,5 @@
 -- The gap of an iteration by a function: the least steps are those of the chosen walks.
+use Rattle.trip_costs.specs.Timings.{Links}
 use Rattle.std.specs.Prelude.{ℕ, ◌-◌, List, length, Option, None, Some, slice_get}
 use Rattle.net_core.specs.declared.rows.LinkNo.{LinkNo}
 use Rattle.net_core.specs.declared.rows.NetRows.{NetRows}
@@ -13,7 +14,7 @@ least_of at net None route = 0
 least_of at net (Some trip) None = 0
 least_of at net (Some trip) (Some None) = 0
 least_of at net (Some trip) (Some (Some route)) =
-    steps_of at net (Some trip) (Some (chosen_route at net trip))
+    steps_of (Links at) net (Some trip) (Some (chosen_route at net trip))
 
 -- those of the vehicle at a place of the list
 abbrev pub least_time : (ℕ → ℕ → ℕ) → NetRows → List Trip → List (Option (List LinkNo)) → ℕ → ℕ
@@ -31,5 +32,5 @@ line_of by_routes least = record {
 -- the line of routes over a table of link times
 unfoldable pub gap_of : (ℕ → ℕ → ℕ) → NetRows → List Trip → List (Option (List LinkNo)) → GapLine
 gap_of at net trips routes = line_of
-    (over_vehicles (length trips) (route_time at net trips routes))
+    (over_vehicles (length trips) (route_time (Links at) net trips routes))
     (over_vehicles (length trips) (least_time at net trips routes))

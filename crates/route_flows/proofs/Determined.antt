@@ -13,7 +13,11 @@ use Rattle.dta_model.specs.Plans.{link_numbers}
 use Rattle.dta_model.specs.TimedWalks.{walk_time}
 use Rattle.dta_model.specs.declared.trip.Trip.{Trip}
 use Rattle.time_routes.specs.Destinations.{WalkOf}
-use Rattle.route_flows.specs.Averages.{is_selected}
+use Rattle.trip_costs.specs.Timings.{IsChosenBy, Links, Timing, Trips}
+use Rattle.trip_costs.specs.TripCosts.{TravelCosts, time_by}
+use Rattle.trip_costs.specs.TripWalks.{IsChosenTrip}
+use Rattle.trip_costs.proofs.Timed.{walks_by}
+use Rattle.route_flows.specs.Averages.{renews}
 use Rattle.route_flows.specs.Laws.{ChosenAreDetermined, NextAreDetermined}
 use Rattle.labels.proofs.Basics.{some_same}
 
@@ -49,11 +53,25 @@ chosen_once at net o d start a b x y =
     let same : walk_time at net start (link_numbers b) ≡ walk_time at net start (link_numbers a) = omega (arith, ab, ba) in
     same_numbers a b (lists_turned (link_numbers a) (link_numbers b) (x.first (link_numbers b) y.walks same) (y.first (link_numbers a) x.walks (sym same)))
 
-pub walk_once : (at : ℕ → ℕ → ℕ) (net : NetRows) (trip : Trip) (a b : Option (List LinkNo)) → WalkOf at net trip a → WalkOf at net trip b → a ≡ b
-walk_once at net trip None None x y = refl
-walk_once at net trip None (Some b) x y = absurd (x (link_numbers b) y.walks)
-walk_once at net trip (Some a) None x y = absurd (y (link_numbers a) x.walks)
-walk_once at net trip (Some a) (Some b) x y = ap Some (chosen_once at net trip.origin trip.destination trip.departure a b x y)
+trip_once : (costs : TravelCosts) (net : NetRows) (o d start : ℕ) (a b : List LinkNo) → IsChosenTrip costs net o d start (link_numbers a) → IsChosenTrip costs net o d start (link_numbers b) → a ≡ b
+trip_once costs net o d start a b x y =
+    let ab = x.none_less (link_numbers b) y.walks in
+    let ba = y.none_less (link_numbers a) x.walks in
+    let same : time_by costs net start (link_numbers b) ≡ time_by costs net start (link_numbers a) = omega (arith, ab, ba) in
+    let more = x.fewest (link_numbers b) y.walks same in
+    let fewer = y.fewest (link_numbers a) x.walks (sym same) in
+    let many : length (link_numbers b) ≡ length (link_numbers a) = omega (arith, more, fewer) in
+    same_numbers a b (lists_turned (link_numbers a) (link_numbers b) (x.first (link_numbers b) y.walks same many) (y.first (link_numbers a) x.walks (sym same) (sym many)))
+
+once_by : (costs : Timing) (net : NetRows) (o d start : ℕ) (a b : List LinkNo) → IsChosenBy costs net o d start (link_numbers a) → IsChosenBy costs net o d start (link_numbers b) → a ≡ b
+once_by (Links at) net o d start a b x y = chosen_once at net o d start a b x y
+once_by (Trips costs) net o d start a b x y = trip_once costs net o d start a b x y
+
+pub walk_once : (costs : Timing) (net : NetRows) (trip : Trip) (a b : Option (List LinkNo)) → WalkOf costs net trip a → WalkOf costs net trip b → a ≡ b
+walk_once costs net trip None None x y = refl
+walk_once costs net trip None (Some b) x y = absurd (x (link_numbers b) (walks_by costs net trip.origin trip.destination trip.departure (link_numbers b) y))
+walk_once costs net trip (Some a) None x y = absurd (y (link_numbers a) (walks_by costs net trip.origin trip.destination trip.departure (link_numbers a) x))
+walk_once costs net trip (Some a) (Some b) x y = ap Some (once_by costs net trip.origin trip.destination trip.departure a b x y)
 
 -- ---- lists by place
 pub same_lists : {X : Type 0} (xs ys : List X) → length xs ≡ length ys → ((v : ℕ) (x y : X) → slice_get xs v ≡ Some x → slice_get ys v ≡ Some y → x ≡ y) → xs ≡ ys
@@ -75,7 +93,7 @@ module _ (trips : List Trip) where
   trip_at v h = (get_or trips v (record { number = 0; origin = 0; destination = 0; departure = 0 }), slice_get-get_or trips v (record { number = 0; origin = 0; destination = 0; departure = 0 }) h)
 
 pub chosen_are_determined : ChosenAreDetermined
-chosen_are_determined at net trips a b x y =
+chosen_are_determined costs net trips a b x y =
     same_lists a b (x.as_many ∙ sym y.as_many) one
   where
     one : (v : ℕ) (r s : Option (List LinkNo)) → slice_get a v ≡ Some r → slice_get b v ≡ Some s → r ≡ s
@@ -83,19 +101,19 @@ chosen_are_determined at net trips a b x y =
         let inside = in_list a v r e in
         let long = x.as_many in
         let t = trip_at trips v (omega (arith, inside, long)) in
-        walk_once at net (t.0) r s (x.each v (t.0) r (t.1) e) (y.each v (t.0) s (t.1) f)
+        walk_once costs net (t.0) r s (x.each v (t.0) r (t.1) e) (y.each v (t.0) s (t.1) f)
 
 pub next_are_determined : NextAreDetermined
-next_are_determined at net trips k old a b x y =
+next_are_determined costs net trips k old a b x y =
     same_lists a b (x.as_many ∙ sym y.as_many) one
   where
     one : (v : ℕ) (r s : Option (List LinkNo)) → slice_get a v ≡ Some r → slice_get b v ≡ Some s → r ≡ s
-    one v r s e f = by (is_selected v k) refl
+    one v r s e f = by (renews costs k v) refl
       where
-        by : (t : Bool) → is_selected v k ≡ t → r ≡ s
+        by : (t : Bool) → renews costs k v ≡ t → r ≡ s
         by true h =
             let inside = in_list a v r e in
             let long = x.as_many in
             let t = trip_at trips v (omega (arith, inside, long)) in
-            walk_once at net (t.0) r s (x.selected v (t.0) r h (t.1) e) (y.selected v (t.0) s h (t.1) f)
+            walk_once costs net (t.0) r s (x.selected v (t.0) r h (t.1) e) (y.selected v (t.0) s h (t.1) f)
         by false h = some_same r s (sym e ∙ x.others v h ∙ sym (y.others v h) ∙ f)

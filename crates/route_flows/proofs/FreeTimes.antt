@@ -17,6 +17,7 @@ use Rattle.dta_model.specs.declared.trip.Trip.{Trip}
 use Rattle.link_times.proofs.Places.{bucket_inside, by_bucket-get, by_bucket-long}
 use Rattle.time_routes.specs.Destinations.{AreTold, asks_walk, WalkOf}
 use Rattle.time_routes.specs.declared.vehicles.Ask.{Ask}
+use Rattle.trip_costs.specs.Timings.{Links}
 use Rattle.route_flows.specs.Averages.{AreChosenRoutes, AreFirstRoutes, AreStartedBy, AreStartedRoutes, free_time, StartsOn}
 use Rattle.route_flows.specs.Starting.{asks_for_rest, FillsIn}
 use Rattle.start_table.specs.Starts.{IsStarted, TellsStart}
@@ -86,42 +87,42 @@ module _ (at other : ℕ → ℕ → ℕ) (same : (l step : ℕ) → at l step �
     first = λ more w e. c.first more w (walk-same start more ∙ e ∙ sym (walk-same start walk));
   }
 
-  told-same : (trip : Trip) (told : Option (List LinkNo)) → WalkOf at net trip told → WalkOf other net trip told
+  told-same : (trip : Trip) (told : Option (List LinkNo)) → WalkOf (Links at) net trip told → WalkOf (Links other) net trip told
   told-same trip None h = h
   told-same trip (Some links) h = chosen-same trip.origin trip.destination trip.departure (link_numbers links) h
 
-  pub routes-same : (trips : List Trip) (routes : List (Option (List LinkNo))) → AreChosenRoutes at net trips routes → AreChosenRoutes other net trips routes
+  pub routes-same : (trips : List Trip) (routes : List (Option (List LinkNo))) → AreChosenRoutes (Links at) net trips routes → AreChosenRoutes (Links other) net trips routes
   routes-same trips routes are = record { as_many = are.as_many; each = λ v trip route t n. told-same trip route (are.each v trip route t n) }
 
-  pub started-same : (start : List StartRow) (trips : List Trip) (routes : List (Option (List LinkNo))) → AreStartedBy at net start trips routes → AreStartedBy other net start trips routes
+  pub started-same : (start : List StartRow) (trips : List Trip) (routes : List (Option (List LinkNo))) → AreStartedBy (Links at) net start trips routes → AreStartedBy (Links other) net start trips routes
   started-same start trips routes are = record { as_many = are.as_many; each = λ v trip route t n. by trip route (are.each v trip route t n) }
     where
-      by : (trip : Trip) (route : Option (List LinkNo)) → StartsOn at net start trip route → StartsOn other net start trip route
+      by : (trip : Trip) (route : Option (List LinkNo)) → StartsOn (Links at) net start trip route → StartsOn (Links other) net start trip route
       by trip route (inl started) = inl started
       by trip route (inr (none, chosen)) = inr (none, told-same trip route chosen)
 
 -- ---- the first routes
 pub first_are : (net : NetRows) (trips : List Trip) (times : TimeTable) (asks : List Ask) (walks routes : List (Option (List LinkNo))) → times ≡ free_table net 1 1 → asks ≡ replicate (length trips) (record { least = false; walk = true })
-    → AreTold (WalkOf (time_at times) net) (asks_walk asks) trips walks → routes ≡ walks → AreFirstRoutes net trips routes
+    → AreTold (WalkOf (Links (time_at times)) net) (asks_walk asks) trips walks → routes ≡ walks → AreFirstRoutes net trips routes
 first_are net trips times asks walks routes table asked told is =
     subst (λ r. AreFirstRoutes net trips r) (sym is)
     (routes-same (time_at times) (free_time net) (λ l step. ap (λ t. time_at t l step) table ∙ free-stands net 1 1 l step (omega arith) (omega arith)) net trips walks
-    (chosen_are (time_at times) net trips asks walks asked told))
+    (chosen_are (Links (time_at times)) net trips asks walks asked told))
 
-pub table_are : (net : NetRows) (trips : List Trip) (routes : List (Option (List LinkNo))) (bucket horizon : ℕ) → 1 ≤ bucket → 1 ≤ horizon → AreFirstRoutes net trips routes → AreChosenRoutes (time_at (free_table net bucket horizon)) net trips routes
+pub table_are : (net : NetRows) (trips : List Trip) (routes : List (Option (List LinkNo))) (bucket horizon : ℕ) → 1 ≤ bucket → 1 ≤ horizon → AreFirstRoutes net trips routes → AreChosenRoutes (Links (time_at (free_table net bucket horizon))) net trips routes
 table_are net trips routes bucket horizon some lasts first =
     routes-same (free_time net) (time_at (free_table net bucket horizon)) (λ l step. sym (free-stands net bucket horizon l step some lasts)) net trips routes first
 
 -- ---- from a start table
 pub from_start : (net : NetRows) (start : List StartRow) (trips : List Trip) (times : TimeTable) (asks shown : List Ask) (others told_walks old shown_old new : List (Option (List LinkNo))) → times ≡ free_table net 1 1
-    → AreTold (TellsStart net start) (λ v. true) trips old → shown_old ≡ old → asks ≡ asks_for_rest shown_old → shown ≡ asks → AreTold (WalkOf (time_at times) net) (asks_walk shown) trips told_walks → others ≡ told_walks → FillsIn others old new
+    → AreTold (TellsStart net start) (λ v. true) trips old → shown_old ≡ old → asks ≡ asks_for_rest shown_old → shown ≡ asks → AreTold (WalkOf (Links (time_at times)) net) (asks_walk shown) trips told_walks → others ≡ told_walks → FillsIn others old new
     → AreStartedRoutes net start trips new
 from_start net start trips times asks shown others told_walks old shown_old new table started so asked sa told ot fills =
     started-same (time_at times) (free_time net) (λ l step. ap (λ t. time_at t l step) table ∙ free-stands net 1 1 l step (omega arith) (omega arith)) net start trips new
-    (started_are (time_at times) net start trips shown others old new started (sa ∙ asked ∙ ap (λ o. asks_for_rest o) so)
-    (subst (λ w. AreTold (WalkOf (time_at times) net) (asks_walk shown) trips w) (sym ot) told) fills)
+    (started_are (Links (time_at times)) net start trips shown others old new started (sa ∙ asked ∙ ap (λ o. asks_for_rest o) so)
+    (subst (λ w. AreTold (WalkOf (Links (time_at times)) net) (asks_walk shown) trips w) (sym ot) told) fills)
 
-pub started_table : (net : NetRows) (start : List StartRow) (trips : List Trip) (routes : List (Option (List LinkNo))) (bucket horizon : ℕ) → 1 ≤ bucket → 1 ≤ horizon → AreStartedRoutes net start trips routes → AreStartedBy (time_at (free_table net bucket horizon)) net start trips routes
+pub started_table : (net : NetRows) (start : List StartRow) (trips : List Trip) (routes : List (Option (List LinkNo))) (bucket horizon : ℕ) → 1 ≤ bucket → 1 ≤ horizon → AreStartedRoutes net start trips routes → AreStartedBy (Links (time_at (free_table net bucket horizon))) net start trips routes
 started_table net start trips routes bucket horizon some lasts are =
     started-same (free_time net) (time_at (free_table net bucket horizon)) (λ l step. sym (free-stands net bucket horizon l step some lasts)) net start trips routes are
 

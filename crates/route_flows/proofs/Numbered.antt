@@ -5,6 +5,7 @@ use Rattle.std.proofs.lemmas.Bool.{cases_order}
 use Rattle.net_core.specs.declared.rows.LinkNo.{LinkNo}
 use Rattle.net_core.specs.declared.rows.NetRows.{NetRows}
 use Rattle.dta_model.specs.declared.trip.Trip.{Trip}
+use Rattle.trip_costs.specs.Timings.{Timing}
 use Rattle.route_flows.specs.Averages.{IsFirstNumber, IsLastRenewal, IsSince, is_selected, StartsOn}
 use Rattle.route_flows.specs.Laws.{SinceAreDetermined, StartedAreDetermined}
 use Rattle.route_flows.specs.Starting.{IsNumbered}
@@ -58,14 +59,14 @@ started_once net start trip a b sound (r, row, at, fits) (s, other, there, other
     let same : row ≡ other = one_row start r s row other sound.distinct at there (fits.agent ∙ sym others.agent) in
     named_once net row.links a b fits.names (subst (λ w. AreNamed net w.links b) (sym same) others.names)
 
-starts_once : (at : ℕ → ℕ → ℕ) (net : NetRows) (start : List StartRow) (trip : Trip) (a b : Option (List LinkNo)) → AreStartRows start → StartsOn at net start trip a → StartsOn at net start trip b → a ≡ b
-starts_once at net start trip a b sound (inl (w, aw, x)) (inl (u, bu, y)) = aw ∙ ap (λ l. Some l) (started_once net start trip w u sound x y) ∙ sym bu
-starts_once at net start trip a b sound (inl (w, aw, x)) (inr (none, y)) = absurd (none w x)
-starts_once at net start trip a b sound (inr (none, x)) (inl (u, bu, y)) = absurd (none u y)
-starts_once at net start trip a b sound (inr (_, x)) (inr (_, y)) = walk_once at net trip a b x y
+starts_once : (costs : Timing) (net : NetRows) (start : List StartRow) (trip : Trip) (a b : Option (List LinkNo)) → AreStartRows start → StartsOn costs net start trip a → StartsOn costs net start trip b → a ≡ b
+starts_once costs net start trip a b sound (inl (w, aw, x)) (inl (u, bu, y)) = aw ∙ ap (λ l. Some l) (started_once net start trip w u sound x y) ∙ sym bu
+starts_once costs net start trip a b sound (inl (w, aw, x)) (inr (none, y)) = absurd (none w x)
+starts_once costs net start trip a b sound (inr (none, x)) (inl (u, bu, y)) = absurd (none u y)
+starts_once costs net start trip a b sound (inr (_, x)) (inr (_, y)) = walk_once costs net trip a b x y
 
 pub started_are_determined : StartedAreDetermined
-started_are_determined at net start trips a b sound x y =
+started_are_determined costs net start trips a b sound x y =
     same_lists a b (x.as_many ∙ sym y.as_many) one
   where
     one : (v : ℕ) (r s : Option (List LinkNo)) → slice_get a v ≡ Some r → slice_get b v ≡ Some s → r ≡ s
@@ -73,4 +74,4 @@ started_are_determined at net start trips a b sound x y =
         let inside = in_list a v r e in
         let long = x.as_many in
         let t = trip_at trips v (omega (arith, inside, long)) in
-        starts_once at net start (t.0) r s sound (x.each v (t.0) r (t.1) e) (y.each v (t.0) s (t.1) f)
+        starts_once costs net start (t.0) r s sound (x.each v (t.0) r (t.1) e) (y.each v (t.0) s (t.1) f)

@@ -12,6 +12,8 @@ use Rattle.dta_model.specs.Walks.{IsWalk}
 use Rattle.dta_model.specs.declared.trip.Trip.{Trip}
 use Rattle.time_routes.specs.Destinations.{AreTold, asks_walk, WalkOf}
 use Rattle.time_routes.specs.declared.vehicles.Ask.{Ask}
+use Rattle.trip_costs.specs.Timings.{Timing}
+use Rattle.trip_costs.proofs.Timed.{walks_by}
 use Rattle.route_flows.specs.Averages.{AreStartedBy, StartsOn}
 use Rattle.route_flows.specs.Starting.{asks_for_rest, FillsIn, or_other}
 use Rattle.start_table.specs.Starts.{TellsStart}
@@ -123,10 +125,10 @@ begun_more {X} Is trips i xs trip x here is before = record {
         subst (λ w. Is w t y) same (subst (λ u. Is i u y) t_is (subst (λ z. Is i trip z) x_is is))
 
 -- ---- the first routes
-pub started_are : (at : ℕ → ℕ → ℕ) (net : NetRows) (start : List StartRow) (trips : List Trip) (asks : List Ask) (others old new : Walks)
-    → AreTold (TellsStart net start) (λ v. true) trips old → asks ≡ asks_for_rest old → AreTold (WalkOf at net) (asks_walk asks) trips others → FillsIn others old new
-    → AreStartedBy at net start trips new
-started_are at net start trips asks others old new started asked told fills = record {
+pub started_are : (costs : Timing) (net : NetRows) (start : List StartRow) (trips : List Trip) (asks : List Ask) (others old new : Walks)
+    → AreTold (TellsStart net start) (λ v. true) trips old → asks ≡ asks_for_rest old → AreTold (WalkOf costs net) (asks_walk asks) trips others → FillsIn others old new
+    → AreStartedBy costs net start trips new
+started_are costs net start trips asks others old new started asked told fills = record {
   as_many = fills.as_many ∙ started.as_many;
   each = λ v trip route t r.
       let within = slice_get_within new v route r in
@@ -144,7 +146,7 @@ started_are at net start trips asks others old new started asked told fills = re
     asked_at (x ∷ xs) (suc v) e = asked_at xs v e
 
     by : (v : ℕ) (trip : Trip) (route : Option (List LinkNo)) → slice_get trips v ≡ Some trip → v < length old → route ≡ or_other (get_or old v None) (get_or others v None)
-        → (o : Option (List LinkNo)) → get_or old v None ≡ o → StartsOn at net start trip route
+        → (o : Option (List LinkNo)) → get_or old v None ≡ o → StartsOn costs net start trip route
     by v trip route t inside is (Some walk) e =
         inl (walk, is ∙ ap (λ o. or_other o (get_or others v None)) e, started.each v (Some walk) (slice_get-get_or old v None inside ∙ ap (λ o. Some o) e) trip refl t)
     by v trip route t inside is None e =
@@ -153,14 +155,14 @@ started_are at net start trips asks others old new started asked told fills = re
         let ask : asks_walk asks v ≡ true = ap (λ l. asks_walk l v) asked ∙ asked_at old v there in
         inr (
           started.each v None there trip refl t,
-          subst (λ r. WalkOf at net trip r) (sym route_is) (told.each v (get_or others v None) (others_at v trip t) trip ask t),
+          subst (λ r. WalkOf costs net trip r) (sym route_is) (told.each v (get_or others v None) (others_at v trip t) trip ask t),
         )
 
-pub started_walk : (at : ℕ → ℕ → ℕ) (net : NetRows) (start : List StartRow) (trips : List Trip) (routes : Walks) → AreStartedBy at net start trips routes → AreWalks net trips routes
-started_walk at net start trips routes are v trip route t n = by (are.each v trip (Some route) t n)
+pub started_walk : (costs : Timing) (net : NetRows) (start : List StartRow) (trips : List Trip) (routes : Walks) → AreStartedBy costs net start trips routes → AreWalks net trips routes
+started_walk costs net start trips routes are v trip route t n = by (are.each v trip (Some route) t n)
   where
-    by : StartsOn at net start trip (Some route) → IsWalk net trip.origin trip.destination (link_numbers route)
+    by : StartsOn costs net start trip (Some route) → IsWalk net trip.origin trip.destination (link_numbers route)
     by (inl (walk, is, (r, row, at, fits))) =
         let same : walk ≡ route = sym (same_some route walk is) in
         subst (λ w. IsWalk net trip.origin trip.destination (link_numbers w)) same fits.walks
-    by (inr (none, chosen)) = chosen.walks
+    by (inr (none, chosen)) = walks_by costs net trip.origin trip.destination trip.departure (link_numbers route) chosen

@@ -5,6 +5,8 @@ use Rattle.net_core.specs.declared.rows.LinkNo.{LinkNo}
 use Rattle.net_core.specs.declared.rows.NetRows.{NetRows}
 use Rattle.dta_model.specs.LinkTimes.{free_steps}
 use Rattle.dta_model.specs.declared.trip.Trip.{Trip}
+use Rattle.trip_costs.specs.Changes.{changes_after}
+use Rattle.trip_costs.specs.Timings.{Links, Timing, Trips}
 use Rattle.time_routes.specs.Destinations.{WalkOf}
 use Rattle.start_table.specs.Starts.{HasNoStart, IsStarted}
 use Rattle.start_table.specs.declared.rows.StartRow.{StartRow}
@@ -19,43 +21,49 @@ unfoldable pub free_time : NetRows → ℕ → ℕ → ℕ
 free_time net l step = slice_index (free_steps net) l
 
 -- each vehicle has the chosen walk from its departure, and no route exactly where there is no walk
-pub record AreChosenRoutes (at : ℕ → ℕ → ℕ) (net : NetRows) (trips : List Trip)
+pub record AreChosenRoutes (costs : Timing) (net : NetRows) (trips : List Trip)
     (routes : List (Option (List LinkNo))) : Type 0 where
   pub as_many : length routes ≡ length trips
   pub each : (v : ℕ) (trip : Trip) (route : Option (List LinkNo)) → slice_get trips v ≡ Some trip
-      → slice_get routes v ≡ Some route → WalkOf at net trip route
+      → slice_get routes v ≡ Some route → WalkOf costs net trip route
 
 -- the routes of the first iteration: those by free-flow steps
 abbrev pub AreFirstRoutes : NetRows → List Trip → List (Option (List LinkNo)) → Type 0
-AreFirstRoutes net trips routes = AreChosenRoutes (free_time net) net trips routes
+AreFirstRoutes net trips routes = AreChosenRoutes (Links (free_time net)) net trips routes
 
 -- the first route of a vehicle: the walk of a row of a start table that fits it, or its chosen
 -- walk where no row does
-abbrev pub StartsOn : (ℕ → ℕ → ℕ) → NetRows → List StartRow → Trip → Option (List LinkNo) → Type 0
-StartsOn at net start trip route =
+abbrev pub StartsOn : Timing → NetRows → List StartRow → Trip → Option (List LinkNo) → Type 0
+StartsOn costs net start trip route =
     ((walk : List LinkNo) × (route ≡ Some walk) × IsStarted net start trip walk)
-    ⊎ (HasNoStart net start trip × WalkOf at net trip route)
+    ⊎ (HasNoStart net start trip × WalkOf costs net trip route)
 
 -- each vehicle has its first route; without a row all have their chosen walks
-pub record AreStartedBy (at : ℕ → ℕ → ℕ) (net : NetRows) (start : List StartRow)
+pub record AreStartedBy (costs : Timing) (net : NetRows) (start : List StartRow)
     (trips : List Trip) (routes : List (Option (List LinkNo))) : Type 0 where
   pub as_many : length routes ≡ length trips
   pub each : (v : ℕ) (trip : Trip) (route : Option (List LinkNo)) → slice_get trips v ≡ Some trip
-      → slice_get routes v ≡ Some route → StartsOn at net start trip route
+      → slice_get routes v ≡ Some route → StartsOn costs net start trip route
 
 -- the routes of the first iteration from a start table
 abbrev pub AreStartedRoutes : NetRows → List StartRow → List Trip → List (Option (List LinkNo))
     → Type 0
-AreStartedRoutes net start trips routes = AreStartedBy (free_time net) net start trips routes
+AreStartedRoutes net start trips routes =
+    AreStartedBy (Links (free_time net)) net start trips routes
+
+-- whether a vehicle takes its chosen walk after iteration k, by either costs
+abbrev pub renews : Timing → ℕ → ℕ → Bool
+renews (Links at) k vehicle = is_selected vehicle k
+renews (Trips costs) k vehicle = changes_after vehicle k
 
 -- the routes of the iteration after k: the vehicles that are selected have their chosen walks by
--- the link times of iteration k, and the others keep what they had
-pub record AreNextRoutes (at : ℕ → ℕ → ℕ) (net : NetRows) (trips : List Trip) (k : ℕ)
+-- the costs of iteration k, and the others keep what they had
+pub record AreNextRoutes (costs : Timing) (net : NetRows) (trips : List Trip) (k : ℕ)
     (old new : List (Option (List LinkNo))) : Type 0 where
   pub as_many : length new ≡ length trips
-  pub selected : (v : ℕ) (trip : Trip) (route : Option (List LinkNo)) → is_selected v k ≡ true
-      → slice_get trips v ≡ Some trip → slice_get new v ≡ Some route → WalkOf at net trip route
-  pub others : (v : ℕ) → is_selected v k ≡ false → slice_get new v ≡ slice_get old v
+  pub selected : (v : ℕ) (trip : Trip) (route : Option (List LinkNo)) → renews costs k v ≡ true
+      → slice_get trips v ≡ Some trip → slice_get new v ≡ Some route → WalkOf costs net trip route
+  pub others : (v : ℕ) → renews costs k v ≡ false → slice_get new v ≡ slice_get old v
 
 -- the iteration after k is the last one, of so many, for which a vehicle takes its chosen walk
 -- anew

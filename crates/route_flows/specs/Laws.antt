@@ -3,6 +3,7 @@ use Rattle.std.specs.Prelude.{◌≡◌, ◌↔◌, ℕ, List, [], Option}
 use Rattle.net_core.specs.declared.rows.LinkNo.{LinkNo}
 use Rattle.net_core.specs.declared.rows.NetRows.{NetRows}
 use Rattle.dta_model.specs.declared.trip.Trip.{Trip}
+use Rattle.trip_costs.specs.Timings.{Timing}
 use Rattle.route_flows.specs.Averages.{AreChosenRoutes, AreFirstRoutes, AreNextRoutes, AreSince}
 use Rattle.route_flows.specs.Averages.{AreStartedBy, AreStartedRoutes}
 use Rattle.start_table.specs.Starts.{AreStartRows}
@@ -11,22 +12,22 @@ use Rattle.start_table.specs.declared.rows.StartRow.{StartRow}
 -- trips and a table have one list of chosen walks
 abbrev pub ChosenAreDetermined : Type 0
 ChosenAreDetermined =
-    (at : ℕ → ℕ → ℕ) (net : NetRows) (trips : List Trip) (a b : List (Option (List LinkNo)))
-    → AreChosenRoutes at net trips a → AreChosenRoutes at net trips b → a ≡ b
+    (costs : Timing) (net : NetRows) (trips : List Trip) (a b : List (Option (List LinkNo)))
+    → AreChosenRoutes costs net trips a → AreChosenRoutes costs net trips b → a ≡ b
 
 -- and the routes of an iteration have one list of next ones
 abbrev pub NextAreDetermined : Type 0
 NextAreDetermined =
-    (at : ℕ → ℕ → ℕ) (net : NetRows) (trips : List Trip) (k : ℕ)
+    (costs : Timing) (net : NetRows) (trips : List Trip) (k : ℕ)
     (old a b : List (Option (List LinkNo)))
-    → AreNextRoutes at net trips k old a → AreNextRoutes at net trips k old b → a ≡ b
+    → AreNextRoutes costs net trips k old a → AreNextRoutes costs net trips k old b → a ≡ b
 
 -- trips, a table and a start table have one list of first routes
 abbrev pub StartedAreDetermined : Type 0
 StartedAreDetermined =
-    (at : ℕ → ℕ → ℕ) (net : NetRows) (start : List StartRow) (trips : List Trip)
+    (costs : Timing) (net : NetRows) (start : List StartRow) (trips : List Trip)
     (a b : List (Option (List LinkNo))) → AreStartRows start
-    → AreStartedBy at net start trips a → AreStartedBy at net start trips b → a ≡ b
+    → AreStartedBy costs net start trips a → AreStartedBy costs net start trips b → a ≡ b
 
 -- without a row they are the first routes
 abbrev pub NoRowStartsNobody : Type 0

@@ -9,7 +9,10 @@ ghost use Rattle.gap.specs.Shares.{AreRoutes};
 ghost use Rattle.route_flows.specs.Averages.{AreChosenRoutes, AreFirstRoutes, AreNextRoutes};
 ghost use Rattle.route_flows.specs.Averages.{AreStartedBy, AreStartedRoutes};
 ghost use Rattle.route_flows.specs.declared.selection.TheConstants.{MOST_ITERATION};
+ghost use Rattle.trip_costs.specs.Timings.{Links};
+ghost use Rattle.trip_costs.specs.WalkCosts.{table_in, timing};
 
+use crate::change::Change;
 use crate::kept::{copies, fill_in, renew_selected};
 use crate::selection::{all_walks, asks_of, rest_of};
 use crate::starts::start_walks;
@@ -20,6 +23,7 @@ use net_core::{Memory, Net};
 use start_table::StartRows;
 use std::thread::Threads;
 use time_routes::{TablePool, Told, tell_by_shares};
+use trip_costs::WalkCosts;
 
 /// The most workers.
 pub const MOST_WORKERS: u32 = 16;
@@ -40,7 +44,7 @@ pub fn first_routes<R: AllocGlobal + Threads + Sync>(
     requires workers_most { workers ≤ MOST_WORKERS }
     ensures first { IfOk result (AreFirstRoutes net.now trips.now) }
     ensures table { (bucket : ℕ) → 1 ≤ bucket
-        → IfOk result (AreChosenRoutes (time_at (free_table net.now bucket horizon)) net.now
+        → IfOk result (AreChosenRoutes (Links (time_at (free_table net.now bucket horizon))) net.now
         trips.now) }
     ensures walks { IfOk result (AreWalks net.now trips.now) }
     ensures unstarted { IfOk result (AreStartedRoutes net.now [] trips.now) }
@@ -52,7 +56,7 @@ pub fn first_routes<R: AllocGlobal + Threads + Sync>(
     let told = tell_by_shares(
         rt,
         net,
-        &times,
+        WalkCosts::Links(&times),
         trips,
         &asks,
         &TablePool::new(alloc, workers),
@@ -79,8 +83,8 @@ pub fn started_routes<R: AllocGlobal + Threads + Sync>(
     requires workers_most { workers ≤ MOST_WORKERS }
     ensures started { IfOk result (AreStartedRoutes net.now start.now trips.now) }
     ensures table { (bucket : ℕ) → 1 ≤ bucket
-        → IfOk result (AreStartedBy (time_at (free_table net.now bucket horizon)) net.now start.now
-        trips.now) }
+        → IfOk result (AreStartedBy (Links (time_at (free_table net.now bucket horizon))) net.now
+        start.now trips.now) }
     ensures walks { IfOk result (AreWalks net.now trips.now) }
 {
     let alloc = rt.alloc();
@@ -93,7 +97,7 @@ pub fn started_routes<R: AllocGlobal + Threads + Sync>(
     } = tell_by_shares(
         rt,
         net,
-        &times,
+        WalkCosts::Links(&times),
         trips,
         &asks,
         &TablePool::new(alloc, workers),
@@ -102,18 +106,18 @@ pub fn started_routes<R: AllocGlobal + Threads + Sync>(
     Ok(Routes::of(routes))
 }
 
-/// The routes of the iteration after k, from those of iteration k and its link times: the vehicles
+/// The routes of the iteration after k, from those of iteration k and its costs: the vehicles
 /// that are selected have their chosen walks from their departures, the others keep their routes.
 pub fn next_routes<R: AllocGlobal + Threads + Sync>(
     rt: &R,
     net: &Net,
     trips: &[Trip],
-    times: &LinkTimes,
+    costs: WalkCosts,
     routes: &Routes,
     k: u32,
     workers: u32,
 ) -> Result<Routes, Memory>
-    requires table { length times.now.free ≡ length net.now.links }
+    requires table { length (table_in costs).free ≡ length net.now.links }
     requires trips { AreTrips trips.now }
     requires each { length routes.now ≡ length trips.now }
     requires walks { AreWalks net.now trips.now routes.now }
@@ -121,25 +125,26 @@ pub fn next_routes<R: AllocGlobal + Threads + Sync>(
     requires k_most { k ≤ MOST_ITERATION }
     requires workers_least { 1 ≤ workers }
     requires workers_most { workers ≤ MOST_WORKERS }
-    ensures next { IfOk result (AreNextRoutes (time_at times.now) net.now trips.now k routes.now) }
+    ensures next { IfOk result (AreNextRoutes (timing costs.entry) net.now trips.now k routes.now) }
     ensures walks { IfOk result (AreWalks net.now trips.now) }
 {
     let alloc = rt.alloc();
     let old = routes.as_slice();
-    let asks = asks_of(alloc, old, false, k)?;
+    let change = Change { costs, k };
+    let asks = asks_of(alloc, old, false, &change)?;
     let Told {
         leasts: _,
         mut walks,
     } = tell_by_shares(
         rt,
         net,
-        times,
+        costs,
         trips,
         &asks,
         &TablePool::new(alloc, workers),
     )?;
     let mut next = copies(alloc, old)?;
-    renew_selected(&mut walks, k, &mut next);
+    renew_selected(&mut walks, &change, &mut next);
     Ok(Routes::of(next))
 }
 
@@ -157,23 +162,27 @@ pub fn gap_and_next_routes<R: AllocGlobal + Threads + Sync>(
     requires routes { AreRoutes timed.now routes }
     requires k_least { 1 ≤ k }
     requires k_most { k ≤ MOST_ITERATION }
-    ensures gap { IfOk result (λ r. IsGapLine (time_at timed.now.times.now) timed.now.net.now
+    ensures gap { IfOk result (λ r. IsGapLine (timing timed.now.costs) timed.now.net.now
         timed.now.trips.now routes r.0) }
-    ensures next { IfOk result (λ r. AreNextRoutes (time_at timed.now.times.now) timed.now.net.now
+    ensures next { IfOk result (λ r. AreNextRoutes (timing timed.now.costs) timed.now.net.now
         timed.now.trips.now k routes r.1) }
     ensures walks { IfOk result (λ r. AreWalks timed.now.net.now timed.now.trips.now r.1) }
 {
-    let asks = asks_of(rt.alloc(), routes.as_slice(), true, k)?;
+    let change = Change {
+        costs: timed.costs,
+        k,
+    };
+    let asks = asks_of(rt.alloc(), routes.as_slice(), true, &change)?;
     let Told { leasts, mut walks } = tell_by_shares(
         rt,
         timed.net,
-        timed.times,
+        timed.costs,
         timed.trips,
         &asks,
         pool,
     )?;
     let line = gap_line_by_shares(rt, timed, &routes, &leasts, pool.workers())?;
     let mut next = routes.into_vec();
-    renew_selected(&mut walks, k, &mut next);
+    renew_selected(&mut walks, &change, &mut next);
     Ok((line, Routes::of(next)))
 }

@@ -2,12 +2,10 @@
 ghost use Rattle.std.specs.Prelude.{◌≡◌, ◌<◌, ◌≤◌, length, cond, get_or, slice_set, None, IfOk};
 ghost use Rattle.std.specs.Prelude.{is_none};
 ghost use Rattle.dta_model.specs.declared.trip.TheConstants.{MOST_TRIPS};
-ghost use Rattle.route_flows.specs.Asked.{Renews};
+ghost use Rattle.route_flows.specs.Asked.{Renews, takes};
 ghost use Rattle.route_flows.specs.Starting.{FillsIn};
-ghost use Rattle.route_flows.specs.Averages.{is_selected as selected_of};
-ghost use Rattle.route_flows.specs.declared.selection.TheConstants.{MOST_ITERATION};
 
-use crate::selection::is_selected;
+use crate::change::Change;
 use dta_model::Route;
 use net_core::Memory;
 use std::alloc::Global;
@@ -35,30 +33,32 @@ pub(crate) fn copies(alloc: Global, routes: &[Option<Route>]) -> Result<Vec<Opti
 
 // Gives a vehicle its walk in place of its old route, which is left where the walk was, if it is
 // selected.
-fn renew(walks: &mut [Option<Route>], vehicle: u32, k: u32, routes: &mut [Option<Route>])
-    requires k { k ≤ MOST_ITERATION }
+fn renew(walks: &mut [Option<Route>], vehicle: u32, change: &Change, routes: &mut [Option<Route>])
     requires vehicle { vehicle < length routes.old }
     requires each { length walks.old ≡ length routes.old }
-    ensures routes { routes.new ≡ cond (selected_of vehicle k)
+    ensures routes { routes.new ≡ cond (takes change.now vehicle)
         (slice_set routes.old vehicle (get_or walks.old vehicle None)) routes.old }
-    ensures walks { walks.new ≡ cond (selected_of vehicle k)
+    ensures walks { walks.new ≡ cond (takes change.now vehicle)
         (slice_set walks.old vehicle (get_or routes.old vehicle None)) walks.old }
 {
-    if is_selected(vehicle, k) {
+    if change.takes(vehicle) {
         std::mem::swap(&mut routes[vehicle as usize], &mut walks[vehicle as usize]);
     }
 }
 
 /// Gives each vehicle that is selected its walk in place of its old route; the others keep theirs.
 /// No route is copied.
-pub(crate) fn renew_selected(walks: &mut [Option<Route>], k: u32, routes: &mut [Option<Route>])
-    requires k { k ≤ MOST_ITERATION }
+pub(crate) fn renew_selected(
+    walks: &mut [Option<Route>],
+    change: &Change,
+    routes: &mut [Option<Route>],
+)
     requires few { length routes.old ≤ MOST_TRIPS }
     requires each { length walks.old ≡ length routes.old }
-    ensures { Renews k walks.old (length routes.old) routes.old routes.new }
+    ensures { Renews (takes change.now) walks.old (length routes.old) routes.old routes.new }
 {
     for v in 0..routes.len() {
-        renew(walks, v as u32, k, routes);
+        renew(walks, v as u32, change, routes);
     }
 }
 

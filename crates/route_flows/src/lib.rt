@@ -1,7 +1,7 @@
 //! Routes by iteration: successive averages over chosen walks.
 //!
 //! [`first_routes`] gives each vehicle its chosen walk by free-flow steps. After iteration k
-//! [`next_routes`] gives those that are selected their chosen walks by the link times of the
+//! [`next_routes`] gives those that are selected their chosen walks by the costs of the
 //! iteration; the others keep their routes. The contracts are the definition of successive
 //! averages (specs/Averages.antt), for every number of workers. [`gap_and_next_routes`] measures
 //! the gap of the iteration with the same labels.
@@ -16,6 +16,7 @@
 //! before. A destination to which no selected vehicle goes has none.
 #![tactic(auto)]
 
+mod change;
 mod flows;
 mod kept;
 mod laws;

@@ -1,14 +1,16 @@
 // Who takes a new route after an iteration, and what is asked for that.
 ghost use Rattle.std.specs.Prelude.{◌≡◌, ◌≤◌, ◌&&◌, is_some, length, IfOk, replicate, true, false};
 ghost use Rattle.dta_model.specs.declared.trip.TheConstants.{MOST_TRIPS};
-ghost use Rattle.route_flows.specs.Asked.{AreAsked};
+ghost use Rattle.route_flows.specs.Asked.{AreAsked, takes as takes_of};
 ghost use Rattle.route_flows.specs.Starting.{asks_for_rest};
 ghost use Rattle.route_flows.specs.Averages.{is_selected as selected_of};
 
+use crate::change::Change;
 use dta_model::Route;
 use net_core::Memory;
 use std::alloc::Global;
 use time_routes::Ask;
+use trip_costs::{WalkCosts, changes_after};
 
 /// The last iteration after which routes may change.
 pub const MOST_ITERATION: u32 = 1000;
@@ -21,6 +23,18 @@ pub fn is_selected(vehicle: u32, k: u32) -> bool
 {
     let k = k as u64;
     (vehicle as u64 + k * k / 4) % (k + 1) == 0
+}
+
+impl Change<'_> {
+    // Whether a vehicle takes its chosen walk.
+    pub(crate) fn takes(&self, vehicle: u32) -> bool
+        ensures { result ≡ takes_of self.now vehicle }
+    {
+        match self.costs {
+            WalkCosts::Links(_) => is_selected(vehicle, self.k),
+            WalkCosts::Trips(_) => changes_after(vehicle, self.k),
+        }
+    }
 }
 
 // Whether the least time of a vehicle is asked for: it is wanted, and the vehicle has a route.
@@ -36,17 +50,17 @@ pub(crate) fn asks_of(
     alloc: Global,
     routes: &[Option<Route>],
     least: bool,
-    k: u32,
+    change: &Change,
 ) -> Result<Vec<Ask>, Memory>
-    requires k { k ≤ MOST_ITERATION }
     requires few { length routes.now ≤ MOST_TRIPS }
-    ensures { IfOk result (λ asks. AreAsked least k routes.now (length routes.now) asks.items) }
+    ensures { IfOk result (λ asks.
+        AreAsked least (takes_of change.now) routes.now (length routes.now) asks.items) }
 {
     let mut asks = Vec::new(alloc);
     for v in 0..routes.len() {
         asks.push(Ask {
             least: is_measured(least, &routes[v]),
-            walk: is_selected(v as u32, k),
+            walk: change.takes(v as u32),
         })?;
     }
     Ok(asks)

@@ -1,4 +1,5 @@
 -- A network, a table and starts have one skim.
+use Rattle.trip_costs.specs.Timings.{Links}
 use Rattle.std.proofs.Common.{◌≡◌, ℕ, ◌≤◌, List, [], ◌∷◌, refl, ap, sym, ◌∙◌, arith, Option, Some, None}
 use Rattle.std.specs.List.{AllZip}
 use Rattle.net_core.specs.Network.{zones}
@@ -27,7 +28,7 @@ no_more at net o d start a b x y =
     omega (arith, low, is)
 
 least-same : (at : ℕ → ℕ → ℕ) (net : NetRows) (o d start : ℕ) (a b : Option ℕ)
-    → TellsLeast at net o d start a → TellsLeast at net o d start b → a ≡ b
+    → TellsLeast (Links at) net o d start a → TellsLeast (Links at) net o d start b → a ≡ b
 least-same at net o d start None None x y = refl
 least-same at net o d start None (Some b) x y = absurd (x (y.some_walk.0) (y.some_walk.1))
 least-same at net o d start (Some a) None x y = absurd (y (x.some_walk.0) (x.some_walk.1))

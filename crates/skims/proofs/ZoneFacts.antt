@@ -9,7 +9,7 @@ use Rattle.net_core.specs.Network.{noted}
 use Rattle.net_core.specs.declared.rows.NodeRow.{NodeRow}
 use Rattle.net_core.specs.declared.rows.ZoneNo.{ZoneNo}
 use Rattle.net_core.proofs.Numbers.{numbers_grow}
-use Rattle.dta_model.specs.LinkTimes.{TimeTable}
+use Rattle.trip_costs.specs.Timings.{CostTables}
 use Rattle.net_core.specs.declared.rows.NetRows.{NetRows}
 use Rattle.labels.specs.ToZone.{zone_numbers, ToZones}
 
@@ -65,9 +65,9 @@ numbers-below zones first count bound h within k d l =
     omega (arith, small, here, same, within)
 
 -- labels of a group, which is shown as a slice
-pub labels-of : (net : NetRows) (times : TimeTable) (labels : ToZones) (shown zones : List ZoneNo)
-    → labels ≡ record { net = net; times = times; zones = zone_numbers shown } → shown ≡ zones
-    → labels ≡ record { net = net; times = times; zones = zone_numbers zones }
-labels-of net times labels shown zones is same =
-    let of : List ZoneNo → ToZones = λ zs. record { net = net; times = times; zones = zone_numbers zs } in
+pub labels-of : (net : NetRows) (costs : CostTables) (labels : ToZones) (shown zones : List ZoneNo)
+    → labels ≡ record { net = net; costs = costs; zones = zone_numbers shown } → shown ≡ zones
+    → labels ≡ record { net = net; costs = costs; zones = zone_numbers zones }
+labels-of net costs labels shown zones is same =
+    let of : List ZoneNo → ToZones = λ zs. record { net = net; costs = costs; zones = zone_numbers zs } in
     is ∙ ap of same

@@ -6,6 +6,7 @@ use Rattle.std.proofs.Common.{Vec}
 use Rattle.net_core.specs.Network.{zones}
 use Rattle.net_core.specs.declared.rows.NetRows.{NetRows}
 use Rattle.dta_model.specs.LinkTimes.{TimeTable}
+use Rattle.trip_costs.specs.Timings.{Timing}
 use Rattle.labels.specs.ToZone.{TellsLeast}
 
 -- what least times are sought in, and for which starts
@@ -15,20 +16,20 @@ pub record Sought : Type 0 where
   pub starts : List ℕ
 
 -- the least time from a zone to another; nothing is said of a zone and itself
-abbrev pub IsFrom : (ℕ → ℕ → ℕ) → NetRows → ℕ → ℕ → ℕ → Option ℕ → Type 0
-IsFrom at net d start o least = o ≢ d → TellsLeast at net o d start least
+abbrev pub IsFrom : Timing → NetRows → ℕ → ℕ → ℕ → Option ℕ → Type 0
+IsFrom costs net d start o least = o ≢ d → TellsLeast costs net o d start least
 
 -- those from some zones
-abbrev pub AreFrom : (ℕ → ℕ → ℕ) → NetRows → List ℕ → ℕ → ℕ → List (Option ℕ) → Type 0
-AreFrom at net origins d start leasts = AllZip (IsFrom at net d start) origins leasts
+abbrev pub AreFrom : Timing → NetRows → List ℕ → ℕ → ℕ → List (Option ℕ) → Type 0
+AreFrom costs net origins d start leasts = AllZip (IsFrom costs net d start) origins leasts
 
 -- those from all zones, for some starts
-abbrev pub AreTo : (ℕ → ℕ → ℕ) → NetRows → List ℕ → ℕ → List (Vec (Option ℕ) Global) → Type 0
-AreTo at net starts d leasts =
-    AllZip (λ start from. AreFrom at net (zones net.nodes) d start from.items) starts leasts
+abbrev pub AreTo : Timing → NetRows → List ℕ → ℕ → List (Vec (Option ℕ) Global) → Type 0
+AreTo costs net starts d leasts =
+    AllZip (λ start from. AreFrom costs net (zones net.nodes) d start from.items) starts leasts
 
 -- those from all zones to some
-abbrev pub AreBetween : (ℕ → ℕ → ℕ) → NetRows → List ℕ → List ℕ
+abbrev pub AreBetween : Timing → NetRows → List ℕ → List ℕ
     → List (Vec (Vec (Option ℕ) Global) Global) → Type 0
-AreBetween at net starts destinations leasts =
-    AllZip (λ d to. AreTo at net starts d to.items) destinations leasts
+AreBetween costs net starts destinations leasts =
+    AllZip (λ d to. AreTo costs net starts d to.items) destinations leasts

@@ -3,6 +3,7 @@ use Rattle.std.specs.Prelude.{◌≡◌, ℕ, cond, nat_eq, List, [], map}
 use Rattle.std.specs.List.{AllZip, flat_map}
 use Rattle.net_core.specs.Network.{zones}
 use Rattle.net_core.specs.declared.rows.NetRows.{NetRows}
+use Rattle.trip_costs.specs.Timings.{Links}
 use Rattle.labels.specs.ToZone.{TellsLeast}
 use Rattle.skims.specs.declared.skim_entry.SkimEntry.{SkimEntry}
 
@@ -36,7 +37,8 @@ pub record IsEntryOf (at : ℕ → ℕ → ℕ) (net : NetRows) (question : Ques
   pub origin : entry.origin ≡ question.origin
   pub destination : entry.destination ≡ question.destination
   pub start : entry.start ≡ question.start
-  pub least : TellsLeast at net question.origin question.destination question.start entry.least
+  pub least : TellsLeast (Links at) net question.origin question.destination question.start
+      entry.least
 
 -- the skim of a network over a table, for some starts: an entry for each question, in their order.
 -- Zones come in the order of their first appearance

@@ -7,12 +7,14 @@ ghost use Rattle.dta_model.specs.LinkTimes.{time_at};
 ghost use Rattle.skims.specs.Leasts.{AreBetween, AreFrom, AreTo};
 ghost use Rattle.labels.specs.Named.{zone_named};
 ghost use Rattle.labels.specs.ToZone.{destination, zone_numbers, TellsLeast};
+ghost use Rattle.trip_costs.specs.Timings.{Links, timing_of};
 
 use labels::{GroupLabels, MOST_GROUP};
 use link_times::LinkTimes;
 use net_core::{Memory, Net, ZoneNo};
 use std::alloc::Global;
 use std::marker::Model;
+use trip_costs::WalkCosts;
 
 // The least times to a zone for a start: from each zone in order, none from the zone itself.
 type Leasts = Vec<Option<u64>>;
@@ -44,7 +46,7 @@ fn least_from(labels: &GroupLabels, place: usize, zone: u32, origin: u32, start:
     requires place { place < length labels.now.zones }
     requires zone { slice_index labels.now.zones place ≡ zone }
     requires origin { origin < length (zones_of labels.now.net.nodes) }
-    ensures { origin ≢ zone → TellsLeast (time_at labels.now.times) labels.now.net
+    ensures { origin ≢ zone → TellsLeast (timing_of labels.now.costs) labels.now.net
         (zone_named labels.now.net origin) (destination labels.now place) start result }
 {
     if origin == zone {
@@ -66,7 +68,7 @@ fn leasts_from_each(
     requires place { place < length labels.now.zones }
     requires zone { slice_index labels.now.zones place ≡ zone }
     requires zones { zones ≡ length (zones_of labels.now.net.nodes) }
-    ensures { IfOk result (λ leasts. AreFrom (time_at labels.now.times) labels.now.net
+    ensures { IfOk result (λ leasts. AreFrom (timing_of labels.now.costs) labels.now.net
         (zones_of labels.now.net.nodes) (destination labels.now place) start leasts.items) }
 {
     let mut leasts = Vec::with_capacity(alloc, zones as usize)?;
@@ -88,7 +90,7 @@ fn leasts_by_start(
     requires place { place < length labels.now.zones }
     requires zone { slice_index labels.now.zones place ≡ zone }
     requires zones { zones ≡ length (zones_of labels.now.net.nodes) }
-    ensures { IfOk result (λ leasts. AreTo (time_at labels.now.times) labels.now.net starts.now
+    ensures { IfOk result (λ leasts. AreTo (timing_of labels.now.costs) labels.now.net starts.now
         (destination labels.now place) leasts.items) }
 {
     let mut leasts = Vec::with_capacity(alloc, starts.len())?;
@@ -122,9 +124,9 @@ fn add_group(
 ) -> Result<u32, Memory>
     requires table { length times.now.free ≡ length net.now.links }
     requires first { first < length (zones_of net.now.nodes) }
-    requires before { AreBetween (time_at times.now) net.now starts.now
+    requires before { AreBetween (Links (time_at times.now)) net.now starts.now
         (take first (zones_of net.now.nodes)) to_each.old.items }
-    ensures between { IfOk result (λ next. AreBetween (time_at times.now) net.now starts.now
+    ensures between { IfOk result (λ next. AreBetween (Links (time_at times.now)) net.now starts.now
         (take next (zones_of net.now.nodes)) to_each.new.items) }
     ensures more { IfOk result (λ next. first < next) }
     ensures within { IfOk result (λ next. next ≤ length (zones_of net.now.nodes)) }
@@ -132,7 +134,7 @@ fn add_group(
     let zones = net.zone_count();
     let count = (zones - first).min(MOST_GROUP as u32);
     let group = zones_from(alloc, first, count)?;
-    let labels = GroupLabels::to_zones(alloc, net, times, &group)?;
+    let labels = GroupLabels::to_zones(alloc, net, WalkCosts::Links(times), &group)?;
     for place in 0..count {
         let zone = first + place;
         to_each.push(leasts_by_start(alloc, &labels, place as usize, zone, zones, starts)?)?;
@@ -148,7 +150,7 @@ fn leasts_to_each(
     starts: &[u32],
 ) -> Result<Vec<Vec<Leasts>>, Memory>
     requires { length times.now.free ≡ length net.now.links }
-    ensures { IfOk result (λ to_each. AreBetween (time_at times.now) net.now starts.now
+    ensures { IfOk result (λ to_each. AreBetween (Links (time_at times.now)) net.now starts.now
         (zones_of net.now.nodes) to_each.items) }
 {
     let zones = net.zone_count();
@@ -191,8 +193,9 @@ impl<'a> LeastTimes<'a> {
         requires destination { destination < length (zones_of self.now.net.nodes) }
         requires start { start < length self.now.starts }
         ensures { zone_named self.now.net origin ≢ zone_named self.now.net destination
-            → TellsLeast (time_at self.now.times) self.now.net (zone_named self.now.net origin)
-            (zone_named self.now.net destination) (slice_index self.now.starts start) result }
+            → TellsLeast (Links (time_at self.now.times)) self.now.net
+            (zone_named self.now.net origin) (zone_named self.now.net destination)
+            (slice_index self.now.starts start) result }
     {
         self.to_each[destination][start][origin]
     }

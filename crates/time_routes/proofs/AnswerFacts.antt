@@ -1,4 +1,5 @@
 -- Answers of vehicles, and how they are put in their places.
+use Rattle.trip_costs.specs.Timings.{CostTables, Timing}
 use Rattle.std.proofs.Common.{◌≡◌, ◌⊎◌, inl, inr, ℕ, zero, suc, ◌+◌, ◌-◌, ◌*◌, ◌≤◌, Bool, true, false, cond, List, [], ◌∷◌, ◌++◌, length, refl, sym, ◌∙◌, subst, ap, arith, Some, set, take, drop}
 use Rattle.std.specs.Prelude.{slice_get}
 use Rattle.std.specs.Fork.{slice_chunk}
@@ -7,7 +8,6 @@ use Rattle.std.proofs.lemmas.List.{length-drop, length-set, take_all}
 use Rattle.std.proofs.lemmas.List.Elements.{All-push}
 use Rattle.net_core.specs.declared.rows.NetRows.{NetRows}
 use Rattle.net_core.specs.declared.rows.ZoneNo.{ZoneNo}
-use Rattle.dta_model.specs.LinkTimes.{TimeTable}
 use Rattle.dta_model.specs.declared.trip.Trip.{Trip}
 use Rattle.labels.specs.ToZone.{AreOfFirst, ToZones, zone_numbers}
 use Rattle.time_routes.specs.Destinations.{asked_least, asked_walk, asks_least, asks_walk, IsRight, LeastOf, WalkOf}
@@ -48,15 +48,15 @@ answered_then (a ∷ answers) answer v s = by (s.0) s.1 (λ k e. answered_then a
     by (suc k) e later = further (later k e)
 
 -- ---- some answers after others
-module _ (at : ℕ → ℕ → ℕ) (net : NetRows) (trips : List Trip) (asks : List Ask) where
-  pub answers_push : (v : ℕ) (answers : List Answer) (answer : Answer) → answer.vehicle ≡ v → IsAnswer at net trips asks answer → AnswersMore at net trips asks (λ w. w ≡ v) answers (answers ++ answer ∷ [])
+module _ (costs : Timing) (net : NetRows) (trips : List Trip) (asks : List Ask) where
+  pub answers_push : (v : ℕ) (answers : List Answer) (answer : Answer) → answer.vehicle ≡ v → IsAnswer costs net trips asks answer → AnswersMore costs net trips asks (λ w. w ≡ v) answers (answers ++ answer ∷ [])
   answers_push v answers answer of right = record {
-    right = λ all. All-push (IsAnswer at net trips asks) answers answer all right;
+    right = λ all. All-push (IsAnswer costs net trips asks) answers answer all right;
     kept = λ w s. answered_before answers answer w s;
     made = λ w n. subst (λ u. Stands (answered (answers ++ answer ∷ [])) u) (of ∙ sym n) (answered_last answers answer);
   }
 
-  pub answers_then : (First Second Both : ℕ → Type 0) (old mid new : List Answer) → AnswersMore at net trips asks First old mid → AnswersMore at net trips asks Second mid new → ((v : ℕ) → Both v → First v ⊎ Second v) → AnswersMore at net trips asks Both old new
+  pub answers_then : (First Second Both : ℕ → Type 0) (old mid new : List Answer) → AnswersMore costs net trips asks First old mid → AnswersMore costs net trips asks Second mid new → ((v : ℕ) → Both v → First v ⊎ Second v) → AnswersMore costs net trips asks Both old new
   answers_then First Second Both old mid new one two split = record {
     right = λ all. two.right (one.right all);
     kept = λ v s. two.kept v (one.kept v s);
@@ -67,7 +67,7 @@ module _ (at : ℕ → ℕ → ℕ) (net : NetRows) (trips : List Trip) (asks : 
       by v (inl f) = two.kept v (one.made v f)
       by v (inr s) = two.made v s
 
-  pub answers_fewer : (Many Few : ℕ → Type 0) (old new : List Answer) → AnswersMore at net trips asks Many old new → ((v : ℕ) → Few v → Many v) → AnswersMore at net trips asks Few old new
+  pub answers_fewer : (Many Few : ℕ → Type 0) (old new : List Answer) → AnswersMore costs net trips asks Many old new → ((v : ℕ) → Few v → Many v) → AnswersMore costs net trips asks Few old new
   answers_fewer Many Few old new more h = record { right = more.right; kept = more.kept; made = λ v n. more.made v (h v n) }
 
 -- ---- an answer in its place
@@ -90,17 +90,17 @@ chunk_more net trips asks named size share v s =
 pub in_all : (net : NetRows) (trips : List Trip) (asks : List Ask) (named : List ZoneNo) (count : ℕ) (v : ℕ) → length named ≤ count → LeadsToFirst net trips asks named (length named) v → LeadsToFirst net trips asks named count v
 in_all net trips asks named count v h s = let low = s.2 in (s.0, s.1, omega (arith, low, h), s.3, s.4)
 
-pub put_told : (at : ℕ → ℕ → ℕ) (net : NetRows) (trips : List Trip) (asks : List Ask) (answer : Answer) (ask : Ask) (old new : Told) → IsAnswer at net trips asks answer → slice_get asks answer.vehicle ≡ Some ask
+pub put_told : (costs : Timing) (net : NetRows) (trips : List Trip) (asks : List Ask) (answer : Answer) (ask : Ask) (old new : Told) → IsAnswer costs net trips asks answer → slice_get asks answer.vehicle ≡ Some ask
     → new.leasts.items ≡ cond ask.least (set old.leasts.items answer.vehicle answer.least) old.leasts.items
     → new.walks.items ≡ cond ask.walk (set old.walks.items answer.vehicle answer.walk) old.walks.items
-    → Tells at net trips asks (λ v. v ≡ answer.vehicle) old new
-put_told at net trips asks answer ask old new right there leasts walks = record {
-  leasts = subst (λ l. Settles (asks_least asks) (IsRight (LeastOf at net) (asks_least asks) trips) (λ v. v ≡ answer.vehicle) old.leasts.items l)
+    → Tells costs net trips asks (λ v. v ≡ answer.vehicle) old new
+put_told costs net trips asks answer ask old new right there leasts walks = record {
+  leasts = subst (λ l. Settles (asks_least asks) (IsRight (LeastOf costs net) (asks_least asks) trips) (λ v. v ≡ answer.vehicle) old.leasts.items l)
       (ap (λ o. cond (asked_least o) (set old.leasts.items answer.vehicle answer.least) old.leasts.items) there ∙ sym leasts)
-      (settles_asked (LeastOf at net) (asks_least asks) trips answer.vehicle old.leasts.items answer.least right.least);
-  walks = subst (λ l. Settles (asks_walk asks) (IsRight (WalkOf at net) (asks_walk asks) trips) (λ v. v ≡ answer.vehicle) old.walks.items l)
+      (settles_asked (LeastOf costs net) (asks_least asks) trips answer.vehicle old.leasts.items answer.least right.least);
+  walks = subst (λ l. Settles (asks_walk asks) (IsRight (WalkOf costs net) (asks_walk asks) trips) (λ v. v ≡ answer.vehicle) old.walks.items l)
       (ap (λ o. cond (asked_walk o) (set old.walks.items answer.vehicle answer.walk) old.walks.items) there ∙ sym walks)
-      (settles_asked (WalkOf at net) (asks_walk asks) trips answer.vehicle old.walks.items answer.walk right.walk);
+      (settles_asked (WalkOf costs net) (asks_walk asks) trips answer.vehicle old.walks.items answer.walk right.walk);
 }
 
 pub put_long : {X : Type 0} (b : Bool) (xs : List X) (v : ℕ) (x : X) → length (cond b (set xs v x) xs) ≡ length xs
@@ -108,23 +108,23 @@ put_long true xs v x = length-set xs v x
 put_long false xs v x = refl
 
 -- ---- all answers put
-pub told_by : (at : ℕ → ℕ → ℕ) (net : NetRows) (trips : List Trip) (asks : List Ask) (Now : ℕ → Type 0) (answers : List Answer) (old new : Told) → AreAnswers at net trips asks Now answers
-    → Tells at net trips asks (Stands (answered answers)) old new → Tells at net trips asks Now old new
-told_by at net trips asks Now answers old new are put = tells_fewer at net trips asks (Stands (answered answers)) Now old new put are.each
+pub told_by : (costs : Timing) (net : NetRows) (trips : List Trip) (asks : List Ask) (Now : ℕ → Type 0) (answers : List Answer) (old new : Told) → AreAnswers costs net trips asks Now answers
+    → Tells costs net trips asks (Stands (answered answers)) old new → Tells costs net trips asks Now old new
+told_by costs net trips asks Now answers old new are put = tells_fewer costs net trips asks (Stands (answered answers)) Now old new put are.each
 
 -- ---- labels of the first of some zones
 -- zones from a place on, of which there are labels of the first
-pub first_from : (net : NetRows) (times : TimeTable) (zones : List ZoneNo) (first : ℕ) (group : ToZones) → first ≤ length zones
-    → AreOfFirst net times (slice_range zones first (length zones)) group → group.zones ≡ zone_numbers (slice_range zones first (first + length group.zones))
-first_from net times zones first group low of =
+pub first_from : (net : NetRows) (costs : CostTables) (zones : List ZoneNo) (first : ℕ) (group : ToZones) → first ≤ length zones
+    → AreOfFirst net costs (slice_range zones first (length zones)) group → group.zones ≡ zone_numbers (slice_range zones first (first + length group.zones))
+first_from net costs zones first group low of =
     let rest : take (length zones - first) (drop first zones) ≡ drop first zones = take_all (length zones - first) (drop first zones) (let n = length-drop first zones in omega (arith, n)) in
     let many : length group.zones ≡ first + length group.zones - first = omega arith in
     of.first ∙ ap (λ zs. zone_numbers (take (length group.zones) zs)) rest ∙ ap (λ k. zone_numbers (take k (drop first zones))) many
 
 -- no more zones than there are from a place on
-pub first_few : (net : NetRows) (times : TimeTable) (zones : List ZoneNo) (first : ℕ) (group : ToZones) → first ≤ length zones
-    → AreOfFirst net times (slice_range zones first (length zones)) group → first + length group.zones ≤ length zones
-first_few net times zones first group low of =
+pub first_few : (net : NetRows) (costs : CostTables) (zones : List ZoneNo) (first : ℕ) (group : ToZones) → first ≤ length zones
+    → AreOfFirst net costs (slice_range zones first (length zones)) group → first + length group.zones ≤ length zones
+first_few net costs zones first group low of =
     let rest : take (length zones - first) (drop first zones) ≡ drop first zones = take_all (length zones - first) (drop first zones) (let n = length-drop first zones in omega (arith, n)) in
     let n = length-drop first zones in
     let many = ap (λ (zs : List ZoneNo). length zs) rest in

@@ -1,4 +1,5 @@
 -- Vehicles by their destinations, and what is told of them.
+use Rattle.trip_costs.specs.Timings.{CostTables, Timing, timing_of}
 use Rattle.std.proofs.Common.{◌≡◌, ◌≢◌, ◌⊎◌, inl, inr, ℕ, zero, suc, ◌+◌, ◌-◌, ◌<◌, ◌≤◌, Bool, true, false, cond, List, [], ◌∷◌, ◌++◌, length, refl, ap, sym, ◌∙◌, subst, arith, rules, Option, Some, None, get_or, nat_eq, set, take, drop}
 use Rattle.std.specs.Prelude.{◌||◌, All, filter, option_and_then, replicate, slice_get}
 use Rattle.std.specs.List.{slice_range}
@@ -13,7 +14,6 @@ use Rattle.net_core.specs.declared.rows.NetRows.{NetRows}
 use Rattle.net_core.specs.declared.rows.NodeRow.{NodeRow}
 use Rattle.net_core.specs.declared.rows.ZoneNo.{ZoneNo}
 use Rattle.dta_model.specs.Least.{HaveNoWalk}
-use Rattle.dta_model.specs.LinkTimes.{TimeTable}
 use Rattle.dta_model.specs.Walks.{begins_in, ends_in, is_zone, zone_at}
 use Rattle.dta_model.specs.declared.trip.Trip.{Trip}
 use Rattle.time_routes.specs.Destinations.{asks_least, asks_walk, AreTold, IsAllTold, IsRight, LeastOf, UnaskedAreNone, WalkOf}
@@ -168,36 +168,36 @@ pub right_of : {X : Type 0} (T : Trip → X → Type 0) (asks : ℕ → Bool) (t
 right_of T asks trips v trip x there told other asked h = subst (λ t. T t x) (some_same trip other (sym there ∙ h)) told
 
 -- what is told between two zones, of a vehicle that goes from one to the other
-pub right_between : {X : Type 0} (T : TimeTable → NetRows → ℕ → ℕ → ℕ → X → Type 0) (asked : ℕ → Bool) (is : Bool) (group : ToZones) (net : NetRows) (times : TimeTable) (trips : List Trip) (v from to : ℕ) (trip : Trip) (x : X)
-    → asked v ≡ is → group.net ≡ net → group.times ≡ times → slice_get trips v ≡ Some trip → zone_number net trip.origin ≡ Some from → zone_number net trip.destination ≡ Some to
-    → (is ≡ true → T group.times group.net (zone_named group.net from) (zone_named group.net to) trip.departure x)
-    → IsRight (λ t y. T times net t.origin t.destination t.departure y) asked trips v x
-right_between T asked is group net times trips v from to trip x asks same_net same_times there begins ends told other a h =
-    subst (λ t. T times net t.origin t.destination t.departure x) (some_same trip other (sym there ∙ h))
-    (subst (λ t. T t net trip.origin trip.destination trip.departure x) same_times
-    (told_between (λ m o d. T group.times m o d trip.departure x) group.net net trip.origin trip.destination from to same_net begins ends (told (sym asks ∙ a))))
+pub right_between : {X : Type 0} (T : Timing → NetRows → ℕ → ℕ → ℕ → X → Type 0) (asked : ℕ → Bool) (is : Bool) (group : ToZones) (net : NetRows) (costs : CostTables) (trips : List Trip) (v from to : ℕ) (trip : Trip) (x : X)
+    → asked v ≡ is → group.net ≡ net → group.costs ≡ costs → slice_get trips v ≡ Some trip → zone_number net trip.origin ≡ Some from → zone_number net trip.destination ≡ Some to
+    → (is ≡ true → T (timing_of group.costs) group.net (zone_named group.net from) (zone_named group.net to) trip.departure x)
+    → IsRight (λ t y. T (timing_of costs) net t.origin t.destination t.departure y) asked trips v x
+right_between T asked is group net costs trips v from to trip x asks same_net same_costs there begins ends told other a h =
+    subst (λ t. T (timing_of costs) net t.origin t.destination t.departure x) (some_same trip other (sym there ∙ h))
+    (subst (λ t. T (timing_of t) net trip.origin trip.destination trip.departure x) same_costs
+    (told_between (λ m o d. T (timing_of group.costs) m o d trip.departure x) group.net net trip.origin trip.destination from to same_net begins ends (told (sym asks ∙ a))))
 
 -- ---- some vehicles after others
-module _ (at : ℕ → ℕ → ℕ) (net : NetRows) (trips : List Trip) (asks : List Ask) where
+module _ (costs : Timing) (net : NetRows) (trips : List Trip) (asks : List Ask) where
   abbrev Leasts : (ℕ → Type 0) → List (Option ℕ) → List (Option ℕ) → Type 0
-  Leasts = Settles (asks_least asks) (IsRight (LeastOf at net) (asks_least asks) trips)
+  Leasts = Settles (asks_least asks) (IsRight (LeastOf costs net) (asks_least asks) trips)
 
   abbrev Walks : (ℕ → Type 0) → List (Option (List LinkNo)) → List (Option (List LinkNo)) → Type 0
-  Walks = Settles (asks_walk asks) (IsRight (WalkOf at net) (asks_walk asks) trips)
+  Walks = Settles (asks_walk asks) (IsRight (WalkOf costs net) (asks_walk asks) trips)
 
-  pub tells_then : (First Second Both : ℕ → Type 0) (old mid new : Told) → Tells at net trips asks First old mid → Leasts Second mid.leasts.items new.leasts.items → Walks Second mid.walks.items new.walks.items → ((v : ℕ) → Both v → First v ⊎ Second v) → Tells at net trips asks Both old new
+  pub tells_then : (First Second Both : ℕ → Type 0) (old mid new : Told) → Tells costs net trips asks First old mid → Leasts Second mid.leasts.items new.leasts.items → Walks Second mid.walks.items new.walks.items → ((v : ℕ) → Both v → First v ⊎ Second v) → Tells costs net trips asks Both old new
   tells_then First Second Both old mid new one leasts walks split = record {
-    leasts = settles_then (asks_least asks) (IsRight (LeastOf at net) (asks_least asks) trips) First Second Both old.leasts.items mid.leasts.items new.leasts.items one.leasts leasts split;
-    walks = settles_then (asks_walk asks) (IsRight (WalkOf at net) (asks_walk asks) trips) First Second Both old.walks.items mid.walks.items new.walks.items one.walks walks split;
+    leasts = settles_then (asks_least asks) (IsRight (LeastOf costs net) (asks_least asks) trips) First Second Both old.leasts.items mid.leasts.items new.leasts.items one.leasts leasts split;
+    walks = settles_then (asks_walk asks) (IsRight (WalkOf costs net) (asks_walk asks) trips) First Second Both old.walks.items mid.walks.items new.walks.items one.walks walks split;
   }
 
   fewer : {X : Type 0} (asked : ℕ → Bool) (Right : ℕ → X → Type 0) (Many Few : ℕ → Type 0) (old new : List X) → Settles asked Right Many old new → ((v : ℕ) → Few v → Many v) → Settles asked Right Few old new
   fewer asked Right Many Few old new s h = record { as_many = s.as_many; unasked = s.unasked; kept = s.kept; made = λ v y n b. s.made v y (h v n) b }
 
-  pub tells_fewer : (Many Few : ℕ → Type 0) (old new : Told) → Tells at net trips asks Many old new → ((v : ℕ) → Few v → Many v) → Tells at net trips asks Few old new
+  pub tells_fewer : (Many Few : ℕ → Type 0) (old new : Told) → Tells costs net trips asks Many old new → ((v : ℕ) → Few v → Many v) → Tells costs net trips asks Few old new
   tells_fewer Many Few old new t h = record {
-    leasts = fewer (asks_least asks) (IsRight (LeastOf at net) (asks_least asks) trips) Many Few old.leasts.items new.leasts.items t.leasts h;
-    walks = fewer (asks_walk asks) (IsRight (WalkOf at net) (asks_walk asks) trips) Many Few old.walks.items new.walks.items t.walks h;
+    leasts = fewer (asks_least asks) (IsRight (LeastOf costs net) (asks_least asks) trips) Many Few old.leasts.items new.leasts.items t.leasts h;
+    walks = fewer (asks_walk asks) (IsRight (WalkOf costs net) (asks_walk asks) trips) Many Few old.walks.items new.walks.items t.walks h;
   }
 
 pub before_more : (numbers : List ℕ) (i d v : ℕ) → StandsBefore numbers (i + 1) v → StandsBefore numbers i v ⊎ (v ≡ get_or numbers i d)
@@ -382,15 +382,15 @@ unasked_none asked Right Now count start new is s v x other there =
     some_same x None (sym there ∙ s.unasked v other ∙ ap (λ l. slice_get l v) is ∙ one_of None count v (omega (arith, small, long)))
 
 -- all is told where nothing was told before, and all zones to which vehicles go were searched
-pub told_of_all : (at : ℕ → ℕ → ℕ) (net : NetRows) (trips : List Trip) (asks : List Ask) (lists : List (List ℕ)) (found : List ZoneNo) (none told : Told)
+pub told_of_all : (costs : Timing) (net : NetRows) (trips : List Trip) (asks : List Ask) (lists : List (List ℕ)) (found : List ZoneNo) (none told : Told)
     → AreListed lists (length (zones net.nodes)) (wanted_zone net trips asks) (numbers_below (length trips)) → length (zones net.nodes) ≤ NO_ZONE
     → ((z : ℕ) → z < length (zones net.nodes) → get_or lists z [] ≢ [] → Stands (zone_numbers found) z)
     → none.leasts.items ≡ replicate (length trips) None → none.walks.items ≡ replicate (length trips) None
-    → Tells at net trips asks (LeadsToFirst net trips asks found (length found)) none told → IsAllTold at net trips asks told
-told_of_all at net trips asks lists found none told grouped few each leasts walks tells =
+    → Tells costs net trips asks (LeadsToFirst net trips asks found (length found)) none told → IsAllTold costs net trips asks told
+told_of_all costs net trips asks lists found none told grouped few each leasts walks tells =
     let Now = LeadsToFirst net trips asks found (length found) in record {
-      leasts = all_told net trips asks lists grouped few found each (LeastOf at net) (asks_least asks) none.leasts.items told.leasts.items (λ trip h. h) (asks_some_least asks) leasts tells.leasts;
-      walks = all_told net trips asks lists grouped few found each (WalkOf at net) (asks_walk asks) none.walks.items told.walks.items (λ trip h. h) (asks_some_walk asks) walks tells.walks;
-      unasked_leasts = unasked_none (asks_least asks) (IsRight (LeastOf at net) (asks_least asks) trips) Now (length trips) none.leasts.items told.leasts.items leasts tells.leasts;
-      unasked_walks = unasked_none (asks_walk asks) (IsRight (WalkOf at net) (asks_walk asks) trips) Now (length trips) none.walks.items told.walks.items walks tells.walks;
+      leasts = all_told net trips asks lists grouped few found each (LeastOf costs net) (asks_least asks) none.leasts.items told.leasts.items (λ trip h. h) (asks_some_least asks) leasts tells.leasts;
+      walks = all_told net trips asks lists grouped few found each (WalkOf costs net) (asks_walk asks) none.walks.items told.walks.items (λ trip h. h) (asks_some_walk asks) walks tells.walks;
+      unasked_leasts = unasked_none (asks_least asks) (IsRight (LeastOf costs net) (asks_least asks) trips) Now (length trips) none.leasts.items told.leasts.items leasts tells.leasts;
+      unasked_walks = unasked_none (asks_walk asks) (IsRight (WalkOf costs net) (asks_walk asks) trips) Now (length trips) none.walks.items told.walks.items walks tells.walks;
     }

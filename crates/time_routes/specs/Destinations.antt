@@ -1,4 +1,5 @@
--- What is asked of vehicles over a table of link times, and what is told of them.
+-- What is asked of vehicles over the costs, and what is told of them.
+use Rattle.trip_costs.specs.Timings.{Timing}
 use Rattle.std.specs.Prelude.{◌≡◌, ℕ, Bool, true, false, List, length, Option, None, Some}
 use Rattle.std.specs.Prelude.{slice_get}
 use Rattle.net_core.specs.declared.rows.LinkNo.{LinkNo}
@@ -24,11 +25,11 @@ abbrev pub asks_walk : List Ask → ℕ → Bool
 asks_walk asks v = asked_walk (slice_get asks v)
 
 -- the least time of a trip from its departure, or that there is no walk; and its chosen walk
-abbrev pub LeastOf : (ℕ → ℕ → ℕ) → NetRows → Trip → Option ℕ → Type 0
-LeastOf at net trip told = TellsLeast at net trip.origin trip.destination trip.departure told
+abbrev pub LeastOf : Timing → NetRows → Trip → Option ℕ → Type 0
+LeastOf costs net trip told = TellsLeast costs net trip.origin trip.destination trip.departure told
 
-abbrev pub WalkOf : (ℕ → ℕ → ℕ) → NetRows → Trip → Option (List LinkNo) → Type 0
-WalkOf at net trip told = TellsWalk at net trip.origin trip.destination trip.departure told
+abbrev pub WalkOf : Timing → NetRows → Trip → Option (List LinkNo) → Type 0
+WalkOf costs net trip told = TellsWalk costs net trip.origin trip.destination trip.departure told
 
 -- what is told of a vehicle is right, where it is asked
 abbrev pub IsRight : {X : Type 0} → (Trip → X → Type 0) → (ℕ → Bool) → List Trip → ℕ → X → Type 0
@@ -47,9 +48,9 @@ UnaskedAreNone {X} asks told = (v : ℕ) (x : Option X) → asks v ≡ false →
     → x ≡ None
 
 -- all that is asked of vehicles is told, and nothing else
-pub record IsAllTold (at : ℕ → ℕ → ℕ) (net : NetRows) (trips : List Trip) (asks : List Ask)
+pub record IsAllTold (costs : Timing) (net : NetRows) (trips : List Trip) (asks : List Ask)
     (told : Told) : Type 0 where
-  pub leasts : AreTold (LeastOf at net) (asks_least asks) trips told.leasts.items
-  pub walks : AreTold (WalkOf at net) (asks_walk asks) trips told.walks.items
+  pub leasts : AreTold (LeastOf costs net) (asks_least asks) trips told.leasts.items
+  pub walks : AreTold (WalkOf costs net) (asks_walk asks) trips told.walks.items
   pub unasked_leasts : UnaskedAreNone (asks_least asks) told.leasts.items
   pub unasked_walks : UnaskedAreNone (asks_walk asks) told.walks.items

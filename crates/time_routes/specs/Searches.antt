@@ -1,9 +1,9 @@
 -- What a search for answers finds, vehicle by vehicle.
+use Rattle.trip_costs.specs.WalkCosts.{timing}
 use Rattle.std.specs.Prelude.{◌≢◌, ℕ, ◌<◌, List, [], length, get_or, All, Option}
 use Rattle.net_core.specs.Network.{zones}
 use Rattle.net_core.specs.declared.rows.LinkNo.{LinkNo}
 use Rattle.net_core.specs.declared.rows.ZoneNo.{ZoneNo}
-use Rattle.dta_model.specs.LinkTimes.{time_at}
 use Rattle.time_routes.specs.Answers.{AnswersMore, AreAnswers, IsAnswer}
 use Rattle.time_routes.specs.Destinations.{asks_least, asks_walk, IsRight, LeastOf, WalkOf}
 use Rattle.time_routes.specs.Tell.{LeadsTo, LeadsToFirst, Stands, Tells}
@@ -30,29 +30,29 @@ GoesToAny s found v = LeadsToFirst s.net.now s.trips.now s.asks.now found (lengt
 
 -- an answer is right of its vehicle
 abbrev pub IsRightAnswer : Search → Answer → Type 0
-IsRightAnswer s answer = IsAnswer (time_at s.times.now) s.net.now s.trips.now s.asks.now answer
+IsRightAnswer s answer = IsAnswer (timing s.costs) s.net.now s.trips.now s.asks.now answer
 
 -- what is right of one vehicle is right of another
 pub record IsServedBy (s : Search) (earlier later : ℕ) : Type 0 where
-  pub least : (told : Option ℕ) → IsRight (LeastOf (time_at s.times.now) s.net.now)
+  pub least : (told : Option ℕ) → IsRight (LeastOf (timing s.costs) s.net.now)
       (asks_least s.asks.now) s.trips.now earlier told
-      → IsRight (LeastOf (time_at s.times.now) s.net.now) (asks_least s.asks.now) s.trips.now later
+      → IsRight (LeastOf (timing s.costs) s.net.now) (asks_least s.asks.now) s.trips.now later
       told
-  pub walk : (told : Option (List LinkNo)) → IsRight (WalkOf (time_at s.times.now) s.net.now)
+  pub walk : (told : Option (List LinkNo)) → IsRight (WalkOf (timing s.costs) s.net.now)
       (asks_walk s.asks.now) s.trips.now earlier told
-      → IsRight (WalkOf (time_at s.times.now) s.net.now) (asks_walk s.asks.now) s.trips.now later
+      → IsRight (WalkOf (timing s.costs) s.net.now) (asks_walk s.asks.now) s.trips.now later
       told
 
 -- right answers of some vehicles more
 abbrev pub Answers : Search → (ℕ → Type 0) → List Answer → List Answer → Type 0
 Answers s Now old new =
-    AnswersMore (time_at s.times.now) s.net.now s.trips.now s.asks.now Now old new
+    AnswersMore (timing s.costs) s.net.now s.trips.now s.asks.now Now old new
 
 -- all answers are right, and the vehicles that go to some zones are answered
 abbrev pub AreOfZones : Search → List ZoneNo → List Answer → Type 0
 AreOfZones s found answers =
-    AreAnswers (time_at s.times.now) s.net.now s.trips.now s.asks.now (GoesToAny s found) answers
+    AreAnswers (timing s.costs) s.net.now s.trips.now s.asks.now (GoesToAny s found) answers
 
 -- right answers are told of some vehicles more
 abbrev pub TellsMore : Search → (ℕ → Type 0) → Told → Told → Type 0
-TellsMore s Now old new = Tells (time_at s.times.now) s.net.now s.trips.now s.asks.now Now old new
+TellsMore s Now old new = Tells (timing s.costs) s.net.now s.trips.now s.asks.now Now old new

@@ -1,4 +1,5 @@
 -- How what is told of vehicles grows, zone by zone.
+use Rattle.trip_costs.specs.Timings.{Timing}
 use Rattle.std.specs.Prelude.{◌≡◌, ℕ, ◌<◌, ◌||◌, Bool, false, cond, List, [], ◌∷◌, ◌++◌, length}
 use Rattle.std.specs.Prelude.{Option, None, Some, map, slice_get}
 use Rattle.net_core.specs.Network.{zone_number}
@@ -23,11 +24,11 @@ pub record Settles {X : Type 0} (asks : ℕ → Bool) (Right : ℕ → X → Typ
   pub made : (v : ℕ) (y : X) → Now v → slice_get new v ≡ Some y → Right v y
 
 -- the same of least times and of walks
-pub record Tells (at : ℕ → ℕ → ℕ) (net : NetRows) (trips : List Trip) (asks : List Ask)
+pub record Tells (costs : Timing) (net : NetRows) (trips : List Trip) (asks : List Ask)
     (Now : ℕ → Type 0) (old new : Told) : Type 0 where
-  pub leasts : Settles (asks_least asks) (IsRight (LeastOf at net) (asks_least asks) trips) Now
+  pub leasts : Settles (asks_least asks) (IsRight (LeastOf costs net) (asks_least asks) trips) Now
       old.leasts.items new.leasts.items
-  pub walks : Settles (asks_walk asks) (IsRight (WalkOf at net) (asks_walk asks) trips) Now
+  pub walks : Settles (asks_walk asks) (IsRight (WalkOf costs net) (asks_walk asks) trips) Now
       old.walks.items new.walks.items
 
 -- the number of a zone is that of its name

@@ -3,12 +3,13 @@ ghost use Rattle.std.specs.Prelude.{◌≡◌, All, IfOk, OnOk};
 ghost use Rattle.time_routes.specs.Searches.{Answers, AreOfZones, AreZones, GoesToAny};
 ghost use Rattle.time_routes.specs.Searches.{IsRightAnswer};
 ghost use Rattle.labels.specs.ToZone.{zone_numbers};
+ghost use Rattle.trip_costs.specs.WalkCosts.{tables};
 
 use crate::destination::Destination;
 use crate::search::Search;
 use dta_model::Route;
-use labels::{GroupLabels, Spare};
-use net_core::{LinkNo, Memory, ZoneNo};
+use labels::{GroupLabels, Spare, WalkLists};
+use net_core::{Memory, ZoneNo};
 use std::alloc::Global;
 
 /// What is answered of a vehicle: its least time and its chosen walk. None where there is no walk,
@@ -20,13 +21,13 @@ pub(crate) struct Answer {
     pub(crate) walk: Option<Route>,
 }
 
-/// Answers one after another, with the place of the last that was searched from each zone, and a
-/// list in which the links of a walk are gathered.
+/// Answers one after another, with the place of the last that was searched from each zone, and
+/// lists in which walks are found.
 #[derive(Drop)]
 pub(crate) struct Gathered {
     pub(crate) answers: Vec<Answer>,
     pub(crate) searched: Vec<usize>,
-    pub(crate) links: Vec<LinkNo>,
+    pub(crate) lists: WalkLists,
 }
 
 impl<'a> Search<'a> {
@@ -39,7 +40,7 @@ impl<'a> Search<'a> {
         gathered: &mut Gathered,
     ) -> Result<(), Memory>
         requires net { labels.now.net ≡ self.now.net.now }
-        requires times { labels.now.times ≡ self.now.times.now }
+        requires costs { labels.now.costs ≡ tables self.now.costs }
         requires of { labels.now.zones ≡ zone_numbers zones.now }
         requires zones { AreZones self.now zones.now }
         requires right { All (IsRightAnswer self.now) gathered.old.answers.items }
@@ -74,7 +75,7 @@ impl<'a> Search<'a> {
         let mut gathered = Gathered {
             answers: Vec::new(alloc),
             searched: Vec::from_elem(alloc, 0, self.net.zone_count() as usize)?,
-            links: Vec::new(alloc),
+            lists: WalkLists::new(alloc),
         };
         let mut spare = spare;
         let mut first = 0;
@@ -82,7 +83,7 @@ impl<'a> Search<'a> {
             let labels = GroupLabels::to_first(
                 alloc,
                 self.net,
-                self.times,
+                self.costs,
                 &zones[first..],
                 1,
                 spare,

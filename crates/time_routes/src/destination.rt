@@ -1,16 +1,18 @@
 // Vehicles that go to one zone, and their answers.
 ghost use Rattle.std.specs.Prelude.{◌≡◌, ◌≢◌, ◌<◌, length, slice_index, true, All, IfOk, OnOk};
 ghost use Rattle.net_core.specs.Network.{zones};
-ghost use Rattle.dta_model.specs.LinkTimes.{time_at};
 ghost use Rattle.labels.specs.Named.{zone_named};
 ghost use Rattle.labels.specs.ToZone.{destination, TellsLeast, TellsWalk};
+ghost use Rattle.trip_costs.specs.Timings.{timing_of};
+ghost use Rattle.trip_costs.specs.WalkCosts.{tables};
 
 use crate::answers::{Answer, Gathered};
 use crate::answers_again::note_searched;
 use crate::search::Search;
+use crate::vehicles::Ask;
 use dta_model::Route;
-use labels::{GroupLabels, NO_ZONE};
-use net_core::{LinkNo, Memory, ZoneNo};
+use labels::{GroupLabels, NO_ZONE, WalkLists};
+use net_core::{Memory, ZoneNo};
 use std::alloc::Global;
 
 /// The zone at a place of a group, to which vehicles of a search go.
@@ -20,7 +22,7 @@ pub(crate) struct Destination<'a> {
     pub(crate) labels: &'a GroupLabels<'a>,
     pub(crate) place: usize,
     ghost same_net: { labels.now.net ≡ search.now.net.now },
-    ghost same_times: { labels.now.times ≡ search.now.times.now },
+    ghost same_costs: { labels.now.costs ≡ tables search.now.costs },
     ghost within: { place < length labels.now.zones },
 }
 
@@ -32,7 +34,7 @@ impl<'a> Destination<'a> {
     fn least_if(&self, asked: bool, origin: ZoneNo, step: u32) -> Option<u64>
         requires origin { origin.0 < length (zones self.now.labels.now.net.nodes) }
         requires other { origin.0 ≢ slice_index self.now.labels.now.zones self.now.place }
-        ensures { asked ≡ true → TellsLeast (time_at self.now.labels.now.times)
+        ensures { asked ≡ true → TellsLeast (timing_of self.now.labels.now.costs)
             self.now.labels.now.net (zone_named self.now.labels.now.net origin.0)
             (destination self.now.labels.now self.now.place) step result }
     {
@@ -43,25 +45,32 @@ impl<'a> Destination<'a> {
         }
     }
 
-    // The chosen walk from a zone, if it is asked.
-    fn walk_if(
+    // The least time and the chosen walk from a zone, where they are asked. Both are found at once.
+    fn find(
         &self,
         alloc: Global,
-        links: &mut Vec<LinkNo>,
-        asked: bool,
+        lists: &mut WalkLists,
+        ask: Ask,
         origin: ZoneNo,
         step: u32,
-    ) -> Result<Option<Route>, Memory>
+    ) -> Result<(Option<u64>, Option<Route>), Memory>
         requires origin { origin.0 < length (zones self.now.labels.now.net.nodes) }
         requires other { origin.0 ≢ slice_index self.now.labels.now.zones self.now.place }
-        ensures { IfOk result (λ walk. asked ≡ true → TellsWalk (time_at self.now.labels.now.times)
-            self.now.labels.now.net (zone_named self.now.labels.now.net origin.0)
-            (destination self.now.labels.now self.now.place) step walk) }
+        ensures least { IfOk result (λ r. ask.least ≡ true
+            → TellsLeast (timing_of self.now.labels.now.costs) self.now.labels.now.net
+            (zone_named self.now.labels.now.net origin.0)
+            (destination self.now.labels.now self.now.place) step r.0) }
+        ensures walk { IfOk result (λ r. ask.walk ≡ true
+            → TellsWalk (timing_of self.now.labels.now.costs) self.now.labels.now.net
+            (zone_named self.now.labels.now.net origin.0)
+            (destination self.now.labels.now self.now.place) step r.1) }
     {
-        if asked {
-            self.labels.walk_in(alloc, links, self.place, origin, step)
-        } else {
-            Ok(None)
+        if !ask.walk {
+            return Ok((self.least_if(ask.least, origin, step), None));
+        }
+        match self.labels.walk_in(alloc, lists, self.place, origin, step)? {
+            Some(walk) => Ok((Some(walk.time), Some(walk.route))),
+            None => Ok((None, None)),
         }
     }
 
@@ -89,8 +98,7 @@ impl<'a> Destination<'a> {
         let origin = ZoneNo(from);
         let step = self.search.trips[vehicle as usize].departure;
         let ask = self.search.asks[vehicle as usize];
-        let least = self.least_if(ask.least, origin, step);
-        let walk = self.walk_if(alloc, &mut gathered.links, ask.walk, origin, step)?;
+        let (least, walk) = self.find(alloc, &mut gathered.lists, ask, origin, step)?;
         note_searched(gathered, from);
         Ok(Answer {
             vehicle,

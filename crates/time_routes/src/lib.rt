@@ -1,4 +1,4 @@
-//! Least times and chosen walks of vehicles, by a table of link times.
+//! Least times and chosen walks of vehicles, by link times or by whole trips.
 //!
 //! [`tell`] and [`tell_by_shares`] answer what is asked of vehicles, their least times and chosen
 //! walks from their departures, whatever their zones, by the labels of a group of destinations

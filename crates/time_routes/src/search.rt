@@ -6,27 +6,28 @@ ghost use Rattle.time_routes.specs.Answers.{IsSearch};
 ghost use Rattle.time_routes.specs.Tell.{IsNamed, noted, origins_of, wanted, wanted_zone};
 ghost use Rattle.labels.specs.declared.states.zone_numbers.TheConstants.{NO_ZONE};
 ghost use Rattle.time_routes.specs.declared.zone_memo.TheConstants.{PLACES};
+ghost use Rattle.trip_costs.specs.WalkCosts.{table_in};
 
 use crate::vehicles::Ask;
 use crate::zone_memo::{NamedZone, no_zones, number_of};
 use dta_model::{MOST_TRIPS, Trip};
 use labels::{ByZone, NO_ZONE};
-use link_times::LinkTimes;
 use net_core::{Memory, Net, ZoneNo};
 use std::alloc::Global;
+use trip_costs::WalkCosts;
 
-/// A table of a network's link times, and vehicles with what is asked of them. Those that
+/// The costs of walks over a network, and vehicles with what is asked of them. Those that
 /// something is asked of are listed by the zones to which they go; the zones are told in which all
 /// begin.
 #[derive(Drop)]
 pub(crate) struct Search<'a> {
     pub(crate) net: &'a Net,
-    pub(crate) times: &'a LinkTimes,
+    pub(crate) costs: WalkCosts<'a>,
     pub(crate) trips: &'a [Trip],
     pub(crate) asks: &'a [Ask],
     pub(crate) lists: ByZone,
     pub(crate) origins: Vec<u32>,
-    ghost is: { IsSearch net.now times.now trips.now asks.now lists origins.items },
+    ghost is: { IsSearch net.now (table_in costs) trips.now asks.now lists origins.items },
 }
 
 // The number of the zone to which a trip leads, or the one that stands for none where nothing is

@@ -1,12 +1,12 @@
 // Vehicles by their destinations, and what is told of them: least times and chosen walks.
 ghost use Rattle.std.specs.Prelude.{◌≡◌, ◌<◌, ◌≤◌, length, replicate, All, None, IfOk, OnOk};
-ghost use Rattle.dta_model.specs.LinkTimes.{time_at};
 ghost use Rattle.dta_model.specs.Sound.{AreTrips};
 ghost use Rattle.time_routes.specs.Destinations.{IsAllTold};
 ghost use Rattle.time_routes.specs.Groups.{IsOfGroup};
 ghost use Rattle.time_routes.specs.Searches.{GoesToAny, TellsMore};
 ghost use Rattle.time_routes.specs.Tell.{AreAsMany};
 ghost use Rattle.time_routes.specs.declared.shares.TheConstants.{MOST_SHARES};
+ghost use Rattle.trip_costs.specs.WalkCosts.{table_in, timing};
 
 use crate::groups::{GroupAnswers, Groups};
 use crate::put_answers::put_answers;
@@ -15,12 +15,12 @@ use crate::shares::{MOST_SHARES, share_count};
 use crate::table_pool::TablePool;
 use dta_model::{Route, Trip};
 use labels::Spare;
-use link_times::LinkTimes;
 use net_core::{Memory, Net};
 use std::alloc::Global;
 use std::sync::atomic::AtomicUsize;
 use std::thread;
 use std::thread::Threads;
+use trip_costs::WalkCosts;
 
 /// What is asked of a vehicle: its least time, its chosen walk, both or none.
 #[derive(Clone, Copy, Debug, PartialEq, Eq, Drop)]
@@ -95,19 +95,19 @@ fn tell_shares<R: AllocGlobal + Threads + Sync>(
 pub fn tell(
     alloc: Global,
     net: &Net,
-    times: &LinkTimes,
+    costs: WalkCosts,
     trips: &[Trip],
     asks: &[Ask],
 ) -> Result<Told, Memory>
-    requires table { length times.now.free ≡ length net.now.links }
+    requires table { length (table_in costs).free ≡ length net.now.links }
     requires trips { AreTrips trips.now }
     requires each { length asks.now ≡ length trips.now }
-    ensures { IfOk result (IsAllTold (time_at times.now) net.now trips.now asks.now) }
+    ensures { IfOk result (IsAllTold (timing costs.entry) net.now trips.now asks.now) }
 {
     let (lists, origins) = by_zones(alloc, net, trips, asks)?;
     let search = Search {
         net,
-        times,
+        costs,
         trips,
         asks,
         lists,
@@ -127,28 +127,28 @@ pub fn tell(
 pub fn tell_by_shares<R: AllocGlobal + Threads + Sync>(
     rt: &R,
     net: &Net,
-    times: &LinkTimes,
+    costs: WalkCosts,
     trips: &[Trip],
     asks: &[Ask],
     pool: &TablePool,
 ) -> Result<Told, Memory>
-    requires table { length times.now.free ≡ length net.now.links }
+    requires table { length (table_in costs).free ≡ length net.now.links }
     requires trips { AreTrips trips.now }
     requires each { length asks.now ≡ length trips.now }
-    ensures { IfOk result (IsAllTold (time_at times.now) net.now trips.now asks.now) }
+    ensures { IfOk result (IsAllTold (timing costs.entry) net.now trips.now asks.now) }
 {
     let alloc = rt.alloc();
     let (lists, origins) = by_zones(alloc, net, trips, asks)?;
     let search = Search {
         net,
-        times,
+        costs,
         trips,
         asks,
         lists,
         origins,
     };
     let zones = search.zones(alloc)?;
-    let shares = share_count(alloc, net, times, pool.workers())? as usize;
+    let shares = share_count(alloc, net, costs.times(), pool.workers())? as usize;
     pool.shrink(shares);
     let mut told = Told::none(alloc, trips.len())?;
     let groups = Groups {

@@ -27,7 +27,7 @@ use Rattle.dta_model.proofs.Riders.{last_move_is}
 use Rattle.dta_model.proofs.Standing.{in-queue, no-last}
 use Rattle.dta_model.proofs.Totals.{sum_alike, sum_both, sum_zero, target_place}
 use Rattle.dta_model.proofs.Totals.{vehicle_count_one}
-use Rattle.traffic_laws.proofs.BucketTimes.{count-more, one_if}
+use Rattle.traffic_laws.proofs.Counts.{count-cons, one_if}
 use Rattle.traffic_laws.proofs.NoFaster.{no_out, past}
 use Rattle.traffic_laws.proofs.OnTime.{last_get}
 use Rattle.traffic_laws.specs.Buckets.{is_last, last_link}
@@ -191,7 +191,7 @@ arrivals_are p t l U (m ∷ M) whole f below =
   where
     by : (b : Bool) (L : List Move) → count_by (λ x. not (is_entry x)) (cond b (m ∷ L) L)
         ≡ one_if (b && not (is_entry m)) + count_by (λ x. not (is_entry x)) L
-    by true L = count-more (λ x. not (is_entry x)) m L
+    by true L = count-cons (λ x. not (is_entry x)) m L
     by false L = omega arith
 
 pub nobody_arrived : (p : Plan) (l : ℕ) → arrived p l [] ≡ 0

@@ -5,10 +5,9 @@ use Rattle.std.proofs.Common.{◌≡◌, ℕ, suc, ◌+◌, ◌*◌, ◌/◌, �
 use Rattle.std.proofs.Common.{[], ◌∷◌, length, map, Ok, Option, None, Some, refl, ap}
 use Rattle.std.proofs.Common.{sym, ◌∙◌, subst, arith, inl, inr, get_or, le-ltb, lt-ltb}
 use Rattle.std.proofs.lemmas.List.{length-map}
-use Rattle.std.proofs.lemmas.Nat.{div-mul-add}
 use Rattle.std.proofs.lemmas.Option.{get_or_from_slice_get, same_Some}
 use Rattle.std.proofs.lemmas.Option.{slice_get-get_or, slice_get-map}
-use native.Mathlib.Nat.{div-add-mod', mod-lt}
+use native.Mathlib.Nat.{div-add-mod', mod-lt, mul-div_cancel}
 use Rattle.fixed_units.specs.declared.identifier.TheConstants.{GREATEST_IDENTIFIER}
 use Rattle.row_reader.specs.Records.{records}
 use Rattle.net_core.specs.declared.rows.LinkNo.{LinkNo}
@@ -311,14 +310,7 @@ module _ (p : Plan) (bucket : ℕ) (sound : IsSound p) (some : 1 ≤ bucket)
       let test : nat_lt (b * bucket) p.horizon ≡ true = lt-ltb (b * bucket) p.horizon begins in
       told-at (λ row. row.travel) (table_of p bucket).times r row back.travel e
       ∙ ap (slice_index (table_of p bucket).times) (sym (place-is r))
-      ∙ rw (test, whole b) refl
-    where
-      whole : (b : ℕ) → b * bucket / bucket ≡ b
-      whole b =
-          ap (λ n. n / bucket) (none b) ∙ div-mul-add b bucket 0 (omega (arith, some))
-        where
-          none : (b : ℕ) → b * bucket ≡ b * bucket + 0
-          none b = omega arith
+      ∙ rw (test, mul-div_cancel b some) refl
 
   times-hold : IsVerdict (all_time_checks (table_of p bucket) back.rows) Yes
   unfolding all_time_checks

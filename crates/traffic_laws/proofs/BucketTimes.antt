@@ -8,8 +8,9 @@ use Rattle.std.proofs.Common.{◌∙◌, subst, arith, Option, Some, None}
 use Rattle.std.proofs.lemmas.Bool.{cases_lt, eq-eqb}
 use Rattle.std.proofs.lemmas.Bool.Decides.{eqb_tells, nat_tests}
 use Rattle.std.proofs.lemmas.Grind.{div_ceil_times}
-use Rattle.std.proofs.lemmas.List.Elements.{All-head, All-tail}
+use Rattle.std.proofs.lemmas.List.Elements.{All-filter, All-head, All-tail}
 use Rattle.std.proofs.lemmas.List.Sums.{sum_by-cons}
+use Rattle.std.proofs.lemmas.Option.{same_Some}
 use Rattle.std.proofs.Math.Dec.{eqb}
 use Rattle.std.proofs.Math.Nat.{div-mul-le_self, mod-add-div, mod-lt}
 use Rattle.dta_model.specs.LinkTimes.{Visit, bucket_time, buckets_to, entered_in}
@@ -25,6 +26,7 @@ use Rattle.link_times.proofs.Places.{bucket_inside, by_bucket-get, product_le}
 use Rattle.link_times.proofs.Sums.{sum_in, sum_in-more, sum_in-none}
 use Rattle.link_times.proofs.Tabled.{ones}
 use Rattle.link_times.proofs.TravelTimes.{Lasts, Spaced, moves_are_spaced}
+use Rattle.traffic_laws.proofs.Counts.{count-cons, one_if}
 use Rattle.traffic_laws.specs.Buckets.{EnteredAreCounted, TimesAreNotBelowFree, enters_in}
 
 -- the vehicle's next move after one of its moves, among its own
@@ -36,9 +38,6 @@ next_spaced p m next T s e =
     first_of_own T e (subst (λ b. Spaced p None (cond b (m ∷ moves_of m.vehicle T)
     (moves_of m.vehicle T))) (eq-eqb m.vehicle m.vehicle refl) s)
   where
-    some_move : (a b : Move) → Some a ≡ Some b → a ≡ b
-    some_move a b e = cc
-
     first_of_own : (L : List Move) → find (is_of m.vehicle) L ≡ Some next
         → Spaced p (Some m) (moves_of m.vehicle L) → Lasts p m next
     first_of_own [] e s = cc
@@ -48,7 +47,7 @@ next_spaced p m next T s e =
             → Spaced p (Some m) (cond b (x ∷ moves_of m.vehicle L) (moves_of m.vehicle L))
             → (find (is_of m.vehicle) L ≡ Some next → Spaced p (Some m) (moves_of m.vehicle L)
             → Lasts p m next) → Lasts p m next
-        by true e s ih = subst (λ y. Lasts p m y) (some_move x next e) s.0
+        by true e s ih = subst (λ y. Lasts p m y) (same_Some x next e) s.0
         by false e s ih = ih e s
 
 -- where a vehicle's moves are spaced they are without the first move of a trace too
@@ -99,16 +98,6 @@ visits_least p l (m ∷ T) s i d h =
     by true e ih (suc i) d h = ih i d (omega (arith, h))
     by false e ih i d h = ih i d h
 
-pub all_filter : (P : Visit → Type 0) (q : Visit → Bool) (L : List Visit) → All P L
-    → All P (filter q L)
-all_filter P q [] all = all
-all_filter P q (x ∷ L) all = by (q x) (all_filter P q L (All-tail P x L all))
-  where
-    by : (b : Bool) → All P (filter q L) → All P (cond b (x ∷ filter q L) (filter q L))
-    by true ih zero d h = All-head P x L all
-    by true ih (suc i) d h = ih i d (omega (arith, h))
-    by false ih i d h = ih i d h
-
 sum_least : (free : ℕ) (L : List Visit) → All (λ v. free ≤ v.time) L
     → free * length L ≤ sum_by (λ v. v.time) L
 sum_least free [] all = grind arith
@@ -147,40 +136,39 @@ bucket_least p bucket l b =
     let T = trace_after p p.horizon in
     let L = filter (λ (v : Visit). nat_eq (v.entry / bucket) b) (visits p l T) in
     mean_least (link_at p l).free (sum_by (λ v. v.time) L) (length L)
-    (sum_least (link_at p l).free L (all_filter (λ v. (link_at p l).free ≤ v.time)
-    (λ v. nat_eq (v.entry / bucket) b) (visits p l T)
+    (sum_least (link_at p l).free L (All-filter (λ (v : Visit). nat_eq (v.entry / bucket) b)
+    (λ v. (link_at p l).free ≤ v.time) (visits p l T)
     (visits_least p l T (λ v. moves_are_spaced p p.horizon v))))
+
+-- before the horizon a link time is that of the step's bucket
+pub time_is : (p : Plan) (bucket l step : ℕ) → 1 ≤ bucket → l < length p.net.links
+    → step < p.horizon
+    → time_at (table_of p bucket) l step
+    ≡ bucket_time (link_at p l).free
+    (visits_in p bucket l (step / bucket) (trace_after p p.horizon))
+unfolding time_at table_in
+time_is p bucket l step some h early =
+    let test : nat_lt step p.horizon ≡ true = grind (arith, nat_tests) in
+    rw test (by_bucket-get (length p.net.links) (buckets_to bucket p.horizon)
+    (λ l b. bucket_time (link_at p l).free (visits_in p bucket l b (trace_after p p.horizon)))
+    l (step / bucket) h (bucket_inside bucket p.horizon step some early))
 
 pub times_are_not_below_free : TimesAreNotBelowFree
 unfolding time_at table_in
 times_are_not_below_free p bucket l step some h = by (cases_lt step p.horizon)
   where
-    links : ℕ
-    links = length p.net.links
-
     by : (step < p.horizon) ⊎ (p.horizon ≤ step)
         → (link_at p l).free ≤ time_at (table_of p bucket) l step
     by (inl early) =
-        let test : nat_lt step p.horizon ≡ true = grind (arith, nat_tests) in
-        let inside = bucket_inside bucket p.horizon step some early in
-        let at = by_bucket-get (length p.net.links) (buckets_to bucket p.horizon)
-        (λ l b. bucket_time (link_at p l).free (visits_in p bucket l b (trace_after p p.horizon)))
-        l (step / bucket) h inside in
+        let is = time_is p bucket l step some h early in
         let low = bucket_least p bucket l (step / bucket) in
-        rw test (omega (arith, at, low))
+        omega (arith, is, low)
     by (inr late) =
         let test : nat_lt step p.horizon ≡ false = grind (arith, nat_tests) in
         let at = steps_at p.net l h in
         rw test (omega (arith, at))
 
 -- ---- the numbers entered
-abbrev pub one_if : Bool → ℕ
-one_if b = cond b 1 0
-
-pub count-more : (q : Move → Bool) (m : Move) (T : List Move)
-    → count_by q (m ∷ T) ≡ cond (q m) 1 0 + count_by q T
-count-more q m T = sum_by-cons (λ x. cond (q x) 1 0) m T
-
 -- a step is in a bucket exactly where it is from the bucket's first step on and below the next
 in_bucket : (bucket b step : ℕ) → 1 ≤ bucket
     → nat_eq (step / bucket) b ≡ (nat_le (b * bucket) step && nat_lt step (suc b * bucket))
@@ -238,7 +226,7 @@ visits_many : (p : Plan) (bucket l b : ℕ) → 1 ≤ bucket → (T : List Move)
 visits_many p bucket l b some [] = sum_in-none (λ v. 1) p bucket l b
 visits_many p bucket l b some (m ∷ T) =
     let more = sum_in-more (λ v. 1) p bucket l b m T in
-    let counted = count-more (enters_in bucket l b) m T in
+    let counted = count-cons (enters_in bucket l b) m T in
     let rest = visits_many p bucket l b some T in
     let here = by (leads_to l m) (in_bucket bucket b m.step some) in
     omega (arith, more, counted, rest, here)

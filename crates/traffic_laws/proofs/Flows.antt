@@ -6,6 +6,7 @@ use Rattle.std.proofs.Common.{sym, ◌∙◌, arith, Option, Some, None, append_
 use Rattle.std.proofs.lemmas.Bool.{cases_Bool}
 use Rattle.std.proofs.lemmas.Bool.Decides.{eqb_tells}
 use Rattle.std.proofs.lemmas.List.Elements.{All-append, All-head, All-tail}
+use Rattle.std.proofs.lemmas.Option.{same_Some}
 use Rattle.std.proofs.Math.Dec.{eqb}
 use Rattle.net_core.specs.Network.{numbers_below}
 use Rattle.dta_model.specs.LinkTimes.{buckets_to, entered_in, table_of}
@@ -36,7 +37,8 @@ use Rattle.counts.specs.Turns.{takes, timed, times_taken}
 use Rattle.counts.proofs.OverVehicles.{taken, taken-more, taken-none}
 use Rattle.gap.proofs.Sums.{over-le}
 use Rattle.traffic_laws.proofs.Arriving.{arrivals_are, arrived, ends, nobody_arrived}
-use Rattle.traffic_laws.proofs.BucketTimes.{count-more, entered_is, one_if}
+use Rattle.traffic_laws.proofs.BucketTimes.{entered_is}
+use Rattle.traffic_laws.proofs.Counts.{count-cons, one_if}
 use Rattle.traffic_laws.specs.Buckets.{EntriesComeFrom, LeavingsGoTo, departures_onto}
 use Rattle.traffic_laws.specs.Buckets.{arrivals_from, entries_of_link, leavings_of, sum_below}
 use Rattle.traffic_laws.specs.Buckets.{turns_between}
@@ -115,7 +117,7 @@ module _ (bucket buckets : ℕ) where
       (All-head (λ x. x.step / bucket < buckets) m M inside)
       (λ k. by (leads_to l m) (nat_eq (m.step / bucket) k)) in
       let rest = all_entered p l M (All-tail (λ x. x.step / bucket < buckets) m M inside) in
-      let more = count-more (leads_to l) m M in
+      let more = count-cons (leads_to l) m M in
       omega (arith, each, both, one, rest, more)
     where
       by : (x y : Bool) → cond x (one_if y) 0 ≡ one_if (y && x)
@@ -142,16 +144,13 @@ stood links U m inside (inl never) moved = let e : true ≡ false = sym moved �
 stood links U m inside (inr (k, first)) moved =
     let x = in-queue k U 0 m.vehicle first in
     let y = last_in (InTable links) m.vehicle U [] inside moved in
-    let same : y.0 ≡ x.0 = some_move (y.0) (x.0) (sym (y.1) ∙ x.1) in
+    let same : y.0 ≡ x.0 = same_Some (y.0) (x.0) (sym (y.1) ∙ x.1) in
     let at : (x.0).target ≡ Onto k = onto_one k (x.0).target (x.2) in
     record {
       link = k;
       within = y.2 k (ap (λ z. z.target) same ∙ at);
       only = λ a. ap (leads_there a) (x.1) ∙ ap (is_link a) at;
     }
-  where
-    some_move : (a b : Move) → Some a ≡ Some b → a ≡ b
-    some_move a b e = cc
 
 -- ---- entries are departures and turns
 departing : ℕ → List Move → List Move → ℕ
@@ -175,7 +174,7 @@ entries_split p l before (m ∷ M) f old new =
     let now = new_one m M new in
     let rest = entries_split p l (before ++ m ∷ []) M f.1 (All-append (InTable links) before
     (m ∷ []) old now) (All-tail (InTable links) m M new) in
-    let more = count-more (leads_to l) m M in
+    let more = count-cons (leads_to l) m M in
     let one = by (cases_Bool (has_moved m.vehicle before)) in
     omega (arith, both, rest, more, one)
   where
@@ -347,7 +346,7 @@ leavings_split links l before (m ∷ M) inside =
         + count_by (λ x. not (is_entry x)) (cond on (m ∷ L) L)
     by true L both rest =
         let one = onto_any m.target (All-head (InTable links) m M inside) in
-        let more = count-more (λ x. not (is_entry x)) m L in
+        let more = count-cons (λ x. not (is_entry x)) m L in
         omega (arith, both, rest, one, more)
     by false L both rest =
         let none = none_of links (λ b. one_if (false && leads_to b m)) (λ b. refl) in

@@ -9,10 +9,10 @@ use Rattle.std.proofs.Common.{subst, arith, Option, Some, None}
 use Rattle.std.proofs.lemmas.Bool.{cases_lt, eq-eqb}
 use Rattle.std.proofs.lemmas.Bool.Decides.{nat_tests}
 use Rattle.std.proofs.lemmas.Grind.{div_ceil_times}
-use Rattle.std.proofs.lemmas.List.Elements.{All-head, All-tail}
+use Rattle.std.proofs.lemmas.List.Elements.{All-filter, All-head, All-tail}
 use Rattle.std.proofs.lemmas.List.Sums.{sum_by-cons}
 use Rattle.std.proofs.Math.Dec.{eqb}
-use Rattle.dta_model.specs.LinkTimes.{Visit, bucket_time, buckets_to, mean_time, penalty_to}
+use Rattle.dta_model.specs.LinkTimes.{Visit, bucket_time, mean_time, penalty_to}
 use Rattle.dta_model.specs.LinkTimes.{table_in}
 use Rattle.dta_model.specs.LinkTimes.{table_of, time_at, visit, visit_time, visits, visits_in}
 use Rattle.dta_model.specs.Loading.{trace_after}
@@ -23,8 +23,8 @@ use Rattle.dta_model.specs.Trace.{moves_of}
 use Rattle.dta_model.specs.declared.plan.Plan.{Plan}
 use Rattle.dta_model.proofs.Onward.{onto_one}
 use Rattle.link_times.proofs.Links.{steps_at}
-use Rattle.link_times.proofs.Places.{bucket_inside, by_bucket-get, product_le}
-use Rattle.traffic_laws.proofs.BucketTimes.{all_filter, mean_least}
+use Rattle.link_times.proofs.Places.{product_le}
+use Rattle.traffic_laws.proofs.BucketTimes.{mean_least, time_is}
 use Rattle.traffic_laws.proofs.ExactMoves.{exact_last, exact_next}
 use Rattle.traffic_laws.specs.FreeFlow.{NothingBinds, TimesAreFree}
 
@@ -148,8 +148,8 @@ module _ (p : Plan) (sound : IsSound p) (binds : NothingBinds p (λ l. 0)) where
   bucket_free bucket l b =
       let T = trace_after p p.horizon in
       let L = filter (λ (v : Visit). nat_eq (v.entry / bucket) b) (visits p l T) in
-      let sum = sum_free (link_at p l).free L (all_filter (λ v. v.time ≡ (link_at p l).free)
-      (λ v. nat_eq (v.entry / bucket) b) (visits p l T) (visits_free l T all_exact)) in
+      let sum = sum_free (link_at p l).free L (All-filter (λ v. nat_eq (v.entry / bucket) b)
+      (λ (v : Visit). v.time ≡ (link_at p l).free) (visits p l T) (visits_free l T all_exact)) in
       let low = mean_least (link_at p l).free (sum_by (λ v. v.time) L) (length L)
       (omega (arith, sum)) in
       let high = mean_most (link_at p l).free (sum_by (λ v. v.time) L) (length L) sum in
@@ -162,13 +162,7 @@ times_are_free p sound binds bucket l step some h = by (cases_lt step p.horizon)
     by : (step < p.horizon) ⊎ (p.horizon ≤ step)
         → time_at (table_of p bucket) l step ≡ (link_at p l).free
     by (inl early) =
-        let test : nat_lt step p.horizon ≡ true = grind (arith, nat_tests) in
-        let inside = bucket_inside bucket p.horizon step some early in
-        let at = by_bucket-get (length p.net.links) (buckets_to bucket p.horizon)
-        (λ l b. bucket_time (link_at p l).free (visits_in p bucket l b (trace_after p p.horizon)))
-        l (step / bucket) h inside in
-        let is = bucket_free p sound binds bucket l (step / bucket) in
-        rw test (at ∙ is)
+        time_is p bucket l step some h early ∙ bucket_free p sound binds bucket l (step / bucket)
     by (inr late) =
         let test : nat_lt step p.horizon ≡ false = grind (arith, nat_tests) in
         rw test (steps_at p.net l h)

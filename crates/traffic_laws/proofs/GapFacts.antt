@@ -10,6 +10,8 @@ use Rattle.dta_model.specs.LinkTimes.{table_of, time_at}
 use Rattle.dta_model.specs.Plans.{link_numbers}
 use Rattle.dta_model.specs.declared.trip.Trip.{Trip}
 use Rattle.dta_model.proofs.Steady.{some_trip}
+use Rattle.trip_costs.specs.Timings.{Links, Timing}
+use Rattle.trip_costs.proofs.Timed.{none_less_by, some_walk_by}
 use Rattle.gap.specs.Gap.{AreLeasts, over_vehicles, route_time}
 use Rattle.gap.proofs.Sums.{over-le, over-more, route_time-is}
 use Rattle.assignment.proofs.SoundFacts.{sound-iterations}
@@ -39,12 +41,9 @@ over-same (suc n) f g low same v h =
     by (inr b) ih last =
         let e : n ≡ v = omega (arith, b, h) in subst (λ k. g k ≤ f k) e last
 
-module _ (at : ℕ → ℕ → ℕ) (net : NetRows) (trips : List Trip)
+module _ (costs : Timing) (net : NetRows) (trips : List Trip)
     (routes : List (Option (List LinkNo))) (least : ℕ → ℕ)
-    (are : AreRoutesOf net trips routes) (leasts : AreLeasts at net trips routes least) where
-  time : ℕ → ℕ
-  time = route_time at net trips routes
-
+    (are : AreRoutesOf net trips routes) (leasts : AreLeasts costs net trips routes least) where
   -- a vehicle has a route or none
   route_there : (v : ℕ) (trip : Trip) → slice_get trips v ≡ Some trip
       → (route : Option (List LinkNo)) × (slice_get routes v ≡ Some route)
@@ -54,84 +53,82 @@ module _ (at : ℕ → ℕ → ℕ) (net : NetRows) (trips : List Trip)
       (get_or routes v None, slice_get-get_or routes v None (omega (arith, inside, each)))
 
   not_less : (v : ℕ) (trip : Trip) → slice_get trips v ≡ Some trip
-      → least v ≤ route_time at net trips routes v
+      → least v ≤ route_time costs net trips routes v
   not_less v trip t = let r = route_there v trip t in by (r.0) (r.1)
     where
       by : (route : Option (List LinkNo)) → slice_get routes v ≡ Some route
-          → least v ≤ route_time at net trips routes v
+          → least v ≤ route_time costs net trips routes v
       by None r = let z : least v ≡ 0 = leasts v trip None t r in omega (arith, z)
       by (Some route) r =
-          let l = leasts v trip (Some route) t r in
-          let low = l.none_less (link_numbers route) (are.walks v trip route t r) in
-          let is = route_time-is at net trips routes v trip (Some route) t r in
+          let low = none_less_by costs net trip.origin trip.destination trip.departure (least v)
+          (leasts v trip (Some route) t r) (link_numbers route) (are.walks v trip route t r) in
+          let is = route_time-is costs net trips routes v trip (Some route) t r in
           omega (arith, low, is)
 
   trip_at : (v : ℕ) → v < length trips → slice_get trips v ≡ Some (get_or trips v some_trip)
   trip_at v h = slice_get-get_or trips v some_trip h
 
-  all_not_less : (v : ℕ) → v < length trips → least v ≤ route_time at net trips routes v
+  all_not_less : (v : ℕ) → v < length trips → least v ≤ route_time costs net trips routes v
   all_not_less v h = not_less v (get_or trips v some_trip) (trip_at v h)
 
   -- equal sums: each vehicle's route takes its least time
-  equilibrium : over_vehicles (length trips) (route_time at net trips routes)
-      ≤ over_vehicles (length trips) least → IsUserEquilibrium at net trips routes
+  equilibrium : over_vehicles (length trips) (route_time costs net trips routes)
+      ≤ over_vehicles (length trips) least → IsUserEquilibrium costs net trips routes
   equilibrium same v trip route t r other w =
       let inside = slice_get_within trips v trip t in
-      let low = over-same (length trips) least (route_time at net trips routes) all_not_less same v
-      inside in
-      let is = route_time-is at net trips routes v trip (Some route) t r in
-      let l = leasts v trip (Some route) t r in
-      let best = l.none_less other w in
+      let low = over-same (length trips) least (route_time costs net trips routes) all_not_less
+      same v inside in
+      let is = route_time-is costs net trips routes v trip (Some route) t r in
+      let best = none_less_by costs net trip.origin trip.destination trip.departure (least v)
+      (leasts v trip (Some route) t r) other w in
       omega (arith, low, is, best)
 
   -- in a user equilibrium no route takes more than the least time
-  no_more : IsUserEquilibrium at net trips routes → (v : ℕ) → v < length trips
-      → route_time at net trips routes v ≤ least v
+  no_more : IsUserEquilibrium costs net trips routes → (v : ℕ) → v < length trips
+      → route_time costs net trips routes v ≤ least v
   no_more eq v h = let r = route_there v (get_or trips v some_trip) (trip_at v h) in by (r.0) (r.1)
     where
       by : (route : Option (List LinkNo)) → slice_get routes v ≡ Some route
-          → route_time at net trips routes v ≤ least v
+          → route_time costs net trips routes v ≤ least v
       by None r =
-          let is = route_time-is at net trips routes v (get_or trips v some_trip) None
+          let is = route_time-is costs net trips routes v (get_or trips v some_trip) None
           (trip_at v h) r in
           omega (arith, is)
       by (Some route) r =
           let trip : Trip = get_or trips v some_trip in
           let t = trip_at v h in
-          let l = leasts v trip (Some route) t r in
-          let is = route_time-is at net trips routes v trip (Some route) t r in
-          let best = eq v trip route t r (l.some_walk.0) (l.some_walk.1) in
-          let has = l.some_walk.2 in
+          let l = some_walk_by costs net trip.origin trip.destination trip.departure (least v)
+          (leasts v trip (Some route) t r) in
+          let is = route_time-is costs net trips routes v trip (Some route) t r in
+          let best = eq v trip route t r (l.0) (l.1) in
+          let has = l.2 in
           omega (arith, is, best, has)
 
 pub gap_is_never_negative : GapIsNeverNegative
-gap_is_never_negative at net trips routes least are leasts = record {
-  by_vehicle = not_less at net trips routes least are leasts;
-  in_all = over-le (length trips) least (route_time at net trips routes)
-      (all_not_less at net trips routes least are leasts);
+gap_is_never_negative costs net trips routes least are leasts = record {
+  by_vehicle = not_less costs net trips routes least are leasts;
+  in_all = over-le (length trips) least (route_time costs net trips routes)
+      (all_not_less costs net trips routes least are leasts);
 }
 
 pub no_gap_is_equilibrium : NoGapIsEquilibrium
-no_gap_is_equilibrium at net trips routes line are is = (there, back)
+no_gap_is_equilibrium costs net trips routes line are is = (there, back)
   where
-    sums : line.least_steps + line.gap_steps ≡ line.route_steps
-    sums = is.above
-
-    there : line.gap_steps ≡ 0 → IsUserEquilibrium at net trips routes
+    there : line.gap_steps ≡ 0 → IsUserEquilibrium costs net trips routes
     there none =
         let s = is.above in
         let a = is.by_routes in
         let b = is.by_leasts.2 in
-        equilibrium at net trips routes (is.by_leasts.0) are (is.by_leasts.1)
+        equilibrium costs net trips routes (is.by_leasts.0) are (is.by_leasts.1)
         (omega (arith, s, a, b, none))
 
-    back : IsUserEquilibrium at net trips routes → line.gap_steps ≡ 0
+    back : IsUserEquilibrium costs net trips routes → line.gap_steps ≡ 0
     back eq =
         let s = is.above in
         let a = is.by_routes in
         let b = is.by_leasts.2 in
-        let low = over-le (length trips) (route_time at net trips routes) (is.by_leasts.0)
-        (no_more at net trips routes (is.by_leasts.0) are (is.by_leasts.1) eq) in
+        let low = over-le (length trips) (route_time costs net trips routes) (is.by_leasts.0)
+        (no_more costs net trips routes (is.by_leasts.0) are (is.by_leasts.1) eq) in
         omega (arith, s, a, b, low)
 
 pub gaps_are_of_their_loadings : GapsAreOfTheirLoadings
@@ -142,7 +139,7 @@ gaps_are_of_their_loadings s traffic all lines settings are it i routes line at 
     record {
       not_negative = (let sums = gap.above in omega (arith, sums));
       no_gap = no_gap_is_equilibrium
-          (time_at (table_of (loading_over s traffic routes) s.bucket))
+          (Links (time_at (table_of (loading_over s traffic routes) s.bucket)))
           traffic.net traffic.trips routes line
           (record { each = sound.each; walks = sound.walks }) gap;
     }

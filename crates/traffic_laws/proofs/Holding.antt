@@ -11,7 +11,7 @@ use Rattle.std.proofs.lemmas.Bool.Decides.{eqb_tells, nat_tests}
 use Rattle.std.proofs.lemmas.List.{take-append-drop}
 use Rattle.std.proofs.lemmas.List.Elements.{All-append, All-cons, All-head, All-nil, All-tail}
 use Rattle.std.proofs.lemmas.List.Elements.{All-weaker}
-use Rattle.std.proofs.lemmas.Option.{none-some, slice_get_within}
+use Rattle.std.proofs.lemmas.Option.{none-some, same_Some, slice_get_within}
 use Rattle.net_core.specs.Network as network
 use Rattle.net_core.specs.Rates.{rate_in}
 use Rattle.net_core.specs.declared.rows.LinkNo.{LinkNo}
@@ -59,11 +59,11 @@ use Rattle.traffic_laws.proofs.WithinRates.{leave-next, leave-now, left-most, tu
 use Rattle.traffic_laws.proofs.Passed.{made-now}
 
 -- ---- what a list without a first one tells of each of its links
-either_none : (o other : Option Move) → either o other ≡ None → (o ≡ None) × (other ≡ None)
+pub either_none : (o other : Option Move) → either o other ≡ None → (o ≡ None) × (other ≡ None)
 either_none None other h = (refl, h)
 either_none (Some m) other h = cc
 
-none_first : (f : ℕ → Option Move) (ls : List ℕ) → first_of f ls ≡ None
+pub none_first : (f : ℕ → Option Move) (ls : List ℕ) → first_of f ls ≡ None
     → All (λ l. f l ≡ None) ls
 none_first f [] h = All-nil (λ l. f l ≡ None)
 none_first f (l ∷ ls) h =
@@ -76,14 +76,14 @@ split_all P (x ∷ xs) ys all =
     let rest = split_all P xs ys (All-tail P x (xs ++ ys) all) in
     (All-cons P x xs (All-head P x (xs ++ ys) all) rest.0, rest.1)
 
-all_rotated : (P : ℕ → Type 0) (k : ℕ) (xs : List ℕ) → All P (rotated k xs) → All P xs
+pub all_rotated : (P : ℕ → Type 0) (k : ℕ) (xs : List ℕ) → All P (rotated k xs) → All P xs
 all_rotated P k xs all =
     let both = split_all P (drop k xs) (take k xs) all in
     subst (λ L. All P L) (take-append-drop k xs)
     (All-append P (take k xs) (drop k xs) both.1 both.0)
 
 -- what is true of the numbers that pass a test is true of one of them
-among : (P : ℕ → Type 0) (q : ℕ → Bool) (k from l : ℕ)
+pub among : (P : ℕ → Type 0) (q : ℕ → Bool) (k from l : ℕ)
     → All P (filter q (range_with_len from k)) → q l ≡ true → from ≤ l → l < from + k → P l
 among P q zero from l all e low high = absurd (omega (arith, low, high))
 among P q (suc k) from l all e low high =
@@ -106,7 +106,7 @@ among P q (suc k) from l all e low high =
         ih every e (omega (arith, low, other)) (omega (arith, high))
 
 -- where nobody is found nobody passes
-none_found : (q : ℕ → Bool) (k from v : ℕ) → find q (range_with_len from k) ≡ None → from ≤ v
+pub none_found : (q : ℕ → Bool) (k from v : ℕ) → find q (range_with_len from k) ≡ None → from ≤ v
     → v < from + k → q v ≡ false
 none_found q zero from v h low high = absurd (omega (arith, low, high))
 none_found q (suc k) from v h low high =
@@ -126,6 +126,17 @@ first_of_two : (xs ys : List ℕ) (v : ℕ) → slice_get (xs ++ ys) 0 ≡ Some 
     → (slice_get xs 0 ≡ Some v) ⊎ (slice_get ys 0 ≡ Some v)
 first_of_two [] ys v h = inr h
 first_of_two (x ∷ xs) ys v h = inl h
+
+-- what is true of each is true of who is found
+pub found_all : (P : Move → Type 0) (q : Move → Bool) (L : List Move) (m : Move) → All P L
+    → find q L ≡ Some m → P m
+found_all P q [] m all e = cc
+found_all P q (x ∷ L) m all e =
+    by (q x) e (found_all P q L m (All-tail P x L all))
+  where
+    by : (b : Bool) → cond b (Some x) (find q L) ≡ Some m → (find q L ≡ Some m → P m) → P m
+    by true e ih = subst P (same_Some x m e) (All-head P x L all)
+    by false e ih = ih e
 
 not_made : (b : Bool) (m : Move) → where_true b m ≡ None → b ≡ false
 not_made true m h = cc
@@ -333,15 +344,12 @@ module _ (p : Plan) (sound : IsSound p) (t : ℕ) where
     still : has_moved v N ≡ false
     still = by (cases_Bool (has_moved v N))
       where
-        some_move : (x y : Move) → Some x ≡ Some y → x ≡ y
-        some_move x y e = cc
-
         by : (has_moved v N ≡ true) ⊎ (has_moved v N ≡ false) → has_moved v N ≡ false
         by (inr e) = e
         by (inl e) =
             let x = last_in (λ m. m.step ≡ t) v N T (all-now p sound t T) e in
             let same : r.entry ≡ x.0 =
-            some_move r.entry (x.0) (sym r.entered ∙ ap (λ L. last_move v L) next_trace ∙ x.1) in
+            same_Some r.entry (x.0) (sym r.entered ∙ ap (λ L. last_move v L) next_trace ∙ x.1) in
             let late : r.entry.step ≡ t = ap (λ m. m.step) same ∙ x.2 in
             let free = (steady_of p sound).free l in
             let over = r.ready in

@@ -1,11 +1,10 @@
 -- The numbers of a table of link times are those that its reader takes.
-use Rattle.std.specs.Prelude.{All, filter, find, nat_eq, nat_lt, sum_by}
+use Rattle.std.specs.Prelude.{All, filter, find, nat_eq, sum_by}
 use Rattle.std.specs.List.{flat_map}
 use Rattle.std.proofs.Common.{◌≡◌, ◌⊎◌, inl, inr, ℕ, zero, suc, ◌+◌, ◌*◌, ◌/◌, ◌<◌, ◌≤◌, Bool}
 use Rattle.std.proofs.Common.{true, false, cond, List, [], ◌∷◌, ◌++◌, length, length-append, refl}
 use Rattle.std.proofs.Common.{mul-le-mul, subst, arith, Option, Some, None}
 use Rattle.std.proofs.lemmas.Bool.{cases_lt}
-use Rattle.std.proofs.lemmas.Bool.Decides.{nat_tests}
 use Rattle.std.proofs.lemmas.Grind.{div_ceil_times}
 use Rattle.std.proofs.lemmas.List.{length-map}
 use Rattle.std.proofs.lemmas.List.Elements.{All-cons, All-filter, All-head, All-nil, All-tail}
@@ -25,8 +24,10 @@ use Rattle.dta_model.specs.declared.plan.Plan.{Plan}
 use Rattle.dta_model.specs.declared.trip.TheConstants.{MOST_TRIPS}
 use Rattle.dta_model.proofs.Journeys.{steps_below}
 use Rattle.link_times.proofs.Links.{steps_at, steps_most}
-use Rattle.link_times.proofs.Places.{bucket_inside, by_bucket-get, product_le}
+use Rattle.link_times.proofs.Places.{by_bucket-get, product_le}
 use Rattle.link_times.proofs.RoundedUp.{mean_most}
+use Rattle.traffic_laws.proofs.BucketTimes.{time_is}
+use Rattle.traffic_laws.proofs.Holding.{found_all}
 
 -- ---- a trace has no more moves than vehicles at all nodes in all steps
 grown_few : (p : Plan) (n t : ℕ) (T : List Move) (k : ℕ) (M : List Move)
@@ -134,21 +135,10 @@ module _ (p : Plan) (sound : IsSound p) (l : ℕ) (inside : l < length p.net.lin
 
   visit_short : (m : Move) (T : List Move) → All (λ k. k.step < p.horizon) T
       → IsShort (visit p l m T)
-  visit_short m T early = by (find (is_of m.vehicle) T) (found T early)
+  visit_short m T early =
+      by (find (is_of m.vehicle) T)
+      (λ n. found_all (λ k. k.step < p.horizon) (is_of m.vehicle) T n early)
     where
-      found : (T : List Move) → All (λ k. k.step < p.horizon) T → (n : Move)
-          → find (is_of m.vehicle) T ≡ Some n → n.step < p.horizon
-      found [] all n e = cc
-      found (x ∷ T) all n e =
-          pick (is_of m.vehicle x) e (found T (All-tail (λ k. k.step < p.horizon) x T all) n)
-        where
-          pick : (b : Bool) → cond b (Some x) (find (is_of m.vehicle) T) ≡ Some n
-              → (find (is_of m.vehicle) T ≡ Some n → n.step < p.horizon) → n.step < p.horizon
-          pick true e more =
-              let same : x ≡ n = cc in
-              subst (λ y. y.step < p.horizon) same (All-head (λ k. k.step < p.horizon) x T all)
-          pick false e more = more e
-
       by : (o : Option Move) → ((n : Move) → o ≡ Some n → n.step < p.horizon)
           → visit_time p l m.step o ≤ MOST_HORIZON
       by None h =
@@ -190,20 +180,16 @@ bucket_short free (v ∷ L) f all =
 pub time_short : (p : Plan) → IsSound p → (bucket : ℕ) → 1 ≤ bucket → (l step : ℕ)
     → l < length p.net.links → step < p.horizon
     → time_at (table_of p bucket) l step ≤ MOST_HORIZON
-unfolding time_at table_in visits_in
+unfolding visits_in
 time_short p sound bucket some l step hl early =
     let T = trace_after p p.horizon in
-    let test : nat_lt step p.horizon ≡ true = grind (arith, nat_tests) in
-    let inside = bucket_inside bucket p.horizon step some early in
-    let at = by_bucket-get (length p.net.links) (buckets_to bucket p.horizon)
-    (λ l b. bucket_time (link_at p l).free (visits_in p bucket l b T)) l (step / bucket) hl
-    inside in
+    let is = time_is p bucket l step some hl early in
     let low = bucket_short (link_at p l).free
     (filter (λ v. nat_eq (v.entry / bucket) (step / bucket)) (visits p l T))
     (free_short p sound l hl)
     (All-filter (λ (v : Visit). nat_eq (v.entry / bucket) (step / bucket)) IsShort (visits p l T)
     (visits_short p sound l hl T (steps_below p p.horizon))) in
-    rw test (omega (arith, at, low))
+    omega (arith, is, low)
 
 -- ---- buckets
 -- a bucket begins before the horizon

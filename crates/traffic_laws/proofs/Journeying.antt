@@ -29,7 +29,7 @@ use Rattle.dta_model.proofs.NextMoves.{Kind, head, moves-keep, next_cases, waiti
 use Rattle.dta_model.proofs.Steady.{all_at, steady_of}
 use Rattle.link_times.proofs.Along.{spaced_at}
 use Rattle.link_times.proofs.TravelTimes.{Lasts, moves_are_spaced}
-use Rattle.traffic_laws.proofs.BucketTimes.{count-more, one_if}
+use Rattle.traffic_laws.proofs.Counts.{count-cons, one_if}
 use Rattle.traffic_laws.specs.FreeFlow.{MovesOnceInAStep}
 
 -- a journey has the steps of a vehicle's moves: of its entries, and then of its arrival
@@ -205,7 +205,7 @@ none_then : (step : ℕ) (L : List Move) → All (λ m. step < m.step) L
     → count_by (λ m. nat_eq m.step step) L ≡ 0
 none_then step [] all = refl
 none_then step (x ∷ L) all =
-    let more = count-more (λ m. nat_eq m.step step) x L in
+    let more = count-cons (λ m. nat_eq m.step step) x L in
     let rest = none_then step L (All-tail (λ m. step < m.step) x L all) in
     let here = ne_eqb x.step step (less (All-head (λ m. step < m.step) x L all)) in
     let zero : one_if (nat_eq x.step step) ≡ 0 = rw here refl in
@@ -221,7 +221,7 @@ once_then step (x ∷ L) h =
   where
     more : count_by (λ m. nat_eq m.step step) (x ∷ L)
         ≡ one_if (nat_eq x.step step) + count_by (λ m. nat_eq m.step step) L
-    more = count-more (λ m. nat_eq m.step step) x L
+    more = count-cons (λ m. nat_eq m.step step) x L
 
     by : ((eqb x.step step ≡ true) × (x.step ≡ step))
         ⊎ ((eqb x.step step ≡ false) × (x.step ≢ step))
@@ -243,14 +243,14 @@ own_count : (q : Move → Bool) (v : ℕ) (T : List Move)
 unfolding moves_of
 own_count q v [] = refl
 own_count q v (m ∷ T) =
-    by (eqb m.vehicle v) (own_count q v T) (count-more (λ x. is_of v x && q x) m T)
+    by (eqb m.vehicle v) (own_count q v T) (count-cons (λ x. is_of v x && q x) m T)
   where
     by : (b : Bool) → count_by (λ x. is_of v x && q x) T ≡ count_by q (moves_of v T)
         → count_by (λ x. is_of v x && q x) (m ∷ T)
         ≡ one_if (b && q m) + count_by (λ x. is_of v x && q x) T
         → count_by (λ x. is_of v x && q x) (m ∷ T)
         ≡ count_by q (cond b (m ∷ moves_of v T) (moves_of v T))
-    by true ih more = let k = count-more q m (moves_of v T) in omega (arith, ih, more, k)
+    by true ih more = let k = count-cons q m (moves_of v T) in omega (arith, ih, more, k)
     by false ih more = omega (arith, ih, more)
 
 pub moves_once_in_a_step : MovesOnceInAStep

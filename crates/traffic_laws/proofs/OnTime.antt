@@ -3,15 +3,14 @@ use Rattle.std.specs.List.{flat_map, last_or, range_with_len}
 use Rattle.std.specs.Prelude.{All, IsSome, count_by, filter, find, is_none, nat_eq, nat_lt}
 use Rattle.std.specs.Prelude.{slice_get, ⊤, ◌≢◌}
 use Rattle.std.proofs.Common.{◌≡◌, ◌⊎◌, inl, inr, ℕ, zero, suc, ◌+◌, ◌%◌, ◌<◌, ◌≤◌, Bool, true}
-use Rattle.std.proofs.Common.{false, cond, ◌&&◌, ◌||◌, List, [], ◌∷◌, ◌++◌, length, map, drop}
-use Rattle.std.proofs.Common.{take, refl, ap, sym, ◌∙◌, subst, arith, get_or, Option, Some, None}
+use Rattle.std.proofs.Common.{false, cond, ◌&&◌, ◌||◌, List, [], ◌∷◌, ◌++◌, length, map}
+use Rattle.std.proofs.Common.{refl, ap, sym, ◌∙◌, subst, arith, get_or, Option, Some, None}
 use Rattle.std.proofs.Common.{append-nil, append_assoc}
 use Rattle.std.proofs.lemmas.Bool.{cases_Bool, cases_lt, eq-eqb, or_parts}
 use Rattle.std.proofs.lemmas.Bool.Decides.{eqb_tells}
-use Rattle.std.proofs.lemmas.List.{take-append-drop}
 use Rattle.std.proofs.lemmas.List.Elements.{All-append, All-head, All-nil, All-tail}
 use Rattle.std.proofs.lemmas.List.Sums.{sum_by-append}
-use Rattle.std.proofs.lemmas.Option.{slice_get-get_or, slice_get_within}
+use Rattle.std.proofs.lemmas.Option.{same_Some, slice_get-get_or, slice_get_within}
 use Rattle.std.proofs.Math.Dec.{eqb}
 use Rattle.net_core.proofs.Orders.{is_le, is_lt, lt_holds}
 use Rattle.net_core.specs.Network as network
@@ -22,7 +21,7 @@ use Rattle.net_core.specs.declared.rows.Turn.{Turn}
 use Rattle.dta_model.specs.Allowance.{allowance}
 use Rattle.dta_model.specs.LinkTimes.{penalty_to}
 use Rattle.dta_model.specs.Loading.{after_step, trace_after}
-use Rattle.dta_model.specs.NodeMoves.{admission, admit, either, entered, first_move, first_of}
+use Rattle.dta_model.specs.NodeMoves.{admission, admit, entered, first_move, first_of}
 use Rattle.dta_model.specs.NodeMoves.{head_move, in_order, leave_move, left, may_enter}
 use Rattle.dta_model.specs.NodeMoves.{may_move, may_turn, next_move, node_moves, turn_test, turned}
 use Rattle.dta_model.specs.NodeMoves.{waits_for, where_true}
@@ -46,72 +45,13 @@ use Rattle.dta_model.proofs.Riders.{last_move_is}
 use Rattle.dta_model.proofs.Standing.{in-queue}
 use Rattle.dta_model.proofs.Steady.{all_at, some_trip, steady_of}
 use Rattle.dta_model.proofs.Totals.{all_last, target_place}
+use Rattle.traffic_laws.proofs.Holding.{all_rotated, among, either_none, found_all, none_first}
+use Rattle.traffic_laws.proofs.Holding.{none_found}
 use Rattle.traffic_laws.proofs.Journeying.{node_now}
 use Rattle.traffic_laws.specs.FreeFlow.{NothingBinds, moves_in, turns_in}
 
--- ---- firsts and lists
-none_first : (f : ℕ → Option Move) (ls : List ℕ) → first_of f ls ≡ None → All (λ l. f l ≡ None) ls
-none_first f [] e i d h = absurd (omega (arith, h))
-none_first f (l ∷ ls) e i d h = by (f l) refl e (none_first f ls) i d h
-  where
-    by : (o : Option Move) → f l ≡ o → either o (first_of f ls) ≡ None
-        → (first_of f ls ≡ None → All (λ l. f l ≡ None) ls) → All (λ l. f l ≡ None) (l ∷ ls)
-    by (Some m) g e ih i d h = cc
-    by None g e ih zero d h = g
-    by None g e ih (suc i) d h = ih e i d (omega (arith, h))
-
-all_front : (P : ℕ → Type 0) (xs ys : List ℕ) → All P (xs ++ ys) → All P xs
-all_front P [] ys all i d h = absurd (omega (arith, h))
-all_front P (x ∷ xs) ys all zero d h = All-head P x (xs ++ ys) all
-all_front P (x ∷ xs) ys all (suc i) d h =
-    all_front P xs ys (All-tail P x (xs ++ ys) all) i d (omega (arith, h))
-
-all_back : (P : ℕ → Type 0) (xs ys : List ℕ) → All P (xs ++ ys) → All P ys
-all_back P [] ys all = all
-all_back P (x ∷ xs) ys all = all_back P xs ys (All-tail P x (xs ++ ys) all)
-
-turned_back : (P : ℕ → Type 0) (k : ℕ) (xs : List ℕ) → All P (drop k xs ++ take k xs) → All P xs
-turned_back P k xs all =
-    subst (All P) (take-append-drop k xs)
-    (All-append P (take k xs) (drop k xs) (all_back P (drop k xs) (take k xs) all)
-    (all_front P (drop k xs) (take k xs) all))
-
 above : (a b : ℕ) → a ≢ b → a ≤ b → a + 1 ≤ b
 above a b n l = grind arith
-
-of_number : (P : ℕ → Type 0) (q : ℕ → Bool) (count from k : ℕ)
-    → All P (filter q (range_with_len from count)) → from ≤ k → k < from + count → q k ≡ true → P k
-of_number P q zero from k all low high e = absurd (omega (arith, low, high))
-of_number P q (suc count) from k all low high e =
-    by (eqb_tells from k) (q from) refl all (of_number P q count (from + 1) k)
-  where
-    by : ((eqb from k ≡ true) × (from ≡ k)) ⊎ ((eqb from k ≡ false) × (from ≢ k)) → (b : Bool)
-        → b ≡ q from → All P (cond b (from ∷ filter q (range_with_len (from + 1) count))
-        (filter q (range_with_len (from + 1) count)))
-        → (All P (filter q (range_with_len (from + 1) count)) → from + 1 ≤ k → k < from + 1 + count
-        → q k ≡ true → P k) → P k
-    by (inl (t, same)) true r all ih =
-        subst P same (All-head P from (filter q (range_with_len (from + 1) count)) all)
-    by (inl (t, same)) false r all ih =
-        let clash : false ≡ true = r ∙ ap q same ∙ e in cc
-    by (inr (t, other)) true r all ih =
-        ih (All-tail P from (filter q (range_with_len (from + 1) count)) all)
-        (above from k other low) (omega (arith, high)) e
-    by (inr (t, other)) false r all ih = ih all (above from k other low) (omega (arith, high)) e
-
-none_found : (q : ℕ → Bool) (count from k : ℕ) → find q (range_with_len from count) ≡ None
-    → from ≤ k → k < from + count → q k ≡ false
-none_found q zero from k e low high = absurd (omega (arith, low, high))
-none_found q (suc count) from k e low high =
-    by (eqb_tells from k) (q from) refl e (none_found q count (from + 1) k)
-  where
-    by : ((eqb from k ≡ true) × (from ≡ k)) ⊎ ((eqb from k ≡ false) × (from ≢ k)) → (b : Bool)
-        → b ≡ q from → cond b (Some from) (find q (range_with_len (from + 1) count)) ≡ None
-        → (find q (range_with_len (from + 1) count) ≡ None → from + 1 ≤ k → k < from + 1 + count
-        → q k ≡ false) → q k ≡ false
-    by other true r e ih = cc
-    by (inl (t, same)) false r e ih = ap q (sym same) ∙ sym r
-    by (inr (t, other)) false r e ih = ih e (above from k other low) (omega (arith, high))
 
 -- ---- the moves of a node are among those of the step
 count_in : (q : Move → Bool) (f : ℕ → List Move) (count from n : ℕ) → from ≤ n → n < from + count
@@ -204,16 +144,6 @@ rise_last (m ∷ T) r = by (has_moved m.vehicle T) (rise_last T r.1)
     by true ih = ih
     by false ih = (all_last (λ b. m.step ≤ b.step) T r.0, ih)
 
-found_all : (P : Move → Type 0) (q : Move → Bool) (L : List Move) (m : Move) → All P L
-    → find q L ≡ Some m → P m
-found_all P q [] m all e = cc
-found_all P q (x ∷ L) m all e =
-    by (q x) e (found_all P q L m (All-tail P x L all))
-  where
-    by : (b : Bool) → cond b (Some x) (find q L) ≡ Some m → (find q L ≡ Some m → P m) → P m
-    by true e ih = let same : x ≡ m = cc in subst P same (All-head P x L all)
-    by false e ih = ih e
-
 record HeadOf (q : Move → Bool) (L : List Move) (e : Move) : Type 0 where
   who : ℕ
   first : slice_get (map (λ m. m.vehicle) (filter q L)) 0 ≡ Some who
@@ -283,10 +213,6 @@ pub record OnTime (p : Plan) (wait : ℕ → ℕ) (t : ℕ) (T : List Move) : Ty
   -- who hasn't moved wasn't to depart before it
   pub waits : (v b : ℕ) → v < vehicle_count p → first_link p v ≡ Some b
       → has_moved v T ≡ false → t ≤ departure_of p v
-
-either_none : (o other : Option Move) → either o other ≡ None → (o ≡ None) × (other ≡ None)
-either_none None other e = (refl, e)
-either_none (Some m) other e = cc
 
 last_from : (x : Move) (L : List Move) (f : Move) → last_or (Some x) L ≡ Some f
     → (k : ℕ) × (suc k ≡ length (x ∷ L)) × (slice_get (x ∷ L) k ≡ Some f)
@@ -445,7 +371,7 @@ module _ (p : Plan) (sound : IsSound p) (wait : ℕ → ℕ) (binds : NothingBin
         let parts = either_none (first_of (head_move p n t T here) (in_order p n t T))
         (first_of (admission p n t T here) (network.outs p.net n))
         (no_move_is_left p sound n t) in (
-          turned_back (λ l. head_move p n t T here l ≡ None) (t % length (network.ins p.net n))
+          all_rotated (λ l. head_move p n t T here l ≡ None) (t % length (network.ins p.net n))
               (network.ins p.net n) (none_first (head_move p n t T here) (in_order p n t T)
               (parts.0)),
           none_first (admission p n t T here) (network.outs p.net n) (parts.1),
@@ -455,17 +381,17 @@ module _ (p : Plan) (sound : IsSound p) (wait : ℕ → ℕ) (binds : NothingBin
         → head_move p n t (trace_after p t) here l ≡ None
     unfolding network.ins
     held l h at =
-        of_number (λ l. head_move p n t (trace_after p t) here l ≡ None)
-        (λ l. nat_eq (link_at p l).to.0 n) (length p.net.links) 0 l none_left.0 (omega arith)
-        (omega (arith, h)) (eq-eqb (link_at p l).to.0 n at)
+        among (λ l. head_move p n t (trace_after p t) here l ≡ None)
+        (λ l. nat_eq (link_at p l).to.0 n) (length p.net.links) 0 l none_left.0
+        (eq-eqb (link_at p l).to.0 n at) (omega arith) (omega (arith, h))
 
     kept : (b : ℕ) → b < length p.net.links → (link_at p b).from.0 ≡ n
         → admission p n t (trace_after p t) here b ≡ None
     unfolding network.outs
     kept b h at =
-        of_number (λ b. admission p n t (trace_after p t) here b ≡ None)
-        (λ b. nat_eq (link_at p b).from.0 n) (length p.net.links) 0 b none_left.1 (omega arith)
-        (omega (arith, h)) (eq-eqb (link_at p b).from.0 n at)
+        among (λ b. admission p n t (trace_after p t) here b ≡ None)
+        (λ b. nat_eq (link_at p b).from.0 n) (length p.net.links) 0 b none_left.1
+        (eq-eqb (link_at p b).from.0 n at) (omega arith) (omega (arith, h))
 
     rising : Rise (trace_after p t ++ here)
     rising =
@@ -499,14 +425,11 @@ module _ (p : Plan) (sound : IsSound p) (wait : ℕ → ℕ) (binds : NothingBin
         waited u f last due (inl moved) =
             let x = last_in (λ m. m.step ≡ t) u here (trace_after p t)
             (node_now p n t (trace_after p t)) moved in
-            let same : x.0 ≡ f = some_move (x.0) f (sym (x.1) ∙ last) in
+            let same : x.0 ≡ f = same_Some (x.0) f (sym (x.1) ∙ last) in
             let step : (x.0).step ≡ f.step = ap (λ m. m.step) same in
             let is = x.2 in
             let free = (steady_of p sound).free l in
             absurd (omega (arith, step, is, free, due))
-          where
-            some_move : (a b : Move) → Some a ≡ Some b → a ≡ b
-            some_move a b e = cc
 
     -- and nobody who is to depart waits at a link that begins here
     nobody_waits : (v b : ℕ) → b < length p.net.links → (link_at p b).from.0 ≡ n
@@ -545,15 +468,12 @@ module _ (p : Plan) (sound : IsSound p) (wait : ℕ → ℕ) (binds : NothingBin
       → suc t ≤ e.step + (link_at p l).free + wait l
   next_ready v l e last on = by (cases_Bool (has_moved v (moves_in p t)))
     where
-      some_move : (a b : Move) → Some a ≡ Some b → a ≡ b
-      some_move a b e = cc
-
       by : (has_moved v (moves_in p t) ≡ true) ⊎ (has_moved v (moves_in p t) ≡ false)
           → suc t ≤ e.step + (link_at p l).free + wait l
       by (inl moved) =
           let x = last_in (λ m. m.step ≡ t) v (moves_in p t) (trace_after p t)
           (moves_now p t) moved in
-          let same : x.0 ≡ e = some_move (x.0) e (sym (x.1) ∙ last) in
+          let same : x.0 ≡ e = same_Some (x.0) e (sym (x.1) ∙ last) in
           let step : (x.0).step ≡ e.step = ap (λ m. m.step) same in
           let is = x.2 in
           let free = (steady_of p sound).free l in

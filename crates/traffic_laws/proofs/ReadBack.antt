@@ -4,10 +4,10 @@ use Rattle.std.specs.List.{flat_map, range_with_len}
 use Rattle.std.proofs.Common.{◌≡◌, ℕ, ◌+◌, ◌*◌, ◌/◌, ◌<◌, ◌≤◌, true, false, List, [], ◌∷◌, ◌++◌}
 use Rattle.std.proofs.Common.{append_assoc, length, map, All, Ok, Some, codes, decimal, refl}
 use Rattle.std.proofs.Common.{ap, sym, ◌∙◌, subst, arith, le-leb, eq-eqb, le-ltb, get_or, nat_eq}
-use Rattle.std.proofs.lemmas.Bool.Decides.{nat_tests}
 use Rattle.std.proofs.lemmas.List.{length-map}
 use Rattle.std.proofs.lemmas.List.Folds.{list_any_at}
 use Rattle.std.proofs.lemmas.Nat.{div-mul-add, mod-mul-add}
+use Rattle.std.proofs.Math.Nat.{mul-div_cancel}
 use Rattle.std.proofs.lemmas.Option.{slice_get-get_or}
 use Rattle.std.proofs.lemmas.Simd.{map-map}
 use Rattle.csv.specs.Records.{field_at}
@@ -44,7 +44,7 @@ use Rattle.grid_maker.proofs.LinesFacts.{AreFields, line-is, table-accepted}
 use Rattle.grid_maker.proofs.WrittenFacts.{decimal-field, identifier-read}
 use Rattle.traffic_laws.specs.RoundTrips.{IsWithinLimits, LinkTimesAreReadBack}
 use Rattle.reports.specs.Texts.{bucket_line, link_lines, link_time_header, link_time_text}
-use Rattle.traffic_laws.proofs.BucketTimes.{times_are_not_below_free}
+use Rattle.traffic_laws.proofs.BucketTimes.{time_is, times_are_not_below_free}
 use Rattle.traffic_laws.proofs.BucketLists.{LinkBucket, all_buckets, buckets_from, buckets_many}
 use Rattle.traffic_laws.proofs.BucketLists.{buckets_rise, by_buckets, flat_buckets, number_in}
 use Rattle.traffic_laws.proofs.InRange.{bucket_begins, few_buckets, few_entered, time_short}
@@ -354,20 +354,10 @@ module _ (p : Plan) (bucket : ℕ) (sound : IsSound p) (limits : IsWithinLimits 
   each-time : (l b : ℕ) → l < length p.net.links → b < buckets_to bucket p.horizon
       → of-bucket l b
       ≡ bucket_time (link_at_of p l).free (visits_in p bucket l b (trace_after p p.horizon))
-  unfolding time_at table_in
   each-time l b hl hb =
-      let begins = bucket_begins bucket p.horizon b some hb in
-      let test : nat_lt (b * bucket) p.horizon ≡ true = grind (arith, nat_tests) in
-      rw (test, whole b) (by_bucket-get (length p.net.links) (buckets_to bucket p.horizon)
-      (λ l b. bucket_time (link_at_of p l).free (visits_in p bucket l b (trace_after p p.horizon)))
-      l b hl hb)
-    where
-      whole : (b : ℕ) → b * bucket / bucket ≡ b
-      whole b =
-          ap (λ n. n / bucket) (none b) ∙ div-mul-add b bucket 0 (omega (arith, some))
-        where
-          none : (b : ℕ) → b * bucket ≡ b * bucket + 0
-          none b = omega arith
+      time_is p bucket l (b * bucket) some hl (bucket_begins bucket p.horizon b some hb)
+      ∙ ap (λ k. bucket_time (link_at_of p l).free
+      (visits_in p bucket l k (trace_after p p.horizon))) (mul-div_cancel b some)
 
   travel-same : map (λ row. row.travel) rows ≡ (table_of p bucket).times
   unfolding table_in

@@ -1,11 +1,12 @@
 -- The agents of a loading that are written are read back as a start table, with the same routes.
-use Rattle.std.specs.Prelude.{is_some, nat_lt, option_map, option_to_list, slice_get, IfSome}
+use Rattle.trip_costs.specs.Timings.{Links}
+use Rattle.std.specs.Prelude.{is_some, nat_lt, option_map, slice_get, IfSome}
 use Rattle.std.specs.List.{IsDistinct, position_or_len, range_with_len, zip}
 use Rattle.std.proofs.Common.{◌≡◌, ℕ, zero, suc, ◌+◌, ◌^◌, ◌<◌, ◌≤◌, true, false, List, [], ◌∷◌}
-use Rattle.std.proofs.Common.{◌++◌, length, map, All, Ok, Option, None, Some, refl, ap, sym, ◌∙◌}
+use Rattle.std.proofs.Common.{length, map, All, Ok, Option, None, Some, refl, ap, sym, ◌∙◌}
 use Rattle.std.proofs.Common.{subst, arith, inl, inr, eq-eqb, get_or, lt-ltb, nat_eq, ne_eqb}
 use Rattle.std.proofs.lemmas.List.{get_or-map, length-map}
-use Rattle.std.proofs.lemmas.List.Elements.{All-cons, All-filter, All-head, All-map, All-nil}
+use Rattle.std.proofs.lemmas.List.Elements.{All-filter, All-head, All-map, All-nil, All-pop}
 use Rattle.std.proofs.lemmas.List.Elements.{All-tail, All-weaker}
 use Rattle.std.proofs.lemmas.List.FromFn.{get_or-range_with_len, length-range_with_len}
 use Rattle.std.proofs.lemmas.List.Sums.{position_or_len_is}
@@ -47,7 +48,7 @@ use Rattle.traffic_laws.proofs.AgentLines.{text-is}
 use Rattle.traffic_laws.proofs.Journeying.{steps_are, steps_in}
 use Rattle.traffic_laws.proofs.ReadBack.{link-there}
 use Rattle.traffic_laws.specs.RoundTrips.{AreIterationsTold, HasIdentifiersInRange}
-use Rattle.traffic_laws.specs.RoundTrips.{RoutesAreReadBack, TellsRoute}
+use Rattle.traffic_laws.specs.RoundTrips.{RoutesAreReadBack, IsRowOf}
 
 -- ---- links by their identifiers
 
@@ -107,19 +108,6 @@ ids-small net route small all =
     omega (arith, id, is, same))
 
 -- ---- journeys
-
-all-first : {X : Type 0} (P : X → Type 0) (xs ys : List X) → All P (xs ++ ys) → All P xs
-all-first P [] ys h = All-nil P
-all-first P (x ∷ xs) ys h =
-    All-cons P x xs (All-head P x (xs ++ ys) h) (all-first P xs ys (All-tail P x (xs ++ ys) h))
-
-all-rest : {X : Type 0} (P : X → Type 0) (xs ys : List X) → All P (xs ++ ys) → All P ys
-all-rest P [] ys h = h
-all-rest P (x ∷ xs) ys h = all-rest P xs ys (All-tail P x (xs ++ ys) h)
-
-all-one : {X : Type 0} (P : X → Type 0) (o : Option X) → All P (option_to_list o) → IfSome o P
-all-one P None h = tt
-all-one P (Some x) h = All-head P x [] h
 
 -- each step of a journey is below the horizon
 steps-early : (p : Plan) (v : ℕ) → All (λ s. s < p.horizon) (steps_in (journey_of p v))
@@ -250,7 +238,7 @@ no-links net trip row none walk fits = by walk (ap (map (link_named net.links)) 
 
 -- what the row of a vehicle tells
 fit-of : (net : NetRows) (trip : Trip) (route : Option (List LinkNo)) (row : StartRow)
-    → TellsRoute net trip route row → TellsFit net trip row route
+    → IsRowOf net trip route row → TellsFit net trip row route
 fit-of net trip None row told = no-links net trip row told.1
 fit-of net trip (Some route) row told = told
 
@@ -312,15 +300,15 @@ module _ (p : Plan) (since : Option (List ℕ)) (sound : IsSound p) (ids : HasId
         → All (λ s. s < p.horizon) (steps_in j) → IfSome (arrival-at route j) P
     arrival-below None j h = tt
     arrival-below (Some route) j h =
-        IfSome_then j.arrival (all-one (λ s. s < p.horizon) j.arrival
-        (all-rest (λ s. s < p.horizon) j.entries (option_to_list j.arrival) h)) below
+        IfSome_then j.arrival
+        (All-pop (λ s. s < p.horizon) (steps_in j) j.entries j.arrival refl h).1 below
 
     pub entries-below : (route : Option (List LinkNo)) (j : Journey)
         → All (λ s. s < p.horizon) (steps_in j) → All P (entries-at route j)
     entries-below None j h = All-nil P
     entries-below (Some route) j h =
         All-weaker (λ s. s < p.horizon) P below j.entries
-        (all-first (λ s. s < p.horizon) j.entries (option_to_list j.arrival) h)
+        (All-pop (λ s. s < p.horizon) (steps_in j) j.entries j.arrival refl h).0
 
   links-small : (route : Option (List LinkNo)) → IfSome route (AreLinksOf p.net)
       → All (λ n. n ≤ GREATEST_IDENTIFIER) (ids-at p.net route)
@@ -383,7 +371,7 @@ module _ (p : Plan) (since : Option (List ℕ)) (sound : IsSound p) (ids : HasId
   -- the row of a vehicle
   row-tells : (v : ℕ) (trip : Trip) (route : Option (List LinkNo)) → slice_get p.trips v ≡ Some trip
       → slice_get p.routes v ≡ Some route → (links : List ℕ) → links ≡ ids-at p.net route
-      → TellsRoute p.net trip route (record {
+      → IsRowOf p.net trip route (record {
         agent = trip.number;
         origin = trip.origin;
         destination = trip.destination;
@@ -401,7 +389,7 @@ module _ (p : Plan) (since : Option (List ℕ)) (sound : IsSound p) (ids : HasId
 
   each : (v : ℕ) (trip : Trip) (route : Option (List LinkNo)) → slice_get p.trips v ≡ Some trip
       → slice_get p.routes v ≡ Some route
-      → (row : StartRow) × (slice_get rows v ≡ Some row) × TellsRoute p.net trip route row
+      → (row : StartRow) × (slice_get rows v ≡ Some row) × IsRowOf p.net trip route row
   each v trip route et er =
       let many = agents-many in
       let inside = slice_get_within p.trips v trip et in
@@ -423,7 +411,7 @@ module _ (p : Plan) (since : Option (List ℕ)) (sound : IsSound p) (ids : HasId
         row-told p.net (is_some since) a,
         slice_get-map (row-told p.net (is_some since)) agents v
             ∙ ap (option_map (row-told p.net (is_some since))) there,
-        subst (λ (t : Trip). TellsRoute p.net trip route (record {
+        subst (λ (t : Trip). IsRowOf p.net trip route (record {
           agent = t.number;
           origin = t.origin;
           destination = t.destination;
@@ -462,7 +450,7 @@ module _ (p : Plan) (since : Option (List ℕ)) (sound : IsSound p) (ids : HasId
       (subst (λ (w : StartRow). AreNamed p.net w.links a) same fits.names) suits.names
 
   first-route : (trip : Trip) (route : List LinkNo) (r : Option (List LinkNo))
-      → IsStarted p.net rows trip route → StartsOn (free_time p.net) p.net rows trip r
+      → IsStarted p.net rows trip route → StartsOn (Links (free_time p.net)) p.net rows trip r
       → r ≡ Some route
   first-route trip route r start (inl (walk, is, started)) =
       is ∙ ap Some (one-walk trip walk route started start)

@@ -1,4 +1,5 @@
 -- A skim is of least times, and a route is a walk.
+use Rattle.trip_costs.specs.Timings.{Links}
 use Rattle.std.specs.Prelude.{IsSomeAnd, MatchOption, slice_get}
 use Rattle.std.proofs.Common.{◌≡◌, ℕ, List, Option, Some, None, refl, subst, sym, ◌∙◌}
 use Rattle.std.proofs.lemmas.Slice.Zip.{AllZip-right}
@@ -18,7 +19,7 @@ some_and None P p = absurd p
 
 told_by : (at : ℕ → ℕ → ℕ) (net : NetRows) (o d : ℕ) (entry : SkimEntry) (route : List LinkNo)
     → IsWalk net o d (link_numbers route) → (told : Option ℕ) → entry.least ≡ told
-    → TellsLeast at net o d entry.start told → IsNoSlower at net entry route
+    → TellsLeast (Links at) net o d entry.start told → IsNoSlower at net entry route
 told_by at net o d entry route walk None e none = absurd (none (link_numbers route) walk)
 told_by at net o d entry route walk (Some least) e is =
     (least, e, is.none_less (link_numbers route) walk)
@@ -35,6 +36,9 @@ skims_are_no_slower at net starts entries trips routes skim walks
     let is : IsEntryOf at net q entry = asked.1 in
     told_by at net trip.origin trip.destination entry route (walks v trip route et er)
     entry.least refl
-    (subst (λ d. TellsLeast at net trip.origin d entry.start entry.least) (sym is.destination ∙ to)
-    (subst (λ o. TellsLeast at net o q.destination entry.start entry.least) (sym is.origin ∙ from)
-    (subst (λ s. TellsLeast at net q.origin q.destination s entry.least) (sym is.start) is.least)))
+    (subst (λ d. TellsLeast (Links at) net trip.origin d entry.start entry.least)
+    (sym is.destination ∙ to)
+    (subst (λ o. TellsLeast (Links at) net o q.destination entry.start entry.least)
+    (sym is.origin ∙ from)
+    (subst (λ s. TellsLeast (Links at) net q.origin q.destination s entry.least)
+    (sym is.start) is.least)))

@@ -7,6 +7,7 @@ use Rattle.std.proofs.Common.{None, ◌⊎◌, inl, inr}
 use Rattle.std.proofs.lemmas.Bool.{and_parts, cases_Bool, eqb-true, false_from_ne_true, not-true}
 use Rattle.std.proofs.lemmas.Bool.{or_parts}
 use Rattle.std.proofs.lemmas.Bool.Decides.{nat_tests}
+use Rattle.std.proofs.lemmas.Option.{same_Some}
 use Rattle.std.proofs.lemmas.List.Sums.{length-filter}
 use Rattle.std.proofs.lemmas.List.Elements.{All-filter, All-nil, All-push, All-weaker}
 use Rattle.net_core.specs.Rates.{rate_in}
@@ -129,15 +130,12 @@ module _ (p : Plan) (n t : ℕ) (T0 : List Move) where
         → has_moved m.vehicle M ≡ false
     new_one M l m now h = by (cases_Bool (has_moved m.vehicle M))
       where
-        some_move : (x y : Move) → Some x ≡ Some y → x ≡ y
-        some_move x y e = cc
-
         by : (has_moved m.vehicle M ≡ true) ⊎ (has_moved m.vehicle M ≡ false)
             → has_moved m.vehicle M ≡ false
         by (inr e) = e
         by (inl e) =
             let x = last_in (λ y. y.step ≡ t) m.vehicle M T0 now e in
-            let same : h.entry ≡ x.0 = some_move h.entry (x.0) (sym h.entered ∙ x.1) in
+            let same : h.entry ≡ x.0 = same_Some h.entry (x.0) (sym h.entered ∙ x.1) in
             let late : h.entry.step ≡ t = ap (λ y. y.step) same ∙ x.2 in
             let free = sound.free l in
             let clash : true ≡ false =

@@ -1,33 +1,31 @@
--- What the gap of an iteration means. The table says how many steps a link takes who enters it in a
--- step.
+-- What a gap means, by the costs that it is taken in: link times, or whole trips.
 use Rattle.std.specs.Prelude.{◌≡◌, ◌≤◌, ◌↔◌, ℕ, List, length, Option, Some, slice_get}
 use Rattle.net_core.specs.declared.rows.LinkNo.{LinkNo}
 use Rattle.net_core.specs.declared.rows.NetRows.{NetRows}
 use Rattle.dta_model.specs.LinkTimes.{table_of, time_at}
 use Rattle.dta_model.specs.Plans.{link_numbers}
 use Rattle.dta_model.specs.Sound.{AreWalks}
-use Rattle.dta_model.specs.TimedWalks.{walk_time}
 use Rattle.dta_model.specs.Walks.{IsWalk}
 use Rattle.dta_model.specs.declared.plan.Plan.{Plan}
 use Rattle.dta_model.specs.declared.trip.Trip.{Trip}
 use Rattle.dta_words.specs.Ranges.{AreSettings}
 use Rattle.dta_words.specs.declared.command.Settings.{Settings}
+use Rattle.trip_costs.specs.Timings.{Links, Timing, walk_time_by}
 use Rattle.assignment.specs.Assignment.{AreIterations, Traffic, VehicleRoutes}
 use Rattle.assignment.specs.Traffic.{IsTraffic}
 use Rattle.gap.specs.Gap.{AreLeasts, IsGapLine, over_vehicles, route_time}
 use Rattle.gap.specs.declared.line.GapLine.{GapLine}
 
--- no vehicle that has a route would arrive earlier, from its departure, on another walk between its
--- zones. That is a dynamic user equilibrium, by Wardrop's first principle (Wardrop 1952, "Some
--- theoretical aspects of road traffic research")
-abbrev pub IsUserEquilibrium : (ℕ → ℕ → ℕ) → NetRows → List Trip → List (Option (List LinkNo))
-    → Type 0
-IsUserEquilibrium at net trips routes =
+-- by these costs no vehicle that has a route would take less time, from its departure, on another
+-- walk between its zones. That is a dynamic user equilibrium, by Wardrop's first principle
+-- (Wardrop 1952, "Some theoretical aspects of road traffic research")
+abbrev pub IsUserEquilibrium : Timing → NetRows → List Trip → List (Option (List LinkNo)) → Type 0
+IsUserEquilibrium costs net trips routes =
     (v : ℕ) (trip : Trip) (route : List LinkNo) → slice_get trips v ≡ Some trip
     → slice_get routes v ≡ Some (Some route)
     → (other : List ℕ) → IsWalk net trip.origin trip.destination other
-    → walk_time at net trip.departure (link_numbers route)
-    ≤ walk_time at net trip.departure other
+    → walk_time_by costs net trip.departure (link_numbers route)
+    ≤ walk_time_by costs net trip.departure other
 
 -- routes of trips: there are as many, and a route is a walk between the zones of its trip
 pub record AreRoutesOf (net : NetRows) (trips : List Trip) (routes : List (Option (List LinkNo)))
@@ -43,16 +41,16 @@ pub record IsNotNegative (trips : List Trip) (time least : ℕ → ℕ) : Type 0
 
 abbrev pub GapIsNeverNegative : Type 0
 GapIsNeverNegative =
-    (at : ℕ → ℕ → ℕ) (net : NetRows) (trips : List Trip) (routes : List (Option (List LinkNo)))
-    (least : ℕ → ℕ) → AreRoutesOf net trips routes → AreLeasts at net trips routes least
-    → IsNotNegative trips (route_time at net trips routes) least
+    (costs : Timing) (net : NetRows) (trips : List Trip) (routes : List (Option (List LinkNo)))
+    (least : ℕ → ℕ) → AreRoutesOf net trips routes → AreLeasts costs net trips routes least
+    → IsNotNegative trips (route_time costs net trips routes) least
 
--- the gap is 0 exactly where routes are a user equilibrium in the table that it is taken in
+-- the gap is 0 exactly where routes are a user equilibrium by the costs that it is taken in
 abbrev pub NoGapIsEquilibrium : Type 0
 NoGapIsEquilibrium =
-    (at : ℕ → ℕ → ℕ) (net : NetRows) (trips : List Trip) (routes : List (Option (List LinkNo)))
-    (line : GapLine) → AreRoutesOf net trips routes → IsGapLine at net trips routes line
-    → (line.gap_steps ≡ 0) ↔ IsUserEquilibrium at net trips routes
+    (costs : Timing) (net : NetRows) (trips : List Trip) (routes : List (Option (List LinkNo)))
+    (line : GapLine) → AreRoutesOf net trips routes → IsGapLine costs net trips routes line
+    → (line.gap_steps ≡ 0) ↔ IsUserEquilibrium costs net trips routes
 
 -- ---- the gaps that an assignment tells
 -- the loading over the routes of an iteration
@@ -73,7 +71,7 @@ pub record IsGapOfItsLoading (s : Settings) (traffic : Traffic) (routes : Vehicl
     (line : GapLine) : Type 0 where
   pub not_negative : line.least_steps ≤ line.route_steps
   pub no_gap : (line.gap_steps ≡ 0)
-      ↔ IsUserEquilibrium (time_at (table_of (loading_over s traffic routes) s.bucket))
+      ↔ IsUserEquilibrium (Links (time_at (table_of (loading_over s traffic routes) s.bucket)))
       traffic.net traffic.trips routes
 
 -- so is each gap that an assignment tells of its iterations

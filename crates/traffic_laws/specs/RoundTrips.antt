@@ -66,9 +66,9 @@ AreIterationsTold p since =
 
 -- the row of a vehicle: it fits the vehicle by the vehicle's very route, and has no links where
 -- the vehicle has no route
-abbrev pub TellsRoute : NetRows → Trip → Option (List LinkNo) → StartRow → Type 0
-TellsRoute net trip None row = (row.agent ≡ trip.number) × (row.links ≡ [])
-TellsRoute net trip (Some route) row = Fits net trip row route
+abbrev pub IsRowOf : NetRows → Trip → Option (List LinkNo) → StartRow → Type 0
+IsRowOf net trip None row = (row.agent ≡ trip.number) × (row.links ≡ [])
+IsRowOf net trip (Some route) row = Fits net trip row route
 
 -- the agents of a loading, written as `assign` does, without a start table or with one, and read as
 -- a start table: they are accepted, and there is a row for each vehicle in order, which tells the
@@ -83,7 +83,7 @@ pub record AreRoutesReadBack (p : Plan) (since : Option (List ℕ)) : Type 0 whe
   pub many : length rows ≡ length p.trips
   pub each : (v : ℕ) (trip : Trip) (route : Option (List LinkNo)) → slice_get p.trips v ≡ Some trip
       → slice_get p.routes v ≡ Some route
-      → (row : StartRow) × (slice_get rows v ≡ Some row) × TellsRoute p.net trip route row
+      → (row : StartRow) × (slice_get rows v ≡ Some row) × IsRowOf p.net trip route row
   pub starts : (v : ℕ) (trip : Trip) (route : Option (List LinkNo))
       → slice_get p.trips v ≡ Some trip → slice_get p.routes v ≡ Some route
       → TellsStart p.net rows trip route

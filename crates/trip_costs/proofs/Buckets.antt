@@ -1,10 +1,10 @@
 -- Numbers by steps that rise within each bucket.
-use Rattle.std.specs.Prelude.{max, slice_index}
+use Rattle.std.specs.Prelude.{max, min, slice_index}
 use Rattle.std.proofs.Common.{◌≡◌, ◌⊎◌, inl, inr, ℕ, zero, suc, ◌+◌, ◌-◌, ◌*◌, ◌/◌, ◌<◌, ◌≤◌, ◌^◌, cond, List, ◌∷◌, [], ◌++◌, length, refl, arith, ap, sym, ◌∙◌, subst, get_or}
 use Rattle.std.proofs.lemmas.Bool.{cases_lt}
 use Rattle.std.proofs.lemmas.Grind.{div_ceil_times}
 use Rattle.std.proofs.lemmas.List.{get_or_append_left, length-append}
-use Rattle.std.proofs.lemmas.Nat.{le-div}
+use Rattle.std.proofs.lemmas.Nat.{div-add-mod', le-div, mod_below}
 use Rattle.std.proofs.Math.Nat.{div-mul-le_self, div-eq_of_lt-le}
 use Rattle.net_core.proofs.Orders.{is_lt}
 use Rattle.dta_model.specs.LinkTimes.{TimeTable, bucket_count, buckets_to, place_in, time_at}
@@ -14,13 +14,16 @@ use Rattle.link_times.proofs.Places.{place_inside, place_tells, product_le}
 use Rattle.trip_costs.specs.Greatest.{greatest_to}
 use Rattle.trip_costs.specs.Latest.{latest_before}
 use Rattle.trip_costs.specs.Numbers.{AreNumbers}
-use Rattle.trip_costs.specs.TripCosts.{after_time, exit_step}
+use Rattle.trip_costs.specs.TripCosts.{IsLevelBy, after_time, exit_step, steps_by_trips}
 use Rattle.trip_costs.proofs.Rising.{greatest_least, greatest_most, greatest_rises}
 use Rattle.trip_costs.proofs.Agreeing.{exits_then, free_then}
 
 -- a step is not before its bucket, and before the next
 pub bucket_begins : (bucket s : ℕ) → s / bucket * bucket ≤ s
 bucket_begins bucket s = div-mul-le_self s bucket
+
+below : (bucket s : ℕ) → 1 ≤ bucket → s < s / bucket * bucket + bucket
+below bucket s some = let a = div-add-mod' s bucket in let b = mod_below s bucket some in omega (arith, a, b)
 
 pub bucket_same : (bucket r s b : ℕ) → 1 ≤ bucket → r ≤ s → s / bucket ≡ b → b * bucket ≤ r → r / bucket ≡ b
 bucket_same bucket r s b some h e k =
@@ -70,7 +73,7 @@ module _ (f : ℕ → ℕ) (bucket : ℕ) (some : 1 ≤ bucket) (rises : (r s : 
       high = let e : (b + 1) * bucket ≡ b * bucket + bucket = grind arith in omega (arith, wide, e, some)
 
 -- ---- exits
-time_same : (t : TimeTable) (l r s : ℕ) → s < t.horizon → r ≤ s → r / t.bucket ≡ s / t.bucket → time_at t l r ≡ time_at t l s
+pub time_same : (t : TimeTable) (l r s : ℕ) → s < t.horizon → r ≤ s → r / t.bucket ≡ s / t.bucket → time_at t l r ≡ time_at t l s
 unfolding time_at
 time_same t l r s early h e =
     ap (λ b. cond b (slice_index t.times (place_in (bucket_count t) l (r / t.bucket))) (slice_index t.free l)) (is_lt r t.horizon (omega (arith, h, early)))
@@ -88,6 +91,49 @@ time_rises t l r s h e = by (cases_lt s t.horizon)
 pub exit_in : (t : TimeTable) (l s : ℕ) → 1 ≤ t.bucket → exit_step t l s ≡ max (latest_before (after_time t l) t.bucket (s / t.bucket)) (after_time t l s)
 unfolding exit_step
 exit_in t l s some = greatest_in (after_time t l) t.bucket some (time_rises t l) s (s / t.bucket) refl
+
+-- in a bucket a link takes the steps of its first, where nobody who entered earlier leaves later,
+-- and nobody is kept from leaving past the horizon
+level_in : (t : TimeTable) (l b s time : ℕ) → 1 ≤ t.bucket → s < t.horizon → s / t.bucket ≡ b → time ≡ time_at t l (b * t.bucket)
+    → latest_before (after_time t l) t.bucket b ≤ b * t.bucket + time
+    → (time ≤ slice_index t.free l) ⊎ (min (b * t.bucket + t.bucket) t.horizon + time ≤ t.horizon + 1)
+    → steps_by_trips t l s ≡ time
+level_in t l b s time some early e is late short = by short
+  where
+    begins : b * t.bucket ≤ s
+    begins = subst (λ n. n * t.bucket ≤ s) e (bucket_begins t.bucket s)
+
+    ends : s < b * t.bucket + t.bucket
+    ends = subst (λ n. s < n * t.bucket + t.bucket) e (below t.bucket s some)
+
+    first : b * t.bucket / t.bucket ≡ b
+    first = bucket_same t.bucket (b * t.bucket) s b some begins e (omega arith)
+
+    here : time_at t l s ≡ time
+    here = sym (is ∙ time_same t l (b * t.bucket) s early begins (first ∙ sym e))
+
+    exit : exit_step t l s ≡ max (latest_before (after_time t l) t.bucket b) (after_time t l s)
+    exit = exit_in t l s some ∙ ap (λ n. max (latest_before (after_time t l) t.bucket n) (after_time t l s)) e
+
+    by : (time ≤ slice_index t.free l) ⊎ (min (b * t.bucket + t.bucket) t.horizon + time ≤ t.horizon + 1) → steps_by_trips t l s ≡ time
+    by (inl h) = omega (arith, begins, here, exit, late, h)
+    by (inr h) = omega (arith, begins, ends, early, here, exit, late, h)
+
+-- so it is level there, as it is told by what is read of its times
+pub level_read : (t : TimeTable) (l b steps horizon free time late : ℕ) → steps ≡ t.bucket → 1 ≤ steps → horizon ≡ t.horizon → free ≡ time_at t l horizon → time ≡ time_at t l (b * steps)
+    → late ≡ latest_before (after_time t l) t.bucket b → late ≤ b * steps + time → (time ≤ free) ⊎ (min (b * steps + steps) horizon + time ≤ horizon + 1)
+    → IsLevelBy (steps_by_trips t) t l b
+level_read t l b steps horizon free time late same some end at_end is latest early short r s hr hs er es = takes r hr er ∙ sym (takes s hs es)
+  where
+    first : b * steps ≡ b * t.bucket
+    first = ap (λ n. b * n) same
+
+    ends : (time ≤ free) ⊎ (min (b * steps + steps) horizon + time ≤ horizon + 1) → (time ≤ slice_index t.free l) ⊎ (min (b * t.bucket + t.bucket) t.horizon + time ≤ t.horizon + 1)
+    ends (inl h) = let f = free_then t l horizon (omega (arith, end)) in inl (omega (arith, h, f, at_end))
+    ends (inr h) = inr (omega (arith, h, first, same, end))
+
+    takes : (s : ℕ) → s < t.horizon → s / t.bucket ≡ b → steps_by_trips t l s ≡ time
+    takes s h e = level_in t l b s time (omega (arith, same, some)) h e (is ∙ ap (λ n. time_at t l n) first) (omega (arith, latest, early, first)) (ends short)
 
 pub exit_past : (t : TimeTable) (l s : ℕ) → t.horizon ≤ s → exit_step t l s ≡ after_time t l s
 exit_past t l s h = let a = exits_then t l s h in let b = free_then t l s h in omega (arith, a, b, h)

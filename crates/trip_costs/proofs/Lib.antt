@@ -1,6 +1,7 @@
 pub mod Rising
 pub mod Later
 pub mod Rounds
+pub mod Timed
 pub mod Agreeing
 pub mod Buckets
 pub mod Waits

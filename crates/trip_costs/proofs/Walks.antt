@@ -26,16 +26,16 @@ use Rattle.trip_costs.proofs.Agreeing.{entries_and_exits_are_bounded, exits_then
 pub exit_later : (t : TimeTable) (l s : ℕ) → 1 ≤ time_at t l s → s < exit_step t l s
 exit_later t l s one = let a = (entries_and_exits_are_bounded t (record { bucket = 1; horizon = 0; waits = []; departed = [] }) l s).leaves_least one in omega (arith, a)
 
+pub in_list : (most : ℕ) (xs : List ℕ) (k : ℕ) → All (λ x. x ≤ most) xs → get_or xs k 0 ≤ most
+in_list most [] k all = omega arith
+in_list most (x ∷ xs) zero all = all 0 0 (omega arith)
+in_list most (x ∷ xs) (suc k) all = in_list most xs k (λ i d h. all (suc i) d (omega (arith, h)))
+
 pub exit_soon : (t : TimeTable) (l s : ℕ) → IsShort t → t.horizon ≤ MOST_HORIZON → exit_step t l s ≤ s + MOST_HORIZON
 exit_soon t l s short h =
     let a = (entries_and_exits_are_bounded t (record { bucket = 1; horizon = 0; waits = []; departed = [] }) l s).leaves_most in
     let f = in_list MOST_HORIZON t.free l short.free in
     omega (arith, a, f, h)
-  where
-    in_list : (most : ℕ) (xs : List ℕ) (k : ℕ) → All (λ x. x ≤ most) xs → get_or xs k 0 ≤ most
-    in_list most [] k all = omega arith
-    in_list most (x ∷ xs) zero all = all 0 0 (omega arith)
-    in_list most (x ∷ xs) (suc k) all = in_list most xs k (λ i d h. all (suc i) d (omega (arith, h)))
 
 -- from the horizon on a link takes the same steps
 pub steps_capped : (t : TimeTable) (l s : ℕ) → steps_by_trips t l (min s t.horizon) ≡ steps_by_trips t l s

@@ -8,6 +8,8 @@ pub mod Numbers
 pub mod Latest
 pub mod Entries
 pub mod Costs
+pub mod Timings
+pub mod WalkCosts
 pub mod Changes
 pub mod Laws
 pub mod Examples

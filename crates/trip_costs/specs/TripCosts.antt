@@ -1,7 +1,7 @@
 -- The time of a walk over a table and a way to start. By link times a walk's first link is entered
 -- at the start. By trips it is entered after the wait at the origin, and no link is left earlier
 -- by who enters it later.
-use Rattle.std.specs.Prelude.{ℕ, ◌+◌, ◌-◌, max, min, List, [], ◌∷◌, slice_index}
+use Rattle.std.specs.Prelude.{◌≡◌, ℕ, ◌+◌, ◌-◌, ◌/◌, ◌<◌, max, min, List, [], ◌∷◌, slice_index}
 use Rattle.net_core.specs.declared.rows.NetRows.{NetRows}
 use Rattle.dta_model.specs.LinkTimes.{TimeTable, time_at}
 use Rattle.dta_model.specs.TimedWalks.{arrival_step}
@@ -40,6 +40,11 @@ by_links at = record { enter = λ l step. step; at = at }
 -- the steps that a link takes by trips who enters it in a step
 abbrev pub steps_by_trips : TimeTable → ℕ → ℕ → ℕ
 steps_by_trips t l step = exit_step t l step - step
+
+-- a link takes as many steps in each step of a bucket before the horizon
+abbrev pub IsLevelBy : (ℕ → ℕ → ℕ) → TimeTable → ℕ → ℕ → Type 0
+IsLevelBy at t l b = (r s : ℕ) → r < t.horizon → s < t.horizon
+    → r / t.bucket ≡ b → s / t.bucket ≡ b → at l r ≡ at l s
 
 -- costs of whole trips, over a table of link times and one of waits
 abbrev pub by_trips : TimeTable → WaitTable → TravelCosts

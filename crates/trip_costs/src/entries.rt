@@ -1,5 +1,5 @@
 // The entries of first links: when those enter one who depart in a step.
-ghost use Rattle.std.specs.Prelude.{◌≡◌, ◌+◌, ◌*◌, ◌<◌, ◌≤◌, length, IfOk, OnOk};
+ghost use Rattle.std.specs.Prelude.{◌≡◌, ◌+◌, ◌*◌, ◌<◌, ◌≤◌, ◌^◌, max, length, IfOk, OnOk};
 ghost use Rattle.dta_model.specs.LinkTimes.{buckets_to};
 ghost use Rattle.trip_costs.specs.Entries.{AreEntryNumbers, entry_at, entry_before, entry_number};
 ghost use Rattle.trip_costs.specs.Entries.{last_step, number_before as number_before_bucket};
@@ -107,6 +107,7 @@ impl Entries {
     pub fn enter(&self, link: LinkNo, step: u64) -> u64
         ensures step { result ≡ entry_at self.now link.0 step }
         ensures later { step ≤ result }
+        ensures soon { result ≤ max step (2 ^ 32) }
     {
         if step < u64::from(self.horizon) {
             let bucket = step as u32 / self.bucket;

@@ -1,9 +1,9 @@
 // The exits of links: when those leave a link who enter it in a step.
-ghost use Rattle.std.specs.Prelude.{◌≡◌, ◌+◌, ◌-◌, ◌*◌, ◌<◌, ◌≤◌, ◌^◌, length, IfOk, OnOk};
+ghost use Rattle.std.specs.Prelude.{◌≡◌, ◌+◌, ◌-◌, ◌*◌, ◌<◌, ◌≤◌, ◌^◌, true, length, IfOk, OnOk};
 ghost use Rattle.dta_model.specs.LinkTimes.{bucket_count};
 ghost use Rattle.link_times.specs.TimeTables.{IsShort};
 ghost use Rattle.trip_costs.specs.Latest.{AreLatestExits, latest_before};
-ghost use Rattle.trip_costs.specs.TripCosts.{after_time, exit_step};
+ghost use Rattle.trip_costs.specs.TripCosts.{IsLevelBy, after_time, exit_step, steps_by_trips};
 
 use dta_model::MOST_HORIZON;
 use link_times::LinkTimes;
@@ -109,6 +109,37 @@ impl Exits {
         } else {
             own
         }
+    }
+
+    /// The steps that a link takes who enters it in a step. From the horizon on they stand still.
+    pub fn steps(&self, link: LinkNo, step: u64) -> u32
+        requires link { link.0 < length self.now.free }
+        ensures is { result ≡ steps_by_trips self.now link.0 step }
+        ensures least { 1 ≤ result }
+        ensures most { result ≤ MOST_HORIZON }
+    {
+        let entry = step.min(self.times.horizon() as u64);
+        (self.exit(link, entry) - entry) as u32
+    }
+
+    /// Whether a link takes as many steps in each step of a bucket: nobody who entered before it
+    /// leaves later, and nobody who enters in it is kept from leaving past the horizon. It may say
+    /// no where the link does.
+    pub fn is_level(&self, link: LinkNo, bucket: u32) -> bool
+        requires link { link.0 < length self.now.free }
+        requires bucket { bucket < bucket_count self.now }
+        ensures { result ≡ true → IsLevelBy (steps_by_trips self.now) self.now link.0 bucket }
+    {
+        let steps = self.times.bucket_steps() as u64;
+        let horizon = self.times.horizon() as u64;
+        let first = bucket as u64 * steps;
+        let end = (first + steps).min(horizon);
+        let free = self.times.at(link, horizon) as u64;
+        let time = self.times.at(link, first) as u64;
+        if self.before(link, bucket) as u64 > first + time {
+            return false;
+        }
+        time <= free || end + time <= horizon + 1
     }
 
     // The latest exit of those who enter a link before a bucket.

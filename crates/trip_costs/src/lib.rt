@@ -9,7 +9,10 @@
 //! [`OriginWaits::of`] goes once over the journeys of a loading, and adds each wait to its first
 //! link and bucket. [`Entries`] tells when a first link is entered, and [`Exits`] when a link is
 //! left, each by one number of 32 bits for each link and bucket, beside the link times.
-//! [`TripCosts`] has both, and times walks by them. No program uses them yet.
+//! [`TripCosts`] has both. No command makes them yet.
+//!
+//! [`WalkCosts`] is what labels, routes and gaps are asked for by: link times, or costs of trips.
+//! [`WalkCosts::time_of`] times a walk by either (specs/Timings.antt).
 #![tactic(auto)]
 
 mod adding;
@@ -20,6 +23,7 @@ mod exits;
 mod laws;
 mod origin_waits;
 mod places;
+mod walk_costs;
 mod walked;
 
 pub use changes::{PER_ITERATION, PER_VEHICLE, PRIME, changes_after};
@@ -32,3 +36,4 @@ pub use laws::{
     no_chosen_trip_has_a_link_twice, times_agree_where_nothing_falls,
 };
 pub use origin_waits::OriginWaits;
+pub use walk_costs::WalkCosts;

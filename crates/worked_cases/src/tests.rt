@@ -6,4 +6,5 @@ mod machines;
 mod puts;
 mod routes;
 mod tables;
+mod whole_trips;
 mod zone_labels;

@@ -3,8 +3,8 @@ use Rattle.std.proofs.Common.{◌≡◌, ◌⊎◌, inl, inr, ℕ, suc, ◌+◌,
 use Rattle.std.specs.Prelude.{slice_get, All}
 use Rattle.std.proofs.lemmas.Bool.{cases_lt}
 use Rattle.std.proofs.lemmas.Bool.Decides.{nat_tests}
-use Rattle.dta_model.specs.LinkTimes.{TimeTable, time_at}
-use Rattle.link_times.specs.TimeTables.{IsTimeTable}
+use Rattle.dta_model.specs.LinkTimes.{TimeTable}
+use Rattle.trip_costs.specs.WalkCosts.{AreSteps}
 use Rattle.labels.specs.Filling.Labels.{far, most_left, rest_in}
 use Rattle.labels.specs.Filling.Rows.{AreRows}
 use Rattle.labels.specs.Filling.Tails.{widened, AreWithin, FitsBelow, IsPut, IsTail}
@@ -16,7 +16,7 @@ use Rattle.labels.specs.Filling.FreeFlow.{still_least}
 use Rattle.labels.specs.declared.states.onward.Onward.{Onward}
 use Rattle.labels.specs.declared.states.router.Router.{Router}
 use Rattle.labels.proofs.OfReading.Joined.{near}
-use Rattle.labels.proofs.OfFilling.Joins.{either, free_late, in_all}
+use Rattle.labels.proofs.OfFilling.Joins.{either, in_all}
 use Rattle.labels.proofs.OfFilling.LeastOver.{least_over_le}
 use Rattle.labels.proofs.Basics.{All_range}
 
@@ -72,11 +72,11 @@ widen_least at beyond rest e low (w ∷ ws) fits = by (widen_least at beyond res
         omega (arith, a, b, c, h, k, ih, at_most)
 
 -- filled rows over a settled tail hold what is left
-module _ (t : TimeTable) (r : Router) (zone most longest beyond : ℕ) (free old new tail : List ℕ) (low : beyond ≤ 2147483648)
-    (sound : IsTimeTable t) (links : length r.states.items ≡ length t.free) (frees : (l : ℕ) → get_or t.free l 0 ≡ get_or free l 0)
+module _ (t : TimeTable) (at : ℕ → ℕ → ℕ) (r : Router) (zone most longest beyond : ℕ) (free old new tail : List ℕ) (low : beyond ≤ 2147483648)
+    (sound : AreSteps t at) (links : length r.states.items ≡ length t.free) (frees : (l : ℕ) → get_or t.free l 0 ≡ get_or free l 0)
     (settled : IsTail free r zone most tail) (put : IsPut beyond old tail)
-    (rows : AreRows (time_at t) beyond (length r.zones.items) t.horizon old new r zone 0)
-    (within : AreWithin t r longest) (fits : t.horizon + 2 * longest + most < beyond) where
+    (rows : AreRows at beyond (length r.zones.items) t.horizon old new r zone 0)
+    (within : AreWithin at r longest) (fits : t.horizon + 2 * longest + most < beyond) where
   abbrev rest : ℕ → ℕ → ℕ
   rest = rest_in (length r.zones.items) t.horizon new
 
@@ -90,27 +90,27 @@ module _ (t : TimeTable) (r : Router) (zone most longest beyond : ℕ) (free old
       let place : (t.horizon - e) * length r.zones.items + s ≡ s = rw zero_back (omega arith) in
       rw place (rows.tail s small ∙ put s (omega (arith, small, settled.as_many)))
 
-  late_value : (s e : ℕ) (b : Bool) → s < length r.zones.items → t.horizon ≤ e → get_or tail s 0 ≡ cond b 0 (still_least tail free (onwards r s)) → rest_in (length r.zones.items) t.horizon new s e ≡ cond b 0 (least_over (time_at t) beyond rest e (onwards r s))
+  late_value : (s e : ℕ) (b : Bool) → s < length r.zones.items → t.horizon ≤ e → get_or tail s 0 ≡ cond b 0 (still_least tail free (onwards r s)) → rest_in (length r.zones.items) t.horizon new s e ≡ cond b 0 (least_over at beyond rest e (onwards r s))
   late_value s e true small late is = let l = late_rest s e small late in omega (arith, l, is)
   late_value s e false small late is =
       let l = late_rest s e small late in
-      let n = narrow_stands (time_at t) beyond rest free tail t.horizon (length r.zones.items) e low late (λ k f x. free_late t k f x ∙ frees k) (λ s f x y. late_rest s f x y) (onwards r s) (of_range (λ w. w.to < length r.zones.items) s small r.inside.to) in
+      let n = narrow_stands at beyond rest free tail t.horizon (length r.zones.items) e low late (λ k f x. sound.late k f x ∙ frees k) (λ s f x y. late_rest s f x y) (onwards r s) (of_range (λ w. w.to < length r.zones.items) s small r.inside.to) in
       omega (arith, l, is, n)
 
-  rests_of : (s e : ℕ) → s < length r.zones.items → cond (is_own r zone s) (rest s e ≡ 0) (rest s e ≡ least_over (time_at t) beyond rest e (onwards r s))
+  rests_of : (s e : ℕ) → s < length r.zones.items → cond (is_own r zone s) (rest s e ≡ 0) (rest s e ≡ least_over at beyond rest e (onwards r s))
   unfolding rest_in
   rests_of s e small = either (is_own r zone s) _ _ (by (cases_lt e t.horizon))
     where
-      by : (e < t.horizon) ⊎ (t.horizon ≤ e) → rest_in (length r.zones.items) t.horizon new s e ≡ cond (is_own r zone s) 0 (least_over (time_at t) beyond rest e (onwards r s))
+      by : (e < t.horizon) ⊎ (t.horizon ≤ e) → rest_in (length r.zones.items) t.horizon new s e ≡ cond (is_own r zone s) 0 (least_over at beyond rest e (onwards r s))
       by (inl early) = rows.each s e small (omega arith) early
       by (inr late) = late_value s e (is_own r zone s) small late (settled.settled s (omega (arith, small, settled.as_many)))
 
-  spans : (s k e : ℕ) (w : Onward) → s < length r.zones.items → slice_get (onwards r s) k ≡ Some w → (w.to < length r.zones.items) × (0 < span (time_at t) e w) × (span (time_at t) e w ≤ longest)
+  spans : (s k e : ℕ) (w : Onward) → s < length r.zones.items → slice_get (onwards r s) k ≡ Some w → (w.to < length r.zones.items) × (0 < span at e w) × (span at e w ≤ longest)
   spans s k e w h g =
       let to = in_all (λ x. x.to < length r.zones.items) (onwards r s) k w g (of_range (λ x. x.to < length r.zones.items) s h r.inside.to) in
       let link = in_all (λ x. x.link < length r.states.items) (onwards r s) k w g (of_range (λ x. x.link < length r.states.items) s h r.inside.link) in
       let least = sound.least w.link (e + w.wait) (omega (arith, link, links)) in
-      let most = in_all (λ x. span (time_at t) e x ≤ longest) (onwards r s) k w g (of_range (λ x. span (time_at t) e x ≤ longest) s h (within e)) in
+      let most = in_all (λ x. span at e x ≤ longest) (onwards r s) k w g (of_range (λ x. span at e x ≤ longest) s h (within e)) in
       (to, omega (arith, least), most)
 
   late_near : (s e : ℕ) → s < length r.zones.items → t.horizon ≤ e → rest s e < beyond → rest s e ≤ most
@@ -120,18 +120,18 @@ module _ (t : TimeTable) (r : Router) (zone most longest beyond : ℕ) (free old
       omega (arith, l, below, n)
 
   near_all : (s e : ℕ) → s < length r.zones.items → rest s e < beyond → rest s e ≤ t.horizon + longest + most
-  near_all = near (time_at t) beyond t.horizon longest most (length r.zones.items) (is_own r zone) (onwards r) rest rests_of spans late_near
+  near_all = near at beyond t.horizon longest most (length r.zones.items) (is_own r zone) (onwards r) rest rests_of spans late_near
 
-  fit_all : (s e : ℕ) → s < length r.zones.items → All (λ w. rest w.to (e + span (time_at t) e w) < beyond → rest w.to (e + span (time_at t) e w) + span (time_at t) e w < beyond) (onwards r s)
+  fit_all : (s e : ℕ) → s < length r.zones.items → All (λ w. rest w.to (e + span at e w) < beyond → rest w.to (e + span at e w) + span at e w < beyond) (onwards r s)
   fit_all s e small k d h below =
       let to = of_range (λ x. x.to < length r.zones.items) s small r.inside.to k d h in
-      let sp = of_range (λ x. span (time_at t) e x ≤ longest) s small (within e) k d h in
+      let sp = of_range (λ x. span at e x ≤ longest) s small (within e) k d h in
       let n = near_all _ _ to below in
       omega (arith, sp, n, fits)
 
-  wide_left : (s e : ℕ) (b : Bool) → s < length r.zones.items → cond b (rest s e ≡ 0) (rest s e ≡ least_over (time_at t) beyond rest e (onwards r s)) → cond b (widened beyond (rest s e) ≡ 0) (widened beyond (rest s e) ≡ least_over (time_at t) far (λ s f. widened beyond (rest s f)) e (onwards r s))
+  wide_left : (s e : ℕ) (b : Bool) → s < length r.zones.items → cond b (rest s e ≡ 0) (rest s e ≡ least_over at beyond rest e (onwards r s)) → cond b (widened beyond (rest s e) ≡ 0) (widened beyond (rest s e) ≡ least_over at far (λ s f. widened beyond (rest s f)) e (onwards r s))
   wide_left s e true small is = let w = wide_same beyond (rest s e) (omega (arith, is, fits)) in omega (arith, w, is)
-  wide_left s e false small is = ap (λ x. widened beyond x) is ∙ widen_least (time_at t) beyond rest e low (onwards r s) (fit_all s e small)
+  wide_left s e false small is = ap (λ x. widened beyond x) is ∙ widen_least at beyond rest e low (onwards r s) (fit_all s e small)
 
   wide_near : (s e : ℕ) → s < length r.zones.items → widened beyond (rest s e) < far → widened beyond (rest s e) ≤ most_left
   wide_near s e small below = by (cases_lt (rest s e) beyond)
@@ -140,20 +140,20 @@ module _ (t : TimeTable) (r : Router) (zone most longest beyond : ℕ) (free old
       by (inl h) = let w = wide_same beyond (rest s e) h in omega (arith, w, h, low)
       by (inr h) = let w = wide_far beyond (rest s e) h in absurd (omega (arith, w, below))
 
-  pub rows_left : AreLeft (time_at t) (λ s e. widened beyond (rest_in (length r.zones.items) t.horizon new s e)) r zone
+  pub rows_left : AreLeft at (λ s e. widened beyond (rest_in (length r.zones.items) t.horizon new s e)) r zone
   rows_left = record { left = λ s e small. wide_left s e (is_own r zone s) small (rests_of s e small); near = wide_near }
 
 -- spans are within the greatest penalty and the greatest time
-pub spans_within : (t : TimeTable) (r : Router) (wait time : ℕ) → length r.states.items ≡ length t.free → All (λ w. w.wait ≤ wait) r.ways.items → ((l e : ℕ) → l < length t.free → time_at t l e ≤ time) → AreWithin t r (wait + time)
-spans_within t r wait time links waits times e k d h =
+pub spans_within : (t : TimeTable) (at : ℕ → ℕ → ℕ) (r : Router) (wait time : ℕ) → length r.states.items ≡ length t.free → All (λ w. w.wait ≤ wait) r.ways.items → ((l e : ℕ) → l < length t.free → at l e ≤ time) → AreWithin at r (wait + time)
+spans_within t at r wait time links waits times e k d h =
     let w = get_or r.ways.items k d in
     let a = waits k d h in
     let b = times w.link (e + w.wait) (let x = r.inside.link k d h in omega (arith, x, links)) in
     omega (arith, a, b)
 
 -- and short where all fits
-pub spans_short_at : (t : TimeTable) (r : Router) (most beyond : ℕ) → IsTimeTable t → length r.states.items ≡ length t.free → FitsBelow t r most beyond → (e : ℕ) → AreShortAt (time_at t) beyond e r.ways.items
-spans_short_at t r most beyond sound links fits e k d h =
+pub spans_short_at : (t : TimeTable) (at : ℕ → ℕ → ℕ) (r : Router) (most beyond : ℕ) → AreSteps t at → length r.states.items ≡ length t.free → FitsBelow at t.horizon r most beyond → (e : ℕ) → AreShortAt at beyond e r.ways.items
+spans_short_at t at r most beyond sound links fits e k d h =
     let w = get_or r.ways.items k d in
     let a = sound.least w.link (e + w.wait) (let x = r.inside.link k d h in omega (arith, x, links)) in
     let b = fits.within e k d h in

@@ -4,8 +4,8 @@ use Rattle.std.specs.Prelude.{nat_eq, slice_set, All}
 use Rattle.std.proofs.lemmas.Grind.{get_or-set_at}
 use Rattle.std.proofs.lemmas.List.{get_or-set_other, length-set}
 use Rattle.std.proofs.lemmas.Bool.{cases_lt}
-use Rattle.dta_model.specs.LinkTimes.{TimeTable, time_at}
-use Rattle.link_times.specs.TimeTables.{IsTimeTable}
+use Rattle.dta_model.specs.LinkTimes.{TimeTable}
+use Rattle.trip_costs.specs.WalkCosts.{AreSteps}
 use Rattle.labels.specs.Filling.Labels.{rest_in, value}
 use Rattle.labels.specs.Filling.Rests.{span, over, least_over}
 use Rattle.labels.specs.Filling.Rows.{IsRowTo}
@@ -78,8 +78,8 @@ pub short_some : (at : ℕ → ℕ → ℕ) (beyond e : ℕ) (ways : List Onward
 short_some at beyond e ways short k d h = (short k d h).0
 
 -- each way on takes time
-pub spans_some : (t : TimeTable) (e : ℕ) (ways : List Onward) → IsTimeTable t → All (λ w. w.link < length t.free) ways → All (λ w. 0 < span (time_at t) e w) ways
-spans_some t e ways sound link k d within =
+pub spans_some : (t : TimeTable) (at : ℕ → ℕ → ℕ) (e : ℕ) (ways : List Onward) → AreSteps t at → All (λ w. w.link < length t.free) ways → All (λ w. 0 < span at e w) ways
+spans_some t at e ways sound link k d within =
     let w = get_or ways k d in
     let one = sound.least w.link (e + w.wait) (link k d within) in
     omega (arith, one)

@@ -1,5 +1,5 @@
 -- Walks as lists of links, and as what the labels say.
-use Rattle.std.proofs.Common.{◌≡◌, ℕ, zero, suc, ◌+◌, ◌-◌, ◌<◌, Bool, true, false, cond, List, [], ◌∷◌, length, refl, ap, sym, ◌∙◌, subst, arith, Option, Some, None, Ordering, Less, Equal, Greater}
+use Rattle.std.proofs.Common.{◌≡◌, ℕ, zero, suc, ◌+◌, ◌-◌, ◌<◌, ◌≤◌, Bool, true, false, cond, List, [], ◌∷◌, length, refl, ap, sym, ◌∙◌, subst, arith, Option, Some, None, Ordering, Less, Equal, Greater}
 use Rattle.std.specs.Prelude.{◌&&◌, ◌||◌, nat_eq, nat_lt, slice_get, All, IsSome}
 use Rattle.std.specs.Cmp.Lexicographic.{slice_cmp}
 use Rattle.std.specs.Ordering.{is_le, nat_cmp, ordering_then}
@@ -10,12 +10,16 @@ use Rattle.net_core.specs.Network.{turn}
 use Rattle.net_core.specs.declared.rows.NetRows.{NetRows}
 use Rattle.net_core.specs.declared.rows.Turn.{Turn}
 use Rattle.dta_model.specs.Least.{IsLeast, HaveNoWalk, IsChosen}
-use Rattle.dta_model.specs.TimedWalks.{penalty_steps, arrival_after, walk_time}
+use Rattle.dta_model.specs.TimedWalks.{penalty_steps, arrival_after}
 use Rattle.dta_model.specs.Walks.{IsWalk, begins_in, ends_in}
+use Rattle.trip_costs.specs.Timings.{IsLeastTrip}
+use Rattle.trip_costs.specs.TripCosts.{TravelCosts, by_links, time_by}
+use Rattle.trip_costs.specs.TripWalks.{IsChosenTrip}
+use Rattle.trip_costs.proofs.Later.{links_are_the_table}
 use Rattle.labels.specs.Named.{zone_named}
-use Rattle.labels.specs.Reading.Paths.{later, path_after, path_time, IsLeastPath, IsChosenPath, lex_le}
+use Rattle.labels.specs.Reading.Paths.{later, path_after, path_time, IsLeastPath, IsChosenPath, IsFewestPath, lex_le}
 use Rattle.labels.specs.States.Routers.{wait_of, wait_between, begins_from, ends_to, ways_to}
-use Rattle.labels.proofs.Basics.{below, is_below, some_same}
+use Rattle.labels.proofs.Basics.{after_more, below, is_below, some_same}
 
 -- links that are in the table, with turns between them, the last of which is the first in the zone
 record IsOn (net : NetRows) (destination : ℕ) (w : List ℕ) : Type 0 where
@@ -145,18 +149,23 @@ module _ (at : ℕ → ℕ → ℕ) (net : NetRows) (zone : ℕ) where
         ap (λ x. arrival_after at net x b rest) step ∙ ih.2 ∙ (omega arith),
       )
 
-  module _ (origin : ℕ) where
-    begun : (b : Bool) (o : Option ℕ) (k : ℕ) → cond b o None ≡ Some k → (b ≡ true) × (o ≡ Some k)
-    begun true o k h = (refl, h)
-    begun false o k h = cc
+  begun : (b : Bool) (o : Option ℕ) (k : ℕ) → cond b o None ≡ Some k → (b ≡ true) × (o ≡ Some k)
+  begun true o k h = (refl, h)
+  begun false o k h = cc
 
-    pub walk_of : (s k : ℕ) (w : List ℕ) → path_time (ways_to at net zone) (begins_from net origin) s w ≡ Some k → IsWalk net (zone_named net origin) (zone_named net zone) w × (walk_time at net s w ≡ k)
+  module _ (enter : ℕ → ℕ → ℕ) (waits_on : (l s : ℕ) → s ≤ enter l s) (origin : ℕ) where
+    abbrev costs : TravelCosts
+    costs = record { enter = enter; at = at }
+
+    pub walk_of : (s k : ℕ) (w : List ℕ) → path_time (ways_to at net zone) enter (begins_from net origin) s w ≡ Some k → IsWalk net (zone_named net origin) (zone_named net zone) w × (time_by costs net s w ≡ k)
     unfolding path_time begins_from
     walk_of s k [] h = cc
     walk_of s k (l ∷ rest) h =
-        let b = begun (begins_from net origin l) (path_after (ways_to at net zone) l s rest) k h in
+        let b = begun (begins_from net origin l) (later (enter l s - s) (path_after (ways_to at net zone) l (enter l s) rest)) k h in
         let q = and_parts (nat_lt l (length net.links)) (begins_in net (zone_named net origin) l) (b.0) in
-        let on = on_of l s rest k (b.1) in (
+        let j = after_more (enter l s - s) k (path_after (ways_to at net zone) l (enter l s) rest) (b.1) in
+        let on = on_of l (enter l s) rest (j.0) (j.1) in
+        let after = waits_on l s in (
           record {
             some = omega arith;
             links = on.0.links;
@@ -164,43 +173,77 @@ module _ (at : ℕ → ℕ → ℕ) (net : NetRows) (zone : ℕ) where
             turns = on.0.turns;
             ends = on.0.ends;
           },
-          omega (arith, on.1),
+          omega (arith, on.1, j.2, after),
         )
 
-    pub path_of : (s : ℕ) (w : List ℕ) → IsWalk net (zone_named net origin) (zone_named net zone) w → path_time (ways_to at net zone) (begins_from net origin) s w ≡ Some (walk_time at net s w)
+    pub path_of : (s : ℕ) (w : List ℕ) → IsWalk net (zone_named net origin) (zone_named net zone) w → path_time (ways_to at net zone) enter (begins_from net origin) s w ≡ Some (time_by costs net s w)
     unfolding path_time begins_from
     path_of s [] walk = absurd (let n = walk.some in omega arith)
     path_of s (l ∷ rest) walk =
         let small = All-head (λ x. x < length net.links) l rest walk.links in
         let b : begins_from net origin l ≡ true = both_so (nat_lt l (length net.links)) (begins_in net (zone_named net origin) l) (is_below l (length net.links) small) walk.begins in
-        let t = time_of l s rest (record { links = walk.links; turns = walk.turns; ends = walk.ends }) in
-        let time : t.0 ≡ arrival_after at net s l rest - s = omega (arith, t.2) in
-        rw b (t.1 ∙ ap (λ x. Some x) time)
+        let t = time_of l (enter l s) rest (record { links = walk.links; turns = walk.turns; ends = walk.ends }) in
+        let after = waits_on l s in
+        let time : enter l s - s + t.0 ≡ arrival_after at net (enter l s) l rest - s = omega (arith, t.2, after) in
+        rw b (ap (λ o. later (enter l s - s) o) (t.1) ∙ ap (λ x. Some x) time)
 
-    pub least_walk : (s m : ℕ) → IsLeastPath (ways_to at net zone) (begins_from net origin) s m → IsLeast at net (zone_named net origin) (zone_named net zone) s m
+    pub least_walk : (s m : ℕ) → IsLeastPath (ways_to at net zone) enter (begins_from net origin) s m → IsLeastTrip costs net (zone_named net origin) (zone_named net zone) s m
     least_walk s m least =
         let w = walk_of s m (least.some_walk.0) (least.some_walk.1) in
         record {
           some_walk = (least.some_walk.0, w.0, w.1);
-          none_less = λ v walk. least.no_less v (walk_time at net s v) (path_of s v walk);
+          none_less = λ v walk. least.no_less v (time_by costs net s v) (path_of s v walk);
         }
 
-    pub no_walk : (s : ℕ) → ((w : List ℕ) → path_time (ways_to at net zone) (begins_from net origin) s w ≡ None) → HaveNoWalk net (zone_named net origin) (zone_named net zone)
+    pub no_walk : (s : ℕ) → ((w : List ℕ) → path_time (ways_to at net zone) enter (begins_from net origin) s w ≡ None) → HaveNoWalk net (zone_named net origin) (zone_named net zone)
     no_walk s none w walk = let p = path_of s w walk in let q = none w in cc
 
-    pub chosen_walk : (s : ℕ) (w : List ℕ) → IsChosenPath (ways_to at net zone) (begins_from net origin) s w → IsChosen at net (zone_named net origin) (zone_named net zone) s w
-    chosen_walk s w chosen =
-        let m = chosen.least.0 in
-        let of = walk_of s m w (chosen.least.2) in
-        let least = chosen.least.1 in
+    pub lex_is : (xs ys : List ℕ) → lex_le xs ys ≡ true → is_le (slice_cmp nat_cmp xs ys) ≡ true
+    lex_is [] [] h = refl
+    lex_is [] (y ∷ ys) h = refl
+    lex_is (x ∷ xs) [] h = cc
+    lex_is (x ∷ xs) (y ∷ ys) h = lex_on (nat_lt x y) (nat_eq x y) (lex_le xs ys) (slice_cmp nat_cmp xs ys) (lex_is xs ys) h
+
+    none_faster : (s m : ℕ) (w : List ℕ) → IsLeastPath (ways_to at net zone) enter (begins_from net origin) s m → time_by costs net s w ≡ m → (v : List ℕ) → IsWalk net (zone_named net origin) (zone_named net zone) v → time_by costs net s w ≤ time_by costs net s v
+    none_faster s m w least of v walk = let n = least.no_less v (time_by costs net s v) (path_of s v walk) in omega (arith, n, of)
+
+    same_time : (s : ℕ) (w v : List ℕ) → IsWalk net (zone_named net origin) (zone_named net zone) w → IsWalk net (zone_named net origin) (zone_named net zone) v → time_by costs net s v ≡ time_by costs net s w
+        → path_time (ways_to at net zone) enter (begins_from net origin) s v ≡ path_time (ways_to at net zone) enter (begins_from net origin) s w
+    same_time s w v of walk same = path_of s v walk ∙ ap (λ x. Some x) same ∙ sym (path_of s w of)
+
+    -- the walk that comes first of those with the fewest links
+    pub fewest_walk : (s : ℕ) (w : List ℕ) → IsFewestPath (ways_to at net zone) enter (begins_from net origin) s w → IsChosenTrip costs net (zone_named net origin) (zone_named net zone) s w
+    fewest_walk s w chosen =
+        let of = walk_of s (chosen.least.0) w (chosen.least.2) in
         record {
           walks = of.0;
-          none_less = λ v walk. (let n = least.no_less v (walk_time at net s v) (path_of s v walk) in omega (arith, n, of.1));
-          first = λ v walk same. lex_is w v (chosen.first v (path_of s v walk ∙ ap (λ x. Some x) same ∙ sym (path_of s w (of.0))));
+          none_less = none_faster s (chosen.least.0) w (chosen.least.1) (of.1);
+          fewest = λ v walk same. chosen.fewest v (same_time s w v (of.0) walk same);
+          first = λ v walk same few. lex_is w v (chosen.first v (same_time s w v (of.0) walk same) few);
         }
-      where
-        lex_is : (xs ys : List ℕ) → lex_le xs ys ≡ true → is_le (slice_cmp nat_cmp xs ys) ≡ true
-        lex_is [] [] h = refl
-        lex_is [] (y ∷ ys) h = refl
-        lex_is (x ∷ xs) [] h = cc
-        lex_is (x ∷ xs) (y ∷ ys) h = lex_on (nat_lt x y) (nat_eq x y) (lex_le xs ys) (slice_cmp nat_cmp xs ys) (lex_is xs ys) h
+
+  -- by link times the walk that comes first of all
+  module _ (origin : ℕ) where
+    pub chosen_walk : (s : ℕ) (w : List ℕ) → IsChosenPath (ways_to at net zone) (λ l s. s) (begins_from net origin) s w → IsChosen at net (zone_named net origin) (zone_named net zone) s w
+    chosen_walk s w chosen =
+        let of = walk_of (λ l s. s) (λ l s. omega arith) origin s (chosen.least.0) w (chosen.least.2) in
+        record {
+          walks = of.0;
+          none_less = λ v walk. (
+              let n = none_faster (λ l s. s) (λ l s. omega arith) origin s (chosen.least.0) w (chosen.least.1) (of.1) v walk in
+              let x = links_are_the_table at net s w in
+              let y = links_are_the_table at net s v in
+              omega (arith, n, x, y));
+          first = λ v walk same. (
+              let x = links_are_the_table at net s w in
+              let y = links_are_the_table at net s v in
+              lex_is (λ l s. s) (λ l s. omega arith) origin w v (chosen.first v (same_time (λ l s. s) (λ l s. omega arith) origin s w v (of.0) walk (y ∙ same ∙ sym x))));
+        }
+
+    pub least_by_links : (s m : ℕ) → IsLeastTrip (by_links at) net (zone_named net origin) (zone_named net zone) s m → IsLeast at net (zone_named net origin) (zone_named net zone) s m
+    least_by_links s m least =
+        let w = least.some_walk.0 in
+        record {
+          some_walk = (w, least.some_walk.1, sym (links_are_the_table at net s w) ∙ least.some_walk.2);
+          none_less = λ v walk. subst (λ n. m ≤ n) (links_are_the_table at net s v) (least.none_less v walk);
+        }

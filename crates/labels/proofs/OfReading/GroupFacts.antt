@@ -3,7 +3,7 @@ use Rattle.std.proofs.Common.{◌≡◌, ℕ, ◌<◌, List, length, ap, sym, �
 use Rattle.std.proofs.lemmas.List.{get_or-map, length-map}
 use Rattle.net_core.specs.Network.{zones}
 use Rattle.net_core.specs.declared.rows.ZoneNo.{ZoneNo}
-use Rattle.dta_model.specs.LinkTimes.{time_at}
+use Rattle.trip_costs.specs.WalkCosts.{steps_in, table_in}
 use Rattle.labels.specs.Reading.Serves.{Fit, Serves}
 use Rattle.labels.specs.Filling.Tables.{rests}
 use Rattle.labels.specs.ToZone.{zone_numbers}
@@ -26,10 +26,10 @@ module _ (l : Inside) (i : AreFilled l) (j : ℕ) (within : j < length (zone_num
   pub in_net : number < length (zones l.net.now.nodes)
   in_net = let d : ZoneNo = record { 0 = 0 } in let is = number_of l.zones.items j d small in let h = i.inside j d small in omega (arith, is, h)
 
-  pub serves_at : Serves l.net.now (get_or (zone_numbers l.zones.items) j 0) (time_at l.times.now) (rests l.labels j) l.router
-  serves_at = serves_of l.net.now l.times.now l.router (rests l.labels j) number i.net i.times i.table in_net i.router (i.left.each j within)
+  pub serves_at : Serves l.net.now (get_or (zone_numbers l.zones.items) j 0) (steps_in l.costs) (rests l.labels j) l.router
+  serves_at = serves_of l.net.now (table_in l.costs) (steps_in l.costs) l.router (rests l.labels j) number i.net i.timed i.table in_net i.router (i.left.each j within)
 
-  pub fit_at : Fit l.labels j l.router l.times.now
+  pub fit_at : Fit l.labels j l.router (table_in l.costs)
   fit_at = record { within = omega (arith, within, i.left.places); states = i.left.states; links = i.router.many ∙ sym i.table }
 
   pub zone_is : (z : ZoneNo) → z ≡ get_or l.zones.items j z → get_or (zone_numbers l.zones.items) j 0 ≡ z.0

@@ -1,17 +1,19 @@
 -- Spans of ways on.
-use Rattle.std.proofs.Common.{◌≡◌, ◌⊎◌, inl, inr, ℕ, zero, suc, ◌+◌, ◌-◌, ◌*◌, ◌/◌, ◌%◌, ◌<◌, ◌≤◌, true, false, List, length, drop, refl, arith, get_or, ap, sym, ◌∙◌, subst}
-use Rattle.std.specs.Prelude.{◌≢◌, slice_set, All, nat_lt}
+use Rattle.std.proofs.Common.{◌∷◌, ◌++◌, [], ◌≡◌, ◌⊎◌, inl, inr, ℕ, zero, suc, ◌+◌, ◌-◌, ◌*◌, ◌/◌, ◌%◌, ◌<◌, ◌≤◌, true, false, List, length, drop, refl, arith, get_or, ap, sym, ◌∙◌, subst}
+use Rattle.std.specs.Prelude.{◌≢◌, slice_set, All, Contains}
 use Rattle.std.specs.List.{slice_range}
 use Rattle.std.proofs.lemmas.Grind.{common_steps, elements, get_or-set_at}
-use Rattle.std.proofs.lemmas.Bool.Decides.{nat_tests, eqb_tells}
+use Rattle.std.proofs.lemmas.Bool.{cases_lt}
+use Rattle.std.proofs.lemmas.Bool.Decides.{eqb_tells}
+use Rattle.std.proofs.lemmas.List.Elements.{All-push, Contains-append_left, Contains-push}
 use Rattle.std.proofs.Math.Dec.{eqb}
 use Rattle.std.proofs.lemmas.List.{get_or-set_other, length-set, get_or-take, get_or-drop}
 use Rattle.std.proofs.lemmas.Nat.{div-mul-add, div-add-mod', mod_below}
 use Rattle.labels.specs.declared.states.onward.Onward.{Onward}
 use Rattle.labels.specs.declared.states.spans.Span.{Span}
-use Rattle.dta_model.specs.LinkTimes.{TimeTable}
-use Rattle.dta_model.specs.LinkTimes.{time_at}
-use Rattle.labels.specs.States.Spans.{AreShortAt, AreShortSpans, IsSpan, IsSpansTo, IsSpans}
+use Rattle.trip_costs.specs.WalkCosts.{steps_in, table_in}
+use Rattle.trip_costs.specs.declared.walk_costs.WalkCosts.{WalkCosts}
+use Rattle.labels.specs.States.Spans.{AreMoving, AreMovingTo, AreShortAt, AreShortSpans, AreSpansBut, IsSpan, IsSpansTo, IsSpans, IsStill}
 
 any : (ways : List Onward) (n : ℕ) (d e : Onward) → n < length ways → get_or ways n d ≡ get_or ways n e
 any ways n d e h = grind (arith, elements)
@@ -63,23 +65,67 @@ same_bucket b n some other =
     let as_n : n ≡ (n + 1) / b * b + ((n + 1) % b - 1) = omega arith in
     sym (ap (λ x. x / b) as_n ∙ div-mul-add ((n + 1) / b) b ((n + 1) % b - 1) (omega arith))
 
-pub time_same : (t : TimeTable) (l e f : ℕ) → e < t.horizon → f < t.horizon → e / t.bucket ≡ f / t.bucket → time_at t l e ≡ time_at t l f
-unfolding time_at
-time_same t l e f he hf same =
-    let a : nat_lt e t.horizon ≡ true = grind (arith, nat_tests) in
-    let b : nat_lt f t.horizon ≡ true = grind (arith, nat_tests) in
-    rw (a, b, same) refl
+-- a way on that is still in a bucket takes what it takes in the next step there
+still_before : (c : WalkCosts) (b e : ℕ) (w : Onward) (s : Span) → e + 1 < (table_in c).horizon → (e + 1) / (table_in c).bucket ≡ b → e / (table_in c).bucket ≡ b → IsStill c b w → IsSpan (steps_in c) (e + 1) w s → IsSpan (steps_in c) e w s
+still_before c b e w s before next here still i =
+    let z : w.wait ≡ 0 = still.0 in
+    let at_next : e + 1 + w.wait ≡ e + 1 = omega (arith, z) in
+    let at_here : e + w.wait ≡ e = omega (arith, z) in
+    let same : steps_in c w.link (e + 1) ≡ steps_in c w.link e = still.1 (e + 1) e before (omega (arith, before)) next here in
+    let long : w.wait + steps_in c w.link (e + 1 + w.wait) ≡ w.wait + steps_in c w.link (e + w.wait) = ap (λ x. w.wait + steps_in c w.link x) at_next ∙ ap (λ x. w.wait + x) same ∙ ap (λ x. w.wait + steps_in c w.link x) (sym at_here) in
+    (i.0 ∙ long, i.1)
 
-pub IsSpans_before : (t : TimeTable) (some : 0 < t.bucket) (e : ℕ) (ways : List Onward) (spans : List Span) → e + 1 < t.horizon → (e + 1) % t.bucket ≢ 0 → All (λ w. w.wait ≡ 0) ways → IsSpans (time_at t) (e + 1) ways spans → IsSpans (time_at t) e ways spans
-IsSpans_before t some e ways spans before other waits is = record { as_many = is.as_many; each = each }
+-- so the spans of the next step are those of a step, but for ways on that are listed
+pub but_moving : (c : WalkCosts) (e : ℕ) (ways : List Onward) (moving : List ℕ) (spans : List Span) → 0 < (table_in c).bucket → e + 1 < (table_in c).horizon → (e + 1) % (table_in c).bucket ≢ 0
+    → AreMoving c ((e + 1) / (table_in c).bucket) ways moving → IsSpans (steps_in c) (e + 1) ways spans → AreSpansBut (steps_in c) e ways moving spans
+but_moving c e ways moving spans some before other listed is = record { as_many = is.as_many; each = λ k d s h. by k d s h (listed.others k d h) }
   where
-    each : (k : ℕ) (d : Onward) (c : Span) → k < length ways → IsSpan (time_at t) e (get_or ways k d) (get_or spans k c)
-    each k d c h =
-        let i = is.each k d c h in
-        let w = get_or ways k d in
-        let z : w.wait ≡ 0 = waits k d h in
-        let at_next : e + 1 + w.wait ≡ e + 1 = omega arith in
-        let at_here : e + w.wait ≡ e = omega arith in
-        let same : time_at t w.link (e + 1) ≡ time_at t w.link e = time_same t w.link (e + 1) e before (omega arith) (same_bucket t.bucket e some other) in
-        let long : w.wait + time_at t w.link (e + 1 + w.wait) ≡ w.wait + time_at t w.link (e + w.wait) = ap (λ x. w.wait + time_at t w.link x) at_next ∙ ap (λ x. w.wait + x) same ∙ ap (λ x. w.wait + time_at t w.link x) (sym at_here) in
-        (i.0 ∙ long, i.1)
+    by : (k : ℕ) (d : Onward) (s : Span) → k < length ways → Contains moving k ⊎ IsStill c ((e + 1) / (table_in c).bucket) (get_or ways k d) → Contains moving k ⊎ IsSpan (steps_in c) e (get_or ways k d) (get_or spans k s)
+    by k d s h (inl there) = inl there
+    by k d s h (inr still) = inr (still_before c ((e + 1) / (table_in c).bucket) e (get_or ways k d) (get_or spans k s) before refl (sym (same_bucket (table_in c).bucket e some other)) still (is.each k d s h))
+
+pub moving_before : (c : WalkCosts) (e : ℕ) (ways : List Onward) (moving : List ℕ) → 0 < (table_in c).bucket → (e + 1) % (table_in c).bucket ≢ 0 → AreMoving c ((e + 1) / (table_in c).bucket) ways moving → AreMoving c (e / (table_in c).bucket) ways moving
+moving_before c e ways moving some other listed = subst (λ b. AreMoving c b ways moving) (same_bucket (table_in c).bucket e some other) listed
+
+-- a listed span more is written
+listed_later : (xs : List ℕ) (x y : ℕ) → (y ≡ x → ⊥) → Contains (x ∷ xs) y → Contains xs y
+listed_later xs x y other there = by (there.0) (there.1) (there.2)
+  where
+    by : (k : ℕ) → k < length (x ∷ xs) → get_or (x ∷ xs) k y ≡ y → Contains xs y
+    by zero h e = absurd (other (sym e))
+    by (suc k) h e = (k, omega (arith, h), e)
+
+pub but_fewer : (at : ℕ → ℕ → ℕ) (e : ℕ) (ways : List Onward) (listed : List ℕ) (spans : List Span) (n : ℕ) (s : Span) (d0 : Onward) → n < length ways → IsSpan at e (get_or ways n d0) s → AreSpansBut at e ways (n ∷ listed) spans → AreSpansBut at e ways listed (slice_set spans n s)
+but_fewer at e ways listed spans n s d0 h is was = record { as_many = length-set spans n s ∙ was.as_many; each = λ k d c b. at_k k d c b (eqb_tells k n) (was.each k d c b) }
+  where
+    at_k : (k : ℕ) (d : Onward) (c : Span) → k < length ways → ((eqb k n ≡ true) × (k ≡ n)) ⊎ ((eqb k n ≡ false) × (k ≢ n)) → Contains (n ∷ listed) k ⊎ IsSpan at e (get_or ways k d) (get_or spans k c) → Contains listed k ⊎ IsSpan at e (get_or ways k d) (get_or (slice_set spans n s) k c)
+    at_k k d c b (inl (t, same)) old =
+        let now : get_or (slice_set spans n s) k c ≡ s = get_or-set_at spans n k s c same (omega (arith, was.as_many)) in
+        inr (subst (λ x. IsSpan at e (get_or ways k d) x) (sym now) (subst (λ i. IsSpan at e (get_or ways i d) s) (sym same) (subst (λ w. IsSpan at e w s) (any ways n d0 d h) is)))
+    at_k k d c b (inr (t, other)) (inl there) = inl (listed_later listed n k other there)
+    at_k k d c b (inr (t, other)) (inr old) =
+        let now : get_or (slice_set spans n s) k c ≡ get_or spans k c = get_or-set_other spans n k s c other in
+        inr (subst (λ x. IsSpan at e (get_or ways k d) x) (sym now) old)
+
+-- one way on more is listed, or still
+pub moving_still : (c : WalkCosts) (b : ℕ) (ways : List Onward) (moving : List ℕ) (n : ℕ) (d0 : Onward) → n < length ways → IsStill c b (get_or ways n d0) → AreMovingTo c b ways moving n → AreMovingTo c b ways moving (n + 1)
+moving_still c b ways moving n d0 h still was = record { inside = was.inside; others = λ k d f. by k d f (cases_lt k n) }
+  where
+    by : (k : ℕ) (d : Onward) → k < n + 1 → (k < n) ⊎ (n ≤ k) → Contains moving k ⊎ IsStill c b (get_or ways k d)
+    by k d f (inl less) = was.others k d less
+    by k d f (inr more) =
+        let same : n ≡ k = omega (arith, f, more) in
+        inr (subst (λ i. IsStill c b (get_or ways i d)) same (subst (λ w. IsStill c b w) (any ways n d0 d h) still))
+
+pub moving_listed : (c : WalkCosts) (b : ℕ) (ways : List Onward) (moving : List ℕ) (n : ℕ) → n < length ways → AreMovingTo c b ways moving n → AreMovingTo c b ways (moving ++ n ∷ []) (n + 1)
+moving_listed c b ways moving n h was = record { inside = All-push (λ k. k < length ways) moving n was.inside h; others = λ k d f. by k d f (cases_lt k n) }
+  where
+    more : (k : ℕ) (d : Onward) → Contains moving k ⊎ IsStill c b (get_or ways k d) → Contains (moving ++ n ∷ []) k ⊎ IsStill c b (get_or ways k d)
+    more k d (inl there) = inl (Contains-append_left moving (n ∷ []) k there)
+    more k d (inr still) = inr still
+
+    by : (k : ℕ) (d : Onward) → k < n + 1 → (k < n) ⊎ (n ≤ k) → Contains (moving ++ n ∷ []) k ⊎ IsStill c b (get_or ways k d)
+    by k d f (inl less) = more k d (was.others k d less)
+    by k d f (inr over) =
+        let same : n ≡ k = omega (arith, f, over) in
+        inl (subst (λ i. Contains (moving ++ n ∷ []) i) same (Contains-push moving n))

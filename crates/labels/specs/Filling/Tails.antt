@@ -1,7 +1,6 @@
 -- Least free-flow times to zones, and when all that is left over them fits fewer bits.
 use Rattle.std.specs.Prelude.{◌≡◌, ℕ, ◌+◌, ◌*◌, ◌<◌, ◌≤◌, min, cond, nat_lt, List, [], length}
 use Rattle.std.specs.Prelude.{get_or, slice_index, All}
-use Rattle.dta_model.specs.LinkTimes.{TimeTable, time_at}
 use Rattle.labels.specs.Filling.Labels.{far}
 use Rattle.labels.specs.Filling.Rests.{span}
 use Rattle.labels.specs.Filling.FreeFlow.{AreSettled}
@@ -30,11 +29,12 @@ IsPut beyond labels tail = (s : ℕ) → s < length tail
     → slice_index labels s ≡ min (slice_index tail s) beyond
 
 -- no way on takes longer
-abbrev pub AreWithin : TimeTable → Router → ℕ → Type 0
-AreWithin t r longest = (e : ℕ) → All (λ w. span (time_at t) e w ≤ longest) r.ways.items
+abbrev pub AreWithin : (ℕ → ℕ → ℕ) → Router → ℕ → Type 0
+AreWithin at r longest = (e : ℕ) → All (λ w. span at e w ≤ longest) r.ways.items
 
 -- whatever is left stays below what stands for no walk, and so does a way on before it
-pub record FitsBelow (t : TimeTable) (r : Router) (most beyond : ℕ) : Type 0 where
+pub record FitsBelow (at : ℕ → ℕ → ℕ) (horizon : ℕ) (r : Router) (most beyond : ℕ)
+    : Type 0 where
   pub longest : ℕ
-  pub within : AreWithin t r longest
-  pub fits : t.horizon + 2 * longest + most < beyond
+  pub within : AreWithin at r longest
+  pub fits : horizon + 2 * longest + most < beyond

@@ -1,15 +1,15 @@
--- A router over link times.
+-- A router over the costs by which walks are timed.
 use Rattle.std.specs.Prelude.{ℕ, length}
-use Rattle.dta_model.specs.LinkTimes.{time_at}
+use Rattle.trip_costs.specs.WalkCosts.{steps_in, table_in}
 use Rattle.labels.specs.declared.filling.timed_router.TimedRouter.{TimedRouter}
 
--- the time of a link at a step
+-- the steps that a link takes who enters it in a step
 abbrev pub time_in : TimedRouter → ℕ → ℕ → ℕ
-time_in t = time_at t.times.now
+time_in t = steps_in t.costs
 
--- the horizon of the link times, and how many states there are
+-- the horizon, and how many states there are
 abbrev pub horizon_of : TimedRouter → ℕ
-horizon_of t = t.times.now.horizon
+horizon_of t = (table_in t.costs).horizon
 
 abbrev pub states_of : TimedRouter → ℕ
 states_of t = length t.router.now.zones.items

@@ -1,5 +1,10 @@
 -- The least over the links that a walk may begin with, and the choice at each link.
-use Rattle.std.specs.Prelude.{◌≡◌, ℕ, ◌<◌, ◌≤◌, Bool, true, List, Option, Some, slice_get}
+use Rattle.std.specs.Prelude.{◌≡◌, ℕ, ◌-◌, ◌<◌, ◌≤◌, Bool, true, List, Option, Some, slice_get}
+use Rattle.labels.specs.Reading.Paths.{later}
+
+-- the time from a step on over a first link, by its label in the step of its entry
+abbrev pub first_label : (ℕ → ℕ → ℕ) → (ℕ → ℕ → Option ℕ) → ℕ → ℕ → Option ℕ
+first_label enter label s l = later (enter l s - s) (label l (enter l s))
 
 -- the links listed are those that a walk may begin with
 pub record AreFirsts (begins : ℕ → Bool) (firsts : List ℕ) : Type 0 where

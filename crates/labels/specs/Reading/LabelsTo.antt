@@ -6,7 +6,7 @@ use Rattle.labels.specs.declared.reading.labels.Labels.TheInside.{Inside}
 abbrev pub labels_of : Inside → ToZone
 labels_of l = record {
   net = l.group.net;
-  times = l.group.times;
+  costs = l.group.costs;
   zone = slice_index l.group.zones 0;
 }
 

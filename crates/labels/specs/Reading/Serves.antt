@@ -1,5 +1,5 @@
 -- When what is left serves walks to a zone.
-use Rattle.std.specs.Prelude.{◌≡◌, ◌≢◌, ℕ, ◌+◌, ◌<◌, ◌≤◌, cond, nat_lt, List, [], ◌∷◌}
+use Rattle.std.specs.Prelude.{◌≡◌, ◌≢◌, ℕ, ◌+◌, ◌<◌, ◌≤◌, cond, List, [], ◌∷◌}
 use Rattle.std.specs.Prelude.{length, get_or, slice_index, slice_index_or, slice_get, Option, Some}
 use Rattle.std.specs.Prelude.{None}
 use Rattle.net_core.specs.Network.{zones}
@@ -12,6 +12,7 @@ use Rattle.labels.specs.Filling.Rests.{least_over, AreTurns, AreOrdered, label_o
 use Rattle.labels.specs.States.Routers.{ways_to}
 use Rattle.labels.specs.Filling.Tables.{places, rests, states_in}
 use Rattle.labels.specs.States.RouterWays.{is_own, onwards, state_of}
+use Rattle.labels.specs.declared.reading.best.First.{First}
 use Rattle.labels.specs.declared.states.onward.Onward.{Onward}
 use Rattle.labels.specs.declared.states.router.Router.{Router}
 use Rattle.labels.specs.declared.filling.label_table.LabelTable.{LabelTable}
@@ -71,19 +72,20 @@ pub record Serves (net : NetRows) (zone : ℕ) (at : ℕ → ℕ → ℕ) (rest 
   pub room : most + longest < far
   pub takes_time : (l e : ℕ) → l < length r.states.items → 0 < at l e
 
--- the smaller of two times, where there is one
-abbrev pub lesser : Option ℕ → Option ℕ → Option ℕ
-lesser None b = b
-lesser (Some m) None = Some m
-lesser (Some m) (Some x) = cond (nat_lt x m) (Some x) (Some m)
+-- over a link of the first of a list the least time is met, and over none before it
+pub record IsBest (label : ℕ → Option ℕ) (firsts : List ℕ) (count l m : ℕ) : Type 0 where
+  pub place : ℕ
+  pub within : place < count
+  pub stands : slice_get firsts place ≡ Some l
+  pub gives : label l ≡ Some m
+  pub least : (k c x : ℕ) → k < count → slice_get firsts k ≡ Some c → label c ≡ Some x → m ≤ x
+  pub first : (k c x : ℕ) → k < place → slice_get firsts k ≡ Some c → label c ≡ Some x → m < x
 
--- the least label of the first links
-abbrev pub LeastSoFar : (ℕ → Option ℕ) → List ℕ → ℕ → Option ℕ → Type 0
-LeastSoFar label firsts count None = (k l : ℕ) → k < count → slice_get firsts k ≡ Some l
+-- the best of the first links of a list, where some walk goes over one
+abbrev pub BestSoFar : (ℕ → Option ℕ) → List ℕ → ℕ → Option First → Type 0
+BestSoFar label firsts count None = (k l : ℕ) → k < count → slice_get firsts k ≡ Some l
     → label l ≡ None
-LeastSoFar label firsts count (Some m) = ((k : ℕ) × (l : ℕ) × (k < count)
-    × (slice_get firsts k ≡ Some l) × (label l ≡ Some m))
-    × ((k l x : ℕ) → k < count → slice_get firsts k ≡ Some l → label l ≡ Some x → m ≤ x)
+BestSoFar label firsts count (Some f) = IsBest label firsts count f.link f.time
 
 -- the first way on that takes a time, where there is one
 abbrev pub FirstOver : (Onward → ℕ) → List Onward → ℕ → Option Onward → Type 0
@@ -96,11 +98,3 @@ FirstOver over ways left (Some w) = (over w ≡ left)
 -- a route follows the labels from a link at a step
 abbrev pub IsFollowed : Ways → (ℕ → ℕ → Option ℕ) → ℕ → ℕ → List ℕ → Type 0
 IsFollowed g label l e route = (r : List ℕ) × (route ≡ l ∷ r) × Follows g label l e r
-
--- the first link with a time, where there is one
-abbrev pub FirstWith : (ℕ → Option ℕ) → List ℕ → ℕ → Option ℕ → Type 0
-FirstWith label firsts time None = (k d : ℕ) → k < length firsts
-    → label (slice_index_or firsts k d) ≢ Some time
-FirstWith label firsts time (Some l) = (label l ≡ Some time)
-    × ((k : ℕ) × (slice_get firsts k ≡ Some l)
-    × ((i d : ℕ) → i < k → label (slice_index_or firsts i d) ≢ Some time))

@@ -1,5 +1,7 @@
 -- What each way on takes in the steps of a bucket.
-use Rattle.std.specs.Prelude.{◌≡◌, ℕ, ◌<◌, List, length, slice_index_or, All}
+use Rattle.std.specs.Prelude.{◌≡◌, ◌⊎◌, ℕ, ◌<◌, List, length, slice_index_or, All, Contains}
+use Rattle.trip_costs.specs.WalkCosts.{IsLevel}
+use Rattle.trip_costs.specs.declared.walk_costs.WalkCosts.{WalkCosts}
 use Rattle.labels.specs.Filling.Rests.{span}
 use Rattle.labels.specs.declared.states.onward.Onward.{Onward}
 use Rattle.labels.specs.declared.states.spans.Span.{Span}
@@ -17,6 +19,27 @@ pub record IsSpansTo (at : ℕ → ℕ → ℕ) (e : ℕ) (ways : List Onward) (
 
 abbrev pub IsSpans : (ℕ → ℕ → ℕ) → ℕ → List Onward → List Span → Type 0
 IsSpans at e ways spans = IsSpansTo at e ways spans (length ways)
+
+-- a way on doesn't wait, and its link takes as many steps in each step of a bucket
+abbrev pub IsStill : WalkCosts → ℕ → Onward → Type 0
+IsStill costs bucket w = (w.wait ≡ 0) × IsLevel costs w.link bucket
+
+-- only places of ways on are listed, and of the first ways on all that aren't still in a bucket
+pub record AreMovingTo (costs : WalkCosts) (bucket : ℕ) (ways : List Onward) (moving : List ℕ)
+    (count : ℕ) : Type 0 where
+  pub inside : All (λ k. k < length ways) moving
+  pub others : (k : ℕ) (d : Onward) → k < count
+      → Contains moving k ⊎ IsStill costs bucket (slice_index_or ways k d)
+
+abbrev pub AreMoving : WalkCosts → ℕ → List Onward → List ℕ → Type 0
+AreMoving costs bucket ways moving = AreMovingTo costs bucket ways moving (length ways)
+
+-- each span is that of its way on, unless its place is listed
+pub record AreSpansBut (at : ℕ → ℕ → ℕ) (e : ℕ) (ways : List Onward) (listed : List ℕ)
+    (spans : List Span) : Type 0 where
+  pub as_many : length spans ≡ length ways
+  pub each : (k : ℕ) (d : Onward) (c : Span) → k < length ways
+      → Contains listed k ⊎ IsSpan at e (slice_index_or ways k d) (slice_index_or spans k c)
 
 -- each way on takes time at a step, and less than what stands for no walk
 abbrev pub AreShortAt : (ℕ → ℕ → ℕ) → ℕ → ℕ → List Onward → Type 0

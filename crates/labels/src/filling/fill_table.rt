@@ -1,12 +1,12 @@
 // Tables of what is left, in the narrowest form that serves.
 ghost use Rattle.std.specs.Prelude.{◌<◌, ◌≤◌, length, All, IfOk};
-ghost use Rattle.link_times.specs.TimeTables.{IsTimeTable};
 ghost use Rattle.labels.specs.Filling.Firsts.{AreLeftToFirst};
 ghost use Rattle.labels.specs.Filling.Timed.{time_in};
 ghost use Rattle.labels.specs.Reading.Serves.{AreAllLeft};
 ghost use Rattle.labels.specs.ToZone.{zone_numbers};
 ghost use Rattle.labels.specs.declared.states.zone_numbers.TheConstants.{NO_ZONE};
 ghost use Rattle.labels.specs.declared.reading.group_labels.TheConstants.{MOST_GROUP};
+ghost use Rattle.trip_costs.specs.WalkCosts.{AreTimed};
 
 use crate::filling::eight::Eight;
 use crate::filling::four::Four;
@@ -40,7 +40,7 @@ fn wide_table(alloc: Global, timed: &TimedRouter, zones: &[ZoneNo]) -> Result<La
     let rows = wide_rows(alloc, timed, zones)?;
     Ok(LabelTable::Wide(WideTable {
         states: timed.router.state_count(),
-        horizon: timed.times.horizon(),
+        horizon: timed.costs.horizon(),
         zones: rows,
     }))
 }
@@ -60,7 +60,7 @@ fn most_zones(steps: u64, least: usize) -> usize
     }
 }
 
-/// What is left to the first of some zones over a table of link times, to so many of them at
+/// What is left to the first of some zones over the costs, to so many of them at
 /// least, where it serves in the memory of labels that are read no more.
 pub(crate) fn table_of(
     alloc: Global,
@@ -73,9 +73,9 @@ pub(crate) fn table_of(
     requires least { (least ≤ length zones.now) × (least ≤ MOST_GROUP) }
     ensures left { IfOk result (AreLeftToFirst (time_in timed.now) timed.now.router.now zones.now
         least) }
-    ensures sound { IsTimeTable timed.now.times.now }
+    ensures timed { AreTimed timed.now.costs }
 {
-    let _sound = timed.times.horizon();
+    let _timed = timed.costs.horizon();
     let Spare { short, narrow } = spare;
     let reach = reach_of(timed);
     let count = zones.len().min(most_zones(reach, least));

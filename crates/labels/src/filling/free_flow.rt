@@ -7,11 +7,12 @@ ghost use Rattle.labels.specs.Filling.Falling.{Falls, IsLowered};
 ghost use Rattle.labels.specs.Filling.FreeFlow.{AreSettled, AreShort};
 ghost use Rattle.labels.specs.Filling.Labels.{far};
 ghost use Rattle.labels.specs.Filling.WaysBack.{AreWaysBack};
+ghost use Rattle.trip_costs.specs.WalkCosts.{table_in};
 
 use crate::filling::no_walk::FAR;
+use crate::filling::timed_router::TimedRouter;
 use crate::filling::ways_back::WaysBack;
 use crate::states::router::Router;
-use link_times::LinkTimes;
 use net_core::{LinkNo, Memory};
 use std::alloc::Global;
 use std::cmp::Reverse;
@@ -150,18 +151,16 @@ fn begin(
     Ok(())
 }
 
-/// The free-flow steps of links, which a table has from its horizon on.
-#[tactic(auto, using(crate::proofs::OfFilling::Joins::free_late))]
-pub(crate) fn free_steps(alloc: Global, times: &LinkTimes, links: u32) -> Result<Vec<u32>, Memory>
-    requires { links ≡ length times.now.free }
-    ensures many { IfOk result (λ free. length free.items ≡ links) }
-    ensures each { IfOk result (λ free. (l : ℕ) → l < links
-        → slice_index free.items l ≡ slice_index times.now.free l) }
+/// The free-flow steps of links, which they take from the horizon on.
+pub(crate) fn free_steps(alloc: Global, timed: &TimedRouter) -> Result<Vec<u32>, Memory>
+    ensures many { IfOk result (λ free. length free.items ≡ timed.now.links) }
+    ensures each { IfOk result (λ free. (l : ℕ) → l < timed.now.links
+        → slice_index free.items l ≡ slice_index (table_in timed.now.costs).free l) }
 {
-    let horizon = times.horizon() as u64;
+    let horizon = timed.costs.horizon() as u64;
     let mut free = Vec::new(alloc);
-    for link in 0..links {
-        free.push(times.at(LinkNo(link), horizon))?;
+    for link in 0..timed.links {
+        free.push(timed.costs.steps(LinkNo(link), horizon))?;
     }
     Ok(free)
 }

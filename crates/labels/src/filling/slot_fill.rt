@@ -1,8 +1,7 @@
 // What is left to a few zones side by side, step by step from the horizon down.
 ghost use Rattle.std.specs.Prelude.{◌≡◌, ℕ, ◌+◌, ◌-◌, ◌*◌, ◌<◌, ◌≤◌, ◌^◌, length, slice_index, All};
-ghost use Rattle.std.specs.Prelude.{cond, nat_eq, false, slice_set, OnOk};
+ghost use Rattle.std.specs.Prelude.{cond, nat_eq, slice_set, OnOk};
 ghost use Rattle.std.specs.List.{slice_range};
-ghost use Rattle.dta_model.specs.LinkTimes.{time_at};
 ghost use Rattle.labels.specs.Filling.Labels.{in_slot, rest_in, value};
 ghost use Rattle.labels.specs.Filling.Rests.{span, least_over};
 ghost use Rattle.labels.specs.Filling.Slots.{AreSlotsTo, AreSlotRows};
@@ -10,6 +9,7 @@ ghost use Rattle.labels.specs.Filling.Timed.{horizon_of, states_of, time_in};
 ghost use Rattle.labels.specs.States.Spans.{AreShortAt, AreShortSpans, IsSpans};
 ghost use Rattle.labels.specs.ToZone.{zone_numbers};
 ghost use Rattle.labels.specs.declared.states.zone_numbers.TheConstants.{NO_ZONE};
+ghost use Rattle.trip_costs.specs.WalkCosts.{steps_in, table_in};
 
 use crate::filling::slots::Slots;
 use crate::filling::timed_router::TimedRouter;
@@ -18,31 +18,32 @@ use crate::states::onward::Onward;
 use crate::states::router::Router;
 use crate::states::spans::{Span, keep};
 use crate::states::zone_numbers::NO_ZONE;
-use link_times::LinkTimes;
 use net_core::{Memory, ZoneNo};
+use std::alloc::Global;
+use trip_costs::WalkCosts;
 
 /// The row of a step: how many states it has, how many rows it stands from the horizon's, its
-/// step, the link times, and the zones of the slots.
+/// step, the costs of links, and the zones of the slots.
 #[derive(Clone, Copy, Drop)]
 struct SlotRow<'a> {
     states: usize,
     back: usize,
     step: u32,
-    times: &'a LinkTimes,
+    costs: WalkCosts<'a>,
     zones: &'a [ZoneNo],
     ghost later: { 0 < back },
-    ghost counted: { back + step ≡ times.now.horizon },
+    ghost counted: { back + step ≡ (table_in costs).horizon },
     ghost numbers: { All (λ z. z.0 < NO_ZONE) zones.now },
 }
 
 // The least over the ways on, in each slot.
 fn least_slots<S: Slots>(labels: &[S], row: &SlotRow, spans: &[Span], ways: &[Onward]) -> S
-    requires spans { IsSpans (time_at row.now.times.now) row.now.step ways.now spans.now }
+    requires spans { IsSpans (steps_in row.now.costs) row.now.step ways.now spans.now }
     requires short { AreShortSpans S.FAR row.now.states spans.now }
     requires rows { row.now.back * row.now.states ≤ length labels.now }
     requires fits { row.now.back * row.now.states < 2 ^ 63 }
-    ensures { (j : ℕ) → j < S.SLOTS → S.slot result j ≡ least_over (time_at row.now.times.now) S.FAR
-        (rest_in row.now.states row.now.times.now.horizon (in_slot S.slot labels.now j))
+    ensures { (j : ℕ) → j < S.SLOTS → S.slot result j ≡ least_over (steps_in row.now.costs) S.FAR
+        (rest_in row.now.states (table_in row.now.costs).horizon (in_slot S.slot labels.now j))
         row.now.step ways.now }
 {
     let mut least = S::no_walk();
@@ -102,7 +103,7 @@ fn fill_state<S: Slots>(
     zone: u32,
     ways: &[Onward],
 )
-    requires spans { IsSpans (time_at row.now.times.now) row.now.step ways.now spans.now }
+    requires spans { IsSpans (steps_in row.now.costs) row.now.step ways.now spans.now }
     requires short { AreShortSpans S.FAR row.now.states spans.now }
     requires rows { row.now.back * row.now.states + row.now.states ≤ length labels.old }
     requires fits { row.now.back * row.now.states + row.now.states < 2 ^ 63 }
@@ -111,9 +112,9 @@ fn fill_state<S: Slots>(
     ensures many { length labels.new ≡ length labels.old }
     ensures written { (j : ℕ) → j < length row.now.zones.now → in_slot S.slot labels.new j
         ≡ slice_set (in_slot S.slot labels.old j) (row.now.back * row.now.states + state) (value
-        (time_at row.now.times.now) S.FAR row.now.states row.now.times.now.horizon (in_slot S.slot
-        labels.old j) (nat_eq zone (slice_index (zone_numbers row.now.zones.now) j)) ways.now
-        row.now.step) }
+        (steps_in row.now.costs) S.FAR row.now.states (table_in row.now.costs).horizon
+        (in_slot S.slot labels.old j) (nat_eq zone (slice_index (zone_numbers row.now.zones.now) j))
+        ways.now row.now.step) }
 {
     let least = least_slots(labels, row, spans, ways);
     labels[row.back * row.states + state] = unless_own(least, zone, row.zones);
@@ -156,7 +157,7 @@ fn fill_row<S: Slots>(
         states,
         back,
         step,
-        times: timed.times,
+        costs: timed.costs,
         zones,
     };
     for state in 0..states {
@@ -188,16 +189,15 @@ pub(crate) fn grow<S: Slots>(labels: &mut Vec<S>, count: usize) -> Result<(), Me
 /// horizon's. A row that isn't there yet is added as its turn comes, so that it is filled while
 /// the processor's cache still holds it.
 pub(crate) fn fill_slots<S: Slots>(
+    alloc: Global,
     labels: &mut Vec<S>,
     spans: &mut [Span],
-    waits: bool,
     timed: &TimedRouter,
     zones: &[ZoneNo],
 ) -> Result<(), Memory>
     requires short { (e : ℕ) → AreShortAt (time_in timed.now) S.FAR e
         timed.now.router.now.ways.items }
     requires spans { length spans.old ≡ length timed.now.router.now.ways.items }
-    requires waits { waits ≡ false → All (λ w. w.wait ≡ 0) timed.now.router.now.ways.items }
     requires row { states_of timed.now ≤ length labels.old.items }
     requires few { length zones.now ≤ S.SLOTS }
     requires zones { All (λ z. z.0 < NO_ZONE) zones.now }
@@ -206,14 +206,15 @@ pub(crate) fn fill_slots<S: Slots>(
     ensures filled { OnOk result (AreSlotRows S.slot (time_in timed.now) S.FAR timed.now.router.now
         (horizon_of timed.now) (zone_numbers zones.now) labels.old.items labels.new.items 0) }
 {
-    let horizon = timed.times.horizon();
+    let horizon = timed.costs.horizon();
     let states = timed.router.state_count();
+    let mut moving = Vec::new(alloc);
     let mut step = horizon;
     while step > 0 {
         step -= 1;
         let back = (horizon - step) as usize;
         grow(labels, back * states + states)?;
-        keep(spans, waits, timed.times, step, timed.router);
+        keep(spans, &mut moving, timed.costs, step, timed.router)?;
         fill_row(labels.as_mut_slice(), back, timed, spans, step, zones);
     }
     Ok(())

@@ -9,12 +9,12 @@ ghost use Rattle.labels.specs.Filling.Timed.{horizon_of, states_of, time_in};
 ghost use Rattle.labels.specs.States.Spans.{AreShortAt};
 ghost use Rattle.labels.specs.ToZone.{zone_numbers};
 ghost use Rattle.labels.specs.declared.states.zone_numbers.TheConstants.{NO_ZONE};
+ghost use Rattle.trip_costs.specs.WalkCosts.{table_in};
 
 use crate::filling::slot_fill::{fill_slots, grow};
 use crate::filling::slots::Slots;
 use crate::filling::table_forms::SlotTable;
 use crate::filling::timed_router::TimedRouter;
-use crate::states::longest_way::most_wait;
 use crate::states::spans::Span;
 use net_core::{Memory, ZoneNo};
 use std::alloc::Global;
@@ -72,7 +72,7 @@ fn begun_of<S: Slots>(
         → IsPut S.FAR (in_slot S.slot labels.items j)
         (get_or (map (λ tail. tail.items) tails.now) j [])) }
 {
-    let rows = timed.times.horizon() as usize + 1;
+    let rows = timed.costs.horizon() as usize + 1;
     let states = timed.router.state_count();
     let mut labels = room_for(alloc, room, rows * states)?;
     grow(&mut labels, states)?;
@@ -99,12 +99,11 @@ fn filled_over<S: Slots>(
         filled.items 0) }
 {
     let mut spans = Vec::from_elem(alloc, NO_SPAN, timed.router.ways.len())?;
-    let waits = most_wait(timed.router) > 0;
-    fill_slots(&mut labels, spans.as_mut_slice(), waits, timed, zones)?;
+    fill_slots(alloc, &mut labels, spans.as_mut_slice(), timed, zones)?;
     Ok(labels)
 }
 
-/// What is left to each zone of a group over a table of link times, in slots over their tails, and
+/// What is left to each zone of a group over the costs, in slots over their tails, and
 /// over labels that are read no more where they are as many.
 pub(crate) fn slot_rows<S: Slots>(
     alloc: Global,
@@ -116,14 +115,15 @@ pub(crate) fn slot_rows<S: Slots>(
 ) -> Result<SlotTable<S>, Memory>
     requires few { length zones.now ≤ S.SLOTS }
     requires zones { All (λ z. z.0 < NO_ZONE) zones.now }
-    requires tails { AreTails timed.now.times.now.free timed.now.router.now most (map (λ tail.
-        tail.items) tails.now) (zone_numbers zones.now) }
-    requires fits { FitsBelow timed.now.times.now timed.now.router.now most S.FAR }
+    requires tails { AreTails (table_in timed.now.costs).free timed.now.router.now most
+        (map (λ tail. tail.items) tails.now) (zone_numbers zones.now) }
+    requires fits { FitsBelow (time_in timed.now) (horizon_of timed.now) timed.now.router.now most
+        S.FAR }
     ensures states { IfOk result (λ table. table.states ≡ states_of timed.now) }
     ensures left { IfOk result (λ table. AreSlotsLeft S.slot (time_in timed.now) S.FAR
         timed.now.router.now table.horizon (zone_numbers zones.now) table.labels.items) }
 {
-    let horizon = timed.times.horizon();
+    let horizon = timed.costs.horizon();
     let begun = begun_of(alloc, timed, tails, room)?;
     let labels = filled_over(alloc, begun, timed, zones)?;
     Ok(SlotTable {

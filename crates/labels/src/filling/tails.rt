@@ -2,7 +2,9 @@
 ghost use Rattle.std.specs.Prelude.{ℕ, ◌+◌, ◌^◌, ◌<◌, ◌≤◌, length, map, slice_index, IfOk};
 ghost use Rattle.labels.specs.Filling.Labels.{far};
 ghost use Rattle.labels.specs.Filling.Tails.{AreTails, FitsBelow};
+ghost use Rattle.labels.specs.Filling.Timed.{horizon_of, time_in};
 ghost use Rattle.labels.specs.ToZone.{zone_numbers};
+ghost use Rattle.trip_costs.specs.WalkCosts.{table_in};
 
 use crate::filling::free_flow::{free_steps, tail_of};
 use crate::filling::no_walk::FAR;
@@ -45,17 +47,18 @@ fn most_in(tail: &[u64], before: u64) -> u64
     most
 }
 
-/// The tail of each zone over a table of link times.
+/// The tail of each zone over the costs.
 pub(crate) fn tails_of(
     alloc: Global,
     timed: &TimedRouter,
     zones: &[ZoneNo],
 ) -> Result<Tails, Memory>
-    ensures tails { IfOk result (λ tails. AreTails timed.now.times.now.free timed.now.router.now
-        tails.most (map (λ tail. tail.items) tails.zones.items) (zone_numbers zones.now)) }
+    ensures tails { IfOk result (λ tails. AreTails (table_in timed.now.costs).free
+        timed.now.router.now tails.most (map (λ tail. tail.items) tails.zones.items)
+        (zone_numbers zones.now)) }
     ensures low { IfOk result (λ tails. tails.most < far) }
 {
-    let free = free_steps(alloc, timed.times, timed.links)?;
+    let free = free_steps(alloc, timed)?;
     let steps = free.as_slice();
     let back = ways_back(alloc, timed.router, steps)?;
     let mut tails = Vec::new(alloc);
@@ -71,11 +74,11 @@ pub(crate) fn tails_of(
 /// The most steps by which what is left may pass the most that a tail has, with one way on before
 /// it: those up to the horizon, and twice those of the longest way on.
 pub(crate) fn reach_of(timed: &TimedRouter) -> u64
-    ensures fits { (most beyond : ℕ) → result + most < beyond → FitsBelow timed.now.times.now
-        timed.now.router.now most beyond }
+    ensures fits { (most beyond : ℕ) → result + most < beyond → FitsBelow (time_in timed.now)
+        (horizon_of timed.now) timed.now.router.now most beyond }
     ensures low { result < 2 ^ 40 }
 {
     let wait = most_wait(timed.router) as u64;
-    let longest = wait + most_time(timed.times, timed.links) as u64;
-    timed.times.horizon() as u64 + 2 * longest
+    let longest = wait + most_time(timed.costs.times(), timed.links) as u64;
+    timed.costs.horizon() as u64 + 2 * longest
 }

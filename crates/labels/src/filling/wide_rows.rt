@@ -66,12 +66,12 @@ fn rows_over(
     ensures low { IfOk result (λ rows. All (λ x. x ≤ far) rows.items) }
 {
     let states = timed.router.state_count();
-    let mut rows = Vec::from_elem(alloc, FAR, (timed.times.horizon() as usize + 1) * states)?;
+    let mut rows = Vec::from_elem(alloc, FAR, (timed.costs.horizon() as usize + 1) * states)?;
     fill_over(rows.as_mut_slice(), tail, timed, zone);
     Ok(rows)
 }
 
-// What is left to a zone over a table of link times.
+// What is left to a zone over the costs.
 fn row_of(alloc: Global, timed: &TimedRouter, zone: u32) -> Result<Vec<u64>, Memory>
     ensures left { IfOk result (λ row. AreLeft (time_in timed.now) (rest_in (states_of timed.now)
         (horizon_of timed.now) row.items) timed.now.router.now zone) }
@@ -79,8 +79,8 @@ fn row_of(alloc: Global, timed: &TimedRouter, zone: u32) -> Result<Vec<u64>, Mem
         timed.now) }
     ensures low { IfOk result (λ row. All (λ x. x ≤ far) row.items) }
 {
-    let _sound = timed.times.horizon();
-    let free = free_steps(alloc, timed.times, timed.links)?;
+    let _sound = timed.costs.horizon();
+    let free = free_steps(alloc, timed)?;
     let steps = free.as_slice();
     let back = ways_back(alloc, timed.router, steps)?;
     let tail = tail_of(alloc, timed.router, &back, steps, zone)?;

@@ -1,36 +1,40 @@
 // Least times and chosen walks to a few zones at once.
 ghost use Rattle.std.specs.Prelude.{◌≡◌, ◌≢◌, ◌<◌, ◌≤◌, length, slice_index, All, IfOk};
 ghost use Rattle.net_core.specs.Network.{zones as zones_of};
-ghost use Rattle.dta_model.specs.LinkTimes.{time_at};
 ghost use Rattle.labels.specs.Named.{zone_named};
 ghost use Rattle.labels.specs.ToZone.{AreOfFirst, destination, zone_numbers, TellsLeast};
-ghost use Rattle.labels.specs.ToZone.{TellsWalk};
+ghost use Rattle.labels.specs.ToZone.{TellsFound, TellsWalk};
+ghost use Rattle.trip_costs.specs.WalkCosts.{table_in, tables};
+ghost use Rattle.trip_costs.specs.Timings.{timing_of};
 
 use crate::filling::fill_table::{Filled, table_of};
 use crate::filling::label_table::LabelTable;
 use crate::filling::spare::Spare;
 use crate::filling::timed_router::TimedRouter;
-use crate::reading::least::least_label;
+use crate::reading::fewest::fewest_walk_of;
+use crate::reading::found::Walk;
+use crate::reading::least::best_of;
 use crate::reading::walk::walk_of;
+use crate::reading::walk_lists::WalkLists;
 use crate::reading::zone_labels::ZoneLabels;
 use crate::states::by_zone::{ByZone, links_by_zone};
 use crate::states::network_router::router_of;
 use crate::states::router::Router;
 use dta_model::Route;
-use link_times::LinkTimes;
-use net_core::{LinkNo, Memory, Net, ZoneNo};
+use net_core::{Memory, Net, ZoneNo};
 use std::alloc::Global;
 use std::marker::Model;
+use trip_costs::WalkCosts;
 
 /// The most zones of a group.
 pub const MOST_GROUP: usize = 8;
 
-/// The steps that are left to each of a few zones, from every link at every step, by a table of
-/// link times.
+/// The steps that are left to each of a few zones, from every link at every step, by costs of links
+/// or of whole trips.
 #[derive(Drop)]
 pub struct GroupLabels<'a> {
     net: &'a Net,
-    times: &'a LinkTimes,
+    costs: WalkCosts<'a>,
     zones: Vec<ZoneNo>,
     router: Router,
     firsts: ByZone,
@@ -49,24 +53,24 @@ impl<'a> Model for GroupLabels<'a> {
 }
 
 impl<'a> GroupLabels<'a> {
-    /// The labels of one to eight zones by a table of link times.
+    /// The labels of one to eight zones by the costs.
     pub fn to_zones(
         alloc: Global,
         net: &'a Net,
-        times: &'a LinkTimes,
+        costs: WalkCosts<'a>,
         zones: &[ZoneNo],
     ) -> Result<Self, Memory>
         requires some { 1 ≤ length zones.now }
         requires few { length zones.now ≤ MOST_GROUP }
-        requires table { length times.now.free ≡ length net.now.links }
+        requires table { length (table_in costs).free ≡ length net.now.links }
         requires zones { All (λ z. z.0 < length (zones_of net.now.nodes)) zones.now }
         ensures { IfOk result (λ labels. labels ≡ record {
           net = net.now;
-          times = times.now;
+          costs = tables costs.entry;
           zones = zone_numbers zones.now;
         }) }
     {
-        Self::to_first(alloc, net, times, zones, zones.len(), Spare::none(alloc))
+        Self::to_first(alloc, net, costs, zones, zones.len(), Spare::none(alloc))
     }
 
     /// The labels of the first of some zones, of so many of them at least, in memory of labels
@@ -74,23 +78,23 @@ impl<'a> GroupLabels<'a> {
     pub fn to_first(
         alloc: Global,
         net: &'a Net,
-        times: &'a LinkTimes,
+        costs: WalkCosts<'a>,
         zones: &[ZoneNo],
         least: usize,
         spare: Spare,
     ) -> Result<Self, Memory>
         requires some { 1 ≤ least }
         requires least { (least ≤ length zones.now) × (least ≤ MOST_GROUP) }
-        requires table { length times.now.free ≡ length net.now.links }
+        requires table { length (table_in costs).free ≡ length net.now.links }
         requires zones { All (λ z. z.0 < length (zones_of net.now.nodes)) zones.now }
-        ensures first { IfOk result (AreOfFirst net.now times.now zones.now) }
+        ensures first { IfOk result (AreOfFirst net.now (tables costs.entry) zones.now) }
         ensures enough { IfOk result (λ labels. least ≤ length labels.zones) }
     {
         let router = router_of(alloc, net)?;
         let firsts = links_by_zone(alloc, net)?;
         let timed = TimedRouter {
             router: &router,
-            times,
+            costs,
             links: net.link_count(),
         };
         let filled = table_of(alloc, &timed, zones, least, spare)?;
@@ -101,7 +105,7 @@ impl<'a> GroupLabels<'a> {
         } = filled;
         Ok(GroupLabels {
             net,
-            times,
+            costs,
             zones,
             router,
             firsts,
@@ -120,7 +124,7 @@ impl<'a> GroupLabels<'a> {
     pub fn into_spare(self, alloc: Global) -> Spare {
         let GroupLabels {
             net: _,
-            times: _,
+            costs: _,
             zones: _,
             router: _,
             firsts: _,
@@ -135,7 +139,7 @@ impl<'a> GroupLabels<'a> {
         requires place { place < length self.now.zones }
         requires origin { origin.0 < length (zones_of self.now.net.nodes) }
         requires other { origin.0 ≢ slice_index self.now.zones place }
-        ensures { TellsLeast (time_at self.now.times) self.now.net
+        ensures { TellsLeast (timing_of self.now.costs) self.now.net
             (zone_named self.now.net origin.0) (destination self.now place) step result }
     {
         let firsts = self.firsts.get(origin.0);
@@ -145,14 +149,17 @@ impl<'a> GroupLabels<'a> {
             table: &self.labels,
             place,
             router: &self.router,
-            times: self.times,
+            costs: self.costs,
         };
-        least_label(&labels, firsts, step as u64)
+        match best_of(&labels, firsts, step as u64) {
+            Some(first) => Some(first.time),
+            None => None,
+        }
     }
 
     /// The chosen walk from a zone to the zone at a place of the group, started in a step: of the
-    /// walks of the least time the first in the order of link numbers. None where there is no
-    /// walk.
+    /// walks of the least time the first in the order of link numbers, and by trips the first of
+    /// those with the fewest links. None where there is no walk.
     pub fn walk(
         &self,
         alloc: Global,
@@ -163,27 +170,30 @@ impl<'a> GroupLabels<'a> {
         requires place { place < length self.now.zones }
         requires origin { origin.0 < length (zones_of self.now.net.nodes) }
         requires other { origin.0 ≢ slice_index self.now.zones place }
-        ensures { IfOk result (λ route. TellsWalk (time_at self.now.times) self.now.net
+        ensures { IfOk result (λ route. TellsWalk (timing_of self.now.costs) self.now.net
             (zone_named self.now.net origin.0) (destination self.now place) step route) }
     {
-        let mut links = Vec::new(alloc);
-        self.walk_in(alloc, &mut links, place, origin, step)
+        let mut lists = WalkLists::new(alloc);
+        match self.walk_in(alloc, &mut lists, place, origin, step)? {
+            Some(walk) => Ok(Some(walk.route)),
+            None => Ok(None),
+        }
     }
 
-    /// The same, gathered in a list that serves the next walk too.
+    /// The same with the least time, found in lists that serve the next walk too.
     pub fn walk_in(
         &self,
         alloc: Global,
-        links: &mut Vec<LinkNo>,
+        lists: &mut WalkLists,
         place: usize,
         origin: ZoneNo,
         step: u32,
-    ) -> Result<Option<Route>, Memory>
+    ) -> Result<Option<Walk>, Memory>
         requires place { place < length self.now.zones }
         requires origin { origin.0 < length (zones_of self.now.net.nodes) }
         requires other { origin.0 ≢ slice_index self.now.zones place }
-        ensures { IfOk result (λ route. TellsWalk (time_at self.now.times) self.now.net
-            (zone_named self.now.net origin.0) (destination self.now place) step route) }
+        ensures { IfOk result (λ found. TellsFound (timing_of self.now.costs) self.now.net
+            (zone_named self.now.net origin.0) (destination self.now place) step found) }
     {
         let firsts = self.firsts.get(origin.0);
         let labels = ZoneLabels {
@@ -192,8 +202,14 @@ impl<'a> GroupLabels<'a> {
             table: &self.labels,
             place,
             router: &self.router,
-            times: self.times,
+            costs: self.costs,
         };
-        walk_of(alloc, links, &labels, firsts, step as u64)
+        match self.costs {
+            WalkCosts::Links(_) => walk_of(alloc, &mut lists.links, &labels, firsts, step as u64),
+            WalkCosts::Trips(_) => {
+                let WalkLists { links, search } = lists;
+                fewest_walk_of(alloc, links, search, &labels, firsts, step as u64)
+            }
+        }
     }
 }

@@ -1,51 +1,75 @@
 // Least times by what is left.
-ghost use Rattle.std.specs.Prelude.{◌≡◌, ◌<◌, ◌^◌, length, All};
-ghost use Rattle.labels.specs.Reading.Serves.{lesser, LeastSoFar};
-ghost use Rattle.labels.specs.Reading.OfZone.{AreFit, label_to};
+ghost use Rattle.std.specs.Prelude.{◌≡◌, ℕ, ◌+◌, ◌<◌, ◌^◌, List, length, All, Option, Some};
+ghost use Rattle.std.specs.Prelude.{slice_get};
+ghost use Rattle.labels.specs.Reading.Serves.{BestSoFar};
+ghost use Rattle.labels.specs.Reading.OfZone.{AreFit, first_to, label_to};
+ghost use Rattle.trip_costs.specs.WalkCosts.{table_in};
 
 use crate::filling::no_walk::FAR;
+use crate::reading::best::First;
 use crate::reading::zone_labels::ZoneLabels;
 use net_core::LinkNo;
 
 // The time from the entry of a link at a step, where there is a walk.
 #[tactic(auto, using(crate::proofs::OfReading::Leasts::labels))]
-pub(crate) fn label_at(labels: &ZoneLabels, link: u32, step: u64) -> Option<u64>
+fn label_at(labels: &ZoneLabels, link: u32, step: u64) -> Option<u64>
     requires fit { AreFit labels.now }
-    requires link { link < length labels.now.times.now.free }
+    requires link { link < length (table_in labels.now.costs).free }
     requires step { step < 2 ^ 63 }
-    ensures { result ≡ label_to labels.now link step }
+    ensures is { result ≡ label_to labels.now link step }
+    ensures low { (x : ℕ) → result ≡ Some x → x < 2 ^ 63 }
 {
-    let time = labels.times.at(LinkNo(link), step) as u64;
+    let time = labels.costs.steps(LinkNo(link), step) as u64;
     let rest = labels
         .table
         .rest_at(labels.place, labels.router.state(link), step + time);
     if rest < FAR { Some(time + rest) } else { None }
 }
 
-// The smaller of two times, where there is one.
-fn smaller(a: Option<u64>, b: Option<u64>) -> Option<u64>
-    ensures { result ≡ lesser a b }
+// The time from a step on over a first link, where there is a walk: from the step to its entry, and
+// from there on.
+pub(crate) fn first_at(labels: &ZoneLabels, link: u32, step: u64) -> Option<u64>
+    requires fit { AreFit labels.now }
+    requires link { link < length (table_in labels.now.costs).free }
+    requires step { step < 2 ^ 40 }
+    ensures { result ≡ first_to labels.now step link }
 {
-    match a {
-        None => b,
-        Some(m) => match b {
-            None => a,
-            Some(x) => if x < m { b } else { a },
-        },
+    let entry = labels.costs.enter(LinkNo(link), step);
+    match label_at(labels, link, entry) {
+        Some(time) => Some(entry - step + time),
+        None => None,
     }
 }
 
-/// The least label of some links.
-#[tactic(auto, using(crate::proofs::OfReading::Leasts::least_so_far))]
-pub(crate) fn least_label(labels: &ZoneLabels, firsts: &[u32], step: u64) -> Option<u64>
-    requires fit { AreFit labels.now }
-    requires firsts { All (λ l. l < length labels.now.times.now.free) firsts.now }
-    requires step { step < 2 ^ 63 }
-    ensures { LeastSoFar (λ l. label_to labels.now l step) firsts.now (length firsts.now) result }
+// The better of the best link so far and another one, which comes after it.
+fn better(best: Option<First>, link: u32, time: Option<u64>) -> Option<First>
+    ensures { (label : ℕ → Option ℕ) (firsts : List ℕ) (count : ℕ)
+        → slice_get firsts count ≡ Some link → time ≡ label link
+        → BestSoFar label firsts count best → BestSoFar label firsts (count + 1) result }
 {
-    let mut least = None;
-    for link in firsts {
-        least = smaller(least, label_at(labels, *link, step));
+    match (best, time) {
+        (_, None) => best,
+        (None, Some(time)) => Some(First { link, time }),
+        (Some(first), Some(time)) => {
+            if time < first.time {
+                Some(First { link, time })
+            } else {
+                best
+            }
+        }
     }
-    least
+}
+
+/// The first of some links over which the least time from a step on is met.
+pub(crate) fn best_of(labels: &ZoneLabels, firsts: &[u32], step: u64) -> Option<First>
+    requires fit { AreFit labels.now }
+    requires firsts { All (λ l. l < length (table_in labels.now.costs).free) firsts.now }
+    requires step { step < 2 ^ 40 }
+    ensures { BestSoFar (first_to labels.now step) firsts.now (length firsts.now) result }
+{
+    let mut best = None;
+    for link in firsts {
+        best = better(best, *link, first_at(labels, *link, step));
+    }
+    best
 }

@@ -15,6 +15,7 @@ use serial_loader::load_plain;
 use std::alloc::Global;
 use std::test::Fail;
 use std::thread::Threads;
+use trip_costs::WalkCosts;
 
 // The link times of the plain loading, by buckets of 50 steps.
 fn times_of(alloc: Global, loading: &Loading) -> Result<LinkTimes, Memory>
@@ -57,8 +58,8 @@ fn after_one<R: AllocGlobal + Threads + Sync>(
             ..loading
         },
     )?;
-    let next = next_routes(rt, net, trips, &times, &first, 1, 1)?;
-    let line = gap(alloc, net, &times, trips, &first)?;
+    let next = next_routes(rt, net, trips, WalkCosts::Links(&times), &first, 1, 1)?;
+    let line = gap(alloc, net, WalkCosts::Links(&times), trips, &first)?;
     let over_two = next
         .as_slice()
         .iter()

@@ -7,6 +7,7 @@ use link_times::LinkTimes;
 use net_core::{Memory, Net, ZoneNo};
 use std::alloc::Global;
 use std::test::Fail;
+use trip_costs::WalkCosts;
 
 // The free-flow times of a network.
 fn free(alloc: Global, net: &Net) -> Result<LinkTimes, Memory>
@@ -22,7 +23,7 @@ fn zone_tells(alloc: Global, net: &Net) -> Result<bool, Memory> {
     if net.zone_count() <= 1 {
         return Ok(false);
     }
-    let labels = Labels::to_zone(alloc, net, &times, ZoneNo(1))?;
+    let labels = Labels::to_zone(alloc, net, WalkCosts::Links(&times), ZoneNo(1))?;
     let walk = labels.walk(alloc, ZoneNo(0), 95)?;
     Ok(labels.least(ZoneNo(0), 95) == Some(20) && walk.is_some())
 }

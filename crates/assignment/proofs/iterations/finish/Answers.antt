@@ -1,3 +1,4 @@
+use Rattle.trip_costs.specs.Timings.{Links}
 use Rattle.std.proofs.Common.{refl, subst}
 use Rattle.dta_model.specs.LinkTimes.{TimeTable, time_at}
 use Rattle.gap.specs.Gap.{IsGapLine}
@@ -16,7 +17,7 @@ returns g c =
     let routes = c.args.it.routes in record {
       same = refl;
       pushed = c.in_ok-push.ensures.items;
-      gap = subst (λ (t : TimeTable). IsGapLine (time_at t) a.net.now a.trips.now routes c.in_ok-line.line)
+      gap = subst (λ (t : TimeTable). IsGapLine (Links (time_at t)) a.net.now a.trips.now routes c.in_ok-line.line)
           c.in_ok-times.ensures.times c.in_ok-line.ensures;
       last = record {
         routed = c.requires.routes;

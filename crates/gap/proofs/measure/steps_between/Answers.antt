@@ -1,6 +1,6 @@
+use Rattle.trip_costs.specs.WalkCosts.{timing}
 use Rattle.std.proofs.Common.{◌<◌, length, arith, refl, sym, ◌∙◌, subst, ap, Some}
 use Rattle.std.proofs.lemmas.Option.{slice_get-get_or, slice_get_read}
-use Rattle.dta_model.specs.LinkTimes.{time_at}
 use Rattle.gap.specs.Gap.{route_time}
 use Rattle.gap.proofs.Sums.{links_within, over-more, route_time-is}
 use Rattle.gap.proofs.measure.steps_between.Goals as goal
@@ -21,11 +21,11 @@ loop-v-preserved c =
     let v = c.loop-v.v in
     let routes = c.args.routes.now in
     let trips = c.args.timed.now.trips.now in
-    let at = time_at c.args.timed.now.times.now in
+    let costs = timing c.args.timed.now.costs in
     let net = c.args.timed.now.net.now in
     let inv = c.loop-v.invariant in
     let there : v < length trips = omega (arith, c.loop-v-test.true, c.requires.to) in
     let inside : v < length routes = subst (λ n. v < n) (sym c.requires.routes.each) there in
-    let more = over-more v (route_time at net trips routes) in
-    let here = route_time-is at net trips routes v _ c.index-routes-v.result (slice_get-get_or trips v (record { number = 0; origin = 0; destination = 0; departure = 0 }) there) (slice_get_read routes (length routes) v c.index-routes-v.result refl inside c.index-routes-v.is) in
+    let more = over-more v (route_time costs net trips routes) in
+    let here = route_time-is costs net trips routes v _ c.index-routes-v.result (slice_get-get_or trips v (record { number = 0; origin = 0; destination = 0; departure = 0 }) there) (slice_get_read routes (length routes) v c.index-routes-v.result refl inside c.index-routes-v.is) in
     (omega (arith, more, here, inv.0, c.route_steps-total.ensures.is), omega (arith, inv.1, c.route_steps-total.ensures.low))

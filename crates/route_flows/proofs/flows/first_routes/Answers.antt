@@ -1,4 +1,5 @@
 use Rattle.std.proofs.Common.{◌∙◌, ap, length}
+use Rattle.trip_costs.specs.Timings.{Links}
 use Rattle.route_flows.specs.Averages.{free_time}
 use Rattle.route_flows.proofs.Averaged.{chosen_walk}
 use Rattle.route_flows.proofs.FreeTimes.{first_are, free-many, nobody_starts, table_are}
@@ -18,7 +19,7 @@ returns-clause-table g c bucket some =
 
 pub returns-clause-walks : goal.returns-clause-walks
 returns-clause-walks g c =
-    chosen_walk (free_time c.args.net.now) c.args.net.now c.args.trips.now c.of.result
+    chosen_walk (Links (free_time c.args.net.now)) c.args.net.now c.args.trips.now c.of.result
     (first_are c.args.net.now c.args.trips.now c.in_ok-times.times c.deref.result.now c.in_ok-told.told.walks.items c.of.result c.in_ok-times.ensures.table (c.deref.ensures.value ∙ c.in_ok-asks.ensures) c.in_ok-told.ensures.walks c.of.ensures)
 
 pub returns-clause-unstarted : goal.returns-clause-unstarted

@@ -1,5 +1,6 @@
 use Rattle.std.proofs.Common.{◌∙◌, ap, length, rules, subst, sym, true}
 use Rattle.time_routes.specs.Destinations.{AreTold}
+use Rattle.trip_costs.specs.Timings.{Links}
 use Rattle.route_flows.specs.Averages.{AreStartedRoutes, free_time}
 use Rattle.start_table.specs.Starts.{TellsStart}
 use Rattle.route_flows.proofs.Averaged.{lent}
@@ -29,5 +30,5 @@ returns-clause-table g c bucket some =
 
 pub returns-clause-walks : goal.returns-clause-walks
 returns-clause-walks g c =
-    started_walk (free_time c.args.net.now) c.args.net.now c.args.start.now c.args.trips.now c.of.result
+    started_walk (Links (free_time c.args.net.now)) c.args.net.now c.args.start.now c.args.trips.now c.of.result
     (returns-clause-started g c)

@@ -1,3 +1,4 @@
+use Rattle.trip_costs.specs.Timings.{Links, OfLinks, timing_of}
 use Rattle.std.proofs.Common.{◌≡◌, ◌+◌, ◌<◌, ◌≤◌, ap, arith, length, sym, subst, take, ◌∙◌}
 use Rattle.std.specs.Prelude.{slice_index, All}
 use Rattle.std.proofs.lemmas.List.{length-map}
@@ -27,7 +28,7 @@ pub leasts_by_start-requires-clause-place : goal.leasts_by_start-requires-clause
 leasts_by_start-requires-clause-place c =
     let group = c.in_ok-group.group.items in
     let place = c.loop-place.place in
-    let is = labels-of c.args.net.now c.args.times.now c.in_ok-labels.labels c.deref.result.now group c.in_ok-labels.ensures c.deref.ensures.value in
+    let is = labels-of c.args.net.now (OfLinks c.args.times.now) c.in_ok-labels.labels c.deref.result.now group c.in_ok-labels.ensures c.deref.ensures.value in
     let many = numbers-many group c.args.first c.min-count.result c.in_ok-group.ensures in
     subst (λ l. place < length l.zones) (sym is)
     (subst (λ n. place < n) (sym (length-map group (λ z. z.0) ∙ many)) c.loop-place-test.true)
@@ -36,27 +37,27 @@ pub leasts_by_start-requires-clause-zone : goal.leasts_by_start-requires-clause-
 leasts_by_start-requires-clause-zone c =
     let group = c.in_ok-group.group.items in
     let place = c.loop-place.place in
-    let is = labels-of c.args.net.now c.args.times.now c.in_ok-labels.labels c.deref.result.now group c.in_ok-labels.ensures c.deref.ensures.value in
+    let is = labels-of c.args.net.now (OfLinks c.args.times.now) c.in_ok-labels.labels c.deref.result.now group c.in_ok-labels.ensures c.deref.ensures.value in
     ap (λ l. slice_index l.zones place) is
     ∙ number-at group c.args.first c.min-count.result place c.in_ok-group.ensures c.loop-place-test.true
 
 pub loop-place-preserved : goal.loop-place-preserved
 loop-place-preserved c =
     let net = c.args.net.now in
-    let at = time_at c.args.times.now in
+    let costs = Links (time_at c.args.times.now) in
     let starts = c.args.starts.now in
     let first = c.args.first in
     let place = c.loop-place.place in
     let group = c.in_ok-group.group.items in
     let told = c.in_ok-leasts_by_start.field-0 in
-    let is = labels-of net c.args.times.now c.in_ok-labels.labels c.deref.result.now group c.in_ok-labels.ensures c.deref.ensures.value in
+    let is = labels-of net (OfLinks c.args.times.now) c.in_ok-labels.labels c.deref.result.now group c.in_ok-labels.ensures c.deref.ensures.value in
     let here : first + place < length (zones net.nodes) =
     let test = c.loop-place-test.true in let m = c.min-count.ensures in let z = c.zone_count-zones.ensures in let f = c.requires.first in omega (arith, test, m, z, f) in
     let next : first + place + 1 ≡ first + (place + 1) = omega arith in
-    let are = subst (λ l. AreTo (time_at l.times) l.net starts (destination l place) told.items) is c.in_ok-leasts_by_start.ensures in
-    let to : AreTo at net starts (zone_named net (first + place)) told.items =
-    subst (λ z. AreTo at net starts (zone_named net z) told.items)
+    let are = subst (λ l. AreTo (timing_of l.costs) l.net starts (destination l place) told.items) is c.in_ok-leasts_by_start.ensures in
+    let to : AreTo costs net starts (zone_named net (first + place)) told.items =
+    subst (λ z. AreTo costs net starts (zone_named net z) told.items)
     (number-at group first c.min-count.result place c.in_ok-group.ensures c.loop-place-test.true) are in
-    subst (λ n. AreBetween at net starts (take n (zones net.nodes)) c.push.new.self.items) next
-    (subst (λ ls. AreBetween at net starts (take (first + place + 1) (zones net.nodes)) ls) (sym c.in_ok-push.ensures.items)
-    (zip-more (λ d to. AreTo at net starts d to.items) (zones net.nodes) c.loop-place.to_each.items (first + place) 0 told here c.loop-place.invariant to))
+    subst (λ n. AreBetween costs net starts (take n (zones net.nodes)) c.push.new.self.items) next
+    (subst (λ ls. AreBetween costs net starts (take (first + place + 1) (zones net.nodes)) ls) (sym c.in_ok-push.ensures.items)
+    (zip-more (λ d to. AreTo costs net starts d to.items) (zones net.nodes) c.loop-place.to_each.items (first + place) 0 told here c.loop-place.invariant to))

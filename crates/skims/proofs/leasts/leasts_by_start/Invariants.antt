@@ -1,10 +1,10 @@
+use Rattle.trip_costs.specs.Timings.{timing_of}
 use Rattle.std.proofs.Common.{take}
-use Rattle.dta_model.specs.LinkTimes.{time_at}
 use Rattle.labels.specs.ToZone.{destination}
 use Rattle.skims.specs.Leasts.{AreTo}
 use Rattle.skims.proofs.leasts.leasts_by_start.Given as goal
 
 abbrev pub invariant-loop-start : goal.invariant-loop-start
 invariant-loop-start l =
-    AreTo (time_at l.labels.times) l.labels.net (take l.start-index l.starts)
+    AreTo (timing_of l.labels.costs) l.labels.net (take l.start-index l.starts)
     (destination l.labels l.place) l.leasts.items

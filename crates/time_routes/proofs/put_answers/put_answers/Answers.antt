@@ -1,9 +1,9 @@
+use Rattle.trip_costs.specs.WalkCosts.{timing}
 use Rattle.std.proofs.Common.{◌≡◌, ◌∙◌, ◌∷◌, [], ◌++◌, length, rules, subst, sym}
 use Rattle.std.specs.Prelude.{vec_len}
 use Rattle.std.proofs.lemmas.Iterator.Adapters.{YieldsList-from_vec}
 use Rattle.std.proofs.lemmas.Iterator.Consumers.{YieldsList-end}
 use Rattle.std.proofs.lemmas.List.{map-id}
-use Rattle.dta_model.specs.LinkTimes.{time_at}
 use Rattle.time_routes.specs.Answers.{answered}
 use Rattle.time_routes.specs.Searches.{TellsMore}
 use Rattle.time_routes.specs.Tell.{Stands}
@@ -19,7 +19,7 @@ loop-answer-preserved c =
       tt,
       tt,
       c.put.ensures.many,
-      tells_then (time_at s.times.now) s.net.now s.trips.now s.asks.now (Stands (answered before)) (λ v. v ≡ answer.vehicle) (Stands (answered (before ++ answer ∷ []))) c.args.told.now c.loop-answer.told c.put.new.told
+      tells_then (timing s.costs) s.net.now s.trips.now s.asks.now (Stands (answered before)) (λ v. v ≡ answer.vehicle) (Stands (answered (before ++ answer ∷ []))) c.args.told.now c.loop-answer.told c.put.new.told
           c.loop-answer.invariant.3 c.put.ensures.put.leasts c.put.ensures.put.walks (answered_then before answer),
     )
 

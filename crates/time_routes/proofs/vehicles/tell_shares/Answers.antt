@@ -1,6 +1,6 @@
+use Rattle.trip_costs.specs.WalkCosts.{timing}
 use Rattle.std.proofs.Common.{◌≡◌, ◌+◌, ◌*◌, ◌≤◌, ◌∙◌, arith, length, subst, sym}
 use Rattle.std.specs.Fork.{slice_chunk}
-use Rattle.dta_model.specs.LinkTimes.{time_at}
 use Rattle.time_routes.specs.Searches.{GoesToAny}
 use Rattle.time_routes.specs.Tell.{LeadsToFirst}
 use Rattle.labels.specs.declared.reading.group_labels.TheConstants.{MOST_GROUP}
@@ -14,15 +14,15 @@ answers_of_group-requires-clause-inside g c = c.count-count.ensures.inside c.loo
 pub loop-group-preserved : goal.loop-group-preserved
 loop-group-preserved g c =
     let s = c.args.groups.now.search.now in
-    let at = time_at s.times.now in
+    let costs = timing s.costs in
     let net = s.net.now in
     let trips = s.trips.now in
     let asks = s.asks.now in
     let named = c.args.groups.now.zones.now in
     let n = c.loop-group.group in
     let chunk = slice_chunk named MOST_GROUP n in
-    let put = told_by at net trips asks (GoesToAny s chunk) c.in_ok-answers.answers.items c.loop-group.told c.put_answers.new.told c.in_ok-answers.ensures.answers c.put_answers.ensures.put in
-    let both = tells_then at net trips asks (LeadsToFirst net trips asks named (n * MOST_GROUP)) (GoesToAny s chunk) (LeadsToFirst net trips asks named ((n + 1) * MOST_GROUP)) c.args.told.now c.loop-group.told c.put_answers.new.told
+    let put = told_by costs net trips asks (GoesToAny s chunk) c.in_ok-answers.answers.items c.loop-group.told c.put_answers.new.told c.in_ok-answers.ensures.answers c.put_answers.ensures.put in
+    let both = tells_then costs net trips asks (LeadsToFirst net trips asks named (n * MOST_GROUP)) (GoesToAny s chunk) (LeadsToFirst net trips asks named ((n + 1) * MOST_GROUP)) c.args.told.now c.loop-group.told c.put_answers.new.told
     c.loop-group.invariant.3 put.leasts put.walks (chunk_more net trips asks named MOST_GROUP n) in
     (c.answers_of_group.ensures.many ∙ c.loop-group.invariant.0, c.in_ok-answers.ensures.found, c.put_answers.ensures.many, both)
 
@@ -33,4 +33,4 @@ returns g c =
     let n = c.loop-group.group in
     let end : n ≡ c.count-count.result = omega (arith, c.loop-group-test.false, c.loop-group.auto.group-end) in
     let all : length named ≤ n * MOST_GROUP = subst (λ k. length named ≤ k * MOST_GROUP) (sym end) c.count-count.ensures.all in
-    tells_fewer (time_at s.times.now) s.net.now s.trips.now s.asks.now (LeadsToFirst s.net.now s.trips.now s.asks.now named (n * MOST_GROUP)) (GoesToAny s named) c.args.told.now c.loop-group.told c.loop-group.invariant.3 (λ v h. in_all s.net.now s.trips.now s.asks.now named (n * MOST_GROUP) v all h)
+    tells_fewer (timing s.costs) s.net.now s.trips.now s.asks.now (LeadsToFirst s.net.now s.trips.now s.asks.now named (n * MOST_GROUP)) (GoesToAny s named) c.args.told.now c.loop-group.told c.loop-group.invariant.3 (λ v h. in_all s.net.now s.trips.now s.asks.now named (n * MOST_GROUP) v all h)

@@ -2,13 +2,13 @@ use Rattle.std.proofs.Common.{◌≡◌, ◌+◌, ◌∙◌, arith}
 use Rattle.std.specs.Prelude.{slice_index_or}
 use Rattle.net_core.specs.Network.{turn}
 use Rattle.dta_model.specs.TimedWalks.{penalty_steps}
-use Rattle.trip_costs.specs.TripCosts.{steps_by_trips}
+use Rattle.trip_costs.specs.WalkCosts.{steps_in}
 use Rattle.trip_costs.proofs.Walks.{arrival_last, arrival_more}
 use Rattle.trip_costs.proofs.walked.arrival.Goals as goal
 
 pub loop-next-preserved : goal.loop-next-preserved
 loop-next-preserved c =
-    let at = steps_by_trips c.args.exits.now in
+    let at = steps_in c.args.costs.now in
     let l = c.loop-next.link.0 in
     let i = c.loop-next.next-index in
     let inv = c.loop-next.invariant in
@@ -23,4 +23,4 @@ loop-next-preserved c =
 
 pub returns-clause-is : goal.returns-clause-is
 returns-clause-is c =
-    arrival_last (steps_by_trips c.args.exits.now) c.args.net.now c.loop-next.step c.steps_at-2.result c.loop-next.link.0 c.args.others.now c.loop-next.next-index c.loop-next-test.false c.steps_at-2.ensures.is ∙ c.loop-next.invariant.0
+    arrival_last (steps_in c.args.costs.now) c.args.net.now c.loop-next.step c.steps_at-2.result c.loop-next.link.0 c.args.others.now c.loop-next.next-index c.loop-next-test.false c.steps_at-2.ensures.is ∙ c.loop-next.invariant.0

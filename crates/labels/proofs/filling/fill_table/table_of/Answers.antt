@@ -1,7 +1,7 @@
 use Rattle.std.proofs.Common.{◌≡◌, ◌∙◌, ◌≤◌, ap, arith, length, map, subst, sym, take}
 use Rattle.std.proofs.lemmas.List.{length-take-le, take-map, take-take}
 use Rattle.std.specs.Prelude.{slice_index}
-use Rattle.dta_model.specs.LinkTimes.{time_at}
+use Rattle.trip_costs.specs.WalkCosts.{steps_in, table_in}
 use Rattle.labels.specs.Filling.Labels.{in_slot, rest_in}
 use Rattle.labels.specs.Filling.SlotForms.{four_slot}
 use Rattle.labels.specs.Filling.Tails.{AreTails, widened}
@@ -13,7 +13,7 @@ use Rattle.labels.proofs.filling.fill_table.table_of.Goals as goal
 
 pub slot_rows-requires-then-reach-2-clause-tails : goal.slot_rows-requires-then-reach-2-clause-tails
 slot_rows-requires-then-reach-2-clause-tails c =
-    let free = c.args.timed.now.times.now.free in
+    let free = (table_in c.args.timed.now.costs).free in
     let r = c.args.timed.now.router.now in
     let most = c.in_ok-tails.tails.most in
     let rows = c.in_ok-tails.tails.zones.items in
@@ -30,7 +30,7 @@ slot_rows-requires-then-reach-2-clause-tails c =
 
 pub returns-then-reach-2-clause-left : goal.returns-then-reach-2-clause-left
 returns-then-reach-2-clause-left c =
-    let at = time_at c.args.timed.now.times.now in
+    let at = steps_in c.args.timed.now.costs in
     let r = c.args.timed.now.router.now in
     let n = c.max-count.result in
     let zones = zone_numbers (take n c.args.zones.now) in

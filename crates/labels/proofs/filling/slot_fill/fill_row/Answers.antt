@@ -1,7 +1,7 @@
 use Rattle.std.proofs.Common.{◌≡◌, ◌∙◌, ℕ, ◌+◌, ◌*◌, ◌<◌, arith, get_or, length, refl, subst, sym}
 use Rattle.std.specs.Prelude.{nat_eq, slice_index, slice_set}
 use Rattle.std.specs.List.{slice_range}
-use Rattle.dta_model.specs.LinkTimes.{time_at}
+use Rattle.trip_costs.specs.WalkCosts.{steps_in, table_in}
 use Rattle.labels.specs.Filling.Labels.{in_slot, value}
 use Rattle.labels.specs.Filling.Rests.{span}
 use Rattle.labels.specs.States.Routers.{ways_of}
@@ -17,15 +17,15 @@ use Rattle.labels.proofs.filling.slot_fill.fill_row.Goals as goal
 pub loop-state-init : goal.loop-state-init
 loop-state-init g c = (
   refl,
-  λ j small. IsRowTo_none (time_at c.args.timed.now.times.now) g.S.Slots.FAR (length c.args.timed.now.router.now.zones.items) c.args.timed.now.times.now.horizon (in_slot g.S.Slots.slot c.args.labels.now j) c.args.back c.args.step c.args.timed.now.router.now (slice_index (zone_numbers c.args.zones.now) j) (in_slot_low g.S.Slots.slot g.S.Slots.FAR g.met.S.Slots.low c.args.labels.now j),
+  λ j small. IsRowTo_none (steps_in c.args.timed.now.costs) g.S.Slots.FAR (length c.args.timed.now.router.now.zones.items) (table_in c.args.timed.now.costs).horizon (in_slot g.S.Slots.slot c.args.labels.now j) c.args.back c.args.step c.args.timed.now.router.now (slice_index (zone_numbers c.args.zones.now) j) (in_slot_low g.S.Slots.slot g.S.Slots.FAR g.met.S.Slots.low c.args.labels.now j),
 )
 
 pub loop-state-preserved : goal.loop-state-preserved
 loop-state-preserved g c =
-    let at = time_at c.args.timed.now.times.now in
+    let at = steps_in c.args.timed.now.costs in
     let slot = g.S.Slots.slot in
     let beyond = g.S.Slots.FAR in
-    let h = c.args.timed.now.times.now.horizon in
+    let h = (table_in c.args.timed.now.costs).horizon in
     let r = c.args.timed.now.router.now in
     let states = length r.zones.items in
     let starts = r.starts.items in
@@ -47,7 +47,7 @@ loop-state-preserved g c =
 
 pub fill_state-requires-clause-spans : goal.fill_state-requires-clause-spans
 fill_state-requires-clause-spans g c =
-    let at = time_at c.args.timed.now.times.now in
+    let at = steps_in c.args.timed.now.costs in
     let r = c.args.timed.now.router.now in
     let s = c.loop-state.state in
     let small : s < length r.zones.items = omega (arith, c.loop-state-test.true, c.state_count-states.ensures) in
@@ -58,7 +58,7 @@ fill_state-requires-clause-spans g c =
 
 pub fill_state-requires-clause-short : goal.fill_state-requires-clause-short
 fill_state-requires-clause-short g c =
-    let at = time_at c.args.timed.now.times.now in
+    let at = steps_in c.args.timed.now.costs in
     let beyond = g.S.Slots.FAR in
     let step = c.args.step in
     let r = c.args.timed.now.router.now in

@@ -1,7 +1,7 @@
 use Rattle.std.proofs.Common.{◌≡◌, ◌∙◌, ℕ, ◌+◌, ◌-◌, ◌*◌, ◌<◌, ◌≤◌, ap, arith, length, refl, subst, sym}
 use Rattle.std.proofs.lemmas.Grind.{common_steps}
 use Rattle.std.specs.Prelude.{slice_index}
-use Rattle.dta_model.specs.LinkTimes.{time_at}
+use Rattle.trip_costs.specs.WalkCosts.{steps_in, table_in}
 use Rattle.labels.specs.declared.filling.no_walk.TheConstants.{NARROW_FAR}
 use Rattle.labels.specs.Filling.Labels.{in_slot}
 use Rattle.labels.specs.Filling.Rows.{IsRowTo}
@@ -16,21 +16,23 @@ use Rattle.labels.proofs.filling.slot_fill.fill_slots.Goals as goal
 
 pub loop-step-init : goal.loop-step-init
 loop-step-init g c =
-    let t = c.args.timed.now.times.now in
+    let t = table_in c.args.timed.now.costs in
+    let at = steps_in c.args.timed.now.costs in
     let is = c.horizon-horizon.ensures.is in
     let states = length c.args.timed.now.router.now.zones.items in
     let none : t.horizon - c.horizon-horizon.result + 1 ≡ 1 = omega (arith, is) in (
       omega (arith, is),
       subst (λ n. n * states ≤ length c.args.labels.now.items) (sym none) (let row = c.requires.row in omega (arith, row)),
-      λ j small. AreRows_none (time_at t) g.S.Slots.FAR states t.horizon (in_slot g.S.Slots.slot c.args.labels.now.items j) c.args.timed.now.router.now (slice_index (zone_numbers c.args.zones.now) j) c.horizon-horizon.result (omega (arith, is)) (in_slot_low g.S.Slots.slot g.S.Slots.FAR g.met.S.Slots.low c.args.labels.now.items j),
+      λ j small. AreRows_none at g.S.Slots.FAR states t.horizon (in_slot g.S.Slots.slot c.args.labels.now.items j) c.args.timed.now.router.now (slice_index (zone_numbers c.args.zones.now) j) c.horizon-horizon.result (omega (arith, is)) (in_slot_low g.S.Slots.slot g.S.Slots.FAR g.met.S.Slots.low c.args.labels.now.items j),
       c.requires.spans,
+      λ before. absurd (omega (arith, is, before)),
       λ before. absurd (omega (arith, is, before)),
     )
 
 pub loop-step-preserved : goal.loop-step-preserved
 loop-step-preserved g c =
-    let t = c.args.timed.now.times.now in
-    let at = time_at t in
+    let t = table_in c.args.timed.now.costs in
+    let at = steps_in c.args.timed.now.costs in
     let h = t.horizon in
     let r = c.args.timed.now.router.now in
     let states = length r.zones.items in
@@ -64,21 +66,23 @@ loop-step-preserved g c =
           (omega (arith, test, inv.0, is)) (omega (arith, test, inv.0, is)) refl r.inside.order r.inside.to (λ e. short_some at beyond e r.ways.items (c.requires.short e)) (rows k few)
           (λ p q. c.in_ok-grow.ensures.stay k p (kept p q))
           (subst (λ xs. IsRowTo at beyond states h (in_slot slot xs k) (in_slot slot new k) before (step - 1) r (slice_index zones k) states) value (c.fill_row.ensures.filled k few))) j small,
-      c.keep.ensures.as_many,
-      λ early. c.keep.ensures,
+      c.in_ok-keep.ensures.spans.as_many,
+      λ early. c.in_ok-keep.ensures.spans,
+      λ early. c.in_ok-keep.ensures.moving,
     )
 
 pub keep-requires-clause-short : goal.keep-requires-clause-short
-keep-requires-clause-short g c = short_at_more (time_at c.args.timed.now.times.now) g.S.Slots.FAR NARROW_FAR (c.loop-step.step - 1) c.args.timed.now.router.now.ways.items g.met.S.Slots.near (c.requires.short (c.loop-step.step - 1))
+keep-requires-clause-short g c = short_at_more (steps_in c.args.timed.now.costs) g.S.Slots.FAR NARROW_FAR (c.loop-step.step - 1) c.args.timed.now.router.now.ways.items g.met.S.Slots.near (c.requires.short (c.loop-step.step - 1))
 
 pub fill_row-requires-clause-fits : goal.fill_row-requires-clause-fits
 fill_row-requires-clause-fits g c =
     let is = c.horizon-horizon.ensures.is in
-    let inside : c.horizon-horizon.result - (c.loop-step.step - 1) ≤ c.args.timed.now.times.now.horizon = omega (arith, is) in
-    row_fits c.args.timed.now.times.now.horizon (length c.args.timed.now.router.now.zones.items) (c.horizon-horizon.result - (c.loop-step.step - 1)) (omega (arith, is)) c.args.timed.now.few_states inside
+    let inside : c.horizon-horizon.result - (c.loop-step.step - 1) ≤ (table_in c.args.timed.now.costs).horizon = omega (arith, is) in
+    row_fits (table_in c.args.timed.now.costs).horizon (length c.args.timed.now.router.now.zones.items) (c.horizon-horizon.result - (c.loop-step.step - 1)) (omega (arith, is)) c.args.timed.now.few_states inside
 
 pub returns-clause-filled : goal.returns-clause-filled
 returns-clause-filled g c =
-    let t = c.args.timed.now.times.now in
+    let t = table_in c.args.timed.now.costs in
+    let at = steps_in c.args.timed.now.costs in
     let none : c.loop-step.step ≡ 0 = omega (arith, c.loop-step-test.false) in
-    subst (λ n. AreSlotRows g.S.Slots.slot (time_at t) g.S.Slots.FAR c.args.timed.now.router.now t.horizon (zone_numbers c.args.zones.now) c.args.labels.now.items c.loop-step.labels.items n) none (c.loop-step.invariant.2)
+    subst (λ n. AreSlotRows g.S.Slots.slot at g.S.Slots.FAR c.args.timed.now.router.now t.horizon (zone_numbers c.args.zones.now) c.args.labels.now.items c.loop-step.labels.items n) none (c.loop-step.invariant.2)

@@ -1,5 +1,5 @@
 use Rattle.std.proofs.Common.{◌∙◌, ◌+◌, ◌<◌, ◌≤◌, ap, arith, get_or, length, sym}
-use Rattle.dta_model.specs.LinkTimes.{time_at}
+use Rattle.trip_costs.specs.WalkCosts.{steps_in, table_in}
 use Rattle.labels.specs.declared.states.onward.Onward.{Onward}
 use Rattle.labels.specs.declared.states.spans.Span.{Span}
 use Rattle.labels.specs.Filling.Labels.{in_slot, rest_in}
@@ -12,14 +12,14 @@ pub loop-span-init : goal.loop-span-init
 loop-span-init g c = λ j small.
     let row = c.args.row.now in
     let n = c.no_walk-least.ensures j small in
-    let l = least_over_le (time_at row.times.now) g.S.Slots.FAR (rest_in row.states row.times.now.horizon (in_slot g.S.Slots.slot c.args.labels.now j)) row.step c.args.ways.now in
+    let l = least_over_le (steps_in row.costs) g.S.Slots.FAR (rest_in row.states (table_in row.costs).horizon (in_slot g.S.Slots.slot c.args.labels.now j)) row.step c.args.ways.now in
     omega (arith, n, l)
 
 pub loop-span-preserved : goal.loop-span-preserved
 loop-span-preserved g c = λ j small.
     let row = c.args.row.now in
-    let at = time_at row.times.now in
-    let h = row.times.now.horizon in
+    let at = steps_in row.costs in
+    let h = (table_in row.costs).horizon in
     let beyond = g.S.Slots.FAR in
     let slot = g.S.Slots.slot in
     let labels = c.args.labels.now in
@@ -40,4 +40,4 @@ pub returns : goal.returns
 returns g c = λ j small.
     let row = c.args.row.now in
     let past : length c.args.ways.now ≤ c.loop-span.span-index = omega (arith, c.loop-span-test.false, c.requires.spans.as_many) in
-    least_done (time_at row.times.now) g.S.Slots.FAR (rest_in row.states row.times.now.horizon (in_slot g.S.Slots.slot c.args.labels.now j)) row.step _ _ c.args.ways.now _ (c.loop-span.invariant j small) past (g.met.S.Slots.low c.loop-span.least j)
+    least_done (steps_in row.costs) g.S.Slots.FAR (rest_in row.states (table_in row.costs).horizon (in_slot g.S.Slots.slot c.args.labels.now j)) row.step _ _ c.args.ways.now _ (c.loop-span.invariant j small) past (g.met.S.Slots.low c.loop-span.least j)

@@ -1,4 +1,5 @@
 use Rattle.std.proofs.Common.{◌≡◌, ◌∙◌, ◌<◌, ◌≤◌, ℕ, ap, arith, get_or, length, map, subst, sym}
+use Rattle.trip_costs.specs.WalkCosts.{table_in}
 use Rattle.std.proofs.lemmas.Grind.{same_number_lists}
 use Rattle.std.proofs.lemmas.List.{map_push}
 use Rattle.net_core.specs.declared.rows.ZoneNo.{ZoneNo}
@@ -37,7 +38,7 @@ returns-clause-tails c =
     let r = c.args.timed.now.router.now in
     let zones = c.args.zones.now in
     let frees = c.in_ok-free.ensures in
-    let free : c.as_slice-steps.result.now ≡ c.args.timed.now.times.now.free = c.as_slice-steps.ensures.value ∙ same_number_lists _ _ (frees.many ∙ c.args.timed.now.counted) (λ l h. frees.each l (omega (arith, h, frees.many))) in
+    let free : c.as_slice-steps.result.now ≡ (table_in c.args.timed.now.costs).free = c.as_slice-steps.ensures.value ∙ same_number_lists _ _ (frees.many ∙ c.args.timed.now.counted) (λ l h. frees.each l (omega (arith, h, frees.many))) in
     let all = c.loop-zone.invariant.0 in
     let many : length zones ≡ c.loop-zone.zone-index = omega (arith, c.loop-zone-test.false) in
     subst (λ f. AreTails f r c.loop-zone.most (map (λ tail. tail.items) c.loop-zone.tails.items) (zone_numbers zones)) free

@@ -1,5 +1,5 @@
 use Rattle.std.proofs.Common.{arith}
-use Rattle.dta_model.specs.LinkTimes.{time_at}
+use Rattle.trip_costs.specs.WalkCosts.{steps_in, table_in}
 use Rattle.labels.specs.Filling.Labels.{far, rest_in}
 use Rattle.labels.proofs.OfFilling.LeastOver.{least_done}
 use Rattle.labels.proofs.OfFilling.PlaceFacts.{over_place, least_step}
@@ -7,12 +7,12 @@ use Rattle.labels.proofs.filling.wide_fill.least_way.Goals as goal
 
 pub returns-clause-is : goal.returns-clause-is
 returns-clause-is c =
-    least_done (time_at c.args.row.now.times.now) far (rest_in c.args.row.now.states c.args.row.now.times.now.horizon c.args.labels.now) c.args.row.now.step _ _ c.args.ways.now _ (c.loop-way.invariant.0) c.loop-way-test.false (c.loop-way.invariant.1)
+    least_done (steps_in c.args.row.now.costs) far (rest_in c.args.row.now.states (table_in c.args.row.now.costs).horizon c.args.labels.now) c.args.row.now.step _ _ c.args.ways.now _ (c.loop-way.invariant.0) c.loop-way-test.false (c.loop-way.invariant.1)
 
 pub loop-way-preserved : goal.loop-way-preserved
 loop-way-preserved c =
-    let at = time_at c.args.row.now.times.now in
-    let h = c.args.row.now.times.now.horizon in
+    let at = steps_in c.args.row.now.costs in
+    let h = (table_in c.args.row.now.costs).horizon in
     let labels = c.args.labels.now in
     let p = c.place_after-place.result in
     let sp = c.span_of-span.result in (

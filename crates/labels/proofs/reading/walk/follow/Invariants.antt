@@ -1,5 +1,5 @@
 use Rattle.std.proofs.Common.{ℕ, ◌+◌, ◌<◌, ◌^◌, List, ◌++◌, length}
-use Rattle.dta_model.specs.LinkTimes.{time_at}
+use Rattle.trip_costs.specs.WalkCosts.{steps_in}
 use Rattle.dta_model.specs.Plans.{link_numbers}
 use Rattle.labels.specs.Filling.Labels.{far}
 use Rattle.labels.specs.Reading.Follows.{Follows}
@@ -12,9 +12,9 @@ use Rattle.labels.proofs.reading.walk.follow.Given as goal
 abbrev pub invariant-loop-router : goal.invariant-loop-router
 invariant-loop-router l =
     (l.link < length l.labels.router.now.states.items)
-    × (rests l.labels.table.now l.labels.place (state_of l.labels.router.now l.link) (l.entry + time_at l.labels.times.now l.link l.entry) < far)
-    × (l.entry + time_at l.labels.times.now l.link l.entry + rests l.labels.table.now l.labels.place (state_of l.labels.router.now l.link) (l.entry + time_at l.labels.times.now l.link l.entry) < 2 ^ 63)
-    × ((others : List ℕ) → Follows (ways_to (time_at l.labels.times.now) l.labels.net.now l.labels.zone) (label_in (time_at l.labels.times.now) (rests l.labels.table.now l.labels.place) l.labels.router.now) l.link l.entry others → IsFollowed (ways_to (time_at l.labels.times.now) l.labels.net.now l.labels.zone) (label_in (time_at l.labels.times.now) (rests l.labels.table.now l.labels.place) l.labels.router.now) l.fn.first l.fn.step (link_numbers l.links.items ++ others))
+    × (rests l.labels.table.now l.labels.place (state_of l.labels.router.now l.link) (l.entry + steps_in l.labels.costs l.link l.entry) < far)
+    × (l.entry + steps_in l.labels.costs l.link l.entry + rests l.labels.table.now l.labels.place (state_of l.labels.router.now l.link) (l.entry + steps_in l.labels.costs l.link l.entry) < 2 ^ 63)
+    × ((others : List ℕ) → Follows (ways_to (steps_in l.labels.costs) l.labels.net.now l.labels.zone) (label_in (steps_in l.labels.costs) (rests l.labels.table.now l.labels.place) l.labels.router.now) l.link l.entry others → IsFollowed (ways_to (steps_in l.labels.costs) l.labels.net.now l.labels.zone) (label_in (steps_in l.labels.costs) (rests l.labels.table.now l.labels.place) l.labels.router.now) l.fn.first l.fn.step (link_numbers l.links.items ++ others))
 
 abbrev pub decreases-loop-router : goal.decreases-loop-router
-decreases-loop-router l = rests l.labels.table.now l.labels.place (state_of l.labels.router.now l.link) (l.entry + time_at l.labels.times.now l.link l.entry)
+decreases-loop-router l = rests l.labels.table.now l.labels.place (state_of l.labels.router.now l.link) (l.entry + steps_in l.labels.costs l.link l.entry)

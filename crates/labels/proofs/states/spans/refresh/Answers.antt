@@ -1,5 +1,5 @@
 use Rattle.std.proofs.Common.{◌<◌, length, arith, refl, subst}
-use Rattle.dta_model.specs.LinkTimes.{time_at}
+use Rattle.trip_costs.specs.WalkCosts.{steps_in}
 use Rattle.labels.specs.States.Spans.{IsSpan}
 use Rattle.labels.specs.declared.states.onward.Onward.{Onward}
 use Rattle.labels.specs.declared.states.spans.Span.{Span}
@@ -8,7 +8,7 @@ use Rattle.labels.proofs.states.spans.refresh.Goals as goal
 
 pub loop-place-preserved : goal.loop-place-preserved
 loop-place-preserved c =
-    let at = time_at c.args.times.now in
+    let at = steps_in c.args.costs in
     let ways = c.args.router.now.ways.items in
     let way : Onward = c.index.result.now in
     let s : Span = record { time = c.time_over.result; to = way.to } in

@@ -1,3 +1,4 @@
+use Rattle.trip_costs.specs.Timings.{Links}
 use Rattle.std.proofs.Common.{◌≡◌, ◌≢◌, ◌<◌, arith, length, rules, subst, sym}
 use Rattle.std.specs.Prelude.{slice_index, vec_len}
 use Rattle.net_core.specs.Network.{zones}
@@ -10,7 +11,7 @@ use Rattle.skims.proofs.leasts.LeastTimes.get.Goals as goal
 pub index-requires : goal.index-requires
 index-requires c =
     let l = c.self.inside in
-    let many = all-many (time_at l.times.now) l.net.now l.starts.now l.to_each.items c.self.invariant in
+    let many = all-many (Links (time_at l.times.now)) l.net.now l.starts.now l.to_each.items c.self.invariant in
     let long : vec_len l.to_each ≡ length l.to_each.items = search rules in
     let within : c.args.destination < length (zones l.net.now.nodes) =
     subst (λ v. c.args.destination < length (zones v.net.nodes)) (sym c.self.view_is) c.requires.destination in
@@ -24,7 +25,7 @@ index-requires-2 c =
     subst (λ v. c.args.destination < length (zones v.net.nodes)) (sym c.self.view_is) c.requires.destination in
     let begun : c.args.start < length l.starts.now =
     subst (λ v. c.args.start < length v.starts) (sym c.self.view_is) c.requires.start in
-    let many = to-many (time_at l.times.now) l.net.now l.starts.now l.to_each.items c.self.invariant c.args.destination to within c.index.ensures in
+    let many = to-many (Links (time_at l.times.now)) l.net.now l.starts.now l.to_each.items c.self.invariant c.args.destination to within c.index.ensures in
     let long : vec_len to ≡ length to.items = search rules in
     omega (arith, many, long, begun)
 
@@ -39,7 +40,7 @@ index-requires-3 c =
     subst (λ v. c.args.destination < length (zones v.net.nodes)) (sym c.self.view_is) c.requires.destination in
     let begun : c.args.start < length l.starts.now =
     subst (λ v. c.args.start < length v.starts) (sym c.self.view_is) c.requires.start in
-    let many = from-many (time_at l.times.now) l.net.now l.starts.now l.to_each.items c.self.invariant c.args.destination c.args.start to from within begun c.index.ensures c.index-2.ensures in
+    let many = from-many (Links (time_at l.times.now)) l.net.now l.starts.now l.to_each.items c.self.invariant c.args.destination c.args.start to from within begun c.index.ensures c.index-2.ensures in
     let long : vec_len from ≡ length from.items = search rules in
     omega (arith, many, long, begin)
 
@@ -56,5 +57,5 @@ returns c =
     let begun : i < length l.starts.now =
     subst (λ v. i < length v.starts) (sym c.self.view_is) c.requires.start in
     subst (λ v. zone_named v.net o ≢ zone_named v.net d
-    → TellsLeast (time_at v.times) v.net (zone_named v.net o) (zone_named v.net d) (slice_index v.starts i) c.index-3.result.now) c.self.view_is
-    (least-at (time_at l.times.now) l.net.now l.starts.now l.to_each.items c.self.invariant o d i c.index.result.now c.index-2.result.now c.index-3.result.now begin within begun c.index.ensures c.index-2.ensures c.index-3.ensures)
+    → TellsLeast (Links (time_at v.times)) v.net (zone_named v.net o) (zone_named v.net d) (slice_index v.starts i) c.index-3.result.now) c.self.view_is
+    (least-at (Links (time_at l.times.now)) l.net.now l.starts.now l.to_each.items c.self.invariant o d i c.index.result.now c.index-2.result.now c.index-3.result.now begin within begun c.index.ensures c.index-2.ensures c.index-3.ensures)

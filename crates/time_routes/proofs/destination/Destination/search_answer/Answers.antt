@@ -1,8 +1,8 @@
+use Rattle.trip_costs.specs.WalkCosts.{tables, timing}
 use Rattle.std.proofs.Common.{◌≡◌, ◌≢◌, ◌<◌, ℕ, ap, get_or, None, Some, subst, sym, ◌∙◌}
 use Rattle.std.specs.Prelude.{slice_index}
 use Rattle.std.proofs.lemmas.Option.{slice_get-get_or}
 use Rattle.net_core.specs.Network.{zone_number}
-use Rattle.dta_model.specs.LinkTimes.{time_at}
 use Rattle.dta_model.specs.declared.trip.Trip.{Trip}
 use Rattle.labels.specs.ToZone.{TellsLeast, TellsWalk}
 use Rattle.labels.specs.declared.states.zone_numbers.TheConstants.{NO_ZONE}
@@ -32,22 +32,19 @@ pub returns-then-from-clause-right : goal.returns-then-from-clause-right
 returns-then-from-clause-right c =
     let s = c.args.self.now.search.now in
     let net = s.net.now in
-    let at = time_at s.times.now in
+    let costs = timing s.costs in
     let v = c.args.vehicle in
     let trip = get_or s.trips.now v no_trip in
     let there = slice_get-get_or s.trips.now v no_trip c.requires.within in
     let nowhere = nowhere_of net trip.origin trip.destination s.is.numbers (sym c.if-from.true ∙ begins_at net s.trips.now s.origins.items v c.index-from.result.now no_trip s.is.begins c.requires.within c.index-from.ensures) in
     record {
       within = c.requires.within;
-      least = right_of (LeastOf at net) (asks_least s.asks.now) s.trips.now v trip None there nowhere;
-      walk = right_of (WalkOf at net) (asks_walk s.asks.now) s.trips.now v trip None there nowhere;
+      least = right_of (LeastOf costs net) (asks_least s.asks.now) s.trips.now v trip None there nowhere;
+      walk = right_of (WalkOf costs net) (asks_walk s.asks.now) s.trips.now v trip None there nowhere;
     }
 
-pub least_if-least-requires-clause-other : goal.least_if-least-requires-clause-other
-least_if-least-requires-clause-other c = from_other c.args.self.now c.args.vehicle c.index-from.result.now c.requires c.index-from.ensures c.if-from.false
-
-pub walk_if-requires-clause-other : goal.walk_if-requires-clause-other
-walk_if-requires-clause-other c = from_other c.args.self.now c.args.vehicle c.index-from.result.now c.requires c.index-from.ensures c.if-from.false
+pub find-requires-clause-other : goal.find-requires-clause-other
+find-requires-clause-other c = from_other c.args.self.now c.args.vehicle c.index-from.result.now c.requires c.index-from.ensures c.if-from.false
 
 pub returns-clause-right : goal.returns-clause-right
 returns-clause-right c =
@@ -63,6 +60,6 @@ returns-clause-right c =
     let to = leads net s.trips.now s.asks.now _ v trip c.requires there in
     record {
       within = c.requires.within;
-      least = right_between (λ t m o e step x. TellsLeast (time_at t) m o e step x) (asks_least s.asks.now) _ d.labels.now net s.times.now s.trips.now v n _ trip _ (ap asked_least asked) d.same_net d.same_times there from to c.least_if-least.ensures;
-      walk = right_between (λ t m o e step x. TellsWalk (time_at t) m o e step x) (asks_walk s.asks.now) _ d.labels.now net s.times.now s.trips.now v n _ trip _ (ap asked_walk asked) d.same_net d.same_times there from to c.in_ok-walk.ensures;
+      least = right_between (λ t m o e step x. TellsLeast t m o e step x) (asks_least s.asks.now) _ d.labels.now net (tables s.costs) s.trips.now v n _ trip _ (ap asked_least asked) d.same_net d.same_costs there from to c.in_ok-least.ensures.least;
+      walk = right_between (λ t m o e step x. TellsWalk t m o e step x) (asks_walk s.asks.now) _ d.labels.now net (tables s.costs) s.trips.now v n _ trip _ (ap asked_walk asked) d.same_net d.same_costs there from to c.in_ok-least.ensures.walk;
     }

@@ -1,7 +1,7 @@
+use Rattle.trip_costs.specs.WalkCosts.{timing}
 use Rattle.std.proofs.Common.{◌≡◌, sym, ◌∙◌, subst, ap, get_or}
 use Rattle.std.specs.Prelude.{slice_index, All}
 use Rattle.std.proofs.lemmas.List.{get_or-map}
-use Rattle.dta_model.specs.LinkTimes.{time_at}
 use Rattle.net_core.specs.declared.rows.ZoneNo.{ZoneNo}
 use Rattle.time_routes.specs.Searches.{GoesTo}
 use Rattle.time_routes.specs.Tell.{LeadsToFirst, Stands}
@@ -31,12 +31,12 @@ loop-place-preserved c =
     let trips = s.trips.now in
     let asks = s.asks.now in
     let place = c.loop-place.place in
-    answers_then (time_at s.times.now) net trips asks (LeadsToFirst net trips asks c.args.zones.now place) (Stands c.get-vehicles.result.now) _ c.args.gathered.now.answers.items c.loop-place.gathered.answers.items c.answer_vehicles.new.gathered.answers.items
+    answers_then (timing s.costs) net trips asks (LeadsToFirst net trips asks c.args.zones.now place) (Stands c.get-vehicles.result.now) _ c.args.gathered.now.answers.items c.loop-place.gathered.answers.items c.answer_vehicles.new.gathered.answers.items
     c.loop-place.invariant c.in_ok-answer_vehicles.ensures
     (first_more net trips asks s.lists s.is.grouped s.is.numbers c.args.zones.now place (record { 0 = 0 }) c.get-vehicles.result.now c.requires.zones c.get-vehicles.ensures)
 
 pub returns : goal.returns
 returns c =
     let s = c.args.self.now in
-    answers_fewer (time_at s.times.now) s.net.now s.trips.now s.asks.now (LeadsToFirst s.net.now s.trips.now s.asks.now c.args.zones.now c.loop-place.place) _ c.args.gathered.now.answers.items c.loop-place.gathered.answers.items
+    answers_fewer (timing s.costs) s.net.now s.trips.now s.asks.now (LeadsToFirst s.net.now s.trips.now s.asks.now c.args.zones.now c.loop-place.place) _ c.args.gathered.now.answers.items c.loop-place.gathered.answers.items
     c.loop-place.invariant (λ v h. in_all s.net.now s.trips.now s.asks.now c.args.zones.now c.loop-place.place v c.loop-place-test.false h)

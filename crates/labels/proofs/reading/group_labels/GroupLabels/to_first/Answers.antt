@@ -1,6 +1,6 @@
 use Rattle.std.proofs.Common.{◌≡◌, ◌<◌, ◌-◌, length, subst, sym, All, arith, take}
 use Rattle.net_core.specs.Network.{zones}
-use Rattle.dta_model.specs.LinkTimes.{time_at}
+use Rattle.trip_costs.specs.WalkCosts.{steps_in}
 use Rattle.labels.specs.Reading.Serves.{AreAllLeft}
 use Rattle.labels.specs.ToZone.{zone_numbers}
 use Rattle.net_core.proofs.ZonesFacts.{length-zones-le}
@@ -21,12 +21,12 @@ invariant_of-result c =
     let left = c.in_ok-filled.ensures.left in
     let whole : n - 0 ≡ n = omega arith in record {
       net = c.link_count.ensures.sound;
-      times = c.in_ok-filled.ensures.sound;
+      timed = c.in_ok-filled.ensures.timed;
       table = c.requires.table;
       inside = subst (λ zs. All (λ z. z.0 < length (zones c.args.net.now.nodes)) zs) (sym same)
           (subst (λ k. All (λ z. z.0 < length (zones c.args.net.now.nodes)) (take k c.args.zones.now)) whole
           (All_range (λ z. z.0 < length (zones c.args.net.now.nodes)) c.args.zones.now 0 n (omega arith) left.few c.requires.zones));
       router = c.in_ok-router.ensures;
       firsts = c.in_ok-firsts.ensures;
-      left = subst (λ zs. AreAllLeft (time_at c.args.times.now) c.in_ok-router.router c.in_ok-filled.filled.table (zone_numbers zs)) (sym same) left.left;
+      left = subst (λ zs. AreAllLeft (steps_in c.args.costs) c.in_ok-router.router c.in_ok-filled.filled.table (zone_numbers zs)) (sym same) left.left;
     }

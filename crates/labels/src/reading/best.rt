@@ -1,0 +1,8 @@
+// A first link with its time.
+
+/// A first link, and the time over it from a step on.
+#[derive(Clone, Copy, Drop)]
+pub(crate) struct First {
+    pub(crate) link: u32,
+    pub(crate) time: u64,
+}
