@@ -19,10 +19,12 @@
 # Name | tables | words | ways
 cases='freeflow | ring 20000 1 7 100 | freeflow | --step=6
 sioux_falls | sioux_falls | assign --iterations 10 | --plain
+sioux_trips | sioux_falls | assign --iterations 10 --costs trips | --plain
 grid_30 | grid 30 | assign --iterations 10 | --plain
 grid_60 | grid 60 | assign --iterations 10 | --plain
 town | made 11 40 11000 1 --movements | assign --iterations 10 | --plain
 country | made 40 100 20000 | assign --iterations 3 | --plain
+country_trips | made 40 100 20000 | assign --iterations 3 --costs trips | --plain
 heavy | made 100 100 200000 | assign | --plain
 crowd | made 40 50 1900000 | assign | --plain
 workers_60 | grid 60 | assign | --plain --workers=1 --workers=2 --workers=3 --workers=4
@@ -55,7 +57,7 @@ for name in "$@"; do
     echo "$cases" | grep -q "^$name |" || { echo "runs.sh: there is no case $name" >&2; exit 2; }
 done
 . "$bench/begin.sh"
-outputs='agent.csv link_performance.csv gap.csv skim.csv sweep.txt'
+outputs='agent.csv link_performance.csv origin_wait.csv gap.csv skim.csv sweep.txt'
 wanted=0
 
 # The tables of cases, in the current folder.

@@ -6,8 +6,9 @@ spelled: numbers and quotes in odd but accepted ways. Every second case or so is
 its fields, columns, bytes, words or files, so that most spoilt cases are near to sound ones.
 
 Of some features there are kinds of cases by themselves: capacities in windows (case_windows.py),
-the queue `newell`, and start tables (case_starts.py). What a sweep is made of beyond an assignment
-stands in case_sweeps.py, and the changed results that an audit looks at are made by case_audits.py.
+the queue `newell`, start tables (case_starts.py), and costs of whole trips. What a sweep is made of
+beyond an assignment stands in case_sweeps.py, and the changed results that an audit looks at are
+made by case_audits.py.
 """
 from dataclasses import dataclass, field
 
@@ -17,7 +18,7 @@ import case_sweeps
 import case_windows
 
 INPUTS = ("node.csv", "link.csv", "movement.csv", "demand.csv")
-OUTPUTS = ("agent.csv", "link_performance.csv", "gap.csv")
+OUTPUTS = ("agent.csv", "link_performance.csv", "origin_wait.csv", "gap.csv")
 OUTPUTS_OF = {"skim": ("skim.csv",), "counts": ("counts.csv",), "sweep": ("sweep.txt",),
               "audit": ("audit.txt", "agent.csv")}
 TIMES = "times.csv"
@@ -99,18 +100,18 @@ def make_case(r, assign, only=None):
     return case
 
 
-FEATURES = ["windows", "newell", "start"]
+FEATURES = ["windows", "newell", "start", "trips"]
 
 
 def choose_features(r, kind, only):
     """The feature of the kind, and now and then others that go with it, unless one kind alone is
-    asked for."""
+    asked for; also then with costs of whole trips."""
     features = [kind] if kind in FEATURES else []
     if kind in ("sweep", "audit"):
         features = [one for one in ("windows", "newell") if r.random() < .3]
-    if features and not only:
-        features += [one for one in FEATURES
-                     if one != kind and (one != "start" or kind == "newell") and r.random() < .2]
+    if features and (not only or kind == "trips"):
+        features += [one for one in FEATURES if one != kind and r.random() < .2
+                     and (one != "start" or kind in ("newell", "trips"))]
     return features
 
 
@@ -121,7 +122,8 @@ def choose_command(r, kind, features):
     if "start" in features:
         return "assign"
     commands = {"assign": 70, "counts": 15}
-    commands.update({"windows": {"freeflow": 10, "skim": 5}, "newell": {"demo": 10}}[kind])
+    commands.update({"windows": {"freeflow": 10, "skim": 5}, "newell": {"demo": 10},
+                     "trips": {"demo": 5, "sweep": 15}}[kind])
     return r.choices(list(commands), weights=commands.values())[0]
 
 
@@ -173,9 +175,10 @@ def option_values(r, command, features=()):
         "iterations": r.choice([1, 2, 3, 4, r.randint(1, 8)]),
         "workers": r.choice([1, 2, 3, 16, 16, r.randint(1, 16)]),
         "bucket": r.choice([1, 7, 10, 50, horizon, 86400, r.randint(1, 100)]),
-        "queue": r.choice(["point", "spatial", "spatial"]
+        "queue": r.choice(["point", "spatial", "spatial"] + ["newell"] * ("trips" in features)
                           + ["newell"] * 6 * ("newell" in features)),
         "wave": r.choice([1, 2, 5, 10, 15, 20, 20, 30, 60, 100, r.randint(1, 100)]),
+        "costs": "trips" if "trips" in features else r.choice(["links", "trips"]),
         "watch": r.choice([0, 1, 1, 7, 10, 50, 86400, r.randint(1, 100)]),
         "at": some_starts(r, horizon),
         "scales": case_sweeps.some_scales(r),
@@ -189,24 +192,27 @@ def some_starts(r, horizon):
     return ";".join(str(step).zfill(r.choice([1, 1, 1, 4])) for step in steps)
 
 
-# Of 100 cases: how many are of each kind, a command or a feature.
+# Of 115 cases: how many are of each kind, a command or a feature.
 SHARES = {"assign": 10, "freeflow": 2, "demo": 1, "skim": 10, "counts": 10, "windows": 11,
-          "newell": 11, "start": 13, "sweep": 13, "audit": 19}
+          "newell": 11, "start": 13, "sweep": 13, "audit": 19, "trips": 15}
 
 TAKEN = {
     "freeflow": ["step", "jam", "length-unit", "speed-unit"],
     "assign": ["step", "jam", "length-unit", "speed-unit", "horizon", "period", "iterations",
-               "workers", "bucket", "queue", "wave", "watch"],
+               "workers", "bucket", "queue", "wave", "watch", "costs"],
     "demo": ["step", "jam", "horizon", "period", "iterations", "workers", "bucket", "queue", "wave",
-             "watch"],
+             "watch", "costs"],
     "skim": ["step", "jam", "length-unit", "speed-unit", "horizon", "bucket", "at"],
     "counts": ["step", "jam", "length-unit", "speed-unit", "horizon", "period", "iterations",
-               "workers", "bucket", "queue", "wave"],
+               "workers", "bucket", "queue", "wave", "costs"],
     "sweep": ["step", "jam", "length-unit", "speed-unit", "horizon", "period", "iterations",
-              "workers", "bucket", "queue", "wave", "scales"],
+              "workers", "bucket", "queue", "wave", "costs", "scales"],
     "audit": ["step", "jam", "length-unit", "speed-unit", "horizon", "period", "bucket", "queue",
               "wave"],
 }
+
+
+COSTED = [command for command, options in TAKEN.items() if "costs" in options]
 
 
 def flat(command, groups):
@@ -224,7 +230,9 @@ def make_options(r, command, features=()):
             chosen.append("queue")
         if r.random() < .7:
             chosen.append("wave")
-    if "start" in features and "iterations" not in chosen and r.random() < .6:
+    if "trips" in features and command in COSTED and "costs" not in chosen:
+        chosen.append("costs")
+    if {"start", "trips"} & set(features) and "iterations" not in chosen and r.random() < .6:
         chosen.append("iterations")
     if command != "freeflow" and "horizon" not in chosen:
         chosen.append("horizon")
@@ -284,7 +292,7 @@ def add_link(r, groups, links):
 
 ODD_VALUES = ["", "0", "-1", "+1", "1.0", "1e0", " 1", "1 ", "61", "1001", "86400", "86401", "17",
               "999999999", "1000000000", "0000000001", "000000001", "٣", "x", "km ", "KM", "m",
-              "point", "newell", "Spatial", "--plain", "-", "--", "1,0", "0x1",
+              "point", "newell", "Spatial", "trips", "--plain", "-", "--", "1,0", "0x1",
               "18446744073709551617"]
 ODD_STARTS = ["0;", ";0", ";", "0;;1", "0; 1", "0 ;1", " 0", "0,1", "1;1;0", "0;-1", "0;x", "0:1",
               "0;1.0", "000000000;0", "0000000000", "0;400", "0;86399", "0;86400", "0;999999999",
@@ -295,7 +303,8 @@ ODD_WORDS = ["", "-", "--", "--help", "-h", "--version", "-V", "help", "--plain=
              "assign", "freeflow", "skims", "5", "2", "60", "61", "\udcff", "--step=\udcc3", "é",
              "--at", "--at=0", "--scales=1", "--link=1", "--wörkers=1", "\t", "=", "--wave",
              "--wave=0", "--wave=101", "--wave=1.0", "--wave=", "--start=", "--start=1", "--starts",
-             "--start.csv", "--queue=Newell", "--queue=newell ", "--waves=20"]
+             "--start.csv", "--queue=Newell", "--queue=newell ", "--waves=20", "--costs=trips",
+             "--costs=links", "--costs=Trips", "--costs", "--costs=", "--cost=trips"]
 ODD_COMMANDS = ["Assign", "assig", "demo", "freeflow", "", "skims", "count", "--assign", "sweep",
                 "audit", "sweeps", "Audit"]
 
@@ -536,13 +545,13 @@ def make_tables(r, words, features=()):
     if r.random() < .05:
         units = r.choice(["m", "km"])
     tables = {"node.csv": node_table(r, net), "link.csv": link_table(r, net, units)}
-    if "newell" in features and r.random() < .7:
+    if {"newell", "trips"} & set(features) and r.random() < .7:
         narrow_links(r, tables["link.csv"], units)
     if r.random() < .5:
         tables["movement.csv"] = movement_table(r, net)
     tables["demand.csv"] = demand_table(r, net)
     if (words[0] == "counts" or features) and len(net.zones) > 1:
-        most = 200 if "newell" in features else 40 if "windows" in features else 20
+        most = 200 if {"newell", "trips"} & set(features) else 40 if "windows" in features else 20
         for _ in range(r.choice([2, 3, 4] if features else [0, 2, 3, 4])):
             ends = [str(zone) for zone in r.sample(net.zones, 2)]
             tables["demand.csv"].rows.append(ends + [str(r.randint(1, most))])

@@ -3,7 +3,7 @@
 # shellcheck shell=sh disable=SC2154
 . "$checks/begin.sh"
 cases=0
-outputs='agent.csv link_performance.csv gap.csv skim.csv counts.csv sweep.txt'
+outputs='agent.csv link_performance.csv origin_wait.csv gap.csv skim.csv counts.csv sweep.txt'
 
 # The tables of a case: two links in a line and the one turn between them, three vehicles, and what
 # an assignment with `--period 30 --horizon 60` tells of them. A link takes ten steps.

@@ -103,6 +103,23 @@ running 1
 waiting 0
 TEXT
 
+# The same assignment by trips: all tables but that of origin waits are those by links here.
+mv agent.csv by_links
+mv gap.csv gaps_by_links
+ends 'every option by trips' 0 "$program" assign --step 12 --jam 250 --length-unit km \
+    --speed-unit mph --horizon 36 --period 36 --iterations 2 --workers 3 --bucket 20 \
+    --queue newell --wave 18 --watch 10 --plain --start --costs trips >report 2>>by_trips
+has 'every option by trips' origin_wait.csv <<'TEXT'
+link_id,from_step,to_step,departed,wait_steps
+10,0,20,2,0
+10,20,36,1,0
+TEXT
+cmp -s gap.csv gaps_by_links || fails 'every option by trips: gap.csv has another text'
+cut -d , -f 1-8 by_links >first_columns
+cut -d , -f 1-8 agent.csv | cmp -s - first_columns ||
+    fails 'every option by trips: agent.csv has another text'
+mv by_links agent.csv
+
 # A sweep has the assignment of each scale, that of scale 1 being the first run but for the column
 # that a start table brings; and an audit finds the tables of the first run right.
 ends 'every option of sweep' 0 "$program" sweep --step 12 --jam 250 --length-unit km \
@@ -143,6 +160,15 @@ audited() {
     "$program" audit --step 12 --jam 250 --length-unit km --speed-unit mph --horizon 36 \
         --period 36 --bucket 20 --queue newell --wave 18
 }
+ends 'a sweep by trips' 0 "$program" sweep --step 12 --length-unit km --speed-unit mph \
+    --horizon 36 --period 36 --bucket 20 --scales 1 --costs trips >report 2>>watch
+sed -n '/^link_id,from_step,to_step,departed/,/^iteration/p' sweep.txt >waits
+has 'a sweep by trips' waits <<'TEXT'
+link_id,from_step,to_step,departed,wait_steps
+10,0,20,2,0
+10,20,36,1,0
+iteration,route_steps,least_steps,gap_steps,gap_ppm
+TEXT
 cp agent.csv start.csv
 ends 'every option of audit' 0 audited >report 2>>watch
 has 'every option of audit' report <<'TEXT'
@@ -236,6 +262,8 @@ if make_unkept; then
     for file in agent.csv link_performance.csv gap.csv report; do
         [ -s "$file" ] || fails "outputs that are not kept: no $file"
     done
+    ends 'origin waits that are not kept' 5 unkept assign --length-unit km --costs trips >report
+    [ -s origin_wait.csv ] || fails 'origin waits that are not kept: no origin_wait.csv'
     mv link_performance.csv times.csv
     ends 'freeflow, not kept' 5 unkept freeflow --length-unit km >report
     ends 'skim, not kept' 5 unkept skim --length-unit km >report
@@ -243,6 +271,11 @@ if make_unkept; then
     ends 'sweep, not kept' 5 unkept sweep --scales 1 --length-unit km >report
     ends 'nothing to keep' 0 unkept demo 2 --horizon 1 >report
 fi
+tables 3
+ln -s /dev/full origin_wait.csv
+ends 'full origin waits' 5 "$program" assign --length-unit km --costs trips >report
+[ -s link_performance.csv ] && [ ! -e gap.csv ] || fails 'full origin waits: other outputs'
+ends 'origin waits that are not written' 0 "$program" assign --length-unit km >report
 tables 3
 ln -s /dev/null agent.csv
 ends 'an output that is a device' 0 "$program" assign --length-unit km >report

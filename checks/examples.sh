@@ -45,6 +45,13 @@ begin morning_peak
 run assign --period 900 --horizon 1500 --bucket 150
 writes link_performance.csv
 
+begin two_roads
+run assign --horizon 2400 --iterations 20
+grep -qx 'gap_ppm 0' report || fails 'two_roads, by link times'
+[ ! -e origin_wait.csv ] || fails 'two_roads, by link times: origin_wait.csv'
+run assign --horizon 2400 --iterations 20 --costs trips
+writes origin_wait.csv gap.csv
+
 begin sioux_falls
 run assign --horizon 2400 --iterations 20
 cp agent.csv "$folder/start.csv"

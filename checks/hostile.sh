@@ -4,7 +4,7 @@
 # where none did. Groups of cases are the functions that `groups` names, and all of them run where
 # none is said. Where it is run by root it also tries a full disk (a small file system in memory),
 # and calls the program as another user. It takes some minutes, and 1 GB in the folder of mktemp.
-groups='folder_without_writing full_outputs full_disk broken_streams closed_streams
+groups='folder_without_writing full_outputs full_waits full_disk broken_streams closed_streams
 interrupted_calls lacking_syncs no_files pipes longest_tables long_rows odd_bytes most_vehicles little_memory little_memory_for_shares
 little_memory_for_threads no_threads times_tables skims_and_counts windows waves start_tables sweeps
 sweeps_in_little_memory audits audited_tables kills'
@@ -121,6 +121,26 @@ full_outputs() {
                 *) wanted="5 whole whole $was -" ;;
             esac
             check "$name is $kind" "$wanted" "$(outcome)"
+        done
+    done
+}
+
+# The table of origin waits in turn is such a device, a folder and a link; by link times it is left
+# as it is.
+full_waits() {
+    for kind in /dev/full folder itself; do
+        for costs in trips links; do
+            begin
+            case $kind in
+                folder) mkdir origin_wait.csv; was=folder ;;
+                itself) ln -s origin_wait.csv origin_wait.csv; was='link' ;;
+                *) ln -s "$kind" origin_wait.csv; was='link' ;;
+            esac
+            run assign --costs $costs
+            wanted="5 whole whole none - $was"
+            [ $costs = trips ] || wanted="0 whole whole whole report $was"
+            check "origin_wait.csv is $kind, by $costs" "$wanted" \
+                "$(outcome) $(state_of origin_wait.csv)"
         done
     done
 }

@@ -11,14 +11,14 @@
 # first, and the program must write what it wrote.
 cases='many_vehicles long_chain long_horizon wide_labels many_iterations many_links many_rows
 many_turns crossings many_zones no_demand many_counts many_entries many_windows many_waves
-long_waves many_starts many_scales many_audits'
+long_waves many_starts many_scales many_audits many_trips many_waits'
 checks=$(dirname "$(readlink -f "$0")")
 more='[CASE..]'
 peer=${PEER:+$(realpath -m "$PEER")}
 . "$checks/begin.sh"
 if [ -z "$peer" ]; then echo "PEER isn't set: the program is compared with itself"
 elif [ ! -x "$peer" ]; then echo "large.sh: PEER isn't a program: $peer" >&2; exit 2; fi
-outputs='agent.csv link_performance.csv gap.csv skim.csv counts.csv sweep.txt'
+outputs='agent.csv link_performance.csv origin_wait.csv gap.csv skim.csv counts.csv sweep.txt'
 runs=0
 small_stack='prlimit --stack=131072'
 
@@ -244,6 +244,23 @@ many_counts() {
     grid 12 4
     demand 1,2,500000 2,3,500000 3,4,500000 4,1,400000
     counts --iterations 2 --queue spatial --bucket 1 --link 100
+}
+
+many_trips() {
+    begin 'whole trips of 1,900,000 vehicles, in each step'
+    grid 12 4
+    demand 1,2,500000 2,3,500000 3,4,500000 4,1,400000
+    assign --iterations 3 --bucket 1 --costs trips
+}
+
+many_waits() {
+    begin 'waits before each of 1,500 links, in each step'
+    grid 20 400
+    echo o_zone_id,d_zone_id,volume >demand.csv
+    awk 'BEGIN {
+        for (o = 1; o <= 400; o++) for (k = 1; k < 4; k++) print o "," (o + 7 * k) % 400 + 1 ",400"
+    }' >>demand.csv
+    assign --iterations 2 --bucket 1 --costs trips
 }
 
 many_entries() {

@@ -118,6 +118,7 @@ def make_case(r, queue):
              "workers": r.choice([1, 2])}
     if r.random() < .4:
         add_demand_windows(r, *tables["demand"], words["period"])
+    words["costs"] = r.choice(["links", "trips"])
     return Case(["assign"] + [f"--{name}={value}" for name, value in words.items()], tables)
 
 

@@ -3,13 +3,14 @@ is known beforehand, and those at random."""
 import bisect
 
 from law_rules import faults_of
-from law_run import FLOW, FREE, GAP, RESULTS, STORAGE, TIMES, Moves, agent_of
+from law_run import FLOW, FREE, GAP, STORAGE, TIMES, WAITS, Moves, agent_of
 
 COLUMNS = {"agent": ["agent_id", "o_zone_id", "d_zone_id", "departure_step", "arrival_step",
                      "link_ids", "entry_steps"],
            "link_performance": ["link_id", "from_step", "to_step", "entered", "travel_steps",
                                 "free_steps"],
-           "gap": ["iteration", "route_steps", "least_steps", "gap_steps", "gap_ppm"]}
+           "gap": ["iteration", "route_steps", "least_steps", "gap_steps", "gap_ppm"],
+           "origin_wait": ["link_id", "from_step", "to_step", "departed", "wait_steps"]}
 STEPS = ["arrival_step", "entry_steps"]
 
 
@@ -127,11 +128,17 @@ class Planted:
             for column in ("gap_steps", "gap_ppm", "route_steps", "least_steps"):
                 yield Change("gap", row, column, 0, table.number(row, column) + 1)
 
+    def waits(self):
+        table = self.results.get("origin_wait", ())
+        for row in range(len(table)):
+            for column in ("departed", "wait_steps"):
+                yield Change("origin_wait", row, column, 0, table.number(row, column) + 1)
+
 
 KINDS = {"departures_early": FREE, "moves_early": FREE, "entries_above_an_allowance": FLOW,
          "leavings_above_an_allowance": FLOW, "turns_above_a_limit": FLOW,
          "entries_onto_a_full_link": STORAGE, "times_below_free_flow": TIMES,
-         "counts_of_buckets": TIMES, "gaps": GAP}
+         "counts_of_buckets": TIMES, "gaps": GAP, "waits": WAITS}
 
 
 def planted_outcomes(r, given, results):
@@ -148,7 +155,7 @@ def planted_outcomes(r, given, results):
 def random_change(r, given, results, by_a_step):
     """Another number in place of one of the tables, or a step of a move one higher or lower; none
     where the column that is drawn has no number."""
-    name = "agent" if by_a_step else r.choice(RESULTS)
+    name = "agent" if by_a_step else r.choice(list(results))
     column = r.choice(STEPS if by_a_step else COLUMNS[name])
     rows = [row for row in range(len(results[name])) if results[name].text(row, column)]
     if not rows:

@@ -8,6 +8,7 @@ from law_run import FIT, FLOW, FREE, ORDER, STORAGE, Fault, Moves, agent_of
 from law_searches import NEVER
 from law_tables import VEHICLE, Unread, above
 from law_times import balance_faults, gap_faults, time_faults
+from law_trips import wait_faults
 
 
 def faults_of(given, results):
@@ -28,6 +29,8 @@ def faults_of(given, results):
         faults += order_faults(given.net, agents)
         faults += time_faults(given, results["link_performance"], agents)
         faults += balance_faults(given, results["link_performance"], agents, moves)
+        if "origin_wait" in results:
+            faults += wait_faults(given, results["origin_wait"], agents)
         faults += gap_faults(given, results, agents)
     except Unread as one:
         faults.append(Fault(*one.place, FIT, one.why))

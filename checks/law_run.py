@@ -13,7 +13,8 @@ FREE = "nobody is faster than free flow"
 ORDER = "first in, first out"
 TIMES = "link times"
 GAP = "the gap is never negative"
-RESULTS = ("agent", "link_performance", "gap")
+WAITS = "waits at origins"
+RESULTS = ("agent", "link_performance", "gap", "origin_wait")  # the last one by whole trips
 
 
 @dataclass
@@ -46,9 +47,10 @@ class Given:
                 for first in range(0, self.horizon, self.bucket)]
 
 
-def results_of(folder):
-    """The tables that a run wrote, by their names."""
-    return {name: Rows(folder, name + ".csv") for name in RESULTS}
+def results_of(folder, settings):
+    """The tables that a run with these settings wrote, by their names."""
+    return {name: Rows(folder, name + ".csv") for name in RESULTS
+            if name != "origin_wait" or settings["costs"] == "trips"}
 
 
 @dataclass

@@ -10,8 +10,8 @@ csv.field_size_limit(2 ** 31 - 1)
 
 VEHICLE = 3_600_000_000  # parts of a vehicle: millionths of one an hour, times seconds
 DEFAULTS = {"step": 6, "jam": 125, "length-unit": "m", "speed-unit": "kmh", "horizon": 1200,
-            "iterations": 1, "bucket": 50, "queue": "point", "wave": 20}
-TEXTS = ("length-unit", "speed-unit", "queue")
+            "iterations": 1, "bucket": 50, "queue": "point", "wave": 20, "costs": "links"}
+TEXTS = ("length-unit", "speed-unit", "queue", "costs")
 OTHERS = ("period", "workers", "watch")
 MICROMETRES = {"m": 1_000, "km": 1_000_000, "mi": 1_609_344}  # of a thousandth of the unit
 SPEEDS = {"kmh": 1_000_000, "mph": 1_609_344}  # micrometres an hour of a thousandth

@@ -3,8 +3,10 @@ from collections import Counter, defaultdict
 
 from law_run import FIT, GAP, TIMES, Fault
 from law_tables import above
+from law_trips import TripCosts, origin_waits
 
 MILLION = 1_000_000
+TOO_LARGE = "the network is too large to search the least steps of the last iteration again"
 
 
 # Link times.
@@ -107,24 +109,41 @@ def last_gap_faults(given, results, routed):
     """The last line of the gap table beside the routes and the link times that were printed. Where
     a departure is out of range or a link time below free flow, as is told already, it isn't."""
     table, row = results["gap"], len(results["gap"]) - 1
-    count = len(given.buckets())
-    printed = [[results["link_performance"].number(number * count + bucket, "travel_steps")
-                for bucket in range(count)] for number in range(len(given.net.links))]
+    printed = printed_times(given, results)
     if any(min(times) < link.free for times, link in zip(printed, given.net.links)) or any(
             not 0 <= agent.departure < given.horizon for agent in routed):
         return
 
+    if given.settings["costs"] == "trips":
+        sums = TripCosts(given, printed, origin_waits(given, routed)).sums(routed)
+        if sums[1] is None:
+            given.notes.append(TOO_LARGE)
+    else:
+        sums = sums_by_links(given, printed, routed)
+    for column, value in zip(("route_steps", "least_steps"), sums):
+        if value is not None and table.number(row, column) != value:
+            yield Fault("gap", row + 2, column, GAP,
+                        f"by the routes and the times of the last iteration it is {value}")
+
+
+def printed_times(given, results):
+    """For each link the steps of each bucket, as they were printed."""
+    count = len(given.buckets())
+    return [[results["link_performance"].number(number * count + bucket, "travel_steps")
+             for bucket in range(count)] for number in range(len(given.net.links))]
+
+
+def sums_by_links(given, printed, routed):
+    """By link times the steps of the routes of these vehicles, and the least steps of their trips,
+    or none of these where the network is too large to search them."""
     def time(link, step):
         if step >= given.horizon:
             return given.net.links[link].free
         return printed[link][step // given.bucket]
 
-    route = sum(route_time(given.net, agent, time) for agent in routed)
     trips = Counter((agent.departure, agent.origin, agent.destination) for agent in routed)
-    for column, value in (("route_steps", route), ("least_steps", least_sum(given, trips, time))):
-        if value is not None and table.number(row, column) != value:
-            yield Fault("gap", row + 2, column, GAP,
-                        f"by the routes and the link times of the last iteration it is {value}")
+    return (sum(route_time(given.net, agent, time) for agent in routed),
+            least_sum(given, trips, time))
 
 
 def least_sum(given, trips, time):
@@ -134,8 +153,7 @@ def least_sum(given, trips, time):
     for trip, count in trips.items():
         least = given.searches.least(trip, time)
         if least is None:
-            given.notes.append("the network is too large to search the least steps of the last "
-                               "iteration again")
+            given.notes.append(TOO_LARGE)
             return None
         total += count * least
     return total

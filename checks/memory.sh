@@ -158,7 +158,8 @@ case_of() {
     outputs=$3
     rm -rf "$work/case" "$work/whole" "$work/earlier"
     mkdir "$work/case" "$work/whole" "$work/earlier"
-    for output in agent.csv link_performance.csv gap.csv skim.csv counts.csv sweep.txt; do
+    for output in agent.csv link_performance.csv origin_wait.csv gap.csv skim.csv counts.csv \
+        sweep.txt; do
         echo earlier >"$work/earlier/$output"
     done
     : >"$work/earlier/report"
@@ -180,11 +181,14 @@ case_of() {
 }
 
 files='agent.csv link_performance.csv gap.csv report'
+with_waits='agent.csv link_performance.csv origin_wait.csv gap.csv report'
 for loader in --plain '--workers 1' '--workers 4'; do
     case_of "two links in a line, $loader" two_links "$files" \
         assign --period 30 --horizon 60 $loader
     case_of "two iterations, $loader" a_way_round "$files" \
         assign --period 1 --horizon 60 --iterations 2 $loader
+    case_of "two iterations by trips, $loader" a_way_round "$with_waits" \
+        assign --period 1 --horizon 60 --iterations 2 --costs trips $loader
     case_of "a demonstration, $loader" : report demo 2 --period 1 --horizon 1 $loader
     case_of "counts, $loader" a_way_round 'counts.csv report' \
         counts --period 1 --horizon 60 --link 30 $loader
@@ -194,5 +198,7 @@ for workers in 1 4; do
     case_of "a sweep, $workers workers" a_way_round 'sweep.txt report' sweep --period 1 \
         --horizon 60 --iterations 2 --scales '1;0.5;2' --workers $workers
 done
+case_of 'a sweep by trips' a_way_round 'sweep.txt report' sweep --period 1 --horizon 60 \
+    --iterations 2 --scales '1;2' --costs trips
 case_of 'an audit' results report audit --period 30 --horizon 60
 end 'all is as it should be'

@@ -9,7 +9,8 @@ the same files and ends with the same status; without it nothing can be compared
 Case K of seed S is the same wherever it is made with the same words: `--case K` runs it alone. With
 `--only KIND` all cases are of this kind: a command, such as skim, counts, sweep or audit;
 `windows`, capacities by step in link and movement tables; `newell`, the queue with and without a
-wave; `start`, assignments from a start table. Otherwise each kind has its share. The link times
+wave; `start`, assignments from a start table; `trips`, each command that takes `--costs trips` with
+these words. Otherwise each kind has its share. The link times
 that a skim reads are those of an `assign` of PEER, and a start table is its agent table; both as
 they are or changed. An audit reads the agent table and the link times of one `assign` of PEER,
 mostly with one field or one row changed. At the first difference its folder is kept and named, and

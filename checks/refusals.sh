@@ -339,6 +339,8 @@ unwritten link_performance.csv freeflow
 unwritten agent.csv assign
 unwritten link_performance.csv assign
 unwritten gap.csv assign
+unwritten origin_wait.csv assign --costs trips
+unwritten gap.csv assign --costs trips
 unwritten skim.csv skim --horizon 60
 unwritten counts.csv counts
 unwritten sweep.txt sweep --scales 1

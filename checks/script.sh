@@ -48,6 +48,8 @@ is_said() {
 }
 
 refused_words() {
+    ends 2 "--costs can't be 'trip': it takes links, trips" assign --costs trip
+    ends 2 'not an option of skim, but of assign, demo, counts and sweep' skim --costs links
     ends 2 'a command has to come first: freeflow, assign,'
     ends 2 "'assig' is not a command" assig
     ends 2 "'--step' stands before the command" --step 6 assign
@@ -161,6 +163,15 @@ refused_runs() {
     ln -s demand.csv agent.csv; ends 9 'agent.csv and demand.csv are one file' assign
     ln link.csv gap.csv; ends 9 'gap.csv and link.csv are one file' assign
     ln -s gap.csv agent.csv; ends 9 'gap.csv and agent.csv are one file' assign
+    ln -s demand.csv origin_wait.csv
+    ends 9 'origin_wait.csv and demand.csv are one file' assign --costs trips
+    ln -s gap.csv origin_wait.csv
+    ends 9 'gap.csv and origin_wait.csv are one file' assign --costs=trips
+    ln -s demand.csv origin_wait.csv; ends 0 '' assign
+    "$shell" "$script" assign --costs trips >origin_wait.csv 2>"$folder/said"; status=$?
+    text='Standard output goes to origin_wait.csv' wanted=9
+    case_of 'standard output to the origin waits' is_said
+    new_folder
     ln -s link_performance.csv times.csv; ends 0 '' assign
     "$shell" "$script" assign >>demand.csv 2>"$folder/said"; status=$?
     text='Standard output goes to demand.csv' wanted=9
@@ -329,6 +340,9 @@ told_before() {
     ln gap.csv other; ends 0 'gap.csv has further names (hard links)' assign
     "$script" assign >/dev/null 2>&1
     ends 0 'link_performance.csv is here already, from assign; freeflow writes over it' freeflow
+    echo x >origin_wait.csv
+    ends 0 'origin_wait.csv is here already, from something else' assign --costs trips
+    "$script" assign --costs trips >/dev/null 2>&1; ends 0 '' assign --costs trips
     "$script" freeflow >/dev/null 2>&1; ends 0 'from freeflow; assign writes over it' assign
     echo link,count >counts.csv; ends 0 'counts.csv is here already, from something else' counts
     "$script" assign >/dev/null 2>&1; ends 0 '' assign
@@ -376,6 +390,14 @@ notes_of_runs() {
     "$shell" "$script" assign >/dev/null 2>&1
     case_of 'words.txt after a missing table' cmp -s words.txt kept
     mv away node.csv
+    cp words.txt kept
+    "$shell" "$script" assign --costs trips --period=9 --horizon 60 >/dev/null 2>&1
+    case_of 'the words of a run by trips' noted 'assign --costs trips --period=9 --horizon 60' \
+        "$(by_now agent.csv link_performance.csv origin_wait.csv gap.csv)" \
+        'skim --at 0;9 --horizon 60' "$least"
+    "$shell" "$script" assign --period=9 --horizon 60 >/dev/null 2>&1
+    case_of 'the words of a run by links after it' noted 'assign --period=9 --horizon 60' \
+        "$(by_now $tables)" 'skim --at 0;9 --horizon 60' "$least"
     rm gap.csv && ln -s /dev/full gap.csv
     "$shell" "$script" assign >/dev/null 2>&1
     case_of 'no words of tables that are written in part' noted \
@@ -404,6 +426,9 @@ unwritten_outputs() {
     mkdir agent.csv; ends 5 "agent.csv couldn't be written: a folder has its name" assign
     mkdir gap.csv; ends 5 'Written whole before it: agent.csv link_performance.csv.' assign
     ln -s /dev/full gap.csv; ends 5 "gap.csv couldn't be written" assign
+    ln -s /dev/full origin_wait.csv
+    ends 5 'before it: agent.csv link_performance.csv.' assign --costs trips
+    ln -s /dev/full origin_wait.csv; ends 5 "origin_wait.csv couldn't be" assign --costs trips
     ln -s no/folder gap.csv; ends 5 'it is a link that leads nowhere' assign
     printf 'o_zone_id,d_zone_id,volume\n1,3,300\n' >demand.csv
     (ulimit -f 1; exec "$shell" "$script" assign >"$folder/report" 2>said)
@@ -566,6 +591,7 @@ packages() {
     case_of 'commands completed' [ "$(completed dta s)" = 'skim sweep' ]
     case_of 'options completed' [ "$(completed dta assign --w)" = '--workers --wave --watch' ]
     case_of 'values completed' [ "$(completed dta assign --queue = n)" = newell ]
+    case_of 'costs completed' [ "$(completed dta assign --costs t)" = trips ]
     command -v dpkg-deb >/dev/null || { echo 'not tried: there is no dpkg-deb'; return; }
     file=$("$top/package" 2>/dev/null)
     dpkg-deb -x "$file" debian

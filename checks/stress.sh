@@ -33,6 +33,9 @@ make_net() {
 both() {
     timeout 60 "$program" assign --period 40 --horizon 300 --iterations 2 --queue spatial "$@" &&
         cat agent.csv link_performance.csv gap.csv &&
+        timeout 60 "$program" assign --period 40 --horizon 300 --iterations 2 --queue spatial \
+            --costs trips "$@" &&
+        cat agent.csv link_performance.csv origin_wait.csv gap.csv &&
         timeout 60 "$program" demo 6 --iterations 3 "$@"
 }
 

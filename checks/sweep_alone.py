@@ -4,8 +4,9 @@
 Checks that each scenario of a sweep has the texts that `assign` writes over the scaled demand
 alone. Makes N small networks (200 where N isn't said) with the words of a sweep by a seed, as
 random_cases.py does. PROGRAM runs `sweep` over each, and `assign` with the same words over
-the demand times each scale. The texts of a scenario must be those of Agent, LinkTime, Gap and
-Report. Prints how many cases and scenarios there were; the status is 1 where some text differs.
+the demand times each scale. The texts of a scenario must be those of Agent, LinkTime, with
+`--costs trips` OriginWait, Gap and Report. Prints how many cases and scenarios there were; the
+status is 1 where some text differs.
 """
 import argparse
 import os
@@ -20,7 +21,7 @@ import case_maker  # noqa: E402
 import case_sweeps  # noqa: E402
 
 MOST = 10 ** 12  # thousandths of a volume
-ALONE = ["agent.csv", "link_performance.csv", "gap.csv"]
+ALONE = ["agent.csv", "link_performance.csv", "origin_wait.csv", "gap.csv"]
 
 
 def thousandths(text):
@@ -58,9 +59,13 @@ def read(folder, name):
         return text.read()
 
 
+def is_by_trips(words):
+    return "--costs=trips" in words or ("--costs", "trips") in zip(words, words[1:])
+
+
 def make_case(r):
     """Words without scales, scales as they are spelled, and tables that are accepted."""
-    features = [one for one in ("windows", "newell") if r.random() < .3]
+    features = [one for one in ("windows", "newell", "trips") if r.random() < .3]
     groups = case_maker.make_options(r, "sweep", features)
     groups = [group for group in groups if not group[0].startswith("--scales")]
     words = [word for group in groups for word in group]
@@ -83,7 +88,8 @@ def differences(program, words, scales, tables, folder):
         if status != 0:
             return len(parts), [f"assign of scenario {place} ends with {status}"]
         wanted += f"scenario {place} scale {scale}\n".encode("ascii")
-        wanted += b"".join(read(alone, name) for name in ALONE) + told
+        wanted += b"".join(read(alone, name) for name in ALONE
+                           if name != "origin_wait.csv" or is_by_trips(words)) + told
     faults = []
     if report != f"scenarios {len(parts)}\n".encode("ascii"):
         faults.append("its report differs")

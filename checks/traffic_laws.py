@@ -6,13 +6,14 @@ Checks the laws that hold in every run (docs/LAWS.md), over its tables and by ar
 own: in each step no more vehicles enter a link, leave it or take a limited turn than its
 allowance, and in any steps no more than rate times time, rounded up; no link holds more than its
 storage; nobody is faster than free flow; links are left in the order of entry; link times are
-those of the visits, and never below free flow; the gap is that of the routes in the link times,
-and never negative.
+those of the visits, and never below free flow; the gap is that of the routes by the link times,
+or with `--costs trips` by whole trips, and never negative; and waits at origins are those of the
+vehicles.
 
 The second form checks the run in FOLDER: node.csv, link.csv, movement.csv where there is one,
-demand.csv, and the agent.csv, link_performance.csv and gap.csv that `assign` wrote with these
-WORDS. It prints each fault with its table, line, column and law; the status is 1 where there is
-one.
+demand.csv, and the agent.csv, link_performance.csv, gap.csv and by trips origin_wait.csv that
+`assign` wrote with these WORDS. It prints each fault with its table, line, column and law; the
+status is 1 where there is one.
 
 The first form lets PROGRAM run over all examples that assign, and over N random networks (200
 where N isn't said) with each kind of queue. Then it changes single numbers of the random runs'
@@ -51,6 +52,7 @@ ASSIGNED = {  # the folder of an example, and the words of its README
     "sioux_falls": "--horizon 2400 --iterations 20",
     "turns": "--period 20 --horizon 60 --bucket 20",
     "two_links": "--period 30 --horizon 60",
+    "two_roads": "--horizon 2400 --iterations 20 --costs trips",
     "two_routes": "--period 1 --horizon 60 --iterations 2",
     "warm_start": "--horizon 2400 --iterations 5 --start",
 }
@@ -60,7 +62,7 @@ def check(folder, words, name):
     """Checks the run in a folder, prints its faults, the first ones where there are many, and says
     whether there are any."""
     given = law_run.Given(folder, words)
-    faults = law_rules.faults_of(given, law_run.results_of(folder))
+    faults = law_rules.faults_of(given, law_run.results_of(folder, given.settings))
     for fault in faults[:MOST_TOLD]:
         print(f"  {fault}")
     if len(faults) > MOST_TOLD:
@@ -171,7 +173,8 @@ def try_random(program, folder, settings):
                 print(f"{queue} case {number}: status {status}")
                 tally.failed += 1
                 continue
-            given, results = law_run.Given(place, case.words), law_run.results_of(place)
+            given = law_run.Given(place, case.words)
+            results = law_run.results_of(place, given.settings)
             tally.vehicles += len(given.trips)
             if law_rules.faults_of(given, results):
                 check(place, case.words, f"{queue} case {number}: {' '.join(case.words)}")

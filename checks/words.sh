@@ -11,14 +11,14 @@ checks=$(dirname "$(readlink -f "$0")")
 everywhere='step jam length-unit speed-unit'
 over_steps="$everywhere horizon bucket"
 loading="$over_steps period queue wave"
-assigning="$loading iterations workers"
+assigning="$loading iterations workers costs"
 
 # options_of COMMAND: its options.
 options_of() {
     case $1 in
         freeflow) echo "$everywhere" ;;
         assign) echo "$assigning watch plain start" ;;
-        demo) echo step jam horizon bucket period queue wave iterations workers watch plain ;;
+        demo) echo step jam horizon bucket period queue wave iterations workers costs watch plain ;;
         skim) echo "$over_steps at" ;;
         counts) echo "$assigning plain link" ;;
         sweep) echo "$assigning scales" ;;
@@ -40,6 +40,7 @@ values_of() {
         bucket) echo 50 0 86401 - ;;
         queue) echo point Point spacial - ;;
         wave) echo 20 0 101 20.0 - ;;
+        costs) echo trips Trips link trip links, both - ;;
         watch) echo 10 86401 -1 - ;;
         at) echo 0 1200 '0;' ';0' '0;;1' 0,1 -1 x - ;;
         link) echo 10 -10 10.5 +10 1e1 9223372036854775808 x - ;;
@@ -166,6 +167,11 @@ done_with 1,1200,0,0,3,0,0,0,0 assign --watch 1 --plain
 done_with 'arrived 3' assign --watch 0
 done_with 'arrived 3' assign --plain
 done_with '2,1,3,500,520,arrived,10;20,500;510,0' assign --start
+# Three depart in step 0, and enter the first link in steps 0, 1 and 2.
+done_with 10,0,50,3,1 assign --period 1 --costs trips
+done_with 10,0,50,1,0 assign --period=150 --costs=trips --iterations 3
+done_with 1,60,60,0,0 assign --period 1 --costs links
+done_with 1,63,63,0,0 assign --period 1 --costs trips --iterations 2
 
 # In one step each of the eight links of the grid of two takes in one vehicle, or 15 in a minute.
 done_with 'nodes 4' demo 000000002
@@ -180,6 +186,8 @@ done_with 'waiting 592' demo --horizon 1 --workers 16 2
 done_with 'waiting 592' demo --plain 2 --horizon 1
 done_with 'least_steps 3100' demo 2 --horizon 1 --bucket 86400
 done_with 1,1,592,8,0,1,1,1,1 demo 2 --horizon 1 --watch 86400
+done_with 'waiting 592' demo 2 --horizon 1 --costs links
+done_with 'waiting 592' demo 2 --costs=trips --horizon 1
 
 done_with 1,3,0,20 skim --horizon 60
 change times 's/,10,10$/,5,5/'; done_with 1,3,0,10 skim --horizon 60 --step 12
@@ -204,6 +212,7 @@ done_with 'arrived 2' "$@" --workers 16
 done_with 'arrived 2' "$@" --plain
 done_with through,1,3,0,60,2 "$@" --link 020.0
 done_with 'arrived 2' "$@" --link 99
+done_with 'least_steps 60' "$@" --costs trips
 
 set -- sweep --scales 1 --horizon 60
 done_with '0,1,3,10,30,arrived,10;20,10;20' "$@"
@@ -219,6 +228,7 @@ done_with 'iterations 2' "$@" --iterations 2
 done_with 10,0,60,3,10,10 "$@" --bucket 60
 done_with 'arrived 2' "$@" --workers 16
 done_with '5,1,3,27,47,arrived,10;20,27;37' sweep --scales '0.001;2' --horizon 60 --period 30
+done_with 10,0,50,2,0 "$@" --costs trips
 done_with 'scenario 15 scale 10000' sweep --horizon 1 --scales "1$(printf ';10%.0s' $(seq 15))"
 
 set -- audit --horizon 60 --period 30

@@ -5,7 +5,7 @@
 checks=$(dirname "$(readlink -f "$0")")
 cases=$(realpath "$checks/../crates/worked_runs/data")
 . "$checks/begin.sh"
-outputs='agent.csv link_performance.csv gap.csv skim.csv counts.csv sweep.txt'
+outputs='agent.csv link_performance.csv origin_wait.csv gap.csv skim.csv counts.csv sweep.txt'
 ran=0
 
 # has FILE WANTED: a file has these bytes. Where none are wanted it isn't there or is empty, or a

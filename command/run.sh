@@ -63,6 +63,8 @@ name_files() {
         freeflow) outputs=link_performance.csv ;;
         assign)
             outputs='agent.csv link_performance.csv gap.csv'
+            [ "$(value_of costs links "$@")" != trips ] ||
+                outputs='agent.csv link_performance.csv origin_wait.csv gap.csv'
             ! is_given start "$@" || tables="$tables start.csv"
             ;;
         skim) tables="$tables times.csv" outputs=skim.csv ;;

@@ -5,7 +5,7 @@ const Checks = (() => {
     function ofRun(run) {
         return [
             zones(run), ways(run), closed(run), closedTurns(run), fullTurns(run), short(run),
-            small(run), departures(run), unfinished(run), jam(run)
+            small(run), departures(run), unfinished(run), twice(run), again(run), jam(run)
         ].filter((found) => found !== null);
     }
 
@@ -173,6 +173,64 @@ const Checks = (() => {
             `${share(running + waiting, arrived + running + waiting)} trips are unfinished at ` +
                 `the horizon: ${Totals.format(running)} on links, ${Totals.format(waiting)} ` +
                 'at their origins.');
+    }
+
+    // Vehicles that have a link twice in their route, with the links.
+    function twice(run) {
+        if (run.agents === null) return null;
+        const {linkStart, links} = run.agents, last = new Int32Array(run.links.count).fill(-1);
+        const agents = [], found = new Set();
+        for (let agent = 0; agent < run.agents.count; agent += 1) {
+            for (let at = linkStart[agent]; at < linkStart[agent + 1]; at += 1) {
+                if (last[links[at]] === agent) {
+                    found.add(links[at]);
+                    if (agents[agents.length - 1] !== agent) agents.push(agent);
+                }
+                last[links[at]] = agent;
+            }
+        }
+        if (agents.length === 0)
+            return check('twice', true, 'No vehicle uses a link twice.');
+        return check(
+            'twice', false,
+            `${vehicles(agents, 'uses', 'use')} a link twice: ${agentNames(run, agents)}. ` +
+                'Routes by link times do so where a mean time falls; routes by whole trips ' +
+                '(--costs trips) don’t.',
+            [...found]);
+    }
+
+    // Vehicles whose route comes back to the node where it begins, with its first links.
+    function again(run) {
+        if (run.agents === null) return null;
+        const {linkStart, links} = run.agents, agents = [], found = new Set();
+        for (let agent = 0; agent < run.agents.count; agent += 1) {
+            const first = linkStart[agent], end = linkStart[agent + 1];
+            if (first === end) continue;
+            const begin = run.links.from[links[first]];
+            for (let at = first; at < end; at += 1) {
+                if (run.links.to[links[at]] !== begin) continue;
+                agents.push(agent);
+                found.add(links[first]);
+                break;
+            }
+        }
+        if (agents.length === 0)
+            return check('again', true, 'No vehicle passes its origin again.');
+        return check(
+            'again', false,
+            `${vehicles(agents, 'passes its', 'pass their')} origin again: ` +
+                `${agentNames(run, agents)}. Who comes back goes before those who wait there. ` +
+                'A movement.csv without turning back keeps most from it.',
+            [...found]);
+    }
+
+    function vehicles(agents, one, several) {
+        return `${Totals.format(agents.length)} ` +
+            (agents.length === 1 ? `vehicle ${one}` : `vehicles ${several}`);
+    }
+
+    function agentNames(run, agents) {
+        return named(agents.map((agent) => run.agentName(agent)));
     }
 
     // Where jams begin: links whose first vehicle, when they are blocked for the first time,

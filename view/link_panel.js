@@ -120,6 +120,7 @@ class LinkPanel {
                     (run.movements.closedLinks.has(link) ? ': closed for all time' : '')
             ],
             ...LinkPanel.timeFacts(run, link),
+            ...LinkPanel.originFacts(run, link),
             ...LinkPanel.vehicleFacts(run, link),
             ...LinkPanel.limits(run, link).map(LinkPanel.limitFact),
             ...LinkPanel.turns(run, link),
@@ -151,6 +152,18 @@ class LinkPanel {
                 `${Totals.format(Math.round(flow))} vehicles an hour (${share} % of capacity)`
             ],
         ];
+    }
+
+    // The mean wait at the origin of those who depart for a link, by origin_wait.csv.
+    static originFacts(run, link) {
+        const row = run.originWait(link);
+        if (row === undefined) return [];
+        return [[
+            'wait before it',
+            `${run.minutes(row.wait).toFixed(1)} min in the mean, of ` +
+                `${Totals.format(row.departed)} vehicles that depart for it from ` +
+                `${run.clock(row.from)} to ${run.clock(row.to)}`
+        ]];
     }
 
     static vehicleFacts(run, link) {

@@ -186,6 +186,15 @@ function resultTables(csv) {
             }));
     }
 
+    function readWaits(file, links, tell) {
+        const names = ['link_id', 'from_step', 'to_step', 'departed', 'wait_steps'];
+        return readRows(file, names, tell, (columns, places, [id, ...at]) => {
+            const link = linkOf(columns, places, id, links);
+            const [from, to, departed, wait] = at.map((column) => columns.whole(places, column));
+            return {link, from, to, departed, wait};
+        });
+    }
+
     function readCounts(file, links, tell) {
         const names = ['kind', 'first', 'second', 'from_step', 'to_step', 'vehicles'];
         return readRows(
@@ -207,5 +216,5 @@ function resultTables(csv) {
             });
     }
 
-    return {readTimes, readGap, readSkim, readCounts, mostSteps};
+    return {readTimes, readGap, readSkim, readWaits, readCounts, mostSteps};
 }

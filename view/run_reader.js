@@ -3,7 +3,8 @@
 // shows.
 function runReader(csv, network, results, agentRows, visitTools, places, shapes) {
     const kinds = [
-        'node', 'link', 'movement', 'demand', 'link_performance', 'agent', 'gap', 'skim', 'counts'
+        'node', 'link', 'movement', 'demand', 'link_performance', 'agent', 'origin_wait', 'gap',
+        'skim', 'counts'
     ];
     // Tables of a run that the page has no use for.
     const others = ['start', 'times'];
@@ -49,6 +50,13 @@ function runReader(csv, network, results, agentRows, visitTools, places, shapes)
         return text.split(/\s+/).filter(Boolean);
     }
 
+    // Whether the words of a run ask for costs of whole trips.
+    function isByTrips(words) {
+        return words.some(
+            (word, place) => word === '--costs=trips' ||
+                word === 'trips' && words[place - 1] === '--costs');
+    }
+
     // A file is known by its name or, where a browser or a person has changed that, by its
     // columns.
     async function kindOf(file) {
@@ -64,6 +72,7 @@ function runReader(csv, network, results, agentRows, visitTools, places, shapes)
         if (has('volume')) return 'demand';
         if (has('from_node_id') && has('link_id')) return 'link';
         if (has('free_steps')) return 'link_performance';
+        if (has('wait_steps')) return 'origin_wait';
         if (has('gap_steps')) return 'gap';
         if (has('least_steps')) return 'skim';
         if (has('kind')) return 'counts';
@@ -112,6 +121,8 @@ function runReader(csv, network, results, agentRows, visitTools, places, shapes)
         const {words, version} = await wordsOf(files, faults);
         const chosen = await sorted(files.filter((file) => file.name !== wordsName), notes);
         if (!chosen.has('link')) return {run: null, notes, faults: [withoutLinks(chosen)]};
+        // A run by link times leaves the origin waits of an earlier run as they were.
+        if (chosen.has('agent') && !isByTrips(words)) chosen.delete('origin_wait');
         const withProgress = teller(chosen, tell);
         try {
             const tables = await readNetwork(chosen, withProgress);
@@ -188,6 +199,7 @@ function runReader(csv, network, results, agentRows, visitTools, places, shapes)
             states: null,
             sums: null,
             turns: null,
+            originWaits: null,
             demand: null,
             gap: null,
             skim: null,
@@ -201,6 +213,8 @@ function runReader(csv, network, results, agentRows, visitTools, places, shapes)
             times: ['link_performance', (file, tell) => results.readTimes(file, links, tell)],
             turns: ['movement', (file, tell) => network.readTurns(file, links, tell)],
             demand: ['demand', network.readDemand],
+            originWaits:
+                ['origin_wait', (file, tell) => results.readWaits(file, links, tell)],
             gap: ['gap', results.readGap],
             skim: ['skim', results.readSkim],
             counts: ['counts', (file, tell) => results.readCounts(file, links, tell)],
@@ -229,9 +243,10 @@ function runReader(csv, network, results, agentRows, visitTools, places, shapes)
             }
             run.horizon = Math.max(run.horizon, last);
         }
-        if (run.agents !== null)
+        if (run.agents !== null) {
             addVisits(run, hasBuckets, faults);
-        else if (!hasBuckets)
+            if (hasBuckets) compareWaits(run, faults);
+        } else if (!hasBuckets)
             notes.push(
                 'There are no link times of a loading and no vehicles: the network alone ' +
                 'is shown. `dta assign` writes link_performance.csv and agent.csv.');
@@ -262,6 +277,24 @@ function runReader(csv, network, results, agentRows, visitTools, places, shapes)
         run.states = visitTools.statesOf(run.agents, run.horizon);
         run.sums = visitTools.sumsOf(run.agents, visits, run.links, run.horizon);
         if (hasBuckets) run.lostSteps = visitTools.lostSteps(run.visits, run.times);
+    }
+
+    // Leaves the table of origin waits out where it isn't that of the vehicles.
+    function compareWaits(run, faults) {
+        if (run.originWaits === null) return;
+        const other = visitTools.otherWaits(run.agents, run.originWaits, run.horizon);
+        if (other === null) return;
+        const name = run.links.names[other.link], told = run.originWaits[other.row];
+        const words = ({departed, wait}) =>
+            `${departed} vehicles departed for it and waited ${wait} steps in the mean`;
+        faults.push(
+            (told === undefined ?
+                 `origin_wait.csv has no line for link ${name} and step ${other.step}, but in ` +
+                     'agent.csv a vehicle departs for it then' :
+                 `origin_wait.csv, line ${other.row + 2}: link ${name}: ${words(told)}, but in ` +
+                     `agent.csv ${words(other)}`) +
+            ': one of the tables is of another run. The origin waits are left out.');
+        run.originWaits = null;
     }
 
     return {readRun};

@@ -11,6 +11,7 @@ class ShownRun {
         this.occupancy = run.visits === null ? null : new Occupancy(run);
         this.movements = new Turns(this);
         this.stands = this.hasLoading && run.visits !== null ? new Stands(this) : null;
+        this.originWaitsOf = this.waitsByLink();
         this.linkPlaces = new Map();
         run.links.names.forEach((linkName, link) => this.linkPlaces.set(linkName, link));
         this.setUnits(units);
@@ -20,6 +21,22 @@ class ShownRun {
         this.units = units;
         this.setStorage(units);
         this.storageBinds = this.visits !== null && this.isStorageKept();
+    }
+
+    // The rows of origin_wait.csv of each link that has some.
+    waitsByLink() {
+        const ofLink = new Map();
+        for (const row of this.originWaits === null ? [] : this.originWaits) {
+            if (!ofLink.has(row.link)) ofLink.set(row.link, []);
+            ofLink.get(row.link).push(row);
+        }
+        return ofLink;
+    }
+
+    // The row of those who depart for a link in the bucket of the run's step, if there is one.
+    originWait(link) {
+        return (this.originWaitsOf.get(link) || []).find(
+            ({from, to}) => from <= this.step && this.step < to);
     }
 
     // With a point queue a link may hold more than it stores. Where no words of the run tell the

@@ -7,7 +7,7 @@ const SweepFile = (() => {
     // The texts of a scenario, by the beginnings of their first lines.
     const tables = [
         ['agent_id,', 'agent.csv'], ['link_id,from_step,to_step,entered,', 'link_performance.csv'],
-        ['iteration,', 'gap.csv']
+        ['link_id,from_step,to_step,departed,', 'origin_wait.csv'], ['iteration,', 'gap.csv']
     ];
     const ofRuns = [name, ...tables.map(([, file]) => file), 'words.txt'];
 

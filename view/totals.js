@@ -15,7 +15,10 @@ const Totals = (() => {
             ...(made === '' ? [] : [{name: 'Made by', text: made}]),
             count('Links', run.links.count), count('Nodes', run.nodes.count)
         ];
-        if (run.agents !== null) rows.push(...vehicleRows(run), ...tripRows(run));
+        if (run.agents !== null)
+            rows.push(...vehicleRows(run), ...tripRows(run));
+        else if (run.originWaits !== null)
+            rows.push(...waitRows(run));
         if (run.gap !== null && run.gap.length > 0) {
             const last = run.gap[run.gap.length - 1];
             rows.push(count('Iterations', last.iteration));
@@ -53,6 +56,17 @@ const Totals = (() => {
             'Vehicle-kilometres, of links that were left',
             length * Units.metres[run.units.unit] / 1000));
         return rows;
+    }
+
+    // Without vehicles the waits are those of origin_wait.csv, means that are rounded up.
+    function waitRows(run) {
+        const sum = (value) => run.originWaits.reduce((before, row) => before + value(row), 0);
+        return [
+            count('Vehicles with a route', sum(({departed}) => departed)),
+            tenth(
+                'Vehicle-hours waiting at origins, by means that are rounded up',
+                run.hours(sum(({departed, wait}) => departed * wait))),
+        ];
     }
 
     // Those who arrived may be the few who met no jam. With the others, each up to the end, a run

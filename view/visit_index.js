@@ -197,6 +197,35 @@ function visitIndex() {
         return sums;
     }
 
+    // The first vehicle that no row of origin waits counts, as its link and step, or else the first
+    // row that isn't that of the vehicles, with what these tell; or null. A vehicle counts by the
+    // first link of its route and the step of its departure. Its wait goes up to its first entry
+    // or, where it has none, to the horizon.
+    function otherWaits(agents, rows, horizon) {
+        const ofLink = new Map(), departed = new Int32Array(rows.length);
+        const waited = new Float64Array(rows.length);
+        rows.forEach(({link}, row) => {
+            if (!ofLink.has(link)) ofLink.set(link, []);
+            ofLink.get(link).push(row);
+        });
+        for (let agent = 0; agent < agents.count; agent += 1) {
+            if (agents.linkStart[agent] === agents.linkStart[agent + 1]) continue;
+            const link = agents.links[agents.linkStart[agent]], step = agents.departure[agent];
+            const row = (ofLink.get(link) || []).find(
+                (one) => rows[one].from <= step && step < rows[one].to);
+            if (row === undefined) return {link, step, row: -1};
+            const first = agents.entryStart[agent];
+            const entry = first < agents.entryStart[agent + 1] ? agents.entries[first] : horizon;
+            departed[row] += 1;
+            waited[row] += entry - step;
+        }
+        const means = waited.map((steps, row) => Math.ceil(steps / Math.max(departed[row], 1)));
+        const row = rows.findIndex(
+            (told, one) => told.departed !== departed[one] || told.wait !== means[one]);
+        if (row < 0) return null;
+        return {link: rows[row].link, row, departed: departed[row], wait: means[row]};
+    }
+
     // The first link and bucket of which the two tables tell different entries, or null.
     function disagreement(visits, times) {
         const entered = new Int32Array(times.entered.length);
@@ -214,5 +243,5 @@ function visitIndex() {
         };
     }
 
-    return {visitsOf, indexOf, lostSteps, waitsOf, statesOf, sumsOf, disagreement};
+    return {visitsOf, indexOf, lostSteps, waitsOf, statesOf, sumsOf, otherWaits, disagreement};
 }

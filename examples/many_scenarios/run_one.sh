@@ -5,7 +5,7 @@
 [ $# -eq 2 ] || { echo 'usage: run_one.sh PROGRAM FOLDER' >&2; exit 2; }
 program=$(readlink -f "$1")
 cd "$2" || exit 2
-rm -f agent.csv link_performance.csv gap.csv
+rm -f agent.csv link_performance.csv origin_wait.csv gap.csv
 echo "${SLURMD_NODENAME:-$(uname -n)}" >machine.txt
 # shellcheck disable=SC2046
 "$program" $(sed 1q words.txt) >report.txt

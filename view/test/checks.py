@@ -151,6 +151,7 @@ def sentences(told):
     small = sum(told.storage(link) < 3 for link in told.links)
     step, most = max(told.departures.items(), key=lambda one: (one[1], -one[0]))
     tiny, left = sum(one < 2 for one in volumes), statuses['running'] + statuses['waiting']
+    twice, again = told.round_trips()
     return {
         'zones': (homeless, (
             f'{len(homeless):,} zones of demand.csv have no node: {named(homeless)}.'
@@ -176,8 +177,21 @@ def sentences(told):
             f'{statuses["running"]:,} on links, {statuses["waiting"]:,} at their origins.'
             if left else 'All vehicles that have a way arrive.'
         )),
+        'twice': (twice, (
+            f'{plural(twice, "uses", "use")} a link twice: {named(twice)}.'
+            if twice else 'No vehicle uses a link twice.'
+        )),
+        'again': (again, (
+            f'{plural(again, "passes its", "pass their")} origin again: {named(again)}.'
+            if again else 'No vehicle passes its origin again.'
+        )),
         'jam': jam_sentence(told),
     }
+
+
+def plural(vehicles, one, several):
+    count = len(vehicles)
+    return f'1 vehicle {one}' if count == 1 else f'{count:,} vehicles {several}'
 
 
 def jam_sentence(told):

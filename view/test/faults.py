@@ -61,9 +61,31 @@ CHECKS = {
     'the middle of its window.',
     'unfinished': 'look: 12 of 13 (92.3 %) trips are unfinished at the horizon: 11 on links, 1 at '
     'their origins.',
+    'twice': 'fine: No vehicle uses a link twice.',
+    'again': 'fine: No vehicle passes its origin again.',
     'jam': 'look: Links are blocked from 00:02:36 on. The jam begins at 1 of them. With the '
     'vehicle-hours that are lost there and behind: 20 (00:02:36, 0.8).',
 }
+
+# Vehicles that go round: over a link twice, and past their origin.
+GOES_ROUND = {
+    'link.csv': 'link_id,from_node_id,to_node_id,length,free_speed\n'
+    '20,1,2,1000,60\n30,2,3,1000,60\n40,2,1,1000,60\n50,2,2,1000,60\n',
+    'link_performance.csv': None,
+    'agent.csv': AGENTS.split('\n')[0]
+    + '\n0,1,3,0,50,arrived,20;50;50;30,0;10;20;30\n1,1,3,0,40,arrived,20;40;20;30,0;10;20;30\n'
+    '2,1,3,0,20,arrived,20;30,0;10\n',
+}
+ROUND_CHECKS = {
+    'twice': 'look: 2 vehicles use a link twice: 0, 1. Routes by link times do so where a mean '
+    'time falls; routes by whole trips (--costs trips) don’t.',
+    'again': 'look: 1 vehicle passes its origin again: 1. Who comes back goes before those who '
+    'wait there. A movement.csv without turning back keeps most from it.',
+}
+
+# The origin waits of the small good run, and the words by which it has them.
+WAITS = 'link_id,from_step,to_step,departed,wait_steps\n20,0,50,1,0\n'
+BY_TRIPS = 'assign --horizon 60 --costs trips\n'
 
 # Name, the files that differ from a good run (None: not there), and what must be said.
 CASES = [
@@ -92,6 +114,25 @@ CASES = [
         'agents_of_a_longer_run',
         {'agent.csv': AGENTS.replace('0,20,arrived', '0,70,arrived')},
         'agent.csv has a step 70, but link_performance.csv ends at step 60',
+    ),
+    (
+        'waits_of_another_run',
+        {'origin_wait.csv': WAITS.replace('1,0', '1,4'), 'words.txt': BY_TRIPS},
+        'origin_wait.csv, line 2: link 20: 1 vehicles departed for it and waited 4 steps in the '
+        'mean, but in agent.csv 1 vehicles departed for it and waited 0 steps in the mean: one of '
+        'the tables is of another run. The origin waits are left out.',
+    ),
+    (
+        'waits_that_miss_a_line',
+        {'origin_wait.csv': WAITS.split('20,')[0], 'words.txt': BY_TRIPS},
+        'origin_wait.csv has no line for link 20 and step 0, but in agent.csv a vehicle departs '
+        'for it then: one of the tables is of another run. The origin waits are left out.',
+    ),
+    (
+        'waits_of_another_network',
+        {'origin_wait.csv': WAITS.replace('20,0', '21,0'), 'agent.csv': None},
+        'origin_wait.csv, line 2: link 21 isn\'t in link.csv. The table seems to be one of another '
+        'run.',
     ),
     (
         'times_of_another_network',

@@ -284,17 +284,24 @@ class PlannerTests:
     def checks_are_told(self):
         for name, words in (
             ('sioux_falls', ''),
+            ('by_trips', ''),
             ('busy', 'They wait for each other: 12 '),
             ('town', 'The jam begins at '),
         ):
             self.open_run(name)
-            told = Told(self.path(name), storage_binds=name != 'sioux_falls')
+            told = Told(self.path(name), storage_binds=name in ('busy', 'town'))
             check(words in self.check_the_checks(told, name)['jam'], f'the jam of {name}')
         self.page.open()
         self.page.drop([faults.make(self.folder, 'to_check', faults.TO_CHECK)])
         self.page.wait_for_runs(['to_check'])
         said = self.checks_of('to_check')
         for key, words in faults.CHECKS.items():
+            equal(said[key], words, f'the check of {key}')
+        self.page.open()
+        self.page.drop([faults.make(self.folder, 'goes_round', faults.GOES_ROUND)])
+        self.page.wait_for_runs(['goes_round'])
+        said = self.checks_of('goes_round')
+        for key, words in faults.ROUND_CHECKS.items():
             equal(said[key], words, f'the check of {key}')
 
     def things_are_found(self):

@@ -85,6 +85,7 @@ def make_all(program, folder):
             ['assign', '--period', '900', '--horizon', '1500', '--bucket', '150'],
             'morning_peak',
         ),
+        'by_trips': made('by_trips', [*long, '--costs', 'trips'], 'sioux_falls'),
         'half_of_link_48': made('half_of_link_48', long, 'sioux_falls', halve_capacity('48')),
         'town': made_by(made_network.town, 'town'),
         'country': made_by(made_network.country, 'country'),
@@ -92,7 +93,9 @@ def make_all(program, folder):
             'limited', ['assign', '--period', '60', '--horizon', '200'], 'turns', limit_turns
         ),
         'sweep': made(
-            'sweep', ['sweep', '--scales', '0.5;1.6', '--queue', 'spatial'], 'roundabout'
+            'sweep',
+            ['sweep', '--scales', '0.5;1.6', '--queue', 'spatial', '--costs', 'trips'],
+            'roundabout',
         ),
         'busy': made_by_words('busy', 'many_scenarios/scenarios/busy'),
         'steps_of_10': made_by_words(

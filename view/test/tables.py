@@ -164,6 +164,29 @@ class Told:
         }
         return [step for step in sorted(stands) if self.stood(link, step) is not None]
 
+    def longest_wait(self, step):
+        """The first link with the longest mean wait of those who depart in the bucket of a step,
+        and its row of the origin waits."""
+        now = [
+            row
+            for row in rows(self.folder, 'origin_wait.csv')
+            if int(row['from_step']) <= step < int(row['to_step'])
+        ]
+        row = max(now, key=lambda one: int(one['wait_steps']))
+        return row['link_id'], row
+
+    def round_trips(self):
+        """The vehicles that have a link twice in their route, and those that come back to the
+        node where it begins."""
+        twice, again = [], []
+        for row, links, _ in self.agents():
+            begin = self.links[links[0]]['from_node_id'] if links else None
+            if len(set(links)) < len(links):
+                twice.append(row['agent_id'])
+            if any(self.links[link]['to_node_id'] == begin for link in links):
+                again.append(row['agent_id'])
+        return twice, again
+
     def trip_minutes(self):
         """Of a trip: the mean of those who arrived, and of all, the others up to the end."""
         routed = [row for row, links, _ in self.agents() if links]

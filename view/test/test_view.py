@@ -394,6 +394,7 @@ TESTS = [
     'widths_tell_importance',
     'a_run_says_how_it_was_made',
     'trips_tell_who_is_counted',
+    'waits_at_origins_are_told',
     'turns_that_bind_are_seen',
     'fields_answer_enter',
     'the_map_stays_in_sight',

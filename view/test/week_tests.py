@@ -71,6 +71,30 @@ class WeekTests:
             page.choose('.stepSeconds', '7')
             equal(page.text('#doubts'), '', 'doubts once the step is said')
 
+    def waits_at_origins_are_told(self):
+        """By whole trips the mean wait of those who depart for a link; also without vehicles."""
+        page, told = self.page, Told(self.path('by_trips'))
+        for path in (self.path('by_trips'), self.without_agents('by_trips')):
+            self.opened(path)
+            equal(page.text('#messages'), '', 'what is said of a run by trips')
+            page.choose('#slider', 300)
+            link, row = told.longest_wait(300)
+            page.choose('#find', f'link {link}')
+            words = (
+                f'{told.minutes(int(row["wait_steps"])):.1f} min in the mean, of '
+                f'{int(row["departed"]):,} vehicles that depart for it from '
+                f'{told.clock(int(row["from_step"]))} to {told.clock(int(row["to_step"]))}'
+            )
+            equal(facts(page)['wait before it'], words, f'the wait before link {link}')
+
+    def without_agents(self, name):
+        """The folder of a run without its vehicles."""
+        folder = os.path.join(self.folder, f'{name}_without_agents')
+        shutil.rmtree(folder, ignore_errors=True)
+        shutil.copytree(self.path(name), folder)
+        os.remove(os.path.join(folder, 'agent.csv'))
+        return folder
+
     def trips_tell_who_is_counted(self):
         """A gridlock has the longer trips, and gaps are in percent."""
         page = self.page
@@ -238,8 +262,11 @@ class WeekTests:
         shutil.copytree(self.path('sweep'), folder)
         with open(os.path.join(folder, 'sweep.txt'), encoding='utf-8') as text:
             part = re.split(r'^scenario .*\n', text.read(), flags=re.M)[place + 1]
-        begins = [part.index(head) for head in ('agent_id', 'link_id,', 'iteration,', 'nodes ')]
-        for name, begin, end in zip(('agent', 'link_performance', 'gap'), begins, begins[1:]):
+        times, waits = (f'link_id,from_step,to_step,{one},' for one in ('entered', 'departed'))
+        heads = ('agent_id', times, waits, 'iteration,', 'nodes ')
+        begins = [part.index(head) for head in heads]
+        names = ('agent', 'link_performance', 'origin_wait', 'gap')
+        for name, begin, end in zip(names, begins, begins[1:]):
             with open(os.path.join(folder, f'{name}.csv'), 'w', encoding='utf-8') as table:
                 table.write(part[begin:end])
         return folder

@@ -1,18 +1,16 @@
 -- The iterations of an assignment, one after another, with what goes out.
-use Rattle.trip_costs.specs.Timings.{Links}
 use Rattle.std.specs.Prelude.{Result, Ok, Err, IfOk, IfErr}
 use Rattle.std.proofs.Common.{◌≡◌, ℕ, ◌+◌, ◌≤◌, List, [], ◌∷◌, ◌++◌, refl, sym, subst, ◌∙◌, arith, length-append, inl, inr}
 use Rattle.std.proofs.lemmas.Option.{slice_get_within}
 use Rattle.desk_io.specs.Desk.{Taken}
 use Rattle.desk_io.specs.State.{DeskState}
-use Rattle.dta_model.specs.LinkTimes.{time_at}
 use Rattle.dta_model.specs.declared.eight.Eight.{Eight}
 use Rattle.gap.specs.declared.line.GapLine.{GapLine}
 use Rattle.route_flows.specs.Averages.{AreNextRoutes}
 use Rattle.start_table.specs.Starts.{AreStartRows}
 use Rattle.dta_words.specs.Ranges.{AreSettings}
 use Rattle.dta_words.specs.declared.command.Settings.{Settings}
-use Rattle.assignment.specs.Assignment.{AreIterations, Traffic, VehicleRoutes, end_of, times_of}
+use Rattle.assignment.specs.Assignment.{AreIterations, Traffic, VehicleRoutes, costs_of, end_of}
 use Rattle.assignment.specs.Progress.{HasBegun, HasEnded, HasNext}
 use Rattle.assignment.proofs.AssignmentFacts.{get-kept, only-first, with-gap, with-next}
 use Rattle.assign_command.specs.Calls.{OnlyWatches}
@@ -71,7 +69,7 @@ module _ (s : Settings) (traffic : Traffic) where
         as_many = omega (arith, many, long);
         with_gaps = omega (arith, gaps, long, added);
         iterations = with-next s traffic at.done r next (lines ++ has.line ∷ []) (omega (arith, gaps, added))
-            (subst (λ (n : ℕ). AreNextRoutes (Links (time_at (times_of s traffic r))) traffic.net traffic.trips n r next) (sym many) has.next_are)
+            (subst (λ (n : ℕ). AreNextRoutes (costs_of s traffic r) traffic.net traffic.trips n r next) (sym many) has.next_are)
             (with-gap s traffic at.done r lines has.line gaps has.gap at.iterations);
         texts = at.texts ++ put.0;
         watch_lines = watch-more s traffic 1 number at.done r at.texts put.0 many at.watch_lines put.1;

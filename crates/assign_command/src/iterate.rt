@@ -31,9 +31,9 @@ fn since(alloc: Global, assignment: &Assignment) -> Result<Option<Steps>, Halt>
     if !assignment.settings.start {
         return Ok(None);
     }
-    let (net, trips) = (assignment.net, assignment.trips);
-    let iterations = assignment.settings.iterations;
-    let numbers = route_iterations(alloc, net, trips, assignment.start, iterations)?;
+    let (net, trips, settings) = (assignment.net, assignment.trips, assignment.settings);
+    let (by, iterations) = (settings.costs, settings.iterations);
+    let numbers = route_iterations(alloc, by, net, trips, assignment.start, iterations)?;
     Ok(Some(numbers))
 }
 
@@ -63,7 +63,7 @@ fn measure_last<R: AllocGlobal + Threads + Sync>(
 }
 
 /// Does all iterations of an assignment: the routes of each, its loading by the call that is given,
-/// its link times and its gap. Where there is a watch, each puts its lines, the last one once it is
+/// its costs and its gap. Where there is a watch, each puts its lines, the last one once it is
 /// loaded. It waits for nothing but that call and the threads that search routes.
 pub(crate) fn iterate<R: AllocGlobal + Threads + Sync, D: Desk, G: Gate, F>(
     rt: &R,

@@ -1,5 +1,5 @@
 -- The iterations of an assignment, one after another.
-use Rattle.trip_costs.specs.Timings.{Links, Timing}
+use Rattle.trip_costs.specs.Timings.{Timing}
 use Rattle.std.specs.Prelude.{All, Bool, count_by, slice_get}
 use Rattle.std.proofs.Common.{◌≡◌, ℕ, ◌+◌, ◌<◌, ◌≤◌, List, [], ◌∷◌, ◌++◌, length, refl, ap, sym, subst, ◌∙◌, arith, rules, length-append, ◌⊎◌, inl, inr, Some}
 use Rattle.std.specs.List.{IsDistinct}
@@ -11,7 +11,7 @@ use Rattle.std.proofs.lemmas.Option.{get_or_from_slice_get, slice_get-get_or, sl
 use Rattle.std.proofs.Math.Seq.{get_or-append_seam}
 use Rattle.net_core.specs.Network.{IsNet, numbers_below}
 use Rattle.net_core.specs.declared.rows.NetRows.{NetRows}
-use Rattle.dta_model.specs.LinkTimes.{TimeTable, free_steps, table_in, table_of, time_at}
+use Rattle.dta_model.specs.LinkTimes.{TimeTable, free_steps, table_in, table_of}
 use Rattle.dta_model.specs.Loading.{journey_of, journeys_of}
 use Rattle.dta_model.specs.Sound.{AreWalks, IsSound}
 use Rattle.dta_model.specs.State.{arrived_in, eight_after, eight_in, running_in, waiting_in}
@@ -31,7 +31,7 @@ use Rattle.reports.specs.Texts.{AreOnNet}
 use Rattle.reports.proofs.TextsFacts.{walks-on-net}
 use Rattle.dta_words.specs.Ranges.{AreSettings}
 use Rattle.dta_words.specs.declared.command.Settings.{Settings}
-use Rattle.assignment.specs.Assignment.{AreIterations, Traffic, VehicleRoutes, end_of, plan_of, times_of}
+use Rattle.assignment.specs.Assignment.{AreIterations, Traffic, VehicleRoutes, costs_of, end_of, plan_of, times_of}
 use Rattle.assignment.specs.Progress.{HasBegun, HasEnded, HasNext, IsAssigned, IsAt}
 use Rattle.assignment.specs.Traffic.{AreRoutesOf, AreTripsBelow}
 use Rattle.assignment.specs.declared.iterations.Assigned.{Assigned}
@@ -57,13 +57,6 @@ sound-plan s traffic routes settings net trips are = record {
 table-free : (p : Plan) (bucket : ℕ) → (table_of p bucket).free ≡ free_steps p.net
 unfolding table_in
 table-free p bucket = refl
-
--- the table of a sound loading is short
-pub short-table : (p : Plan) (bucket : ℕ) (t : TimeTable) → IsSound p → t ≡ table_of p bucket → All (λ x. x ≤ MOST_HORIZON) t.times → IsShort t
-short-table p bucket t sound e times = record {
-  times = times;
-  free = rw (ap (λ (x : TimeTable). x.free) e ∙ table-free p bucket) (steps_most p.net sound.net);
-}
 
 -- a table of a loading has the free-flow steps of its links, and so as many as there are links
 pub free-of : (s : Settings) (traffic : Traffic) (routes : VehicleRoutes) (t : TimeTable) → t ≡ times_of s traffic routes → t.free ≡ free_steps traffic.net
@@ -129,7 +122,7 @@ module _ (s : Settings) (traffic : Traffic) where
 
   -- the gap of the last iteration
   pub with-gap : (done : List VehicleRoutes) (r : VehicleRoutes) (lines : List GapLine) (line : GapLine) → length lines ≡ length done
-      → IsGapLine (Links (time_at (times_of s traffic r))) traffic.net traffic.trips r line
+      → IsGapLine (costs_of s traffic r) traffic.net traffic.trips r line
       → AreIterations s traffic (done ++ r ∷ []) lines → AreIterations s traffic (done ++ r ∷ []) (lines ++ line ∷ [])
   with-gap done r lines line many gap it = record {
     start = it.start;
@@ -139,15 +132,15 @@ module _ (s : Settings) (traffic : Traffic) where
   }
     where
       by : (i : ℕ) (z : VehicleRoutes) (l : GapLine) → slice_get (done ++ r ∷ []) i ≡ Some z → slice_get (lines ++ line ∷ []) i ≡ Some l
-          → (i < length lines) ⊎ (i ≡ length lines) → IsGapLine (Links (time_at (times_of s traffic z))) traffic.net traffic.trips z l
+          → (i < length lines) ⊎ (i ≡ length lines) → IsGapLine (costs_of s traffic z) traffic.net traffic.trips z l
       by i z l e f (inl h) = it.gaps i z l e (get-back lines (line ∷ []) i l f h)
       by i z l e f (inr h) =
-          subst (λ (z : VehicleRoutes). IsGapLine (Links (time_at (times_of s traffic z))) traffic.net traffic.trips z l) (get-last done r i z e (h ∙ many))
-          (subst (IsGapLine (Links (time_at (times_of s traffic r))) traffic.net traffic.trips r) (get-last lines line i l f h) gap)
+          subst (λ (z : VehicleRoutes). IsGapLine (costs_of s traffic z) traffic.net traffic.trips z l) (get-last done r i z e (h ∙ many))
+          (subst (IsGapLine (costs_of s traffic r) traffic.net traffic.trips r) (get-last lines line i l f h) gap)
 
   -- the routes of one more iteration
   pub with-next : (done : List VehicleRoutes) (r next : VehicleRoutes) (lines : List GapLine) → length lines ≡ length done + 1
-      → AreNextRoutes (Links (time_at (times_of s traffic r))) traffic.net traffic.trips (length done + 1) r next
+      → AreNextRoutes (costs_of s traffic r) traffic.net traffic.trips (length done + 1) r next
       → AreIterations s traffic (done ++ r ∷ []) lines → AreIterations s traffic ((done ++ r ∷ []) ++ next ∷ []) lines
   with-next done r next lines many are it = record {
     start = it.start;
@@ -165,16 +158,16 @@ module _ (s : Settings) (traffic : Traffic) where
       long = omega (arith, length-append done (r ∷ []))
 
       by : (i : ℕ) (old new : VehicleRoutes) → slice_get ((done ++ r ∷ []) ++ next ∷ []) i ≡ Some old → slice_get ((done ++ r ∷ []) ++ next ∷ []) (i + 1) ≡ Some new
-          → (i + 1 < length (done ++ r ∷ [])) ⊎ (i + 1 ≡ length (done ++ r ∷ [])) → AreNextRoutes (Links (time_at (times_of s traffic old))) traffic.net traffic.trips (i + 1) old new
+          → (i + 1 < length (done ++ r ∷ [])) ⊎ (i + 1 ≡ length (done ++ r ∷ [])) → AreNextRoutes (costs_of s traffic old) traffic.net traffic.trips (i + 1) old new
       by i old new e f (inl h) =
           it.next i old new (get-back (done ++ r ∷ []) (next ∷ []) i old e (omega (arith, h))) (get-back (done ++ r ∷ []) (next ∷ []) (i + 1) new f h)
       by i old new e f (inr h) =
           let at : i ≡ length done = omega (arith, h, long) in
           let was = get-last done r i old (get-back (done ++ r ∷ []) (next ∷ []) i old e (omega (arith, h))) at in
           let is = get-last (done ++ r ∷ []) next (i + 1) new f h in
-          subst (λ (n : ℕ). AreNextRoutes (Links (time_at (times_of s traffic old))) traffic.net traffic.trips (n + 1) old new) (sym at)
-          (subst (λ (old : VehicleRoutes). AreNextRoutes (Links (time_at (times_of s traffic old))) traffic.net traffic.trips (length done + 1) old new) was
-          (subst (AreNextRoutes (Links (time_at (times_of s traffic r))) traffic.net traffic.trips (length done + 1) r) is are))
+          subst (λ (n : ℕ). AreNextRoutes (costs_of s traffic old) traffic.net traffic.trips (n + 1) old new) (sym at)
+          (subst (λ (old : VehicleRoutes). AreNextRoutes (costs_of s traffic old) traffic.net traffic.trips (length done + 1) old new) was
+          (subst (AreNextRoutes (costs_of s traffic r) traffic.net traffic.trips (length done + 1) r) is are))
 
   -- an iteration that isn't the last is done
   pub ahead : (number : ℕ) (r next : VehicleRoutes) (lines more : List GapLine)
@@ -189,7 +182,7 @@ module _ (s : Settings) (traffic : Traffic) where
         as_many = omega (arith, many, long);
         with_gaps = omega (arith, gaps, long, added);
         iterations = with-next at.done r next (lines ++ has.line ∷ []) (omega (arith, gaps, added))
-            (subst (λ (n : ℕ). AreNextRoutes (Links (time_at (times_of s traffic r))) traffic.net traffic.trips n r next) (sym many) has.next_are)
+            (subst (λ (n : ℕ). AreNextRoutes (costs_of s traffic r) traffic.net traffic.trips n r next) (sym many) has.next_are)
             (with-gap at.done r lines has.line gaps has.gap at.iterations);
         routed = has.routed;
       }
@@ -218,22 +211,22 @@ module _ (s : Settings) (traffic : Traffic) where
     routed = has.routed;
   }
 
-  -- what a call says of an iteration by its link times, and of its routes where these were moved
-  pub has-next : (number : ℕ) (r old next : VehicleRoutes) (lines more : List GapLine) (line : GapLine) (times : TimeTable)
-      → old ≡ r → times ≡ times_of s traffic r → more ≡ lines ++ line ∷ []
-      → IsGapLine (Links (time_at times)) traffic.net traffic.trips old line
-      → AreNextRoutes (Links (time_at times)) traffic.net traffic.trips number old next
+  -- what a call says of an iteration by its costs, and of its routes where these were moved
+  pub has-next : (number : ℕ) (r old next : VehicleRoutes) (lines more : List GapLine) (line : GapLine) (costs : Timing)
+      → old ≡ r → costs ≡ costs_of s traffic r → more ≡ lines ++ line ∷ []
+      → IsGapLine costs traffic.net traffic.trips old line
+      → AreNextRoutes costs traffic.net traffic.trips number old next
       → AreWalks traffic.net traffic.trips next
       → HasNext s traffic number r next lines more
-  has-next number r old next lines more line times same is pushed gap are walks = record {
+  has-next number r old next lines more line costs same is pushed gap are walks = record {
     line = line;
     pushed = pushed;
     gap =
-        subst (λ (t : TimeTable). IsGapLine (Links (time_at t)) traffic.net traffic.trips r line) is
-        (subst (λ (x : VehicleRoutes). IsGapLine (Links (time_at times)) traffic.net traffic.trips x line) same gap);
+        subst (λ (t : Timing). IsGapLine t traffic.net traffic.trips r line) is
+        (subst (λ (x : VehicleRoutes). IsGapLine costs traffic.net traffic.trips x line) same gap);
     next_are =
-        subst (λ (t : TimeTable). AreNextRoutes (Links (time_at t)) traffic.net traffic.trips number r next) is
-        (subst (λ (x : VehicleRoutes). AreNextRoutes (Links (time_at times)) traffic.net traffic.trips number x next) same are);
+        subst (λ (t : Timing). AreNextRoutes t traffic.net traffic.trips number r next) is
+        (subst (λ (x : VehicleRoutes). AreNextRoutes costs traffic.net traffic.trips number x next) same are);
     routed = record { each = are.as_many; walks = walks };
   }
 

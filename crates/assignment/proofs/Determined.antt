@@ -1,11 +1,10 @@
--- Traffic and link times have one list of routes and one list of gaps.
-use Rattle.trip_costs.specs.Timings.{Links}
+-- Traffic and costs have one list of routes and one list of gaps.
+use Rattle.trip_costs.specs.Timings.{Links, Timing}
 use Rattle.std.proofs.Common.{◌≡◌, ℕ, zero, suc, ◌+◌, List, [], length}
 use Rattle.std.proofs.Common.{sym, subst, arith}
 use Rattle.std.specs.Prelude.{Some, get_or, slice_get}
 use Rattle.std.proofs.lemmas.List.{ext_get_or}
 use Rattle.std.proofs.lemmas.Option.{slice_get-get_or, slice_get_within}
-use Rattle.dta_model.specs.LinkTimes.{TimeTable, time_at}
 use Rattle.gap.specs.Gap.{IsGapLine}
 use Rattle.gap.specs.declared.line.GapLine.{GapLine}
 use Rattle.gap.proofs.Determined.{lines_are_determined}
@@ -22,8 +21,8 @@ pub record RouteLaws : Type 0 where
   pub next : NextAreDetermined
   pub since : SinceAreDetermined
 
-module _ (laws : RouteLaws) (times : VehicleRoutes → TimeTable) (traffic : Traffic) (ra rb : List VehicleRoutes) (la lb : List GapLine)
-    (a : AreIterationsBy times traffic ra la) (b : AreIterationsBy times traffic rb lb) where
+module _ (laws : RouteLaws) (costs : VehicleRoutes → Timing) (traffic : Traffic) (ra rb : List VehicleRoutes) (la lb : List GapLine)
+    (a : AreIterationsBy costs traffic ra la) (b : AreIterationsBy costs traffic rb lb) where
   -- an iteration's routes are as many as the trips
   many : (i : ℕ) (x : VehicleRoutes) → slice_get ra i ≡ Some x → length x ≡ length traffic.trips
   many zero x e = (a.first x e).as_many
@@ -42,7 +41,7 @@ module _ (laws : RouteLaws) (times : VehicleRoutes → TimeTable) (traffic : Tra
       let p : get_or rb i [] ≡ get_or ra i [] = sym (same-at i (get_or ra i []) (get_or rb i []) old other) in
       let next = a.next i (get_or ra i []) x old (subst (λ n. slice_get ra n ≡ Some x) (omega arith) e) in
       let again = b.next i (get_or ra i []) y (subst (λ (r : VehicleRoutes). slice_get rb i ≡ Some r) p other) (subst (λ n. slice_get rb n ≡ Some y) (omega arith) f) in
-      laws.next (Links (time_at (times (get_or ra i [])))) traffic.net traffic.trips (i + 1) (get_or ra i []) x y next again
+      laws.next (costs (get_or ra i [])) traffic.net traffic.trips (i + 1) (get_or ra i []) x y next again
 
   pub same-routes : length ra ≡ length rb → ra ≡ rb
   same-routes e = ext_get_or [] ra rb e (λ i h.
@@ -53,16 +52,16 @@ module _ (laws : RouteLaws) (times : VehicleRoutes → TimeTable) (traffic : Tra
       let r = get_or ra i [] in
       let there = slice_get-get_or ra i [] (omega (arith, h, n)) in
       let here : slice_get rb i ≡ Some r = subst (λ (rs : List VehicleRoutes). slice_get rs i ≡ Some r) same there in
-      lines_are_determined (Links (time_at (times r))) traffic.net traffic.trips r (get_or la i no_line) (get_or lb i no_line) (many i r there)
+      lines_are_determined (costs r) traffic.net traffic.trips r (get_or la i no_line) (get_or lb i no_line) (many i r there)
       (a.gaps i r (get_or la i no_line) there (slice_get-get_or la i no_line h))
       (b.gaps i r (get_or lb i no_line) here (slice_get-get_or lb i no_line (omega (arith, h, e)))))
 
--- iterations by other link times that are the same
-pub by-same-times : (t u : VehicleRoutes → TimeTable) (traffic : Traffic) (routes : List VehicleRoutes) (lines : List GapLine)
+-- iterations by other costs that are the same
+pub by-same-costs : (t u : VehicleRoutes → Timing) (traffic : Traffic) (routes : List VehicleRoutes) (lines : List GapLine)
     → ((r : VehicleRoutes) → u r ≡ t r) → AreIterationsBy u traffic routes lines → AreIterationsBy t traffic routes lines
-by-same-times t u traffic routes lines same it = record {
+by-same-costs t u traffic routes lines same it = record {
   start = it.start;
   first = it.first;
-  next = λ i old new e f. subst (λ (x : TimeTable). AreNextRoutes (Links (time_at x)) traffic.net traffic.trips (i + 1) old new) (same old) (it.next i old new e f);
-  gaps = λ i r line e f. subst (λ (x : TimeTable). IsGapLine (Links (time_at x)) traffic.net traffic.trips r line) (same r) (it.gaps i r line e f);
+  next = λ i old new e f. subst (λ (x : Timing). AreNextRoutes x traffic.net traffic.trips (i + 1) old new) (same old) (it.next i old new e f);
+  gaps = λ i r line e f. subst (λ (x : Timing). IsGapLine x traffic.net traffic.trips r line) (same r) (it.gaps i r line e f);
 }

@@ -3,7 +3,6 @@ use Rattle.trip_costs.specs.Timings.{Links}
 use Rattle.std.proofs.Common.{◌≡◌, ℕ, zero, suc, ◌+◌, List, [], ◌∷◌, Some, refl, subst, arith}
 use Rattle.std.specs.Prelude.{slice_get}
 use Rattle.net_core.specs.Network.{IsNet}
-use Rattle.dta_model.specs.LinkTimes.{time_at}
 use Rattle.dta_model.specs.Sound.{IsSound}
 use Rattle.dta_model.specs.declared.plan.Plan.{Plan}
 use Rattle.dta_model.proofs.Ends.{journeys_end_in_order}
@@ -15,7 +14,7 @@ use Rattle.route_flows.proofs.Averaged.{next_walk}
 use Rattle.route_flows.proofs.Started.{started_walk}
 use Rattle.dta_words.specs.Ranges.{AreSettings}
 use Rattle.dta_words.specs.declared.command.Settings.{Settings}
-use Rattle.assignment.specs.Assignment.{AreIterations, Traffic, VehicleRoutes, plan_of, times_of}
+use Rattle.assignment.specs.Assignment.{AreIterations, Traffic, VehicleRoutes, costs_of, plan_of}
 use Rattle.assignment.specs.Iterations.{AreSoundIterations, ComeFrom, IsSoundLoading}
 use Rattle.assignment.specs.Traffic.{AreRoutesOf, AreTripsBelow}
 use Rattle.assignment.proofs.AssignmentFacts.{sound-plan}
@@ -51,7 +50,7 @@ module _ (s : Settings) (traffic : Traffic) (all : List VehicleRoutes) (lines : 
       let was = routed i old before.1 in
       let one : suc i ≡ i + 1 = omega arith in
       let next = it.next i old r before.1 (subst (λ (n : ℕ). slice_get all n ≡ Some r) one e) in (
-        record { each = next.as_many; walks = next_walk (Links (time_at (times_of s traffic old))) traffic.net traffic.trips (i + 1) old r was.0.walks next },
+        record { each = next.as_many; walks = next_walk (costs_of s traffic old) traffic.net traffic.trips (i + 1) old r was.0.walks next },
         (old, before.1, next),
       )
 

@@ -1,14 +1,18 @@
 -- The iterations of an assignment: routes, loadings, tables of link times and gaps (successive
 -- averages over loadings, Zhou and Taylor 2014), and the numbers of its report.
-use Rattle.trip_costs.specs.Timings.{Links, Timing}
-use Rattle.std.specs.Prelude.{ℕ, ◌≡◌, ◌+◌, List, count_by, is_none, length, Option, Some, slice_get}
+use Rattle.std.specs.Prelude.{ℕ, ◌≡◌, ◌+◌, List, count_by, is_none, length, Option, None, Some, slice_get}
 use Rattle.net_core.specs.declared.rows.LinkNo.{LinkNo}
 use Rattle.net_core.specs.declared.rows.NetRows.{NetRows}
-use Rattle.dta_model.specs.LinkTimes.{TimeTable, table_of, time_at}
+use Rattle.dta_model.specs.LinkTimes.{TimeTable, table_of}
 use Rattle.dta_model.specs.State.{eight_after}
 use Rattle.dta_model.specs.declared.eight.Eight.{Eight}
 use Rattle.dta_model.specs.declared.plan.Plan.{Plan}
 use Rattle.dta_model.specs.declared.trip.Trip.{Trip}
+use Rattle.trip_costs.specs.LoadingCosts.{costs_by}
+use Rattle.trip_costs.specs.OriginWaits.{WaitTable, waits_of as waits_of_plan}
+use Rattle.trip_costs.specs.Timings.{Timing}
+use Rattle.trip_costs.specs.declared.loading_costs.Costs.{Costs}
+use Rattle.trip_costs.specs.declared.loading_costs.Costs.TheVariants as by
 use Rattle.gap.specs.Gap.{IsGapLine}
 use Rattle.gap.specs.declared.line.GapLine.{GapLine}
 use Rattle.route_flows.specs.Averages.{AreNextRoutes, AreStartedRoutes}
@@ -42,17 +46,29 @@ plan_of s traffic routes = record {
 abbrev pub times_of : Settings → Traffic → VehicleRoutes → TimeTable
 times_of s traffic routes = table_of (plan_of s traffic routes) s.bucket
 
--- the costs by which the walks of an iteration are timed: those of links, over these link times
+-- the costs by which the walks of an iteration are timed: its link times, or whole trips over them
+-- and over the waits at origins
 abbrev pub costs_of : Settings → Traffic → VehicleRoutes → Timing
-costs_of s traffic routes = Links (time_at (times_of s traffic routes))
+costs_of s traffic routes = costs_by s.costs (plan_of s traffic routes) s.bucket
+
+-- the waits at origins of that loading, which are told where the costs are of whole trips
+abbrev pub waits_of : Settings → Traffic → VehicleRoutes → WaitTable
+waits_of s traffic routes = waits_of_plan (plan_of s traffic routes) s.bucket
+
+abbrev pub told_where : Costs → WaitTable → Option WaitTable
+told_where by.Links w = None
+told_where by.Trips w = Some w
+
+abbrev pub waits_told : Settings → Traffic → VehicleRoutes → Option WaitTable
+waits_told s traffic routes = told_where s.costs (waits_of s traffic routes)
 
 -- the state after the last step of that loading
 abbrev pub end_of : Settings → Traffic → VehicleRoutes → Eight
 end_of s traffic routes = eight_after (plan_of s traffic routes) s.horizon
 
 -- the routes of iterations one after another, and their gaps, where the loading over routes has
--- these link times
-pub record AreIterationsBy (times : VehicleRoutes → TimeTable) (traffic : Traffic)
+-- these costs
+pub record AreIterationsBy (costs : VehicleRoutes → Timing) (traffic : Traffic)
     (routes : List VehicleRoutes) (lines : List GapLine) : Type 0 where
   -- an agent has one row of the start table
   pub start : AreStartRows traffic.start
@@ -61,21 +77,21 @@ pub record AreIterationsBy (times : VehicleRoutes → TimeTable) (traffic : Traf
   pub first :
       (r : VehicleRoutes) → slice_get routes 0 ≡ Some r
       → AreStartedRoutes traffic.net traffic.start traffic.trips r
-  -- after iteration i some vehicles take their chosen walks in its table, and the others stay
+  -- after iteration i some vehicles take their chosen walks by its costs, and the others stay
   pub next :
       (i : ℕ) (old new : VehicleRoutes) → slice_get routes i ≡ Some old
       → slice_get routes (i + 1) ≡ Some new
-      → AreNextRoutes (Links (time_at (times old))) traffic.net traffic.trips (i + 1) old new
-  -- each gap is that of an iteration's routes in its own table
+      → AreNextRoutes (costs old) traffic.net traffic.trips (i + 1) old new
+  -- each gap is that of an iteration's routes by its own costs
   pub gaps :
       (i : ℕ) (r : VehicleRoutes) (line : GapLine) → slice_get routes i ≡ Some r
       → slice_get lines i ≡ Some line
-      → IsGapLine (Links (time_at (times r))) traffic.net traffic.trips r line
+      → IsGapLine (costs r) traffic.net traffic.trips r line
 
 -- the same by the loadings of this traffic
 abbrev pub AreIterations :
     Settings → Traffic → List VehicleRoutes → List GapLine → Type 0
-AreIterations s traffic routes lines = AreIterationsBy (times_of s traffic) traffic routes lines
+AreIterations s traffic routes lines = AreIterationsBy (costs_of s traffic) traffic routes lines
 
 -- how many vehicles have no route
 abbrev pub unrouted : VehicleRoutes → ℕ

@@ -21,7 +21,7 @@ pub record IsSoundLoading (p : Plan) : Type 0 where
 
 -- where the routes at a place of a list of iterations come from: the first ones are the walks of
 -- the start table's rows that fit, and else chosen walks by free-flow steps; of later ones some
--- are chosen walks in the link times of the iteration before, and the others are as they were
+-- are chosen walks by the costs of the iteration before, and the others are as they were
 abbrev pub ComeFrom : Settings → Traffic → List VehicleRoutes → (place : ℕ) → VehicleRoutes → Type 0
 ComeFrom s traffic all zero routes =
     AreStartedRoutes traffic.net traffic.start traffic.trips routes
@@ -29,7 +29,7 @@ ComeFrom s traffic all (suc i) routes =
     (before : VehicleRoutes) × (slice_get all i ≡ Some before)
     × AreNextRoutes (costs_of s traffic before) traffic.net traffic.trips (i + 1) before routes
 
--- an iteration: where its routes come from, the loading over them, and their gap in the link times
+-- an iteration: where its routes come from, the loading over them, and their gap by the costs
 -- of that loading
 pub record IsIteration (s : Settings) (traffic : Traffic) (all : List VehicleRoutes) (place : ℕ)
     (routes : VehicleRoutes) (line : GapLine) : Type 0 where

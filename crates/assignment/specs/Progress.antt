@@ -3,10 +3,11 @@ use Rattle.std.specs.Prelude.{ℕ, ◌≡◌, ◌+◌, List, [], ◌∷◌, ◌+
 use Rattle.dta_model.specs.Loading.{journeys_of}
 use Rattle.gap.specs.Gap.{IsGapLine}
 use Rattle.gap.specs.declared.line.GapLine.{GapLine}
+use Rattle.trip_costs.specs.LoadingCosts.{times_in}
 use Rattle.route_flows.specs.Averages.{AreNextRoutes, AreStartedRoutes}
 use Rattle.dta_words.specs.declared.command.Settings.{Settings}
 use Rattle.assignment.specs.Assignment.{AreIterations, Traffic, VehicleRoutes, end_of, plan_of}
-use Rattle.assignment.specs.Assignment.{costs_of, times_of}
+use Rattle.assignment.specs.Assignment.{costs_of, times_of, waits_told}
 use Rattle.assignment.specs.Traffic.{AreRoutesOf}
 use Rattle.assignment.specs.declared.iterations.Assigned.{Assigned}
 
@@ -28,11 +29,13 @@ pub record HasNext (s : Settings) (traffic : Traffic) (number : ℕ) (routes nex
       next
   pub routed : AreRoutesOf traffic next
 
--- the routes, the journeys, the link times and the last state of an iteration belong together
+-- the routes, the journeys, the link times, the waits at origins and the last state of an iteration
+-- belong together
 pub record IsLast (s : Settings) (traffic : Traffic) (a : Assigned) : Type 0 where
   pub routed : AreRoutesOf traffic a.routes
   pub journeys : a.loaded ≡ journeys_of (plan_of s traffic a.routes)
-  pub times_are : a.times ≡ times_of s traffic a.routes
+  pub times_are : times_in a.costs ≡ times_of s traffic a.routes
+  pub waits_are : a.waits ≡ waits_told s traffic a.routes
   pub end_is : a.end ≡ end_of s traffic a.routes
 
 -- the last iteration, over these routes, was measured, and its gap came to the others
@@ -52,8 +55,8 @@ pub record IsAt (s : Settings) (traffic : Traffic) (number : ℕ) (routes : Vehi
   pub iterations : AreIterations s traffic (done ++ routes ∷ []) lines
   pub routed : AreRoutesOf traffic routes
 
--- all iterations are done: these are the last one's routes, journeys, link times, last state and
--- gap, and the gaps of all
+-- all iterations are done: these are the last one's routes, journeys, link times, waits at origins,
+-- last state and gap, and the gaps of all
 pub record IsAssigned (s : Settings) (traffic : Traffic) (a : Assigned) : Type 0 where
   pub done : List VehicleRoutes
   pub as_many : length done + 1 ≡ s.iterations

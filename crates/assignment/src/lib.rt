@@ -2,8 +2,8 @@
 //! over loadings, Zhou and Taylor 2014).
 //!
 //! An [`Assignment`] says what is assigned. [`begin`] gives the first [`Iteration`]. Who calls it
-//! loads, plainly or by workers, and gives the journeys to [`advance`], which measures the link
-//! times and the gap and makes the routes of the next iteration, or after the last one to
+//! loads, plainly or by workers, and gives the journeys to [`advance`], which measures the costs
+//! and the gap and makes the routes of the next iteration, or after the last one to
 //! [`finish`]. What that gives ([`Assigned`]) is told by the texts of reports; [`summary_of`] has
 //! the numbers of the report. The definitions of an iteration (specs/Assignment.antt) stand here
 //! and nowhere else.

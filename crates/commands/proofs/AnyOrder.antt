@@ -7,14 +7,16 @@ use Rattle.dta_model.specs.declared.eight.Eight.{Eight}
 use Rattle.dta_model.specs.declared.loaded.Journey.{Journey}
 use Rattle.dta_model.proofs.AnyOrder.{any_order, same_journeys}
 use Rattle.link_times.proofs.AnyOrder.{same_times}
+use Rattle.trip_costs.specs.LoadingCosts.{costs_over}
+use Rattle.trip_costs.specs.OriginWaits.{WaitTable, waits_in}
 use Rattle.gap.specs.declared.line.GapLine.{GapLine}
 use Rattle.dta_words.specs.declared.command.Settings.{Settings}
 use Rattle.desk_io.specs.declared.desk.Output.TheVariants as output
-use Rattle.assignment.specs.Assignment.{AreIterations, Traffic, VehicleRoutes, end_of, plan_of, summary_of, times_of}
-use Rattle.assignment.proofs.Determined.{RouteLaws, by-same-times, same-lines, same-routes}
+use Rattle.assignment.specs.Assignment.{AreIterations, Traffic, VehicleRoutes, costs_of, end_of, plan_of, summary_of, times_of, told_where, waits_of}
+use Rattle.assignment.proofs.Determined.{RouteLaws, by-same-costs, same-lines, same-routes}
 use Rattle.reports.specs.declared.summary.Summary.{Summary}
 use Rattle.commands.specs.Laws.{TextsInAnyOrder}
-use Rattle.commands.specs.Orders.{AreNodeOrders, NodeOrders, counts_by, end_by, journeys_by, summary_by, times_by, told_by, trace_by, watched_by}
+use Rattle.commands.specs.Orders.{AreNodeOrders, NodeOrders, costs_by, counts_by, end_by, journeys_by, summary_by, times_by, told_by, trace_by, waits_by, watched_by}
 use Rattle.commands.specs.Outputs.{AreToldSteps, AreWatchLines, AreWatchTexts, LastLoading, OutText, asked_link, but_watch, counts_out, end_lines, is_watch, last_texts, text_to, texts_told, through_asked, told_of, watch_text}
 use Rattle.counts.specs.Text.{counts_text}
 use Rattle.counts.specs.Through.{through_counts, through_counts_in}
@@ -44,6 +46,14 @@ module _ (s : Settings) (traffic : Traffic) (order : NodeOrders) (all : AreNodeO
 
   journeys-same : (r : VehicleRoutes) → journeys_by s traffic order r ≡ journeys_of (plan_of s traffic r)
   journeys-same r = same_journeys (plan_of s traffic r) (order r) (all r)
+
+  waits-same : (r : VehicleRoutes) → waits_by s traffic order r ≡ waits_of s traffic r
+  waits-same r = ap (waits_in (plan_of s traffic r) s.bucket) (journeys-same r)
+
+  costs-same : (r : VehicleRoutes) → costs_by s traffic order r ≡ costs_of s traffic r
+  costs-same r =
+      ap (λ (t : TimeTable). costs_over s.costs t (waits_by s traffic order r)) (times-same r)
+      ∙ ap (costs_over s.costs (times_of s traffic r)) (waits-same r)
 
   end-same : (r : VehicleRoutes) → end_by s traffic order r ≡ end_of s traffic r
   unfolding eight_after
@@ -78,6 +88,7 @@ module _ (s : Settings) (traffic : Traffic) (order : NodeOrders) (all : AreNodeO
       let is = told_of s traffic last line in
       ap (λ (x : List Journey). record by { journeys = x }) (journeys-same last)
       ∙ ap (λ (x : TimeTable). record by { journeys = is.journeys; times = x }) (times-same last)
+      ∙ ap (λ (x : WaitTable). record by { journeys = is.journeys; times = is.times; waits = told_where s.costs x }) (waits-same last)
       ∙ ap (λ (x : OutText). record is { counts = x; summary = by.summary }) (counts-same last)
       ∙ ap (λ (x : Summary). record is { summary = x }) (summary-same last line)
 
@@ -104,11 +115,11 @@ module _ (s : Settings) (traffic : Traffic) (order : NodeOrders) (all : AreNodeO
 
 pub texts_in_any_order : RouteLaws → TextsInAnyOrder
 texts_in_any_order laws s traffic order all xs ys a b =
-    let it : AreIterations s traffic a.routes a.lines = by-same-times (times_of s traffic) (times_by s traffic order) traffic
-    a.routes a.lines (times-same s traffic order all) a.iterations in
-    let routes : a.routes ≡ b.routes = same-routes laws (times_of s traffic) traffic a.routes b.routes a.lines b.lines it b.iterations
+    let it : AreIterations s traffic a.routes a.lines = by-same-costs (costs_of s traffic) (costs_by s traffic order) traffic
+    a.routes a.lines (costs-same s traffic order all) a.iterations in
+    let routes : a.routes ≡ b.routes = same-routes laws (costs_of s traffic) traffic a.routes b.routes a.lines b.lines it b.iterations
     (a.as_many ∙ sym b.as_many) in
-    let lines : a.lines ≡ b.lines = same-lines laws (times_of s traffic) traffic a.routes b.routes a.lines b.lines it b.iterations
+    let lines : a.lines ≡ b.lines = same-lines laws (costs_of s traffic) traffic a.routes b.routes a.lines b.lines it b.iterations
     routes (a.with_gaps ∙ sym a.as_many) (a.with_gaps ∙ sym b.with_gaps) in
     let since : a.since ≡ b.since = same-since laws s traffic s.start a.since b.since a.since_told b.since_told in
     let last : texts_told s.command traffic a.last (told_by s traffic order a.last a.line) a.since a.lines ≡ last_texts s.command s traffic b.last b.since b.lines b.line =

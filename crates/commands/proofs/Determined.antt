@@ -3,10 +3,14 @@ use Rattle.std.proofs.Common.{◌≡◌, ℕ, zero, suc, ◌+◌, ◌-◌, Bool,
 use Rattle.std.specs.Prelude.{Option, None, Some, not, slice_get}
 use Rattle.std.proofs.lemmas.List.Elements.{filter-append}
 use Rattle.dta_model.specs.LinkTimes.{time_at}
+use Rattle.trip_costs.specs.OriginWaits.{WaitTable}
+use Rattle.trip_costs.specs.declared.loading_costs.Costs.{Costs}
+use Rattle.trip_costs.specs.declared.loading_costs.Costs.TheVariants as by
 use Rattle.gap.specs.declared.line.GapLine.{GapLine}
+use Rattle.desk_io.specs.declared.desk.Output.TheVariants as output
 use Rattle.dta_words.specs.declared.command.Command.TheVariants as command
 use Rattle.dta_words.specs.declared.command.Settings.{Settings}
-use Rattle.assignment.specs.Assignment.{Traffic, VehicleRoutes, times_of}
+use Rattle.assignment.specs.Assignment.{Traffic, VehicleRoutes, costs_of, told_where, waits_of}
 use Rattle.jobs.specs.Inputs.{Assigning, Auditing, Kind, Skimming, Sweeping, kind_of}
 use Rattle.jobs.specs.Jobs.{JobRows, traffic_of}
 use Rattle.commands.specs.Laws.{AreDetermined, ScenariosAreAlone, TextsAreDetermined, alone, scenario_texts}
@@ -15,9 +19,9 @@ use Rattle.net_core.specs.declared.rows.NetRows.{NetRows}
 use Rattle.dta_model.specs.declared.trip.DemandCell.{DemandCell}
 use Rattle.assignment.proofs.Determined.{RouteLaws, same-lines, same-routes}
 use Rattle.sweep.specs.Laws.{Agree, ScenariosStandAlone}
-use Rattle.sweep.specs.Scenarios.{AreScenarios, HasTexts, traffic_at}
+use Rattle.sweep.specs.Scenarios.{AreScenarios, HasTexts, traffic_at, wait_text}
 use Rattle.sweep.specs.declared.scenario.Scenario.{Scenario}
-use Rattle.commands.specs.Outputs.{AreAssigned, AreSinceTold, AreToldSteps, AreWatchLines, AreWatchTexts, OutText, but_watch, is_watch, last_texts, skim_texts, sweep_texts, watch_text}
+use Rattle.commands.specs.Outputs.{AreAssigned, AreSinceTold, AreToldSteps, AreWatchLines, AreWatchTexts, OutText, but_watch, is_watch, last_texts, skim_texts, sweep_texts, text_to, wait_texts, watch_text}
 use Rattle.commands.specs.Works.{work_by}
 use Rattle.skims.specs.GivenTimes.{table_given}
 use Rattle.skims.proofs.Determined.{skims_are_determined}
@@ -32,7 +36,7 @@ same-since laws s traffic false a b x y = x ∙ sym y
 same-since laws s traffic true None b x y = absurd x
 same-since laws s traffic true (Some a) None x y = absurd y
 same-since laws s traffic true (Some a) (Some b) x y =
-    ap Some (laws.since traffic.net traffic.start traffic.trips s.iterations a b x y)
+    ap Some (laws.since s.costs traffic.net traffic.start traffic.trips s.iterations a b x y)
 
 -- ---- watch lines
 
@@ -113,14 +117,14 @@ but-watch-assigned s traffic xs a =
 module _ (laws : RouteLaws) (s : Settings) (traffic : Traffic) (xs ys : List OutText) (a : AreAssigned s traffic xs)
     (b : AreAssigned s traffic ys) where
   routes-same : a.routes ≡ b.routes
-  routes-same = same-routes laws (times_of s traffic) traffic a.routes b.routes a.lines b.lines a.iterations b.iterations
+  routes-same = same-routes laws (costs_of s traffic) traffic a.routes b.routes a.lines b.lines a.iterations b.iterations
       (a.as_many ∙ sym b.as_many)
 
   lasts-same : last_texts s.command s traffic a.last a.since a.lines a.line
       ≡ last_texts s.command s traffic b.last b.since b.lines b.line
   lasts-same =
       lasts-by s traffic a.routes b.routes a.lines b.lines a.last b.last a.line b.line a.since b.since routes-same
-      (same-lines laws (times_of s traffic) traffic a.routes b.routes a.lines b.lines a.iterations b.iterations routes-same
+      (same-lines laws (costs_of s traffic) traffic a.routes b.routes a.lines b.lines a.iterations b.iterations routes-same
       (a.with_gaps ∙ sym a.as_many) (a.with_gaps ∙ sym b.with_gaps))
       (same-since laws s traffic s.start a.since b.since a.since_told b.since_told)
       a.last_routes b.last_routes a.last_line b.last_line
@@ -150,7 +154,7 @@ scenarios-same one s net cells [] [] (y ∷ ys) h k = absurd k
 scenarios-same one s net cells (scale ∷ scales) [] ys h k = absurd h
 scenarios-same one s net cells (scale ∷ scales) (x ∷ xs) [] h k = absurd k
 scenarios-same one s net cells (scale ∷ scales) (x ∷ xs) (y ∷ ys) h k =
-    let agree : Agree s s = record { step = refl; horizon = refl; iterations = refl; bucket = refl; queue = refl } in
+    let agree : Agree s s = record { step = refl; horizon = refl; iterations = refl; bucket = refl; queue = refl; costs = refl } in
     ap (λ (a : Scenario). a ∷ xs) (one s s net cells scale x y agree h.0 k.0)
     ∙ ap (λ (as' : List Scenario). y ∷ as') (scenarios-same one s net cells scales xs ys h.1 k.1)
 
@@ -173,6 +177,21 @@ texts_are_determined laws one s job xs ys a b = determined-by laws one (kind_of 
 
 -- ---- a scenario of a sweep, and the assignment over the demand times its scale
 
+-- the texts of a scenario are those that an assignment by the same costs puts
+told-by : (costs : Costs) (it : Scenario) (w : WaitTable) (net : NetRows) (agent times gap report : List ℕ)
+    → it.agent ≡ agent → it.link_time ≡ times → it.origin_wait ≡ wait_text net (told_where costs w) → it.gap ≡ gap → it.report ≡ report
+    → scenario_texts costs it ≡ text_to output.Agent agent ∷ text_to output.LinkTime times
+    ∷ ((wait_texts net (told_where costs w) ++ text_to output.Gap gap ∷ []) ++ text_to output.Report report ∷ [])
+told-by by.Links it w net agent times gap report a t o g r =
+    λ i. text_to output.Agent (a i) ∷ text_to output.LinkTime (t i) ∷ text_to output.Gap (g i) ∷ text_to output.Report (r i) ∷ []
+told-by by.Trips it w net agent times gap report a t o g r =
+    λ i. text_to output.Agent (a i) ∷ text_to output.LinkTime (t i) ∷ text_to output.OriginWait (o i) ∷ text_to output.Gap (g i) ∷ text_to output.Report (r i) ∷ []
+
+-- none of them is for Watch
+none-watched : (costs : Costs) (it : Scenario) → but_watch (scenario_texts costs it) ≡ scenario_texts costs it
+none-watched by.Links it = refl
+none-watched by.Trips it = refl
+
 module _ (laws : RouteLaws) (s : Settings) (job : JobRows) (scale workers watch : ℕ) (plain : Bool) (it : Scenario)
     (h : HasTexts s (traffic_at job.net job.demand_cells scale) it) where
   abbrev own : Settings
@@ -182,25 +201,25 @@ module _ (laws : RouteLaws) (s : Settings) (job : JobRows) (scale workers watch 
   by_itself = traffic_at job.net job.demand_cells scale
 
   -- the texts after its last iteration are those of the scenario
-  told-alone : last_texts command.Assign own by_itself h.last None h.lines h.line ≡ scenario_texts it
+  told-alone : last_texts command.Assign own by_itself h.last None h.lines h.line ≡ scenario_texts s.costs it
   unfolding agent_text_by
-  told-alone = rw (h.agent, h.link_time, h.gap, h.report) refl
+  told-alone = sym (told-by s.costs it (waits_of s by_itself h.last) by_itself.net _ _ _ _ h.agent h.link_time h.origin_wait h.gap h.report)
 
   module _ (texts : List OutText) (a : AreAssigned own by_itself texts) where
     routes-alone : a.routes ≡ h.routes
-    routes-alone = same-routes laws (times_of own by_itself) by_itself a.routes h.routes a.lines h.lines a.iterations h.iterations (a.as_many ∙ sym h.as_many)
+    routes-alone = same-routes laws (costs_of own by_itself) by_itself a.routes h.routes a.lines h.lines a.iterations h.iterations (a.as_many ∙ sym h.as_many)
 
     lines-alone : a.lines ≡ h.lines
     lines-alone =
-        same-lines laws (times_of own by_itself) by_itself a.routes h.routes a.lines h.lines a.iterations h.iterations routes-alone
+        same-lines laws (costs_of own by_itself) by_itself a.routes h.routes a.lines h.lines a.iterations h.iterations routes-alone
         (a.with_gaps ∙ sym a.as_many) (a.with_gaps ∙ sym h.with_gaps)
 
-    pub scenario-alone : but_watch texts ≡ scenario_texts it
+    pub scenario-alone : but_watch texts ≡ scenario_texts s.costs it
     scenario-alone =
         but-watch-assigned own by_itself texts a
         ∙ ap but_watch (lasts-by own by_itself a.routes h.routes a.lines h.lines a.last h.last a.line h.line a.since None routes-alone lines-alone
         a.since_told a.last_routes h.last_routes a.last_line h.last_line)
-        ∙ ap but_watch told-alone
+        ∙ ap but_watch told-alone ∙ none-watched s.costs it
 
 pub scenarios_are_alone : RouteLaws → ScenariosAreAlone
 scenarios_are_alone laws s job scale workers watch plain it texts h a =

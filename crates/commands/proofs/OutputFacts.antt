@@ -113,7 +113,7 @@ grown-one o text before now e = e
 pub cut-one : (o : Output) (text : List ℕ) (before now : Taken) → IsPartOut o text before now → IsCutOff (text_to o text ∷ []) before now
 cut-one o text before now part = inl part
 
-pub ruleset parts = (grown-append, cut-later, grown-one, cut-one)
+pub ruleset parts = (grown-append, cut-later, cut-sooner, grown-one, cut-one)
 
 -- the texts after the last iteration
 module _ (s : Settings) (traffic : Traffic) (r : VehicleRoutes) (since : Option (List ℕ)) (lines : List GapLine) (line : GapLine) where

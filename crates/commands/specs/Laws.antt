@@ -1,6 +1,8 @@
 -- What is true of every assignment.
-use Rattle.std.specs.Prelude.{ℕ, ◌≡◌, Bool, List, [], ◌∷◌, false, true}
+use Rattle.std.specs.Prelude.{ℕ, ◌≡◌, Bool, List, [], ◌∷◌, ◌++◌, false, true}
 use Rattle.desk_io.specs.declared.desk.Output.TheVariants as output
+use Rattle.trip_costs.specs.declared.loading_costs.Costs.{Costs}
+use Rattle.trip_costs.specs.declared.loading_costs.Costs.TheVariants as by
 use Rattle.audit.specs.declared.verdict.Verdict.{Verdict}
 use Rattle.assignment.specs.Assignment.{Traffic}
 use Rattle.sweep.specs.Scenarios.{IsScenario, traffic_at}
@@ -36,11 +38,17 @@ alone s workers watch plain = record s {
   scales = [];
 }
 
--- the texts of a scenario, as an assignment puts them
-abbrev pub scenario_texts : Scenario → List OutText
-scenario_texts it =
+-- the waits at origins of a scenario, where its costs are of whole trips
+abbrev pub scenario_waits : Costs → Scenario → List OutText
+scenario_waits by.Links it = []
+scenario_waits by.Trips it = text_to output.OriginWait it.origin_wait ∷ []
+
+-- the texts of a scenario, as an assignment by these costs puts them
+abbrev pub scenario_texts : Costs → Scenario → List OutText
+scenario_texts costs it =
     text_to output.Agent it.agent ∷ text_to output.LinkTime it.link_time
-    ∷ text_to output.Gap it.gap ∷ text_to output.Report it.report ∷ []
+    ∷ (scenario_waits costs it
+    ++ text_to output.Gap it.gap ∷ text_to output.Report it.report ∷ [])
 
 -- a scenario of a sweep has the texts that an assignment over the demand times its scale has
 -- alone, whatever the other scales, the workers of either, the watch and the loader
@@ -50,7 +58,7 @@ ScenariosAreAlone =
     (texts : List OutText) → IsScenario s job.net job.demand_cells scale it
     → AreAssigned (alone s workers watch plain)
     (traffic_at job.net job.demand_cells scale) texts
-    → but_watch texts ≡ scenario_texts it
+    → but_watch texts ≡ scenario_texts s.costs it
 
 -- an audit of a job has one verdict
 abbrev pub AuditsAreDetermined : Type 0

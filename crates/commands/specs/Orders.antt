@@ -8,11 +8,14 @@ use Rattle.dta_model.specs.State.{eight_in}
 use Rattle.dta_model.specs.Trace.{Move}
 use Rattle.dta_model.specs.declared.eight.Eight.{Eight}
 use Rattle.dta_model.specs.declared.loaded.Journey.{Journey}
+use Rattle.trip_costs.specs.LoadingCosts.{costs_over}
+use Rattle.trip_costs.specs.OriginWaits.{WaitTable, waits_in}
+use Rattle.trip_costs.specs.Timings.{Timing}
 use Rattle.gap.specs.declared.line.GapLine.{GapLine}
 use Rattle.reports.specs.declared.summary.Summary.{Summary}
 use Rattle.dta_words.specs.declared.command.Settings.{Settings}
 use Rattle.assignment.specs.Assignment.{AreIterationsBy, Traffic, VehicleRoutes, plan_of}
-use Rattle.assignment.specs.Assignment.{summary_of}
+use Rattle.assignment.specs.Assignment.{summary_of, told_where}
 use Rattle.counts.specs.Through.{through_counts_in}
 use Rattle.counts.specs.Turns.{turn_counts_in}
 use Rattle.commands.specs.Outputs.{AreSinceTold, LastLoading, OutText, counts_out, end_lines}
@@ -31,7 +34,7 @@ AreNodeOrders s traffic order =
 abbrev pub trace_by : Settings → Traffic → NodeOrders → VehicleRoutes → List Move
 trace_by s traffic order routes = trace_in (plan_of s traffic routes) (order routes) s.horizon
 
--- its journeys, its link times and its last state
+-- its journeys, its link times, its waits at origins, its costs and its last state
 abbrev pub journeys_by : Settings → Traffic → NodeOrders → VehicleRoutes → List Journey
 journeys_by s traffic order routes =
     journeys_in (plan_of s traffic routes) (trace_by s traffic order routes)
@@ -39,6 +42,14 @@ journeys_by s traffic order routes =
 abbrev pub times_by : Settings → Traffic → NodeOrders → VehicleRoutes → TimeTable
 times_by s traffic order routes =
     table_in (plan_of s traffic routes) s.bucket (trace_by s traffic order routes)
+
+abbrev pub waits_by : Settings → Traffic → NodeOrders → VehicleRoutes → WaitTable
+waits_by s traffic order routes =
+    waits_in (plan_of s traffic routes) s.bucket (journeys_by s traffic order routes)
+
+abbrev pub costs_by : Settings → Traffic → NodeOrders → VehicleRoutes → Timing
+costs_by s traffic order routes =
+    costs_over s.costs (times_by s traffic order routes) (waits_by s traffic order routes)
 
 abbrev pub end_by : Settings → Traffic → NodeOrders → VehicleRoutes → Eight
 end_by s traffic order routes =
@@ -65,6 +76,7 @@ abbrev pub told_by : Settings → Traffic → NodeOrders → VehicleRoutes → G
 told_by s traffic order last line = record {
   journeys = journeys_by s traffic order last;
   times = times_by s traffic order last;
+  waits = told_where s.costs (waits_by s traffic order last);
   counts = counts_by s traffic order last;
   summary = summary_by s traffic order last line;
 }
@@ -85,7 +97,7 @@ pub record AreAssignedBy (s : Settings) (traffic : Traffic) (order : NodeOrders)
   pub lines : List GapLine
   pub last : VehicleRoutes
   pub line : GapLine
-  pub iterations : AreIterationsBy (times_by s traffic order) traffic routes lines
+  pub iterations : AreIterationsBy (costs_by s traffic order) traffic routes lines
   pub as_many : length routes ≡ s.iterations
   pub with_gaps : length lines ≡ s.iterations
   pub last_routes : slice_get routes (s.iterations - 1) ≡ Some last

@@ -14,6 +14,7 @@ use Rattle.dta_model.specs.Loading.{journeys_of}
 use Rattle.dta_model.specs.State.{eight_after}
 use Rattle.dta_model.specs.declared.eight.Eight.{Eight}
 use Rattle.dta_model.specs.declared.loaded.Journey.{Journey}
+use Rattle.trip_costs.specs.OriginWaits.{WaitTable}
 use Rattle.gap.specs.declared.line.GapLine.{GapLine}
 use Rattle.route_flows.specs.Averages.{AreSince}
 use Rattle.counts.specs.Text.{counts_text}
@@ -30,12 +31,13 @@ use Rattle.audit.specs.declared.plan.Plan.{Plan}
 use Rattle.audit.specs.declared.verdict.Verdict.{Verdict}
 use Rattle.audit.specs.declared.verdict.Verdict.TheVariants as verdict
 use Rattle.assignment.specs.Assignment.{AreIterations, Traffic, VehicleRoutes, plan_of, summary_of}
-use Rattle.assignment.specs.Assignment.{times_of}
+use Rattle.assignment.specs.Assignment.{times_of, waits_told}
 use Rattle.sweep.specs.Scenarios.{AreScenarios}
 use Rattle.sweep.specs.Texts.{sweep_report_line, sweep_text}
 use Rattle.sweep.specs.declared.scenario.Scenario.{Scenario}
 use Rattle.reports.specs.Texts.{agent_text_by, free_link_time_text, free_report_text, gap_text}
-use Rattle.reports.specs.Texts.{audit_text, link_time_text, report_text, watch_line}
+use Rattle.reports.specs.Texts.{audit_text, link_time_text, origin_wait_text, report_text}
+use Rattle.reports.specs.Texts.{watch_line}
 use Rattle.reports.specs.Watch.{AreWatchSteps}
 use Rattle.reports.specs.declared.summary.Summary.{Summary}
 use Rattle.dta_words.specs.declared.command.Command.{Command}
@@ -100,7 +102,7 @@ abbrev pub AreSinceTold : (start : Bool) → Settings → Traffic → Option (Li
 AreSinceTold false s traffic since = since ≡ None
 AreSinceTold true s traffic None = ⊥
 AreSinceTold true s traffic (Some numbers) =
-    AreSince traffic.net traffic.start traffic.trips s.iterations numbers
+    AreSince s.costs traffic.net traffic.start traffic.trips s.iterations numbers
 
 -- the link with this identifier, if one is asked for and the network has it
 abbrev pub asked_link : NetRows → Option ℕ → Option LinkNo
@@ -124,6 +126,7 @@ counts_out s traffic turns through =
 pub record LastLoading : Type 0 where
   pub journeys : List Journey
   pub times : TimeTable
+  pub waits : Option WaitTable
   pub counts : OutText
   pub summary : Summary
 
@@ -131,19 +134,25 @@ abbrev pub told_of : Settings → Traffic → VehicleRoutes → GapLine → Last
 told_of s traffic last line = record {
   journeys = journeys_of (plan_of s traffic last);
   times = times_of s traffic last;
+  waits = waits_told s traffic last;
   counts = counts_out s traffic (turn_counts (plan_of s traffic last) s.bucket)
       (through_counts (plan_of s traffic last));
   summary = summary_of s traffic last line;
 }
 
--- Agent, LinkTime and Gap after the last iteration, Agent with the iterations of the routes where
--- these are told
+-- OriginWait, where waits at origins are told
+abbrev pub wait_texts : NetRows → Option WaitTable → List OutText
+wait_texts net None = []
+wait_texts net (Some waits) = text_to output.OriginWait (origin_wait_text net waits) ∷ []
+
+-- Agent, LinkTime, OriginWait and Gap after the last iteration, Agent with the iterations of the
+-- routes where these are told
 abbrev pub table_texts :
     Traffic → VehicleRoutes → LastLoading → Option (List ℕ) → List GapLine → List OutText
 table_texts traffic last told since lines =
     text_to output.Agent (agent_text_by traffic.net traffic.trips last told.journeys since)
     ∷ text_to output.LinkTime (link_time_text traffic.net told.times)
-    ∷ text_to output.Gap (gap_text lines) ∷ []
+    ∷ (wait_texts traffic.net told.waits ++ text_to output.Gap (gap_text lines) ∷ [])
 
 -- what goes out after the last iteration, before the report: the tables of `assign`, the counts of
 -- `counts`, and nothing of another command
@@ -225,6 +234,7 @@ abbrev pub is_watch : Output → Bool
 is_watch output.Watch = true
 is_watch output.Agent = false
 is_watch output.LinkTime = false
+is_watch output.OriginWait = false
 is_watch output.Gap = false
 is_watch output.Report = false
 is_watch output.Skim = false

@@ -8,9 +8,10 @@ ghost use Rattle.counts.specs.Through.{through_counts};
 ghost use Rattle.counts.specs.Turns.{turn_counts};
 ghost use Rattle.assignment.specs.Lent.{IsAssignment, plan_in, settings_in, traffic_in};
 ghost use Rattle.assignment.specs.Progress.{IsLast};
+ghost use Rattle.assignment.specs.Assignment.{waits_told};
 ghost use Rattle.commands.specs.Calls.{PutsAll};
 ghost use Rattle.commands.specs.Outputs.{AreSinceTold, counts_out, last_texts, table_texts};
-ghost use Rattle.commands.specs.Outputs.{told_of};
+ghost use Rattle.commands.specs.Outputs.{told_of, wait_texts};
 ghost use Rattle.commands.specs.Counted.{AreCountsOf, HasCounts};
 
 use crate::iterated::Iterated;
@@ -18,7 +19,9 @@ use assignment::{Assignment, summary_of};
 use counts::put_counts;
 use desk_io::{Desk, Failed};
 use dta_words::Command;
-use reports::{put_agents, put_agents_from, put_gaps, put_link_times, put_summary};
+use reports::{
+    put_agents, put_agents_from, put_gaps, put_link_times, put_origin_waits, put_summary,
+};
 
 // Puts Agent, with the iterations of the routes where there is a start table.
 #[tactic(auto, unfolding(reports::specs::Texts::agent_text_by))]
@@ -41,7 +44,22 @@ fn put_vehicles<D: Desk>(desk: &mut D, assignment: &Assignment, it: &Iterated) -
     }
 }
 
-// Puts Agent, LinkTime and Gap, one after the other.
+// Puts OriginWait, where the costs are of whole trips.
+#[tactic(auto, using(crate::proofs::OutputFacts::parts))]
+fn put_waits<D: Desk>(desk: &mut D, assignment: &Assignment, it: &Iterated) -> Result<(), Failed>
+    requires is { IsAssignment assignment.now }
+    requires last { IsLast (settings_in assignment.now) (traffic_in assignment.now) it.now.last }
+    ensures { let traffic = traffic_in assignment.now in
+        PutsAll (wait_texts traffic.net (waits_told (settings_in assignment.now) traffic
+        it.now.last.routes)) (D.state desk.old) (D.state desk.new) result }
+{
+    match &it.last.waits {
+        Some(waits) => put_origin_waits(desk, assignment.net, waits),
+        None => Ok(()),
+    }
+}
+
+// Puts Agent, LinkTime, OriginWait and Gap, one after the other.
 #[tactic(auto, using(crate::proofs::OutputFacts::parts))]
 fn put_tables<D: Desk>(desk: &mut D, assignment: &Assignment, it: &Iterated) -> Result<(), Failed>
     requires is { IsAssignment assignment.now }
@@ -54,7 +72,8 @@ fn put_tables<D: Desk>(desk: &mut D, assignment: &Assignment, it: &Iterated) -> 
         (D.state desk.old) (D.state desk.new) result }
 {
     put_vehicles(desk, assignment, it)?;
-    put_link_times(desk, assignment.net, &it.last.times)?;
+    put_link_times(desk, assignment.net, it.last.costs.times())?;
+    put_waits(desk, assignment, it)?;
     put_gaps(desk, &it.last.lines)
 }
 

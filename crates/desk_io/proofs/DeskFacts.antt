@@ -7,7 +7,7 @@ use Rattle.desk_io.specs.Desk.{Left, Taken, before_left, changed_at, grown, left
 use Rattle.desk_io.specs.declared.desk.Table.{Table}
 use Rattle.desk_io.specs.declared.desk.Table.TheVariants.{Node, Link, Movement, Demand, Start, Times}
 use Rattle.desk_io.specs.declared.desk.Output.{Output}
-use Rattle.desk_io.specs.declared.desk.Output.TheVariants.{Agent, LinkTime, Gap, Report, Watch, Skim, Counts, Sweep}
+use Rattle.desk_io.specs.declared.desk.Output.TheVariants.{Agent, LinkTime, OriginWait, Gap, Report, Watch, Skim, Counts, Sweep}
 
 append_known-append_known : (a b : List ℕ) (k : Option (List ℕ)) → append_known (append_known k a) b ≡ append_known k (a ++ b)
 append_known-append_known a b None = refl
@@ -65,6 +65,7 @@ pub taken-first : (o : Output) (text : List ℕ) → taken_of o (grown o text no
 unfolding grown
 taken-first Agent text = refl
 taken-first LinkTime text = refl
+taken-first OriginWait text = refl
 taken-first Gap text = refl
 taken-first Report text = refl
 taken-first Watch text = refl

@@ -8,8 +8,8 @@ use Rattle.desk_io.specs.declared.desk.Table.{Table}
 use Rattle.desk_io.specs.declared.desk.Table.TheVariants.{Node, Link, Movement, Demand}
 use Rattle.desk_io.specs.declared.desk.Table.TheVariants.{Start, Times}
 use Rattle.desk_io.specs.declared.desk.Output.{Output}
-use Rattle.desk_io.specs.declared.desk.Output.TheVariants.{Agent, LinkTime, Gap, Report, Watch}
-use Rattle.desk_io.specs.declared.desk.Output.TheVariants.{Skim, Counts, Sweep}
+use Rattle.desk_io.specs.declared.desk.Output.TheVariants.{Agent, LinkTime, OriginWait, Gap}
+use Rattle.desk_io.specs.declared.desk.Output.TheVariants.{Report, Watch, Skim, Counts, Sweep}
 
 -- the bytes of each table that are not read yet
 abbrev pub Left : Type 0
@@ -32,12 +32,13 @@ table_number Times = 5
 abbrev pub output_number : Output → ℕ
 output_number Agent = 0
 output_number LinkTime = 1
-output_number Gap = 2
-output_number Report = 3
-output_number Watch = 4
-output_number Skim = 5
-output_number Counts = 6
-output_number Sweep = 7
+output_number OriginWait = 2
+output_number Gap = 3
+output_number Report = 4
+output_number Watch = 5
+output_number Skim = 6
+output_number Counts = 7
+output_number Sweep = 8
 
 -- the list with the element of this number changed: all other elements are the same
 abbrev pub changed_at : {A : Type 0} → ℕ → (A → A) → List A → List A

@@ -2,7 +2,8 @@
 use Rattle.std.specs.Prelude.{◌≡◌, refl, codes, [], ◌∷◌, Some, true, false, ◌^◌, ◌-◌}
 use Rattle.std.proofs.Math.Nat.{le_refl, lt_irrefl, le-add_right}
 use Rattle.desk_io.specs.declared.desk.Table.TheVariants.{Link, Start, Times}
-use Rattle.desk_io.specs.declared.desk.Output.TheVariants.{Counts, Report, Skim, Watch}
+use Rattle.desk_io.specs.declared.desk.Output.TheVariants.{Counts, Gap, OriginWait, Report}
+use Rattle.desk_io.specs.declared.desk.Output.TheVariants.{Skim, Watch}
 use Rattle.desk_io.specs.Desk.{before_left, grown, nothing_taken, taken_of}
 use Rattle.desk_io.specs.Faults.{last_count, Rose}
 use Rattle.desk_io.specs.MemDesk.{all_left, is_listed, number_after}
@@ -40,6 +41,11 @@ a-start-table-half-read = refl
 skim-alone : taken_of Counts (grown Skim (codes "1") nothing_taken) ≡ Some []
 unfolding grown
 skim-alone = refl
+
+-- what OriginWait takes isn't in Gap
+waits-alone : taken_of Gap (grown OriginWait (codes "1") nothing_taken) ≡ Some []
+unfolding grown
+waits-alone = refl
 
 -- the second call is listed
 the-second-call : is_listed (2 ∷ 5 ∷ []) (number_after (Some 1)) ≡ true

@@ -6,7 +6,7 @@ ghost use Rattle.desk_io.specs.State.{DeskState, PutsSome, ReadsSome};
 pub(crate) const TABLES: usize = 6;
 
 /// How many outputs there are.
-pub(crate) const OUTPUTS: usize = 8;
+pub(crate) const OUTPUTS: usize = 9;
 
 /// A table that a desk hands out. The first three have the column names of GMNS. A start is a
 /// table of agents, and the last one a table of link times, both as an assignment puts them.
@@ -35,6 +35,7 @@ impl Table {
 pub enum Output {
     Agent,
     LinkTime,
+    OriginWait,
     Gap,
     Report,
     Watch,

@@ -1,6 +1,6 @@
 //! The outside of the program: the tables that it reads and the outputs that it puts.
 //!
-//! A desk hands out the bytes of six tables and takes the bytes of eight outputs. The crates above
+//! A desk hands out the bytes of six tables and takes the bytes of nine outputs. The crates above
 //! know of files, standard output and memory only what the trait `Desk` says, so one proof serves
 //! a run over files and a run in a test. The crate's promise: what is read is what was left, what
 //! is put is what was given, and a failure comes only where a count of the desk rose.

@@ -15,7 +15,7 @@ use std::alloc::Global;
 use std::marker::Model;
 use std::mem;
 
-/// A desk in memory: six texts to read and eight outputs that grow. It tells all, and calls can be
+/// A desk in memory: six texts to read and nine outputs that grow. It tells all, and calls can be
 /// listed to fail.
 #[derive(Drop)]
 pub struct MemDesk {
@@ -70,6 +70,7 @@ impl MemDesk {
                 Source::new(Vec::new(alloc)),
             ],
             outputs: [
+                Vec::new(alloc),
                 Vec::new(alloc),
                 Vec::new(alloc),
                 Vec::new(alloc),

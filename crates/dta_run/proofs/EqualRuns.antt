@@ -53,9 +53,10 @@ grown_same to o text x y e =
 
 -- a watch line changes no other output
 not_watch : (o : Output) → is_watch o ≡ false → (f : Option (List ℕ) → Option (List ℕ))
-    (v : Option (List ℕ)) → pick 4 (output_number o) f v ≡ v
+    (v : Option (List ℕ)) → pick 5 (output_number o) f v ≡ v
 not_watch output.Agent kept f v = refl
 not_watch output.LinkTime kept f v = refl
+not_watch output.OriginWait kept f v = refl
 not_watch output.Gap kept f v = refl
 not_watch output.Report kept f v = refl
 not_watch output.Watch kept f v = absurd (cc)
@@ -67,10 +68,11 @@ watch_else : (to o : Output) (text : List ℕ) (x : Taken) → is_watch to ≡ t
     → taken_of o (grown to text x) ≡ taken_of o x
 unfolding grown
 watch_else output.Watch o text x is kept =
-    at_changed (λ known. append_known known text) refl 4 (output_number o) x
+    at_changed (λ known. append_known known text) refl 5 (output_number o) x
     ∙ not_watch o kept (λ known. append_known known text) (taken_of o x)
 watch_else output.Agent o text x is kept = absurd (cc)
 watch_else output.LinkTime o text x is kept = absurd (cc)
+watch_else output.OriginWait o text x is kept = absurd (cc)
 watch_else output.Gap o text x is kept = absurd (cc)
 watch_else output.Report o text x is kept = absurd (cc)
 watch_else output.Skim o text x is kept = absurd (cc)

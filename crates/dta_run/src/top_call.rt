@@ -109,10 +109,11 @@ fn answer<R: AllocGlobal + Threads + Wait + Sync, D: Desk + Send, G: Gate + Sync
 ///   steps and storage to LinkTime, and the numbers of nodes and links to Report.
 /// - `assign` reads the node, link, movement and demand table, iterates routes, loadings, link
 ///   times and gaps (successive averages over a queue-based simulator, Zhou and Taylor 2014), and
-///   puts Agent, LinkTime, Gap and Report, in this order. With `--start` it reads an earlier agent
-///   table too, whose routes come first where they fit, and tells in Agent since which iteration
-///   each vehicle has its route.
-/// - `demo` does the same over a made grid, and puts Report in place of the four.
+///   puts Agent, LinkTime, Gap and Report, in this order. With `--costs trips` routes and gaps go
+///   by whole trips, waits at origins included, and these are put to OriginWait, after LinkTime.
+///   With `--start` it reads an earlier agent table too, whose routes come first where they fit,
+///   and tells in Agent since which iteration each vehicle has its route.
+/// - `demo` does the same over a made grid, and puts Report in place of them all.
 /// - `skim` reads a network and a table of link times, and puts the least times between all zones
 ///   to Skim, and Report.
 /// - `counts` does the work of `assign`, and puts the counts of turns over the last loading, and

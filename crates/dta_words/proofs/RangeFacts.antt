@@ -11,7 +11,7 @@ use Rattle.dta_model.specs.Sound.{IsQueue}
 use Rattle.dta_model.specs.declared.queue.Queue.{Queue}
 use Rattle.dta_model.specs.declared.queue.Queue.TheVariants as queue
 use Rattle.fixed_units.specs.declared.units.Units.{Units}
-use Rattle.dta_words.specs.Grammar.{flags_in, link_given, length_unit_of, period_within, queue_of, settings_from, settings_of, settings_over, speed_unit_of, units_by}
+use Rattle.dta_words.specs.Grammar.{costs_given, flags_in, link_given, length_unit_of, period_within, queue_of, settings_from, settings_of, settings_over, speed_unit_of, units_by}
 use Rattle.dta_words.specs.Numbers.{number_given, number_of}
 use Rattle.dta_words.specs.Options.{command_of, side_of, takes_of, takes_scales, word_of}
 use Rattle.dta_words.specs.Ranges.{AreScales, AreSettings, AreStarts, IsBetween, IsSide}
@@ -160,11 +160,12 @@ module _ (first : Command) (words : List Text) (uses : List Use)
       after BUCKET (value (codes "bucket")) _ s refl e5 (λ bucket bucket_in e6.
       after WAVE (value (codes "wave")) _ s refl e6 (λ wave wave_in e7.
       option_and_then_some _ (queue_of wave (value (codes "queue"))) s e7 (λ line line_is e8.
-      after WATCH (value (codes "watch")) _ s refl e8 (λ watch watch_in e9.
-      option_and_then_some _ (link_given (value (codes "link"))) s e9 (λ link _ e10.
+      option_and_then_some _ (costs_given (value (codes "costs"))) s e8 (λ by _ e9.
+      after WATCH (value (codes "watch")) _ s refl e9 (λ watch watch_in e10.
+      option_and_then_some _ (link_given (value (codes "link"))) s e10 (λ link _ e11.
       let is = of_word first (value number_name) what what_is in
       let parts = units_in value units units_are in
-      subst AreSettings (same_Some _ _ e10) (record {
+      subst AreSettings (same_Some _ _ e11) (record {
         side = is.side;
         step = parts.0;
         jam = parts.1;
@@ -180,7 +181,7 @@ module _ (first : Command) (words : List Text) (uses : List Use)
             (sym (ap (λ b. scales_given b (value (codes "scales"))) (is.scales k)) ∙ multiples);
         start = λ k. is.start (taken_where_given (takes_of first) words uses all (codes "start")
             (start_alone first) refl k);
-      })))))))))))
+      }))))))))))))
 
   in_range : settings_from first uses ≡ Some s → AreSettings s
   in_range e =

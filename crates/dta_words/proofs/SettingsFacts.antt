@@ -36,6 +36,7 @@ same_settings c v w flags same = rw (
   same (codes "bucket") refl,
   same (codes "wave") refl,
   same (codes "queue") refl,
+  same (codes "costs") refl,
   same (codes "watch") refl,
   same (codes "at") refl,
   same (codes "link") refl,

@@ -6,7 +6,8 @@ use Rattle.fixed_units.specs.declared.measure.LengthUnit.TheVariants as length_u
 use Rattle.fixed_units.specs.declared.measure.SpeedUnit.TheVariants as speed_unit
 use Rattle.dta_model.specs.declared.queue.Queue.TheVariants as queue
 use Rattle.fixed_units.specs.Quantity.{number}
-use Rattle.dta_words.specs.Grammar.{link_given, settings_of}
+use Rattle.trip_costs.specs.declared.loading_costs.Costs.TheVariants as costs
+use Rattle.dta_words.specs.Grammar.{costs_given, link_given, settings_of}
 use Rattle.dta_words.specs.Numbers.{number_of}
 use Rattle.dta_words.specs.Pieces.{pieces_of}
 use Rattle.dta_words.specs.Uses.{Text}
@@ -213,6 +214,23 @@ link_below_zero = refl
 link_with_a_blank : link_given (Some (codes " 20")) ≡ None
 link_with_a_blank = refl
 
+-- ---- by what routes are chosen and gaps are told
+
+no_costs : costs_given None ≡ Some costs.Links
+no_costs = refl
+
+costs_of_links : costs_given (Some (codes "links")) ≡ Some costs.Links
+costs_of_links = refl
+
+costs_of_trips : costs_given (Some (codes "trips")) ≡ Some costs.Trips
+costs_of_trips = refl
+
+costs_of_a_trip : costs_given (Some (codes "trip")) ≡ None
+costs_of_a_trip = refl
+
+costs_in_capitals : costs_given (Some (codes "Trips")) ≡ None
+costs_in_capitals = refl
+
 -- ---- words that have settings
 
 -- the settings of words that stand between blanks (32)
@@ -230,6 +248,7 @@ defaults what = record {
   workers = 4;
   bucket = 50;
   queue = queue.Point;
+  costs = costs.Links;
   watch = 0;
   plain = false;
   start = false;
@@ -290,6 +309,27 @@ newell_of_a_wave = refl
 wave_of_no_queue : asked (codes "demo 7 --wave 100") ≡ Some (defaults (command.Demo 7))
 wave_of_no_queue = refl
 
+assign_by_trips : asked (codes "assign --costs trips")
+    ≡ Some (record (defaults command.Assign) { costs = costs.Trips })
+assign_by_trips = refl
+
+demo_by_trips : asked (codes "demo --costs=trips 7 --workers 2")
+    ≡ Some (record (defaults (command.Demo 7)) { workers = 2; costs = costs.Trips })
+demo_by_trips = refl
+
+counts_by_trips : asked (codes "counts --plain --costs trips")
+    ≡ Some (record (defaults command.Counts) { plain = true; costs = costs.Trips })
+counts_by_trips = refl
+
+sweep_by_trips : asked (codes "sweep --costs=trips --scales=2")
+    ≡ Some (record (defaults command.Sweep) { scales = 2000 ∷ []; costs = costs.Trips })
+unfolding number
+sweep_by_trips = refl
+
+-- link times are the default, and may be said
+assign_by_links : asked (codes "assign --costs=links") ≡ Some (defaults command.Assign)
+assign_by_links = refl
+
 -- the first routes from an earlier agent table
 assign_from_a_start : asked (codes "assign --start --plain")
     ≡ Some (record (defaults command.Assign) { plain = true; start = true })
@@ -330,14 +370,21 @@ out_of_bounds : HaveNone (codes "assign --step 61" ∷ codes "assign --horizon 6
 unfolding number
 out_of_bounds = refl
 
+-- costs that there are none of
+other_costs : HaveNone (codes "assign --costs=walks" ∷ codes "demo 7 --costs=Trips"
+    ∷ codes "counts --costs=" ∷ codes "sweep --scales=1 --costs=link" ∷ [])
+unfolding number
+other_costs = refl
+
 -- a name that is given twice
 given_twice : HaveNone (codes "assign --step 6 --step 6" ∷ codes "assign --start --start"
-    ∷ codes "demo 7 7" ∷ codes "sweep --scales=1 --scales=1" ∷ [])
+    ∷ codes "demo 7 7" ∷ codes "sweep --scales=1 --scales=1"
+    ∷ codes "assign --costs=trips --costs=trips" ∷ [])
 given_twice = refl
 
 -- what has to be given, and an option without its value
 wanting : HaveNone (codes "demo" ∷ codes "sweep --period 30" ∷ codes "assign --step"
-    ∷ codes "assign --step --plain" ∷ [])
+    ∷ codes "assign --step --plain" ∷ codes "assign --costs" ∷ [])
 wanting = refl
 
 -- a flag with a text
@@ -357,5 +404,6 @@ of_another_command : HaveNone (codes "demo 7 --start" ∷ codes "counts --start"
     ∷ codes "counts --at 0" ∷ codes "assign --link 20" ∷ codes "sweep --scales=1 --watch=5"
     ∷ codes "sweep --scales=1 --plain" ∷ codes "sweep --scales=1 --start"
     ∷ codes "assign --scales=1" ∷ codes "audit --workers 2" ∷ codes "audit --iterations 2"
-    ∷ codes "audit --plain" ∷ [])
+    ∷ codes "audit --plain" ∷ codes "freeflow --costs=links" ∷ codes "skim --costs=trips"
+    ∷ codes "audit --costs=trips" ∷ [])
 of_another_command = refl

@@ -11,6 +11,8 @@ use Rattle.fixed_units.specs.declared.units.Units.{Units}
 use Rattle.fixed_units.specs.Quantity.{whole_of}
 use Rattle.dta_model.specs.declared.queue.Queue.{Queue}
 use Rattle.dta_model.specs.declared.queue.Queue.TheVariants as queue
+use Rattle.trip_costs.specs.declared.loading_costs.Costs.{Costs}
+use Rattle.trip_costs.specs.declared.loading_costs.Costs.TheVariants as costs
 use Rattle.dta_words.specs.Uses.{Text, Use, is_given, number_name, uses_of, value_in}
 use Rattle.dta_words.specs.Options.{command_of, takes_of, takes_scales, word_of}
 use Rattle.dta_words.specs.Numbers.{number_given}
@@ -48,6 +50,12 @@ queue_of wave (Some text) = if bytes_eq text (codes "point") then Some queue.Poi
     else (if bytes_eq text (codes "spatial") then Some queue.Spatial
     else (if bytes_eq text (codes "newell") then Some (queue.Newell wave) else None))
 
+-- by what routes are chosen and gaps are told: link times where the option isn't given
+abbrev pub costs_given : Option Text → Option Costs
+costs_given None = Some costs.Links
+costs_given (Some text) = if bytes_eq text (codes "links") then Some costs.Links
+    else (if bytes_eq text (codes "trips") then Some costs.Trips else None)
+
 -- the link that the option gives by its identifier, if it is given
 abbrev pub link_given : Option Text → Option (Option ℕ)
 link_given None = Some None
@@ -81,6 +89,7 @@ settings_over horizon starts scales first value flags = do
   bucket ← number_given BUCKET (value (codes "bucket"))
   wave ← number_given WAVE (value (codes "wave"))
   line ← queue_of wave (value (codes "queue"))
+  by ← costs_given (value (codes "costs"))
   watch ← number_given WATCH (value (codes "watch"))
   link ← link_given (value (codes "link"))
   Some (record {
@@ -92,6 +101,7 @@ settings_over horizon starts scales first value flags = do
     workers = workers;
     bucket = bucket;
     queue = line;
+    costs = by;
     watch = watch;
     plain = flags.plain;
     start = flags.start;

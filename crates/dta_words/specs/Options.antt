@@ -32,7 +32,7 @@ abbrev loading : List Text
 loading = codes "period" ∷ codes "queue" ∷ codes "wave" ∷ []
 
 abbrev iterated : List Text
-iterated = codes "iterations" ∷ codes "workers" ∷ []
+iterated = codes "iterations" ∷ codes "workers" ∷ codes "costs" ∷ []
 
 abbrev watched : List Text
 watched = codes "watch" ∷ []

@@ -7,6 +7,7 @@ use crate::options::LEAST_SIDE;
 use crate::scales::Scales;
 use dta_model::{Queue, Steps};
 use fixed_units::Units;
+use trip_costs::Costs;
 
 /// What the program is asked to do.
 #[derive(Clone, Copy, Debug, PartialEq, Eq)]
@@ -43,6 +44,8 @@ pub struct Settings {
     /// The steps of a bucket of link times, from 1 to 86,400.
     pub bucket: u32,
     pub queue: Queue,
+    /// By what routes are chosen and gaps are told. Links where the command has no such option.
+    pub costs: Costs,
     /// The steps between two watch lines, up to 86,400, and 0 for none.
     pub watch: u32,
     /// Whether the plain loader loads.
@@ -71,8 +74,8 @@ const TIMES: &[&str] = &["horizon", "bucket"];
 /// What is loaded, and by which queue.
 const LOADING: &[&str] = &["period", "queue", "wave"];
 
-/// How often is loaded, and by how many workers.
-const ITERATED: &[&str] = &["iterations", "workers"];
+/// How often is loaded, by how many workers, and by which costs routes are chosen.
+const ITERATED: &[&str] = &["iterations", "workers", "costs"];
 
 const WATCHED: &[&str] = &["watch"];
 

@@ -2,7 +2,7 @@
 ghost use Rattle.std.specs.Prelude.{◌≡◌, IfOk, Some, codes};
 ghost use Rattle.clap.specs.Matches.{first_value, found_of, one_text};
 ghost use Rattle.dta_words.specs.Numbers.{number_given};
-ghost use Rattle.dta_words.specs.Grammar.{length_unit_of, link_given, period_within};
+ghost use Rattle.dta_words.specs.Grammar.{costs_given, length_unit_of, link_given, period_within};
 ghost use Rattle.dta_words.specs.Grammar.{queue_of, settings_by, speed_unit_of, units_by};
 ghost use Rattle.dta_words.specs.Grammar.{settings_over as settings_over_of};
 ghost use Rattle.dta_words.specs.Options.{command_of, takes_scales};
@@ -23,6 +23,7 @@ use desk_io::Memory;
 use dta_model::{Queue, Steps};
 use fixed_units::{LengthUnit, SpeedUnit, Units, whole};
 use std::alloc::Global;
+use trip_costs::Costs;
 
 /// The number that an option gives, or what stands in its place.
 fn number(found: &ArgMatches, name: &str, bounds: Bounds) -> Option<u32>
@@ -65,6 +66,17 @@ fn queue(found: &ArgMatches, wave: u32) -> Option<Queue>
         None | Some("point") => Some(Queue::Point),
         Some("spatial") => Some(Queue::Spatial),
         Some("newell") => Some(Queue::Newell { wave }),
+        Some(_) => None,
+    }
+}
+
+/// The costs by which routes are chosen and gaps are told.
+fn costs(found: &ArgMatches) -> Option<Costs>
+    ensures { result ≡ costs_given (first_value (found_of found.now) (codes "costs")) }
+{
+    match found.get_str("costs") {
+        None | Some("links") => Some(Costs::Links),
+        Some("trips") => Some(Costs::Trips),
         Some(_) => None,
     }
 }
@@ -163,6 +175,7 @@ fn settings_over(
     let bucket = number(found, "bucket", BUCKET)?;
     let wave = number(found, "wave", WAVE)?;
     let queue = queue(found, wave)?;
+    let costs = costs(found)?;
     let watch = number(found, "watch", WATCH)?;
     let link = link(found)?;
     Some(Settings {
@@ -174,6 +187,7 @@ fn settings_over(
         workers,
         bucket,
         queue,
+        costs,
         watch,
         plain: flags.plain,
         start: flags.start,

@@ -5,7 +5,7 @@ use Rattle.std.proofs.Math.Dec.{eqb}
 use Rattle.std.proofs.lemmas.Bool.{true≢false}
 use Rattle.desk_io.specs.declared.desk.Table.TheVariants.{Node, Link, Movement, Demand, Start, Times}
 use Rattle.desk_io.specs.declared.desk.Output.{Output}
-use Rattle.desk_io.specs.declared.desk.Output.TheVariants.{Agent, LinkTime, Gap, Report, Watch, Skim, Counts, Sweep}
+use Rattle.desk_io.specs.declared.desk.Output.TheVariants.{Agent, LinkTime, OriginWait, Gap, Report, Watch, Skim, Counts, Sweep}
 use Rattle.file_desk.specs.Folders.{Lies, Names, SameTables, no_bytes, with_name}
 use Rattle.file_desk.specs.Names.{output_name, table_file}
 
@@ -39,6 +39,7 @@ none = false ∷ false ∷ false ∷ false ∷ false ∷ false ∷ []
 no-clash : (o : Output) → clashes (output_name o) ≡ none
 no-clash Agent = refl
 no-clash LinkTime = refl
+no-clash OriginWait = refl
 no-clash Gap = refl
 no-clash Report = refl
 no-clash Watch = refl

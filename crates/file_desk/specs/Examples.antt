@@ -1,6 +1,6 @@
 -- Small cases of the definitions, by computation.
-use Rattle.std.specs.Prelude.{ℕ, ◌≡◌, List, [], ◌∷◌, Option, None, Some, codes, refl}
-use Rattle.desk_io.specs.declared.desk.Output.TheVariants.{LinkTime, Report}
+use Rattle.std.specs.Prelude.{◌≡◌, [], None, Some, codes, refl}
+use Rattle.desk_io.specs.declared.desk.Output.TheVariants.{LinkTime, OriginWait, Report}
 use Rattle.desk_io.specs.declared.desk.Table.TheVariants.{Times}
 use Rattle.file_desk.specs.Folders.{bytes_of, no_bytes, with_name}
 use Rattle.file_desk.specs.MemFolder.{held_under}
@@ -12,6 +12,9 @@ times-are-another-file = refl
 
 link-times-are-put : output_file LinkTime ≡ Some (codes "link_performance.csv")
 link-times-are-put = refl
+
+waits-have-a-file : output_file OriginWait ≡ Some (codes "origin_wait.csv")
+waits-have-a-file = refl
 
 -- Report has no file
 a-stream : output_file Report ≡ None

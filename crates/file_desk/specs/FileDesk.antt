@@ -4,7 +4,7 @@ use Rattle.desk_io.specs.declared.desk.Table.{Table}
 use Rattle.desk_io.specs.declared.desk.Table.TheVariants.{Node, Link, Movement, Demand}
 use Rattle.desk_io.specs.declared.desk.Table.TheVariants.{Start, Times}
 use Rattle.desk_io.specs.declared.desk.Output.{Output}
-use Rattle.desk_io.specs.declared.desk.Output.TheVariants.{Agent, LinkTime, Gap}
+use Rattle.desk_io.specs.declared.desk.Output.TheVariants.{Agent, LinkTime, OriginWait, Gap}
 use Rattle.desk_io.specs.declared.desk.Output.TheVariants.{Skim, Counts, Sweep}
 use Rattle.desk_io.specs.State.{DeskState}
 use Rattle.file_desk.specs.Folders.{Lies, Names, with_name}
@@ -27,6 +27,7 @@ module _ {F R W O M : Type 0} where
     times = file.NotOpened;
     agent = None;
     link_time = None;
+    origin_wait = None;
     gap = None;
     skim = None;
     counts = None;
@@ -48,7 +49,8 @@ module _ {F R W O M : Type 0} where
       record {
         left = left Node d.node ∷ left Link d.link ∷ left Movement d.movement
             ∷ left Demand d.demand ∷ left Start d.start ∷ left Times d.times ∷ [];
-        taken = taken Agent d.agent ∷ taken LinkTime d.link_time ∷ taken Gap d.gap
+        taken = taken Agent d.agent ∷ taken LinkTime d.link_time
+            ∷ taken OriginWait d.origin_wait ∷ taken Gap d.gap
             ∷ report d.report ∷ watch d.watch
             ∷ taken Skim d.skim ∷ taken Counts d.counts ∷ taken Sweep d.sweep ∷ [];
         read_faults = d.read_faults;
@@ -68,6 +70,7 @@ module _ {F R W O M : Type 0} where
   abbrev pub made_for : Output → FileDesk F R W O M → Option M
   made_for Agent d = d.agent
   made_for LinkTime d = d.link_time
+  made_for OriginWait d = d.origin_wait
   made_for Gap d = d.gap
   made_for Skim d = d.skim
   made_for Counts d = d.counts
@@ -79,6 +82,7 @@ module _ {F R W O M : Type 0} where
       : Type 0 where
     pub agent : IsKept holds kept d.agent
     pub link_time : IsKept holds kept d.link_time
+    pub origin_wait : IsKept holds kept d.origin_wait
     pub gap : IsKept holds kept d.gap
     pub skim : IsKept holds kept d.skim
     pub counts : IsKept holds kept d.counts

@@ -4,8 +4,8 @@ use Rattle.desk_io.specs.declared.desk.Table.{Table}
 use Rattle.desk_io.specs.declared.desk.Table.TheVariants.{Node, Link, Movement, Demand}
 use Rattle.desk_io.specs.declared.desk.Table.TheVariants.{Start, Times}
 use Rattle.desk_io.specs.declared.desk.Output.{Output}
-use Rattle.desk_io.specs.declared.desk.Output.TheVariants.{Agent, LinkTime, Gap, Report, Watch}
-use Rattle.desk_io.specs.declared.desk.Output.TheVariants.{Skim, Counts, Sweep}
+use Rattle.desk_io.specs.declared.desk.Output.TheVariants.{Agent, LinkTime, OriginWait, Gap}
+use Rattle.desk_io.specs.declared.desk.Output.TheVariants.{Report, Watch, Skim, Counts, Sweep}
 
 -- the file of a table
 abbrev pub table_file : Table → List ℕ
@@ -20,6 +20,7 @@ table_file Times = codes "times.csv"
 abbrev pub output_name : Output → List ℕ
 output_name Agent = codes "agent.csv"
 output_name LinkTime = codes "link_performance.csv"
+output_name OriginWait = codes "origin_wait.csv"
 output_name Gap = codes "gap.csv"
 output_name Report = []
 output_name Watch = []

@@ -17,10 +17,10 @@ use std::rt::{Stderr, Stdout};
 
 /// A desk over a folder and two streams. It reads `node.csv`, `link.csv`, `movement.csv`,
 /// `demand.csv`, `start.csv` and `times.csv`, and puts to `agent.csv`, `link_performance.csv`,
-/// `gap.csv`, `skim.csv`, `counts.csv`, `sweep.txt`, a stream for Report and one for Watch. A
-/// `movement.csv` that doesn't exist reads as zero bytes; another missing file fails. A file is
-/// made, in place of an older one, at its first put of a piece that isn't empty. The desk tells
-/// what its folder and its streams tell, and counts each failure.
+/// `origin_wait.csv`, `gap.csv`, `skim.csv`, `counts.csv`, `sweep.txt`, a stream for Report and one
+/// for Watch. A `movement.csv` that doesn't exist reads as zero bytes; another missing file fails.
+/// A file is made, in place of an older one, at its first put of a piece that isn't empty. The desk
+/// tells what its folder and its streams tell, and counts each failure.
 #[derive(Drop)]
 pub struct FileDesk<F: Folder, R, W> {
     folder: F,
@@ -32,6 +32,7 @@ pub struct FileDesk<F: Folder, R, W> {
     times: TableFile<F::Opened>,
     agent: Option<F::Made>,
     link_time: Option<F::Made>,
+    origin_wait: Option<F::Made>,
     gap: Option<F::Made>,
     skim: Option<F::Made>,
     counts: Option<F::Made>,
@@ -67,6 +68,7 @@ impl<F: Folder, R, W> FileDesk<F, R, W> {
             times: TableFile::NotOpened,
             agent: None,
             link_time: None,
+            origin_wait: None,
             gap: None,
             skim: None,
             counts: None,
@@ -85,6 +87,7 @@ impl<F: Folder, R, W> FileDesk<F, R, W> {
         match output {
             Output::Agent => self.agent.as_ref(),
             Output::LinkTime => self.link_time.as_ref(),
+            Output::OriginWait => self.origin_wait.as_ref(),
             Output::Gap => self.gap.as_ref(),
             Output::Skim => self.skim.as_ref(),
             Output::Counts => self.counts.as_ref(),
@@ -114,11 +117,12 @@ impl<F: Folder, R: Stream, W: Stream> FileDesk<F, R, W> {
     {
         let agent = is_kept(&mut self.agent);
         let link_time = is_kept(&mut self.link_time);
+        let origin_wait = is_kept(&mut self.origin_wait);
         let gap = is_kept(&mut self.gap);
         let skim = is_kept(&mut self.skim);
         let counts = is_kept(&mut self.counts);
         let sweep = is_kept(&mut self.sweep);
-        if agent && link_time && gap && skim && counts && sweep {
+        if agent && link_time && origin_wait && gap && skim && counts && sweep {
             return Ok(());
         }
         self.put_faults = self.put_faults.saturating_add(1);
@@ -209,6 +213,10 @@ impl<F: Folder, R: Stream, W: Stream> Desk for FileDesk<F, R, W> {
             Output::LinkTime => counted(
                 faults,
                 write_file(folder, &mut self.link_time, output, piece),
+            ),
+            Output::OriginWait => counted(
+                faults,
+                write_file(folder, &mut self.origin_wait, output, piece),
             ),
             Output::Gap => counted(faults, write_file(folder, &mut self.gap, output, piece)),
             Output::Report => counted(faults, self.report.write(piece)),

@@ -53,6 +53,7 @@ fn name_of(output: Output) -> &'static str
     match output {
         Output::Agent => "agent.csv",
         Output::LinkTime => "link_performance.csv",
+        Output::OriginWait => "origin_wait.csv",
         Output::Gap => "gap.csv",
         Output::Skim => "skim.csv",
         Output::Counts => "counts.csv",

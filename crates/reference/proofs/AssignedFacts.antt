@@ -51,7 +51,7 @@ before-last n h = omega (arith, h)
 module _ (s : Settings) (traffic : Traffic) (settings : AreSettings s) (good : IsTraffic s.horizon traffic) where
   since : (start : Bool) → AreSinceTold start s traffic (since_told start s traffic)
   since false = refl
-  since true = since-are traffic.net traffic.start traffic.trips s.iterations good.start
+  since true = since-are s.costs traffic.net traffic.start traffic.trips s.iterations good.start
 
   pub assigned : AreAssigned s traffic (assigned_texts s traffic)
   unfolding assigned_texts

@@ -12,11 +12,12 @@ use Rattle.net_core.specs.declared.rows.NetRows.{NetRows}
 use Rattle.net_core.specs.declared.rows.TurnRow.{TurnRow}
 use Rattle.dta_model.specs.TimedWalks.{arrival_after, penalty_steps, walk_time}
 use Rattle.dta_model.specs.Walks.{IsWalk}
+use Rattle.trip_costs.specs.Timings.{Links}
 use Rattle.reference.specs.Search.{AreTimesWithin, most_links}
 use Rattle.reference.proofs.Runs.{Runs, runs_walk, walk_runs}
 
 -- ---- walks that repeat no link
-has_not : (l : ℕ) (xs : List ℕ) → list_any (eqb l) xs ≡ false → AllByRecursion (λ y. eqb l y ≡ false) xs
+pub has_not : (l : ℕ) (xs : List ℕ) → list_any (eqb l) xs ≡ false → AllByRecursion (λ y. eqb l y ≡ false) xs
 has_not l [] h = tt
 has_not l (y ∷ xs) h = let p = or_parts (eqb l y) (list_any (eqb l) xs) h in (p.0, has_not l xs (p.1))
 
@@ -120,7 +121,7 @@ module _ (most : ℕ) (at : ℕ → ℕ → ℕ) (net : NetRows) (is : IsNet net
     as_long [] walk = zero-le
     as_long (l ∷ rest) walk = let s = slow start l rest (walk_runs net destination origin l rest walk).1 in omega arith
 
-    pub short_walk : (w : List ℕ) → IsWalk net origin destination w → (v : List ℕ) × IsWalk net origin destination v × (walk_time at net start v ≤ most_links most net)
+    pub short_walk : (w : List ℕ) → IsWalk net origin destination w → (v : List ℕ) × IsWalk net origin destination v × (walk_time at net start v ≤ most_links most (Links at) net)
     short_walk [] walk = absurd (let n = walk.some in omega arith)
     short_walk (l ∷ rest) walk =
         let r = walk_runs net destination origin l rest walk in

@@ -2,6 +2,7 @@ mod Among
 mod Bests
 mod Erased
 mod Runs
+mod Straight
 pub mod Searched
 pub mod LoadedTimes
 pub mod IsWalks

@@ -1,4 +1,4 @@
--- Link times of networks and of loadings are as the search takes them.
+-- Link times of networks and the costs of loadings are as the search takes them.
 use Rattle.std.proofs.Common.{◌≡◌, ◌≢◌, ◌⊎◌, inl, inr, ℕ, ◌+◌, ◌*◌, ◌/◌, ◌<◌, ◌≤◌, Bool, true, false, cond, List, [], ◌∷◌, length, refl, sym, ◌∙◌, subst, arith, Option, None, Some, get_or}
 use Rattle.std.specs.Prelude.{All, filter, find, nat_eq, nat_lt, slice_get, sum_by}
 use Rattle.std.proofs.Math.Dec.{eqb}
@@ -23,7 +23,13 @@ use Rattle.link_times.proofs.Places.{bucket_inside, by_bucket-get}
 use Rattle.link_times.proofs.RoundedUp.{mean_least, mean_most}
 use Rattle.link_times.proofs.TravelTimes.{Lasts, Spaced, moves_are_spaced}
 use Rattle.route_flows.specs.Averages.{free_time}
-use Rattle.reference.specs.Search.{AreTimes}
+use Rattle.trip_costs.specs.LoadingCosts.{costs_by, costs_over}
+use Rattle.trip_costs.specs.OriginWaits.{WaitTable, waits_of}
+use Rattle.trip_costs.specs.Timings.{Links}
+use Rattle.trip_costs.specs.declared.loading_costs.Costs.{Costs}
+use Rattle.trip_costs.specs.declared.loading_costs.Costs.TheVariants as kind
+use Rattle.trip_costs.proofs.Rising.{exits_ordered}
+use Rattle.reference.specs.Search.{AreCosts, AreTimesWithin}
 
 -- ---- free-flow steps
 abbrev pub InRange : ℕ → Type 0
@@ -37,7 +43,7 @@ steps-in-range net l sound h =
       steps_most net sound l 0 inside,
     )
 
-pub free-times : (net : NetRows) → IsNet net → AreTimes (free_time net) net
+pub free-times : (net : NetRows) → IsNet net → AreCosts (Links (free_time net)) net
 unfolding free_time
 free-times net sound = record {
   least = λ l step h. (steps-in-range net l sound h).0;
@@ -192,8 +198,16 @@ module _ (p : Plan) (sound : IsSound p) (bucket : ℕ) (some : 1 ≤ bucket) whe
           let f : nat_lt step p.horizon ≡ false = grind (arith, nat_tests) in
           rw f (steps-in-range p.net l sound.net inside)
 
-  pub loaded-times : AreTimes (time_at (table_of p bucket)) p.net
+  loaded-times : AreTimesWithin MOST_HORIZON (time_at (table_of p bucket)) p.net
   loaded-times = record {
     least = λ l step h. (time-in-range l step h).0;
     no_more = λ l step h. (time-in-range l step h).1;
   }
+
+  -- ---- and its costs
+  over-table : (costs : Costs) (w : WaitTable) → AreCosts (costs_over costs (table_of p bucket) w) p.net
+  over-table kind.Links w = loaded-times
+  over-table kind.Trips w = exits_ordered (table_of p bucket)
+
+  pub loaded-costs : (costs : Costs) → AreCosts (costs_by costs p bucket) p.net
+  loaded-costs costs = over-table costs (waits_of p bucket)

@@ -1,5 +1,5 @@
 -- The rows of accepted start and times tables are in range.
-use Rattle.std.proofs.Common.{◌≡◌, ◌≤◌, ◌<◌, ◌+◌, ℕ, List, [], ◌∷◌, ◌++◌, length, length-append, refl, subst, arith}
+use Rattle.std.proofs.Common.{◌≡◌, ◌≤◌, ◌<◌, ℕ, List, [], ◌∷◌, ◌++◌, length, length-append, refl, subst, arith}
 use Rattle.std.specs.Prelude.{Ok, is_some}
 use Rattle.std.specs.Cmp.{nat_eq_equiv}
 use Rattle.desk_io.specs.declared.desk.Table.TheVariants as table

@@ -78,11 +78,11 @@ module _ (most : ℕ) (at : ℕ → ℕ → ℕ) (net : NetRows) (sound : IsNet 
     origin = refl;
     destination = refl;
     start = refl;
-    least = by (search_within most at net question.origin question.destination question.start)
-        (walks_are_found most at net sound times question.origin question.destination question.start);
+    least = by (search_within most (Links at) net question.origin question.destination question.start)
+        (walks_are_found most (Links at) net sound times question.origin question.destination question.start);
   }
     where
-      by : (o : Option (List ℕ)) → Finds at net question.origin question.destination question.start o
+      by : (o : Option (List ℕ)) → Finds (Links at) net question.origin question.destination question.start o
           → TellsLeast (Links at) net question.origin question.destination question.start (option_map (walk_time at net question.start) o)
       by None none = none
       by (Some walk) is = record { some_walk = (walk, is.walks, refl); none_less = is.none_less }

@@ -1,5 +1,7 @@
 -- The routes of a start table, the first routes, the next ones, and since when each is there.
-use Rattle.trip_costs.specs.Timings.{Links}
+use Rattle.trip_costs.specs.LoadingCosts.{kind_of}
+use Rattle.trip_costs.specs.Timings.{IsChosenBy, Links, Timing}
+use Rattle.trip_costs.specs.declared.loading_costs.Costs.{Costs}
 use Rattle.std.proofs.Common.{◌≡◌, ◌⊎◌, inl, inr, ℕ, zero, suc, ◌+◌, ◌<◌, ◌≤◌, Bool, true, false, cond, List, [], ◌∷◌, length, map, refl, ap, sym, ◌∙◌, subst, arith, Option, None, Some}
 use Rattle.std.specs.Prelude.{if◌then◌else◌, nat_eq, nat_lt, option_map, slice_get, ◌&&◌}
 use Rattle.std.specs.List.{enumerate_from, zip}
@@ -14,11 +16,10 @@ use Rattle.net_core.specs.Network.{IsNet, as_links}
 use Rattle.net_core.specs.Rows.{link_named}
 use Rattle.net_core.specs.declared.rows.LinkNo.{LinkNo}
 use Rattle.net_core.specs.declared.rows.NetRows.{NetRows}
-use Rattle.dta_model.specs.Least.{IsChosen}
 use Rattle.dta_model.specs.Plans.{link_numbers}
 use Rattle.dta_model.specs.declared.loading.TheConstants.{MOST_HORIZON}
 use Rattle.dta_model.specs.declared.trip.Trip.{Trip}
-use Rattle.route_flows.specs.Averages.{AreNextRoutes, AreSince, AreStartedRoutes, IsSince, StartsOn, free_time, is_selected}
+use Rattle.route_flows.specs.Averages.{AreNextRoutes, AreSince, AreStartedRoutes, IsSince, StartsOn, free_time, renews}
 use Rattle.route_flows.specs.Starting.{IsNumbered, TellsRenewal, or_other}
 use Rattle.start_table.specs.Starts.{AreNamed, AreStartRows, TellsFit, TellsStart, TellsWalk, row_of}
 use Rattle.start_table.specs.declared.rows.StartRow.{StartRow}
@@ -26,7 +27,7 @@ use Rattle.start_table.proofs.Named.{no_row_tells, row_found, row_tells}
 use Rattle.route_flows.proofs.Numbered.{numbered_since}
 use Rattle.time_routes.specs.Destinations.{WalkOf}
 use Rattle.reference.specs.Routes.{all_since, chosen_route, first_and, first_route, first_routes, if_walk, is_walk, last_renewal, links_named, next_route, next_routes, number_of, since, started_route, walk_in, walk_named}
-use Rattle.reference.specs.Search.{AreTimes, Finds, search}
+use Rattle.reference.specs.Search.{AreCosts, Finds, search}
 use Rattle.reference.proofs.IsWalks.{tests-walks, walks-tested}
 use Rattle.reference.proofs.Searched.{walks_are_found}
 
@@ -35,14 +36,17 @@ pub numbers-back : (walk : List ℕ) → link_numbers (as_links walk) ≡ walk
 numbers-back [] = refl
 numbers-back (l ∷ walk) = ap (λ rest. l ∷ rest) (numbers-back walk)
 
-module _ (at : ℕ → ℕ → ℕ) (net : NetRows) (sound : IsNet net) (times : AreTimes at net) where
-  pub chosen : (trip : Trip) → WalkOf (Links at) net trip (chosen_route at net trip)
+-- what is told of it, by numbers of links or by links
+chosen-links : (costs : Timing) (net : NetRows) (trip : Trip) (o : Option (List ℕ)) → Finds costs net trip.origin trip.destination trip.departure o → WalkOf costs net trip (option_map as_links o)
+chosen-links costs net trip None none = none
+chosen-links costs net trip (Some walk) is = subst (λ w. IsChosenBy costs net trip.origin trip.destination trip.departure w) (sym (numbers-back walk)) is
+
+module _ (costs : Timing) (net : NetRows) (sound : IsNet net) (within : AreCosts costs net) where
+  pub chosen : (trip : Trip) → WalkOf costs net trip (chosen_route costs net trip)
   unfolding chosen_route
-  chosen trip = told (search at net trip.origin trip.destination trip.departure) (walks_are_found MOST_HORIZON at net sound times trip.origin trip.destination trip.departure)
-    where
-      told : (o : Option (List ℕ)) → Finds at net trip.origin trip.destination trip.departure o → WalkOf (Links at) net trip (option_map as_links o)
-      told None none = none
-      told (Some walk) is = subst (λ w. IsChosen at net trip.origin trip.destination trip.departure w) (sym (numbers-back walk)) is
+  chosen trip =
+      chosen-links costs net trip (search costs net trip.origin trip.destination trip.departure)
+      (walks_are_found MOST_HORIZON costs net sound within trip.origin trip.destination trip.departure)
 
 -- ---- identifiers of links
 links-are-named : (net : NetRows) (ids : List ℕ) (links : List LinkNo) → links_named net ids ≡ Some links → AreNamed net ids links
@@ -153,13 +157,13 @@ same-some : {A : Type 0} (x y : A) → Some x ≡ Some y → x ≡ y
 same-some x y e = cc
 
 -- ---- the first routes
-module _ (net : NetRows) (start : List StartRow) (sound : IsNet net) (rows : AreStartRows start) (times : AreTimes (free_time net) net) where
+module _ (net : NetRows) (start : List StartRow) (sound : IsNet net) (rows : AreStartRows start) (within : AreCosts (Links (free_time net)) net) where
   starts-on : (trip : Trip) → StartsOn (Links (free_time net)) net start trip (first_route net start trip)
   starts-on trip = by (started_route net start trip) (started-tells net start trip rows)
     where
-      by : (o : Option (List LinkNo)) → TellsStart net start trip o → StartsOn (Links (free_time net)) net start trip (or_other o (chosen_route (free_time net) net trip))
+      by : (o : Option (List LinkNo)) → TellsStart net start trip o → StartsOn (Links (free_time net)) net start trip (or_other o (chosen_route (Links (free_time net)) net trip))
       by (Some walk) is = inl (walk, refl, is)
-      by None none = inr (none, chosen (free_time net) net sound times trip)
+      by None none = inr (none, chosen (Links (free_time net)) net sound within trip)
 
   pub first-are : (trips : List Trip) → AreStartedRoutes net start trips (first_routes net start trips)
   unfolding first_routes
@@ -180,32 +184,32 @@ get-there [] v h = absurd (omega (arith, h))
 get-there (x ∷ xs) zero h = (x, refl)
 get-there (x ∷ xs) (suc v) h = get-there xs v (omega (arith, h))
 
-module _ (at : ℕ → ℕ → ℕ) (net : NetRows) (sound : IsNet net) (times : AreTimes at net) (trips : List Trip) (k : ℕ) (old : List (Option (List LinkNo))) (each : length old ≡ length trips) where
-  next-long : length (next_routes at net trips k old) ≡ length trips
+module _ (costs : Timing) (net : NetRows) (sound : IsNet net) (within : AreCosts costs net) (trips : List Trip) (k : ℕ) (old : List (Option (List LinkNo))) (each : length old ≡ length trips) where
+  next-long : length (next_routes costs net trips k old) ≡ length trips
   unfolding next_routes
   next-long =
-      length-map (enumerate_from 0 (zip trips old)) (next_route at net k) ∙ length-enumerate_from 0 (zip trips old)
+      length-map (enumerate_from 0 (zip trips old)) (next_route costs net k) ∙ length-enumerate_from 0 (zip trips old)
       ∙ (let both = length-zip trips old in omega (arith, both, each))
 
   next-at : (v : ℕ) (trip : Trip) (route : Option (List LinkNo)) → slice_get trips v ≡ Some trip → slice_get old v ≡ Some route
-      → slice_get (next_routes at net trips k old) v ≡ Some (cond (is_selected v k) (chosen_route at net trip) route)
+      → slice_get (next_routes costs net trips k old) v ≡ Some (cond (renews (kind_of costs) k v) (chosen_route costs net trip) route)
   unfolding next_routes
   next-at v trip route t r =
       let place : 0 + v ≡ v = omega arith in
-      enumerated (next_route at net k) 0 (zip trips old) v (trip, route) (zipped trips old v trip route t r)
-      ∙ ap (λ n. Some (cond (is_selected n k) (chosen_route at net trip) route)) place
+      enumerated (next_route costs net k) 0 (zip trips old) v (trip, route) (zipped trips old v trip route t r)
+      ∙ ap (λ n. Some (cond (renews (kind_of costs) k n) (chosen_route costs net trip) route)) place
 
-  taken : (v : ℕ) (trip : Trip) (route : Option (List LinkNo)) → is_selected v k ≡ true → slice_get trips v ≡ Some trip
-      → slice_get (next_routes at net trips k old) v ≡ Some route → chosen_route at net trip ≡ route
+  taken : (v : ℕ) (trip : Trip) (route : Option (List LinkNo)) → renews (kind_of costs) k v ≡ true → slice_get trips v ≡ Some trip
+      → slice_get (next_routes costs net trips k old) v ≡ Some route → chosen_route costs net trip ≡ route
   taken v trip route s t n =
-      let within = slice_get_within trips v trip t in
-      let was = get-there old v (omega (arith, within, each)) in
-      same-some (chosen_route at net trip) route
-      (sym (next-at v trip (was.0) t (was.1) ∙ ap (λ b. Some (cond b (chosen_route at net trip) (was.0))) s) ∙ n)
+      let inside = slice_get_within trips v trip t in
+      let was = get-there old v (omega (arith, inside, each)) in
+      same-some (chosen_route costs net trip) route
+      (sym (next-at v trip (was.0) t (was.1) ∙ ap (λ b. Some (cond b (chosen_route costs net trip) (was.0))) s) ∙ n)
 
-  kept : (v : ℕ) → is_selected v k ≡ false → (o : Option (Option (List LinkNo))) → slice_get old v ≡ o → slice_get (next_routes at net trips k old) v ≡ o
+  kept : (v : ℕ) → renews (kind_of costs) k v ≡ false → (o : Option (Option (List LinkNo))) → slice_get old v ≡ o → slice_get (next_routes costs net trips k old) v ≡ o
   kept v s None e =
-      get-past (next_routes at net trips k old) v (past (next_routes at net trips k old) next-long)
+      get-past (next_routes costs net trips k old) v (past (next_routes costs net trips k old) next-long)
     where
       past : (new : List (Option (List LinkNo))) → length new ≡ length trips → length new ≤ v
       past new long = by (get-past-back old v e)
@@ -218,15 +222,15 @@ module _ (at : ℕ → ℕ → ℕ) (net : NetRows) (sound : IsNet net) (times :
           get-past-back (x ∷ xs) zero e = cc
           get-past-back (x ∷ xs) (suc v) e = let h = get-past-back xs v e in omega (arith, h)
   kept v s (Some route) e =
-      let within = slice_get_within old v route e in
-      let trip = get-there trips v (omega (arith, within, each)) in
-      next-at v (trip.0) route (trip.1) e ∙ ap (λ b. Some (cond b (chosen_route at net (trip.0)) route)) s
+      let inside = slice_get_within old v route e in
+      let trip = get-there trips v (omega (arith, inside, each)) in
+      next-at v (trip.0) route (trip.1) e ∙ ap (λ b. Some (cond b (chosen_route costs net (trip.0)) route)) s
 
-  pub next-are : AreNextRoutes (Links at) net trips k old (next_routes at net trips k old)
+  pub next-are : AreNextRoutes costs net trips k old (next_routes costs net trips k old)
   next-are = record {
     as_many = next-long;
     selected = λ v trip route s t n.
-        subst (λ r. WalkOf (Links at) net trip r) (taken v trip route s t n) (chosen at net sound times trip);
+        subst (λ r. WalkOf costs net trip r) (taken v trip route s t n) (chosen costs net sound within trip);
     others = λ v s. kept v s (slice_get old v) refl;
   }
 
@@ -238,54 +242,54 @@ same-or-less j k h = by (cases_lt j k)
     by (inl less) = inr less
     by (inr most) = inl (omega (arith, most, h))
 
-keeps-on : (v k : ℕ) (o : Option ℕ) → (1 ≤ k → is_selected v k ≡ false) → TellsRenewal v k o → TellsRenewal v (suc k) o
-keeps-on v k None not_here keeps = λ j some within. by j some within (same-or-less j k within)
+keeps-on : (costs : Costs) (v k : ℕ) (o : Option ℕ) → (1 ≤ k → renews costs k v ≡ false) → TellsRenewal costs v k o → TellsRenewal costs v (suc k) o
+keeps-on costs v k None not_here keeps = λ j some within. by j some within (same-or-less j k within)
   where
-    by : (j : ℕ) → 1 ≤ j → j < suc k → (j ≡ k) ⊎ (j < k) → is_selected v j ≡ false
-    by j some within (inl same) = subst (λ n. is_selected v n ≡ false) (sym same) (not_here (omega (arith, some, same)))
+    by : (j : ℕ) → 1 ≤ j → j < suc k → (j ≡ k) ⊎ (j < k) → renews costs j v ≡ false
+    by j some within (inl same) = subst (λ n. renews costs n v ≡ false) (sym same) (not_here (omega (arith, some, same)))
     by j some within (inr less) = keeps j some less
-keeps-on v k (Some j) not_here is = record {
+keeps-on costs v k (Some j) not_here is = record {
   least = is.least;
   most = let m = is.most in omega (arith, m);
   selected = is.selected;
   last = λ later after before. by later after before (same-or-less later k before);
 }
   where
-    by : (later : ℕ) → j < later → later < suc k → (later ≡ k) ⊎ (later < k) → is_selected v later ≡ false
-    by later after before (inl same) = subst (λ n. is_selected v n ≡ false) (sym same) (not_here (omega (arith, after, same)))
+    by : (later : ℕ) → j < later → later < suc k → (later ≡ k) ⊎ (later < k) → renews costs later v ≡ false
+    by later after before (inl same) = subst (λ n. renews costs n v ≡ false) (sym same) (not_here (omega (arith, after, same)))
     by later after before (inr less) = is.last later after less
 
-renewal-tells : (v iterations : ℕ) → TellsRenewal v iterations (last_renewal v iterations)
+renewal-tells : (costs : Costs) (v iterations : ℕ) → TellsRenewal costs v iterations (last_renewal costs v iterations)
 unfolding last_renewal
-renewal-tells v zero = λ k some within. absurd (omega (arith, within))
-renewal-tells v (suc k) = by (renewal-tells v k) (nat_lt 0 k) refl (is_selected v k) refl
+renewal-tells costs v zero = λ k some within. absurd (omega (arith, within))
+renewal-tells costs v (suc k) = by (renewal-tells costs v k) (nat_lt 0 k) refl (renews costs k v) refl
   where
-    by : TellsRenewal v k (last_renewal v k) → (a : Bool) → nat_lt 0 k ≡ a → (b : Bool) → is_selected v k ≡ b → TellsRenewal v (suc k) (cond (a && b) (Some k) (last_renewal v k))
+    by : TellsRenewal costs v k (last_renewal costs v k) → (a : Bool) → nat_lt 0 k ≡ a → (b : Bool) → renews costs k v ≡ b → TellsRenewal costs v (suc k) (cond (a && b) (Some k) (last_renewal costs v k))
     by before true ea true eb = record {
       least = lt_holds 0 k ea;
       most = omega arith;
       selected = eb;
       last = λ later after before. absurd (omega (arith, after, before));
     }
-    by before true ea false eb = keeps-on v k (last_renewal v k) (λ some. eb) before
-    by before false ea b eb = keeps-on v k (last_renewal v k) (λ some. absurd (let none = lt_fails 0 k ea in omega (arith, none, some))) before
+    by before true ea false eb = keeps-on costs v k (last_renewal costs v k) (λ some. eb) before
+    by before false ea b eb = keeps-on costs v k (last_renewal costs v k) (λ some. absurd (let none = lt_fails 0 k ea in omega (arith, none, some))) before
 
-numbered : (v iterations : ℕ) (walk : Option (List LinkNo)) (o : Option ℕ) → TellsRenewal v iterations o → IsNumbered v iterations walk (number_of o walk)
-numbered v iterations walk None keeps = inr (keeps, refl)
-numbered v iterations walk (Some k) is = inl (k, refl, is)
+numbered : (costs : Costs) (v iterations : ℕ) (walk : Option (List LinkNo)) (o : Option ℕ) → TellsRenewal costs v iterations o → IsNumbered costs v iterations walk (number_of o walk)
+numbered costs v iterations walk None keeps = inr (keeps, refl)
+numbered costs v iterations walk (Some k) is = inl (k, refl, is)
 
-pub since-are : (net : NetRows) (start : List StartRow) (trips : List Trip) (iterations : ℕ) → AreStartRows start → AreSince net start trips iterations (all_since net start trips iterations)
+pub since-are : (costs : Costs) (net : NetRows) (start : List StartRow) (trips : List Trip) (iterations : ℕ) → AreStartRows start → AreSince costs net start trips iterations (all_since costs net start trips iterations)
 unfolding all_since
-since-are net start trips iterations rows = record {
-  as_many = length-map (enumerate_from 0 trips) (since net start iterations) ∙ length-enumerate_from 0 trips;
+since-are costs net start trips iterations rows = record {
+  as_many = length-map (enumerate_from 0 trips) (since costs net start iterations) ∙ length-enumerate_from 0 trips;
   each = λ v trip n t e. by v trip n t e;
 }
   where
-    by : (v : ℕ) (trip : Trip) (n : ℕ) → slice_get trips v ≡ Some trip → slice_get (map (since net start iterations) (enumerate_from 0 trips)) v ≡ Some n → IsSince net start iterations v trip n
+    by : (v : ℕ) (trip : Trip) (n : ℕ) → slice_get trips v ≡ Some trip → slice_get (map (since costs net start iterations) (enumerate_from 0 trips)) v ≡ Some n → IsSince costs net start iterations v trip n
     by v trip n t e =
         let place : 0 + v ≡ v = omega arith in
-        let is : since net start iterations (0 + v, trip) ≡ n = same-some (since net start iterations (0 + v, trip)) n (sym (enumerated (since net start iterations) 0 trips v trip t) ∙ e) in
-        let here : since net start iterations (v, trip) ≡ n = ap (λ w. since net start iterations (w, trip)) (sym place) ∙ is in
-        subst (λ m. IsSince net start iterations v trip m) here
-        (numbered_since net start iterations v trip (started_route net start trip) (number_of (last_renewal v iterations) (started_route net start trip)) (started-tells net start trip rows)
-        (numbered v iterations (started_route net start trip) (last_renewal v iterations) (renewal-tells v iterations)))
+        let is : since costs net start iterations (0 + v, trip) ≡ n = same-some (since costs net start iterations (0 + v, trip)) n (sym (enumerated (since costs net start iterations) 0 trips v trip t) ∙ e) in
+        let here : since costs net start iterations (v, trip) ≡ n = ap (λ w. since costs net start iterations (w, trip)) (sym place) ∙ is in
+        subst (λ m. IsSince costs net start iterations v trip m) here
+        (numbered_since costs net start iterations v trip (started_route net start trip) (number_of (last_renewal costs v iterations) (started_route net start trip)) (started-tells net start trip rows)
+        (numbered costs v iterations (started_route net start trip) (last_renewal costs v iterations) (renewal-tells costs v iterations)))

@@ -51,6 +51,7 @@ module _ (s : Settings) (job : JobRows) (settings : AreSettings s) (good : IsJob
           last_line = place-of (gap_at s traffic) s.iterations last (before-last s.iterations settings.iterations.0);
           agent = refl;
           link_time = refl;
+          origin_wait = refl;
           gap = refl;
           report = refl;
         };

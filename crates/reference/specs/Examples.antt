@@ -12,6 +12,10 @@ use Rattle.dta_model.specs.Examples.{link, trip}
 use Rattle.dta_model.specs.declared.queue.Queue.TheVariants as queue
 use Rattle.dta_model.specs.declared.trip.DemandCell.{DemandCell}
 use Rattle.dta_model.specs.declared.trip.Trip.{Trip}
+use Rattle.trip_costs.specs.Timings.{Links, Trips}
+use Rattle.trip_costs.specs.TripCosts.{by_links}
+use Rattle.trip_costs.specs.declared.loading_costs.Costs.TheVariants as costs
+use Rattle.route_flows.specs.Averages.{free_time}
 use Rattle.dta_words.specs.Examples.{defaults}
 use Rattle.dta_words.specs.declared.command.Command.{Command}
 use Rattle.dta_words.specs.declared.command.Command.TheVariants as command
@@ -23,7 +27,10 @@ use Rattle.audit.specs.declared.verdict.Verdict.TheVariants as verdict
 use Rattle.jobs.specs.Jobs.{JobRows}
 use Rattle.commands.specs.Outputs.{text_to}
 use Rattle.reference.specs.Audits.{verdict_of}
-use Rattle.reference.specs.OnLiterals.{counts_on_literals, others_on_literals, tables_on_literals}
+use Rattle.reference.specs.OnLiterals.{counts_on_literals, iterations_on_literals}
+use Rattle.reference.specs.OnLiterals.{others_on_literals, tables_on_literals, trips_on_literals}
+use Rattle.reference.specs.Routes.{all_since}
+use Rattle.reference.specs.Search.{search}
 use Rattle.reference.specs.Texts.{texts_of}
 
 -- a run of one iteration up to step 60, by steps of six seconds
@@ -157,6 +164,86 @@ a_warm_start : texts_of command.Assign (record (settings command.Assign) { start
     ∷ []
 unfolding tables_on_literals trip
 a_warm_start = refl
+
+-- ---- by trips: two links, of which the first lets one vehicle on in a step, or a link that takes
+-- one step more
+abbrev by_trips : Settings
+by_trips = record (settings command.Assign) {
+  horizon = 20;
+  period = 1;
+  bucket = 10;
+  iterations = 2;
+  costs = costs.Trips;
+}
+
+abbrev two_roads : NetRows
+two_roads = net (link 20 0 1 1 12 600000000 ∷ link 30 1 2 1 12 3600000000
+    ∷ link 40 0 2 3 37 3600000000 ∷ [])
+
+abbrev four_at_once : JobRows
+four_at_once = job two_roads (map (λ v. trip v 0) (numbers_below 4))
+
+abbrev origin_waits : List ℕ
+origin_waits = codes "link_id,from_step,to_step,departed,wait_steps\n"
+
+-- four vehicles wait 0 to 3 steps for the first link, two as the mean; the second one takes the
+-- other link then. The link times tell no wait
+waits_are_seen : texts_of command.Assign by_trips four_at_once ≡
+    text_to output.Agent (agents
+    ++ codes "0,1,3,0,2,arrived,20;30,0;1\n1,1,3,0,3,arrived,40,0\n"
+    ++ codes "2,1,3,0,3,arrived,20;30,1;2\n3,1,3,0,4,arrived,20;30,2;3\n")
+    ∷ text_to output.LinkTime (link_times
+    ++ codes "20,0,10,3,1,1\n20,10,20,0,1,1\n30,0,10,3,1,1\n30,10,20,0,1,1\n"
+    ++ codes "40,0,10,1,3,3\n40,10,20,0,3,3\n")
+    ∷ text_to output.OriginWait (origin_waits ++ codes "20,0,10,3,1\n40,0,10,1,0\n")
+    ∷ text_to output.Gap (gaps ++ codes "1,16,12,4,333333\n2,12,12,0,0\n")
+    ∷ text_to output.Report (
+    codes "nodes 3\nlinks 3\nvehicles 4\nunrouted 0\niterations 2\narrived 4\nrunning 0\n"
+    ++ codes "waiting 0\nroute_steps 12\nleast_steps 12\ngap_steps 0\ngap_ppm 0\n")
+    ∷ []
+unfolding trips_on_literals trip
+waits_are_seen = refl
+
+-- the same in a sweep, over half the demand and in one iteration
+a_sweep_by_trips : texts_of command.Sweep
+    (record by_trips { command = command.Sweep; iterations = 1; scales = 500 ∷ [] })
+    (record (job two_roads []) {
+      demand_cells = record { line = 2; origin = 1; destination = 3; volume = 4000; from = 0; to = 1 }
+          ∷ [];
+    }) ≡
+    text_to output.Sweep (codes "scenario 0 scale 500\n" ++ agents
+    ++ codes "0,1,3,0,2,arrived,20;30,0;1\n1,1,3,0,3,arrived,20;30,1;2\n" ++ link_times
+    ++ codes "20,0,10,2,1,1\n20,10,20,0,1,1\n30,0,10,2,1,1\n30,10,20,0,1,1\n"
+    ++ codes "40,0,10,0,3,3\n40,10,20,0,3,3\n" ++ origin_waits ++ codes "20,0,10,2,1\n" ++ gaps
+    ++ codes "1,6,6,0,0\n"
+    ++ codes "nodes 3\nlinks 3\nvehicles 2\nunrouted 0\niterations 1\narrived 2\nrunning 0\n"
+    ++ codes "waiting 0\nroute_steps 6\nleast_steps 6\ngap_steps 0\ngap_ppm 0\n")
+    ∷ text_to output.Report (codes "scenarios 1\n") ∷ []
+unfolding trips_on_literals others_on_literals trip
+a_sweep_by_trips = refl
+
+-- of two walks of the same time the one with fewer links is chosen by trips, and the first in the
+-- order of link numbers by link times
+abbrev a_link_or_two : NetRows
+a_link_or_two = net (link 10 0 1 1 12 1800000000 ∷ link 20 1 2 1 12 1800000000
+    ∷ link 30 0 2 2 25 1800000000 ∷ [])
+
+fewest_links : search (Trips (by_links (free_time a_link_or_two))) a_link_or_two 1 3 0
+    ≡ Some (2 ∷ [])
+unfolding iterations_on_literals
+fewest_links = refl
+
+first_numbers : search (Links (free_time a_link_or_two)) a_link_or_two 1 3 0 ≡ Some (0 ∷ 1 ∷ [])
+unfolding iterations_on_literals
+first_numbers = refl
+
+-- since when: the first vehicle has its route from a start table, and the second one took its
+-- chosen walk after the first iteration
+since_by_trips : all_since costs.Trips two_roads
+    (record { agent = 0; origin = 1; destination = 3; links = 20 ∷ 30 ∷ [] } ∷ [])
+    four_at_once.trips 2 ≡ 0 ∷ 2 ∷ 1 ∷ 1 ∷ []
+unfolding iterations_on_literals trip
+since_by_trips = refl
 
 -- ---- a jam: the second link has room for one vehicle
 abbrev short_link : NetRows

@@ -6,12 +6,17 @@ use Rattle.dta_model.specs.LinkTimes.{by_bucket, entered_in, table_in, time_at, 
 use Rattle.dta_model.specs.OnLiterals.{loadings_on_literals, releases_on_literals}
 use Rattle.dta_model.specs.TimedWalks.{arrival_after}
 use Rattle.dta_model.specs.Walks.{begins_in, ends_in}
+use Rattle.trip_costs.specs.Greatest.{greatest_to}
+use Rattle.trip_costs.specs.OriginWaits.{mean_wait, origin_wait, wait_at, waits_in, who_belong}
+use Rattle.trip_costs.specs.TripCosts.{enter_step, exit_step}
 use Rattle.counts.specs.Text.{counts_header, counts_text, through_line, through_lines, turn_line}
 use Rattle.counts.specs.Text.{turn_lines}
 use Rattle.counts.specs.Through.{above_zones, all_pairs, enters, goes_between, number_through}
 use Rattle.counts.specs.Through.{pairs_from, through_counts, through_counts_in}
 use Rattle.counts.specs.Turns.{all_turns, takes, taking, times_taken, turn_counts}
 use Rattle.counts.specs.Turns.{turn_counts_in, turns_between, turns_from}
+use Rattle.reports.specs.Texts.{bucket_wait_line, link_wait_lines, origin_wait_header}
+use Rattle.reports.specs.Texts.{origin_wait_text, told_wait_line}
 use Rattle.reports.specs.Texts.{agent_columns, agent_header, since_header, agent_line}
 use Rattle.reports.specs.Texts.{agent_text, agent_text_by, agent_text_from, audit_ok_text}
 use Rattle.reports.specs.Texts.{audit_text, bucket_line, count_lines, free_link_line}
@@ -47,6 +52,12 @@ unfolding iterations_on_literals digits entered_in agent_header since_header tri
     bucket_line link_lines link_time_header link_time_text gap_line gap_header gap_text count_lines
     last_gap_lines report_text watch_line watch_texts assigned_texts
 tables_on_literals = tt
+
+-- texts of an assignment by trips
+unfoldable pub trips_on_literals : ⊤
+unfolding tables_on_literals greatest_to mean_wait origin_wait wait_at waits_in who_belong enter_step
+    exit_step bucket_wait_line link_wait_lines told_wait_line origin_wait_header origin_wait_text
+trips_on_literals = tt
 
 -- texts of counts
 unfoldable pub counts_on_literals : ⊤

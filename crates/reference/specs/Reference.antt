@@ -2,30 +2,29 @@
 use Rattle.std.specs.Prelude.{ℕ, zero, suc, ◌+◌, ◌-◌, Bool, true, false, List, [], ◌∷◌, ◌++◌, map}
 use Rattle.std.specs.Prelude.{Option, None, Some}
 use Rattle.net_core.specs.Network.{numbers_below}
-use Rattle.dta_model.specs.LinkTimes.{time_at}
 use Rattle.gap.specs.declared.line.GapLine.{GapLine}
 use Rattle.dta_words.specs.declared.command.Settings.{Settings}
-use Rattle.assignment.specs.Assignment.{Traffic, VehicleRoutes, end_of, times_of}
+use Rattle.assignment.specs.Assignment.{Traffic, VehicleRoutes, costs_of, end_of}
 use Rattle.commands.specs.Outputs.{OutText, end_lines, last_texts}
 use Rattle.reference.specs.Gaps.{gap_of}
 use Rattle.reference.specs.Routes.{all_since, first_routes, next_routes}
 
 -- ---- iterations
 
--- the routes after the iteration of this number, by the link times of its loading
+-- the routes after the iteration of this number, by the costs of its loading
 abbrev pub routes_after : Settings → Traffic → (number : ℕ) → VehicleRoutes → VehicleRoutes
 routes_after s traffic number routes =
-    next_routes (time_at (times_of s traffic routes)) traffic.net traffic.trips number routes
+    next_routes (costs_of s traffic routes) traffic.net traffic.trips number routes
 
 -- the routes of the iteration at a place, from 0
 unfoldable pub routes_at : Settings → Traffic → (place : ℕ) → VehicleRoutes
 routes_at s traffic zero = first_routes traffic.net traffic.start traffic.trips
 routes_at s traffic (suc i) = routes_after s traffic (i + 1) (routes_at s traffic i)
 
--- the gap of these routes, by the link times of their loading
+-- the gap of these routes, by the costs of their loading
 abbrev pub gap_by : Settings → Traffic → VehicleRoutes → GapLine
 gap_by s traffic routes =
-    gap_of (time_at (times_of s traffic routes)) traffic.net traffic.trips routes
+    gap_of (costs_of s traffic routes) traffic.net traffic.trips routes
 
 abbrev pub gap_at : Settings → Traffic → (place : ℕ) → GapLine
 gap_at s traffic place = gap_by s traffic (routes_at s traffic place)
@@ -49,7 +48,8 @@ watch_texts s traffic number (routes ∷ others) =
 -- since which iterations the vehicles have their routes, where it is told
 abbrev pub since_told : (start : Bool) → Settings → Traffic → Option (List ℕ)
 since_told false s traffic = None
-since_told true s traffic = Some (all_since traffic.net traffic.start traffic.trips s.iterations)
+since_told true s traffic =
+    Some (all_since s.costs traffic.net traffic.start traffic.trips s.iterations)
 
 -- the texts of an assignment
 unfoldable pub assigned_texts : Settings → Traffic → List OutText

@@ -11,16 +11,19 @@ use Rattle.net_core.specs.declared.rows.NetRows.{NetRows}
 use Rattle.dta_model.specs.Plans.{link_numbers}
 use Rattle.dta_model.specs.Walks.{begins_in, ends_in}
 use Rattle.dta_model.specs.declared.trip.Trip.{Trip}
-use Rattle.route_flows.specs.Averages.{free_time, is_selected}
+use Rattle.trip_costs.specs.LoadingCosts.{kind_of}
+use Rattle.trip_costs.specs.Timings.{Links, Timing}
+use Rattle.trip_costs.specs.declared.loading_costs.Costs.{Costs}
+use Rattle.route_flows.specs.Averages.{free_time, renews}
 use Rattle.route_flows.specs.Starting.{first_number, or_other}
 use Rattle.start_table.specs.Starts.{row_of}
 use Rattle.start_table.specs.declared.rows.StartRow.{StartRow}
 use Rattle.reference.specs.Search.{search}
 
 -- the chosen walk of a trip from its departure, where there is a walk
-unfoldable pub chosen_route : (ℕ → ℕ → ℕ) → NetRows → Trip → Option (List LinkNo)
-chosen_route at net trip =
-    option_map as_links (search at net trip.origin trip.destination trip.departure)
+unfoldable pub chosen_route : Timing → NetRows → Trip → Option (List LinkNo)
+chosen_route costs net trip =
+    option_map as_links (search costs net trip.origin trip.destination trip.departure)
 
 -- ---- walks of a start table
 
@@ -75,29 +78,30 @@ started_route net start trip = walk_in net trip (row_of start trip.number)
 -- free-flow steps
 abbrev pub first_route : NetRows → List StartRow → Trip → Option (List LinkNo)
 first_route net start trip =
-    or_other (started_route net start trip) (chosen_route (free_time net) net trip)
+    or_other (started_route net start trip) (chosen_route (Links (free_time net)) net trip)
 
 unfoldable pub first_routes : NetRows → List StartRow → List Trip → List (Option (List LinkNo))
 first_routes net start trips = map (first_route net start) trips
 
--- the route of vehicle v after iteration k: its chosen walk where it is selected, and else the one
--- that it has
+-- the route of vehicle v after iteration k: its chosen walk where it takes a new one, and else the
+-- one that it has
 abbrev pub next_route :
-    (ℕ → ℕ → ℕ) → NetRows → (k : ℕ) → ℕ × (Trip × Option (List LinkNo)) → Option (List LinkNo)
-next_route at net k (v, (trip, route)) = cond (is_selected v k) (chosen_route at net trip) route
+    Timing → NetRows → (k : ℕ) → ℕ × (Trip × Option (List LinkNo)) → Option (List LinkNo)
+next_route costs net k (v, (trip, route)) =
+    cond (renews (kind_of costs) k v) (chosen_route costs net trip) route
 
 unfoldable pub next_routes :
-    (ℕ → ℕ → ℕ) → NetRows → List Trip → (k : ℕ) → List (Option (List LinkNo))
+    Timing → NetRows → List Trip → (k : ℕ) → List (Option (List LinkNo))
     → List (Option (List LinkNo))
-next_routes at net trips k routes =
-    map (next_route at net k) (enumerate_from 0 (zip trips routes))
+next_routes costs net trips k routes =
+    map (next_route costs net k) (enumerate_from 0 (zip trips routes))
 
 -- ---- since when
 
 -- the last iteration, of those below this number, after which vehicle v takes its chosen walk
-unfoldable pub last_renewal : (v number : ℕ) → Option ℕ
-last_renewal v zero = None
-last_renewal v (suc k) = cond (nat_lt 0 k && is_selected v k) (Some k) (last_renewal v k)
+unfoldable pub last_renewal : Costs → (v number : ℕ) → Option ℕ
+last_renewal by v zero = None
+last_renewal by v (suc k) = cond (nat_lt 0 k && renews by k v) (Some k) (last_renewal by v k)
 
 -- the number of the iteration after that one; and where there is none that of the first route
 abbrev pub number_of : Option ℕ → Option (List LinkNo) → ℕ
@@ -105,9 +109,11 @@ number_of None walk = first_number walk
 number_of (Some k) walk = k + 1
 
 -- the iteration since which a vehicle has the route that it has after so many
-abbrev pub since : NetRows → List StartRow → (iterations : ℕ) → ℕ × Trip → ℕ
-since net start iterations (v, trip) =
-    number_of (last_renewal v iterations) (started_route net start trip)
+abbrev pub since : Costs → NetRows → List StartRow → (iterations : ℕ) → ℕ × Trip → ℕ
+since by net start iterations (v, trip) =
+    number_of (last_renewal by v iterations) (started_route net start trip)
 
-unfoldable pub all_since : NetRows → List StartRow → List Trip → (iterations : ℕ) → List ℕ
-all_since net start trips iterations = map (since net start iterations) (enumerate_from 0 trips)
+unfoldable pub all_since :
+    Costs → NetRows → List StartRow → List Trip → (iterations : ℕ) → List ℕ
+all_since by net start trips iterations =
+    map (since by net start iterations) (enumerate_from 0 trips)

@@ -9,10 +9,10 @@ use Rattle.std.specs.Ordering.{is_le, nat_cmp}
 use Rattle.net_core.specs.Network.{IsNet, numbers_below, turn}
 use Rattle.net_core.specs.declared.rows.NetRows.{NetRows}
 use Rattle.fixed_units.specs.declared.turn.TheConstants.{MOST_PENALTY_STEPS}
-use Rattle.dta_model.specs.Least.{HaveNoWalk, IsChosen}
-use Rattle.dta_model.specs.TimedWalks.{walk_time}
+use Rattle.dta_model.specs.Least.{HaveNoWalk}
 use Rattle.dta_model.specs.Walks.{begins_in, ends_in}
 use Rattle.dta_model.specs.declared.loading.TheConstants.{MOST_HORIZON}
+use Rattle.trip_costs.specs.Timings.{IsChosenBy, Links, Timing, Trips, walk_time_by}
 
 -- the links of a network
 abbrev pub all_links : NetRows → List ℕ
@@ -35,56 +35,78 @@ abbrev pub walks_between : NetRows → (origin destination most : ℕ) → List 
 walks_between net origin destination most =
     flat_map (walks_on net destination most) (filter (begins_in net origin) (all_links net))
 
--- whether a walk comes before another: it takes less time, or as much and comes first in the order
--- of link numbers
-abbrev pub comes_before : (ℕ → ℕ → ℕ) → NetRows → (start : ℕ) → List ℕ → List ℕ → Bool
-comes_before at net start walk other =
-    nat_lt (walk_time at net start walk) (walk_time at net start other)
-    || (nat_eq (walk_time at net start walk) (walk_time at net start other)
-    && is_le (slice_cmp nat_cmp walk other))
+-- which of two walks of the same time comes first: by link times the first in the order of link
+-- numbers; by trips the one with fewer links, and of as many the first in that order
+abbrev pub comes_first : Timing → List ℕ → List ℕ → Bool
+comes_first (Links at) walk other = is_le (slice_cmp nat_cmp walk other)
+comes_first (Trips costs) walk other =
+    nat_lt (length walk) (length other)
+    || (nat_eq (length walk) (length other) && is_le (slice_cmp nat_cmp walk other))
 
-abbrev pub better : (ℕ → ℕ → ℕ) → NetRows → (start : ℕ) → List ℕ → Option (List ℕ) → Option (List ℕ)
-better at net start walk None = Some walk
-better at net start walk (Some best) =
-    Some (cond (comes_before at net start walk best) walk best)
+-- whether a walk comes before another: it takes less time, or as much and comes first of both
+abbrev pub comes_before : Timing → NetRows → (start : ℕ) → List ℕ → List ℕ → Bool
+comes_before costs net start walk other =
+    nat_lt (walk_time_by costs net start walk) (walk_time_by costs net start other)
+    || (nat_eq (walk_time_by costs net start walk) (walk_time_by costs net start other)
+    && comes_first costs walk other)
+
+abbrev pub better : Timing → NetRows → (start : ℕ) → List ℕ → Option (List ℕ) → Option (List ℕ)
+better costs net start walk None = Some walk
+better costs net start walk (Some best) =
+    Some (cond (comes_before costs net start walk best) walk best)
 
 -- the best of some walks
-unfoldable pub best_of : (ℕ → ℕ → ℕ) → NetRows → (start : ℕ) → List (List ℕ) → Option (List ℕ)
-best_of at net start [] = None
-best_of at net start (walk ∷ others) = better at net start walk (best_of at net start others)
+unfoldable pub best_of : Timing → NetRows → (start : ℕ) → List (List ℕ) → Option (List ℕ)
+best_of costs net start [] = None
+best_of costs net start (walk ∷ others) =
+    better costs net start walk (best_of costs net start others)
 
--- where no link takes more steps than this, no chosen walk has more links: a walk that repeats no
--- link takes at most so many steps, and each link takes one at least
-abbrev pub most_links : (most : ℕ) → NetRows → ℕ
-most_links most net = length net.links * (most + MOST_PENALTY_STEPS)
+-- no chosen walk has more links. By link times, where no link takes more steps than this: a walk
+-- that repeats no link takes at most so many steps, and each link takes one at least. By trips no
+-- chosen walk repeats a link
+abbrev pub most_links : (most : ℕ) → Timing → NetRows → ℕ
+most_links most (Links at) net = length net.links * (most + MOST_PENALTY_STEPS)
+most_links most (Trips costs) net = length net.links
 
 -- the chosen walk from a zone to another that starts in a step, where there is a walk
 abbrev pub search_within :
-    (most : ℕ) → (ℕ → ℕ → ℕ) → NetRows → (origin destination start : ℕ) → Option (List ℕ)
-search_within most at net origin destination start =
-    best_of at net start (walks_between net origin destination (most_links most net))
+    (most : ℕ) → Timing → NetRows → (origin destination start : ℕ) → Option (List ℕ)
+search_within most costs net origin destination start =
+    best_of costs net start (walks_between net origin destination (most_links most costs net))
 
--- by the link times of a loading, which are no longer than a horizon
-abbrev pub search : (ℕ → ℕ → ℕ) → NetRows → (origin destination start : ℕ) → Option (List ℕ)
-search at net origin destination start =
-    search_within MOST_HORIZON at net origin destination start
+-- by the link times of a loading, which are no longer than a horizon, and by trips over them
+abbrev pub search : Timing → NetRows → (origin destination start : ℕ) → Option (List ℕ)
+search costs net origin destination start =
+    search_within MOST_HORIZON costs net origin destination start
 
 -- link times as tables have them: each link takes a step at least, and not more than these
 pub record AreTimesWithin (most : ℕ) (at : ℕ → ℕ → ℕ) (net : NetRows) : Type 0 where
   pub least : (l step : ℕ) → l < length net.links → 1 ≤ at l step
   pub no_more : (l step : ℕ) → l < length net.links → at l step ≤ most
 
-abbrev pub AreTimes : (ℕ → ℕ → ℕ) → NetRows → Type 0
-AreTimes at net = AreTimesWithin MOST_HORIZON at net
+-- who enters a link later doesn't leave it earlier
+abbrev pub NeverFalls : (ℕ → ℕ → ℕ) → Type 0
+NeverFalls at = (l r s : ℕ) → r ≤ s → r + at l r ≤ s + at l s
+
+-- costs over which the search finds chosen walks: such link times, or trips on links that are left
+-- in the order of entry
+abbrev pub AreCostsWithin : (most : ℕ) → Timing → NetRows → Type 0
+AreCostsWithin most (Links at) net = AreTimesWithin most at net
+AreCostsWithin most (Trips costs) net = NeverFalls costs.at
+
+abbrev pub AreCosts : Timing → NetRows → Type 0
+AreCosts costs net = AreCostsWithin MOST_HORIZON costs net
 
 -- what a search tells: the chosen walk, or that there is no walk
 abbrev pub Finds :
-    (ℕ → ℕ → ℕ) → NetRows → (origin destination start : ℕ) → Option (List ℕ) → Type 0
-Finds at net origin destination start None = HaveNoWalk net origin destination
-Finds at net origin destination start (Some walk) = IsChosen at net origin destination start walk
+    Timing → NetRows → (origin destination start : ℕ) → Option (List ℕ) → Type 0
+Finds costs net origin destination start None = HaveNoWalk net origin destination
+Finds costs net origin destination start (Some walk) =
+    IsChosenBy costs net origin destination start walk
 
 abbrev pub WalksAreFound : Type 0
 WalksAreFound =
-    (most : ℕ) (at : ℕ → ℕ → ℕ) (net : NetRows) → IsNet net → AreTimesWithin most at net
+    (most : ℕ) (costs : Timing) (net : NetRows) → IsNet net → AreCostsWithin most costs net
     → (origin destination start : ℕ)
-    → Finds at net origin destination start (search_within most at net origin destination start)
+    → Finds costs net origin destination start
+    (search_within most costs net origin destination start)

@@ -6,6 +6,7 @@ use Rattle.net_core.specs.declared.rows.NetRows.{NetRows}
 use Rattle.dta_model.specs.LinkTimes.{time_at}
 use Rattle.dta_model.specs.TimedWalks.{walk_time}
 use Rattle.dta_model.specs.declared.loading.TheConstants.{MOST_HORIZON}
+use Rattle.trip_costs.specs.Timings.{Links}
 use Rattle.dta_words.specs.declared.command.Settings.{Settings}
 use Rattle.skims.specs.GivenTimes.{table_given}
 use Rattle.skims.specs.Skim.{Question, questions}
@@ -25,7 +26,7 @@ entry_of most at net question = record {
   destination = question.destination;
   start = question.start;
   least = option_map (walk_time at net question.start)
-      (search_within most at net question.origin question.destination question.start);
+      (search_within most (Links at) net question.origin question.destination question.start);
 }
 
 -- the entries of a job's skim

@@ -4,7 +4,8 @@ use Rattle.dta_model.specs.Loading.{journeys_of}
 use Rattle.reports.specs.Texts.{agent_text, gap_text, link_time_text, report_text}
 use Rattle.dta_words.specs.declared.command.Settings.{Settings}
 use Rattle.assignment.specs.Assignment.{Traffic, VehicleRoutes, plan_of, summary_of, times_of}
-use Rattle.sweep.specs.Scenarios.{traffic_at}
+use Rattle.assignment.specs.Assignment.{waits_told}
+use Rattle.sweep.specs.Scenarios.{traffic_at, wait_text}
 use Rattle.sweep.specs.declared.scenario.Scenario.{Scenario}
 use Rattle.jobs.specs.Jobs.{JobRows}
 use Rattle.reference.specs.Reference.{all_gaps, gap_at, routes_at}
@@ -20,6 +21,7 @@ scenario_over s scale traffic = record {
   agent = agent_text traffic.net traffic.trips (last_routes s traffic)
       (journeys_of (plan_of s traffic (last_routes s traffic)));
   link_time = link_time_text traffic.net (times_of s traffic (last_routes s traffic));
+  origin_wait = wait_text traffic.net (waits_told s traffic (last_routes s traffic));
   gap = gap_text (all_gaps s traffic);
   report = report_text (summary_of s traffic (last_routes s traffic)
       (gap_at s traffic (s.iterations - 1)));

@@ -2,8 +2,9 @@
 ghost use Rattle.reference.specs.Laws.{EachJobHasItsTexts};
 ghost use Rattle.reference.specs.Search.{WalksAreFound};
 
-/// The search finds the chosen walk between two zones, from every start and over every table of
-/// link times, exactly where there is a walk.
+/// The search finds the chosen walk between two zones, from every start, exactly where there is a
+/// walk: over every table of link times, and by whole trips over links that nobody leaves earlier
+/// who enters later.
 pub fn walks_are_found()
     ensures { WalksAreFound }
 {}

@@ -1,6 +1,6 @@
 -- Worked cases of the definitions, computed: vehicles of all four statuses, without and with the
--- iterations of their routes, a table of link times cut short by its horizon, gaps, the report,
--- that of an audit, a watch line and the refusals.
+-- iterations of their routes, tables of link times and of waits at origins cut short by their
+-- horizon, gaps, the report, that of an audit, a watch line and the refusals.
 use Rattle.std.specs.Prelude.{◌≡◌, refl, codes, map, false, [], ◌∷◌, ◌++◌, List, Option}
 use Rattle.std.specs.Prelude.{None, Some}
 use Rattle.std.specs.Fmt.{digits}
@@ -15,6 +15,7 @@ use Rattle.dta_model.specs.declared.eight.Eight.{Eight}
 use Rattle.dta_model.specs.declared.loaded.Journey.{Journey}
 use Rattle.dta_model.specs.declared.trip.TheConstants.{MOST_TRIPS}
 use Rattle.dta_model.specs.declared.trip.Trip.{Trip}
+use Rattle.trip_costs.specs.OriginWaits.{WaitTable}
 use Rattle.gap.specs.declared.line.GapLine.{GapLine}
 use Rattle.row_reader.specs.declared.faults.Code.TheVariants as code
 use Rattle.row_reader.specs.declared.faults.Column.TheVariants as column
@@ -28,6 +29,8 @@ use Rattle.reports.specs.Texts.{bucket_line, count_lines, differs_line}
 use Rattle.reports.specs.Texts.{free_link_line, free_link_time_header, free_link_time_text}
 use Rattle.reports.specs.Texts.{free_report_text, gap_header, gap_line, gap_text, last_gap_lines}
 use Rattle.reports.specs.Texts.{link_lines, link_time_header, link_time_text, refusal_line}
+use Rattle.reports.specs.Texts.{bucket_wait_line, link_wait_lines, origin_wait_header}
+use Rattle.reports.specs.Texts.{origin_wait_text, told_wait_line}
 use Rattle.reports.specs.Texts.{report_text, trip_columns, vehicles, watch_line, way_columns}
 use Rattle.reports.specs.Watch.{AreWatchSteps, multiples, rises_from}
 
@@ -138,6 +141,36 @@ link-times : link_time_text the_network some_times
     ++ codes "20,0,2,0,10,10\n20,2,4,0,10,10\n20,4,5,2,13,10\n"
 unfolding link_time_text link_time_header link_lines bucket_line entered_in time_at link_in digits
 link-times = refl
+
+-- ---- waits at origins
+
+-- the same buckets: two vehicles begin with the first link at steps 2 or 3, and three with the
+-- second one at step 4
+abbrev some_waits : WaitTable
+some_waits = record {
+  bucket = 2;
+  horizon = 5;
+  waits = 0 ∷ 7 ∷ 0 ∷ 0 ∷ 0 ∷ 1 ∷ [];
+  departed = 0 ∷ 2 ∷ 0 ∷ 0 ∷ 0 ∷ 3 ∷ [];
+}
+
+origin-waits : origin_wait_text the_network some_waits
+    ≡ codes "link_id,from_step,to_step,departed,wait_steps\n10,2,4,2,7\n20,4,5,3,1\n"
+unfolding origin_wait_text origin_wait_header link_wait_lines told_wait_line bucket_wait_line
+    link_in digits
+origin-waits = refl
+
+-- without vehicles the text is its header
+abbrev nobody_waits : WaitTable
+nobody_waits = record some_waits {
+  waits = 0 ∷ 0 ∷ 0 ∷ 0 ∷ 0 ∷ 0 ∷ [];
+  departed = 0 ∷ 0 ∷ 0 ∷ 0 ∷ 0 ∷ 0 ∷ [];
+}
+
+nobody-departs : origin_wait_text the_network nobody_waits
+    ≡ codes "link_id,from_step,to_step,departed,wait_steps\n"
+unfolding origin_wait_text origin_wait_header link_wait_lines told_wait_line
+nobody-departs = refl
 
 -- ---- gaps
 

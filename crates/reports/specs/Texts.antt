@@ -12,11 +12,13 @@ use Rattle.net_core.specs.Network.{link_at, numbers_below}
 use Rattle.net_core.specs.declared.rows.LinkNo.{LinkNo}
 use Rattle.net_core.specs.declared.rows.LinkRow.{LinkRow}
 use Rattle.net_core.specs.declared.rows.NetRows.{NetRows}
-use Rattle.dta_model.specs.LinkTimes.{TimeTable, bucket_count, entered_in, time_at}
+use Rattle.dta_model.specs.LinkTimes.{TimeTable, bucket_count, buckets_to, entered_in, place_in}
+use Rattle.dta_model.specs.LinkTimes.{time_at}
 use Rattle.dta_model.specs.declared.eight.Eight.{Eight}
 use Rattle.dta_model.specs.declared.loaded.Journey.{Journey}
 use Rattle.dta_model.specs.declared.trip.TheConstants.{MOST_TRIPS}
 use Rattle.dta_model.specs.declared.trip.Trip.{Trip}
+use Rattle.trip_costs.specs.OriginWaits.{WaitTable}
 use Rattle.gap.specs.declared.line.GapLine.{GapLine}
 use Rattle.reports.specs.declared.audited.Place.{Place}
 use Rattle.reports.specs.declared.refusal.Refusal.{Refusal}
@@ -227,6 +229,41 @@ link_time_header = codes "link_id,from_step,to_step,entered,travel_steps,free_st
 unfoldable pub link_time_text : NetRows → TimeTable → List ℕ
 link_time_text net times =
     link_time_header ++ flat_map (link_lines net times) (numbers_below (length net.links))
+
+-- ---- OriginWait of `assign`
+
+-- how many vehicles belong to a link and a bucket, and their wait
+abbrev pub departed_in : WaitTable → ℕ → ℕ → ℕ
+departed_in w l b = slice_index w.departed (place_in (buckets_to w.bucket w.horizon) l b)
+
+abbrev pub wait_in : WaitTable → ℕ → ℕ → ℕ
+wait_in w l b = slice_index w.waits (place_in (buckets_to w.bucket w.horizon) l b)
+
+-- the line of one bucket of a link: the link's identifier, the first step, the step after the last
+-- one, the number of vehicles that belong to it, and their wait
+unfoldable pub bucket_wait_line : NetRows → WaitTable → ℕ → ℕ → List ℕ
+bucket_wait_line net w l b =
+    decimal (link_at net l).id ++ codes "," ++ decimal (b * w.bucket) ++ codes ","
+    ++ decimal (min ((b + 1) * w.bucket) w.horizon) ++ codes ","
+    ++ decimal (departed_in w l b) ++ codes "," ++ decimal (wait_in w l b) ++ codes "\n"
+
+-- a bucket to which no vehicle belongs has no line
+unfoldable pub told_wait_line : NetRows → WaitTable → ℕ → ℕ → List ℕ
+told_wait_line net w l b =
+    if nat_lt 0 (departed_in w l b) then bucket_wait_line net w l b else []
+
+-- the lines of a link
+unfoldable pub link_wait_lines : NetRows → WaitTable → ℕ → List ℕ
+link_wait_lines net w l =
+    flat_map (told_wait_line net w l) (numbers_below (buckets_to w.bucket w.horizon))
+
+unfoldable pub origin_wait_header : List ℕ
+origin_wait_header = codes "link_id,from_step,to_step,departed,wait_steps\n"
+
+-- OriginWait: its header, and the lines of each link in table order
+unfoldable pub origin_wait_text : NetRows → WaitTable → List ℕ
+origin_wait_text net w =
+    origin_wait_header ++ flat_map (link_wait_lines net w) (numbers_below (length net.links))
 
 -- ---- Gap
 

@@ -1,5 +1,5 @@
-//! The texts that go out: those of `freeflow`, vehicles, link times, gaps, the report, that of an
-//! audit, watch lines and refusals.
+//! The texts that go out: those of `freeflow`, vehicles, link times, origin waits, gaps, the
+//! report, that of an audit, watch lines and refusals.
 //!
 //! Each call puts one text (`put_free` two) to its output of a desk, in pieces of a few kilobytes,
 //! and takes no memory. Its contract names the whole text, as a function of the data that it is
@@ -9,6 +9,7 @@
 
 mod agents;
 mod audited;
+mod buckets;
 mod free;
 mod gaps;
 mod names;
@@ -17,6 +18,7 @@ mod refused;
 mod status;
 mod summary;
 mod times;
+mod waits;
 mod watch;
 
 pub use agents::{put_agents, put_agents_from};
@@ -28,4 +30,5 @@ pub use refused::put_refusal;
 pub use status::status_text;
 pub use summary::{Summary, put_summary};
 pub use times::put_link_times;
+pub use waits::put_origin_waits;
 pub use watch::put_watch;

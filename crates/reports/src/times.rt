@@ -1,16 +1,16 @@
 // The text of the link times.
-ghost use Rattle.std.specs.Prelude.{◌≡◌, ◌<◌, ◌≤◌, ◌+◌, ◌*◌, ◌++◌, length, min, OnOk, OnErr};
+ghost use Rattle.std.specs.Prelude.{◌≡◌, ◌<◌, ◌≤◌, ◌+◌, ◌++◌, length, OnOk, OnErr};
 ghost use Rattle.desk_io.specs.declared.desk.Output.TheVariants as output;
 ghost use Rattle.desk_io.specs.Transfers.{Puts};
 ghost use Rattle.dta_model.specs.LinkTimes.{bucket_count, free_steps};
-ghost use Rattle.net_core.specs.Network.{link_at};
 ghost use Rattle.pending_text.specs.declared.pending.TheConstants.{PIECE};
 ghost use Rattle.pending_text.specs.Sending.{Adds};
 ghost use Rattle.reports.specs.Texts.{bucket_line, link_lines, link_time_header, link_time_text};
 
+use crate::buckets::{first_step, link_row, step_after};
 use desk_io::{Desk, Failed, Output};
 use link_times::LinkTimes;
-use net_core::{LinkNo, LinkRow, Net};
+use net_core::{LinkNo, Net};
 use pending_text::Pending;
 
 /// No line of a bucket is longer: six numbers of at most 20 digits, five commas and a line feed.
@@ -26,30 +26,6 @@ fn header() -> Pending
     pending
 }
 
-// The row of a link.
-#[tactic(auto, using(crate::proofs::TextsFacts::rows))]
-fn link_row(net: &Net, link: LinkNo) -> LinkRow
-    requires { link.0 < length net.now.links }
-    ensures { result ≡ link_at net.now link.0 }
-{
-    net.link(link)
-}
-
-// The first step of a bucket.
-fn first_step(times: &LinkTimes, bucket: u32) -> u64
-    ensures { result ≡ bucket * times.now.bucket }
-{
-    u64::from(bucket) * u64::from(times.bucket_steps())
-}
-
-// The step after the last one of a bucket.
-fn step_after(times: &LinkTimes, bucket: u32) -> u64
-    ensures { result ≡ min ((bucket + 1) * times.now.bucket) times.now.horizon }
-{
-    let end = (u64::from(bucket) + 1) * u64::from(times.bucket_steps());
-    end.min(u64::from(times.horizon()))
-}
-
 // Adds the line of a bucket to what is pending.
 #[tactic(auto, using(crate::proofs::Sent::text), unfolding(crate::specs::Texts::bucket_line))]
 fn push_bucket(pending: &mut Pending, net: &Net, times: &LinkTimes, link: LinkNo, bucket: u32)
@@ -60,12 +36,13 @@ fn push_bucket(pending: &mut Pending, net: &Net, times: &LinkTimes, link: LinkNo
     ensures { pending.new ≡ pending.old ++ bucket_line net.now times.now link.0 bucket }
 {
     let row = link_row(net, link);
-    let first = first_step(times, bucket);
+    let steps = times.bucket_steps();
+    let first = first_step(bucket, steps);
     pending.push_number(row.id);
     pending.push(",");
     pending.push_number(first);
     pending.push(",");
-    pending.push_number(step_after(times, bucket));
+    pending.push_number(step_after(bucket, steps, times.horizon()));
     pending.push(",");
     pending.push_number(times.entered(link, bucket));
     pending.push(",");

@@ -16,6 +16,7 @@ use Rattle.time_routes.specs.declared.vehicles.Ask.{Ask}
 use Rattle.route_flows.specs.Asked.{AreAsked, Renews}
 use Rattle.trip_costs.specs.Timings.{Timing}
 use Rattle.trip_costs.proofs.Timed.{walks_by}
+use Rattle.trip_costs.specs.LoadingCosts.{kind_of}
 use Rattle.route_flows.specs.Averages.{AreChosenRoutes, AreNextRoutes, renews}
 
 -- ---- lists by place
@@ -135,13 +136,13 @@ renewing_more selected walks i old mid left new rest inside long is leaves befor
 
 -- ---- the next routes
 pub next_are : (costs : Timing) (net : NetRows) (trips : List Trip) (least : Bool) (k : ℕ) (old walks new : List (Option (List LinkNo))) (asks : List Ask) → length old ≡ length trips
-    → AreAsked least (renews costs k) old (length old) asks → AreTold (WalkOf costs net) (asks_walk asks) trips walks → Renews (renews costs k) walks (length old) old new → AreNextRoutes costs net trips k old new
+    → AreAsked least (renews (kind_of costs) k) old (length old) asks → AreTold (WalkOf costs net) (asks_walk asks) trips walks → Renews (renews (kind_of costs) k) walks (length old) old new → AreNextRoutes costs net trips k old new
 next_are costs net trips least k old walks new asks long asked told new_are = record {
   as_many = new_are.as_many ∙ long;
   selected = λ v trip route s t n. (
       let inside = slice_get_within trips v trip t in
       let there : v < length old = omega (arith, inside, long) in
-      told.each v route (sym (new_are.renewed v there s) ∙ n) trip (walk_asked least (renews costs k) old (length old) asks v asked there s) t);
+      told.each v route (sym (new_are.renewed v there s) ∙ n) trip (walk_asked least (renews (kind_of costs) k) old (length old) asks v asked there s) t);
   others = new_are.others;
 }
 
@@ -152,19 +153,19 @@ lent n items base now long is many = take_at now (drop (length now) items) n (ma
 -- the same of lists that are equal to these, where the routes that are renewed were lent
 pub next_told : (costs : Timing) (net : NetRows) (trips : List Trip) (least : Bool) (k : ℕ) (routes shown_routes : List (Option (List LinkNo))) (n : ℕ) (items base told walks renewed new : List (Option (List LinkNo))) (asks shown : List Ask)
     → length routes ≡ length trips → shown_routes ≡ routes → n ≡ length items → base ≡ items → items ≡ routes → shown ≡ asks
-    → AreAsked least (renews costs k) shown_routes (length shown_routes) asks → AreTold (WalkOf costs net) (asks_walk shown) trips told → walks ≡ told → Renews (renews costs k) walks (length base) base renewed
+    → AreAsked least (renews (kind_of costs) k) shown_routes (length shown_routes) asks → AreTold (WalkOf costs net) (asks_walk shown) trips told → walks ≡ told → Renews (renews (kind_of costs) k) walks (length base) base renewed
     → new ≡ take n (renewed ++ drop (length renewed) items) → AreNextRoutes costs net trips k routes new
 next_told costs net trips least k routes shown_routes n items base told walks renewed new asks shown long ro many bi ir sa asked are wt new_are is =
     subst (λ r. AreNextRoutes costs net trips k routes r) (sym (is ∙ lent n items base renewed many bi new_are.as_many))
     (next_are costs net trips least k routes walks renewed asks long
-    (subst (λ l. AreAsked least (renews costs k) l (length l) asks) ro asked)
+    (subst (λ l. AreAsked least (renews (kind_of costs) k) l (length l) asks) ro asked)
     (subst (λ w. AreTold (WalkOf costs net) (asks_walk asks) trips w) (sym wt) (subst (λ a. AreTold (WalkOf costs net) (asks_walk a) trips told) sa are))
-    (subst (λ l. Renews (renews costs k) walks (length l) l renewed) (bi ∙ ir) new_are))
+    (subst (λ l. Renews (renews (kind_of costs) k) walks (length l) l renewed) (bi ∙ ir) new_are))
 
 pub next_walk : (costs : Timing) (net : NetRows) (trips : List Trip) (k : ℕ) (old new : List (Option (List LinkNo))) → AreWalks net trips old → AreNextRoutes costs net trips k old new → AreWalks net trips new
-next_walk costs net trips k old new before next v trip route t n = by (renews costs k v) refl
+next_walk costs net trips k old new before next v trip route t n = by (renews (kind_of costs) k v) refl
   where
-    by : (b : Bool) → renews costs k v ≡ b → IsWalk net trip.origin trip.destination (link_numbers route)
+    by : (b : Bool) → renews (kind_of costs) k v ≡ b → IsWalk net trip.origin trip.destination (link_numbers route)
     by true s = walks_by costs net trip.origin trip.destination trip.departure (link_numbers route) (next.selected v trip (Some route) s t n)
     by false s = before v trip route t (sym (next.others v s) ∙ n)
 

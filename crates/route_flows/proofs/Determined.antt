@@ -17,6 +17,7 @@ use Rattle.trip_costs.specs.Timings.{IsChosenBy, Links, Timing, Trips}
 use Rattle.trip_costs.specs.TripCosts.{TravelCosts, time_by}
 use Rattle.trip_costs.specs.TripWalks.{IsChosenTrip}
 use Rattle.trip_costs.proofs.Timed.{walks_by}
+use Rattle.trip_costs.specs.LoadingCosts.{kind_of}
 use Rattle.route_flows.specs.Averages.{renews}
 use Rattle.route_flows.specs.Laws.{ChosenAreDetermined, NextAreDetermined}
 use Rattle.labels.proofs.Basics.{some_same}
@@ -108,9 +109,9 @@ next_are_determined costs net trips k old a b x y =
     same_lists a b (x.as_many ∙ sym y.as_many) one
   where
     one : (v : ℕ) (r s : Option (List LinkNo)) → slice_get a v ≡ Some r → slice_get b v ≡ Some s → r ≡ s
-    one v r s e f = by (renews costs k v) refl
+    one v r s e f = by (renews (kind_of costs) k v) refl
       where
-        by : (t : Bool) → renews costs k v ≡ t → r ≡ s
+        by : (t : Bool) → renews (kind_of costs) k v ≡ t → r ≡ s
         by true h =
             let inside = in_list a v r e in
             let long = x.as_many in

@@ -6,7 +6,8 @@ use Rattle.net_core.specs.declared.rows.LinkNo.{LinkNo}
 use Rattle.net_core.specs.declared.rows.NetRows.{NetRows}
 use Rattle.dta_model.specs.declared.trip.Trip.{Trip}
 use Rattle.trip_costs.specs.Timings.{Timing}
-use Rattle.route_flows.specs.Averages.{IsFirstNumber, IsLastRenewal, IsSince, is_selected, StartsOn}
+use Rattle.trip_costs.specs.declared.loading_costs.Costs.{Costs}
+use Rattle.route_flows.specs.Averages.{IsFirstNumber, IsLastRenewal, IsSince, renews, StartsOn}
 use Rattle.route_flows.specs.Laws.{SinceAreDetermined, StartedAreDetermined}
 use Rattle.route_flows.specs.Starting.{IsNumbered}
 use Rattle.start_table.specs.Starts.{AreNamed, AreStartRows, IsStarted, TellsStart}
@@ -14,22 +15,22 @@ use Rattle.start_table.specs.declared.rows.StartRow.{StartRow}
 use Rattle.route_flows.proofs.Determined.{in_list, same_lists, trip_at, walk_once}
 use Rattle.start_table.proofs.Named.{named_once, one_row}
 
-pub numbered_since : (net : NetRows) (start : List StartRow) (iterations v : ℕ) (trip : Trip) (walk : Option (List LinkNo)) (n : ℕ) → TellsStart net start trip walk → IsNumbered v iterations walk n → IsSince net start iterations v trip n
-numbered_since net start iterations v trip walk n tells (inl renewed) = inl renewed
-numbered_since net start iterations v trip None n tells (inr (keeps, is)) = inr (keeps, inr (is, tells))
-numbered_since net start iterations v trip (Some walk) n tells (inr (keeps, is)) = inr (keeps, inl (is, (walk, tells)))
+pub numbered_since : (costs : Costs) (net : NetRows) (start : List StartRow) (iterations v : ℕ) (trip : Trip) (walk : Option (List LinkNo)) (n : ℕ) → TellsStart net start trip walk → IsNumbered costs v iterations walk n → IsSince costs net start iterations v trip n
+numbered_since costs net start iterations v trip walk n tells (inl renewed) = inl renewed
+numbered_since costs net start iterations v trip None n tells (inr (keeps, is)) = inr (keeps, inr (is, tells))
+numbered_since costs net start iterations v trip (Some walk) n tells (inr (keeps, is)) = inr (keeps, inl (is, (walk, tells)))
 
 -- ---- one list
 differ : (b : Bool) → b ≡ true → b ≡ false → ⊥
 differ b t f = let both : true ≡ false = sym t ∙ f in cc
 
-renewed_once : (v iterations k j : ℕ) → IsLastRenewal v iterations k → IsLastRenewal v iterations j → k ≡ j
-renewed_once v iterations k j x y = by (cases_order k j)
+renewed_once : (costs : Costs) (v iterations k j : ℕ) → IsLastRenewal costs v iterations k → IsLastRenewal costs v iterations j → k ≡ j
+renewed_once costs v iterations k j x y = by (cases_order k j)
   where
     by : (k ≡ j) ⊎ ((k < j) ⊎ (j < k)) → k ≡ j
     by (inl same) = same
-    by (inr (inl less)) = absurd (differ (is_selected v j) y.selected (x.last j less y.most))
-    by (inr (inr less)) = absurd (differ (is_selected v k) x.selected (y.last k less x.most))
+    by (inr (inl less)) = absurd (differ (renews costs j v) y.selected (x.last j less y.most))
+    by (inr (inr less)) = absurd (differ (renews costs k v) x.selected (y.last k less x.most))
 
 first_once : (net : NetRows) (start : List StartRow) (trip : Trip) (n m : ℕ) → IsFirstNumber net start trip n → IsFirstNumber net start trip m → n ≡ m
 first_once net start trip n m (inl (x, _)) (inl (y, _)) = x ∙ sym y
@@ -37,14 +38,14 @@ first_once net start trip n m (inl (x, (walk, fits))) (inr (y, none)) = absurd (
 first_once net start trip n m (inr (x, none)) (inl (y, (walk, fits))) = absurd (none walk fits)
 first_once net start trip n m (inr (x, _)) (inr (y, _)) = x ∙ sym y
 
-since_once : (net : NetRows) (start : List StartRow) (iterations v : ℕ) (trip : Trip) (n m : ℕ) → IsSince net start iterations v trip n → IsSince net start iterations v trip m → n ≡ m
-since_once net start iterations v trip n m (inl (k, nk, x)) (inl (j, mj, y)) = nk ∙ ap (λ i. i + 1) (renewed_once v iterations k j x y) ∙ sym mj
-since_once net start iterations v trip n m (inl (k, nk, x)) (inr (keeps, y)) = absurd (differ (is_selected v k) x.selected (keeps k x.least x.most))
-since_once net start iterations v trip n m (inr (keeps, x)) (inl (j, mj, y)) = absurd (differ (is_selected v j) y.selected (keeps j y.least y.most))
-since_once net start iterations v trip n m (inr (kx, x)) (inr (ky, y)) = first_once net start trip n m x y
+since_once : (costs : Costs) (net : NetRows) (start : List StartRow) (iterations v : ℕ) (trip : Trip) (n m : ℕ) → IsSince costs net start iterations v trip n → IsSince costs net start iterations v trip m → n ≡ m
+since_once costs net start iterations v trip n m (inl (k, nk, x)) (inl (j, mj, y)) = nk ∙ ap (λ i. i + 1) (renewed_once costs v iterations k j x y) ∙ sym mj
+since_once costs net start iterations v trip n m (inl (k, nk, x)) (inr (keeps, y)) = absurd (differ (renews costs k v) x.selected (keeps k x.least x.most))
+since_once costs net start iterations v trip n m (inr (keeps, x)) (inl (j, mj, y)) = absurd (differ (renews costs j v) y.selected (keeps j y.least y.most))
+since_once costs net start iterations v trip n m (inr (kx, x)) (inr (ky, y)) = first_once net start trip n m x y
 
 pub since_are_determined : SinceAreDetermined
-since_are_determined net start trips iterations a b x y =
+since_are_determined costs net start trips iterations a b x y =
     same_lists a b (x.as_many ∙ sym y.as_many) one
   where
     one : (v : ℕ) (n m : ℕ) → slice_get a v ≡ Some n → slice_get b v ≡ Some m → n ≡ m
@@ -52,7 +53,7 @@ since_are_determined net start trips iterations a b x y =
         let inside = in_list a v n e in
         let long = x.as_many in
         let t = trip_at trips v (omega (arith, inside, long)) in
-        since_once net start iterations v (t.0) n m (x.each v (t.0) n (t.1) e) (y.each v (t.0) m (t.1) f)
+        since_once costs net start iterations v (t.0) n m (x.each v (t.0) n (t.1) e) (y.each v (t.0) m (t.1) f)
 
 started_once : (net : NetRows) (start : List StartRow) (trip : Trip) (a b : List LinkNo) → AreStartRows start → IsStarted net start trip a → IsStarted net start trip b → a ≡ b
 started_once net start trip a b sound (r, row, at, fits) (s, other, there, others) =

@@ -3,6 +3,7 @@ use Rattle.std.specs.Prelude.{◌≡◌, ℕ, ◌<◌, ◌&&◌, Bool, true, fal
 use Rattle.std.specs.Prelude.{slice_get}
 use Rattle.net_core.specs.declared.rows.LinkNo.{LinkNo}
 use Rattle.gap.specs.Gap.{has_route}
+use Rattle.trip_costs.specs.LoadingCosts.{kind_of}
 use Rattle.trip_costs.specs.WalkCosts.{timing}
 use Rattle.route_flows.specs.Averages.{renews}
 use Rattle.route_flows.specs.declared.change.Change.{Change}
@@ -25,4 +26,4 @@ pub record Renews (selected : ℕ → Bool) (walks : List (Option (List LinkNo))
 
 -- whether a vehicle takes its chosen walk in a change
 abbrev pub takes : Change → ℕ → Bool
-takes change v = renews (timing change.costs) change.k v
+takes change v = renews (kind_of (timing change.costs)) change.k v

@@ -6,7 +6,10 @@ use Rattle.net_core.specs.declared.rows.NetRows.{NetRows}
 use Rattle.dta_model.specs.LinkTimes.{free_steps}
 use Rattle.dta_model.specs.declared.trip.Trip.{Trip}
 use Rattle.trip_costs.specs.Changes.{changes_after}
-use Rattle.trip_costs.specs.Timings.{Links, Timing, Trips}
+use Rattle.trip_costs.specs.LoadingCosts.{kind_of}
+use Rattle.trip_costs.specs.Timings.{Links, Timing}
+use Rattle.trip_costs.specs.declared.loading_costs.Costs.{Costs}
+use Rattle.trip_costs.specs.declared.loading_costs.Costs.TheVariants as by
 use Rattle.time_routes.specs.Destinations.{WalkOf}
 use Rattle.start_table.specs.Starts.{HasNoStart, IsStarted}
 use Rattle.start_table.specs.declared.rows.StartRow.{StartRow}
@@ -52,30 +55,31 @@ AreStartedRoutes net start trips routes =
     AreStartedBy (Links (free_time net)) net start trips routes
 
 -- whether a vehicle takes its chosen walk after iteration k, by either costs
-abbrev pub renews : Timing → ℕ → ℕ → Bool
-renews (Links at) k vehicle = is_selected vehicle k
-renews (Trips costs) k vehicle = changes_after vehicle k
+abbrev pub renews : Costs → ℕ → ℕ → Bool
+renews by.Links k vehicle = is_selected vehicle k
+renews by.Trips k vehicle = changes_after vehicle k
 
 -- the routes of the iteration after k: the vehicles that are selected have their chosen walks by
 -- the costs of iteration k, and the others keep what they had
 pub record AreNextRoutes (costs : Timing) (net : NetRows) (trips : List Trip) (k : ℕ)
     (old new : List (Option (List LinkNo))) : Type 0 where
   pub as_many : length new ≡ length trips
-  pub selected : (v : ℕ) (trip : Trip) (route : Option (List LinkNo)) → renews costs k v ≡ true
-      → slice_get trips v ≡ Some trip → slice_get new v ≡ Some route → WalkOf costs net trip route
-  pub others : (v : ℕ) → renews costs k v ≡ false → slice_get new v ≡ slice_get old v
+  pub selected : (v : ℕ) (trip : Trip) (route : Option (List LinkNo))
+      → renews (kind_of costs) k v ≡ true → slice_get trips v ≡ Some trip
+      → slice_get new v ≡ Some route → WalkOf costs net trip route
+  pub others : (v : ℕ) → renews (kind_of costs) k v ≡ false → slice_get new v ≡ slice_get old v
 
 -- the iteration after k is the last one, of so many, for which a vehicle takes its chosen walk
 -- anew
-pub record IsLastRenewal (v iterations k : ℕ) : Type 0 where
+pub record IsLastRenewal (by : Costs) (v iterations k : ℕ) : Type 0 where
   pub least : 1 ≤ k
   pub most : k < iterations
-  pub selected : is_selected v k ≡ true
-  pub last : (later : ℕ) → k < later → later < iterations → is_selected v later ≡ false
+  pub selected : renews by k v ≡ true
+  pub last : (later : ℕ) → k < later → later < iterations → renews by later v ≡ false
 
 -- a vehicle keeps its first route in all of so many iterations
-abbrev pub KeepsFirst : ℕ → ℕ → Type 0
-KeepsFirst v iterations = (k : ℕ) → 1 ≤ k → k < iterations → is_selected v k ≡ false
+abbrev pub KeepsFirst : Costs → ℕ → ℕ → Type 0
+KeepsFirst by v iterations = (k : ℕ) → 1 ≤ k → k < iterations → renews by k v ≡ false
 
 -- the number of a first route: 0 where a row of a start table has it, and otherwise 1
 abbrev pub IsFirstNumber : NetRows → List StartRow → Trip → ℕ → Type 0
@@ -85,14 +89,14 @@ IsFirstNumber net start trip n =
 
 -- the iteration in which a vehicle last took the route that it has after so many, also where it is
 -- the route that it had
-abbrev pub IsSince : NetRows → List StartRow → ℕ → ℕ → Trip → ℕ → Type 0
-IsSince net start iterations v trip n =
-    ((k : ℕ) × (n ≡ k + 1) × IsLastRenewal v iterations k)
-    ⊎ (KeepsFirst v iterations × IsFirstNumber net start trip n)
+abbrev pub IsSince : Costs → NetRows → List StartRow → ℕ → ℕ → Trip → ℕ → Type 0
+IsSince by net start iterations v trip n =
+    ((k : ℕ) × (n ≡ k + 1) × IsLastRenewal by v iterations k)
+    ⊎ (KeepsFirst by v iterations × IsFirstNumber net start trip n)
 
 -- that iteration for each vehicle
-pub record AreSince (net : NetRows) (start : List StartRow) (trips : List Trip) (iterations : ℕ)
-    (numbers : List ℕ) : Type 0 where
+pub record AreSince (by : Costs) (net : NetRows) (start : List StartRow) (trips : List Trip)
+    (iterations : ℕ) (numbers : List ℕ) : Type 0 where
   pub as_many : length numbers ≡ length trips
   pub each : (v : ℕ) (trip : Trip) (n : ℕ) → slice_get trips v ≡ Some trip
-      → slice_get numbers v ≡ Some n → IsSince net start iterations v trip n
+      → slice_get numbers v ≡ Some n → IsSince by net start iterations v trip n

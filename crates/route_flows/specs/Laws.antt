@@ -4,6 +4,7 @@ use Rattle.net_core.specs.declared.rows.LinkNo.{LinkNo}
 use Rattle.net_core.specs.declared.rows.NetRows.{NetRows}
 use Rattle.dta_model.specs.declared.trip.Trip.{Trip}
 use Rattle.trip_costs.specs.Timings.{Timing}
+use Rattle.trip_costs.specs.declared.loading_costs.Costs.{Costs}
 use Rattle.route_flows.specs.Averages.{AreChosenRoutes, AreFirstRoutes, AreNextRoutes, AreSince}
 use Rattle.route_flows.specs.Averages.{AreStartedBy, AreStartedRoutes}
 use Rattle.start_table.specs.Starts.{AreStartRows}
@@ -38,5 +39,6 @@ NoRowStartsNobody =
 -- and vehicles have one list of the iterations since which they have their routes
 abbrev pub SinceAreDetermined : Type 0
 SinceAreDetermined =
-    (net : NetRows) (start : List StartRow) (trips : List Trip) (iterations : ℕ) (a b : List ℕ)
-    → AreSince net start trips iterations a → AreSince net start trips iterations b → a ≡ b
+    (by : Costs) (net : NetRows) (start : List StartRow) (trips : List Trip) (iterations : ℕ)
+    (a b : List ℕ) → AreSince by net start trips iterations a
+    → AreSince by net start trips iterations b → a ≡ b

@@ -3,6 +3,7 @@ use Rattle.std.specs.Prelude.{◌≡◌, ◌⊎◌, ℕ, ◌+◌, ◌<◌, false
 use Rattle.std.specs.Prelude.{Option, None, Some, get_or, is_none}
 use Rattle.net_core.specs.declared.rows.LinkNo.{LinkNo}
 use Rattle.time_routes.specs.declared.vehicles.Ask.{Ask}
+use Rattle.trip_costs.specs.declared.loading_costs.Costs.{Costs}
 use Rattle.route_flows.specs.Averages.{IsLastRenewal, KeepsFirst}
 
 -- the walks of vehicles that have no other are asked for
@@ -21,9 +22,9 @@ pub record FillsIn (others old new : List (Option (List LinkNo))) : Type 0 where
       → get_or new v None ≡ or_other (get_or old v None) (get_or others v None)
 
 -- after which iteration a vehicle last takes a new route, or that it keeps its first one
-abbrev pub TellsRenewal : ℕ → ℕ → Option ℕ → Type 0
-TellsRenewal v iterations None = KeepsFirst v iterations
-TellsRenewal v iterations (Some k) = IsLastRenewal v iterations k
+abbrev pub TellsRenewal : Costs → ℕ → ℕ → Option ℕ → Type 0
+TellsRenewal by v iterations None = KeepsFirst by v iterations
+TellsRenewal by v iterations (Some k) = IsLastRenewal by v iterations k
 
 -- the number of a first route, by the walk of a row that fits
 abbrev pub first_number : Option (List LinkNo) → ℕ
@@ -31,7 +32,7 @@ first_number None = 1
 first_number (Some walk) = 0
 
 -- the iteration of a vehicle's last new route, or the number of its first one
-abbrev pub IsNumbered : ℕ → ℕ → Option (List LinkNo) → ℕ → Type 0
-IsNumbered v iterations walk n =
-    ((k : ℕ) × (n ≡ k + 1) × IsLastRenewal v iterations k)
-    ⊎ (KeepsFirst v iterations × (n ≡ first_number walk))
+abbrev pub IsNumbered : Costs → ℕ → ℕ → Option (List LinkNo) → ℕ → Type 0
+IsNumbered by v iterations walk n =
+    ((k : ℕ) × (n ≡ k + 1) × IsLastRenewal by v iterations k)
+    ⊎ (KeepsFirst by v iterations × (n ≡ first_number walk))

@@ -3,14 +3,14 @@ ghost use Rattle.std.specs.Prelude.{◌≡◌, ◌≤◌, ◌&&◌, is_some, len
 ghost use Rattle.dta_model.specs.declared.trip.TheConstants.{MOST_TRIPS};
 ghost use Rattle.route_flows.specs.Asked.{AreAsked, takes as takes_of};
 ghost use Rattle.route_flows.specs.Starting.{asks_for_rest};
-ghost use Rattle.route_flows.specs.Averages.{is_selected as selected_of};
+ghost use Rattle.route_flows.specs.Averages.{is_selected as selected_of, renews as renews_of};
 
 use crate::change::Change;
 use dta_model::Route;
 use net_core::Memory;
 use std::alloc::Global;
 use time_routes::Ask;
-use trip_costs::{WalkCosts, changes_after};
+use trip_costs::{Costs, changes_after};
 
 /// The last iteration after which routes may change.
 pub const MOST_ITERATION: u32 = 1000;
@@ -25,15 +25,23 @@ pub fn is_selected(vehicle: u32, k: u32) -> bool
     (vehicle as u64 + k * k / 4) % (k + 1) == 0
 }
 
+/// Whether a vehicle takes its chosen walk after an iteration, by either costs.
+pub(crate) fn renews(by: Costs, k: u32, vehicle: u32) -> bool
+    requires { k ≤ MOST_ITERATION }
+    ensures { result ≡ renews_of by k vehicle }
+{
+    match by {
+        Costs::Links => is_selected(vehicle, k),
+        Costs::Trips => changes_after(vehicle, k),
+    }
+}
+
 impl Change<'_> {
     // Whether a vehicle takes its chosen walk.
     pub(crate) fn takes(&self, vehicle: u32) -> bool
         ensures { result ≡ takes_of self.now vehicle }
     {
-        match self.costs {
-            WalkCosts::Links(_) => is_selected(vehicle, self.k),
-            WalkCosts::Trips(_) => changes_after(vehicle, self.k),
-        }
+        renews(self.costs.kind(), self.k, vehicle)
     }
 }
 

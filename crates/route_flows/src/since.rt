@@ -6,23 +6,24 @@ ghost use Rattle.route_flows.specs.Starting.{IsNumbered, TellsRenewal};
 ghost use Rattle.route_flows.specs.Starting.{first_number as first_number_of};
 ghost use Rattle.route_flows.specs.declared.selection.TheConstants.{MOST_ITERATION};
 
-use crate::selection::is_selected;
+use crate::selection::renews;
 use crate::starts::start_walks;
 use dta_model::{Route, Steps, Trip};
 use net_core::{Memory, Net};
 use start_table::StartRows;
 use std::alloc::Global;
+use trip_costs::Costs;
 
 // The last of so many iterations after which a vehicle takes a new route for a later one of them,
 // if there is one.
-fn last_renewal(vehicle: u32, iterations: u32) -> Option<u32>
+fn last_renewal(by: Costs, vehicle: u32, iterations: u32) -> Option<u32>
     requires { iterations ≤ MOST_ITERATION }
-    ensures { TellsRenewal vehicle iterations result }
+    ensures { TellsRenewal by vehicle iterations result }
 {
     let mut k = iterations;
     while k > 1 {
         k -= 1;
-        if is_selected(vehicle, k) {
+        if renews(by, k, vehicle) {
             return Some(k);
         }
     }
@@ -40,11 +41,11 @@ fn first_number(walk: &Option<Route>) -> u32
 }
 
 // The iteration in which a vehicle last took its route.
-fn since(vehicle: u32, iterations: u32, walk: &Option<Route>) -> u32
+fn since(by: Costs, vehicle: u32, iterations: u32, walk: &Option<Route>) -> u32
     requires { iterations ≤ MOST_ITERATION }
-    ensures { IsNumbered vehicle iterations walk.now result }
+    ensures { IsNumbered by vehicle iterations walk.now result }
 {
-    match last_renewal(vehicle, iterations) {
+    match last_renewal(by, vehicle, iterations) {
         Some(k) => k + 1,
         None => first_number(walk),
     }
@@ -55,6 +56,7 @@ fn since(vehicle: u32, iterations: u32, walk: &Option<Route>) -> u32
 /// where it is still its first chosen walk.
 pub fn route_iterations(
     alloc: Global,
+    by: Costs,
     net: &Net,
     trips: &[Trip],
     start: &StartRows,
@@ -63,12 +65,12 @@ pub fn route_iterations(
     requires trips { AreTrips trips.now }
     requires least { 1 ≤ iterations }
     requires most { iterations ≤ MOST_ITERATION }
-    ensures { IfOk result (AreSince net.now start.now trips.now iterations) }
+    ensures { IfOk result (AreSince by net.now start.now trips.now iterations) }
 {
     let walks = start_walks(alloc, net, trips, start)?;
     let mut numbers = Vec::with_capacity(alloc, trips.len())?;
     for v in 0..trips.len() {
-        numbers.push(since(v as u32, iterations, &walks[v]))?;
+        numbers.push(since(by, v as u32, iterations, &walks[v]))?;
     }
     Ok(Steps::of(numbers))
 }

@@ -6,14 +6,17 @@ use Rattle.dta_model.specs.Loading.{journeys_of}
 use Rattle.dta_model.specs.State.{eight_after}
 use Rattle.dta_model.specs.declared.eight.Eight.{Eight}
 use Rattle.dta_model.specs.declared.plan.Plan.{Plan}
+use Rattle.trip_costs.specs.LoadingCosts.{costs_by}
+use Rattle.trip_costs.specs.OriginWaits.{waits_of as waits_of_plan}
+use Rattle.trip_costs.specs.declared.loading_costs.Costs.{Costs}
 use Rattle.gap.specs.declared.line.GapLine.{GapLine}
 use Rattle.reports.specs.Texts.{agent_text, gap_text, link_time_text, report_text}
 use Rattle.reports.specs.declared.summary.Summary.{Summary}
 use Rattle.dta_words.specs.declared.command.Settings.{Settings}
-use Rattle.assignment.specs.Assignment.{AreIterations, Traffic, VehicleRoutes, plan_of, summary_of, times_of, unrouted}
-use Rattle.assignment.proofs.Determined.{RouteLaws, by-same-times, same-lines, same-routes}
+use Rattle.assignment.specs.Assignment.{AreIterations, Traffic, VehicleRoutes, costs_of, plan_of, summary_of, times_of, told_where, unrouted, waits_of, waits_told}
+use Rattle.assignment.proofs.Determined.{RouteLaws, by-same-costs, same-lines, same-routes}
 use Rattle.sweep.specs.Laws.{Agree, ScenariosStandAlone}
-use Rattle.sweep.specs.Scenarios.{HasTexts, traffic_at}
+use Rattle.sweep.specs.Scenarios.{HasTexts, traffic_at, wait_text}
 use Rattle.sweep.specs.declared.scenario.Scenario.{Scenario}
 
 some-is : {A : Type 0} (x y : A) → Some x ≡ Some y → x ≡ y
@@ -40,6 +43,18 @@ module _ (a b : Settings) (agree : Agree a b) (traffic : Traffic) where
   same-times : (r : VehicleRoutes) → times_of b traffic r ≡ times_of a traffic r
   same-times r = ap (λ (p : Plan). table_of p b.bucket) (same-plan r) ∙ ap (table_of (plan_of a traffic r)) (sym agree.bucket)
 
+  same-costs : (r : VehicleRoutes) → costs_of b traffic r ≡ costs_of a traffic r
+  same-costs r =
+      ap (λ (p : Plan). costs_by b.costs p b.bucket) (same-plan r)
+      ∙ ap (costs_by b.costs (plan_of a traffic r)) (sym agree.bucket)
+      ∙ ap (λ (by : Costs). costs_by by (plan_of a traffic r) a.bucket) (sym agree.costs)
+
+  same-waits : (r : VehicleRoutes) → waits_told b traffic r ≡ waits_told a traffic r
+  same-waits r =
+      ap (λ (p : Plan). told_where b.costs (waits_of_plan p b.bucket)) (same-plan r)
+      ∙ ap (λ n. told_where b.costs (waits_of_plan (plan_of a traffic r) n)) (sym agree.bucket)
+      ∙ ap (λ (by : Costs). told_where by (waits_of a traffic r)) (sym agree.costs)
+
   same-end : (r : VehicleRoutes) → eight_after (plan_of b traffic r) b.horizon ≡ eight_after (plan_of a traffic r) a.horizon
   same-end r = ap (λ (p : Plan). eight_after p b.horizon) (same-plan r) ∙ ap (eight_after (plan_of a traffic r)) (sym agree.horizon)
 
@@ -50,14 +65,14 @@ module _ (a b : Settings) (agree : Agree a b) (traffic : Traffic) where
 
   module _ (laws : RouteLaws) (x y : Scenario) (p : HasTexts a traffic x) (q : HasTexts b traffic y) where
     there : AreIterations a traffic q.routes q.lines
-    there = by-same-times (times_of a traffic) (times_of b traffic) traffic q.routes q.lines same-times q.iterations
+    there = by-same-costs (costs_of a traffic) (costs_of b traffic) traffic q.routes q.lines same-costs q.iterations
 
     routes-same : p.routes ≡ q.routes
-    routes-same = same-routes laws (times_of a traffic) traffic p.routes q.routes p.lines q.lines p.iterations there
+    routes-same = same-routes laws (costs_of a traffic) traffic p.routes q.routes p.lines q.lines p.iterations there
         (p.as_many ∙ agree.iterations ∙ sym q.as_many)
 
     lines-same : p.lines ≡ q.lines
-    lines-same = same-lines laws (times_of a traffic) traffic p.routes q.routes p.lines q.lines p.iterations there routes-same
+    lines-same = same-lines laws (costs_of a traffic) traffic p.routes q.routes p.lines q.lines p.iterations there routes-same
         (p.with_gaps ∙ sym p.as_many) (p.with_gaps ∙ agree.iterations ∙ sym q.with_gaps)
 
     last-same : p.last ≡ q.last
@@ -80,6 +95,11 @@ module _ (a b : Settings) (agree : Agree a b) (traffic : Traffic) where
         ∙ ap (λ (r : VehicleRoutes). link_time_text traffic.net (times_of a traffic r)) last-same
         ∙ ap (link_time_text traffic.net) (sym (same-times q.last)) ∙ sym q.link_time
 
+    pub origin-wait-same : x.origin_wait ≡ y.origin_wait
+    origin-wait-same = p.origin_wait
+        ∙ ap (λ (r : VehicleRoutes). wait_text traffic.net (waits_told a traffic r)) last-same
+        ∙ ap (wait_text traffic.net) (sym (same-waits q.last)) ∙ sym q.origin_wait
+
     pub gap-same : x.gap ≡ y.gap
     gap-same = p.gap ∙ ap gap_text lines-same ∙ sym q.gap
 
@@ -90,9 +110,10 @@ module _ (a b : Settings) (agree : Agree a b) (traffic : Traffic) where
         ∙ ap report_text (sym (same-summary q.last q.line)) ∙ sym q.report
 
 -- scenarios of the same scale and the same texts
-same-scenario : (x y : Scenario) → x.scale ≡ y.scale → x.agent ≡ y.agent → x.link_time ≡ y.link_time → x.gap ≡ y.gap → x.report ≡ y.report → x ≡ y
-same-scenario x y scale agent link_time gap report =
-    λ i. record { scale = scale i; agent = agent i; link_time = link_time i; gap = gap i; report = report i }
+same-scenario : (x y : Scenario) → x.scale ≡ y.scale → x.agent ≡ y.agent → x.link_time ≡ y.link_time → x.origin_wait ≡ y.origin_wait
+    → x.gap ≡ y.gap → x.report ≡ y.report → x ≡ y
+same-scenario x y scale agent link_time origin_wait gap report =
+    λ i. record { scale = scale i; agent = agent i; link_time = link_time i; origin_wait = origin_wait i; gap = gap i; report = report i }
 
 pub scenarios_stand_alone : RouteLaws → ScenariosStandAlone
 scenarios_stand_alone laws a b net cells scale x y agree p q =
@@ -100,5 +121,6 @@ scenarios_stand_alone laws a b net cells scale x y agree p q =
     same-scenario x y (p.scale_is ∙ sym q.scale_is)
     (agent-same a b agree traffic laws x y p.texts q.texts)
     (link-time-same a b agree traffic laws x y p.texts q.texts)
+    (origin-wait-same a b agree traffic laws x y p.texts q.texts)
     (gap-same a b agree traffic laws x y p.texts q.texts)
     (report-same a b agree traffic laws x y p.texts q.texts)

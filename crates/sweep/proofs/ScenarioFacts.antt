@@ -13,22 +13,23 @@ use Rattle.dta_model.specs.declared.trip.Trip.{Trip}
 use Rattle.start_table.specs.declared.rows.StartRow.{StartRow}
 use Rattle.reports.specs.Texts.{agent_text, gap_text, link_time_text, report_text}
 use Rattle.dta_words.specs.declared.command.Settings.{Settings}
-use Rattle.assignment.specs.Assignment.{Traffic, plan_of, summary_of, times_of}
+use Rattle.assignment.specs.Assignment.{Traffic, plan_of, summary_of, times_of, waits_told}
 use Rattle.assignment.specs.Progress.{IsAssigned}
 use Rattle.assignment.specs.declared.iterations.Assigned.{Assigned}
 use Rattle.assignment.proofs.AssignmentFacts.{get-added}
 use Rattle.sweep.specs.Scales.{trips_at}
-use Rattle.sweep.specs.Scenarios.{HasTexts, IsScenario}
+use Rattle.sweep.specs.Scenarios.{HasTexts, IsScenario, wait_text}
 use Rattle.sweep.specs.declared.scenario.Scenario.{Scenario}
 
 -- the texts of an assignment
 pub has-texts : (s : Settings) (traffic : Traffic) (a : Assigned) (it : Scenario) → IsAssigned s traffic a
     → it.agent ≡ agent_text traffic.net traffic.trips a.routes (journeys_of (plan_of s traffic a.routes))
     → it.link_time ≡ link_time_text traffic.net (times_of s traffic a.routes)
+    → it.origin_wait ≡ wait_text traffic.net (waits_told s traffic a.routes)
     → it.gap ≡ gap_text a.lines.items
     → it.report ≡ report_text (summary_of s traffic a.routes a.line)
     → HasTexts s traffic it
-has-texts s traffic a it done agent link_time gap report =
+has-texts s traffic a it done agent link_time origin_wait gap report =
     let many = done.as_many in
     let gaps = done.with_gaps in
     let lines = done.lines_are in record {
@@ -43,6 +44,7 @@ has-texts s traffic a it done agent link_time gap report =
       last_line = rw lines (get-added done.before a.line (s.iterations - 1) (omega (arith, many, gaps)));
       agent = agent;
       link_time = link_time;
+      origin_wait = origin_wait;
       gap = gap;
       report = report;
     }

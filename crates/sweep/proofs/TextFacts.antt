@@ -52,11 +52,31 @@ put-cut o a b s0 s1 e f p = record {
 abbrev pub HasPut : Output → List ℕ → DeskState → DeskState → Type 0
 HasPut o text before after = Puts {T = Unit {0}} {E = Failed} o text before after (Ok tt)
 
--- the texts of a scenario, of which two were put at once
-pub tables-are : (it : Scenario) (a l g r : List ℕ) → a ≡ it.agent → l ≡ it.link_time → g ≡ it.gap → r ≡ it.report
-    → (a ++ l) ++ (g ++ r) ≡ tables_of it
+-- the texts of a scenario: two at once, one, and two at once
+tables-are : (it : Scenario) (a l w g r : List ℕ) → a ≡ it.agent → l ≡ it.link_time → w ≡ it.origin_wait → g ≡ it.gap → r ≡ it.report
+    → (a ++ l) ++ (w ++ (g ++ r)) ≡ tables_of it
 unfolding tables_of
-tables-are it a l g r e f h k = rw (e, f, h, k) (sym (append_assoc (it.agent ++ it.link_time) it.gap it.report))
+tables-are it a l w g r e f h k m =
+    let times = it.agent ++ it.link_time in
+    rw (e, f, h, k, m) (sym (append_assoc times it.origin_wait (it.gap ++ it.report)) ∙ sym (append_assoc (times ++ it.origin_wait) it.gap it.report))
+
+-- the first two were put, and the third was cut off
+pub cut-at-waits : {T U V E : Type 0} (it : Scenario) (a l w : List ℕ) (s0 s1 s2 : DeskState) (x : T) (e f : E) → a ≡ it.agent → l ≡ it.link_time → w ≡ it.origin_wait
+    → Puts {E = E} output.Sweep (a ++ l) s0 s1 (Ok x) → Puts {T = U} output.Sweep w s1 s2 (Err e)
+    → Puts {T = V} output.Sweep (tables_of it) s0 s2 (Err f)
+cut-at-waits {T} {U} {V} it a l w s0 s1 s2 x e f agent link_time origin_wait p q =
+    let rest = it.gap ++ it.report in
+    subst (λ (text : List ℕ). Puts {T = V} output.Sweep text s0 s2 (Err f)) (tables-are it a l w it.gap it.report agent link_time origin_wait refl refl)
+    (put-then output.Sweep (a ++ l) (w ++ rest) s0 s1 s2 x (Err f) p (put-cut output.Sweep w rest s1 s2 e f q))
+
+-- the first three were put, and then the last two
+pub tables-put : {T U V E : Type 0} (it : Scenario) (a l w g r : List ℕ) (s0 s1 s2 s3 : DeskState) (x : T) (y : U) (z : Result V E)
+    → a ≡ it.agent → l ≡ it.link_time → w ≡ it.origin_wait → g ≡ it.gap → r ≡ it.report
+    → Puts {E = E} output.Sweep (a ++ l) s0 s1 (Ok x) → Puts {E = E} output.Sweep w s1 s2 (Ok y) → Puts output.Sweep (g ++ r) s2 s3 z
+    → Puts output.Sweep (tables_of it) s0 s3 z
+tables-put it a l w g r s0 s1 s2 s3 x y z e f h k m p q last =
+    subst (λ (text : List ℕ). Puts output.Sweep text s0 s3 z) (tables-are it a l w g r e f h k m)
+    (put-then output.Sweep (a ++ l) (w ++ (g ++ r)) s0 s1 s3 x z p (put-then output.Sweep w (g ++ r) s1 s2 s3 y z q last))
 
 -- nothing was put
 pub put-none : (o : Output) (s : DeskState) → HasPut o [] s s

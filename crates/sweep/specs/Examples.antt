@@ -49,6 +49,7 @@ told scale text = record {
   scale = scale;
   agent = text;
   link_time = [];
+  origin_wait = codes "waits\n";
   gap = codes "gap\n";
   report = [];
 }
@@ -58,7 +59,7 @@ unfolding scenario_line digits
 one_line = refl
 
 two_scenarios : sweep_text (told 500 (codes "a\n") ∷ told 2000 (codes "b\n") ∷ [])
-    ≡ codes "scenario 0 scale 500\na\ngap\nscenario 1 scale 2000\nb\ngap\n"
+    ≡ codes "scenario 0 scale 500\na\nwaits\ngap\nscenario 1 scale 2000\nb\nwaits\ngap\n"
 unfolding sweep_text scenario_text scenario_line tables_of digits
 two_scenarios = refl
 

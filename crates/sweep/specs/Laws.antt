@@ -14,6 +14,7 @@ pub record Agree (a b : Settings) : Type 0 where
   pub iterations : a.iterations ≡ b.iterations
   pub bucket : a.bucket ≡ b.bucket
   pub queue : a.queue ≡ b.queue
+  pub costs : a.costs ≡ b.costs
 
 -- a scale of the demand over a network has one scenario
 abbrev pub ScenariosStandAlone : Type 0

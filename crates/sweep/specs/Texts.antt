@@ -13,7 +13,7 @@ scenario_line place scale =
 
 -- the texts of a scenario, one after the other
 unfoldable pub tables_of : Scenario → List ℕ
-tables_of it = it.agent ++ it.link_time ++ it.gap ++ it.report
+tables_of it = it.agent ++ it.link_time ++ it.origin_wait ++ it.gap ++ it.report
 
 -- a scenario: its line, and then its texts
 unfoldable pub scenario_text : ℕ → Scenario → List ℕ

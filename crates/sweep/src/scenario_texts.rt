@@ -3,16 +3,17 @@ ghost use Rattle.std.specs.Prelude.{◌≡◌, IfOk, Ok, Some};
 ghost use Rattle.desk_io.specs.Desk.{nothing_taken, taken_of};
 ghost use Rattle.dta_model.specs.Loading.{journeys_of};
 ghost use Rattle.reports.specs.Texts.{agent_text, gap_text, link_time_text, report_text};
-ghost use Rattle.assignment.specs.Assignment.{summary_of as summary_of_routes, times_of};
+ghost use Rattle.assignment.specs.Assignment.{summary_of as summary_of_routes};
+ghost use Rattle.assignment.specs.Assignment.{times_of, waits_told};
 ghost use Rattle.assignment.specs.Lent.{IsAssignment, plan_in, settings_in, traffic_in};
 ghost use Rattle.assignment.specs.Progress.{IsAssigned};
-ghost use Rattle.sweep.specs.Scenarios.{HasTexts};
+ghost use Rattle.sweep.specs.Scenarios.{HasTexts, wait_text};
 
 use crate::scenario::Scenario;
 use assignment::{Assigned, Assignment, summary_of};
 use desk_io::{Failed, MemDesk, Output, Text};
 use net_core::Memory;
-use reports::{put_agents, put_gaps, put_link_times, put_summary};
+use reports::{put_agents, put_gaps, put_link_times, put_origin_waits, put_summary};
 use std::alloc::{AllocError, Global};
 
 // A desk that has taken nothing.
@@ -69,8 +70,26 @@ fn link_time(alloc: Global, assignment: &Assignment, assigned: &Assigned) -> Res
         IfOk result (λ text. text ≡ link_time_text traffic.net times) }
 {
     let mut desk = empty_desk(alloc);
-    let put = put_link_times(&mut desk, assignment.net, &assigned.times);
+    let put = put_link_times(&mut desk, assignment.net, assigned.costs.times());
     taken_by(alloc, put, desk, Output::LinkTime)
+}
+
+// The text of the waits at origins, which is empty where none are told.
+fn origin_wait(alloc: Global, assignment: &Assignment, assigned: &Assigned) -> Result<Text, Memory>
+    requires assigned { IsAssigned (settings_in assignment.now) (traffic_in assignment.now)
+        assigned.now }
+    ensures { let traffic = traffic_in assignment.now in
+        let waits = waits_told (settings_in assignment.now) traffic assigned.now.routes in
+        IfOk result (λ text. text ≡ wait_text traffic.net waits) }
+{
+    match &assigned.waits {
+        None => Ok(Text::of(Vec::new(alloc))),
+        Some(waits) => {
+            let mut desk = empty_desk(alloc);
+            let put = put_origin_waits(&mut desk, assignment.net, waits);
+            taken_by(alloc, put, desk, Output::OriginWait)
+        }
+    }
 }
 
 // The text of the gaps.
@@ -114,6 +133,7 @@ pub(crate) fn scenario_of(
         scale,
         agent: agent(alloc, assignment, assigned)?,
         link_time: link_time(alloc, assignment, assigned)?,
+        origin_wait: origin_wait(alloc, assignment, assigned)?,
         gap: gap(alloc, assigned)?,
         report: report(alloc, assignment, assigned)?,
     })

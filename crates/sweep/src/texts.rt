@@ -38,6 +38,7 @@ fn put_tables<D: Desk>(desk: &mut D, it: &Scenario) -> Result<(), Failed>
     ensures { Puts output.Sweep (tables_of it.now) (D.state desk.old) (D.state desk.new) result }
 {
     put_both(desk, it.agent.as_slice(), it.link_time.as_slice())?;
+    put_all(desk, Output::Sweep, it.origin_wait.as_slice())?;
     put_both(desk, it.gap.as_slice(), it.report.as_slice())
 }
 

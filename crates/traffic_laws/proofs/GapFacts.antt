@@ -6,11 +6,11 @@ use Rattle.std.proofs.lemmas.Bool.{cases_lt}
 use Rattle.std.proofs.lemmas.Option.{slice_get-get_or, slice_get_within}
 use Rattle.net_core.specs.declared.rows.LinkNo.{LinkNo}
 use Rattle.net_core.specs.declared.rows.NetRows.{NetRows}
-use Rattle.dta_model.specs.LinkTimes.{table_of, time_at}
 use Rattle.dta_model.specs.Plans.{link_numbers}
 use Rattle.dta_model.specs.declared.trip.Trip.{Trip}
 use Rattle.dta_model.proofs.Steady.{some_trip}
-use Rattle.trip_costs.specs.Timings.{Links, Timing}
+use Rattle.trip_costs.specs.LoadingCosts.{costs_by}
+use Rattle.trip_costs.specs.Timings.{Timing}
 use Rattle.trip_costs.proofs.Timed.{none_less_by, some_walk_by}
 use Rattle.gap.specs.Gap.{AreLeasts, over_vehicles, route_time}
 use Rattle.gap.proofs.Sums.{over-le, over-more, route_time-is}
@@ -139,7 +139,7 @@ gaps_are_of_their_loadings s traffic all lines settings are it i routes line at 
     record {
       not_negative = (let sums = gap.above in omega (arith, sums));
       no_gap = no_gap_is_equilibrium
-          (Links (time_at (table_of (loading_over s traffic routes) s.bucket)))
+          (costs_by s.costs (loading_over s traffic routes) s.bucket)
           traffic.net traffic.trips routes line
           (record { each = sound.each; walks = sound.walks }) gap;
     }

@@ -2,7 +2,6 @@
 use Rattle.std.specs.Prelude.{◌≡◌, ◌≤◌, ◌↔◌, ℕ, List, length, Option, Some, slice_get}
 use Rattle.net_core.specs.declared.rows.LinkNo.{LinkNo}
 use Rattle.net_core.specs.declared.rows.NetRows.{NetRows}
-use Rattle.dta_model.specs.LinkTimes.{table_of, time_at}
 use Rattle.dta_model.specs.Plans.{link_numbers}
 use Rattle.dta_model.specs.Sound.{AreWalks}
 use Rattle.dta_model.specs.Walks.{IsWalk}
@@ -10,7 +9,8 @@ use Rattle.dta_model.specs.declared.plan.Plan.{Plan}
 use Rattle.dta_model.specs.declared.trip.Trip.{Trip}
 use Rattle.dta_words.specs.Ranges.{AreSettings}
 use Rattle.dta_words.specs.declared.command.Settings.{Settings}
-use Rattle.trip_costs.specs.Timings.{Links, Timing, walk_time_by}
+use Rattle.trip_costs.specs.LoadingCosts.{costs_by}
+use Rattle.trip_costs.specs.Timings.{Timing, walk_time_by}
 use Rattle.assignment.specs.Assignment.{AreIterations, Traffic, VehicleRoutes}
 use Rattle.assignment.specs.Traffic.{IsTraffic}
 use Rattle.gap.specs.Gap.{AreLeasts, IsGapLine, over_vehicles, route_time}
@@ -64,14 +64,14 @@ loading_over s traffic routes = record {
   routes = routes;
 }
 
--- a gap of an iteration, in the link times that the loading over its own routes gave: the least
--- steps are no more than those of the routes, and there is no gap exactly where no vehicle that
--- has a route would take less time on another one
+-- a gap of an iteration, by the costs of the loading over its own routes: its link times, or whole
+-- trips. The least steps are no more than those of the routes, and there is no gap exactly where
+-- no vehicle that has a route would take less time on another one
 pub record IsGapOfItsLoading (s : Settings) (traffic : Traffic) (routes : VehicleRoutes)
     (line : GapLine) : Type 0 where
   pub not_negative : line.least_steps ≤ line.route_steps
   pub no_gap : (line.gap_steps ≡ 0)
-      ↔ IsUserEquilibrium (Links (time_at (table_of (loading_over s traffic routes) s.bucket)))
+      ↔ IsUserEquilibrium (costs_by s.costs (loading_over s traffic routes) s.bucket)
       traffic.net traffic.trips routes
 
 -- so is each gap that an assignment tells of its iterations

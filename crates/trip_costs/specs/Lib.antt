@@ -10,6 +10,7 @@ pub mod Entries
 pub mod Costs
 pub mod Timings
 pub mod WalkCosts
+pub mod LoadingCosts
 pub mod Changes
 pub mod Laws
 pub mod Examples

@@ -9,7 +9,8 @@
 //! [`OriginWaits::of`] goes once over the journeys of a loading, and adds each wait to its first
 //! link and bucket. [`Entries`] tells when a first link is entered, and [`Exits`] when a link is
 //! left, each by one number of 32 bits for each link and bucket, beside the link times.
-//! [`TripCosts`] has both. No command makes them yet.
+//! [`TripCosts`] has both. Which costs a run goes by is one word, [`Costs`], and [`LoadingCosts`] are
+//! those of a loading.
 //!
 //! [`WalkCosts`] is what labels, routes and gaps are asked for by: link times, or costs of trips.
 //! [`WalkCosts::time_of`] times a walk by either (specs/Timings.antt).
@@ -21,6 +22,7 @@ mod costs;
 mod entries;
 mod exits;
 mod laws;
+mod loading_costs;
 mod origin_waits;
 mod places;
 mod walk_costs;
@@ -35,5 +37,6 @@ pub use laws::{
     free_flow_past_the_horizon, later_never_arrives_earlier, links_are_the_table,
     no_chosen_trip_has_a_link_twice, times_agree_where_nothing_falls,
 };
+pub use loading_costs::{Costs, LoadingCosts};
 pub use origin_waits::OriginWaits;
 pub use walk_costs::WalkCosts;

@@ -1,9 +1,12 @@
 // By what walks are timed.
 ghost use Rattle.std.specs.Prelude.{◌≡◌, ◌<◌, ◌≤◌, ◌^◌, max, true, length};
 ghost use Rattle.dta_model.specs.LinkTimes.{bucket_count};
+ghost use Rattle.trip_costs.specs.LoadingCosts.{kind_of};
 ghost use Rattle.trip_costs.specs.WalkCosts.{AreTimed, IsLevel, enter_in, steps_in, table_in};
+ghost use Rattle.trip_costs.specs.WalkCosts.{timing};
 
 use crate::costs::TripCosts;
+use crate::loading_costs::Costs;
 use link_times::LinkTimes;
 use net_core::LinkNo;
 
@@ -16,6 +19,16 @@ pub enum WalkCosts<'a> {
 }
 
 impl<'a> WalkCosts<'a> {
+    /// Of which kind they are.
+    pub fn kind(&self) -> Costs
+        ensures { result ≡ kind_of (timing self.now) }
+    {
+        match self {
+            WalkCosts::Links(_) => Costs::Links,
+            WalkCosts::Trips(_) => Costs::Trips,
+        }
+    }
+
     /// The table of link times.
     pub fn times(&self) -> &LinkTimes
         ensures { result.now ≡ table_in self.now }

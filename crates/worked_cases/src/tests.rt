@@ -6,5 +6,4 @@ mod machines;
 mod puts;
 mod routes;
 mod tables;
-mod whole_trips;
 mod zone_labels;

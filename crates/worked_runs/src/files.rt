@@ -21,9 +21,10 @@ const TABLES: [&str; 6] = [
 ];
 
 // The file of each output, with that of what is wanted of it.
-const OUTPUTS: [(&str, &str); 6] = [
+const OUTPUTS: [(&str, &str); 7] = [
     ("agent.csv", "expected/agent.csv"),
     ("link_performance.csv", "expected/link_performance.csv"),
+    ("origin_wait.csv", "expected/origin_wait.csv"),
     ("gap.csv", "expected/gap.csv"),
     ("skim.csv", "expected/skim.csv"),
     ("counts.csv", "expected/counts.csv"),

@@ -6,10 +6,11 @@ use desk_io::{MemDesk, Output};
 use std::rt::Files;
 
 // The outputs whose bytes the words and tables determine, with the files of what is wanted.
-const DETERMINED: [(Output, &str); 7] = [
+const DETERMINED: [(Output, &str); 8] = [
     (Output::Report, "expected/report"),
     (Output::Agent, "expected/agent.csv"),
     (Output::LinkTime, "expected/link_performance.csv"),
+    (Output::OriginWait, "expected/origin_wait.csv"),
     (Output::Gap, "expected/gap.csv"),
     (Output::Skim, "expected/skim.csv"),
     (Output::Counts, "expected/counts.csv"),

@@ -41,6 +41,12 @@ const GAPS: &[u8] = b"iteration,route_steps,least_steps,gap_steps,gap_ppm\n1,60,
 const SUMMARY: &[u8] = b"nodes 3\nlinks 2\nvehicles 3\nunrouted 0\niterations 1\narrived 3\n\
 running 0\nwaiting 0\nroute_steps 60\nleast_steps 60\ngap_steps 0\ngap_ppm 0\n";
 
+// The words of the same run by trips, and its origin waits. What else it puts stays, since nobody
+// waits and no link time falls.
+const TRIPS: &str = "assign --period 30 --horizon 60 --costs trips";
+
+const WAITS: &[u8] = b"link_id,from_step,to_step,departed,wait_steps\n10,0,50,3,0\n";
+
 // A desk with these tables of nodes, links and demand.
 fn desk_of(alloc: Global, node: &[u8], link: &[u8], demand: &[u8]) -> Result<MemDesk, Fail> {
     let node = Vec::from_slice(alloc, node)?;

@@ -1,5 +1,8 @@
 // Reads and puts that fail.
-use crate::tests::{AGENTS, ASSIGN, GAPS, LINK_TIMES, SUMMARY, has_taken_all, run_over, two_links};
+use crate::tests::{
+    AGENTS, ASSIGN, GAPS, LINK_TIMES, SUMMARY, TRIPS, WAITS, has_taken, has_taken_all, run_over,
+    two_links,
+};
 use desk_io::{MemDesk, Output};
 use dta_run::Status;
 use std::sync::Wait;
@@ -61,37 +64,59 @@ fn is_begun(desk: &MemDesk, output: Output, text: &[u8], next: Output) -> bool {
     text.starts_with(taken) && (taken == text || desk.taken(next).is_empty())
 }
 
-// Whether a run told of a put that failed, and the outputs are begun in their order.
-fn tells_of_a_put(desk: &MemDesk) -> bool {
+// Whether a run told of a put that failed, and the outputs are begun in their order, with these
+// origin waits.
+fn tells_of_a_put(desk: &MemDesk, waits: &[u8]) -> bool {
     desk.read_faults() == 0
         && desk.put_faults() == 1
         && is_begun(desk, Output::Agent, AGENTS, Output::LinkTime)
+        && is_begun(desk, Output::LinkTime, LINK_TIMES, Output::OriginWait)
         && is_begun(desk, Output::LinkTime, LINK_TIMES, Output::Gap)
+        && is_begun(desk, Output::OriginWait, waits, Output::Gap)
         && is_begun(desk, Output::Gap, GAPS, Output::Report)
         && is_begun(desk, Output::Report, SUMMARY, Output::Watch)
 }
 
 // Whether no put fails where the call of this number is to fail. Otherwise the run has to end so,
 // with no more bytes in Agent than the puts before it can have moved.
-fn puts_less_than<R: AllocGlobal + Threads + Wait + Sync>(rt: &R, call: u64) -> Result<bool, Fail> {
+fn puts_less_than<R: AllocGlobal + Threads + Wait + Sync>(
+    rt: &R,
+    line: &str,
+    waits: &[u8],
+    call: u64,
+) -> Result<bool, Fail> {
     let mut desk = slow_desk(rt)?;
     desk.fail_put(call)?;
-    let status = run_over(rt, ASSIGN, &mut desk)?;
+    let status = run_over(rt, line, &mut desk)?;
     let agents = desk.taken(Output::Agent).len() as u64;
     match status {
-        Status::Done if has_taken_all(&desk) => Ok(true),
-        Status::WriteFault if tells_of_a_put(&desk) && agents / 16 < call => Ok(false),
+        Status::Done if has_taken_all(&desk) && has_taken(&desk, Output::OriginWait, waits) => {
+            Ok(true)
+        }
+        Status::WriteFault if tells_of_a_put(&desk, waits) && agents / 16 < call => Ok(false),
         _ => Err(Fail::new("a put that fails")),
     }
 }
 
-#[test]
-fn failing_puts(rt: HostRuntime) -> Result<(), Fail> {
+// How many puts a run has, of which each was made to fail.
+fn count_of_puts<R: AllocGlobal + Threads + Wait + Sync>(
+    rt: &R,
+    line: &str,
+    waits: &[u8],
+) -> Result<u64, Fail> {
     for call in 1..1000 {
-        if puts_less_than(&rt, call)? {
-            assert!(rt; call > 4);
-            return Ok(());
+        if puts_less_than(rt, line, waits, call)? {
+            return Ok(call - 1);
         }
     }
     Err(Fail::new("no run was without a fault"))
+}
+
+#[test]
+fn failing_puts(rt: HostRuntime) -> Result<(), Fail> {
+    let by_links = count_of_puts(&rt, ASSIGN, b"")?;
+    assert!(rt; by_links >= 4);
+    // The origin waits go in four puts of at most 16 bytes.
+    assert!(rt; count_of_puts(&rt, TRIPS, WAITS)? == by_links.saturating_add(4));
+    Ok(())
 }

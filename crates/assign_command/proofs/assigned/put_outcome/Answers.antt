@@ -1,6 +1,5 @@
 use Rattle.std.proofs.Common.{◌≡◌, ◌∙◌, arith, refl, subst}
 use Rattle.std.specs.Prelude.{Result}
-use Rattle.desk_io.specs.State.{DeskState}
 use Rattle.assignment.specs.Lent.{settings_in, traffic_in}
 use Rattle.commands.specs.declared.iterated.Iterated.{Iterated}
 use Rattle.commands.specs.declared.status.Status.TheVariants as status

@@ -1,6 +1,7 @@
-use Rattle.std.proofs.Common.{rules, ap, length, refl, sym, ◌∙◌}
+use Rattle.std.proofs.Common.{rules, ap, length, refl, subst, sym, ◌∙◌}
 use Rattle.dta_model.specs.Sound.{AreWalks}
-use Rattle.trip_costs.specs.WalkCosts.{timing}
+use Rattle.link_times.specs.TimeTables.{IsShort}
+use Rattle.trip_costs.specs.WalkCosts.{table_in, timing}
 use Rattle.gap.specs.Gap.{IsGapLine}
 use Rattle.route_flows.specs.Averages.{AreNextRoutes}
 use Rattle.assignment.specs.Lent.{settings_in, traffic_in}
@@ -10,8 +11,8 @@ use Rattle.assignment.proofs.iterations.advance.Goals as goal
 pub timed-timed-requires : goal.timed-timed-requires
 timed-timed-requires g c =
     let a = c.args.assignment.now in
-    let table = table-links (settings_in a) (traffic_in a) c.args.it.now.routes c.in_ok-times.times c.in_ok-times.ensures.times in
-    record { are = record { table = table; short = c.in_ok-times.ensures.short; few = c.requires.is.traffic.trips.in_order.few } }
+    let table = table-links (settings_in a) (traffic_in a) c.args.it.now.routes (table_in c.lent.result) (c.lent.ensures.times ∙ c.in_ok-costs.ensures.times) in
+    record { are = record { table = table; short = subst IsShort (sym c.lent.ensures.times) c.in_ok-costs.ensures.short; few = c.requires.is.traffic.trips.in_order.few } }
 
 pub gap_and_next_routes-requires-clause-routes : goal.gap_and_next_routes-requires-clause-routes
 gap_and_next_routes-requires-clause-routes g c κs within =
@@ -34,8 +35,8 @@ returns g c =
     let line = c.in_ok-line.line in
     let next = c.in_ok-line.next in
     let costs = ap timing timed.ensures.costs in
-    has-next (settings_in a) (traffic_in a) c.args.number r old next c.args.it.now.lines.items c.push.new.self.items line c.in_ok-times.times
-    (search rules) c.in_ok-times.ensures.times c.in_ok-push.ensures.items
+    has-next (settings_in a) (traffic_in a) c.args.number r old next c.args.it.now.lines.items c.push.new.self.items line (timing c.lent.result)
+    (search rules) (c.lent.ensures.costs ∙ c.in_ok-costs.ensures.costs) c.in_ok-push.ensures.items
     (over-timed (λ t n ts. IsGapLine t n ts old line) costs timed.ensures.net timed.ensures.trips c.in_ok-line.ensures.gap)
     (over-timed (λ t n ts. AreNextRoutes t n ts c.args.number old next) costs timed.ensures.net timed.ensures.trips c.in_ok-line.ensures.next)
     (over-timed (λ t n ts. AreWalks n ts next) costs timed.ensures.net timed.ensures.trips c.in_ok-line.ensures.walks)

@@ -20,8 +20,8 @@ loop-v-preserved c =
     let here : slice_get trips v ≡ Some trip = slice_get-get_or trips v no_trip c.loop-v-test.true in
     let there : slice_get c.in_ok-walks.walks.items v ≡ Some c.index.result.now =
     slice_get_read c.in_ok-walks.walks.items (length trips) v c.index.result.now (sym c.in_ok-walks.ensures.as_many) c.loop-v-test.true c.index.ensures in
-    subst (λ l. Begun (IsSince net start c.args.iterations) trips (v + 1) l) (sym c.in_ok-push.ensures.items)
-    (begun_more (IsSince net start c.args.iterations) trips v c.loop-v.numbers.items trip c.since.result here
-    (numbered_since net start c.args.iterations v trip c.index.result.now c.since.result
+    subst (λ l. Begun (IsSince c.args.by net start c.args.iterations) trips (v + 1) l) (sym c.in_ok-push.ensures.items)
+    (begun_more (IsSince c.args.by net start c.args.iterations) trips v c.loop-v.numbers.items trip c.since.result here
+    (numbered_since c.args.by net start c.args.iterations v trip c.index.result.now c.since.result
     (c.in_ok-walks.ensures.each v c.index.result.now there trip refl here) c.since.ensures)
     c.loop-v.invariant)
