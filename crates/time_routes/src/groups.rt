@@ -7,6 +7,7 @@ ghost use Rattle.labels.specs.declared.reading.group_labels.TheConstants.{MOST_G
 
 use crate::answers::Answer;
 use crate::search::Search;
+use crate::table_pool::TablePool;
 use labels::{MOST_GROUP, Spare};
 use net_core::{Memory, ZoneNo};
 use std::alloc::Global;
@@ -136,13 +137,15 @@ impl<'a> Groups<'a> {
         }
         Ok(found)
     }
+
     /// What is answered of a group: what was found of it or, where no share took it, its answers
-    /// anew. Some share takes each group, and this way that needs no proof.
+    /// anew, which the pool counts. Some share takes each group, and this way that needs no proof.
     pub(crate) fn answers_of_group(
         &self,
         alloc: Global,
         found: &mut Vec<Option<GroupAnswers>>,
         group: usize,
+        pool: &TablePool,
     ) -> Result<Vec<Answer>, Memory>
         requires inside { group * MOST_GROUP < length self.now.zones.now }
         requires found { All (IsFound self.now) found.old.items }
@@ -157,6 +160,7 @@ impl<'a> Groups<'a> {
                 return Ok(of_group.answers);
             }
         }
+        pool.left.fetch_add(1, Ordering::SeqCst);
         let spare = Spare::none(alloc);
         let (answers, _) = self.search.answers_to(alloc, self.group(group), spare)?;
         Ok(answers)

@@ -6,15 +6,18 @@ use labels::Spare;
 use std::alloc::Global;
 use std::mem;
 use std::sync::Mutex;
+use std::sync::atomic::{AtomicUsize, Ordering};
 
 /// So many workers with a pool of the memory of label tables: that of the tables which were filled
 /// last, one for each of at most four shares. [`tell_by_shares`](crate::tell_by_shares) fills its
-/// tables there where they are as large. What is told doesn't depend on it.
+/// tables there where they are as large. What is told doesn't depend on it. It counts the groups of
+/// destinations that no share took.
 #[derive(Drop)]
 pub struct TablePool {
     alloc: Global,
     workers: u32,
     places: [Mutex<Spare>; MOST_SHARES as usize],
+    pub(crate) left: AtomicUsize,
     ghost some: { 1 ≤ workers },
 }
 
@@ -32,6 +35,7 @@ impl TablePool {
                 Mutex::new(Spare::none(alloc)),
                 Mutex::new(Spare::none(alloc)),
             ],
+            left: AtomicUsize::new(0),
         }
     }
 
@@ -40,6 +44,12 @@ impl TablePool {
         ensures { 1 ≤ result }
     {
         self.workers
+    }
+
+    /// How many groups of destinations no share took, in all searches so far. They were searched
+    /// after the shares, one after another.
+    pub fn left_groups(&self) -> usize {
+        self.left.load(Ordering::SeqCst)
     }
 
     /// Puts memory in the place of a share, and takes what was there. Where there is no such place

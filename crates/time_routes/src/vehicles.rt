@@ -83,7 +83,7 @@ fn tell_shares<R: AllocGlobal + Threads + Sync>(
     let worked = thread::map_indices(rt, alloc, shares.min(count), &work)?;
     let mut found = groups.found_in(alloc, count, worked)?;
     for group in 0..count {
-        let answers = groups.answers_of_group(alloc, &mut found, group)?;
+        let answers = groups.answers_of_group(alloc, &mut found, group, pool)?;
         put_answers(groups.search, answers, told);
     }
     Ok(())

@@ -5,5 +5,6 @@ mod floors;
 mod machines;
 mod puts;
 mod routes;
+mod shares;
 mod tables;
 mod zone_labels;

@@ -5,7 +5,7 @@ use gmns_tables::read_net;
 use grid_maker::{MOST_SIDE, Texts, grid};
 use std::alloc::Global;
 
-const UNITS: Units = Units {
+pub(super) const UNITS: Units = Units {
     delta: 6,
     jam: 125,
     length: LengthUnit::Metre,

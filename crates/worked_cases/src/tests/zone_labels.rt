@@ -10,7 +10,7 @@ use std::test::Fail;
 use trip_costs::WalkCosts;
 
 // The free-flow times of a network.
-fn free(alloc: Global, net: &Net) -> Result<LinkTimes, Memory>
+pub(super) fn free(alloc: Global, net: &Net) -> Result<LinkTimes, Memory>
     ensures { IfOk result (λ times. length times.free ≡ length net.now.links) }
 {
     let times = LinkTimes::free(alloc, net, 50, 100)?;
