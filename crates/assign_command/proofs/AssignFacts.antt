@@ -22,7 +22,7 @@ get-seam [] y = refl
 get-seam (x ∷ xs) y = get-seam xs y
 
 -- the work of a command that assigns
-pub assigned-work : (c : Command) → Assigns c → work_of c ≡ assignment_work
+assigned-work : (c : Command) → Assigns c → work_of c ≡ assignment_work
 assigned-work c assigns = ap work_by assigns
 
 module _ (c : Command) (s : Settings) (job : JobRows) (texts : List OutText) (loads : Assigns c) where

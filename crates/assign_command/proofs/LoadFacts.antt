@@ -11,10 +11,9 @@ use Rattle.loader.specs.Loads.{Loads}
 use Rattle.loader.specs.declared.loading.LoadFault.{LoadFault}
 use Rattle.loader.specs.declared.loading.LoadFault.TheVariants as fault
 use Rattle.assignment.specs.Assignment.{Traffic, VehicleRoutes, plan_of}
-use Rattle.commands.specs.Works.{by_workers}
 use Rattle.assign_command.specs.Calls.{OnlyWatches}
 use Rattle.assign_command.specs.Progress.{HaltsIn, IsWatched, halt_of}
-use Rattle.assign_command.specs.Receipts.{Gives, numbers_in}
+use Rattle.assign_command.specs.Receipts.{Gives, by_workers, numbers_in}
 use Rattle.assign_command.specs.declared.halt.Halt.{Halt}
 use Rattle.assign_command.proofs.ReceiptFacts.{numbers-are}
 use Rattle.assign_command.proofs.WatchFacts.{cut-by-workers, watched-by-workers}

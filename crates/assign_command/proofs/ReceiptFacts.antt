@@ -6,13 +6,11 @@ use Rattle.dta_words.specs.declared.command.Command.{Command}
 use Rattle.dta_words.specs.declared.command.Settings.{Settings}
 use Rattle.loader.specs.Gates.{GateState, Numbers, numbers_by, taking}
 use Rattle.assignment.specs.Assignment.{Traffic, VehicleRoutes, plan_of}
-use Rattle.jobs.specs.Inputs.{Assigns}
+use Rattle.jobs.specs.Inputs.{Assigns, Kind}
 use Rattle.jobs.specs.Jobs.{JobRows, traffic_of}
-use Rattle.assign_command.specs.Receipts.{Gives, TookAtMost, WorkGives, numbers_in, receipts_in, taking_all}
-use Rattle.commands.specs.Works.{CommandWork, by_workers}
+use Rattle.assign_command.specs.Receipts.{Gives, TookAtMost, WorkGives, by_workers, numbers_in, receipts_by, receipts_in, taking_all}
 use Rattle.commands.specs.declared.status.Status.{Status}
 use Rattle.commands.specs.declared.status.Status.TheVariants as status
-use Rattle.assign_command.proofs.AssignFacts.{assigned-work}
 
 -- the numbers of a loading are those of its traffic
 pub numbers-are : (s : Settings) (traffic : Traffic) (routes : VehicleRoutes)
@@ -87,7 +85,7 @@ module _ (plain : Bool) (numbers : Numbers) (gate : GateState) where
 
 -- a command that assigns gives one for each iteration
 receipts-are : (c : Command) (s : Settings) → Assigns c → by_workers s.plain s.iterations ≡ receipts_in c s
-receipts-are c s loads = ap (λ (w : CommandWork). w.loaded_by_workers s) (sym (assigned-work c loads))
+receipts-are c s loads = ap (λ (k : Kind). receipts_by k s) (sym loads)
 
 -- work that gave all receipts, at most as many, or none
 module _ (s : Settings) (job : JobRows) (gate now : GateState) where

@@ -1,8 +1,7 @@
 -- Worked cases of the definitions, computed.
 use Rattle.std.specs.Prelude.{◌≡◌, refl, false, true, Some}
 use Rattle.loader.specs.Gates.{GateState, Numbers}
-use Rattle.assign_command.specs.Receipts.{taking_all}
-use Rattle.commands.specs.Works.{by_workers}
+use Rattle.assign_command.specs.Receipts.{by_workers, taking_all}
 
 -- two iterations by four workers, over three nodes and 60 steps, with four vehicles: the gate took
 -- two receipts, and tells the numbers of the last one

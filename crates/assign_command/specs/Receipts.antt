@@ -1,5 +1,6 @@
 -- The receipts that the loadings of a run give its gate.
-use Rattle.std.specs.Prelude.{ℕ, ◌≡◌, ◌≤◌, ◌*◌, suc, zero, length, List, None, Result, OnOk, OnErr}
+use Rattle.std.specs.Prelude.{ℕ, ◌≡◌, ◌≤◌, ◌*◌, suc, zero, Bool, true, false, length, List, None}
+use Rattle.std.specs.Prelude.{Result, OnOk, OnErr}
 use Rattle.dta_model.specs.Units.{step_units}
 use Rattle.dta_model.specs.declared.loaded.Journey.{Journey}
 use Rattle.dta_words.specs.declared.command.Command.{Command}
@@ -8,8 +9,8 @@ use Rattle.loader.specs.Gates.{GateState, Numbers, taking}
 use Rattle.assignment.specs.Assignment.{Traffic}
 use Rattle.assignment.specs.Lent.{settings_in, traffic_in}
 use Rattle.assignment.specs.declared.lent.Assignment.{Assignment}
+use Rattle.jobs.specs.Inputs.{Assigning, Kind, kind_of}
 use Rattle.jobs.specs.Jobs.{JobRows, traffic_of}
-use Rattle.commands.specs.Works.{by_workers, work_of}
 use Rattle.commands.specs.declared.status.Status.{Status}
 use Rattle.commands.specs.declared.status.Status.TheVariants as status
 use Rattle.assign_command.specs.declared.halt.Halt.{Halt}
@@ -23,9 +24,18 @@ numbers_in s traffic = record {
   vehicles = length traffic.trips;
 }
 
+-- how many of so many loadings are by workers: all, and none where the loader is plain
+abbrev pub by_workers : (plain : Bool) → ℕ → ℕ
+by_workers true loadings = 0
+by_workers false loadings = loadings
+
 -- how many the whole work of a command gives: one for each loading by workers
+abbrev pub receipts_by : Kind → Settings → ℕ
+receipts_by Assigning s = by_workers s.plain s.iterations
+receipts_by _ s = 0
+
 abbrev pub receipts_in : Command → Settings → ℕ
-receipts_in c s = (work_of c).loaded_by_workers s
+receipts_in c s = receipts_by (kind_of c) s
 
 -- the gate took so many receipts with these numbers, one after another
 abbrev pub taking_all : ℕ → Numbers → GateState → GateState

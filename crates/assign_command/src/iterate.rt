@@ -7,8 +7,7 @@ ghost use Rattle.assignment.specs.Traffic.{AreRoutesOf};
 ghost use Rattle.assign_command.specs.Calls.{LoadsIteration, OnlyWatches};
 ghost use Rattle.commands.specs.Outputs.{AreSinceTold};
 ghost use Rattle.assign_command.specs.Progress.{Halts, IsAssigned, IsMeasured};
-ghost use Rattle.assign_command.specs.Receipts.{Gives, GivesOne, numbers_in};
-ghost use Rattle.commands.specs.Works.{by_workers};
+ghost use Rattle.assign_command.specs.Receipts.{Gives, GivesOne, by_workers, numbers_in};
 ghost use Rattle.assign_command.specs.declared.halt.Halt.TheVariants as halt;
 
 use crate::halt::Halt;

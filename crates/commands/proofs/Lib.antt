@@ -1,5 +1,4 @@
 pub mod OutputFacts
 pub mod WorkFacts
-pub mod SoundFacts
 pub mod Determined
 pub mod AnyOrder

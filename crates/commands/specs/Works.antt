@@ -1,14 +1,10 @@
--- What the work over an accepted job put, by the status with which it ended, and that its loadings
--- are sound.
-use Rattle.std.specs.Prelude.{ℕ, ◌≡◌, ◌⊎◌, ⊤, Bool, true, false, List, [], Some, slice_get}
-use Rattle.audit.specs.Audit.{loading_of}
-use Rattle.sweep.specs.Scenarios.{traffic_at}
+-- What the work over an accepted job put, by the status with which it ended.
+use Rattle.std.specs.Prelude.{◌≡◌, ◌⊎◌, ⊤, List, []}
 use Rattle.dta_words.specs.declared.command.Command.{Command}
-use Rattle.assignment.specs.Iterations.{AreSoundIterations, IsSoundLoading}
 use Rattle.jobs.specs.Inputs.{Assigning, Auditing, FreeFlow, Kind, Skimming, Sweeping, kind_of}
 use Rattle.jobs.specs.Jobs.{JobRows, traffic_of}
 use Rattle.commands.specs.Outputs.{AreAssigned, AreAudited, AreSkimmed, AreSwept, AreWatched}
-use Rattle.commands.specs.Outputs.{IsAudited, IsCutOff, OutText, audit_plan, free_texts, grown_by}
+use Rattle.commands.specs.Outputs.{IsAudited, IsCutOff, OutText, free_texts, grown_by}
 use Rattle.desk_io.specs.declared.desk.Output.TheVariants as output
 use Rattle.desk_io.specs.Desk.{Taken}
 use Rattle.desk_io.specs.Faults.{Rose}
@@ -21,61 +17,36 @@ use Rattle.dta_words.specs.declared.command.Settings.{Settings}
 use Rattle.commands.specs.declared.status.Status.{Status}
 use Rattle.commands.specs.declared.status.Status.TheVariants as status
 
--- how many of so many loadings are by workers: all, and none where the loader is plain
-abbrev pub by_workers : (plain : Bool) → ℕ → ℕ
-by_workers true loadings = 0
-by_workers false loadings = loadings
-
 -- what a command puts over a job: the texts of its whole work, those of its work as far as it came,
--- and those before its outputs; that each loading of it is sound; and how many are by workers
+-- and those before its outputs
 pub record CommandWork : Type 1 where
   pub texts : Settings → JobRows → List OutText → Type 0
   pub so_far : Settings → JobRows → List OutText → Type 0
   pub watched : Settings → JobRows → List OutText → Type 0
-  pub sound : Settings → JobRows → Type 0
-  pub loaded_by_workers : Settings → ℕ
 
--- an assignment, which puts watch lines before its outputs. Each of its iterations is sound, whose
--- routes and gaps the texts are of (`AreAssigned`)
+-- an assignment, which puts watch lines before its outputs
 abbrev pub assignment_work : CommandWork
 assignment_work = record {
   texts = λ s job texts. AreAssigned s (traffic_of job) texts;
   so_far = λ s job texts.
       AreAssigned s (traffic_of job) texts ⊎ AreWatched s (traffic_of job) texts;
   watched = λ s job texts. AreWatched s (traffic_of job) texts;
-  sound = λ s job. AreSoundIterations s (traffic_of job);
-  loaded_by_workers = λ s. by_workers s.plain s.iterations;
 }
 
--- a command that puts nothing before its outputs, and loads nothing or plainly; of the loadings of
--- `sweep` and `audit` more is said below
+-- a command that puts nothing before its outputs
 abbrev pub unwatched_work : (Settings → JobRows → List OutText → Type 0) → CommandWork
 unwatched_work texts = record {
   texts = texts;
   so_far = texts;
   watched = λ s job texts. texts ≡ [];
-  sound = λ s job. ⊤;
-  loaded_by_workers = λ s. 0;
 }
-
--- each loading of a sweep is sound, each for each scale (`IsIteration`)
-abbrev pub SweepsSoundly : Settings → JobRows → Type 0
-SweepsSoundly s job =
-    (place scale : ℕ) → slice_get s.scales place ≡ Some scale
-    → AreSoundIterations s (traffic_at job.net job.demand_cells scale)
-
--- where no check of an audit fails, the loading over the agent table's routes is sound
-abbrev pub AuditsSoundly : Settings → JobRows → Type 0
-AuditsSoundly s job =
-    IsAudited s job verdict.Yes
-    → IsSoundLoading (loading_of job.net job.trips job.agents (audit_plan s))
 
 abbrev pub work_by : Kind → CommandWork
 work_by FreeFlow = unwatched_work (λ s job texts. texts ≡ free_texts job.net)
 work_by Assigning = assignment_work
 work_by Skimming = unwatched_work AreSkimmed
-work_by Sweeping = record (unwatched_work AreSwept) { sound = SweepsSoundly }
-work_by Auditing = record (unwatched_work AreAudited) { sound = AuditsSoundly }
+work_by Sweeping = unwatched_work AreSwept
+work_by Auditing = unwatched_work AreAudited
 
 abbrev pub work_of : Command → CommandWork
 work_of c = work_by (kind_of c)
@@ -88,9 +59,6 @@ AreTextsSoFar c s job texts = (work_of c).so_far s job texts
 
 abbrev pub AreWatchedSoFar : Command → Settings → JobRows → List OutText → Type 0
 AreWatchedSoFar c s job texts = (work_of c).watched s job texts
-
-abbrev pub LoadsSoundly : Command → Settings → JobRows → Type 0
-LoadsSoundly c s job = (work_of c).sound s job
 
 -- the count of failed puts rose
 abbrev pub PutsFailed : DeskState → DeskState → Type 0

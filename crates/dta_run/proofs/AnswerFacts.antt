@@ -15,7 +15,7 @@ use Rattle.jobs.specs.Inputs.{read_tables, source_of}
 use Rattle.jobs.specs.Causes.{ReadsFailed}
 use Rattle.jobs.specs.Tables.{ReachedAmong}
 use Rattle.jobs.specs.Verdict.{Accepted, AreToldBy, Refused, Verdict, verdict, verdict_by}
-use Rattle.dta_run.specs.Outcome.{Answers, IsHindered, IsReadBy, IsRefused, IsUnread, Means}
+use Rattle.dta_run.specs.Outcome.{Answers, HasWorked, IsHindered, IsReadBy, IsRefused, IsUnread, Means}
 use Rattle.desk_io.specs.State.{DeskState}
 use Rattle.commands.specs.Status.{refusal_status}
 use Rattle.jobs.proofs.VerdictFacts.{IsShown, all-told, verdict-job, verdict-refused}
@@ -66,24 +66,24 @@ answers-refused words texts r before after i h told =
     (verdict-refused h.settings r texts before.left after.left i (all-told words h.settings before.left texts h.told told) h.cause)
     (inl (refl, h.report))
 
+-- the verdict is on the job whose work was done
+answers-worked : (words : List (List ℕ)) (texts : Table → List ℕ) (answer : Status) (before after : DeskState)
+    → HasWorked words answer before after → AreToldBy (settings_of words) before.left texts
+    → AnswersTo words texts answer before after
+answers-worked words texts answer before after m t =
+    answers-by words texts (Some m.settings) (Accepted m.settings m.job) answer before after m.told
+    (verdict-job m.settings m.job texts before.left after.left (all-told words m.settings before.left texts m.told t) m.accepted)
+    (inl m.holds)
+
 -- what an answer says of the desk, where the bytes of all tables are told
 pub told : (words : List (List ℕ)) (texts : Table → List ℕ) (answer : Status) (before after : DeskState)
     → Means words answer before after
     → AreToldBy (settings_of words) before.left texts
     → Answers (settings_of words) (verdict words texts) answer before after
 told words texts status.Usage before after m t = answers-by words texts None (Refused refusal.Usage) status.Usage before after m.told refl (inl (refl, m.report))
-told words texts status.Done before after m t =
-    answers-by words texts (Some m.settings) (Accepted m.settings m.job) status.Done before after m.told
-    (verdict-job m.settings m.job texts before.left after.left (all-told words m.settings before.left texts m.told t) m.accepted)
-    (inl (inl (refl, m.loadings, (m.texts, m.work, m.out))))
-told words texts status.WriteFault before after m t =
-    answers-by words texts (Some m.settings) (Accepted m.settings m.job) status.WriteFault before after m.told
-    (verdict-job m.settings m.job texts before.left after.left (all-told words m.settings before.left texts m.told t) m.accepted)
-    (inl (inr (inl (refl, m.loadings, (m.texts, m.work, m.out), m.failed))))
-told words texts status.Differs before after m t =
-    answers-by words texts (Some m.settings) (Accepted m.settings m.job) status.Differs before after m.told
-    (verdict-job m.settings m.job texts before.left after.left (all-told words m.settings before.left texts m.told t) m.accepted)
-    (inl (inr (inr (refl, m.different))))
+told words texts status.Done before after m t = answers-worked words texts status.Done before after m t
+told words texts status.WriteFault before after m t = answers-worked words texts status.WriteFault before after m t
+told words texts status.Differs before after m t = answers-worked words texts status.Differs before after m t
 told words texts status.Table before after m t = answers-refused words texts (refusal.Table m.0) before after tt m.1 t
 told words texts status.Size before after (inl m) t = answers-refused words texts (refusal.LongTable m.0) before after tt m.1 t
 told words texts status.Size before after (inr (inl m)) t = answers-refused words texts (refusal.Cells m.0 m.1) before after tt m.2 t

@@ -16,13 +16,12 @@ use Rattle.jobs.specs.declared.assign_job.AssignJob.{AssignJob}
 use Rattle.jobs.specs.declared.job.Job.{Job}
 use Rattle.jobs.specs.declared.job.Job.TheVariants as job-kind
 use Rattle.jobs.specs.Verdict.{Accepted, AreToldBy, Refused, Verdict, verdict, verdict_by}
-use Rattle.commands.specs.Laws.{OneListOfTexts}
 use Rattle.desk_io.specs.State.{DeskState}
-use Rattle.commands.specs.Works.{Works, by_workers, work_by}
+use Rattle.commands.specs.Works.{Works}
 use Rattle.assign_command.proofs.ReceiptFacts.{none-given}
-use Rattle.assign_command.specs.Receipts.{TookAtMost, WorkGives, numbers_in, receipts_in, taking_all}
+use Rattle.assign_command.specs.Receipts.{TookAtMost, WorkGives, by_workers, numbers_in, receipts_by, receipts_in, taking_all}
 use Rattle.dta_run.specs.Outcome.{Means}
-use Rattle.dta_run.specs.Receipts.{HasWorked, RunGives, ToldGives, takes_by, takes_workers}
+use Rattle.dta_run.specs.Receipts.{JobGives, RunGives, ToldGives, takes_by, takes_workers}
 use Rattle.commands.specs.Status.{refusal_status}
 use Rattle.commands.specs.declared.status.Status.{Status}
 use Rattle.commands.specs.declared.status.Status.TheVariants as status
@@ -33,7 +32,7 @@ use Rattle.dta_run.proofs.AnswerFacts.{told}
 none-taken : (s : Settings) (job : JobRows) (gate now : GateState) → kind_of s.command ≡ Auditing
     → TookAtMost (receipts_in s.command s) (numbers_in s (traffic_of job)) gate now → now ≡ gate
 none-taken s job gate now is took =
-    let few : took.0 ≤ 0 = subst (λ (k : Kind). took.0 ≤ (work_by k).loaded_by_workers s) is took.1 in
+    let few : took.0 ≤ 0 = subst (λ (k : Kind). took.0 ≤ receipts_by k s) is took.1 in
     let none : took.0 ≡ 0 = omega (arith, few) in
     took.2 ∙ ap (λ (n : ℕ). taking_all n (numbers_in s (traffic_of job)) gate) none
 
@@ -42,29 +41,20 @@ pub work-gives : (words : List (List ℕ)) (s : Settings) (job : JobRows) (answe
     (gate now : GateState) → settings_of words ≡ Some s → IsAcceptedJob s job left rest → Works s job answer before after
     → (answer ≡ status.Differs → kind_of s.command ≡ Auditing) → WorkGives s job answer gate now → RunGives words answer left rest gate now
 work-gives words s job status.Done left rest before after gate now told accepted works audits gives =
-    record { settings = s; told = told; job = job; accepted = accepted; receipts = gives }
+    record { settings = s; told = told; job = job; accepted = accepted; holds = gives }
 work-gives words s job status.WriteFault left rest before after gate now told accepted works audits gives =
-    record { settings = s; told = told; job = job; accepted = accepted; receipts = gives }
+    record { settings = s; told = told; job = job; accepted = accepted; holds = gives }
 work-gives words s job status.Memory left rest before after gate now told accepted works audits gives =
-    inr (record { settings = s; told = told; job = job; accepted = accepted; receipts = gives })
-work-gives words s job status.Usage left rest before after gate now told accepted works audits gives = absurd works
-work-gives words s job status.Table left rest before after gate now told accepted works audits gives = absurd works
-work-gives words s job status.ReadFault left rest before after gate now told accepted works audits gives = absurd works
-work-gives words s job status.Size left rest before after gate now told accepted works audits gives = absurd works
+    inr (record { settings = s; told = told; job = job; accepted = accepted; holds = gives })
 work-gives words s job status.Differs left rest before after gate now told accepted works audits gives =
     none-taken s job gate now (audits refl) gives
+work-gives words s job answer left rest before after gate now told accepted works audits gives = absurd works
 
 -- a refused run gives none
 pub refused-gives : (words : List (List ℕ)) (r : Refusal) (left rest : Left) (gate : GateState)
     → RunGives words (refusal_status r) left rest gate gate
 refused-gives words refusal.Usage left rest gate = refl
-refused-gives words (refusal.Table fault) left rest gate = refl
-refused-gives words (refusal.Read t) left rest gate = refl
-refused-gives words (refusal.LongTable t) left rest gate = refl
-refused-gives words (refusal.Cells links steps) left rest gate = refl
-refused-gives words (refusal.Vehicles line total) left rest gate = refl
-refused-gives words (refusal.SkimPairs number) left rest gate = refl
-refused-gives words (refusal.SweepCells links steps) left rest gate = refl
+refused-gives words r left rest gate = refl
 
 -- ---- where the bytes of the tables are told
 
@@ -72,23 +62,17 @@ refused-gives words (refusal.SweepCells links steps) left rest gate = refl
 none-told : (v : Verdict) (answer : Status) (gate now : GateState) → answer ≢ status.Done → now ≡ gate → ToldGives v answer gate now
 none-told (Refused r) answer gate now other same = same
 none-told (Accepted s job) status.Done gate now other same = absurd (other refl)
-none-told (Accepted s job) status.Usage gate now other same = (0, omega arith, same)
-none-told (Accepted s job) status.Table gate now other same = (0, omega arith, same)
-none-told (Accepted s job) status.ReadFault gate now other same = (0, omega arith, same)
-none-told (Accepted s job) status.WriteFault gate now other same = (0, omega arith, same)
-none-told (Accepted s job) status.Memory gate now other same = (0, omega arith, same)
-none-told (Accepted s job) status.Size gate now other same = (0, omega arith, same)
-none-told (Accepted s job) status.Differs gate now other same = (0, omega arith, same)
+none-told (Accepted s job) answer gate now other same = (0, omega arith, same)
 
 -- the verdict is on the job whose work gave the receipts
 worked-told : (words : List (List ℕ)) (texts : Table → List ℕ) (answer : Status) (left rest : Left) (gate now : GateState)
-    → HasWorked words answer left rest gate now → AreToldBy (settings_of words) left texts
+    → JobGives words answer left rest gate now → AreToldBy (settings_of words) left texts
     → ToldGives (verdict words texts) answer gate now
 worked-told words texts answer left rest gate now h told =
     subst (λ (v : Verdict). ToldGives v answer gate now)
     (sym (ap (λ (o : Option Settings). verdict_by o texts) h.told
     ∙ verdict-job h.settings h.job texts left rest (all-told words h.settings left texts h.told told) h.accepted))
-    h.receipts
+    h.holds
 
 pub told_gives : (words : List (List ℕ)) (texts : Table → List ℕ) (answer : Status) (left rest : Left) (gate now : GateState)
     → RunGives words answer left rest gate now → AreToldBy (settings_of words) left texts
@@ -97,11 +81,7 @@ told_gives words texts status.Done left rest gate now h told = worked-told words
 told_gives words texts status.WriteFault left rest gate now h told = worked-told words texts status.WriteFault left rest gate now h told
 told_gives words texts status.Memory left rest gate now (inl h) told = none-told (verdict words texts) status.Memory gate now (λ e. absurd cc) h
 told_gives words texts status.Memory left rest gate now (inr h) told = worked-told words texts status.Memory left rest gate now h told
-told_gives words texts status.Usage left rest gate now h told = none-told (verdict words texts) status.Usage gate now (λ e. absurd cc) h
-told_gives words texts status.Table left rest gate now h told = none-told (verdict words texts) status.Table gate now (λ e. absurd cc) h
-told_gives words texts status.ReadFault left rest gate now h told = none-told (verdict words texts) status.ReadFault gate now (λ e. absurd cc) h
-told_gives words texts status.Size left rest gate now h told = none-told (verdict words texts) status.Size gate now (λ e. absurd cc) h
-told_gives words texts status.Differs left rest gate now h told = none-told (verdict words texts) status.Differs gate now (λ e. absurd cc) h
+told_gives words texts answer left rest gate now h told = none-told (verdict words texts) answer gate now (λ e. absurd cc) h
 
 pub ruleset answers = (told, told_gives)
 
@@ -111,7 +91,7 @@ plain-none : (plain : Bool) (n : ℕ) → not plain ≡ false → by_workers pla
 plain-none true n alone = refl
 plain-none false n alone = absurd cc
 
-none-by : (k : Kind) (s : Settings) → takes_by k s.plain ≡ false → (work_by k).loaded_by_workers s ≡ 0
+none-by : (k : Kind) (s : Settings) → takes_by k s.plain ≡ false → receipts_by k s ≡ 0
 none-by FreeFlow s alone = refl
 none-by Assigning s alone = plain-none s.plain s.iterations alone
 none-by Skimming s alone = refl
@@ -125,13 +105,13 @@ still-alone words s own told alone is =
     subst (λ (o : Option Settings). IfSome o (λ z. takes_workers z ≡ false)) (sym told ∙ is) alone
 
 worked-alone : (words : List (List ℕ)) (s : Settings) (answer : Status) (left rest : Left) (quiet still gate : GateState)
-    → settings_of words ≡ Some s → takes_workers s ≡ false → HasWorked words answer left rest quiet still → HasWorked words answer left rest gate gate
+    → settings_of words ≡ Some s → takes_workers s ≡ false → JobGives words answer left rest quiet still → JobGives words answer left rest gate gate
 worked-alone words s answer left rest quiet still gate told alone h = record {
   settings = h.settings;
   told = h.told;
   job = h.job;
   accepted = h.accepted;
-  receipts = none-given h.settings h.job answer gate (none-by (kind_of h.settings.command) h.settings (still-alone words s h.settings told alone h.told));
+  holds = none-given h.settings h.job answer gate (none-by (kind_of h.settings.command) h.settings (still-alone words s h.settings told alone h.told));
 }
 
 -- it gives none to any gate
@@ -141,16 +121,12 @@ gives-none words s status.Done left rest quiet still gate told alone h = worked-
 gives-none words s status.WriteFault left rest quiet still gate told alone h = worked-alone words s status.WriteFault left rest quiet still gate told alone h
 gives-none words s status.Memory left rest quiet still gate told alone (inl h) = inl refl
 gives-none words s status.Memory left rest quiet still gate told alone (inr h) = inr (worked-alone words s status.Memory left rest quiet still gate told alone h)
-gives-none words s status.Usage left rest quiet still gate told alone h = refl
-gives-none words s status.Table left rest quiet still gate told alone h = refl
-gives-none words s status.ReadFault left rest quiet still gate told alone h = refl
-gives-none words s status.Size left rest quiet still gate told alone h = refl
-gives-none words s status.Differs left rest quiet still gate told alone h = refl
+gives-none words s answer left rest quiet still gate told alone h = refl
 
 pub alone-headline : (words : List (List ℕ)) (s : Settings) (answer : Status) (before after : DeskState) (quiet still gate : GateState)
     → settings_of words ≡ Some s → takes_workers s ≡ false → Means words answer before after → RunGives words answer before.left after.left quiet still
-    → before.read_faults ≤ after.read_faults → before.put_faults ≤ after.put_faults → OneListOfTexts → Headline words answer before after gate gate
-alone-headline words s answer before after quiet still gate is alone means given reads puts laws =
+    → before.read_faults ≤ after.read_faults → before.put_faults ≤ after.put_faults → Headline words answer before after gate gate
+alone-headline words s answer before after quiet still gate is alone means given reads puts =
     let gives = gives-none words s answer before.left after.left quiet still gate is alone given in
     record {
       means = means;
@@ -159,7 +135,6 @@ alone-headline words s answer before after quiet still gate is alone means given
       told_receipts = λ texts t. told_gives words texts answer before.left after.left gate gate gives t;
       reads = reads;
       puts = puts;
-      one_list = laws;
     }
 
 -- only the work of an assignment takes workers
@@ -173,13 +148,12 @@ assigns_alone s (job-kind.Audit own) is takes = let no-workers = subst (λ (k : 
 pub ruleset assigning = (assigns_alone)
 
 -- memory was wanting for the words: nothing was done
-pub starved : (words : List (List ℕ)) (desk : DeskState) (gate : GateState) → OneListOfTexts → Headline words status.Memory desk desk gate gate
-starved words desk gate laws = record {
+pub starved : (words : List (List ℕ)) (desk : DeskState) (gate : GateState) → Headline words status.Memory desk desk gate gate
+starved words desk gate = record {
   means = inl (refl, refl);
   told = λ texts t. told words texts status.Memory desk desk (inl (refl, refl)) t;
   receipts = inl refl;
   told_receipts = λ texts t. told_gives words texts status.Memory desk.left desk.left gate gate (inl refl) t;
   reads = omega arith;
   puts = omega arith;
-  one_list = laws;
 }

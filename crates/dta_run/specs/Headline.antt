@@ -3,13 +3,12 @@
 -- gate that takes a receipt of each loading by workers. All of it holds for every number of
 -- workers and however their steps interleave.
 --
--- Read on in Outcome (what each answer says), Outputs (the texts), Assignment (an iteration),
--- Verdict (what words and bytes come to), Receipts and Laws.
+-- Read on in Outcome (what each answer says), Texts of reference (the texts of settings and a job,
+-- by functions), Verdict (what words and bytes come to), Receipts and Laws.
 use Rattle.std.specs.Prelude.{ℕ, ◌≤◌, List}
 use Rattle.desk_io.specs.declared.desk.Table.{Table}
 use Rattle.dta_words.specs.Grammar.{settings_of}
 use Rattle.loader.specs.Gates.{GateState}
-use Rattle.commands.specs.Laws.{OneListOfTexts}
 use Rattle.dta_run.specs.Outcome.{Answers, Means}
 use Rattle.desk_io.specs.State.{DeskState}
 use Rattle.dta_run.specs.Receipts.{RunGives, ToldGives}
@@ -19,11 +18,11 @@ use Rattle.commands.specs.declared.status.Status.{Status}
 -- what a run with these words answered, and its desk and its gate before and after it
 pub record Headline (words : List (List ℕ)) (answer : Status) (before after : DeskState)
     (gate now : GateState) : Type 0 where
-  -- with Done (`IsDone`) every table of the command was read to its end and accepted; the outputs
-  -- grew by exactly the texts of the definitions, those of the plain simulator (`AreTexts`), watch
-  -- lines by their rule among them (`AreWatchTexts`); and each iteration (`IsIteration`) has its
-  -- routes, a sound loading, in which vehicles are conserved and links are left in the order of
-  -- entry, and its gap. Each other answer but Memory has its cause, and all say what was put
+  -- with Done every table of the command was read to its end and accepted; the outputs but Watch
+  -- grew by exactly the texts of the settings and the job (`texts_of`), those of the plain
+  -- simulator, and Watch by its lines, by their rule (`AreWatchTexts`); and each iteration has a
+  -- sound loading, in which vehicles are conserved and links are left in the order of entry
+  -- (`IsSoundLoading`). Each other answer but Memory has its cause, and all say what was put
   pub means : Means words answer before after
   -- where the desk tells the bytes of the tables, the answer and the texts are those of the
   -- verdict over words and bytes, unless a read or a put failed or memory was wanting
@@ -38,7 +37,3 @@ pub record Headline (words : List (List ℕ)) (answer : Status) (before after : 
   -- the counts of failed reads and of failed puts never fall
   pub reads : before.read_faults ≤ after.read_faults
   pub puts : before.put_faults ≤ after.put_faults
-  -- settings and a job, which are made of words and tables alone, have one list of texts but for
-  -- Watch, and where the loader is plain one list of all texts, in whatever order loadings take
-  -- the nodes of a step; a scenario has the texts that it has alone, and an audit has one verdict
-  pub one_list : OneListOfTexts

@@ -1,15 +1,14 @@
 -- The receipts that a run gives its gate.
-use Rattle.std.specs.Prelude.{ℕ, ◌≡◌, ◌⊎◌, Bool, false, not, List, Some}
+use Rattle.std.specs.Prelude.{ℕ, ◌≡◌, ◌⊎◌, Bool, false, not, List}
 use Rattle.desk_io.specs.Desk.{Left}
-use Rattle.dta_words.specs.Grammar.{settings_of}
 use Rattle.dta_words.specs.declared.command.Settings.{Settings}
 use Rattle.loader.specs.Gates.{GateState}
 use Rattle.jobs.specs.Inputs.{Assigning, Auditing, FreeFlow, Kind, Skimming, Sweeping, kind_of}
-use Rattle.jobs.specs.Jobs.{IsAcceptedJob, JobRows}
 use Rattle.jobs.specs.Verdict.{Accepted, Refused, Verdict}
 use Rattle.commands.specs.declared.status.Status.{Status}
 use Rattle.commands.specs.declared.status.Status.TheVariants as status
 use Rattle.assign_command.specs.Receipts.{WorkGives}
+use Rattle.dta_run.specs.Outcome.{HasJob}
 
 -- whether work of a kind takes workers: an assignment does, unless its loader is plain
 abbrev pub takes_by : Kind → (plain : Bool) → Bool
@@ -23,25 +22,20 @@ takes_by Auditing plain = false
 abbrev pub takes_workers : Settings → Bool
 takes_workers s = takes_by (kind_of s.command) s.plain
 
--- the words have settings, and their tables were accepted and make a job, whose work ended with
--- this status and gave the gate its receipts
-pub record HasWorked (words : List (List ℕ)) (answer : Status) (before after : Left)
-    (gate now : GateState) : Type 0 where
-  pub settings : Settings
-  pub told : settings_of words ≡ Some settings
-  pub job : JobRows
-  pub accepted : IsAcceptedJob settings job before after
-  pub receipts : WorkGives settings job answer gate now
+-- the words have an accepted job, whose work ended with this status and gave the gate its receipts
+abbrev pub JobGives : List (List ℕ) → Status → Left → Left → GateState → GateState → Type 0
+JobGives words answer before after gate now =
+    HasJob words before after (λ s job. WorkGives s job answer gate now)
 
 -- the receipts of a run by its status: where all is done one for each iteration that is loaded by
 -- workers, where a put failed or memory was wanting at most as many, and none where it was refused
 abbrev pub RunGives : List (List ℕ) → Status → Left → Left → GateState → GateState → Type 0
 RunGives words status.Done before after gate now =
-    HasWorked words status.Done before after gate now
+    JobGives words status.Done before after gate now
 RunGives words status.WriteFault before after gate now =
-    HasWorked words status.WriteFault before after gate now
+    JobGives words status.WriteFault before after gate now
 RunGives words status.Memory before after gate now =
-    (now ≡ gate) ⊎ HasWorked words status.Memory before after gate now
+    (now ≡ gate) ⊎ JobGives words status.Memory before after gate now
 RunGives words _ before after gate now = now ≡ gate
 
 -- the same where the bytes of the tables are told, and so the verdict is known before the run

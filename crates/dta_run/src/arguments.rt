@@ -6,7 +6,7 @@ ghost use Rattle.assign_command.specs.Receipts.{silent};
 
 use crate::NoGate;
 use crate::top_call::run;
-use commands::{Status, texts_are_one};
+use commands::Status;
 use desk_io::Desk;
 use dta_words::Words;
 use std::env::Args;
@@ -23,7 +23,6 @@ pub fn run_arguments<R: AllocGlobal + Threads + Wait + Sync, D: Desk + Send>(
     ensures headline { Headline (drop 1 (map string_bytes (into_iter_items arguments)))
         result (D.state desk.old) (D.state desk.new) silent silent }
 {
-    texts_are_one();
     match Words::after_name(rt.alloc(), arguments) {
         Ok(words) => run(rt, &words, desk, &mut NoGate),
         Err(_) => Status::Memory,

@@ -2,7 +2,8 @@
 //!
 //! `run` carries the promise of the repository, one record, which is read first (specs/Headline).
 //! Over any desk it answers Done only where every table that its command reads is accepted and the
-//! outputs grew by exactly the texts of the definitions, and it says what holds of each iteration.
+//! outputs grew by exactly the texts of its settings and tables, a function of these, and it says
+//! what holds of each loading.
 //! Every other answer but Memory has its cause in the contract. `run_arguments` hands it the words
 //! of a command line, and `program` gives the number with which the program ends.
 #![tactic(auto)]

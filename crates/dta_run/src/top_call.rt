@@ -15,7 +15,7 @@ ghost use Rattle.assign_command.specs.Receipts.{WorkGives};
 use crate::accepted::{accept_and_work, refuse};
 use crate::without_workers::{run_without_workers, takes_workers};
 use assign_command::assign;
-use commands::{Status, texts_are_one};
+use commands::Status;
 use desk_io::Desk;
 use dta_words::{Settings, Words, WordsRefusal, settings};
 use jobs::Job;
@@ -140,6 +140,5 @@ pub fn run<R: AllocGlobal + Threads + Wait + Sync, D: Desk + Send, G: Gate + Syn
         Headline words.now result (D.state desk.old) (D.state desk.new)
         (shown gate.old) (shown gate.new) }
 {
-    texts_are_one();
     answer(rt, words, gate, desk)
 }

@@ -11,7 +11,7 @@ ghost use Rattle.dta_run.specs.Receipts.{takes_workers};
 
 use crate::accepted::accept_and_work;
 use assign_command::assign_plainly;
-use commands::{Status, put_least_times, put_scenarios, put_verdict, texts_are_one};
+use commands::{Status, put_least_times, put_scenarios, put_verdict};
 use desk_io::{Desk, Failed};
 use dta_words::{Command, Settings};
 use jobs::Job;
@@ -70,7 +70,6 @@ pub fn run_without_workers<R: AllocGlobal + Threads + Sync, D: Desk>(
     ensures reads { (D.state desk.old).read_faults ≤ (D.state desk.new).read_faults }
     ensures puts { (D.state desk.old).put_faults ≤ (D.state desk.new).put_faults }
 {
-    texts_are_one();
     accept_and_work(
         rt.alloc(),
         settings,

@@ -1,5 +1,5 @@
 -- The verdict of the reference is the verdict of the audit.
-use Rattle.std.proofs.Common.{◌≡◌, ◌⊎◌, inl, inr, ℕ, Bool, true, false, cond, List, [], ◌∷◌, refl, ap, sym, ◌∙◌, arith, Option, None, Some}
+use Rattle.std.proofs.Common.{◌≡◌, ◌⊎◌, inl, inr, ℕ, Bool, true, false, cond, List, [], ◌∷◌, ◌++◌, refl, ap, sym, ◌∙◌, arith, subst, Option, None, Some}
 use Rattle.std.specs.Prelude.{is_some, nat_eq}
 use Rattle.std.proofs.lemmas.Bool.{and_cases, and_parts, eq-eqb}
 use Rattle.std.proofs.lemmas.Bool.Decides.{nat_tests}
@@ -7,11 +7,18 @@ use Rattle.net_core.specs.declared.rows.LinkNo.{LinkNo}
 use Rattle.net_core.specs.declared.rows.NetRows.{NetRows}
 use Rattle.dta_model.specs.declared.trip.Trip.{Trip}
 use Rattle.start_table.specs.Starts.{TellsWalk}
+use Rattle.dta_model.specs.LinkTimes.{table_of}
+use Rattle.dta_model.specs.Loading.{journeys_of}
+use Rattle.dta_words.specs.Ranges.{AreSettings}
 use Rattle.dta_words.specs.declared.command.Settings.{Settings}
-use Rattle.audit.specs.Audit.{checks_of}
+use Rattle.assignment.specs.Iterations.{IsSoundLoading}
+use Rattle.assignment.proofs.SoundFacts.{sound-loading}
+use Rattle.audit.specs.Audit.{all_journey_checks, all_time_checks, checks_of, loading_of, routes_named}
+use Rattle.audit.proofs.Verdicts.{yes_first}
+use Rattle.audit.proofs.Whole.{checks_before, is_sound}
 use Rattle.audit.specs.Checks.{Check, Statement, Holds, IsVerdict, names_route, never, same_if_any, same_list, same_number}
-use Rattle.audit.specs.declared.verdict.Verdict.TheVariants.{No}
-use Rattle.jobs.specs.Jobs.{JobRows}
+use Rattle.audit.specs.declared.verdict.Verdict.TheVariants.{No, Yes}
+use Rattle.jobs.specs.Jobs.{IsJob, JobRows}
 use Rattle.commands.specs.Outputs.{IsAudited, audit_plan}
 use Rattle.reference.specs.Audits.{holds, is_same_if_any, is_same_list, verdict_of, verdict_on}
 use Rattle.reference.specs.Routes.{walk_named}
@@ -99,3 +106,23 @@ verdict-is (c ∷ others) = by (verdict-is others) (holds c.statement) refl
 
 pub audited : (s : Settings) (job : JobRows) → IsAudited s job (verdict_of s job)
 audited s job = verdict-is (checks_of job.net job.trips job.agents job.times (audit_plan s))
+
+-- where no check fails, the loading over the agents' routes is sound
+pub audited-soundly : (s : Settings) (job : JobRows) → AreSettings s → IsJob s job → verdict_of s job ≡ Yes
+    → IsSoundLoading (loading_of job.net job.trips job.agents (audit_plan s))
+audited-soundly s job settings good passes =
+    let loading = loading_of job.net job.trips job.agents (audit_plan s) in
+    let before = checks_before job.net job.trips job.agents in
+    let journeys = all_journey_checks job.agents (journeys_of loading) in
+    let times = all_time_checks (table_of loading s.bucket) job.times in
+    let most = settings.horizon.1 in
+    let is : IsAudited s job Yes = subst (λ v. IsAudited s job v) passes (audited s job) in
+    sound-loading loading (is_sound job.net job.trips job.agents (audit_plan s) (routes_named job.net job.agents) Yes
+    good.net good.trips.in_order good.trips.rising good.trips.early (record {
+      queue = settings.queue;
+      delta_least = settings.step.0;
+      delta_most = settings.step.1;
+      horizon_least = settings.horizon.0;
+      horizon_most = omega (arith, most);
+      bucket_least = settings.bucket.0;
+    }) refl (yes_first before journeys (yes_first (before ++ journeys) times is)) refl)

@@ -15,7 +15,7 @@ use Rattle.dta_words.specs.declared.command.Settings.{Settings}
 use Rattle.assignment.specs.Assignment.{AreIterations, Traffic, VehicleRoutes, costs_of, plan_of}
 use Rattle.assignment.specs.Traffic.{AreRoutesOf, AreTripsBelow}
 use Rattle.assignment.proofs.AssignmentFacts.{sound-plan}
-use Rattle.reference.specs.Reference.{all_gaps, all_routes, gap_at, routes_after, routes_at}
+use Rattle.reference.specs.Reference.{all_gaps, gap_at, routes_after, routes_at, routes_until}
 use Rattle.reference.specs.Search.{AreCosts}
 use Rattle.reference.proofs.GapFacts.{gap-is}
 use Rattle.reference.proofs.LoadedTimes.{free-times, loaded-costs}
@@ -69,15 +69,15 @@ module _ (s : Settings) (traffic : Traffic) (settings : AreSettings s) (net : Is
   unfolding routes_at
   next-at i = next-of i (routes_at s traffic i) (routed i)
 
-  -- ---- all iterations
-  pub iterated : AreIterations s traffic (all_routes s traffic) (all_gaps s traffic)
-  iterated = record {
+  -- ---- the first iterations, so many
+  pub iterated : (n : ℕ) → AreIterations s traffic (routes_until s traffic n) (all_gaps s traffic)
+  iterated n = record {
     start = start;
-    first = λ r e. subst (λ x. AreStartedRoutes traffic.net traffic.start traffic.trips x) (at-place (routes_at s traffic) s.iterations 0 r e) first-at;
-    next = λ i old new e f. next-there i old new (at-place (routes_at s traffic) s.iterations i old e) (at-place (routes_at s traffic) s.iterations (i + 1) new f);
+    first = λ r e. subst (λ x. AreStartedRoutes traffic.net traffic.start traffic.trips x) (at-place (routes_at s traffic) n 0 r e) first-at;
+    next = λ i old new e f. next-there i old new (at-place (routes_at s traffic) n i old e) (at-place (routes_at s traffic) n (i + 1) new f);
     gaps = λ i r line e f.
         subst (λ g. IsGapLine (costs_of s traffic r) traffic.net traffic.trips r g) (at-place (gap_at s traffic) s.iterations i line f)
-        (gap-there i r (at-place (routes_at s traffic) s.iterations i r e));
+        (gap-there i r (at-place (routes_at s traffic) n i r e));
   }
     where
       next-there : (i : ℕ) (old new : VehicleRoutes) → routes_at s traffic i ≡ old → routes_at s traffic (i + 1) ≡ new

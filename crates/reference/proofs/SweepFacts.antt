@@ -1,5 +1,6 @@
 -- The scenarios of the reference are those of the sweep.
 use Rattle.std.proofs.Common.{ℕ, ◌-◌, ◌<◌, List, [], ◌∷◌, length, map, refl, arith}
+use Rattle.std.specs.Prelude.{All, get_or}
 use Rattle.std.proofs.lemmas.List.Elements.{All-head, All-tail, All-weaker}
 use Rattle.std.proofs.lemmas.List.FromFn.{length-map-range_with_len}
 use Rattle.dta_model.specs.Release.{HaveWindows, trips_of, vehicles_before}
@@ -12,13 +13,14 @@ use Rattle.dta_words.specs.declared.command.Settings.{Settings}
 use Rattle.sweep.specs.Scales.{AreAllWithin, scaled}
 use Rattle.sweep.proofs.LimitFacts.{scaled_windows}
 use Rattle.sweep.specs.Scenarios.{AreScenarios, IsScenario, traffic_at}
-use Rattle.assignment.specs.Traffic.{AreTripsBelow}
+use Rattle.assignment.specs.Traffic.{AreTripsBelow, IsTraffic}
 use Rattle.jobs.specs.Jobs.{IsJob, IsSweepJob, JobRows}
 use Rattle.commands.specs.Outputs.{AreSwept, sweep_texts}
 use Rattle.assignment.proofs.AssignmentFacts.{no-start-rows}
-use Rattle.reference.specs.Reference.{all_gaps, all_routes, gap_at, routes_at}
+use Rattle.reference.specs.Reference.{all_gaps, gap_at, routes_at, routes_until}
 use Rattle.reference.specs.Sweeps.{scenario_over, scenarios_of}
-use Rattle.reference.proofs.AssignedFacts.{before-last}
+use Rattle.reference.specs.Texts.{AreSoundlyLoaded}
+use Rattle.reference.proofs.AssignedFacts.{before-last, soundly-loaded}
 use Rattle.reference.proofs.Iterated.{iterated, place-of}
 
 -- the trips of a demand that is within the limit
@@ -33,18 +35,28 @@ trips-below s settings cells windows within =
     }
 
 module _ (s : Settings) (job : JobRows) (settings : AreSettings s) (good : IsJob s job) where
+  -- the traffic of a scenario is that of a loading
+  traffic-is : (scale : ℕ) → HaveWindows s.period job.demand_cells → IsWithin (scaled scale job.demand_cells)
+      → IsTraffic s.horizon (traffic_at job.net job.demand_cells scale)
+  traffic-is scale windows within = record {
+    net = good.net;
+    trips = trips-below s settings (scaled scale job.demand_cells) (scaled_windows s.period scale job.demand_cells windows) within;
+    start = no-start-rows;
+  }
+
   scenario-is : (scale : ℕ) → HaveWindows s.period job.demand_cells → IsWithin (scaled scale job.demand_cells)
       → IsScenario s job.net job.demand_cells scale (scenario_over s scale (traffic_at job.net job.demand_cells scale))
   scenario-is scale windows within =
       let traffic = traffic_at job.net job.demand_cells scale in
+      let is = traffic-is scale windows within in
       let last = s.iterations - 1 in record {
         scale_is = refl;
         texts = record {
-          routes = all_routes s traffic;
+          routes = routes_until s traffic s.iterations;
           lines = all_gaps s traffic;
           last = routes_at s traffic last;
           line = gap_at s traffic last;
-          iterations = iterated s traffic settings good.net (trips-below s settings (scaled scale job.demand_cells) (scaled_windows s.period scale job.demand_cells windows) within) no-start-rows;
+          iterations = iterated s traffic settings is.net is.trips is.start s.iterations;
           as_many = length-map-range_with_len (routes_at s traffic) 0 s.iterations;
           with_gaps = length-map-range_with_len (gap_at s traffic) 0 s.iterations;
           last_routes = place-of (routes_at s traffic) s.iterations last (before-last s.iterations settings.iterations.0);
@@ -72,3 +84,9 @@ module _ (s : Settings) (job : JobRows) (settings : AreSettings s) (good : IsJob
     sweep = scenarios-are s.scales sweep.cells.windows sweep.within;
     texts_are = refl;
   }
+
+  -- each of its loadings is sound
+  pub swept-soundly : IsSweepJob s job → All (λ scale. AreSoundlyLoaded s (traffic_at job.net job.demand_cells scale)) s.scales
+  swept-soundly sweep k d h =
+      let scale = get_or s.scales k d in
+      soundly-loaded s (traffic_at job.net job.demand_cells scale) settings (traffic-is scale sweep.cells.windows (sweep.within k d h))

@@ -1,12 +1,13 @@
 -- The verdict of an audit: the place of the first check that fails, and yes where none does.
-use Rattle.std.specs.Prelude.{ℕ, ◌&&◌, Bool, true, false, nat_eq, cond, List, [], ◌∷◌, Option, None}
-use Rattle.std.specs.Prelude.{Some, is_some}
+use Rattle.std.specs.Prelude.{ℕ, ◌≡◌, ◌&&◌, Bool, true, false, nat_eq, cond, List, [], ◌∷◌, Option}
+use Rattle.std.specs.Prelude.{None, Some, is_some}
 use Rattle.dta_words.specs.declared.command.Settings.{Settings}
 use Rattle.audit.specs.Audit.{checks_of}
 use Rattle.audit.specs.Checks.{Check, Statement, names_route, never, same_if_any, same_list}
 use Rattle.audit.specs.Checks.{same_number}
 use Rattle.audit.specs.declared.verdict.Verdict.{Verdict}
 use Rattle.audit.specs.declared.verdict.Verdict.TheVariants.{No, Yes}
+use Rattle.jobs.specs.Inputs.{Auditing, kind_of}
 use Rattle.jobs.specs.Jobs.{JobRows}
 use Rattle.commands.specs.Outputs.{audit_plan}
 use Rattle.reference.specs.Routes.{walk_named}
@@ -43,3 +44,7 @@ verdict_on (c ∷ others) = cond (holds c.statement) (verdict_on others) (No c.t
 abbrev pub verdict_of : Settings → JobRows → Verdict
 verdict_of s job =
     verdict_on (checks_of job.net job.trips job.agents job.times (audit_plan s))
+
+-- where a job is audited, no check fails
+abbrev pub Passes : Settings → JobRows → Type 0
+Passes s job = kind_of s.command ≡ Auditing → verdict_of s job ≡ Yes

@@ -24,11 +24,12 @@ use Rattle.start_table.specs.declared.rows.StartRow.{StartRow}
 use Rattle.skims.specs.declared.time_rows.TimeRow.{TimeRow}
 use Rattle.audit.specs.declared.agent_rows.AgentRow.{AgentRow}
 use Rattle.audit.specs.declared.verdict.Verdict.TheVariants as verdict
-use Rattle.jobs.specs.Jobs.{JobRows}
+use Rattle.jobs.specs.Jobs.{JobRows, traffic_of}
 use Rattle.commands.specs.Outputs.{text_to}
 use Rattle.reference.specs.Audits.{verdict_of}
 use Rattle.reference.specs.OnLiterals.{counts_on_literals, iterations_on_literals}
 use Rattle.reference.specs.OnLiterals.{others_on_literals, tables_on_literals, trips_on_literals}
+use Rattle.reference.specs.Reference.{routes_until, watch_texts}
 use Rattle.reference.specs.Routes.{all_since}
 use Rattle.reference.specs.Search.{search}
 use Rattle.reference.specs.Texts.{texts_of}
@@ -76,7 +77,7 @@ two_links = net (link 10 0 1 10 125 600000000 ∷ link 20 1 2 10 125 600000000 �
 abbrev three_vehicles : JobRows
 three_vehicles = job two_links (trip 0 5 ∷ trip 1 15 ∷ trip 2 25 ∷ [])
 
-in_a_line : texts_of command.Assign (settings command.Assign) three_vehicles ≡
+in_a_line : texts_of (settings command.Assign) three_vehicles ≡
     text_to output.Agent (agents
     ++ codes "0,1,3,5,25,arrived,10;20,5;15\n1,1,3,15,35,arrived,10;20,15;25\n"
     ++ codes "2,1,3,25,45,arrived,10;20,25;35\n")
@@ -91,8 +92,11 @@ unfolding tables_on_literals trip
 in_a_line = refl
 
 -- with a watch, in two iterations, by the grid of a demonstration
-watched : texts_of (command.Demo 2)
-    (record (settings (command.Demo 2)) { iterations = 2; watch = 10; plain = true }) three_vehicles
+abbrev watching : Settings
+watching = record (settings (command.Demo 2)) { iterations = 2; watch = 10; plain = true }
+
+watched : watch_texts watching (traffic_of three_vehicles) 1
+    (routes_until watching (traffic_of three_vehicles) 2) ++ texts_of watching three_vehicles
     ≡ text_to output.Watch (codes "1,60,0,0,3,0,0,0,0\n")
     ∷ text_to output.Watch (codes "2,60,0,0,3,0,0,0,0\n")
     ∷ text_to output.Report (
@@ -102,8 +106,7 @@ watched : texts_of (command.Demo 2)
 unfolding tables_on_literals trip
 watched = refl
 
-counted : texts_of command.Counts (record (settings command.Counts) { link = Some 20 })
-    three_vehicles
+counted : texts_of (record (settings command.Counts) { link = Some 20 }) three_vehicles
     ≡ text_to output.Counts (codes "kind,first,second,from_step,to_step,vehicles\n"
     ++ codes "turn,10,20,0,50,3\nthrough,1,3,0,60,3\n")
     ∷ text_to output.Report (
@@ -127,8 +130,7 @@ round_times =
     ++ codes "40,0,50,2,21,21\n40,50,60,0,21,21\n"
 
 -- all take the narrow link first, and two of them go round in the second iteration
-a_way_round : texts_of command.Assign (record (settings command.Assign) { iterations = 2 })
-    four_vehicles ≡
+a_way_round : texts_of (record (settings command.Assign) { iterations = 2 }) four_vehicles ≡
     text_to output.Agent (agents
     ++ codes "0,1,3,0,21,arrived,40,0\n1,1,3,0,20,arrived,20;30,0;10\n"
     ++ codes "2,1,3,0,21,arrived,40,0\n3,1,3,0,21,arrived,20;30,0;11\n")
@@ -151,7 +153,7 @@ warm = record four_vehicles {
       ∷ started 3 (20 ∷ 30 ∷ []) ∷ [];
 }
 
-a_warm_start : texts_of command.Assign (record (settings command.Assign) { start = true }) warm ≡
+a_warm_start : texts_of (record (settings command.Assign) { start = true }) warm ≡
     text_to output.Agent (codes "agent_id,o_zone_id,d_zone_id,departure_step,arrival_step,"
     ++ codes "status,link_ids,entry_steps,route_iteration\n"
     ++ codes "0,1,3,0,21,arrived,40,0,0\n1,1,3,0,20,arrived,20;30,0;10,0\n"
@@ -188,7 +190,7 @@ origin_waits = codes "link_id,from_step,to_step,departed,wait_steps\n"
 
 -- four vehicles wait 0 to 3 steps for the first link, two as the mean; the second one takes the
 -- other link then. The link times tell no wait
-waits_are_seen : texts_of command.Assign by_trips four_at_once ≡
+waits_are_seen : texts_of by_trips four_at_once ≡
     text_to output.Agent (agents
     ++ codes "0,1,3,0,2,arrived,20;30,0;1\n1,1,3,0,3,arrived,40,0\n"
     ++ codes "2,1,3,0,3,arrived,20;30,1;2\n3,1,3,0,4,arrived,20;30,2;3\n")
@@ -205,7 +207,7 @@ unfolding trips_on_literals trip
 waits_are_seen = refl
 
 -- the same in a sweep, over half the demand and in one iteration
-a_sweep_by_trips : texts_of command.Sweep
+a_sweep_by_trips : texts_of
     (record by_trips { command = command.Sweep; iterations = 1; scales = 500 ∷ [] })
     (record (job two_roads []) {
       demand_cells = record { line = 2; origin = 1; destination = 3; volume = 4000; from = 0; to = 1 }
@@ -249,7 +251,7 @@ since_by_trips = refl
 abbrev short_link : NetRows
 short_link = net (link 10 0 1 10 125 3600000000 ∷ link 20 1 2 1 1 3600000000 ∷ [])
 
-a_jam : texts_of command.Assign (record (settings command.Assign) { queue = queue.Spatial })
+a_jam : texts_of (record (settings command.Assign) { queue = queue.Spatial })
     (job short_link (trip 0 0 ∷ trip 1 0 ∷ [])) ≡
     text_to output.Agent (agents
     ++ codes "0,1,3,0,11,arrived,10;20,0;10\n1,1,3,0,13,arrived,10;20,0;12\n")
@@ -269,7 +271,7 @@ abbrev behind_a_wave : NetRows
 behind_a_wave = net (link 10 0 1 10 125 3600000000
     ∷ record (link 20 1 2 1 10 3600000000) { micrometres = 80000000 } ∷ [])
 
-a_wave : texts_of command.Assign (record (settings command.Assign) { queue = queue.Newell 20 })
+a_wave : texts_of (record (settings command.Assign) { queue = queue.Newell 20 })
     (job behind_a_wave (map (λ v. trip v 0) (numbers_below 12))) ≡
     text_to output.Agent (agents
     ++ codes "0,1,3,0,11,arrived,10;20,0;10\n1,1,3,0,11,arrived,10;20,0;10\n"
@@ -289,7 +291,7 @@ unfolding tables_on_literals trip
 a_wave = refl
 
 -- ---- the other commands over two links in a line
-free_flow : texts_of command.Freeflow (settings command.Freeflow) three_vehicles ≡
+free_flow : texts_of (settings command.Freeflow) three_vehicles ≡
     text_to output.LinkTime (codes "link_id,free_steps,storage\n10,10,125\n20,10,125\n")
     ∷ text_to output.Report (codes "nodes 3\nlinks 2\n") ∷ []
 unfolding others_on_literals
@@ -299,7 +301,7 @@ abbrev timed : ℕ → ℕ → TimeRow
 timed entered travel = record { entered = entered; travel = travel }
 
 -- the first link takes 45 steps up to step 50, and there is no walk back
-a_skim : texts_of command.Skim (record (settings command.Skim) { starts = 0 ∷ 50 ∷ [] })
+a_skim : texts_of (record (settings command.Skim) { starts = 0 ∷ 50 ∷ [] })
     (record (job two_links [])
     { times = timed 3 45 ∷ timed 0 10 ∷ timed 0 10 ∷ timed 0 10 ∷ [] }) ≡
     text_to output.Skim (codes "o_zone_id,d_zone_id,start_step,least_steps\n"
@@ -320,7 +322,7 @@ row_of_three = record {
 }
 
 -- a third of three vehicles is one, and a thousandth none
-a_sweep : texts_of command.Sweep (record (settings command.Sweep) { scales = 334 ∷ 1 ∷ [] })
+a_sweep : texts_of (record (settings command.Sweep) { scales = 334 ∷ 1 ∷ [] })
     (record (job two_links []) { demand_cells = row_of_three ∷ [] }) ≡
     text_to output.Sweep (codes "scenario 0 scale 334\n" ++ agents
     ++ codes "0,1,3,15,35,arrived,10;20,15;25\n" ++ link_times
@@ -360,7 +362,7 @@ passes : verdict_of (settings command.Audit) (audited 35) ≡ verdict.Yes
 unfolding others_on_literals trip
 passes = refl
 
-its_report : texts_of command.Audit (settings command.Audit) (audited 35) ≡
+its_report : texts_of (settings command.Audit) (audited 35) ≡
     text_to output.Report (codes "audit ok\nvehicles 3\nlinks 2\n") ∷ []
 unfolding others_on_literals trip
 its_report = refl

@@ -29,17 +29,17 @@ gap_by s traffic routes =
 abbrev pub gap_at : Settings → Traffic → (place : ℕ) → GapLine
 gap_at s traffic place = gap_by s traffic (routes_at s traffic place)
 
--- the routes of all iterations, and their gaps
-abbrev pub all_routes : Settings → Traffic → List VehicleRoutes
-all_routes s traffic = map (routes_at s traffic) (numbers_below s.iterations)
+-- the routes of the first iterations, so many, and the gaps of all
+abbrev pub routes_until : Settings → Traffic → (iterations : ℕ) → List VehicleRoutes
+routes_until s traffic iterations = map (routes_at s traffic) (numbers_below iterations)
 
 abbrev pub all_gaps : Settings → Traffic → List GapLine
 all_gaps s traffic = map (gap_at s traffic) (numbers_below s.iterations)
 
 -- ---- texts
 
--- the watch lines of iterations, the first of which has this number: one for the state after the
--- last step, where there is a watch
+-- the watch lines of iterations, the first of which has this number, by the plain loader: one for
+-- the state after the last step, where there is a watch
 unfoldable pub watch_texts : Settings → Traffic → (number : ℕ) → List VehicleRoutes → List OutText
 watch_texts s traffic number [] = []
 watch_texts s traffic number (routes ∷ others) =
@@ -51,10 +51,8 @@ since_told false s traffic = None
 since_told true s traffic =
     Some (all_since s.costs traffic.net traffic.start traffic.trips s.iterations)
 
--- the texts of an assignment
+-- the texts of an assignment but its watch lines
 unfoldable pub assigned_texts : Settings → Traffic → List OutText
 assigned_texts s traffic =
-    watch_texts s traffic 1 (all_routes s traffic)
-    ++ last_texts s.command s traffic (routes_at s traffic (s.iterations - 1))
-    (since_told s.start s traffic) (all_gaps s traffic)
-    (gap_at s traffic (s.iterations - 1))
+    last_texts s.command s traffic (routes_at s traffic (s.iterations - 1))
+    (since_told s.start s traffic) (all_gaps s traffic) (gap_at s traffic (s.iterations - 1))

@@ -9,9 +9,10 @@ pub fn walks_are_found()
     ensures { WalksAreFound }
 {}
 
-/// Words and tables that come to no refusal have settings and a job that are accepted. These have
-/// a list of texts, that of the reference; each other one is the same but for watch lines. An
-/// audit has the verdict of the reference, and texts where that is yes.
+/// Words and tables that come to no refusal have settings and a job that are accepted. Their texts
+/// by the definitions as relations are watch lines by their rule and then those of the reference,
+/// and no others. An audit has the verdict of the reference, and texts where that is yes. Whatever
+/// routes and gaps are iterations by the relations, each is one, and its loading is sound.
 pub fn each_job_has_its_texts()
     ensures { EachJobHasItsTexts }
 {}

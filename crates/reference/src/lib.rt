@@ -4,12 +4,12 @@
 //! walks of a bounded number of links. specs/Routes and specs/Gaps are the routes of vehicles and
 //! the gap by these walks, and specs/Reference is the plain simulator from top to bottom: the
 //! iterations of an assignment and its texts, in the words of the definitions that `run` cites.
-//! Skims, Sweeps and Audits are the other commands, and Texts the texts of each. specs/Examples
-//! computes worked cases.
+//! Skims, Sweeps and Audits are the other commands, and Texts has the texts of settings and a job,
+//! which `run` promises. specs/Examples computes worked cases.
 //!
-//! The laws say that words and tables that aren't refused come to an accepted job, and that the
-//! relation of `run` holds of each accepted job and these texts, and of no others but for watch
-//! lines. No program calls this crate.
+//! The laws say that words and tables that aren't refused come to an accepted job, and that by the
+//! definitions as relations, among all walks, it has these texts after its watch lines, and no
+//! others. No program calls this crate.
 #![tactic(auto)]
 
 mod laws;

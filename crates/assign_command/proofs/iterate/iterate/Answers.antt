@@ -3,8 +3,7 @@ use Rattle.std.proofs.lemmas.Result.{err_from_is_err_and}
 use Rattle.loader.specs.Gates.{gate_of}
 use Rattle.assignment.specs.Lent.{settings_in, traffic_in}
 use Rattle.assign_command.specs.Progress.{IsAt}
-use Rattle.assign_command.specs.Receipts.{numbers_in}
-use Rattle.commands.specs.Works.{by_workers}
+use Rattle.assign_command.specs.Receipts.{by_workers, numbers_in}
 use Rattle.assign_command.proofs.IterateFacts.{ahead, begun, halts-first, last-measured, load-halts, memory-halts}
 use Rattle.assign_command.proofs.ReceiptFacts.{all-more, gives-all, gives-more, no-loadings, some-more}
 use Rattle.assign_command.proofs.iterate.iterate.Goals as goal

@@ -3,8 +3,7 @@ use Rattle.loader.specs.Gates.{gate_of}
 use Rattle.assignment.specs.Lent.{settings_in, traffic_in}
 use Rattle.assignment.specs.Traffic.{AreRoutesOf}
 use Rattle.assign_command.specs.Progress.{IsAt}
-use Rattle.assign_command.specs.Receipts.{numbers_in, taking_all}
-use Rattle.commands.specs.Works.{by_workers}
+use Rattle.assign_command.specs.Receipts.{by_workers, numbers_in, taking_all}
 use Rattle.assign_command.proofs.iterate.iterate.Given as goal
 
 abbrev pub invariant-loop-number : goal.invariant-loop-number

@@ -7,15 +7,14 @@ use Rattle.jobs.specs.Kinds.{rows_in_job}
 use Rattle.jobs.specs.declared.stop.Stop.{Stop}
 use Rattle.dta_run.proofs.ReceiptFacts.{refused-gives, work-gives}
 use Rattle.dta_run.proofs.RunFacts.{refused-means, works-means}
-use Rattle.commands.proofs.SoundFacts.{loads-soundly}
 use Rattle.dta_run.proofs.accepted.accept_and_work.Goals as goal
 
 pub returns-in-Ok-clause-means : goal.returns-in-Ok-clause-means
 returns-in-Ok-clause-means g c = λ words told.
     let w = c.requires.works _ _ _ _ _ _ c.in-Ok.ensures.sound c.in-Ok.ensures.own c.work-status.ensures in
-    works-means words c.args.settings.now _ c.work-status.result (g.D.Desk.state c.args.desk.now) (g.D.Desk.state c.accept.new.desk) (g.D.Desk.state c.work-status.new.arg4) told
-    c.in-Ok.ensures.reads.done c.in-Ok.ensures.reads.taken (sym c.in-Ok.ensures.reads.puts) w.left w.work w.failed w.differs
-    (loads-soundly c.args.settings.now (rows_in_job c.in-Ok.job) c.requires.settings c.in-Ok.ensures.sound)
+    works-means c.args.settings.now (rows_in_job c.in-Ok.job) (g.D.Desk.state c.args.desk.now) (g.D.Desk.state c.accept.new.desk) (g.D.Desk.state c.work-status.new.arg4)
+    (record { in_range = c.requires.settings; sound = c.in-Ok.ensures.sound }) c.in-Ok.ensures.reads.taken (sym c.in-Ok.ensures.reads.puts) words c.work-status.result told
+    c.in-Ok.ensures.reads.done w.left w.work w.failed w.differs
 
 pub returns-in-Err-Refused-clause-means : goal.returns-in-Err-Refused-clause-means
 returns-in-Err-Refused-clause-means g c = λ words told.

@@ -1,4 +1,4 @@
-use Rattle.std.proofs.Common.{◌≡◌, arith, subst}
+use Rattle.std.proofs.Common.{◌≡◌, subst}
 use Rattle.commands.specs.declared.status.Status.TheVariants as status
 use Rattle.jobs.specs.Inputs.{FreeFlow, kind_of}
 use Rattle.jobs.specs.Kinds.{IsFor, free_rows}
