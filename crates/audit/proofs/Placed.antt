@@ -8,7 +8,7 @@ use Rattle.net_core.specs.declared.rows.LinkRow.{LinkRow}
 use Rattle.dta_model.specs.LinkTimes.{TimeTable, bucket_count, buckets_to, entered_in, table_in, table_of, time_at}
 use Rattle.dta_model.specs.declared.loaded.Journey.{Journey}
 use Rattle.dta_model.specs.declared.plan.Plan.{Plan}
-use Rattle.audit.specs.declared.agent_rows.AgentRow.{AgentRow}
+use Rattle.agent_table.specs.declared.rows.AgentRow.{AgentRow}
 
 -- ---- pairs
 pub pair_is : (agents : List AgentRow) (journeys : List Journey) (r : ℕ) (row : AgentRow) (journey : Journey) → length agents ≡ length journeys → r < length agents

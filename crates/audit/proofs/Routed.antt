@@ -18,7 +18,7 @@ use Rattle.dta_model.specs.declared.trip.Trip.{Trip}
 use Rattle.start_table.specs.Starts.{IsNamedWalk}
 use Rattle.audit.specs.Audit.{all_trip_checks, missing_checks, number_checks, of_agent, one_link, route_named, routes_named, trip_checks, trip_checks_at}
 use Rattle.audit.specs.Checks.{Check, Holds, IsVerdict, names_route, never}
-use Rattle.audit.specs.declared.agent_rows.AgentRow.{AgentRow}
+use Rattle.agent_table.specs.declared.rows.AgentRow.{AgentRow}
 use Rattle.audit.specs.declared.verdict.Verdict.{Verdict}
 use Rattle.audit.specs.declared.verdict.Verdict.TheVariants.{No, Yes}
 use Rattle.audit.proofs.Verdicts.{holds_at, yes_first, yes_last, yes_more}

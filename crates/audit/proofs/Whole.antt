@@ -16,7 +16,7 @@ use Rattle.dta_model.specs.declared.trip.Trip.{Trip}
 use Rattle.skims.specs.declared.time_rows.TimeRow.{TimeRow}
 use Rattle.audit.specs.Audit.{all_journey_checks, all_time_checks, all_trip_checks, IsAudit, IsPlan, missing_checks, route_named, routes_named}
 use Rattle.audit.specs.Checks.{Check, IsVerdict}
-use Rattle.audit.specs.declared.agent_rows.AgentRow.{AgentRow}
+use Rattle.agent_table.specs.declared.rows.AgentRow.{AgentRow}
 use Rattle.audit.specs.declared.plan.Plan.{Plan}
 use Rattle.audit.specs.declared.verdict.Verdict.{Verdict}
 use Rattle.audit.specs.declared.verdict.Verdict.TheVariants.{No, Yes}

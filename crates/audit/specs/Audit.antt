@@ -22,7 +22,7 @@ use Rattle.reports.specs.Texts.{status_name, told_status}
 use Rattle.skims.specs.declared.time_rows.TimeRow.{TimeRow}
 use Rattle.audit.specs.Checks.{Check, Statement, IsVerdict, names_route, never, same_if_any}
 use Rattle.audit.specs.Checks.{same_list, same_number}
-use Rattle.audit.specs.declared.agent_rows.AgentRow.{AgentRow}
+use Rattle.agent_table.specs.declared.rows.AgentRow.{AgentRow}
 use Rattle.audit.specs.declared.plan.Plan.{Plan}
 use Rattle.audit.specs.declared.verdict.Verdict.{Verdict}
 

@@ -9,12 +9,12 @@ ghost use Rattle.skims.specs.GivenTimes.{AreRowsOf};
 ghost use Rattle.audit.specs.Audit.{IsAudit, IsPlan, all_journey_checks, all_time_checks};
 ghost use Rattle.audit.specs.Checks.{IsVerdict};
 
-use crate::agent_rows::{AgentRow, AgentRows};
 use crate::journey_checks::check_journeys;
 use crate::plan::Plan;
 use crate::time_checks::check_times;
 use crate::trip_checks::check_trips;
 use crate::verdict::Verdict;
+use agent_table::{AgentRow, AgentRows};
 use dta_model::{Loading, Routes, Trip};
 use link_times::LinkTimes;
 use net_core::{Memory, Net};

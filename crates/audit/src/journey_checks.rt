@@ -4,8 +4,8 @@ ghost use Rattle.audit.specs.Audit.{all_journey_checks, journey_checks};
 ghost use Rattle.audit.specs.Audit.{status_text as status_text_of};
 ghost use Rattle.audit.specs.Checks.{IsVerdict};
 
-use crate::agent_rows::AgentRow;
 use crate::verdict::Verdict;
+use agent_table::AgentRow;
 use desk_io::Table;
 use dta_model::Journey;
 use reports::status_text;

@@ -8,8 +8,8 @@ ghost use Rattle.audit.specs.Inside.{TellsRoute};
 ghost use Rattle.audit.specs.declared.verdict.Verdict.TheVariants.{No, Yes};
 ghost use Rattle.desk_io.specs.declared.desk.Table.TheVariants.{Start};
 
-use crate::agent_rows::AgentRow;
 use crate::verdict::Verdict;
+use agent_table::AgentRow;
 use desk_io::Table;
 use dta_model::{Route, Trip};
 use net_core::{Memory, Net};

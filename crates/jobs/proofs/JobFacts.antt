@@ -38,9 +38,9 @@ use Rattle.jobs.specs.Causes.{AreCounted, IsCauseAmong, IsCauseIn, IsCutIn, IsPa
 use Rattle.jobs.specs.Stops.{HasFault, Stops, StopsAmong, StopsAt, StopsIn, StopsPast, stop_at_scale}
 use Rattle.jobs.specs.Tables.{AreAccepted, IsFaulty, ReachedAmong}
 use Rattle.desk_io.specs.State.{DeskState}
-use Rattle.sweep.specs.Scales.{IsFirstTooMany}
-use Rattle.sweep.specs.declared.fault.SweepFault.{SweepFault}
-use Rattle.sweep.specs.declared.fault.SweepFault.TheVariants as sweep
+use Rattle.scaled_demand.specs.Scales.{IsFirstTooMany}
+use Rattle.scaled_demand.specs.declared.fault.SweepFault.{SweepFault}
+use Rattle.scaled_demand.specs.declared.fault.SweepFault.TheVariants as sweep
 use Rattle.desk_io.proofs.DeskFacts.{before_left-empty}
 use Rattle.jobs.proofs.ChainFacts.{reached-then, reads-so}
 use Rattle.jobs.specs.declared.stop.Stop.{Stop}

@@ -33,8 +33,8 @@ use Rattle.gmns_tables.specs.declared.with_windows.WithWindows.{WithWindows}
 use Rattle.gmns_tables.specs.Nodes.{node_of, node_verdict}
 use Rattle.demand.specs.DemandRows.{demand_cell_of, demand_columns, demand_verdict}
 use Rattle.start_table.specs.StartTable.{start_columns, start_row_of, start_verdict}
-use Rattle.audit.specs.Agents.{agent_columns, agent_row_of, agents_verdict}
-use Rattle.audit.specs.declared.agent_rows.TheConstants.{MOST_AGENT_ROWS}
+use Rattle.agent_table.specs.Agents.{agent_columns, agent_row_of, agents_verdict}
+use Rattle.agent_table.specs.declared.rows.TheConstants.{MOST_AGENT_ROWS}
 use Rattle.dta_words.specs.declared.command.Command.{Command}
 use Rattle.dta_words.specs.declared.command.Command.TheVariants as command
 use Rattle.start_table.specs.declared.rows.TheConstants.{MOST_START_ROWS}

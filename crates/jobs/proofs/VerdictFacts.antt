@@ -23,7 +23,7 @@ use Rattle.dta_words.specs.declared.command.Command.TheVariants as command
 use Rattle.dta_words.specs.declared.command.Settings.{Settings}
 use Rattle.reports.specs.declared.refusal.TheConstants.{MOST_SWEEP_LINK_STEPS}
 use Rattle.std.proofs.lemmas.List.Elements.{All-head, All-tail}
-use Rattle.sweep.specs.Scales.{AreAllWithin, IsFirstTooMany, scaled}
+use Rattle.scaled_demand.specs.Scales.{AreAllWithin, IsFirstTooMany, scaled}
 use Rattle.jobs.specs.TableRows.{TableRows, no_rows}
 use Rattle.jobs.specs.Limits.{AreAbove, Limits, first_above, loading_limits, scales_past, skim_entries, skim_limits, sweep_limits, vehicles_past}
 use Rattle.jobs.specs.Inputs.{Assigning, Auditing, FreeFlow, Kind, Skimming, Sweeping, inputs_by, kind_of, read_tables, source_of, tables_of}

@@ -21,7 +21,7 @@ use Rattle.jobs.specs.declared.tables.Roads.{Roads}
 use Rattle.jobs.specs.declared.tables.NetworkTables.{NetworkTables}
 use Rattle.jobs.specs.declared.tables.Tables.{Tables}
 use Rattle.skims.specs.declared.time_rows.TimeRow.{TimeRow}
-use Rattle.audit.specs.declared.agent_rows.AgentRow.{AgentRow}
+use Rattle.agent_table.specs.declared.rows.AgentRow.{AgentRow}
 
 -- a call that reads tables and does nothing else to a desk: what it gives where it is done, and
 -- where and why it stops

@@ -9,7 +9,7 @@ use Rattle.row_reader.specs.Records.{records}
 use Rattle.row_reader.specs.declared.faults.TableFault.{TableFault}
 use Rattle.dta_model.specs.declared.trip.DemandCell.{DemandCell}
 use Rattle.start_table.specs.StartTable.{start_verdict}
-use Rattle.audit.specs.Agents.{agents_verdict}
+use Rattle.agent_table.specs.Agents.{agents_verdict}
 use Rattle.grid_maker.specs.Grid.{node_text, link_text, demand_text}
 use Rattle.dta_words.specs.declared.command.Command.{Command}
 use Rattle.dta_words.specs.declared.command.Command.TheVariants as command

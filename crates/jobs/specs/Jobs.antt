@@ -13,9 +13,9 @@ use Rattle.skims.specs.GivenTimes.{AreRowsOf}
 use Rattle.skims.specs.declared.time_rows.TimeRow.{TimeRow}
 use Rattle.reports.specs.declared.refusal.TheConstants.{MOST_SWEEP_LINK_STEPS}
 use Rattle.assignment.specs.Assignment.{Traffic}
-use Rattle.sweep.specs.Scales.{AreAllWithin}
+use Rattle.scaled_demand.specs.Scales.{AreAllWithin}
 use Rattle.assignment.specs.Traffic.{AreTripsBelow}
-use Rattle.audit.specs.declared.agent_rows.AgentRow.{AgentRow}
+use Rattle.agent_table.specs.declared.rows.AgentRow.{AgentRow}
 use Rattle.start_table.specs.Starts.{AreStartRows}
 use Rattle.start_table.specs.declared.rows.StartRow.{StartRow}
 use Rattle.jobs.specs.TableRows.{TableRows, net_of, no_rows}

@@ -11,7 +11,7 @@ use Rattle.dta_words.specs.declared.command.Settings.{Settings}
 use Rattle.reports.specs.declared.refusal.Refusal.{Refusal}
 use Rattle.reports.specs.declared.refusal.Refusal.TheVariants as refusal
 use Rattle.reports.specs.declared.refusal.TheConstants.{MOST_SKIM_ENTRIES, MOST_SWEEP_LINK_STEPS}
-use Rattle.sweep.specs.Scales.{AreAllWithin, IsFirstTooMany, scaled}
+use Rattle.scaled_demand.specs.Scales.{AreAllWithin, IsFirstTooMany, scaled}
 use Rattle.jobs.specs.TableRows.{TableRows}
 
 -- which rows are within the limits; which refusals tell a limit that rows are past; and the first

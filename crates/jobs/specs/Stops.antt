@@ -12,8 +12,8 @@ use Rattle.jobs.specs.declared.stop.Stop.{Stop}
 use Rattle.jobs.specs.declared.stop.Stop.TheVariants.{Refused, Memory}
 use Rattle.vehicle_release.specs.declared.fault.ReleaseFault.{ReleaseFault}
 use Rattle.vehicle_release.specs.declared.fault.ReleaseFault.TheVariants as release
-use Rattle.sweep.specs.declared.fault.SweepFault.{SweepFault}
-use Rattle.sweep.specs.declared.fault.SweepFault.TheVariants as sweep
+use Rattle.scaled_demand.specs.declared.fault.SweepFault.{SweepFault}
+use Rattle.scaled_demand.specs.declared.fault.SweepFault.TheVariants as sweep
 use Rattle.jobs.specs.TableRows.{TableRows}
 use Rattle.jobs.specs.Limits.{Limits}
 use Rattle.jobs.specs.Inputs.{tables_of}

@@ -10,7 +10,7 @@ use Rattle.dta_model.specs.declared.trip.DemandCell.{DemandCell}
 use Rattle.gmns_tables.specs.Net.{net_rows}
 use Rattle.gmns_tables.specs.declared.with_windows.WithWindows.{WithWindows}
 use Rattle.start_table.specs.declared.rows.StartRow.{StartRow}
-use Rattle.audit.specs.declared.agent_rows.AgentRow.{AgentRow}
+use Rattle.agent_table.specs.declared.rows.AgentRow.{AgentRow}
 use Rattle.skims.specs.declared.time_rows.TimeRow.{TimeRow}
 
 -- the tables of a network's nodes and links, those of a network with its turns, and those that

@@ -11,7 +11,7 @@ use crate::assign_job::trips_within;
 use crate::job::Job;
 use crate::stop::Stop;
 use crate::tables::{NetworkTables, Tables, accept_agents, accept_all, accept_times};
-use audit::AgentRows;
+use agent_table::AgentRows;
 use desk_io::Desk;
 use dta_model::Trip;
 use dta_words::Settings;

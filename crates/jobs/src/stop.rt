@@ -5,8 +5,8 @@ ghost use Rattle.jobs.specs.declared.stop.Stop.TheVariants as stop;
 
 use reports::Refusal;
 use row_reader::TableRefusal;
+use scaled_demand::SweepFault;
 use std::alloc::AllocError;
-use sweep::SweepFault;
 use vehicle_release::ReleaseFault;
 
 /// Why a run stops before its work.

@@ -21,8 +21,8 @@ use dta_words::Settings;
 use gmns_tables::join_net;
 use net_core::Net;
 use reports::{MOST_SWEEP_LINK_STEPS, Refusal};
+use scaled_demand::check_scales;
 use std::alloc::Global;
-use sweep::check_scales;
 
 /// The network of a sweep, and its demand.
 #[derive(Drop)]

@@ -23,7 +23,7 @@ ghost use Rattle.jobs.specs.Stops.{StopsAt};
 ghost use Rattle.jobs.specs.Tables.{turns_of};
 
 use crate::stop::Stop;
-use audit::{AgentRows, read_agents};
+use agent_table::{AgentRows, read_agents};
 use demand::read_demand;
 use desk_io::{Desk, MOST_TABLE_BYTES, ReadRefusal, Table, read_table};
 use dta_model::DemandCell;

@@ -29,11 +29,11 @@ use Rattle.demand.specs.DemandRows.{AreDemandCells, demand_verdict}
 use Rattle.vehicle_release.specs.Limits.{IsWithin}
 use Rattle.start_table.specs.Starts.{AreStartRows}
 use Rattle.start_table.specs.StartTable.{start_verdict}
-use Rattle.audit.specs.Agents.{agents_verdict}
+use Rattle.agent_table.specs.Agents.{agents_verdict}
 use Rattle.skims.specs.GivenTimes.{AreRowsOf}
 use Rattle.skims.specs.TimesTable.{times_verdict}
 use Rattle.skims.specs.declared.time_rows.TimeRow.{TimeRow}
-use Rattle.sweep.specs.Scales.{AreAllWithin, scaled}
+use Rattle.scaled_demand.specs.Scales.{AreAllWithin, scaled}
 use Rattle.dta_words.specs.Grammar.{settings_of}
 use Rattle.dta_words.specs.Ranges.{AreSettings}
 use Rattle.dta_words.specs.declared.command.Settings.{Settings}

@@ -10,8 +10,8 @@ use Rattle.vehicle_release.specs.Limits.{IsWithin}
 use Rattle.vehicle_release.proofs.WholeFacts.{all_within, are_early, are_rising, are_trips}
 use Rattle.dta_words.specs.Ranges.{AreSettings}
 use Rattle.dta_words.specs.declared.command.Settings.{Settings}
-use Rattle.sweep.specs.Scales.{AreAllWithin, scaled}
-use Rattle.sweep.proofs.LimitFacts.{scaled_windows}
+use Rattle.scaled_demand.specs.Scales.{AreAllWithin, scaled}
+use Rattle.scaled_demand.proofs.LimitFacts.{scaled_windows}
 use Rattle.sweep.specs.Scenarios.{AreScenarios, IsScenario, traffic_at}
 use Rattle.assignment.specs.Traffic.{AreTripsBelow, IsTraffic}
 use Rattle.jobs.specs.Jobs.{IsJob, IsSweepJob, JobRows}

@@ -22,7 +22,7 @@ use Rattle.dta_words.specs.declared.command.Command.TheVariants as command
 use Rattle.dta_words.specs.declared.command.Settings.{Settings}
 use Rattle.start_table.specs.declared.rows.StartRow.{StartRow}
 use Rattle.skims.specs.declared.time_rows.TimeRow.{TimeRow}
-use Rattle.audit.specs.declared.agent_rows.AgentRow.{AgentRow}
+use Rattle.agent_table.specs.declared.rows.AgentRow.{AgentRow}
 use Rattle.audit.specs.declared.verdict.Verdict.TheVariants as verdict
 use Rattle.jobs.specs.Jobs.{JobRows, traffic_of}
 use Rattle.commands.specs.Outputs.{text_to}

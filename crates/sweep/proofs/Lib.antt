@@ -1,4 +1,3 @@
-pub mod LimitFacts
 pub mod ScenarioFacts
 pub mod RoundFacts
 pub mod TextFacts

@@ -17,7 +17,7 @@ use Rattle.assignment.specs.Assignment.{Traffic, plan_of, summary_of, times_of, 
 use Rattle.assignment.specs.Progress.{IsAssigned}
 use Rattle.assignment.specs.declared.iterations.Assigned.{Assigned}
 use Rattle.assignment.proofs.AssignmentFacts.{get-added}
-use Rattle.sweep.specs.Scales.{trips_at}
+use Rattle.scaled_demand.specs.Scales.{trips_at}
 use Rattle.sweep.specs.Scenarios.{HasTexts, IsScenario, wait_text}
 use Rattle.sweep.specs.declared.scenario.Scenario.{Scenario}
 

@@ -1,4 +1,3 @@
-pub mod Scales
 pub mod Scenarios
 pub mod Texts
 pub mod Rounds

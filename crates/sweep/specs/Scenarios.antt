@@ -12,7 +12,7 @@ use Rattle.reports.specs.Texts.{report_text}
 use Rattle.dta_words.specs.declared.command.Settings.{Settings}
 use Rattle.assignment.specs.Assignment.{AreIterations, Traffic, VehicleRoutes, plan_of, summary_of}
 use Rattle.assignment.specs.Assignment.{times_of, waits_told}
-use Rattle.sweep.specs.Scales.{trips_at}
+use Rattle.scaled_demand.specs.Scales.{trips_at}
 use Rattle.sweep.specs.declared.scenario.Scenario.{Scenario}
 
 -- the traffic of a scenario: the trips of the demand times its scale, without a start table

@@ -5,24 +5,19 @@
 //! begins with its own first routes, loads plainly, and knows no other: its texts depend on no
 //! other scale and on no number of workers ([`scenarios_stand_alone`]).
 //!
-//! [`check_scales`] tells the first scenario whose vehicles are too many, and takes no memory.
 //! [`sweep`] works up to four scenarios at once by fork and join, in rounds of consecutive scales,
 //! and keeps their texts until all are done. So the memory is that of one assignment for each
 //! scenario at once, and the texts. [`put_sweep`] puts them with a line before each, and a report.
 #![tactic(auto)]
 
-mod fault;
 mod laws;
-mod limits;
 mod rounds;
-mod scales;
 mod scenario;
 mod scenario_texts;
 mod texts;
 
-pub use fault::SweepFault;
 pub use laws::scenarios_stand_alone;
-pub use limits::check_scales;
 pub use rounds::{MOST_AT_ONCE, sweep};
+pub use scaled_demand::SweepFault;
 pub use scenario::{Scenario, Sweep};
 pub use texts::put_sweep;

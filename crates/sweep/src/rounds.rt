@@ -10,21 +10,19 @@ ghost use Rattle.assignment.specs.Traffic.{AreRoutesOf, AreTripsBelow};
 ghost use Rattle.dta_words.specs.Ranges.{AreScales, AreSettings};
 ghost use Rattle.dta_words.specs.declared.options.TheConstants.{GREATEST_SCALE};
 ghost use Rattle.sweep.specs.Rounds.{AreKept};
-ghost use Rattle.sweep.specs.Scales.{AreAllWithin, IsFirstTooMany, scaled, trips_at};
+ghost use Rattle.scaled_demand.specs.Scales.{AreAllWithin, IsFirstTooMany, scaled, trips_at};
 ghost use Rattle.sweep.specs.Scenarios.{AreScenarios, IsScenario};
-ghost use Rattle.sweep.specs.declared.fault.SweepFault.TheVariants as fault;
+ghost use Rattle.scaled_demand.specs.declared.fault.SweepFault.TheVariants as fault;
 ghost use Rattle.sweep.specs.declared.rounds.TheConstants.{MOST_AT_ONCE};
 ghost use Rattle.vehicle_release.specs.Limits.{IsWithin};
 
-use crate::fault::SweepFault;
-use crate::limits::check_scales;
-use crate::scales::all_times;
 use crate::scenario::{Scenario, Sweep};
 use crate::scenario_texts::scenario_of;
 use assignment::{Assigned, Assignment, advance, begin, finish};
 use dta_model::{DemandCell, Loaded, Routes, Trip};
 use dta_words::Settings;
 use net_core::{Memory, Net};
+use scaled_demand::{SweepFault, check_scales, scaled_cells};
 use serial_loader::load_plain;
 use start_table::StartRows;
 use std::alloc::{AllocError, Global};
@@ -53,7 +51,7 @@ fn released(
     ensures trips { IfOk result (λ trips. trips.items ≡ trips_at scale cells.now) }
     ensures below { IfOk result (λ trips. AreTripsBelow settings.now.horizon trips.items) }
 {
-    let scaled = all_times(alloc, cells, scale)?;
+    let scaled = scaled_cells(alloc, cells, scale)?;
     match release(alloc, &scaled) {
         Ok(trips) => Ok(trips),
         Err(ReleaseFault::TooMany { .. }) => unreachable!(),

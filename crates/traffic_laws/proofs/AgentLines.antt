@@ -32,7 +32,7 @@ use Rattle.reports.specs.Texts.{Vehicle, agent_columns, agent_header, agent_line
 use Rattle.reports.specs.Texts.{agent_text_by, agent_text_from, ids_of, joined, line_end}
 use Rattle.reports.specs.Texts.{number_or_nothing, routed_status, since_header, status_name}
 use Rattle.reports.specs.Texts.{trip_columns, vehicles, way_columns}
-use Rattle.audit.specs.Agents.{agent_columns as audited_columns}
+use Rattle.agent_table.specs.Agents.{agent_columns as audited_columns}
 use Rattle.traffic_laws.proofs.Joined.{ids-read, joined-field, shorter}
 
 -- ---- headers

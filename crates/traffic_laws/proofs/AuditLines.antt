@@ -17,9 +17,9 @@ use Rattle.dta_model.specs.declared.loaded.Journey.{Journey}
 use Rattle.grid_maker.proofs.LinesFacts.{table-accepted}
 use Rattle.grid_maker.proofs.WrittenFacts.{identifier-read}
 use Rattle.reports.specs.Texts.{number_or_nothing, routed_status, status_name}
-use Rattle.audit.specs.Agents.{agent_columns, agent_row_of, agents_verdict, optional_identifier}
-use Rattle.audit.specs.declared.agent_rows.AgentRow.{AgentRow}
-use Rattle.audit.specs.declared.agent_rows.TheConstants.{MOST_AGENT_ROWS}
+use Rattle.agent_table.specs.Agents.{agent_columns, agent_row_of, agents_verdict, optional_identifier}
+use Rattle.agent_table.specs.declared.rows.AgentRow.{AgentRow}
+use Rattle.agent_table.specs.declared.rows.TheConstants.{MOST_AGENT_ROWS}
 use Rattle.traffic_laws.proofs.AgentLines.{Agent, AgentFits, agent-fields, arrival-at, entries-at}
 use Rattle.traffic_laws.proofs.AgentLines.{fields-are, header-text, ids-at, is-header, line-of}
 use Rattle.traffic_laws.proofs.AgentLines.{line-of-is, many-fields, names, number-in, status-at}

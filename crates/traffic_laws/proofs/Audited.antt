@@ -26,13 +26,13 @@ use Rattle.link_times.proofs.Gone.{unrouted}
 use Rattle.link_times.proofs.Places.{bucket_inside}
 use Rattle.skims.specs.declared.time_rows.TimeRow.{TimeRow}
 use Rattle.reports.specs.Texts.{agent_text_by, ids_of}
-use Rattle.audit.specs.Agents.{agents_verdict}
+use Rattle.agent_table.specs.Agents.{agents_verdict}
 use Rattle.audit.specs.Audit.{IsAudit, all_journey_checks, all_time_checks, all_trip_checks}
 use Rattle.audit.specs.Audit.{checks_of, journey_checks, journey_checks_at, missing_checks}
 use Rattle.audit.specs.Audit.{route_named, routes_named, status_text, time_checks, trip_checks}
 use Rattle.audit.specs.Audit.{trip_checks_at}
 use Rattle.audit.specs.Checks.{Check, Holds, IsVerdict, names_route}
-use Rattle.audit.specs.declared.agent_rows.AgentRow.{AgentRow}
+use Rattle.agent_table.specs.declared.rows.AgentRow.{AgentRow}
 use Rattle.audit.specs.declared.verdict.Verdict.TheVariants.{Yes}
 use Rattle.audit.proofs.Routed.{walk_is_route}
 use Rattle.audit.proofs.Verdicts.{determined, yes_then}

@@ -19,9 +19,9 @@ use Rattle.skims.specs.GivenTimes.{table_given}
 use Rattle.skims.specs.TimesTable.{times_verdict}
 use Rattle.skims.specs.declared.time_rows.TimeRow.{TimeRow}
 use Rattle.reports.specs.Texts.{agent_text_by, link_time_text}
-use Rattle.audit.specs.Agents.{agents_verdict}
+use Rattle.agent_table.specs.Agents.{agents_verdict}
 use Rattle.audit.specs.Audit.{IsAudit}
-use Rattle.audit.specs.declared.agent_rows.AgentRow.{AgentRow}
+use Rattle.agent_table.specs.declared.rows.AgentRow.{AgentRow}
 use Rattle.audit.specs.declared.plan.Plan.{Plan as AuditPlan}
 use Rattle.audit.specs.declared.verdict.Verdict.{Verdict}
 use Rattle.audit.specs.declared.verdict.Verdict.TheVariants.{Yes}

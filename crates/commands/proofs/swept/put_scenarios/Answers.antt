@@ -1,8 +1,8 @@
 use Rattle.std.proofs.Common.{◌≡◌, ℕ, List, ap, subst, sym, ◌∙◌}
 use Rattle.std.specs.Prelude.{Err}
-use Rattle.sweep.specs.Scales.{AreAllWithin}
-use Rattle.sweep.proofs.LimitFacts.{none-too-many}
-use Rattle.sweep.specs.declared.fault.SweepFault.TheVariants as sweep
+use Rattle.scaled_demand.specs.Scales.{AreAllWithin}
+use Rattle.scaled_demand.proofs.LimitFacts.{none-too-many}
+use Rattle.scaled_demand.specs.declared.fault.SweepFault.TheVariants as sweep
 use Rattle.dta_model.specs.declared.trip.DemandCell.{DemandCell}
 use Rattle.sweep.specs.Scenarios.{AreScenarios}
 use Rattle.jobs.specs.Kinds.{sweep_rows}

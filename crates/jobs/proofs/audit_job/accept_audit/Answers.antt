@@ -1,6 +1,6 @@
 use Rattle.std.proofs.Common.{ℕ, List, ◌*◌, ◌≤◌, [], ◌∷◌, ◌++◌, ◌≡◌, ◌∙◌, ap, arith, length, refl, subst, sym}
 use Rattle.std.proofs.lemmas.Result.{err_from_is_err_and}
-use Rattle.audit.specs.declared.agent_rows.AgentRow.{AgentRow}
+use Rattle.agent_table.specs.declared.rows.AgentRow.{AgentRow}
 use Rattle.desk_io.specs.Desk.{Left}
 use Rattle.desk_io.specs.declared.desk.Table.TheVariants as table
 use Rattle.dta_words.specs.declared.command.Settings.{Settings}

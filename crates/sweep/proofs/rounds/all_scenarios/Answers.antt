@@ -1,6 +1,6 @@
 use Rattle.std.proofs.Common.{◌-◌, drop, arith, rules}
 use Rattle.std.proofs.lemmas.List.Elements.{All-drop, All-take}
-use Rattle.sweep.proofs.LimitFacts.{WithinAt}
+use Rattle.scaled_demand.proofs.LimitFacts.{WithinAt}
 use Rattle.sweep.proofs.RoundFacts.{round-more, rounds-all}
 use Rattle.sweep.proofs.rounds.all_scenarios.Goals as goal
 

@@ -6,8 +6,8 @@ use Rattle.dta_model.specs.declared.trip.Trip.{Trip}
 use Rattle.dta_model.specs.declared.trip.DemandCell.{DemandCell}
 use Rattle.vehicle_release.specs.Limits.{IsFirstAbove}
 use Rattle.vehicle_release.specs.declared.fault.ReleaseFault.{ReleaseFault}
-use Rattle.sweep.specs.Scales.{scaled}
-use Rattle.sweep.proofs.LimitFacts.{none-above, scaled_windows}
+use Rattle.scaled_demand.specs.Scales.{scaled}
+use Rattle.scaled_demand.proofs.LimitFacts.{none-above, scaled_windows}
 use Rattle.sweep.proofs.rounds.released.Goals as goal
 
 pub unreachable-requires : goal.unreachable-requires

@@ -1,5 +1,5 @@
 use Rattle.std.proofs.lemmas.Result.{err_from_is_err_and}
-use Rattle.sweep.proofs.LimitFacts.{told-again, told-within}
+use Rattle.scaled_demand.proofs.LimitFacts.{told-again, told-within}
 use Rattle.sweep.proofs.rounds.sweep.Goals as goal
 
 pub returns-in_err-all-clause-too_many : goal.returns-in_err-all-clause-too_many

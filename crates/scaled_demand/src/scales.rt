@@ -2,7 +2,7 @@
 ghost use Rattle.std.specs.Prelude.{◌≡◌, ◌≤◌, All, IfOk};
 ghost use Rattle.fixed_units.specs.declared.quantity.TheConstants.{MOST_THOUSANDTHS};
 ghost use Rattle.dta_words.specs.declared.options.TheConstants.{GREATEST_SCALE};
-ghost use Rattle.sweep.specs.Scales.{scaled, scaled_cell, scaled_volume};
+ghost use Rattle.scaled_demand.specs.Scales.{scaled, scaled_cell, scaled_volume};
 
 use dta_model::DemandCell;
 use fixed_units::MOST_THOUSANDTHS;
@@ -35,7 +35,7 @@ pub(crate) fn times(cell: &DemandCell, scale: u64) -> DemandCell
 }
 
 /// Demand rows with their volumes times a scale.
-pub(crate) fn all_times(
+pub fn scaled_cells(
     alloc: Global,
     cells: &[DemandCell],
     scale: u64,

@@ -10,9 +10,9 @@ use Rattle.dta_model.specs.declared.trip.DemandCell.{DemandCell}
 use Rattle.dta_model.specs.declared.trip.TheConstants.{MOST_TRIPS, VOLUME_OF_A_VEHICLE}
 use Rattle.vehicle_release.specs.Limits.{IsFirstAbove, IsWithin}
 use Rattle.vehicle_release.proofs.SumsFacts.{IsCounted, counted_more, vehicles_before-volume, volume_before-more}
-use Rattle.sweep.specs.Scales.{AreAllWithin, IsFirstTooMany, scaled, scaled_cell, scaled_volume}
-use Rattle.sweep.specs.declared.fault.SweepFault.{SweepFault}
-use Rattle.sweep.specs.declared.fault.SweepFault.TheVariants as fault
+use Rattle.scaled_demand.specs.Scales.{AreAllWithin, IsFirstTooMany, scaled, scaled_cell, scaled_volume}
+use Rattle.scaled_demand.specs.declared.fault.SweepFault.{SweepFault}
+use Rattle.scaled_demand.specs.declared.fault.SweepFault.TheVariants as fault
 
 -- no scaled volume is above the greatest
 scaled_most : (scale volume : ℕ) → scaled_volume scale volume ≤ MOST_THOUSANDTHS

@@ -11,8 +11,8 @@ use Rattle.row_reader.specs.declared.faults.Column.TheVariants as column
 use Rattle.row_reader.specs.declared.faults.Complaint.{Complaint}
 use Rattle.row_reader.specs.declared.faults.TableFault.{TableFault}
 use Rattle.start_table.specs.StartTable.{ids_in}
-use Rattle.audit.specs.declared.agent_rows.AgentRow.{AgentRow}
-use Rattle.audit.specs.declared.agent_rows.TheConstants.{MOST_AGENT_ROWS}
+use Rattle.agent_table.specs.declared.rows.AgentRow.{AgentRow}
+use Rattle.agent_table.specs.declared.rows.TheConstants.{MOST_AGENT_ROWS}
 
 -- an identifier, or nothing where the field is empty
 unfoldable pub optional_identifier : Column → List ℕ → Result (Option ℕ) Complaint

@@ -4,8 +4,8 @@ ghost use Rattle.fixed_units.specs.declared.quantity.TheConstants.{MOST_THOUSAND
 ghost use Rattle.dta_words.specs.Ranges.{AreScales};
 ghost use Rattle.dta_words.specs.declared.options.TheConstants.{GREATEST_SCALE};
 ghost use Rattle.vehicle_release.specs.Limits.{IsFirstAbove, IsWithin};
-ghost use Rattle.sweep.specs.Scales.{AreAllWithin, IsFirstTooMany, scaled};
-ghost use Rattle.sweep.specs.declared.fault.SweepFault.TheVariants as fault;
+ghost use Rattle.scaled_demand.specs.Scales.{AreAllWithin, IsFirstTooMany, scaled};
+ghost use Rattle.scaled_demand.specs.declared.fault.SweepFault.TheVariants as fault;
 
 use crate::fault::SweepFault;
 use crate::scales::times;

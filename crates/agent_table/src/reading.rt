@@ -3,11 +3,11 @@ ghost use Rattle.std.specs.Prelude.{◌≡◌};
 ghost use Rattle.row_reader.specs.Columns.{text};
 ghost use Rattle.row_reader.specs.FirstFault.{Tells};
 ghost use Rattle.row_reader.specs.Records.{records};
-ghost use Rattle.audit.specs.Agents.{agent_row_of, agents_verdict};
-ghost use Rattle.audit.specs.Agents.{optional_identifier as optional_identifier_of};
-ghost use Rattle.audit.specs.declared.agent_rows.TheConstants.{MOST_AGENT_ROWS};
+ghost use Rattle.agent_table.specs.Agents.{agent_row_of, agents_verdict};
+ghost use Rattle.agent_table.specs.Agents.{optional_identifier as optional_identifier_of};
+ghost use Rattle.agent_table.specs.declared.rows.TheConstants.{MOST_AGENT_ROWS};
 
-use crate::agent_rows::{AgentRow, AgentRows, MOST_AGENT_ROWS};
+use crate::rows::{AgentRow, AgentRows, MOST_AGENT_ROWS};
 use desk_io::{Table, Text};
 use row_reader::{Accepted, Column, Complaint, Fields, RowRefusal, TableRefusal, read_rows};
 use start_table::ids_in;

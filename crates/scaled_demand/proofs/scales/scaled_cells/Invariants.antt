@@ -1,7 +1,7 @@
 use Rattle.std.proofs.Common.{◌≡◌, ◌≤◌, All, take}
 use Rattle.fixed_units.specs.declared.quantity.TheConstants.{MOST_THOUSANDTHS}
-use Rattle.sweep.specs.Scales.{scaled}
-use Rattle.sweep.proofs.scales.all_times.Given as goal
+use Rattle.scaled_demand.specs.Scales.{scaled}
+use Rattle.scaled_demand.proofs.scales.scaled_cells.Given as goal
 
 abbrev pub invariant-loop-cell : goal.invariant-loop-cell
 invariant-loop-cell l = record {

@@ -1,5 +1,5 @@
-use Rattle.sweep.proofs.LimitFacts.{all-before, told-within}
-use Rattle.sweep.proofs.limits.check_scales.Goals as goal
+use Rattle.scaled_demand.proofs.LimitFacts.{all-before, told-within}
+use Rattle.scaled_demand.proofs.limits.check_scales.Goals as goal
 
 pub returns-clause-ok_within : goal.returns-clause-ok_within
 returns-clause-ok_within c =

@@ -1,5 +1,5 @@
-use Rattle.sweep.proofs.LimitFacts.{scaled_above, scaled_more}
-use Rattle.sweep.proofs.limits.check_scale.Goals as goal
+use Rattle.scaled_demand.proofs.LimitFacts.{scaled_above, scaled_more}
+use Rattle.scaled_demand.proofs.limits.check_scale.Goals as goal
 
 pub returns-then-total-clause-first : goal.returns-then-total-clause-first
 returns-then-total-clause-first c =

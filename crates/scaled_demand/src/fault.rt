@@ -1,6 +1,6 @@
 // Why a sweep gives no scenarios.
 ghost use Rattle.std.specs.Prelude.{◌≡◌};
-ghost use Rattle.sweep.specs.declared.fault.SweepFault.TheVariants as fault;
+ghost use Rattle.scaled_demand.specs.declared.fault.SweepFault.TheVariants as fault;
 
 use std::alloc::AllocError;
 
