@@ -19,7 +19,7 @@ use vehicle_release::release;
 const ZONES: u64 = 40;
 
 // The node, link and demand table of zones in a ring, with a vehicle from each to the next.
-fn ring(alloc: Global) -> Result<[String; 3], Memory> {
+fn ring(alloc: Global) -> Result<(String, String, String), Memory> {
     let mut node = String::from_str(alloc, "node_id,zone_id\n")?;
     let mut link = String::from_str(alloc, "link_id,from_node_id,to_node_id,length\n")?;
     let mut demand = String::from_str(alloc, "o_zone_id,d_zone_id,volume\n")?;
@@ -30,7 +30,7 @@ fn ring(alloc: Global) -> Result<[String; 3], Memory> {
         link.push_str(&format!(in alloc; "{},{next},{zone},100\n", ZONES + zone)?)?;
         demand.push_str(&format!(in alloc; "{zone},{next},1\n")?)?;
     }
-    Ok([node, link, demand])
+    Ok((node, link, demand))
 }
 
 // Whether each vehicle has a walk, and the shares of so many workers leave no group.
@@ -58,7 +58,7 @@ fn leave_none<R: AllocGlobal + Threads + Sync>(
 #[test]
 fn shares_leave_no_group(rt: HostRuntime) -> Result<(), Fail> {
     let alloc = rt.alloc();
-    let [node, link, demand] = ring(alloc)?;
+    let (node, link, demand) = ring(alloc)?;
     let net = read_net(alloc, node.as_bytes(), link.as_bytes(), None, &UNITS).expect(&rt, "net");
     let cells = read_demand(alloc, demand.as_bytes(), 10).expect(&rt, "demand");
     let trips = release(alloc, &cells).expect(&rt, "trips");
