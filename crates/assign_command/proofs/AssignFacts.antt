@@ -1,25 +1,22 @@
 -- The work of an assignment, from what its iterations say.
-use Rattle.std.proofs.Common.{◌≡◌, ◌+◌, ◌-◌, List, [], ◌∷◌, ◌++◌, length, refl, sym, ap, subst, arith, inl, inr, ◌∙◌, length-append}
-use Rattle.std.specs.Prelude.{Some, slice_get}
+use Rattle.std.proofs.Common.{◌≡◌, List, ◌++◌, refl, sym, ap, subst, inl, inr, ◌∙◌}
 use Rattle.desk_io.specs.Desk.{Taken}
+use Rattle.pending_text.proofs.OutFacts.{cut-later, grown-append}
+use Rattle.pending_text.specs.Outs.{IsCutOff, OutText, grown_by}
 use Rattle.dta_words.specs.declared.command.Command.{Command}
 use Rattle.dta_words.specs.declared.command.Settings.{Settings}
 use Rattle.assignment.specs.Assignment.{Traffic}
+use Rattle.assignment.proofs.AssignmentFacts.{all-of}
 use Rattle.jobs.specs.Inputs.{Assigns}
 use Rattle.jobs.specs.Jobs.{JobRows, traffic_of}
 use Rattle.commands.specs.Works.{AreTexts, AreTextsSoFar, AreWatchedSoFar, CommandWork, Works, assignment_work, work_by, work_of}
-use Rattle.commands.specs.Outputs.{AreAssigned, AreWatched, IsCutOff, OutText, grown_by, last_texts}
+use Rattle.commands.specs.Outputs.{AreAssigned, AreWatched}
 use Rattle.assign_command.specs.Progress.{Halts, IsAssigned}
 use Rattle.assign_command.specs.declared.halt.Halt.{Halt}
 use Rattle.assign_command.specs.declared.halt.Halt.TheVariants as halt
 use Rattle.commands.specs.declared.iterated.Iterated.{Iterated}
+use Rattle.commands.specs.Texts.{last_texts}
 use Rattle.commands.specs.declared.status.Status.TheVariants as status
-use Rattle.commands.proofs.OutputFacts.{cut-later, grown-append}
-
--- what was added to a list stands after it
-get-seam : {A : Type 0} → (xs : List A) (y : A) → slice_get (xs ++ y ∷ []) (length xs) ≡ Some y
-get-seam [] y = refl
-get-seam (x ∷ xs) y = get-seam xs y
 
 -- the work of a command that assigns
 assigned-work : (c : Command) → Assigns c → work_of c ≡ assignment_work
@@ -58,36 +55,28 @@ module _ (s : Settings) (job : JobRows) (loads : Assigns s.command) (own : Setti
     a : IsAssigned s (traffic_of job) x start now
     a = subst (λ (t : Traffic). IsAssigned s t x start now) over (subst (λ (z : Settings). IsAssigned z traffic x start now) same done)
 
-    assigned-texts : AreAssigned s (traffic_of job) (a.texts ++ last)
+    assigned-texts : AreAssigned s (traffic_of job) (a.watched.0 ++ last)
     assigned-texts = record {
-      routes = a.done ++ x.last.routes ∷ [];
-      lines = x.last.lines.items;
-      last = x.last.routes;
-      line = x.last.line;
-      iterations = a.iterations;
-      as_many = length-append a.done (x.last.routes ∷ []) ∙ a.as_many;
-      with_gaps = ap length a.lines_are ∙ length-append a.before (x.last.line ∷ []) ∙ ap (λ n. n + 1) a.with_gaps ∙ a.as_many;
-      last_routes = ap (λ n. slice_get (a.done ++ x.last.routes ∷ []) n) (omega (arith, a.as_many)) ∙ get-seam a.done x.last.routes;
-      last_line = ap (λ xs. slice_get xs (s.iterations - 1)) a.lines_are ∙ ap (λ n. slice_get (a.before ++ x.last.line ∷ []) n) (omega (arith, a.as_many, a.with_gaps)) ∙ get-seam a.before x.last.line;
+      all = all-of s (traffic_of job) x.last a.ended;
       since = x.since;
       since_told = a.since_told;
-      watched = a.texts;
-      watch_lines = a.watch_lines;
+      watched = a.watched.0;
+      watch_lines = a.watched.1;
       texts_are = refl;
     }
 
     pub assigned-done : (after : Taken) → after ≡ grown_by (last_by own traffic) now → Works s job status.Done start after
     assigned-done after out = (
-      a.texts ++ last,
-      texts-are s.command s job (a.texts ++ last) loads assigned-texts,
-      out ∙ ap (λ (texts : List OutText). grown_by texts now) last-is ∙ ap (grown_by last) a.watched ∙ sym (grown-append a.texts last start),
+      a.watched.0 ++ last,
+      texts-are s.command s job (a.watched.0 ++ last) loads assigned-texts,
+      out ∙ ap (λ (texts : List OutText). grown_by texts now) last-is ∙ ap (grown_by last) a.watched.2 ∙ sym (grown-append a.watched.0 last start),
     )
 
     pub assigned-cut : (after : Taken) → IsCutOff (last_by own traffic) now after → Works s job status.WriteFault start after
     assigned-cut after cut = (
-      a.texts ++ last,
-      so-far-assigned s.command s job (a.texts ++ last) loads assigned-texts,
-      cut-later a.texts last start after (subst (λ t. IsCutOff last t after) a.watched (subst (λ (texts : List OutText). IsCutOff texts now after) last-is cut)),
+      a.watched.0 ++ last,
+      so-far-assigned s.command s job (a.watched.0 ++ last) loads assigned-texts,
+      cut-later a.watched.0 last start after (subst (λ t. IsCutOff last t after) a.watched.2 (subst (λ (texts : List OutText). IsCutOff texts now after) last-is cut)),
     )
 
   -- one that ended before its last iteration was done

@@ -4,24 +4,26 @@ use Rattle.std.proofs.Common.{◌≡◌, ℕ, ◌+◌, ◌≤◌, List, [], ◌�
 use Rattle.std.proofs.lemmas.Option.{slice_get_within}
 use Rattle.desk_io.specs.Desk.{Taken}
 use Rattle.desk_io.specs.State.{DeskState}
+use Rattle.pending_text.proofs.OutFacts.{cut-more, grown-more}
+use Rattle.pending_text.specs.Outs.{IsCutOff, OutText, SomeOut}
 use Rattle.dta_model.specs.declared.eight.Eight.{Eight}
 use Rattle.gap.specs.declared.line.GapLine.{GapLine}
-use Rattle.route_flows.specs.Averages.{AreNextRoutes}
 use Rattle.start_table.specs.Starts.{AreStartRows}
 use Rattle.dta_words.specs.Ranges.{AreSettings}
 use Rattle.dta_words.specs.declared.command.Settings.{Settings}
-use Rattle.assignment.specs.Assignment.{AreIterations, Traffic, VehicleRoutes, costs_of, end_of}
+use Rattle.assignment.specs.Assignment.{AreIterations, Traffic, VehicleRoutes, end_of}
 use Rattle.assignment.specs.Progress.{HasBegun, HasEnded, HasNext}
-use Rattle.assignment.proofs.AssignmentFacts.{get-kept, only-first, with-gap, with-next}
+use Rattle.assignment.proofs.AssignmentFacts.{get-kept, ahead as next-at, assigned as ended-at, begun as first-at}
 use Rattle.assign_command.specs.Calls.{OnlyWatches}
-use Rattle.commands.specs.Outputs.{AreSinceTold, AreWatchLines, IsCutOff, end_lines}
-use Rattle.assign_command.specs.Progress.{Halts, HaltsIn, IsAssigned, IsAt, IsMeasured, IsWatched}
+use Rattle.commands.specs.Outputs.{AreSinceTold, AreWatchLines, AreWatchTexts, AreWatched}
+use Rattle.assign_command.specs.Progress.{Halts, HaltsIn, IsAssigned, IsAt, IsMeasured}
 use Rattle.commands.specs.Counted.{HasCounts}
 use Rattle.commands.specs.declared.iterated.Iterated.{Iterated}
 use Rattle.assign_command.specs.declared.halt.Halt.{Halt}
 use Rattle.assign_command.specs.declared.halt.Halt.TheVariants as halt
 use Rattle.jobs.proofs.ChainFacts.{rose-earlier}
-use Rattle.commands.proofs.OutputFacts.{cut-more, end-lines, grown-more, watch-more}
+use Rattle.commands.proofs.OutputFacts.{end-lines, watch-more}
+use Rattle.commands.specs.Texts.{end_lines}
 
 -- the line of the last state was cut off
 pub watch-halts : (s : Settings) (traffic : Traffic) (iteration : ℕ) (r : VehicleRoutes) (end : Eight)
@@ -34,15 +36,7 @@ watch-halts s traffic iteration r end why before now settings is watch cut =
 module _ (s : Settings) (traffic : Traffic) where
   -- the first iteration is about to be loaded
   pub begun : (r : VehicleRoutes) (lines : List GapLine) (start : Taken) → AreStartRows traffic.start → HasBegun traffic r lines → IsAt s traffic 1 r lines start start
-  begun r lines start rows has = rw has.none record {
-    done = [];
-    as_many = refl;
-    with_gaps = refl;
-    iterations = only-first s traffic r rows has.started;
-    texts = [];
-    watch_lines = refl;
-    watched = refl;
-  }
+  begun r lines start rows has = record { at = first-at s traffic r lines rows has; watched = ([], refl, refl) }
 
   -- the iterations before one of them
   but-last : (done : List VehicleRoutes) (r : VehicleRoutes) (lines : List GapLine) → AreIterations s traffic (done ++ r ∷ []) lines → AreIterations s traffic done lines
@@ -53,47 +47,49 @@ module _ (s : Settings) (traffic : Traffic) where
     gaps = λ i z line e f. it.gaps i z line (get-kept done (r ∷ []) i z e) f;
   }
 
+  -- the watch lines of one more iteration went out
+  watched-more : (number : ℕ) (r : VehicleRoutes) (lines : List GapLine) (start before now : Taken)
+      → (at : IsAt s traffic number r lines start before) → SomeOut (AreWatchLines s traffic number r) before now
+      → SomeOut (AreWatchTexts s traffic 1 (at.at.done ++ r ∷ [])) start now
+  watched-more number r lines start before now at put = (
+    at.watched.0 ++ put.0,
+    watch-more s traffic 1 number at.at.done r at.watched.0 put.0 at.at.as_many at.watched.1 put.1,
+    grown-more at.watched.0 put.0 start before now at.watched.2 put.2,
+  )
+
   -- an iteration that isn't the last is done
   pub ahead : (number : ℕ) (r next : VehicleRoutes) (lines more : List GapLine) (start before now : Taken)
       → IsAt s traffic number r lines start before
-      → IsWatched s traffic number r before now
+      → SomeOut (AreWatchLines s traffic number r) before now
       → HasNext s traffic number r next lines more
       → IsAt s traffic (number + 1) next more start now
-  ahead number r next lines more start before now at put has =
-      let many = at.as_many in
-      let gaps = at.with_gaps in
-      let long = length-append at.done (r ∷ []) in
-      let added = length-append lines (has.line ∷ []) in
-      rw has.pushed record {
-        done = at.done ++ r ∷ [];
-        as_many = omega (arith, many, long);
-        with_gaps = omega (arith, gaps, long, added);
-        iterations = with-next s traffic at.done r next (lines ++ has.line ∷ []) (omega (arith, gaps, added))
-            (subst (λ (n : ℕ). AreNextRoutes (costs_of s traffic r) traffic.net traffic.trips n r next) (sym many) has.next_are)
-            (with-gap s traffic at.done r lines has.line gaps has.gap at.iterations);
-        texts = at.texts ++ put.0;
-        watch_lines = watch-more s traffic 1 number at.done r at.texts put.0 many at.watch_lines put.1;
-        watched = grown-more at.texts put.0 start before now at.watched put.2;
+  ahead number r next lines more start before now at put has = record {
+    at = next-at s traffic number r next lines more at.at has;
+    watched = watched-more number r lines start before now at put;
+  }
+
+  -- iterations until one of them, with watch lines
+  watched-until : (number : ℕ) (r : VehicleRoutes) (lines : List GapLine) (start now : Taken) (texts : List OutText)
+      → (at : IsAt s traffic number r lines start now) → number ≤ s.iterations
+      → AreWatchTexts s traffic 1 (at.at.done ++ r ∷ []) texts → AreWatched s traffic texts
+  watched-until number r lines start now texts at few told =
+      let many = at.at.as_many in
+      let long = length-append at.at.done (r ∷ []) in record {
+        routes = at.at.done ++ r ∷ [];
+        lines = lines;
+        iterations = at.at.iterations;
+        few = omega (arith, many, few, long);
+        watch_lines = told;
       }
 
   -- memory was wanting after the watch lines
   pub halts-after : (number : ℕ) (r : VehicleRoutes) (lines : List GapLine) (start before now : Taken)
       → IsAt s traffic number r lines start before → number ≤ s.iterations
-      → IsWatched s traffic number r before now
+      → SomeOut (AreWatchLines s traffic number r) before now
       → Halts s traffic halt.Memory start now
   halts-after number r lines start before now at few put =
-      let many = at.as_many in
-      let long = length-append at.done (r ∷ []) in (
-        at.texts ++ put.0,
-        record {
-          routes = at.done ++ r ∷ [];
-          lines = lines;
-          iterations = at.iterations;
-          few = omega (arith, many, few, long);
-          watch_lines = watch-more s traffic 1 number at.done r at.texts put.0 many at.watch_lines put.1;
-        },
-        grown-more at.texts put.0 start before now at.watched put.2,
-      )
+      let told = watched-more number r lines start before now at put in
+      (told.0, watched-until number r lines start before told.0 at few told.1, told.2)
 
   -- memory was wanting in an iteration, or a watch line was cut off
   pub halts-in : (why : Halt) (number : ℕ) (r : VehicleRoutes) (lines : List GapLine) (start before now : Taken)
@@ -101,59 +97,40 @@ module _ (s : Settings) (traffic : Traffic) where
       → HaltsIn s traffic number r why before now
       → Halts s traffic why start now
   halts-in halt.Memory number r lines start before now at few (inl same) =
-      let many = at.as_many in (
-        at.texts,
+      let many = at.at.as_many in (
+        at.watched.0,
         record {
-          routes = at.done;
+          routes = at.at.done;
           lines = lines;
-          iterations = but-last at.done r lines at.iterations;
+          iterations = but-last at.at.done r lines at.at.iterations;
           few = omega (arith, many, few);
-          watch_lines = at.watch_lines;
+          watch_lines = at.watched.1;
         },
-        same ∙ at.watched,
+        same ∙ at.watched.2,
       )
   halts-in halt.Memory number r lines start before now at few (inr put) =
       halts-after number r lines start before now at few put
-  halts-in halt.Watch number r lines start before now at few cut =
-      let many = at.as_many in
-      let long = length-append at.done (r ∷ []) in (
-        at.texts ++ cut.0,
-        record {
-          routes = at.done ++ r ∷ [];
-          lines = lines;
-          iterations = at.iterations;
-          few = omega (arith, many, few, long);
-          watch_lines = watch-more s traffic 1 number at.done r at.texts cut.0 many at.watch_lines cut.1;
-        },
-        cut-more at.texts cut.0 start before now at.watched cut.2,
-      )
+  halts-in halt.Watch number r lines start before now at few cut = (
+    at.watched.0 ++ cut.0,
+    watched-until number r lines start before (at.watched.0 ++ cut.0) at few
+        (watch-more s traffic 1 number at.at.done r at.watched.0 cut.0 at.at.as_many at.watched.1 cut.1),
+    cut-more at.watched.0 cut.0 start before now at.watched.2 cut.2,
+  )
 
   -- the last iteration is done
   pub assigned : (a : Iterated) (r : VehicleRoutes) (lines : List GapLine) (start before now : Taken)
       → IsAt s traffic s.iterations r lines start before
-      → IsWatched s traffic s.iterations r before now
+      → SomeOut (AreWatchLines s traffic s.iterations r) before now
       → HasEnded s traffic r lines a.last
       → AreSinceTold s.start s traffic a.since → HasCounts s traffic a.last.routes a.counts
       → IsAssigned s traffic a start now
-  assigned a r lines start before now at put has since counted =
-      let routes = a.last.routes in
-      let own : AreIterations s traffic (at.done ++ routes ∷ []) lines =
-      subst (λ (x : VehicleRoutes). AreIterations s traffic (at.done ++ x ∷ []) lines) (sym has.same) at.iterations in
-      let told : AreWatchLines s traffic s.iterations routes put.0 =
-      subst (λ (x : VehicleRoutes). AreWatchLines s traffic s.iterations x put.0) (sym has.same) put.1 in record {
-        done = at.done;
-        as_many = at.as_many;
-        before = lines;
-        with_gaps = at.with_gaps;
-        lines_are = has.pushed;
-        iterations = rw has.pushed (with-gap s traffic at.done routes lines a.last.line at.with_gaps has.gap own);
-        texts = at.texts ++ put.0;
-        watch_lines = watch-more s traffic 1 s.iterations at.done routes at.texts put.0 at.as_many at.watch_lines told;
-        watched = grown-more at.texts put.0 start before now at.watched put.2;
-        last = has.last;
-        since_told = since;
-        counted = counted;
-      }
+  assigned a r lines start before now at put has since counted = record {
+    ended = ended-at s traffic r lines a.last at.at has;
+    watched = subst (λ (x : VehicleRoutes). SomeOut (AreWatchTexts s traffic 1 (at.at.done ++ x ∷ [])) start now) (sym has.same)
+        (watched-more s.iterations r lines start before now at put);
+    since_told = since;
+    counted = counted;
+  }
 
   -- memory was wanting for the first routes
   pub halts-first : (start : Taken) → AreStartRows traffic.start → Halts s traffic halt.Memory start start
@@ -179,7 +156,7 @@ module _ (s : Settings) (traffic : Traffic) where
       (few : number ≤ s.iterations) (start between after : DeskState) (at : IsAt s traffic number r lines start.taken between.taken)
       (later : start.put_faults ≤ between.put_faults) (left : between.left ≡ start.left) (reads : between.read_faults ≡ start.read_faults) where
     -- it halted
-    pub load-halts : (why : Halt) → OnlyWatches {T = T} (λ _. IsWatched s traffic number r) (HaltsIn s traffic number r) between after (Err why)
+    pub load-halts : (why : Halt) → OnlyWatches {T = T} (λ _. SomeOut (AreWatchLines s traffic number r)) (HaltsIn s traffic number r) between after (Err why)
         → OnlyWatches {T = U} Done (Halts s traffic) start after (Err why)
     load-halts why w = record {
       done = tt;
@@ -191,7 +168,7 @@ module _ (s : Settings) (traffic : Traffic) where
     }
 
     -- memory was wanting once it was done
-    pub memory-halts : (x : T) → OnlyWatches {T = T} (λ _. IsWatched s traffic number r) (HaltsIn s traffic number r) between after (Ok x)
+    pub memory-halts : (x : T) → OnlyWatches {T = T} (λ _. SomeOut (AreWatchLines s traffic number r)) (HaltsIn s traffic number r) between after (Ok x)
         → OnlyWatches {T = U} Done (Halts s traffic) start after (Err halt.Memory)
     memory-halts x w = record {
       done = tt;
@@ -206,7 +183,7 @@ module _ (s : Settings) (traffic : Traffic) where
   module _ {T : Type 0} (r : VehicleRoutes) (lines : List GapLine) (start between after : DeskState)
       (at : IsAt s traffic s.iterations r lines start.taken between.taken)
       (later : start.put_faults ≤ between.put_faults) (left : between.left ≡ start.left) (reads : between.read_faults ≡ start.read_faults)
-      (x : T) (w : OnlyWatches {T = T} (λ _. IsWatched s traffic s.iterations r) (HaltsIn s traffic s.iterations r) between after (Ok x)) where
+      (x : T) (w : OnlyWatches {T = T} (λ _. SomeOut (AreWatchLines s traffic s.iterations r)) (HaltsIn s traffic s.iterations r) between after (Ok x)) where
     pub last-measured : (outcome : Result Iterated Halt) → IfOk outcome (IsMeasured s traffic r lines) → IfErr outcome (λ why. why ≡ halt.Memory)
         → OnlyWatches (IsAssigned s traffic) (Halts s traffic) start after outcome
     last-measured (Ok a) has memory = record {

@@ -1,4 +1,3 @@
-pub mod WatchFacts
 pub mod ReceiptFacts
 pub mod LoadFacts
 pub mod IterateFacts

@@ -1,5 +1,5 @@
 -- The loading of an iteration.
-use Rattle.std.proofs.Common.{◌≡◌, ℕ, false, List, refl, ap, subst, ◌∙◌, arith, inl}
+use Rattle.std.proofs.Common.{◌≡◌, ℕ, Bool, false, List, refl, ap, subst, sym, ◌∙◌, arith, inl}
 use Rattle.std.specs.Prelude.{Result, Ok, Err}
 use Rattle.desk_io.specs.State.{DeskState}
 use Rattle.dta_model.specs.Loading.{journeys_of}
@@ -12,11 +12,13 @@ use Rattle.loader.specs.declared.loading.LoadFault.{LoadFault}
 use Rattle.loader.specs.declared.loading.LoadFault.TheVariants as fault
 use Rattle.assignment.specs.Assignment.{Traffic, VehicleRoutes, plan_of}
 use Rattle.assign_command.specs.Calls.{OnlyWatches}
-use Rattle.assign_command.specs.Progress.{HaltsIn, IsWatched, halt_of}
+use Rattle.pending_text.specs.Outs.{SomeCutOff, SomeOut}
+use Rattle.reports.specs.Watch.{AreLinesOf}
+use Rattle.commands.specs.Outputs.{AreWatchLines}
+use Rattle.assign_command.specs.Progress.{HaltsIn, halt_of}
 use Rattle.assign_command.specs.Receipts.{Gives, by_workers, numbers_in}
 use Rattle.assign_command.specs.declared.halt.Halt.{Halt}
 use Rattle.assign_command.proofs.ReceiptFacts.{numbers-are}
-use Rattle.assign_command.proofs.WatchFacts.{cut-by-workers, watched-by-workers}
 
 -- a loading by workers, as a loading of an iteration
 module _ (s : Settings) (traffic : Traffic) (iteration : ℕ) (routes : VehicleRoutes) (by : s.plain ≡ false)
@@ -36,11 +38,11 @@ module _ (s : Settings) (traffic : Traffic) (iteration : ℕ) (routes : VehicleR
   journeys-are journeys p e loads = (its-own p (Ok journeys) e loads).loaded
 
   pub loaded-watches : {T : Type 0} (x : T) (journeys : List Journey) (p : Plan) → p ≡ plan_of s traffic routes → LoadsBy p (Ok journeys)
-      → OnlyWatches {T = T} (λ _. IsWatched s traffic iteration routes) (HaltsIn s traffic iteration routes) before after (Ok x)
+      → OnlyWatches {T = T} (λ _. SomeOut (AreWatchLines s traffic iteration routes)) (HaltsIn s traffic iteration routes) before after (Ok x)
   loaded-watches x journeys p e loads =
       let h = its-own p (Ok journeys) e loads in
       record {
-        done = watched-by-workers s traffic iteration routes by before.taken after.taken h.watched;
+        done = subst (λ (b : Bool). SomeOut (AreLinesOf s.watch b iteration (plan_of s traffic routes)) before.taken after.taken) (sym by) h.watched;
         halts = tt;
         failed = tt;
         later = h.later;
@@ -55,7 +57,7 @@ module _ (s : Settings) (traffic : Traffic) (iteration : ℕ) (routes : VehicleR
       rw by (record { all = one (h.receipt (λ e. absurd cc)); some = tt })
 
   pub fault-watches : {T : Type 0} (why : LoadFault) (p : Plan) → p ≡ plan_of s traffic routes → LoadsBy p (Err why)
-      → OnlyWatches {T = T} (λ _. IsWatched s traffic iteration routes) (HaltsIn s traffic iteration routes) before after (Err (halt_of why))
+      → OnlyWatches {T = T} (λ _. SomeOut (AreWatchLines s traffic iteration routes)) (HaltsIn s traffic iteration routes) before after (Err (halt_of why))
   fault-watches fault.Memory p e loads =
       let h = its-own p (Err fault.Memory) e loads in
       record {
@@ -70,7 +72,7 @@ module _ (s : Settings) (traffic : Traffic) (iteration : ℕ) (routes : VehicleR
       let h = its-own p (Err fault.WatchFault) e loads in
       record {
         done = tt;
-        halts = cut-by-workers s traffic iteration routes by before.taken after.taken (h.cut refl);
+        halts = subst (λ (b : Bool). SomeCutOff (AreLinesOf s.watch b iteration (plan_of s traffic routes)) before.taken after.taken) (sym by) (h.cut refl);
         failed = λ _. h.cause refl;
         later = h.later;
         left = h.left;

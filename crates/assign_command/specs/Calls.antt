@@ -7,8 +7,10 @@ use Rattle.assignment.specs.Assignment.{VehicleRoutes}
 use Rattle.assignment.specs.Lent.{plan_in, settings_in, traffic_in}
 use Rattle.assignment.specs.declared.lent.Assignment.{Assignment}
 use Rattle.desk_io.specs.State.{DeskState}
+use Rattle.pending_text.specs.Outs.{SomeOut}
 use Rattle.commands.specs.Works.{PutsFailed}
-use Rattle.assign_command.specs.Progress.{HaltsIn, IsWatched}
+use Rattle.commands.specs.Outputs.{AreWatchLines}
+use Rattle.assign_command.specs.Progress.{HaltsIn}
 use Rattle.assign_command.specs.declared.halt.Halt.{Halt}
 use Rattle.assign_command.specs.declared.halt.Halt.TheVariants as halt
 
@@ -29,5 +31,6 @@ pub record OnlyWatches {T : Type 0} (Done : T → Taken → Taken → Type 0)
 pub record LoadsIteration (a : Assignment) (number : ℕ) (routes : VehicleRoutes)
     (before after : DeskState) (result : Result (List Journey) Halt) : Type 0 where
   pub loaded : IfOk result (λ loaded. loaded ≡ journeys_of (plan_in a routes))
-  pub watches : OnlyWatches (λ _. IsWatched (settings_in a) (traffic_in a) number routes)
+  pub watches : OnlyWatches
+      (λ _. SomeOut (AreWatchLines (settings_in a) (traffic_in a) number routes))
       (HaltsIn (settings_in a) (traffic_in a) number routes) before after result

@@ -1,12 +1,12 @@
 // The loading of an iteration: by workers, or by the plain loader.
 ghost use Rattle.std.specs.Prelude.{◌≡◌, false};
+ghost use Rattle.pending_text.specs.Outs.{PutsAll};
 ghost use Rattle.loader.specs.Gates.{gate_of};
 ghost use Rattle.assignment.specs.Lent.{IsAssignment, settings_in, traffic_in};
 ghost use Rattle.assignment.specs.Traffic.{AreRoutesOf};
 ghost use Rattle.assign_command.specs.Calls.{LoadsIteration};
-ghost use Rattle.commands.specs.Calls.{PutsAll};
-ghost use Rattle.commands.specs.Outputs.{end_lines};
 ghost use Rattle.assign_command.specs.Receipts.{GivesOne};
+ghost use Rattle.commands.specs.Texts.{end_lines};
 
 use crate::halt::Halt;
 use assignment::Assignment;
@@ -22,7 +22,7 @@ use std::sync::Wait;
 use std::thread::Threads;
 
 // Puts the watch line of the state after the last step, where there is a watch.
-#[tactic(auto, using(commands::proofs::OutputFacts::parts))]
+#[tactic(auto, using(pending_text::proofs::OutFacts::parts))]
 fn watch<D: Desk>(
     settings: &Settings,
     iteration: u32,

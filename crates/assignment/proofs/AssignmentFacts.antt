@@ -1,7 +1,7 @@
 -- The iterations of an assignment, one after another.
 use Rattle.trip_costs.specs.Timings.{Timing}
 use Rattle.std.specs.Prelude.{All, Bool, count_by, slice_get}
-use Rattle.std.proofs.Common.{◌≡◌, ℕ, ◌+◌, ◌<◌, ◌≤◌, List, [], ◌∷◌, ◌++◌, length, refl, ap, sym, subst, ◌∙◌, arith, rules, length-append, ◌⊎◌, inl, inr, Some}
+use Rattle.std.proofs.Common.{◌≡◌, ℕ, ◌+◌, ◌-◌, ◌<◌, ◌≤◌, List, [], ◌∷◌, ◌++◌, length, refl, ap, sym, subst, ◌∙◌, arith, rules, length-append, ◌⊎◌, inl, inr, Some}
 use Rattle.std.specs.List.{IsDistinct}
 use Rattle.std.proofs.lemmas.Bool.{cases_lt}
 use Rattle.std.proofs.lemmas.List.{get_or_append_left, length-map}
@@ -31,7 +31,7 @@ use Rattle.reports.specs.Texts.{AreOnNet}
 use Rattle.reports.proofs.TextsFacts.{walks-on-net}
 use Rattle.dta_words.specs.Ranges.{AreSettings}
 use Rattle.dta_words.specs.declared.command.Settings.{Settings}
-use Rattle.assignment.specs.Assignment.{AreIterations, Traffic, VehicleRoutes, costs_of, end_of, plan_of, times_of}
+use Rattle.assignment.specs.Assignment.{AllIterations, AreIterations, Traffic, VehicleRoutes, costs_of, end_of, plan_of, times_of}
 use Rattle.assignment.specs.Progress.{HasBegun, HasEnded, HasNext, IsAssigned, IsAt}
 use Rattle.assignment.specs.Traffic.{AreRoutesOf, AreTripsBelow}
 use Rattle.assignment.specs.declared.iterations.Assigned.{Assigned}
@@ -170,25 +170,25 @@ module _ (s : Settings) (traffic : Traffic) where
           (subst (AreNextRoutes (costs_of s traffic r) traffic.net traffic.trips (length done + 1) r) is are))
 
   -- an iteration that isn't the last is done
-  pub ahead : (number : ℕ) (r next : VehicleRoutes) (lines more : List GapLine)
+  abbrev pub ahead : (number : ℕ) (r next : VehicleRoutes) (lines more : List GapLine)
       → IsAt s traffic number r lines → HasNext s traffic number r next lines more → IsAt s traffic (number + 1) next more
   ahead number r next lines more at has =
       let many = at.as_many in
       let gaps = at.with_gaps in
       let long = length-append at.done (r ∷ []) in
       let added = length-append lines (has.line ∷ []) in
-      rw has.pushed record {
+      record {
         done = at.done ++ r ∷ [];
         as_many = omega (arith, many, long);
-        with_gaps = omega (arith, gaps, long, added);
-        iterations = with-next at.done r next (lines ++ has.line ∷ []) (omega (arith, gaps, added))
+        with_gaps = rw has.pushed (omega (arith, gaps, long, added));
+        iterations = rw has.pushed (with-next at.done r next (lines ++ has.line ∷ []) (omega (arith, gaps, added))
             (subst (λ (n : ℕ). AreNextRoutes (costs_of s traffic r) traffic.net traffic.trips n r next) (sym many) has.next_are)
-            (with-gap at.done r lines has.line gaps has.gap at.iterations);
+            (with-gap at.done r lines has.line gaps has.gap at.iterations));
         routed = has.routed;
       }
 
   -- the last iteration is done
-  pub assigned : (r : VehicleRoutes) (lines : List GapLine) (a : Assigned)
+  abbrev pub assigned : (r : VehicleRoutes) (lines : List GapLine) (a : Assigned)
       → IsAt s traffic s.iterations r lines → HasEnded s traffic r lines a → IsAssigned s traffic a
   assigned r lines a at has = record {
     done = at.done;
@@ -202,14 +202,30 @@ module _ (s : Settings) (traffic : Traffic) where
   }
 
   -- the first iteration is about to be loaded
-  pub begun : (r : VehicleRoutes) (lines : List GapLine) → AreStartRows traffic.start → HasBegun traffic r lines → IsAt s traffic 1 r lines
-  begun r lines rows has = rw has.none record {
+  abbrev pub begun : (r : VehicleRoutes) (lines : List GapLine) → AreStartRows traffic.start → HasBegun traffic r lines → IsAt s traffic 1 r lines
+  begun r lines rows has = record {
     done = [];
     as_many = refl;
-    with_gaps = refl;
-    iterations = only-first r rows has.started;
+    with_gaps = rw has.none refl;
+    iterations = rw has.none (only-first r rows has.started);
     routed = has.routed;
   }
+
+  -- all iterations of an assignment that is done
+  abbrev pub all-of : (a : Assigned) → IsAssigned s traffic a → AllIterations s.iterations (costs_of s traffic) traffic
+  all-of a is =
+      let many = is.as_many in
+      let gaps = is.with_gaps in record {
+        routes = is.done ++ a.routes ∷ [];
+        lines = a.lines.items;
+        last = a.routes;
+        line = a.line;
+        iterations = is.iterations;
+        as_many = omega (arith, many, length-append is.done (a.routes ∷ []));
+        with_gaps = rw is.lines_are (omega (arith, many, gaps, length-append is.before (a.line ∷ [])));
+        last_routes = get-added is.done a.routes (s.iterations - 1) (omega (arith, many));
+        last_line = rw is.lines_are (get-added is.before a.line (s.iterations - 1) (omega (arith, many, gaps)));
+      }
 
   -- what a call says of an iteration by its costs, and of its routes where these were moved
   pub has-next : (number : ℕ) (r old next : VehicleRoutes) (lines more : List GapLine) (line : GapLine) (costs : Timing)

@@ -1,7 +1,7 @@
 -- Traffic and costs have one list of routes and one list of gaps.
 use Rattle.trip_costs.specs.Timings.{Links, Timing}
 use Rattle.std.proofs.Common.{◌≡◌, ℕ, zero, suc, ◌+◌, List, [], length}
-use Rattle.std.proofs.Common.{sym, subst, arith}
+use Rattle.std.proofs.Common.{◌-◌, sym, ap, subst, arith, ◌∙◌}
 use Rattle.std.specs.Prelude.{Some, get_or, slice_get}
 use Rattle.std.proofs.lemmas.List.{ext_get_or}
 use Rattle.std.proofs.lemmas.Option.{slice_get-get_or, slice_get_within}
@@ -10,7 +10,7 @@ use Rattle.gap.specs.declared.line.GapLine.{GapLine}
 use Rattle.gap.proofs.Determined.{lines_are_determined}
 use Rattle.route_flows.specs.Averages.{AreNextRoutes, free_time}
 use Rattle.route_flows.specs.Laws.{NextAreDetermined, SinceAreDetermined, StartedAreDetermined}
-use Rattle.assignment.specs.Assignment.{AreIterationsBy, Traffic, VehicleRoutes}
+use Rattle.assignment.specs.Assignment.{AllIterations, AreIterationsBy, Traffic, VehicleRoutes}
 
 abbrev no_line : GapLine
 no_line = record { route_steps = 0; least_steps = 0; gap_steps = 0; ppm = 0 }
@@ -65,3 +65,36 @@ by-same-costs t u traffic routes lines same it = record {
   next = λ i old new e f. subst (λ (x : Timing). AreNextRoutes x traffic.net traffic.trips (i + 1) old new) (same old) (it.next i old new e f);
   gaps = λ i r line e f. subst (λ (x : Timing). IsGapLine x traffic.net traffic.trips r line) (same r) (it.gaps i r line e f);
 }
+
+-- all iterations by other costs that are the same
+abbrev pub all-by-same : (m n : ℕ) (t u : VehicleRoutes → Timing) (traffic : Traffic) → m ≡ n → ((r : VehicleRoutes) → u r ≡ t r)
+    → AllIterations m u traffic → AllIterations n t traffic
+all-by-same m n t u traffic e same all = record {
+  routes = all.routes;
+  lines = all.lines;
+  last = all.last;
+  line = all.line;
+  iterations = by-same-costs t u traffic all.routes all.lines same all.iterations;
+  as_many = all.as_many ∙ e;
+  with_gaps = all.with_gaps ∙ e;
+  last_routes = subst (λ k. slice_get all.routes (k - 1) ≡ Some all.last) e all.last_routes;
+  last_line = subst (λ k. slice_get all.lines (k - 1) ≡ Some all.line) e all.last_line;
+}
+
+some-is : {A : Type 0} (x y : A) → Some x ≡ Some y → x ≡ y
+some-is x y e = cc
+
+-- so many iterations by the same costs are the same
+module _ (laws : RouteLaws) (n : ℕ) (costs : VehicleRoutes → Timing) (traffic : Traffic) (a b : AllIterations n costs traffic) where
+  pub all-routes : a.routes ≡ b.routes
+  all-routes = same-routes laws costs traffic a.routes b.routes a.lines b.lines a.iterations b.iterations (a.as_many ∙ sym b.as_many)
+
+  pub all-lines : a.lines ≡ b.lines
+  all-lines = same-lines laws costs traffic a.routes b.routes a.lines b.lines a.iterations b.iterations all-routes
+      (a.with_gaps ∙ sym a.as_many) (a.with_gaps ∙ sym b.with_gaps)
+
+  pub all-last : a.last ≡ b.last
+  all-last = some-is a.last b.last (sym a.last_routes ∙ ap (λ (rs : List VehicleRoutes). slice_get rs (n - 1)) all-routes ∙ b.last_routes)
+
+  pub all-line : a.line ≡ b.line
+  all-line = some-is a.line b.line (sym a.last_line ∙ ap (λ (ls : List GapLine). slice_get ls (n - 1)) all-lines ∙ b.last_line)

@@ -1,6 +1,7 @@
 -- The iterations of an assignment: routes, loadings, tables of link times and gaps (successive
 -- averages over loadings, Zhou and Taylor 2014), and the numbers of its report.
-use Rattle.std.specs.Prelude.{ℕ, ◌≡◌, ◌+◌, List, count_by, is_none, length, Option, None, Some, slice_get}
+use Rattle.std.specs.Prelude.{ℕ, ◌≡◌, ◌+◌, ◌-◌, List, count_by, is_none, length, Option, None, Some}
+use Rattle.std.specs.Prelude.{slice_get}
 use Rattle.net_core.specs.declared.rows.LinkNo.{LinkNo}
 use Rattle.net_core.specs.declared.rows.NetRows.{NetRows}
 use Rattle.dta_model.specs.LinkTimes.{TimeTable, table_of}
@@ -92,6 +93,20 @@ pub record AreIterationsBy (costs : VehicleRoutes → Timing) (traffic : Traffic
 abbrev pub AreIterations :
     Settings → Traffic → List VehicleRoutes → List GapLine → Type 0
 AreIterations s traffic routes lines = AreIterationsBy (costs_of s traffic) traffic routes lines
+
+-- all iterations of an assignment with so many, where the loading over routes has these costs:
+-- their routes and gaps, and those of the last one
+pub record AllIterations (count : ℕ) (costs : VehicleRoutes → Timing) (traffic : Traffic) : Type 0
+    where
+  pub routes : List VehicleRoutes
+  pub lines : List GapLine
+  pub last : VehicleRoutes
+  pub line : GapLine
+  pub iterations : AreIterationsBy costs traffic routes lines
+  pub as_many : length routes ≡ count
+  pub with_gaps : length lines ≡ count
+  pub last_routes : slice_get routes (count - 1) ≡ Some last
+  pub last_line : slice_get lines (count - 1) ≡ Some line
 
 -- how many vehicles have no route
 abbrev pub unrouted : VehicleRoutes → ℕ

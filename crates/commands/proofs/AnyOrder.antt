@@ -1,5 +1,7 @@
 -- The nodes of a step may be taken in any order: the texts of an assignment are the same.
 use Rattle.std.proofs.Common.{◌≡◌, ℕ, zero, suc, ◌+◌, true, List, [], ◌∷◌, ◌++◌, map, refl, sym, ap, ◌∙◌}
+use Rattle.pending_text.specs.Outs.{OutText, text_to}
+use Rattle.reports.specs.Watch.{AreToldSteps, text_after}
 use Rattle.dta_model.specs.LinkTimes.{TimeTable}
 use Rattle.dta_model.specs.Loading.{journeys_of}
 use Rattle.dta_model.specs.State.{eight_after}
@@ -12,12 +14,12 @@ use Rattle.trip_costs.specs.OriginWaits.{WaitTable, waits_in}
 use Rattle.gap.specs.declared.line.GapLine.{GapLine}
 use Rattle.dta_words.specs.declared.command.Settings.{Settings}
 use Rattle.desk_io.specs.declared.desk.Output.TheVariants as output
-use Rattle.assignment.specs.Assignment.{AreIterations, Traffic, VehicleRoutes, costs_of, end_of, plan_of, summary_of, times_of, told_where, waits_of}
-use Rattle.assignment.proofs.Determined.{RouteLaws, by-same-costs, same-lines, same-routes}
+use Rattle.assignment.specs.Assignment.{Traffic, VehicleRoutes, costs_of, end_of, plan_of, summary_of, times_of, told_where, waits_of}
+use Rattle.assignment.proofs.Determined.{RouteLaws, all-by-same, all-routes}
 use Rattle.reports.specs.declared.summary.Summary.{Summary}
 use Rattle.commands.specs.Laws.{TextsInAnyOrder}
 use Rattle.commands.specs.Orders.{AreNodeOrders, NodeOrders, costs_by, counts_by, end_by, journeys_by, summary_by, times_by, told_by, trace_by, waits_by, watched_by}
-use Rattle.commands.specs.Outputs.{AreToldSteps, AreWatchLines, AreWatchTexts, LastLoading, OutText, asked_link, but_watch, counts_out, end_lines, is_watch, last_texts, text_to, texts_told, through_asked, told_of, watch_text}
+use Rattle.commands.specs.Outputs.{AreWatchLines, AreWatchTexts}
 use Rattle.counts.specs.Text.{counts_text}
 use Rattle.counts.specs.Through.{through_counts, through_counts_in}
 use Rattle.counts.specs.Turns.{turn_counts}
@@ -27,7 +29,8 @@ use Rattle.counts.proofs.AnyOrder.{same_through_counts, same_turn_counts}
 use Rattle.net_core.specs.declared.rows.LinkNo.{LinkNo}
 use Rattle.std.specs.Prelude.{Option, None, Some, not}
 use Rattle.std.proofs.lemmas.List.Elements.{filter-append}
-use Rattle.commands.proofs.Determined.{but-watch-assigned, but-watch-is, lasts-by, plain-by, same-since}
+use Rattle.commands.proofs.Determined.{but-watch-assigned, but-watch-is, lasts-by, plain-by, same-since, texts-of-all}
+use Rattle.commands.specs.Texts.{LastLoading, asked_link, but_watch, counts_out, end_lines, is_watch, texts_told, through_asked, told_of}
 
 -- the line of a last state is for Watch
 no-end-left : (every number : ℕ) (end : Eight) → but_watch (end_lines every number end) ≡ []
@@ -36,7 +39,7 @@ no-end-left (suc every) number end = refl
 
 -- where the loader is plain an iteration tells its last state alone
 ended : (s : Settings) (traffic : Traffic) (number every : ℕ) (r : VehicleRoutes) (steps : List ℕ) → AreToldSteps every true s.horizon steps
-    → map (watch_text s traffic number r) steps ≡ end_lines every number (end_of s traffic r)
+    → map (text_after number (plan_of s traffic r)) steps ≡ end_lines every number (end_of s traffic r)
 ended s traffic number zero r steps told = rw told refl
 ended s traffic number (suc every) r steps told = rw told refl
 
@@ -115,25 +118,20 @@ module _ (s : Settings) (traffic : Traffic) (order : NodeOrders) (all : AreNodeO
 
 pub texts_in_any_order : RouteLaws → TextsInAnyOrder
 texts_in_any_order laws s traffic order all xs ys a b =
-    let it : AreIterations s traffic a.routes a.lines = by-same-costs (costs_of s traffic) (costs_by s traffic order) traffic
-    a.routes a.lines (costs-same s traffic order all) a.iterations in
-    let routes : a.routes ≡ b.routes = same-routes laws (costs_of s traffic) traffic a.routes b.routes a.lines b.lines it b.iterations
-    (a.as_many ∙ sym b.as_many) in
-    let lines : a.lines ≡ b.lines = same-lines laws (costs_of s traffic) traffic a.routes b.routes a.lines b.lines it b.iterations
-    routes (a.with_gaps ∙ sym a.as_many) (a.with_gaps ∙ sym b.with_gaps) in
+    let its = all-by-same s.iterations s.iterations (costs_of s traffic) (costs_by s traffic order) traffic refl (costs-same s traffic order all) a.all in
+    let told = texts_told s.command traffic a.all.last (told_by s traffic order a.all.last a.all.line) a.since a.all.lines in
     let since : a.since ≡ b.since = same-since laws s traffic s.start a.since b.since a.since_told b.since_told in
-    let last : texts_told s.command traffic a.last (told_by s traffic order a.last a.line) a.since a.lines ≡ last_texts s.command s traffic b.last b.since b.lines b.line =
-    ap (λ (t : LastLoading). texts_told s.command traffic a.last t a.since a.lines) (told-same s traffic order all a.last a.line)
-    ∙ lasts-by s traffic a.routes b.routes a.lines b.lines a.last b.last a.line b.line a.since b.since routes
-    lines since a.last_routes b.last_routes a.last_line b.last_line in
+    let last : told ≡ texts-of-all s traffic b.all b.since =
+    ap (λ (t : LastLoading). texts_told s.command traffic a.all.last t a.since a.all.lines) (told-same s traffic order all a.all.last a.all.line)
+    ∙ lasts-by laws s traffic its b.all a.since b.since since in
     record {
       but_watch_lines =
-          but-watch-is xs (watched_by s traffic order 1 a.routes) (texts_told s.command traffic a.last (told_by s traffic order a.last a.line) a.since a.lines) a.texts_are
-          (none-left-by s traffic order all 1 a.routes)
+          but-watch-is xs (watched_by s traffic order 1 a.all.routes) told a.texts_are (none-left-by s traffic order all 1 a.all.routes)
           ∙ ap but_watch last ∙ sym (but-watch-assigned s traffic ys b);
       plain = λ plain.
-          let watched : watched_by s traffic order 1 a.routes ≡ b.watched =
-          ap (watched_by s traffic order 1) routes ∙ watched-same-by s traffic order all 1 b.routes b.watched plain b.watch_lines in
-          a.texts_are ∙ ap (λ (w : List OutText). w ++ texts_told s.command traffic a.last (told_by s traffic order a.last a.line) a.since a.lines) watched
+          let watched : watched_by s traffic order 1 a.all.routes ≡ b.watched =
+          ap (watched_by s traffic order 1) (all-routes laws s.iterations (costs_of s traffic) traffic its b.all)
+          ∙ watched-same-by s traffic order all 1 b.all.routes b.watched plain b.watch_lines in
+          a.texts_are ∙ ap (λ (w : List OutText). w ++ told) watched
           ∙ ap (λ (l : List OutText). b.watched ++ l) last ∙ sym b.texts_are;
     }

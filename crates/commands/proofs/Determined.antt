@@ -1,6 +1,10 @@
 -- Settings and a job have one list of texts but for Watch, and with the plain loader of all texts.
-use Rattle.std.proofs.Common.{◌≡◌, ℕ, zero, suc, ◌+◌, ◌-◌, Bool, false, true, List, [], ◌∷◌, ◌++◌, map, refl, sym, ap, subst, ◌∙◌}
-use Rattle.std.specs.Prelude.{Option, None, Some, not, slice_get}
+use Rattle.std.proofs.Common.{◌≡◌, ℕ, zero, suc, ◌+◌, Bool, false, true, List, [], ◌∷◌, ◌++◌, map, refl, sym, ap, subst, ◌∙◌}
+use Rattle.sweep.specs.Texts.{sweep_texts}
+use Rattle.skims.specs.Texts.{skim_texts}
+use Rattle.pending_text.specs.Outs.{OutText, text_to}
+use Rattle.reports.specs.Watch.{AreToldSteps, text_after}
+use Rattle.std.specs.Prelude.{Option, None, Some, not}
 use Rattle.std.proofs.lemmas.List.Elements.{filter-append}
 use Rattle.dta_model.specs.LinkTimes.{time_at}
 use Rattle.trip_costs.specs.OriginWaits.{WaitTable}
@@ -10,24 +14,22 @@ use Rattle.gap.specs.declared.line.GapLine.{GapLine}
 use Rattle.desk_io.specs.declared.desk.Output.TheVariants as output
 use Rattle.dta_words.specs.declared.command.Command.TheVariants as command
 use Rattle.dta_words.specs.declared.command.Settings.{Settings}
-use Rattle.assignment.specs.Assignment.{Traffic, VehicleRoutes, costs_of, told_where, waits_of}
+use Rattle.assignment.specs.Assignment.{AllIterations, Traffic, VehicleRoutes, costs_of, plan_of, told_where, waits_of}
 use Rattle.jobs.specs.Inputs.{Assigning, Auditing, Kind, Skimming, Sweeping, kind_of}
 use Rattle.jobs.specs.Jobs.{JobRows, traffic_of}
 use Rattle.commands.specs.Laws.{AreDetermined, ScenariosAreAlone, TextsAreDetermined, alone, scenario_texts}
 use Rattle.reports.specs.Texts.{agent_text_by}
 use Rattle.net_core.specs.declared.rows.NetRows.{NetRows}
 use Rattle.dta_model.specs.declared.trip.DemandCell.{DemandCell}
-use Rattle.assignment.proofs.Determined.{RouteLaws, same-lines, same-routes}
+use Rattle.assignment.proofs.Determined.{RouteLaws, all-last, all-line, all-lines, all-routes}
 use Rattle.sweep.specs.Laws.{Agree, ScenariosStandAlone}
 use Rattle.sweep.specs.Scenarios.{AreScenarios, HasTexts, traffic_at, wait_text}
 use Rattle.sweep.specs.declared.scenario.Scenario.{Scenario}
-use Rattle.commands.specs.Outputs.{AreAssigned, AreSinceTold, AreToldSteps, AreWatchLines, AreWatchTexts, OutText, but_watch, is_watch, last_texts, skim_texts, sweep_texts, text_to, wait_texts, watch_text}
+use Rattle.commands.specs.Outputs.{AreAssigned, AreSinceTold, AreWatchLines, AreWatchTexts}
 use Rattle.commands.specs.Works.{work_by}
+use Rattle.commands.specs.Texts.{but_watch, is_watch, last_texts, wait_texts}
 use Rattle.skims.specs.GivenTimes.{table_given}
 use Rattle.skims.proofs.Determined.{skims_are_determined}
-
-some-is : {A : Type 0} (x y : A) → Some x ≡ Some y → x ≡ y
-some-is x y e = cc
 
 -- the iterations of the routes, where they are told
 pub same-since : RouteLaws → (s : Settings) (traffic : Traffic) (start : Bool) (a b : Option (List ℕ))
@@ -43,7 +45,7 @@ same-since laws s traffic true (Some a) (Some b) x y =
 -- no watch line is left among the other texts
 module _ (s : Settings) (traffic : Traffic) where
   no-line-left : (number : ℕ) (r : VehicleRoutes) (steps : List ℕ)
-      → but_watch (map (watch_text s traffic number r) steps) ≡ []
+      → but_watch (map (text_after number (plan_of s traffic r)) steps) ≡ []
   no-line-left number r [] = refl
   no-line-left number r (t ∷ steps) = no-line-left number r steps
 
@@ -72,7 +74,7 @@ module _ (s : Settings) (traffic : Traffic) where
   lines-same number r xs ys plain a b =
       let steps : a.steps ≡ b.steps = same-steps s.watch s.horizon a.steps b.steps
       (plain-by a.steps plain a.by_rule) (plain-by b.steps plain b.by_rule) in
-      a.lines_are ∙ ap (map (watch_text s traffic number r)) steps ∙ sym b.lines_are
+      a.lines_are ∙ ap (map (text_after number (plan_of s traffic r))) steps ∙ sym b.lines_are
 
   watched-same : (number : ℕ) (routes : List VehicleRoutes) (xs ys : List OutText) → s.plain ≡ true
       → AreWatchTexts s traffic number routes xs → AreWatchTexts s traffic number routes ys → xs ≡ ys
@@ -85,21 +87,18 @@ module _ (s : Settings) (traffic : Traffic) where
 
 -- ---- all texts
 
--- the texts after the last iteration, over the same routes and gaps
-pub lasts-by : (s : Settings) (traffic : Traffic) (ra rb : List VehicleRoutes) (la lb : List GapLine)
-    (last_a last_b : VehicleRoutes) (line_a line_b : GapLine) (since_a since_b : Option (List ℕ)) → ra ≡ rb → la ≡ lb → since_a ≡ since_b
-    → slice_get ra (s.iterations - 1) ≡ Some last_a → slice_get rb (s.iterations - 1) ≡ Some last_b
-    → slice_get la (s.iterations - 1) ≡ Some line_a → slice_get lb (s.iterations - 1) ≡ Some line_b
-    → last_texts s.command s traffic last_a since_a la line_a ≡ last_texts s.command s traffic last_b since_b lb line_b
-lasts-by s traffic ra rb la lb last_a last_b line_a line_b since_a since_b routes lines since at_a at_b on_a on_b =
-    let last : last_a ≡ last_b = some-is last_a last_b (sym at_a
-    ∙ ap (λ (rs : List VehicleRoutes). slice_get rs (s.iterations - 1)) routes ∙ at_b) in
-    let line : line_a ≡ line_b = some-is line_a line_b (sym on_a
-    ∙ ap (λ (ls : List GapLine). slice_get ls (s.iterations - 1)) lines ∙ on_b) in
-    ap (λ (r : VehicleRoutes). last_texts s.command s traffic r since_a la line_a) last
-    ∙ ap (λ (o : Option (List ℕ)). last_texts s.command s traffic last_b o la line_a) since
-    ∙ ap (λ (ls : List GapLine). last_texts s.command s traffic last_b since_b ls line_a) lines
-    ∙ ap (λ (l : GapLine). last_texts s.command s traffic last_b since_b lb l) line
+-- the texts after the last iteration, over all iterations
+abbrev pub texts-of-all : (s : Settings) (traffic : Traffic) → AllIterations s.iterations (costs_of s traffic) traffic → Option (List ℕ) → List OutText
+texts-of-all s traffic all since = last_texts s.command s traffic all.last since all.lines all.line
+
+pub lasts-by : RouteLaws → (s : Settings) (traffic : Traffic) (a b : AllIterations s.iterations (costs_of s traffic) traffic)
+    (since_a since_b : Option (List ℕ)) → since_a ≡ since_b → texts-of-all s traffic a since_a ≡ texts-of-all s traffic b since_b
+lasts-by laws s traffic a b since_a since_b since =
+    let costs = costs_of s traffic in
+    ap (λ (r : VehicleRoutes). last_texts s.command s traffic r since_a a.lines a.line) (all-last laws s.iterations costs traffic a b)
+    ∙ ap (λ (o : Option (List ℕ)). last_texts s.command s traffic b.last o a.lines a.line) since
+    ∙ ap (λ (ls : List GapLine). last_texts s.command s traffic b.last since_b ls a.line) (all-lines laws s.iterations costs traffic a b)
+    ∙ ap (λ (l : GapLine). last_texts s.command s traffic b.last since_b b.lines l) (all-line laws s.iterations costs traffic a b)
 
 -- the texts of an assignment but for Watch are those after its last iteration
 pub but-watch-is : (texts watched last : List OutText) → texts ≡ watched ++ last
@@ -109,36 +108,26 @@ but-watch-is texts watched last are none =
     ∙ ap (λ (xs : List OutText). xs ++ but_watch last) none
 
 pub but-watch-assigned : (s : Settings) (traffic : Traffic) (xs : List OutText) (a : AreAssigned s traffic xs)
-    → but_watch xs ≡ but_watch (last_texts s.command s traffic a.last a.since a.lines a.line)
+    → but_watch xs ≡ but_watch (texts-of-all s traffic a.all a.since)
 but-watch-assigned s traffic xs a =
-    but-watch-is xs a.watched (last_texts s.command s traffic a.last a.since a.lines a.line) a.texts_are
-    (none-left s traffic 1 a.routes a.watched a.watch_lines)
+    but-watch-is xs a.watched (texts-of-all s traffic a.all a.since) a.texts_are
+    (none-left s traffic 1 a.all.routes a.watched a.watch_lines)
 
 module _ (laws : RouteLaws) (s : Settings) (traffic : Traffic) (xs ys : List OutText) (a : AreAssigned s traffic xs)
     (b : AreAssigned s traffic ys) where
-  routes-same : a.routes ≡ b.routes
-  routes-same = same-routes laws (costs_of s traffic) traffic a.routes b.routes a.lines b.lines a.iterations b.iterations
-      (a.as_many ∙ sym b.as_many)
-
-  lasts-same : last_texts s.command s traffic a.last a.since a.lines a.line
-      ≡ last_texts s.command s traffic b.last b.since b.lines b.line
-  lasts-same =
-      lasts-by s traffic a.routes b.routes a.lines b.lines a.last b.last a.line b.line a.since b.since routes-same
-      (same-lines laws (costs_of s traffic) traffic a.routes b.routes a.lines b.lines a.iterations b.iterations routes-same
-      (a.with_gaps ∙ sym a.as_many) (a.with_gaps ∙ sym b.with_gaps))
-      (same-since laws s traffic s.start a.since b.since a.since_told b.since_told)
-      a.last_routes b.last_routes a.last_line b.last_line
+  lasts-same : texts-of-all s traffic a.all a.since ≡ texts-of-all s traffic b.all b.since
+  lasts-same = lasts-by laws s traffic a.all b.all a.since b.since (same-since laws s traffic s.start a.since b.since a.since_told b.since_told)
 
   both-assigned : AreDetermined s xs ys
   both-assigned = record {
     but_watch_lines =
         but-watch-assigned s traffic xs a ∙ ap but_watch lasts-same ∙ sym (but-watch-assigned s traffic ys b);
     plain = λ plain.
-        let watched : a.watched ≡ b.watched = watched-same s traffic 1 b.routes a.watched b.watched plain
-        (subst (λ (rs : List VehicleRoutes). AreWatchTexts s traffic 1 rs a.watched) routes-same
+        let watched : a.watched ≡ b.watched = watched-same s traffic 1 b.all.routes a.watched b.watched plain
+        (subst (λ (rs : List VehicleRoutes). AreWatchTexts s traffic 1 rs a.watched) (all-routes laws s.iterations (costs_of s traffic) traffic a.all b.all)
         a.watch_lines) b.watch_lines in
         a.texts_are
-        ∙ ap (λ (w : List OutText). w ++ last_texts s.command s traffic a.last a.since a.lines a.line) watched
+        ∙ ap (λ (w : List OutText). w ++ texts-of-all s traffic a.all a.since) watched
         ∙ ap (λ (l : List OutText). b.watched ++ l) lasts-same ∙ sym b.texts_are;
   }
 
@@ -201,25 +190,15 @@ module _ (laws : RouteLaws) (s : Settings) (job : JobRows) (scale workers watch 
   by_itself = traffic_at job.net job.demand_cells scale
 
   -- the texts after its last iteration are those of the scenario
-  told-alone : last_texts command.Assign own by_itself h.last None h.lines h.line ≡ scenario_texts s.costs it
+  told-alone : last_texts command.Assign own by_itself h.all.last None h.all.lines h.all.line ≡ scenario_texts s.costs it
   unfolding agent_text_by
-  told-alone = sym (told-by s.costs it (waits_of s by_itself h.last) by_itself.net _ _ _ _ h.agent h.link_time h.origin_wait h.gap h.report)
+  told-alone = sym (told-by s.costs it (waits_of s by_itself h.all.last) by_itself.net _ _ _ _ h.agent h.link_time h.origin_wait h.gap h.report)
 
-  module _ (texts : List OutText) (a : AreAssigned own by_itself texts) where
-    routes-alone : a.routes ≡ h.routes
-    routes-alone = same-routes laws (costs_of own by_itself) by_itself a.routes h.routes a.lines h.lines a.iterations h.iterations (a.as_many ∙ sym h.as_many)
-
-    lines-alone : a.lines ≡ h.lines
-    lines-alone =
-        same-lines laws (costs_of own by_itself) by_itself a.routes h.routes a.lines h.lines a.iterations h.iterations routes-alone
-        (a.with_gaps ∙ sym a.as_many) (a.with_gaps ∙ sym h.with_gaps)
-
-    pub scenario-alone : but_watch texts ≡ scenario_texts s.costs it
-    scenario-alone =
-        but-watch-assigned own by_itself texts a
-        ∙ ap but_watch (lasts-by own by_itself a.routes h.routes a.lines h.lines a.last h.last a.line h.line a.since None routes-alone lines-alone
-        a.since_told a.last_routes h.last_routes a.last_line h.last_line)
-        ∙ ap but_watch told-alone ∙ none-watched s.costs it
+  pub scenario-alone : (texts : List OutText) → AreAssigned own by_itself texts → but_watch texts ≡ scenario_texts s.costs it
+  scenario-alone texts a =
+      but-watch-assigned own by_itself texts a
+      ∙ ap but_watch (lasts-by laws own by_itself a.all h.all a.since None a.since_told)
+      ∙ ap but_watch told-alone ∙ none-watched s.costs it
 
 pub scenarios_are_alone : RouteLaws → ScenariosAreAlone
 scenarios_are_alone laws s job scale workers watch plain it texts h a =

@@ -1,15 +1,16 @@
--- Texts that go out one after another.
-use Rattle.std.proofs.Common.{◌≡◌, ℕ, zero, suc, ◌+◌, ◌≤◌, Bool, true, false, List, [], ◌∷◌, ◌++◌, length, refl, ap, sym, subst, ◌∙◌, arith, rules, inl, inr}
+-- The watch lines of iterations, and the texts after the last of them.
+use Rattle.std.proofs.Common.{◌≡◌, ℕ, zero, suc, ◌+◌, ◌≤◌, Bool, true, false, List, [], ◌∷◌, ◌++◌, length, refl, ap, sym, subst, ◌∙◌, arith, rules}
 use Rattle.std.specs.Prelude.{Option, nat_lt}
 use Rattle.std.proofs.lemmas.List.{append_assoc, append-nil}
-use Rattle.desk_io.specs.declared.desk.Output.{Output}
 use Rattle.desk_io.specs.declared.desk.Output.TheVariants as output
 use Rattle.desk_io.specs.Desk.{Taken, grown}
 use Rattle.desk_io.specs.Transfers.{IsPartOut}
+use Rattle.pending_text.specs.Outs.{IsCutOff, OutText, grown_by, text_to}
+use Rattle.pending_text.proofs.OutFacts.{cut-later, cut-one, cut-sooner, grown-append}
 use Rattle.dta_model.specs.declared.eight.Eight.{Eight}
 use Rattle.gap.specs.declared.line.GapLine.{GapLine}
-use Rattle.reports.specs.Texts.{report_text, watch_line}
-use Rattle.reports.specs.Watch.{AreWatchSteps}
+use Rattle.reports.specs.Texts.{report_text}
+use Rattle.reports.specs.Watch.{AreToldSteps, AreWatchSteps, watch_text}
 use Rattle.dta_words.specs.Ranges.{AreSettings}
 use Rattle.dta_words.specs.declared.command.Command.{Command}
 use Rattle.dta_words.specs.declared.command.Command.TheVariants as command
@@ -17,23 +18,8 @@ use Rattle.dta_words.specs.declared.command.Settings.{Settings}
 use Rattle.assignment.specs.Assignment.{Traffic, VehicleRoutes, end_of, plan_of, summary_of}
 use Rattle.counts.specs.Through.{through_counts}
 use Rattle.counts.specs.Turns.{turn_counts}
-use Rattle.commands.specs.Outputs.{AreToldSteps, AreWatchLines, AreWatchTexts, IsCutOff, OutText, end_lines, counts_out, grown_by, last_texts, table_texts, text_to, told_of}
-
--- some texts went out, and then others
-pub grown-append : (xs ys : List OutText) (t : Taken) → grown_by (xs ++ ys) t ≡ grown_by ys (grown_by xs t)
-grown-append [] ys t = refl
-grown-append (x ∷ xs) ys t = grown-append xs ys (grown x.to x.text t)
-
--- the second of two parts was cut off
-pub cut-later : (xs ys : List OutText) (t after : Taken) → IsCutOff ys (grown_by xs t) after → IsCutOff (xs ++ ys) t after
-cut-later [] ys t after cut = cut
-cut-later (x ∷ xs) ys t after cut = inr (cut-later xs ys (grown x.to x.text t) after cut)
-
--- the first was
-pub cut-sooner : (xs ys : List OutText) (t after : Taken) → IsCutOff xs t after → IsCutOff (xs ++ ys) t after
-cut-sooner [] ys t after cut = absurd cut
-cut-sooner (x ∷ xs) ys t after (inl part) = inl part
-cut-sooner (x ∷ xs) ys t after (inr cut) = inr (cut-sooner xs ys (grown x.to x.text t) after cut)
+use Rattle.commands.specs.Outputs.{AreWatchLines, AreWatchTexts}
+use Rattle.commands.specs.Texts.{end_lines, counts_out, last_texts, table_texts, told_of}
 
 -- ---- watch lines
 
@@ -61,18 +47,6 @@ watch-more s traffic number last (x ∷ done) r texts lines e told own =
       ap (λ (t : List OutText). t ++ lines) told.4 ∙ append_assoc told.0 told.1 lines,
     )
 
--- what the outputs have taken after the lines of one more iteration
-pub grown-more : (texts lines : List OutText) (start before now : Taken) → before ≡ grown_by texts start
-    → now ≡ grown_by lines before → now ≡ grown_by (texts ++ lines) start
-grown-more texts lines start before now old new =
-    new ∙ ap (grown_by lines) old ∙ sym (grown-append texts lines start)
-
--- the lines of one more iteration were cut off
-pub cut-more : (texts lines : List OutText) (start before now : Taken) → before ≡ grown_by texts start
-    → IsCutOff lines before now → IsCutOff (texts ++ lines) start now
-cut-more texts lines start before now old cut =
-    cut-later texts lines start now (subst (λ (t : Taken). IsCutOff lines t now) old cut)
-
 -- the line of the state at the horizon alone meets the rule
 last-alone : (every horizon : ℕ) → 1 ≤ horizon → AreWatchSteps every horizon (horizon ∷ [])
 last-alone every horizon h =
@@ -97,7 +71,7 @@ end-by s traffic iteration r end zero e h is = record {
 end-by s traffic iteration r end (suc every) e h is = record {
   steps = s.horizon ∷ [];
   by_rule = rw e (end-told every s.plain s.horizon h);
-  lines_are = ap (λ (x : Eight). text_to output.Watch (watch_line iteration x) ∷ []) is;
+  lines_are = ap (λ (x : Eight). watch_text iteration x ∷ []) is;
 }
 
 pub end-lines : (s : Settings) (traffic : Traffic) (iteration : ℕ) (r : VehicleRoutes) (end : Eight)
@@ -105,15 +79,6 @@ pub end-lines : (s : Settings) (traffic : Traffic) (iteration : ℕ) (r : Vehicl
     → AreWatchLines s traffic iteration r (end_lines s.watch iteration end)
 end-lines s traffic iteration r end settings is =
     end-by s traffic iteration r end s.watch refl settings.horizon.0 is
-
--- one text went out, or was cut off
-pub grown-one : (o : Output) (text : List ℕ) (before now : Taken) → now ≡ grown o text before → now ≡ grown_by (text_to o text ∷ []) before
-grown-one o text before now e = e
-
-pub cut-one : (o : Output) (text : List ℕ) (before now : Taken) → IsPartOut o text before now → IsCutOff (text_to o text ∷ []) before now
-cut-one o text before now part = inl part
-
-pub ruleset parts = (grown-append, cut-later, cut-sooner, grown-one, cut-one)
 
 -- the texts after the last iteration
 module _ (s : Settings) (traffic : Traffic) (r : VehicleRoutes) (since : Option (List ℕ)) (lines : List GapLine) (line : GapLine) where

@@ -5,8 +5,8 @@ use Rattle.dta_words.specs.declared.command.Settings.{Settings}
 use Rattle.counts.specs.Through.{through_counts}
 use Rattle.counts.specs.Turns.{IsOfNet, turn_counts}
 use Rattle.assignment.specs.Assignment.{Traffic, VehicleRoutes, plan_of}
-use Rattle.commands.specs.Outputs.{asked_link, through_asked}
 use Rattle.commands.specs.declared.counted.Counted.{Counted}
+use Rattle.commands.specs.Texts.{asked_link, through_asked}
 
 -- the counts over the loading of an iteration over these routes
 pub record AreCountsOf (s : Settings) (traffic : Traffic) (routes : VehicleRoutes) (c : Counted)

@@ -2,8 +2,8 @@
 use Rattle.std.specs.Prelude.{◌≡◌, refl, codes, map, [], ◌∷◌}
 use Rattle.desk_io.specs.declared.desk.Output.TheVariants as output
 use Rattle.desk_io.specs.Desk.{grown, nothing_taken}
+use Rattle.pending_text.specs.Outs.{grown_by, text_to}
 use Rattle.commands.specs.declared.status.Status.TheVariants as status
-use Rattle.commands.specs.Outputs.{grown_by, text_to}
 use Rattle.commands.specs.Status.{number_of}
 
 -- the number of each status

@@ -1,5 +1,6 @@
 -- What is true of every assignment.
 use Rattle.std.specs.Prelude.{ℕ, ◌≡◌, Bool, List, [], ◌∷◌, ◌++◌, false, true}
+use Rattle.pending_text.specs.Outs.{OutText, text_to}
 use Rattle.desk_io.specs.declared.desk.Output.TheVariants as output
 use Rattle.trip_costs.specs.declared.loading_costs.Costs.{Costs}
 use Rattle.trip_costs.specs.declared.loading_costs.Costs.TheVariants as by
@@ -11,8 +12,9 @@ use Rattle.dta_words.specs.declared.command.Command.TheVariants as command
 use Rattle.dta_words.specs.declared.command.Settings.{Settings}
 use Rattle.jobs.specs.Jobs.{JobRows}
 use Rattle.commands.specs.Orders.{AreAssignedBy, AreNodeOrders, NodeOrders}
-use Rattle.commands.specs.Outputs.{AreAssigned, IsAudited, OutText, but_watch, text_to}
+use Rattle.commands.specs.Outputs.{AreAssigned, IsAudited}
 use Rattle.commands.specs.Works.{AreTexts}
+use Rattle.commands.specs.Texts.{but_watch}
 
 -- two lists of texts of a job are the same but for Watch, and where the loader is plain altogether
 pub record AreDetermined (s : Settings) (a b : List OutText) : Type 0 where

@@ -1,4 +1,5 @@
 pub mod Status
+pub mod Texts
 pub mod Outputs
 pub mod Orders
 pub mod Laws

@@ -1,6 +1,6 @@
 -- Assignments whose loadings take the nodes of a step in another order.
-use Rattle.std.specs.Prelude.{ℕ, ◌≡◌, ◌+◌, ◌-◌, List, [], ◌∷◌, ◌++◌, length, Option, Some}
-use Rattle.std.specs.Prelude.{slice_get}
+use Rattle.std.specs.Prelude.{ℕ, ◌≡◌, ◌+◌, List, [], ◌∷◌, ◌++◌, Option}
+use Rattle.pending_text.specs.Outs.{OutText}
 use Rattle.dta_model.specs.LinkTimes.{TimeTable, table_in}
 use Rattle.dta_model.specs.Loading.{journeys_in}
 use Rattle.dta_model.specs.Orders.{AreOrders, trace_in}
@@ -14,12 +14,12 @@ use Rattle.trip_costs.specs.Timings.{Timing}
 use Rattle.gap.specs.declared.line.GapLine.{GapLine}
 use Rattle.reports.specs.declared.summary.Summary.{Summary}
 use Rattle.dta_words.specs.declared.command.Settings.{Settings}
-use Rattle.assignment.specs.Assignment.{AreIterationsBy, Traffic, VehicleRoutes, plan_of}
+use Rattle.assignment.specs.Assignment.{AllIterations, Traffic, VehicleRoutes, plan_of}
 use Rattle.assignment.specs.Assignment.{summary_of, told_where}
 use Rattle.counts.specs.Through.{through_counts_in}
 use Rattle.counts.specs.Turns.{turn_counts_in}
-use Rattle.commands.specs.Outputs.{AreSinceTold, LastLoading, OutText, counts_out, end_lines}
-use Rattle.commands.specs.Outputs.{texts_told}
+use Rattle.commands.specs.Outputs.{AreSinceTold}
+use Rattle.commands.specs.Texts.{LastLoading, counts_out, end_lines, texts_told}
 
 -- for the loading over each routes an order of the nodes, for each of its steps
 abbrev pub NodeOrders : Type 0
@@ -93,17 +93,10 @@ watched_by s traffic order number (routes ∷ others) =
 -- the texts of a whole assignment by such loadings, with the watch lines of the plain loader
 pub record AreAssignedBy (s : Settings) (traffic : Traffic) (order : NodeOrders)
     (texts : List OutText) : Type 0 where
-  pub routes : List VehicleRoutes
-  pub lines : List GapLine
-  pub last : VehicleRoutes
-  pub line : GapLine
-  pub iterations : AreIterationsBy (costs_by s traffic order) traffic routes lines
-  pub as_many : length routes ≡ s.iterations
-  pub with_gaps : length lines ≡ s.iterations
-  pub last_routes : slice_get routes (s.iterations - 1) ≡ Some last
-  pub last_line : slice_get lines (s.iterations - 1) ≡ Some line
+  pub all : AllIterations s.iterations (costs_by s traffic order) traffic
   pub since : Option (List ℕ)
   pub since_told : AreSinceTold s.start s traffic since
   pub texts_are : texts
-      ≡ watched_by s traffic order 1 routes
-      ++ texts_told s.command traffic last (told_by s traffic order last line) since lines
+      ≡ watched_by s traffic order 1 all.routes
+      ++ texts_told s.command traffic all.last (told_by s traffic order all.last all.line) since
+      all.lines

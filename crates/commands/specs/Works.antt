@@ -4,14 +4,15 @@ use Rattle.dta_words.specs.declared.command.Command.{Command}
 use Rattle.jobs.specs.Inputs.{Assigning, Auditing, FreeFlow, Kind, Skimming, Sweeping, kind_of}
 use Rattle.jobs.specs.Jobs.{JobRows, traffic_of}
 use Rattle.commands.specs.Outputs.{AreAssigned, AreAudited, AreSkimmed, AreSwept, AreWatched}
-use Rattle.commands.specs.Outputs.{IsAudited, IsCutOff, OutText, free_texts, grown_by}
+use Rattle.commands.specs.Outputs.{IsAudited}
 use Rattle.desk_io.specs.declared.desk.Output.TheVariants as output
 use Rattle.desk_io.specs.Desk.{Taken}
 use Rattle.desk_io.specs.Faults.{Rose}
 use Rattle.desk_io.specs.State.{DeskState}
 use Rattle.desk_io.specs.Transfers.{IsOut}
+use Rattle.pending_text.specs.Outs.{OutText, SomeCutOff, SomeOut}
 use Rattle.audit.specs.declared.verdict.Verdict.TheVariants as verdict
-use Rattle.reports.specs.Texts.{differs_line}
+use Rattle.reports.specs.Texts.{differs_line, free_texts}
 use Rattle.reports.specs.declared.audited.Place.{Place}
 use Rattle.dta_words.specs.declared.command.Settings.{Settings}
 use Rattle.commands.specs.declared.status.Status.{Status}
@@ -77,10 +78,10 @@ pub record IsDifferent (s : Settings) (job : JobRows) (before after : DeskState)
 -- is told apart
 abbrev pub Works : Settings → JobRows → Status → Taken → Taken → Type 0
 Works s job status.Done before after =
-    (texts : List OutText) × AreTexts s.command s job texts × (after ≡ grown_by texts before)
+    SomeOut (AreTexts s.command s job) before after
 Works s job status.WriteFault before after =
-    (texts : List OutText) × AreTextsSoFar s.command s job texts × IsCutOff texts before after
+    SomeCutOff (AreTextsSoFar s.command s job) before after
 Works s job status.Memory before after =
-    (texts : List OutText) × AreWatchedSoFar s.command s job texts × (after ≡ grown_by texts before)
+    SomeOut (AreWatchedSoFar s.command s job) before after
 Works s job status.Differs before after = ⊤
 Works s job _ before after = ⊥

@@ -7,8 +7,8 @@ ghost use Rattle.dta_model.specs.Sound.{IsSound};
 ghost use Rattle.counts.specs.Through.{through_counts};
 ghost use Rattle.assignment.specs.Lent.{IsAssignment, settings_in, traffic_in};
 ghost use Rattle.assignment.specs.Progress.{IsLast};
-ghost use Rattle.commands.specs.Outputs.{asked_link as asked_link_of, through_asked};
 ghost use Rattle.commands.specs.Counted.{AreCountsOf, HasCounts};
+ghost use Rattle.commands.specs.Texts.{asked_link as asked_link_of, through_asked};
 
 use assignment::{Assigned, Assignment};
 use counts::{ThroughCounts, TurnCounts, count_through, count_turns};

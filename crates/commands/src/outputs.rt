@@ -2,6 +2,7 @@
 ghost use Rattle.std.specs.Prelude.{[], ◌∷◌};
 ghost use Rattle.desk_io.specs.declared.desk.Output.TheVariants as output;
 ghost use Rattle.desk_io.specs.Transfers.{Puts};
+ghost use Rattle.pending_text.specs.Outs.{PutsAll};
 ghost use Rattle.dta_model.specs.Loading.{journeys_of};
 ghost use Rattle.reports.specs.Texts.{agent_text_by};
 ghost use Rattle.counts.specs.Through.{through_counts};
@@ -9,10 +10,9 @@ ghost use Rattle.counts.specs.Turns.{turn_counts};
 ghost use Rattle.assignment.specs.Lent.{IsAssignment, plan_in, settings_in, traffic_in};
 ghost use Rattle.assignment.specs.Progress.{IsLast};
 ghost use Rattle.assignment.specs.Assignment.{waits_told};
-ghost use Rattle.commands.specs.Calls.{PutsAll};
-ghost use Rattle.commands.specs.Outputs.{AreSinceTold, counts_out, last_texts, table_texts};
-ghost use Rattle.commands.specs.Outputs.{told_of, wait_texts};
+ghost use Rattle.commands.specs.Outputs.{AreSinceTold};
 ghost use Rattle.commands.specs.Counted.{AreCountsOf, HasCounts};
+ghost use Rattle.commands.specs.Texts.{counts_out, last_texts, table_texts, told_of, wait_texts};
 
 use crate::iterated::Iterated;
 use assignment::{Assignment, summary_of};
@@ -45,7 +45,7 @@ fn put_vehicles<D: Desk>(desk: &mut D, assignment: &Assignment, it: &Iterated) -
 }
 
 // Puts OriginWait, where the costs are of whole trips.
-#[tactic(auto, using(crate::proofs::OutputFacts::parts))]
+#[tactic(auto, using(pending_text::proofs::OutFacts::parts))]
 fn put_waits<D: Desk>(desk: &mut D, assignment: &Assignment, it: &Iterated) -> Result<(), Failed>
     requires is { IsAssignment assignment.now }
     requires last { IsLast (settings_in assignment.now) (traffic_in assignment.now) it.now.last }
@@ -60,7 +60,7 @@ fn put_waits<D: Desk>(desk: &mut D, assignment: &Assignment, it: &Iterated) -> R
 }
 
 // Puts Agent, LinkTime, OriginWait and Gap, one after the other.
-#[tactic(auto, using(crate::proofs::OutputFacts::parts))]
+#[tactic(auto, using(pending_text::proofs::OutFacts::parts))]
 fn put_tables<D: Desk>(desk: &mut D, assignment: &Assignment, it: &Iterated) -> Result<(), Failed>
     requires is { IsAssignment assignment.now }
     requires last { IsLast (settings_in assignment.now) (traffic_in assignment.now) it.now.last }

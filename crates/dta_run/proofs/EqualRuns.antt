@@ -6,19 +6,22 @@ use Rattle.std.specs.Io.KnownBytes.{append_known}
 use Rattle.desk_io.specs.Desk.{Taken, changed_at, grown, output_number, taken_of}
 use Rattle.desk_io.specs.State.{DeskState}
 use Rattle.desk_io.specs.declared.desk.Output.{Output}
+use Rattle.pending_text.proofs.OutFacts.{grown-append}
+use Rattle.reports.specs.Watch.{text_after}
+use Rattle.pending_text.specs.Outs.{OutText, grown_by}
 use Rattle.desk_io.specs.declared.desk.Output.TheVariants as output
 use Rattle.reports.specs.declared.refusal.Refusal.{Refusal}
 use Rattle.reports.specs.declared.refusal.Refusal.TheVariants as refusal
 use Rattle.dta_words.specs.Grammar.{settings_of}
 use Rattle.dta_words.specs.declared.command.Settings.{Settings}
-use Rattle.assignment.specs.Assignment.{Traffic, VehicleRoutes}
+use Rattle.assignment.specs.Assignment.{Traffic, VehicleRoutes, plan_of}
 use Rattle.jobs.specs.Inputs.{Assigning, Kind, kind_of}
 use Rattle.jobs.specs.Jobs.{JobRows, traffic_of}
 use Rattle.jobs.specs.Verdict.{Accepted, Refused, Verdict, verdict}
-use Rattle.commands.specs.Outputs.{AreWatchTexts, OutText, grown_by, is_watch, watch_text}
+use Rattle.commands.specs.Outputs.{AreWatchTexts}
 use Rattle.commands.specs.Status.{refusal_status}
+use Rattle.commands.specs.Texts.{is_watch}
 use Rattle.commands.specs.declared.status.Status.TheVariants as status
-use Rattle.commands.proofs.OutputFacts.{grown-append}
 use Rattle.reference.specs.Texts.{AreWatchLinesBy, texts_of}
 use Rattle.dta_run.specs.Laws.{EqualRunsWriteEqualTexts}
 use Rattle.dta_run.specs.Outcome.{Answers, IsHindered, IsPut}
@@ -71,10 +74,10 @@ same_by (t ∷ texts) o x y e = same_by texts o (grown t.to t.text x) (grown t.t
 -- the watch lines of an iteration change no other output, and neither do those of iterations
 module _ (s : Settings) (traffic : Traffic) (o : Output) (kept : is_watch o ≡ false) where
   lines_else : (number : ℕ) (r : VehicleRoutes) (steps : List ℕ) (x : Taken)
-      → taken_of o (grown_by (map (watch_text s traffic number r) steps) x) ≡ taken_of o x
+      → taken_of o (grown_by (map (text_after number (plan_of s traffic r)) steps) x) ≡ taken_of o x
   lines_else number r [] x = refl
   lines_else number r (step ∷ steps) x =
-      let t = watch_text s traffic number r step in
+      let t = text_after number (plan_of s traffic r) step in
       lines_else number r steps (grown output.Watch t.text x) ∙ watch_else o t.text x kept
 
   watched_else : (number : ℕ) (routes : List VehicleRoutes) (texts : List OutText) (x : Taken)

@@ -14,11 +14,11 @@ use Rattle.jobs.specs.Jobs.{IsAcceptedJob, JobRows}
 use Rattle.jobs.specs.Causes.{IsCause}
 use Rattle.jobs.specs.Stops.{HasFault}
 use Rattle.desk_io.specs.State.{DeskState}
+use Rattle.pending_text.specs.Outs.{IsCutOff, grown_by}
 use Rattle.commands.specs.Works.{IsDifferent, Works}
 use Rattle.reference.specs.Laws.{IsAccepted}
 use Rattle.reference.proofs.TextsFacts.{cut-of, loads-are-sound, own-texts-of, verdict-is, watched-of}
 use Rattle.dta_run.specs.Outcome.{HasWorked, IsPut, IsRefused, Means, ReportsLine}
-use Rattle.commands.specs.Outputs.{IsCutOff, grown_by}
 use Rattle.commands.specs.Status.{refusal_status}
 use Rattle.commands.specs.declared.status.Status.{Status}
 use Rattle.commands.specs.declared.status.Status.TheVariants as status

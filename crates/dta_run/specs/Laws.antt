@@ -5,11 +5,11 @@ use Rattle.desk_io.specs.State.{DeskState}
 use Rattle.desk_io.specs.declared.desk.Output.{Output}
 use Rattle.desk_io.specs.declared.desk.Table.{Table}
 use Rattle.loader.specs.Gates.{GateState}
-use Rattle.commands.specs.Outputs.{is_watch}
 use Rattle.commands.specs.declared.status.Status.TheVariants as status
 use Rattle.dta_words.specs.Grammar.{settings_of}
 use Rattle.jobs.specs.Verdict.{AreToldBy}
 use Rattle.dta_run.specs.Headline.{Headline}
+use Rattle.commands.specs.Texts.{is_watch}
 
 -- a run with these words over these tables that ended with Done, with its desk before and after it
 pub record IsDoneOver (words : List (List ℕ)) (texts : Table → List ℕ) (before after : DeskState)

@@ -6,6 +6,7 @@ use Rattle.desk_io.specs.declared.desk.Table.{Table}
 use Rattle.desk_io.specs.declared.desk.Output.TheVariants as output
 use Rattle.desk_io.specs.State.{DeskState}
 use Rattle.desk_io.specs.Transfers.{IsOut}
+use Rattle.pending_text.specs.Outs.{IsCutOff, OutText, grown_by}
 use Rattle.row_reader.specs.declared.faults.TableFault.{TableFault}
 use Rattle.reports.specs.Texts.{differs_line, refusal_line}
 use Rattle.reports.specs.declared.audited.Place.{Place}
@@ -20,7 +21,6 @@ use Rattle.jobs.specs.Inputs.{Auditing, kind_of, read_tables}
 use Rattle.jobs.specs.Jobs.{IsAcceptedJob, JobRows}
 use Rattle.jobs.specs.Causes.{EndsForMemory, IsCause, ReadsFailed}
 use Rattle.jobs.specs.Verdict.{Accepted, Refused, Verdict}
-use Rattle.commands.specs.Outputs.{IsCutOff, OutText, grown_by}
 use Rattle.commands.specs.Status.{refusal_status}
 use Rattle.reference.specs.Audits.{verdict_of}
 use Rattle.reference.specs.Texts.{AreWatchLinesOf, HasItsTexts, HasSoundLoadings}

@@ -19,25 +19,26 @@ use Rattle.phase_claims.specs.declared.view.Scope.{Scope}
 use Rattle.phase_claims.specs.declared.view.View.{View}
 use Rattle.monitors.specs.Posted.{Known}
 use Rattle.loader.specs.Gates.{GateState, Numbers, numbers_by, numbers_of, one_more, taking, told_as}
-use Rattle.loader.specs.Lines.{AreCutOff, AreStepsTold, IsWatchCut, IsWatched, line_after}
+use Rattle.pending_text.specs.Outs.{IsCutOff, OutText, SomeCutOff, SomeOut}
+use Rattle.reports.specs.Watch.{AreToldSteps, text_after}
 use Rattle.loader.specs.Loads.{Loads}
-use Rattle.loader.specs.Watching.{HasWatched, IsSameWatch}
+use Rattle.loader.specs.Watching.{AreLinesBy, HasWatched, IsSameWatch}
 use Rattle.loader.specs.declared.loading.LoadFault.TheVariants as fault
 use Rattle.loader.specs.declared.watch.Watch.{Watch}
 use Rattle.loader.specs.declared.watch.Watcher.{Watcher}
 use Rattle.loader.proofs.Watches.{nothing-watched}
 
 -- where nothing is watched no line is cut off
-every-is : (p : Plan) (w : Watch) (before after : Taken) → IsWatchCut p w before after → (n : ℕ) → w.every ≡ n → 0 < n
+every-is : (p : Plan) (w : Watch) (before after : Taken) → SomeCutOff (AreLinesBy p w) before after → (n : ℕ) → w.every ≡ n → 0 < n
 every-is p w before after c zero e =
-    let none : c.lines_are.steps ≡ [] = subst (λ (n : ℕ). AreStepsTold n p.horizon c.lines_are.steps) e c.lines_are.by_rule in
-    let lines : c.lines ≡ [] = c.lines_are.lines_are ∙ ap (map (line_after p w)) none in
-    absurd (subst (λ (l : List (List ℕ)). AreCutOff l before after) lines c.out)
+    let none : c.1.steps ≡ [] = subst (λ (n : ℕ). AreToldSteps n false p.horizon c.1.steps) e c.1.by_rule in
+    let lines : c.0 ≡ [] = c.1.lines_are ∙ ap (map (text_after w.iteration p)) none in
+    absurd (subst (λ (l : List OutText). IsCutOff l before after) lines c.2)
 every-is p w before after c (suc n) e = omega arith
 
 module _ (p : Plan) (workers : ℕ) (w : Watch) where
   pub load-done : {T E : Type 0} (x : T) (before after : DeskState) (gate gate_now : GateState) (journeys : List Journey)
-      → journeys ≡ journeys_of p → OnlyPuts {T = T} {E = E} (IsWatched p w) (IsWatchCut p w) before after (Ok x)
+      → journeys ≡ journeys_of p → OnlyPuts {T = T} {E = E} (SomeOut (AreLinesBy p w)) (SomeCutOff (AreLinesBy p w)) before after (Ok x)
       → gate_now ≡ taking (numbers_by p workers) gate → Loads p workers w before after gate gate_now (Ok journeys)
   load-done x before after gate gate_now journeys is puts took = record {
     loaded = is;
@@ -57,7 +58,7 @@ module _ (p : Plan) (workers : ℕ) (w : Watch) where
   }
 
   pub load-cut : {T E : Type 0} (x : E) (before after : DeskState) (gate gate_now : GateState)
-      → OnlyPuts {T = T} {E = E} (IsWatched p w) (IsWatchCut p w) before after (Err x)
+      → OnlyPuts {T = T} {E = E} (SomeOut (AreLinesBy p w)) (SomeCutOff (AreLinesBy p w)) before after (Err x)
       → gate_now ≡ taking (numbers_by p workers) gate → Loads p workers w before after gate gate_now (Err fault.WatchFault)
   load-cut x before after gate gate_now puts took = record {
     loaded = tt;
@@ -94,11 +95,11 @@ pub all-put : {T E : Type 0} (p : Plan) (watch : Watch) (first last : Watcher) (
     → first.last ≡ 0 → first.failed ≡ false → first.watch ≡ watch → IsSameWatch first last
     → ((before : DeskState) → HasWatched first before start → HasWatched last before between)
     → ((q : Plan) (before : DeskState) → 1 ≤ q.horizon → posted ≡ posted_in q q.horizon → HasWatched last before between
-    → OnlyPuts (IsWatched q last.watch) (IsWatchCut q last.watch) before after r)
+    → OnlyPuts (SomeOut (AreLinesBy q last.watch)) (SomeCutOff (AreLinesBy q last.watch)) before after r)
     → 1 ≤ p.horizon → posted ≡ posted_in p p.horizon
-    → OnlyPuts (IsWatched p watch) (IsWatchCut p watch) start after r
+    → OnlyPuts (SomeOut (AreLinesBy p watch)) (SomeCutOff (AreLinesBy p watch)) start after r
 all-put p watch first last posted start between after r none whole is same work end far all =
-    subst (λ (x : Watch). OnlyPuts (IsWatched p x) (IsWatchCut p x) start after r) (same.watch ∙ is)
+    subst (λ (x : Watch). OnlyPuts (SomeOut (AreLinesBy p x)) (SomeCutOff (AreLinesBy p x)) start after r) (same.watch ∙ is)
     (end p start far all (work start (nothing-watched first start none whole)))
 
 -- what a close of the floor of a loading gives

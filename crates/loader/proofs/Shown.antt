@@ -2,6 +2,7 @@
 use Rattle.std.proofs.Common.{arith, ◌≡◌, ◌<◌, ◌≤◌, ◌+◌, ℕ, zero, suc, List, [], ◌∷◌, ◌++◌}
 use Rattle.std.proofs.Common.{refl, sym, ap, ◌∙◌, append_assoc}
 use Rattle.std.specs.Prelude.{map, true}
+use Rattle.std.proofs.lemmas.List.{append-nil}
 use Rattle.std.proofs.lemmas.List.FromFn.{map-range_with_len_more}
 use Rattle.dta_model.specs.State.{eight_after, eight_in}
 use Rattle.dta_model.specs.declared.eight.Eight.{Eight}
@@ -10,10 +11,9 @@ use Rattle.monitors.specs.Posted.{IsPrefix, last_of}
 use Rattle.monitors.proofs.Lists.{last_of-push}
 use Rattle.phase_claims.specs.PlacesHome.{posted_in}
 use Rattle.phase_claims.proofs.PlacesShown.{states_are_shown}
-use Rattle.reports.specs.Texts.{watch_line}
-use Rattle.reports.specs.Watch.{multiples, rises_from}
+use Rattle.pending_text.specs.Outs.{OutText}
+use Rattle.reports.specs.Watch.{multiples, rises_from, text_after, watch_text}
 use Rattle.loader.specs.Watching.{AreShown, IsShown, last_from, steps_of}
-use Rattle.loader.proofs.Outs.{and-nothing}
 use Rattle.loader.proofs.Steps.{multiples-less, rises-cons}
 
 -- ---- more is posted, and more is shown
@@ -44,7 +44,7 @@ last-push n (x ∷ states) e = last-push x.steps states e
 
 -- the last state that was posted was shown
 pub shown-last : (posted : List Eight) (e : Eight) → e ≡ last_of posted → IsShown posted e
-shown-last posted e is = record { front = posted; begins = ([], and-nothing posted); last = is }
+shown-last posted e is = record { front = posted; begins = ([], sym (append-nil posted)); last = is }
 
 -- ---- their steps rise
 
@@ -96,8 +96,8 @@ module _ (p : Plan) where
   last-within every n (e ∷ states) h s = last-within every e.steps states (is-after e s.0).within s.2
 
   pub lines-are : (iteration every n : ℕ) (states : List Eight) → AreShown (posted_in p p.horizon) every n states
-      → map (watch_line iteration) states ≡ map (λ (t : ℕ). watch_line iteration (eight_after p t)) (steps_of states)
+      → map (watch_text iteration) states ≡ map (text_after iteration p) (steps_of states)
   lines-are iteration every n [] s = refl
   lines-are iteration every n (e ∷ states) s =
-      ap (λ (x : Eight). watch_line iteration x ∷ map (watch_line iteration) states) (is-after e s.0).is
-      ∙ ap (λ (l : List (List ℕ)). watch_line iteration (eight_after p e.steps) ∷ l) (lines-are iteration every e.steps states s.2)
+      ap (λ (x : Eight). watch_text iteration x ∷ map (watch_text iteration) states) (is-after e s.0).is
+      ∙ ap (λ (l : List OutText). text_after iteration p e.steps ∷ l) (lines-are iteration every e.steps states s.2)

@@ -14,12 +14,13 @@ use Rattle.dta_model.specs.declared.plan.Plan.{Plan}
 use Rattle.monitors.specs.Posted.{IsPrefix, Known, last_of}
 use Rattle.phase_claims.specs.PlacesHome.{posted_in}
 use Rattle.reports.specs.Texts.{watch_line}
-use Rattle.reports.specs.Watch.{AreWatchSteps, multiples, rises_from}
-use Rattle.loader.specs.Lines.{AreCutOff, AreLinesOf, AreStepsTold, IsWatchCut, IsWatched, line_after, watched}
-use Rattle.loader.specs.Watching.{AreShown, HasWatched, IsMore, IsShown, last_from, steps_of}
+use Rattle.reports.specs.Watch.{AreToldSteps, AreWatchSteps, multiples, rises_from, text_after, watch_text}
+use Rattle.pending_text.specs.Outs.{IsCutOff, OutText, SomeCutOff, SomeOut, grown_by}
+use Rattle.pending_text.proofs.OutFacts.{cut-more, cut-one, cut-sooner, grown-more}
+use Rattle.loader.specs.Watching.{AreLinesBy, AreShown, HasWatched, IsMore, IsShown, last_from, steps_of}
 use Rattle.loader.specs.declared.watch.Watch.{Watch}
 use Rattle.loader.specs.declared.watch.Watcher.{Watcher}
-use Rattle.loader.proofs.Outs.{and-nothing, cut-push, cut-sooner, map-push, watched-push}
+use Rattle.std.proofs.lemmas.List.{append-nil, map-append}
 use Rattle.loader.proofs.Shown.{last-posted, last-push, last-within, lines-are, shown-apart}
 use Rattle.loader.proofs.Shown.{shown-later, shown-push, shown-rise, steps-after}
 use Rattle.loader.proofs.Steps.{more-rule, no-multiples, whole-rule}
@@ -73,12 +74,11 @@ pub put-whole : (w : Watcher) (e : Eight) (before between after : DeskState) →
     → HasWatched w before between → IsShown w.monitor.list e → IsMore w e
     → HasWatched (record w { last = e.steps }) before after
 put-whole w e before between after whole out later left reads h shown more =
-    let line = watch_line w.watch.iteration in
-    let old : between.taken ≡ watched (map line h.states) before.taken = rw whole at h.out in
-    let new : after.taken ≡ watched (map line (h.states ++ e ∷ [])) before.taken =
-    out ∙ ap (grown output.Watch (line e)) old
-    ∙ sym (watched-push (map line h.states) (line e) before.taken)
-    ∙ ap (λ (l : List (List ℕ)). watched l before.taken) (sym (map-push line h.states e)) in
+    let line = watch_text w.watch.iteration in
+    let old : between.taken ≡ grown_by (map line h.states) before.taken = rw whole at h.out in
+    let new : after.taken ≡ grown_by (map line (h.states ++ e ∷ [])) before.taken =
+    grown-more (map line h.states) (line e ∷ []) before.taken between.taken after.taken old out
+    ∙ ap (λ (l : List OutText). grown_by l before.taken) (sym (map-append line h.states (e ∷ []))) in
     record {
       states = h.states ++ e ∷ [];
       shown = more-shown w h.states e (h.last whole) h.shown shown more;
@@ -99,16 +99,16 @@ pub put-part : (w : Watcher) (e : Eight) (before between after : DeskState) → 
     → HasWatched w before between → IsShown w.monitor.list e → IsMore w e
     → HasWatched (record w { failed = true }) before after
 put-part w e before between after whole out later rose left reads h shown more =
-    let line = watch_line w.watch.iteration in
-    let old : between.taken ≡ watched (map line h.states) before.taken = rw whole at h.out in
-    let part = subst (λ (t : Taken). IsPartOut output.Watch (line e) t after.taken) old out in
-    let cut = cut-push (map line h.states) (line e) before.taken after.taken part in
+    let line = watch_text w.watch.iteration in
+    let old : between.taken ≡ grown_by (map line h.states) before.taken = rw whole at h.out in
+    let cut = cut-more (map line h.states) (line e ∷ []) before.taken between.taken after.taken old
+    (cut-one output.Watch (line e).text between.taken after.taken out) in
     record {
       states = h.states ++ e ∷ [];
       shown = more-shown w h.states e (h.last whole) h.shown shown more;
       none = λ none. never w h.states e more.watches none;
       last = λ is. absurd (cc is);
-      out = subst (λ (l : List (List ℕ)). AreCutOff l before.taken after.taken) (sym (map-push line h.states e)) cut;
+      out = subst (λ (l : List OutText). IsCutOff l before.taken after.taken) (sym (map-append line h.states (e ∷ []))) cut;
       cause = λ _. rose-earlier before.put_faults between.put_faults after.put_faults h.later rose;
       later = omega (arith, h.later, later);
       left = left ∙ h.left;
@@ -119,9 +119,9 @@ put-part w e before between after whole out later rose left reads h shown more =
 
 -- the watch lines of the loading went out or, where a put failed, up to a first part of one
 abbrev pub Ends : {T E : Type 0} → Plan → Watcher → DeskState → DeskState → Result T E → Type 0
-Ends p w before after r = OnlyPuts (IsWatched p w.watch) (IsWatchCut p w.watch) before after r
+Ends p w before after r = OnlyPuts (SomeOut (AreLinesBy p w.watch)) (SomeCutOff (AreLinesBy p w.watch)) before after r
 
-by-rule : (every horizon : ℕ) (steps : List ℕ) → 1 ≤ every → AreWatchSteps every horizon steps → AreStepsTold every horizon steps
+by-rule : (every horizon : ℕ) (steps : List ℕ) → 1 ≤ every → AreWatchSteps every horizon steps → AreToldSteps every false horizon steps
 by-rule zero horizon steps pos r = absurd (omega (arith, pos))
 by-rule (suc every) horizon steps pos r = r
 
@@ -134,12 +134,12 @@ module _ (p : Plan) (w : Watch) (pos : 1 ≤ w.every) (far : 1 ≤ p.horizon) wh
       subst (λ (n : ℕ). rises_from n (map (multiples w.every) (steps_of states)) ≡ true) (no-multiples w.every pos)
       (shown-apart posted w.every 0 states s)
 
-  abbrev lines : List Eight → List (List ℕ)
-  lines states = map (watch_line w.iteration) states
+  abbrev lines : List Eight → List OutText
+  lines states = map (watch_text w.iteration) states
 
   -- the lines of states of which the last is that after the last step
   whole-lines : (states : List Eight) → AreShown posted w.every 0 states → last_from 0 (steps_of states) ≡ p.horizon
-      → AreLinesOf p w (lines states)
+      → AreLinesBy p w (lines states)
   whole-lines states s is = record {
     steps = steps_of states;
     by_rule = by-rule w.every p.horizon (steps_of states) pos
@@ -149,18 +149,18 @@ module _ (p : Plan) (w : Watch) (pos : 1 ≤ w.every) (far : 1 ≤ p.horizon) wh
 
   -- and of others, with the line of that state
   more-lines : (states : List Eight) → AreShown posted w.every 0 states → last_from 0 (steps_of states) < p.horizon
-      → AreLinesOf p w (lines states ++ line_after p w p.horizon ∷ [])
+      → AreLinesBy p w (lines states ++ text_after w.iteration p p.horizon ∷ [])
   more-lines states s less = record {
     steps = steps_of states ++ p.horizon ∷ [];
     by_rule = by-rule w.every p.horizon (steps_of states ++ p.horizon ∷ []) pos
         (more-rule w.every p.horizon (steps_of states) (shown-rise posted w.every 0 states pos s) (apart states s) less);
-    lines_are = ap (λ (l : List (List ℕ)). l ++ line_after p w p.horizon ∷ []) (lines-are p w.iteration w.every 0 states s)
-        ∙ sym (map-push (line_after p w) (steps_of states) p.horizon);
+    lines_are = ap (λ (l : List OutText). l ++ text_after w.iteration p p.horizon ∷ []) (lines-are p w.iteration w.every 0 states s)
+        ∙ sym (map-append (text_after w.iteration p) (steps_of states) (p.horizon ∷ []));
   }
 
   record Completed (states : List Eight) : Type 0 where
-    more : List (List ℕ)
-    all : AreLinesOf p w (lines states ++ more)
+    more : List OutText
+    all : AreLinesBy p w (lines states ++ more)
 
   completed : (states : List Eight) → AreShown posted w.every 0 states → Completed states
   completed states s =
@@ -168,19 +168,19 @@ module _ (p : Plan) (w : Watch) (pos : 1 ≤ w.every) (far : 1 ≤ p.horizon) wh
       dite (dec_le p.horizon (last_from 0 (steps_of states)))
       (λ le. record {
         more = [];
-        all = subst (AreLinesOf p w) (and-nothing (lines states)) (whole-lines states s (omega (arith, within, le)));
+        all = subst (AreLinesBy p w) (sym (append-nil (lines states))) (whole-lines states s (omega (arith, within, le)));
       })
       (λ not_le. record {
-        more = line_after p w p.horizon ∷ [];
+        more = text_after w.iteration p p.horizon ∷ [];
         all = more-lines states s (omega (arith, not_le));
       })
 
   -- lines that were cut off are first ones of the watch lines
-  cut-lines : (states : List Eight) (before after : Taken) → AreShown posted w.every 0 states → AreCutOff (lines states) before after
-      → IsWatchCut p w before after
+  cut-lines : (states : List Eight) (before after : Taken) → AreShown posted w.every 0 states → IsCutOff (lines states) before after
+      → SomeCutOff (AreLinesBy p w) before after
   cut-lines states before after s cut =
       let c = completed states s in
-      record { lines = lines states ++ c.more; lines_are = c.all; out = cut-sooner (lines states) c.more before after cut }
+      (lines states ++ c.more, c.all, cut-sooner (lines states) c.more before after cut)
 
 -- what the writer posted, and what it posted last, once the pass is settled with it
 pub record IsSettled (p : Plan) (w : Watcher) (list : List Eight) (e : Eight) : Type 0 where
@@ -217,12 +217,11 @@ module _ (p : Plan) (w : Watcher) (list : List Eight) (e : Eight) (pos : 1 ≤ w
   pub end-told : {T E : Type 0} (x : T) (before after : DeskState) → w.failed ≡ false → e.steps ≡ w.last
       → HasWatched w before after → Ends {T = T} {E = E} p w before after (Ok x)
   end-told x before after whole told h = record {
-    whole = record {
-      lines = map (watch_line w.watch.iteration) h.states;
-      lines_are = whole-lines p w.watch pos far h.states (all-shown h.states h.shown)
-          (sym (h.last whole) ∙ sym told ∙ end-steps);
-      out = rw whole at h.out;
-    };
+    whole = (
+      map (watch_text w.watch.iteration) h.states,
+      whole-lines p w.watch pos far h.states (all-shown h.states h.shown) (sym (h.last whole) ∙ sym told ∙ end-steps),
+      rw whole at h.out,
+    );
     refused = tt;
     cause = record { later = h.later; failed = tt };
     left = h.left;
@@ -238,44 +237,40 @@ module _ (p : Plan) (w : Watcher) (list : List Eight) (e : Eight) (pos : 1 ≤ w
       (λ not_le. omega (arith, not_le))
 
   -- the line of the last state is put
+  abbrev all-told : List Eight → List OutText
+  all-told states = map (watch_text w.watch.iteration) states ++ watch_text w.watch.iteration e ∷ []
+
+  are-told : (before between : DeskState) (h : HasWatched w before between) → w.failed ≡ false → e.steps ≢ w.last
+      → AreLinesBy p w.watch (all-told h.states)
+  are-told before between h whole other =
+      rw end-is (more-lines p w.watch pos far h.states (all-shown h.states h.shown) (less h.states h.shown (h.last whole) other))
+
   pub end-put : {T E : Type 0} (r : Result T E) (before between after : DeskState) → w.failed ≡ false → e.steps ≢ w.last
       → Puts output.Watch (watch_line w.watch.iteration e) between after r
       → HasWatched w before between → Ends p w before after r
-  end-put (Ok x) before between after whole other puts h =
-      let lines = map (watch_line w.watch.iteration) h.states in
-      let line = line_after p w.watch p.horizon in
-      let is : watch_line w.watch.iteration e ≡ line = ap (watch_line w.watch.iteration) end-is in
-      let old : between.taken ≡ watched lines before.taken = rw whole at h.out in
-      record {
-        whole = record {
-          lines = lines ++ line ∷ [];
-          lines_are = more-lines p w.watch pos far h.states (all-shown h.states h.shown) (less h.states h.shown (h.last whole) other);
-          out = puts.whole ∙ ap (λ (l : List ℕ). grown output.Watch l between.taken) is
-              ∙ ap (grown output.Watch line) old ∙ sym (watched-push lines line before.taken);
-        };
-        refused = tt;
-        cause = record { later = omega (arith, h.later, puts.cause.later); failed = tt };
-        left = puts.left ∙ h.left;
-        reads = puts.reads ∙ h.reads;
-      }
-  end-put (Err x) before between after whole other puts h =
-      let lines = map (watch_line w.watch.iteration) h.states in
-      let line = line_after p w.watch p.horizon in
-      let is : watch_line w.watch.iteration e ≡ line = ap (watch_line w.watch.iteration) end-is in
-      let old : between.taken ≡ watched lines before.taken = rw whole at h.out in
-      let part = subst (λ (t : Taken). IsPartOut output.Watch line t after.taken) old
-      (subst (λ (l : List ℕ). IsPartOut output.Watch l between.taken after.taken) is puts.refused) in
-      record {
-        whole = tt;
-        refused = record {
-          lines = lines ++ line ∷ [];
-          lines_are = more-lines p w.watch pos far h.states (all-shown h.states h.shown) (less h.states h.shown (h.last whole) other);
-          out = cut-push lines line before.taken after.taken part;
-        };
-        cause = record {
-          later = omega (arith, h.later, puts.cause.later);
-          failed = rose-earlier before.put_faults between.put_faults after.put_faults h.later puts.cause.failed;
-        };
-        left = puts.left ∙ h.left;
-        reads = puts.reads ∙ h.reads;
-      }
+  end-put (Ok x) before between after whole other puts h = record {
+    whole = (
+      all-told h.states,
+      are-told before between h whole other,
+      grown-more (map (watch_text w.watch.iteration) h.states) (watch_text w.watch.iteration e ∷ []) before.taken between.taken after.taken (rw whole at h.out) puts.whole,
+    );
+    refused = tt;
+    cause = record { later = omega (arith, h.later, puts.cause.later); failed = tt };
+    left = puts.left ∙ h.left;
+    reads = puts.reads ∙ h.reads;
+  }
+  end-put (Err x) before between after whole other puts h = record {
+    whole = tt;
+    refused = (
+      all-told h.states,
+      are-told before between h whole other,
+      cut-more (map (watch_text w.watch.iteration) h.states) (watch_text w.watch.iteration e ∷ []) before.taken between.taken after.taken (rw whole at h.out)
+          (cut-one output.Watch (watch_line w.watch.iteration e) between.taken after.taken puts.refused),
+    );
+    cause = record {
+      later = omega (arith, h.later, puts.cause.later);
+      failed = rose-earlier before.put_faults between.put_faults after.put_faults h.later puts.cause.failed;
+    };
+    left = puts.left ∙ h.left;
+    reads = puts.reads ∙ h.reads;
+  }

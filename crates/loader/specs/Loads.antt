@@ -6,8 +6,9 @@ use Rattle.dta_model.specs.Laws.{EndInOrder, LinksAreLeftInOrder, StaysConserved
 use Rattle.dta_model.specs.Loading.{journeys_of}
 use Rattle.dta_model.specs.declared.loaded.Journey.{Journey}
 use Rattle.dta_model.specs.declared.plan.Plan.{Plan}
+use Rattle.pending_text.specs.Outs.{SomeCutOff, SomeOut}
 use Rattle.loader.specs.Gates.{GateState, numbers_by, taking}
-use Rattle.loader.specs.Lines.{IsWatchCut, IsWatched}
+use Rattle.loader.specs.Watching.{AreLinesBy}
 use Rattle.loader.specs.declared.loading.LoadFault.{LoadFault}
 use Rattle.loader.specs.declared.loading.LoadFault.TheVariants as fault
 use Rattle.loader.specs.declared.watch.Watch.{Watch}
@@ -23,8 +24,9 @@ pub record Loads (p : Plan) (workers : ℕ) (watch : Watch) (before after : Desk
   pub ordered : IfOk result (EndInOrder p)
   -- the watch lines of the loading went out. Where one couldn't be put, those before it did and a
   -- first part of it, and the count of failed puts rose. Without enough memory nothing went out
-  pub watched : OnOk result (IsWatched p watch before.taken after.taken)
-  pub cut : result ≡ Err fault.WatchFault → IsWatchCut p watch before.taken after.taken
+  pub watched : OnOk result (SomeOut (AreLinesBy p watch) before.taken after.taken)
+  pub cut : result ≡ Err fault.WatchFault
+      → SomeCutOff (AreLinesBy p watch) before.taken after.taken
   pub every : result ≡ Err fault.WatchFault → 0 < watch.every
   pub cause : result ≡ Err fault.WatchFault → Rose before.put_faults after.put_faults
   pub silent : result ≡ Err fault.Memory → after.taken ≡ before.taken

@@ -1,14 +1,19 @@
--- What worker 0 has put of the watch lines while the workers are at work.
+-- The watch lines of a loading by workers, and what worker 0 has put of them meanwhile.
 use Rattle.std.specs.Prelude.{◌≡◌, ℕ, ◌<◌, ◌≤◌, Bool, true, false, List, [], ◌∷◌, map, ⊤}
 use Rattle.desk_io.specs.Desk.{Taken}
 use Rattle.desk_io.specs.Faults.{Rose}
 use Rattle.desk_io.specs.State.{DeskState}
 use Rattle.dta_model.specs.declared.eight.Eight.{Eight}
 use Rattle.monitors.specs.Posted.{IsPrefix, last_of}
-use Rattle.reports.specs.Texts.{watch_line}
-use Rattle.reports.specs.Watch.{multiples}
+use Rattle.pending_text.specs.Outs.{IsCutOff, OutText, grown_by}
+use Rattle.dta_model.specs.declared.plan.Plan.{Plan}
+use Rattle.reports.specs.Watch.{AreLinesOf, multiples, watch_text}
+use Rattle.loader.specs.declared.watch.Watch.{Watch}
 use Rattle.loader.specs.declared.watch.Watcher.{Watcher}
-use Rattle.loader.specs.Lines.{AreCutOff, watched}
+
+-- the watch lines of a loading by workers
+abbrev pub AreLinesBy : Plan → Watch → List OutText → Type 0
+AreLinesBy p watch lines = AreLinesOf watch.every false watch.iteration p lines
 
 -- the board showed this state: it is the last of some first ones of these posted states
 pub record IsShown (posted : List Eight) (e : Eight) : Type 0 where
@@ -33,9 +38,9 @@ AreShown posted every steps (e ∷ others) =
     × AreShown posted every e.steps others
 
 -- these lines went out whole or, where a put failed, up to a first part of the last
-abbrev pub WentOut : (failed : Bool) → List (List ℕ) → Taken → Taken → Type 0
-WentOut false lines before after = after ≡ watched lines before
-WentOut true lines before after = AreCutOff lines before after
+abbrev pub WentOut : (failed : Bool) → List OutText → Taken → Taken → Type 0
+WentOut false lines before after = after ≡ grown_by lines before
+WentOut true lines before after = IsCutOff lines before after
 
 -- what worker 0 has put since the desk was like this
 pub record HasWatched (w : Watcher) (before after : DeskState) : Type 0 where
@@ -43,7 +48,7 @@ pub record HasWatched (w : Watcher) (before after : DeskState) : Type 0 where
   pub shown : AreShown w.monitor.list w.watch.every 0 states
   pub none : w.watch.every ≡ 0 → states ≡ []
   pub last : w.failed ≡ false → w.last ≡ last_from 0 (steps_of states)
-  pub out : WentOut w.failed (map (watch_line w.watch.iteration) states) before.taken after.taken
+  pub out : WentOut w.failed (map (watch_text w.watch.iteration) states) before.taken after.taken
   pub cause : w.failed ≡ true → Rose before.put_faults after.put_faults
   pub later : before.put_faults ≤ after.put_faults
   pub left : after.left ≡ before.left

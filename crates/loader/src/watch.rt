@@ -3,8 +3,8 @@ ghost use Rattle.std.specs.Prelude.{◌≡◌, ◌<◌, ◌≤◌, false};
 ghost use Rattle.desk_io.specs.State.{DeskState};
 ghost use Rattle.desk_io.specs.Transfers.{OnlyPuts};
 ghost use Rattle.dta_model.specs.declared.plan.Plan.{Plan};
-ghost use Rattle.loader.specs.Lines.{IsWatchCut, IsWatched};
-ghost use Rattle.loader.specs.Watching.{HasWatched, IsMore, IsSameWatch, IsShown};
+ghost use Rattle.loader.specs.Watching.{AreLinesBy, HasWatched, IsMore, IsSameWatch, IsShown};
+ghost use Rattle.pending_text.specs.Outs.{SomeCutOff, SomeOut};
 ghost use Rattle.phase_claims.specs.PlacesHome.{posted_in};
 
 use desk_io::{Desk, Failed};
@@ -79,8 +79,8 @@ impl<'b> Watcher<'b> {
         requires writer { writer.board ≡ self.board.now }
         ensures put { (p : Plan) (before : DeskState) → 1 ≤ p.horizon
             → writer.list ≡ posted_in p p.horizon → HasWatched self.entry before (D.state desk.old)
-            → OnlyPuts (IsWatched p self.entry.watch) (IsWatchCut p self.entry.watch)
-            before (D.state desk.new) result }
+            → OnlyPuts (SomeOut (AreLinesBy p self.entry.watch))
+            (SomeCutOff (AreLinesBy p self.entry.watch)) before (D.state desk.new) result }
     {
         if self.watch.every == 0 {
             return Ok(());

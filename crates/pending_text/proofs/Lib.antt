@@ -1,3 +1,4 @@
 pub mod Joins
 pub mod SendingFacts
 pub mod LineFacts
+pub mod OutFacts

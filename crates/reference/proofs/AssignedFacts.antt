@@ -7,19 +7,22 @@ use Rattle.std.proofs.lemmas.List.FromFn.{length-map-range_with_len}
 use Rattle.net_core.specs.Network.{numbers_below}
 use Rattle.net_core.proofs.Numbers.{numbers_more}
 use Rattle.desk_io.specs.Desk.{Taken}
+use Rattle.pending_text.proofs.OutFacts.{cut-sooner}
+use Rattle.pending_text.specs.Outs.{IsCutOff, OutText, SomeCutOff}
 use Rattle.dta_words.specs.Ranges.{AreSettings}
 use Rattle.dta_words.specs.declared.command.Settings.{Settings}
 use Rattle.route_flows.proofs.Determined.{next_are_determined}
 use Rattle.route_flows.proofs.Numbered.{since_are_determined, started_are_determined}
-use Rattle.assignment.specs.Assignment.{AreIterations, Traffic, VehicleRoutes, costs_of, end_of, plan_of}
+use Rattle.assignment.specs.Assignment.{AllIterations, AreIterations, Traffic, VehicleRoutes, costs_of, end_of, plan_of}
 use Rattle.assignment.specs.Iterations.{IsSoundLoading}
 use Rattle.assignment.specs.Traffic.{IsTraffic}
 use Rattle.assignment.proofs.AssignmentFacts.{sound-plan}
-use Rattle.assignment.proofs.Determined.{RouteLaws, same-lines, same-routes}
+use Rattle.assignment.proofs.Determined.{RouteLaws, all-routes, same-routes}
 use Rattle.assignment.proofs.SoundFacts.{sound-loading}
-use Rattle.commands.specs.Outputs.{AreAssigned, AreSinceTold, AreWatchTexts, AreWatched, IsCutOff, OutText, end_lines}
+use Rattle.commands.specs.Outputs.{AreAssigned, AreSinceTold, AreWatchTexts, AreWatched}
 use Rattle.commands.proofs.Determined.{lasts-by, same-since}
-use Rattle.commands.proofs.OutputFacts.{cut-sooner, end-lines, watch-more}
+use Rattle.commands.proofs.OutputFacts.{end-lines, watch-more}
+use Rattle.commands.specs.Texts.{end_lines}
 use Rattle.reference.specs.Reference.{all_gaps, assigned_texts, gap_at, routes_at, routes_until, since_told, watch_texts}
 use Rattle.reference.specs.Texts.{AreSoundlyLoaded}
 use Rattle.reference.proofs.Iterated.{iterated, place-of, routed}
@@ -39,10 +42,10 @@ module _ (s : Settings) (traffic : Traffic) (settings : AreSettings s) (good : I
   abbrev last : ℕ
   last = s.iterations - 1
 
-  iterations : (n : ℕ) → AreIterations s traffic (until n) (all_gaps s traffic)
+  pub iterations : (n : ℕ) → AreIterations s traffic (until n) (all_gaps s traffic)
   iterations n = iterated s traffic settings good.net good.trips good.start n
 
-  many : (n : ℕ) → length (until n) ≡ n
+  pub many : (n : ℕ) → length (until n) ≡ n
   many n = length-map-range_with_len (routes_at s traffic) 0 n
 
   -- ---- watch lines of the first iterations
@@ -59,7 +62,7 @@ module _ (s : Settings) (traffic : Traffic) (settings : AreSettings s) (good : I
 
   -- lines that were cut off are so among those of all iterations
   cut-among : (more n : ℕ) (lines : List OutText) (before after : Taken) → n + more ≡ s.iterations → AreWatchTexts s traffic 1 (until n) lines → IsCutOff lines before after
-      → (all : List OutText) × AreWatchTexts s traffic 1 (until s.iterations) all × IsCutOff all before after
+      → SomeCutOff (AreWatchTexts s traffic 1 (until s.iterations)) before after
   cut-among zero n lines before after e told cut =
       let same : n ≡ s.iterations = omega (arith, e) in
       (lines, subst (λ (k : ℕ). AreWatchTexts s traffic 1 (until k) lines) same told, cut)
@@ -79,7 +82,7 @@ module _ (s : Settings) (traffic : Traffic) (settings : AreSettings s) (good : I
       w.watch_lines
 
   pub watched-cut : (lines : List OutText) (before after : Taken) (w : AreWatched s traffic lines) → IsCutOff lines before after
-      → (all : List OutText) × AreWatchTexts s traffic 1 (until s.iterations) all × IsCutOff all before after
+      → SomeCutOff (AreWatchTexts s traffic 1 (until s.iterations)) before after
   watched-cut lines before after w cut =
       let few = w.few in
       cut-among (s.iterations - length w.routes) (length w.routes) lines before after (omega (arith, few)) (watched-are lines w) cut
@@ -89,27 +92,24 @@ module _ (s : Settings) (traffic : Traffic) (settings : AreSettings s) (good : I
   since false = refl
   since true = since-are s.costs traffic.net traffic.start traffic.trips s.iterations good.start
 
-  with-gaps : length (all_gaps s traffic) ≡ s.iterations
-  with-gaps = length-map-range_with_len (gap_at s traffic) 0 s.iterations
-
-  last-routes : slice_get (until s.iterations) last ≡ Some (routes_at s traffic last)
-  last-routes = place-of (routes_at s traffic) s.iterations last (before-last s.iterations settings.iterations.0)
-
-  last-line : slice_get (all_gaps s traffic) last ≡ Some (gap_at s traffic last)
-  last-line = place-of (gap_at s traffic) s.iterations last (before-last s.iterations settings.iterations.0)
-
-  pub assigned : (lines : List OutText) → AreWatchTexts s traffic 1 (until s.iterations) lines → AreAssigned s traffic (lines ++ assigned_texts s traffic)
-  unfolding assigned_texts
-  assigned lines told = record {
+  -- all iterations are those of the reference
+  abbrev pub its-all : AllIterations s.iterations (costs_of s traffic) traffic
+  its-all = record {
     routes = until s.iterations;
     lines = all_gaps s traffic;
     last = routes_at s traffic last;
     line = gap_at s traffic last;
     iterations = iterations s.iterations;
     as_many = many s.iterations;
-    with_gaps = with-gaps;
-    last_routes = last-routes;
-    last_line = last-line;
+    with_gaps = length-map-range_with_len (gap_at s traffic) 0 s.iterations;
+    last_routes = place-of (routes_at s traffic) s.iterations last (before-last s.iterations settings.iterations.0);
+    last_line = place-of (gap_at s traffic) s.iterations last (before-last s.iterations settings.iterations.0);
+  }
+
+  pub assigned : (lines : List OutText) → AreWatchTexts s traffic 1 (until s.iterations) lines → AreAssigned s traffic (lines ++ assigned_texts s traffic)
+  unfolding assigned_texts
+  assigned lines told = record {
+    all = its-all;
     since = since_told s.start s traffic;
     since_told = since s.start;
     watched = lines;
@@ -118,20 +118,17 @@ module _ (s : Settings) (traffic : Traffic) (settings : AreSettings s) (good : I
   }
 
   module _ (texts : List OutText) (a : AreAssigned s traffic texts) where
-    same : a.routes ≡ until s.iterations
-    same = same-routes laws (costs_of s traffic) traffic a.routes (until s.iterations) a.lines (all_gaps s traffic) a.iterations (iterations s.iterations) (a.as_many ∙ sym (many s.iterations))
-
     pub own-lines : AreWatchTexts s traffic 1 (until s.iterations) a.watched
-    own-lines = subst (λ rs. AreWatchTexts s traffic 1 rs a.watched) same a.watch_lines
+    own-lines =
+        subst (λ rs. AreWatchTexts s traffic 1 rs a.watched)
+        (all-routes laws s.iterations (costs_of s traffic) traffic a.all its-all) a.watch_lines
 
     pub own-texts : texts ≡ a.watched ++ assigned_texts s traffic
     unfolding assigned_texts
     own-texts =
         a.texts_are
-        ∙ ap (λ (l : List OutText). a.watched ++ l) (lasts-by s traffic a.routes (until s.iterations) a.lines (all_gaps s traffic) a.last (routes_at s traffic last) a.line (gap_at s traffic last)
-        a.since (since_told s.start s traffic) same
-        (same-lines laws (costs_of s traffic) traffic a.routes (until s.iterations) a.lines (all_gaps s traffic) a.iterations (iterations s.iterations) same (a.with_gaps ∙ sym a.as_many) (a.with_gaps ∙ sym with-gaps))
-        (same-since laws s traffic s.start a.since (since_told s.start s traffic) a.since_told (since s.start)) a.last_routes last-routes a.last_line last-line)
+        ∙ ap (λ (l : List OutText). a.watched ++ l) (lasts-by laws s traffic a.all its-all a.since (since_told s.start s traffic)
+        (same-since laws s traffic s.start a.since (since_told s.start s traffic) a.since_told (since s.start)))
 
   -- ---- loadings
   pub soundly-loaded : AreSoundlyLoaded s traffic

@@ -19,7 +19,8 @@ use Rattle.audit.proofs.Whole.{checks_before, is_sound}
 use Rattle.audit.specs.Checks.{Check, Statement, Holds, IsVerdict, names_route, never, same_if_any, same_list, same_number}
 use Rattle.audit.specs.declared.verdict.Verdict.TheVariants.{No, Yes}
 use Rattle.jobs.specs.Jobs.{IsJob, JobRows}
-use Rattle.commands.specs.Outputs.{IsAudited, audit_plan}
+use Rattle.commands.specs.Outputs.{IsAudited}
+use Rattle.commands.specs.Texts.{audit_plan}
 use Rattle.reference.specs.Audits.{holds, is_same_if_any, is_same_list, verdict_of, verdict_on}
 use Rattle.reference.specs.Routes.{walk_named}
 use Rattle.reference.proofs.StartFacts.{tells-walk}

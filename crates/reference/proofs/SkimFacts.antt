@@ -1,5 +1,6 @@
 -- The skim of the reference is the skim.
 use Rattle.trip_costs.specs.Timings.{Links}
+use Rattle.skims.specs.Texts.{skim_texts}
 use Rattle.std.proofs.Common.{◌≡◌, ℕ, ◌*◌, ◌<◌, ◌≤◌, List, [], ◌∷◌, length, map, refl, ap, sym, ◌∙◌, arith, Option, None, Some}
 use Rattle.std.specs.Prelude.{All, fold, max, option_map}
 use Rattle.std.specs.List.{AllZip}
@@ -19,7 +20,7 @@ use Rattle.skims.specs.GivenTimes.{AreRowsOf, table_given}
 use Rattle.skims.specs.Skim.{IsEntryOf, IsSkim, Question, questions}
 use Rattle.skims.specs.declared.time_rows.TimeRow.{TimeRow}
 use Rattle.jobs.specs.Jobs.{IsJob, JobRows}
-use Rattle.commands.specs.Outputs.{AreSkimmed, skim_texts}
+use Rattle.commands.specs.Outputs.{AreSkimmed}
 use Rattle.reference.specs.Search.{AreTimesWithin, Finds, search_within}
 use Rattle.reference.specs.Skims.{entries_of, entry_of, most_steps}
 use Rattle.reference.proofs.Searched.{walks_are_found}

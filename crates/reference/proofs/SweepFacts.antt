@@ -1,8 +1,8 @@
 -- The scenarios of the reference are those of the sweep.
-use Rattle.std.proofs.Common.{ℕ, ◌-◌, ◌<◌, List, [], ◌∷◌, length, map, refl, arith}
+use Rattle.std.proofs.Common.{ℕ, ◌<◌, List, [], ◌∷◌, length, map, refl, arith}
+use Rattle.sweep.specs.Texts.{sweep_texts}
 use Rattle.std.specs.Prelude.{All, get_or}
 use Rattle.std.proofs.lemmas.List.Elements.{All-head, All-tail, All-weaker}
-use Rattle.std.proofs.lemmas.List.FromFn.{length-map-range_with_len}
 use Rattle.dta_model.specs.Release.{HaveWindows, trips_of, vehicles_before}
 use Rattle.dta_model.specs.declared.trip.DemandCell.{DemandCell}
 use Rattle.dta_model.specs.declared.trip.Trip.{Trip}
@@ -15,13 +15,11 @@ use Rattle.scaled_demand.proofs.LimitFacts.{scaled_windows}
 use Rattle.sweep.specs.Scenarios.{AreScenarios, IsScenario, traffic_at}
 use Rattle.assignment.specs.Traffic.{AreTripsBelow, IsTraffic}
 use Rattle.jobs.specs.Jobs.{IsJob, IsSweepJob, JobRows}
-use Rattle.commands.specs.Outputs.{AreSwept, sweep_texts}
+use Rattle.commands.specs.Outputs.{AreSwept}
 use Rattle.assignment.proofs.AssignmentFacts.{no-start-rows}
-use Rattle.reference.specs.Reference.{all_gaps, gap_at, routes_at, routes_until}
 use Rattle.reference.specs.Sweeps.{scenario_over, scenarios_of}
 use Rattle.reference.specs.Texts.{AreSoundlyLoaded}
-use Rattle.reference.proofs.AssignedFacts.{before-last, soundly-loaded}
-use Rattle.reference.proofs.Iterated.{iterated, place-of}
+use Rattle.reference.proofs.AssignedFacts.{its-all, soundly-loaded}
 
 -- the trips of a demand that is within the limit
 pub trips-below : (s : Settings) → AreSettings s → (cells : List DemandCell) → HaveWindows s.period cells → IsWithin cells → AreTripsBelow s.horizon (trips_of cells)
@@ -46,28 +44,17 @@ module _ (s : Settings) (job : JobRows) (settings : AreSettings s) (good : IsJob
 
   scenario-is : (scale : ℕ) → HaveWindows s.period job.demand_cells → IsWithin (scaled scale job.demand_cells)
       → IsScenario s job.net job.demand_cells scale (scenario_over s scale (traffic_at job.net job.demand_cells scale))
-  scenario-is scale windows within =
-      let traffic = traffic_at job.net job.demand_cells scale in
-      let is = traffic-is scale windows within in
-      let last = s.iterations - 1 in record {
-        scale_is = refl;
-        texts = record {
-          routes = routes_until s traffic s.iterations;
-          lines = all_gaps s traffic;
-          last = routes_at s traffic last;
-          line = gap_at s traffic last;
-          iterations = iterated s traffic settings is.net is.trips is.start s.iterations;
-          as_many = length-map-range_with_len (routes_at s traffic) 0 s.iterations;
-          with_gaps = length-map-range_with_len (gap_at s traffic) 0 s.iterations;
-          last_routes = place-of (routes_at s traffic) s.iterations last (before-last s.iterations settings.iterations.0);
-          last_line = place-of (gap_at s traffic) s.iterations last (before-last s.iterations settings.iterations.0);
-          agent = refl;
-          link_time = refl;
-          origin_wait = refl;
-          gap = refl;
-          report = refl;
-        };
-      }
+  scenario-is scale windows within = record {
+    scale_is = refl;
+    texts = record {
+      all = its-all s (traffic_at job.net job.demand_cells scale) settings (traffic-is scale windows within);
+      agent = refl;
+      link_time = refl;
+      origin_wait = refl;
+      gap = refl;
+      report = refl;
+    };
+  }
 
   scenarios-are : (scales : List ℕ) → HaveWindows s.period job.demand_cells → AreAllWithin job.demand_cells scales
       → AreScenarios s job.net job.demand_cells scales (map (λ scale. scenario_over s scale (traffic_at job.net job.demand_cells scale)) scales)

@@ -5,6 +5,8 @@ use Rattle.audit.specs.declared.verdict.Verdict.{Verdict}
 use Rattle.audit.specs.declared.verdict.Verdict.TheVariants as verdict
 use Rattle.audit.proofs.Verdicts.{determined}
 use Rattle.desk_io.specs.Desk.{Taken}
+use Rattle.pending_text.proofs.OutFacts.{cut-sooner}
+use Rattle.pending_text.specs.Outs.{IsCutOff, OutText}
 use Rattle.dta_words.specs.declared.command.Settings.{Settings}
 use Rattle.skims.specs.GivenTimes.{AreRowsOf}
 use Rattle.sweep.proofs.Determined.{scenarios_stand_alone}
@@ -12,10 +14,10 @@ use Rattle.assignment.specs.Traffic.{IsTraffic}
 use Rattle.assignment.proofs.SoundFacts.{sound-iterations}
 use Rattle.jobs.specs.Inputs.{Assigning, Auditing, FreeFlow, Kind, Skimming, Sweeping, inputs_by, kind_of}
 use Rattle.jobs.specs.Jobs.{JobRows, traffic_of}
-use Rattle.commands.specs.Outputs.{IsAudited, IsCutOff, OutText, audit_plan, but_watch}
+use Rattle.commands.specs.Outputs.{IsAudited}
 use Rattle.commands.specs.Works.{AreTexts, AreTextsSoFar, AreWatchedSoFar, work_by}
 use Rattle.commands.proofs.Determined.{texts_are_determined}
-use Rattle.commands.proofs.OutputFacts.{cut-sooner}
+use Rattle.commands.specs.Texts.{audit_plan, but_watch}
 use Rattle.reference.specs.Audits.{Passes, verdict_of}
 use Rattle.reference.specs.Laws.{EachJobHasItsTexts, IsAccepted}
 use Rattle.reference.specs.Reference.{routes_until, watch_texts}

@@ -9,8 +9,8 @@ use Rattle.audit.specs.declared.verdict.Verdict.{Verdict}
 use Rattle.audit.specs.declared.verdict.Verdict.TheVariants.{No, Yes}
 use Rattle.jobs.specs.Inputs.{Auditing, kind_of}
 use Rattle.jobs.specs.Jobs.{JobRows}
-use Rattle.commands.specs.Outputs.{audit_plan}
 use Rattle.reference.specs.Routes.{walk_named}
+use Rattle.commands.specs.Texts.{audit_plan}
 
 -- whether two numbers are the same, or both are missing; and whether two lists are the same
 abbrev pub is_same_if_any : Option ℕ → Option ℕ → Bool

@@ -1,6 +1,7 @@
 -- Worked cases of the reference, computed: the texts of runs whose numbers were worked out by
 -- hand.
 use Rattle.std.specs.Prelude.{◌≡◌, ℕ, true, List, [], ◌∷◌, ◌++◌, None, Some, codes, map}
+use Rattle.pending_text.specs.Outs.{text_to}
 use Rattle.std.specs.Prelude.{refl}
 use Rattle.desk_io.specs.declared.desk.Output.TheVariants as output
 use Rattle.desk_io.specs.declared.desk.Table.TheVariants as table
@@ -25,7 +26,6 @@ use Rattle.skims.specs.declared.time_rows.TimeRow.{TimeRow}
 use Rattle.agent_table.specs.declared.rows.AgentRow.{AgentRow}
 use Rattle.audit.specs.declared.verdict.Verdict.TheVariants as verdict
 use Rattle.jobs.specs.Jobs.{JobRows, traffic_of}
-use Rattle.commands.specs.Outputs.{text_to}
 use Rattle.reference.specs.Audits.{verdict_of}
 use Rattle.reference.specs.OnLiterals.{counts_on_literals, iterations_on_literals}
 use Rattle.reference.specs.OnLiterals.{others_on_literals, tables_on_literals, trips_on_literals}

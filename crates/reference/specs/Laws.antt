@@ -1,6 +1,7 @@
 -- Each accepted job has its texts, and they are those of the reference.
 use Rattle.std.specs.Prelude.{◌≡◌, ℕ, List}
 use Rattle.desk_io.specs.declared.desk.Table.{Table}
+use Rattle.pending_text.specs.Outs.{OutText}
 use Rattle.dta_words.specs.Ranges.{AreSettings}
 use Rattle.dta_words.specs.declared.command.Settings.{Settings}
 use Rattle.assignment.specs.Assignment.{Traffic}
@@ -8,7 +9,7 @@ use Rattle.assignment.specs.Iterations.{AreSoundIterations}
 use Rattle.assignment.specs.Traffic.{IsTraffic}
 use Rattle.jobs.specs.Jobs.{IsJob, JobRows}
 use Rattle.jobs.specs.Verdict.{Accepted, verdict as comes_to}
-use Rattle.commands.specs.Outputs.{IsAudited, OutText}
+use Rattle.commands.specs.Outputs.{IsAudited}
 use Rattle.commands.specs.Works.{AreTexts}
 use Rattle.reference.specs.Audits.{verdict_of}
 use Rattle.reference.specs.Texts.{HasItsTexts, AreWatchLinesOf}

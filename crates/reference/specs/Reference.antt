@@ -1,13 +1,14 @@
 -- The iterations of an assignment, and its texts, from settings and traffic.
 use Rattle.std.specs.Prelude.{ℕ, zero, suc, ◌+◌, ◌-◌, Bool, true, false, List, [], ◌∷◌, ◌++◌, map}
+use Rattle.pending_text.specs.Outs.{OutText}
 use Rattle.std.specs.Prelude.{Option, None, Some}
 use Rattle.net_core.specs.Network.{numbers_below}
 use Rattle.gap.specs.declared.line.GapLine.{GapLine}
 use Rattle.dta_words.specs.declared.command.Settings.{Settings}
 use Rattle.assignment.specs.Assignment.{Traffic, VehicleRoutes, costs_of, end_of}
-use Rattle.commands.specs.Outputs.{OutText, end_lines, last_texts}
 use Rattle.reference.specs.Gaps.{gap_of}
 use Rattle.reference.specs.Routes.{all_since, first_routes, next_routes}
+use Rattle.commands.specs.Texts.{end_lines, last_texts}
 
 -- ---- iterations
 

@@ -1,12 +1,11 @@
 -- The texts that go out, as functions of what they tell. Numbers are decimal, nothing is quoted,
 -- and each line ends with a line feed.
-use Rattle.std.specs.Prelude.{ℕ, zero, suc, ◌≡◌, ◌+◌, ◌*◌, ◌<◌, ◌⊎◌, if◌then◌else◌, min, nat_lt}
+use Rattle.std.specs.Prelude.{ℕ, zero, suc, ◌≡◌, ◌+◌, ◌*◌, ◌<◌, if◌then◌else◌, min, nat_lt}
 use Rattle.std.specs.Prelude.{is_some, List, [], ◌∷◌, ◌++◌, length, map, All, IfSome, Option, None}
 use Rattle.std.specs.Prelude.{Some, slice_get, slice_index, codes, decimal, Bool}
 use Rattle.std.specs.List.{enumerate_from, flat_map, join_with_byte, zip}
 use Rattle.desk_io.specs.declared.desk.Output.TheVariants as output
-use Rattle.desk_io.specs.Desk.{Taken, grown}
-use Rattle.desk_io.specs.Transfers.{IsPartOut}
+use Rattle.pending_text.specs.Outs.{OutText, text_to}
 use Rattle.row_reader.specs.Names.{code_name, column_name, table_name}
 use Rattle.net_core.specs.Network.{link_at, numbers_below}
 use Rattle.net_core.specs.declared.rows.LinkNo.{LinkNo}
@@ -50,18 +49,11 @@ unfoldable pub free_report_text : ℕ → ℕ → List ℕ
 free_report_text nodes links =
     codes "nodes " ++ decimal nodes ++ codes "\nlinks " ++ decimal links ++ codes "\n"
 
--- both texts of a network went out whole, LinkTime first
-abbrev pub IsFreeOut : NetRows → Taken → Taken → Type 0
-IsFreeOut net before after =
-    after ≡ grown output.Report (free_report_text (length net.nodes) (length net.links))
-    (grown output.LinkTime (free_link_time_text net.links) before)
-
--- a first part of LinkTime went out, or LinkTime whole and a first part of Report
-abbrev pub IsFreeCut : NetRows → Taken → Taken → Type 0
-IsFreeCut net before after =
-    IsPartOut output.LinkTime (free_link_time_text net.links) before after
-    ⊎ IsPartOut output.Report (free_report_text (length net.nodes) (length net.links))
-    (grown output.LinkTime (free_link_time_text net.links) before) after
+-- both, LinkTime first
+abbrev pub free_texts : NetRows → List OutText
+free_texts net =
+    text_to output.LinkTime (free_link_time_text net.links)
+    ∷ text_to output.Report (free_report_text (length net.nodes) (length net.links)) ∷ []
 
 -- ---- Agent
 

@@ -1,11 +1,12 @@
 // The texts of `freeflow`.
 ghost use Rattle.std.specs.Prelude.{◌≡◌, ◌≤◌, ◌+◌, ◌++◌, length, OnOk, OnErr};
 ghost use Rattle.desk_io.specs.declared.desk.Output.TheVariants as output;
-ghost use Rattle.desk_io.specs.Transfers.{OnlyPuts, Puts};
+ghost use Rattle.desk_io.specs.Transfers.{Puts};
 ghost use Rattle.pending_text.specs.declared.pending.TheConstants.{PIECE};
+ghost use Rattle.pending_text.specs.Outs.{PutsAll};
 ghost use Rattle.pending_text.specs.Sending.{Adds};
 ghost use Rattle.reports.specs.Texts.{free_link_line, free_link_time_header, free_link_time_text};
-ghost use Rattle.reports.specs.Texts.{free_report_text, IsFreeOut, IsFreeCut};
+ghost use Rattle.reports.specs.Texts.{free_report_text, free_texts};
 
 use desk_io::{Desk, Failed, Output};
 use net_core::{LinkRow, Net};
@@ -79,8 +80,7 @@ fn report(nodes: u32, links: u32) -> Pending
 /// Puts LinkTime of `freeflow`, and then its Report. On Failed a first part of one of them went
 /// out, of Report only where LinkTime is whole. It takes no memory.
 pub fn put_free<D: Desk>(desk: &mut D, net: &Net) -> Result<(), Failed>
-    ensures { OnlyPuts (IsFreeOut net.now) (IsFreeCut net.now)
-        (D.state desk.old) (D.state desk.new) result }
+    ensures { PutsAll (free_texts net.now) (D.state desk.old) (D.state desk.new) result }
 {
     put_links(desk, net.links())?;
     report(net.node_count(), net.link_count()).put_out(desk, Output::Report)

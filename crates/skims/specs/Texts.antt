@@ -1,11 +1,10 @@
 -- The texts of a skim, as functions of what they tell. Numbers are decimal, nothing is quoted, and
 -- each line ends with a line feed.
-use Rattle.std.specs.Prelude.{ℕ, ◌≡◌, ◌⊎◌, List, [], ◌++◌, length, Option, None, Some, codes}
+use Rattle.std.specs.Prelude.{ℕ, List, [], ◌∷◌, ◌++◌, length, Option, None, Some, codes}
 use Rattle.std.specs.Prelude.{decimal}
 use Rattle.std.specs.List.{flat_map}
 use Rattle.desk_io.specs.declared.desk.Output.TheVariants as output
-use Rattle.desk_io.specs.Desk.{Taken, grown}
-use Rattle.desk_io.specs.Transfers.{IsPartOut}
+use Rattle.pending_text.specs.Outs.{OutText, text_to}
 use Rattle.net_core.specs.Network.{zones}
 use Rattle.net_core.specs.declared.rows.NetRows.{NetRows}
 use Rattle.skims.specs.declared.skim_entry.SkimEntry.{SkimEntry}
@@ -39,15 +38,8 @@ skim_report_text net entries =
     skim_report_lines (length net.nodes) (length net.links) (length (zones net.nodes))
     (length entries)
 
--- both texts of a skim went out whole, Skim first
-abbrev pub IsSkimOut : NetRows → List SkimEntry → Taken → Taken → Type 0
-IsSkimOut net entries before after =
-    after ≡ grown output.Report (skim_report_text net entries)
-    (grown output.Skim (skim_text entries) before)
-
--- a first part of Skim went out, or Skim whole and a first part of Report
-abbrev pub IsSkimCut : NetRows → List SkimEntry → Taken → Taken → Type 0
-IsSkimCut net entries before after =
-    IsPartOut output.Skim (skim_text entries) before after
-    ⊎ IsPartOut output.Report (skim_report_text net entries)
-    (grown output.Skim (skim_text entries) before) after
+-- both, Skim first
+abbrev pub skim_texts : NetRows → List SkimEntry → List OutText
+skim_texts net entries =
+    text_to output.Skim (skim_text entries)
+    ∷ text_to output.Report (skim_report_text net entries) ∷ []

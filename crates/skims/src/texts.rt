@@ -1,11 +1,12 @@
 // The texts of a skim.
 ghost use Rattle.std.specs.Prelude.{◌≡◌, ◌≤◌, ◌+◌, ◌++◌, length, OnOk, OnErr};
 ghost use Rattle.desk_io.specs.declared.desk.Output.TheVariants as output;
-ghost use Rattle.desk_io.specs.Transfers.{OnlyPuts, Puts};
+ghost use Rattle.desk_io.specs.Transfers.{Puts};
 ghost use Rattle.pending_text.specs.declared.pending.TheConstants.{DIGITS, PIECE};
+ghost use Rattle.pending_text.specs.Outs.{PutsAll};
 ghost use Rattle.pending_text.specs.Sending.{Adds};
 ghost use Rattle.skims.specs.Texts.{entry_line, least_or_nothing, skim_header, skim_text};
-ghost use Rattle.skims.specs.Texts.{skim_report_lines, IsSkimCut, IsSkimOut};
+ghost use Rattle.skims.specs.Texts.{skim_report_lines, skim_texts};
 
 use crate::skim_entry::{Skim, SkimEntry};
 use desk_io::{Desk, Failed, Output};
@@ -99,8 +100,7 @@ fn report(nodes: u32, links: u32, zones: u32, entries: usize) -> Pending
 /// there are. On Failed a first part of one of them went out, of Report only where Skim is whole.
 /// It takes no memory.
 pub fn put_skim<D: Desk>(desk: &mut D, net: &Net, skim: &Skim) -> Result<(), Failed>
-    ensures { OnlyPuts (IsSkimOut net.now skim.now) (IsSkimCut net.now skim.now)
-        (D.state desk.old) (D.state desk.new) result }
+    ensures { PutsAll (skim_texts net.now skim.now) (D.state desk.old) (D.state desk.new) result }
 {
     let entries = skim.as_slice();
     put_entries(desk, entries)?;

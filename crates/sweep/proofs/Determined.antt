@@ -1,6 +1,5 @@
 -- A scale of the demand has one scenario.
-use Rattle.std.proofs.Common.{◌≡◌, ℕ, ◌-◌, List, length, refl, sym, ap, ◌∙◌}
-use Rattle.std.specs.Prelude.{Some, slice_get}
+use Rattle.std.proofs.Common.{◌≡◌, ℕ, List, length, refl, sym, ap, ◌∙◌}
 use Rattle.dta_model.specs.LinkTimes.{table_of}
 use Rattle.dta_model.specs.Loading.{journeys_of}
 use Rattle.dta_model.specs.State.{eight_after}
@@ -13,14 +12,11 @@ use Rattle.gap.specs.declared.line.GapLine.{GapLine}
 use Rattle.reports.specs.Texts.{agent_text, gap_text, link_time_text, report_text}
 use Rattle.reports.specs.declared.summary.Summary.{Summary}
 use Rattle.dta_words.specs.declared.command.Settings.{Settings}
-use Rattle.assignment.specs.Assignment.{AreIterations, Traffic, VehicleRoutes, costs_of, plan_of, summary_of, times_of, told_where, unrouted, waits_of, waits_told}
-use Rattle.assignment.proofs.Determined.{RouteLaws, by-same-costs, same-lines, same-routes}
+use Rattle.assignment.specs.Assignment.{AllIterations, Traffic, VehicleRoutes, costs_of, plan_of, summary_of, times_of, told_where, unrouted, waits_of, waits_told}
+use Rattle.assignment.proofs.Determined.{RouteLaws, all-by-same, all-last, all-line, all-lines}
 use Rattle.sweep.specs.Laws.{Agree, ScenariosStandAlone}
 use Rattle.sweep.specs.Scenarios.{HasTexts, traffic_at, wait_text}
 use Rattle.sweep.specs.declared.scenario.Scenario.{Scenario}
-
-some-is : {A : Type 0} (x y : A) → Some x ≡ Some y → x ≡ y
-some-is x y e = cc
 
 -- the numbers of a report by the state after the last step
 abbrev summary-by : Traffic → ℕ → VehicleRoutes → GapLine → Eight → Summary
@@ -64,50 +60,41 @@ module _ (a b : Settings) (agree : Agree a b) (traffic : Traffic) where
       ∙ ap (λ n. summary-by traffic n r line (eight_after (plan_of a traffic r) a.horizon)) (sym agree.iterations)
 
   module _ (laws : RouteLaws) (x y : Scenario) (p : HasTexts a traffic x) (q : HasTexts b traffic y) where
-    there : AreIterations a traffic q.routes q.lines
-    there = by-same-costs (costs_of a traffic) (costs_of b traffic) traffic q.routes q.lines same-costs q.iterations
+    abbrev there : AllIterations a.iterations (costs_of a traffic) traffic
+    there = all-by-same b.iterations a.iterations (costs_of a traffic) (costs_of b traffic) traffic (sym agree.iterations) same-costs q.all
 
-    routes-same : p.routes ≡ q.routes
-    routes-same = same-routes laws (costs_of a traffic) traffic p.routes q.routes p.lines q.lines p.iterations there
-        (p.as_many ∙ agree.iterations ∙ sym q.as_many)
+    lines-same : p.all.lines ≡ q.all.lines
+    lines-same = all-lines laws a.iterations (costs_of a traffic) traffic p.all there
 
-    lines-same : p.lines ≡ q.lines
-    lines-same = same-lines laws (costs_of a traffic) traffic p.routes q.routes p.lines q.lines p.iterations there routes-same
-        (p.with_gaps ∙ sym p.as_many) (p.with_gaps ∙ agree.iterations ∙ sym q.with_gaps)
+    last-same : p.all.last ≡ q.all.last
+    last-same = all-last laws a.iterations (costs_of a traffic) traffic p.all there
 
-    last-same : p.last ≡ q.last
-    last-same = some-is p.last q.last (sym p.last_routes
-        ∙ ap (λ (rs : List VehicleRoutes). slice_get rs (a.iterations - 1)) routes-same
-        ∙ ap (λ n. slice_get q.routes (n - 1)) agree.iterations ∙ q.last_routes)
-
-    line-same : p.line ≡ q.line
-    line-same = some-is p.line q.line (sym p.last_line
-        ∙ ap (λ (ls : List GapLine). slice_get ls (a.iterations - 1)) lines-same
-        ∙ ap (λ n. slice_get q.lines (n - 1)) agree.iterations ∙ q.last_line)
+    line-same : p.all.line ≡ q.all.line
+    line-same = all-line laws a.iterations (costs_of a traffic) traffic p.all there
 
     pub agent-same : x.agent ≡ y.agent
     agent-same = p.agent
         ∙ ap (λ (r : VehicleRoutes). agent_text traffic.net traffic.trips r (journeys_of (plan_of a traffic r))) last-same
-        ∙ ap (λ (z : Plan). agent_text traffic.net traffic.trips q.last (journeys_of z)) (sym (same-plan q.last)) ∙ sym q.agent
+        ∙ ap (λ (z : Plan). agent_text traffic.net traffic.trips q.all.last (journeys_of z)) (sym (same-plan q.all.last)) ∙ sym q.agent
 
     pub link-time-same : x.link_time ≡ y.link_time
     link-time-same = p.link_time
         ∙ ap (λ (r : VehicleRoutes). link_time_text traffic.net (times_of a traffic r)) last-same
-        ∙ ap (link_time_text traffic.net) (sym (same-times q.last)) ∙ sym q.link_time
+        ∙ ap (link_time_text traffic.net) (sym (same-times q.all.last)) ∙ sym q.link_time
 
     pub origin-wait-same : x.origin_wait ≡ y.origin_wait
     origin-wait-same = p.origin_wait
         ∙ ap (λ (r : VehicleRoutes). wait_text traffic.net (waits_told a traffic r)) last-same
-        ∙ ap (wait_text traffic.net) (sym (same-waits q.last)) ∙ sym q.origin_wait
+        ∙ ap (wait_text traffic.net) (sym (same-waits q.all.last)) ∙ sym q.origin_wait
 
     pub gap-same : x.gap ≡ y.gap
     gap-same = p.gap ∙ ap gap_text lines-same ∙ sym q.gap
 
     pub report-same : x.report ≡ y.report
     report-same = p.report
-        ∙ ap (λ (r : VehicleRoutes). report_text (summary_of a traffic r p.line)) last-same
-        ∙ ap (λ (l : GapLine). report_text (summary_of a traffic q.last l)) line-same
-        ∙ ap report_text (sym (same-summary q.last q.line)) ∙ sym q.report
+        ∙ ap (λ (r : VehicleRoutes). report_text (summary_of a traffic r p.all.line)) last-same
+        ∙ ap (λ (l : GapLine). report_text (summary_of a traffic q.all.last l)) line-same
+        ∙ ap report_text (sym (same-summary q.all.last q.all.line)) ∙ sym q.report
 
 -- scenarios of the same scale and the same texts
 same-scenario : (x y : Scenario) → x.scale ≡ y.scale → x.agent ≡ y.agent → x.link_time ≡ y.link_time → x.origin_wait ≡ y.origin_wait

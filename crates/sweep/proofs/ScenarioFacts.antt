@@ -1,5 +1,5 @@
 -- The texts of an assignment.
-use Rattle.std.proofs.Common.{◌≡◌, ℕ, ◌-◌, List, [], ◌∷◌, ◌++◌, sym, ap, subst, arith, ◌∙◌, length-append}
+use Rattle.std.proofs.Common.{◌≡◌, ℕ, List, [], sym, ap, subst, ◌∙◌}
 use Rattle.std.specs.Prelude.{Some, Result, Ok, Err, IfOk, OnOk}
 use Rattle.std.specs.declared.alloc.AllocError.{AllocError}
 use Rattle.desk_io.specs.declared.desk.Failed.{Failed}
@@ -16,7 +16,7 @@ use Rattle.dta_words.specs.declared.command.Settings.{Settings}
 use Rattle.assignment.specs.Assignment.{Traffic, plan_of, summary_of, times_of, waits_told}
 use Rattle.assignment.specs.Progress.{IsAssigned}
 use Rattle.assignment.specs.declared.iterations.Assigned.{Assigned}
-use Rattle.assignment.proofs.AssignmentFacts.{get-added}
+use Rattle.assignment.proofs.AssignmentFacts.{all-of}
 use Rattle.scaled_demand.specs.Scales.{trips_at}
 use Rattle.sweep.specs.Scenarios.{HasTexts, IsScenario, wait_text}
 use Rattle.sweep.specs.declared.scenario.Scenario.{Scenario}
@@ -29,25 +29,14 @@ pub has-texts : (s : Settings) (traffic : Traffic) (a : Assigned) (it : Scenario
     → it.gap ≡ gap_text a.lines.items
     → it.report ≡ report_text (summary_of s traffic a.routes a.line)
     → HasTexts s traffic it
-has-texts s traffic a it done agent link_time origin_wait gap report =
-    let many = done.as_many in
-    let gaps = done.with_gaps in
-    let lines = done.lines_are in record {
-      routes = done.done ++ a.routes ∷ [];
-      lines = a.lines.items;
-      last = a.routes;
-      line = a.line;
-      iterations = done.iterations;
-      as_many = omega (arith, many, length-append done.done (a.routes ∷ []));
-      with_gaps = rw lines (omega (arith, many, gaps, length-append done.before (a.line ∷ [])));
-      last_routes = get-added done.done a.routes (s.iterations - 1) (omega (arith, many));
-      last_line = rw lines (get-added done.before a.line (s.iterations - 1) (omega (arith, many, gaps)));
-      agent = agent;
-      link_time = link_time;
-      origin_wait = origin_wait;
-      gap = gap;
-      report = report;
-    }
+has-texts s traffic a it done agent link_time origin_wait gap report = record {
+  all = all-of s traffic a done;
+  agent = agent;
+  link_time = link_time;
+  origin_wait = origin_wait;
+  gap = gap;
+  report = report;
+}
 
 -- the scenario of a scale, over trips that were released and no start rows
 pub scenario-over : (s : Settings) (net : NetRows) (cells : List DemandCell) (scale : ℕ) (lent trips : List Trip) (start : List StartRow) (it : Scenario)

@@ -1,16 +1,14 @@
 -- The scenarios of a sweep: the assignment for each multiple of the demand.
-use Rattle.std.specs.Prelude.{ℕ, ◌≡◌, ◌-◌, List, [], length, Option, None, Some}
-use Rattle.std.specs.Prelude.{slice_get}
+use Rattle.std.specs.Prelude.{ℕ, ◌≡◌, List, [], Option, None, Some}
 use Rattle.std.specs.List.{AllZip}
 use Rattle.net_core.specs.declared.rows.NetRows.{NetRows}
 use Rattle.dta_model.specs.Loading.{journeys_of}
 use Rattle.dta_model.specs.declared.trip.DemandCell.{DemandCell}
 use Rattle.trip_costs.specs.OriginWaits.{WaitTable}
-use Rattle.gap.specs.declared.line.GapLine.{GapLine}
 use Rattle.reports.specs.Texts.{agent_text, gap_text, link_time_text, origin_wait_text}
 use Rattle.reports.specs.Texts.{report_text}
 use Rattle.dta_words.specs.declared.command.Settings.{Settings}
-use Rattle.assignment.specs.Assignment.{AreIterations, Traffic, VehicleRoutes, plan_of, summary_of}
+use Rattle.assignment.specs.Assignment.{AllIterations, Traffic, costs_of, plan_of, summary_of}
 use Rattle.assignment.specs.Assignment.{times_of, waits_told}
 use Rattle.scaled_demand.specs.Scales.{trips_at}
 use Rattle.sweep.specs.declared.scenario.Scenario.{Scenario}
@@ -26,21 +24,13 @@ wait_text net (Some waits) = origin_wait_text net waits
 
 -- the texts of an assignment of this traffic, as `assign` puts them
 pub record HasTexts (s : Settings) (traffic : Traffic) (it : Scenario) : Type 0 where
-  pub routes : List VehicleRoutes
-  pub lines : List GapLine
-  pub last : VehicleRoutes
-  pub line : GapLine
-  pub iterations : AreIterations s traffic routes lines
-  pub as_many : length routes ≡ s.iterations
-  pub with_gaps : length lines ≡ s.iterations
-  pub last_routes : slice_get routes (s.iterations - 1) ≡ Some last
-  pub last_line : slice_get lines (s.iterations - 1) ≡ Some line
+  pub all : AllIterations s.iterations (costs_of s traffic) traffic
   pub agent : it.agent
-      ≡ agent_text traffic.net traffic.trips last (journeys_of (plan_of s traffic last))
-  pub link_time : it.link_time ≡ link_time_text traffic.net (times_of s traffic last)
-  pub origin_wait : it.origin_wait ≡ wait_text traffic.net (waits_told s traffic last)
-  pub gap : it.gap ≡ gap_text lines
-  pub report : it.report ≡ report_text (summary_of s traffic last line)
+      ≡ agent_text traffic.net traffic.trips all.last (journeys_of (plan_of s traffic all.last))
+  pub link_time : it.link_time ≡ link_time_text traffic.net (times_of s traffic all.last)
+  pub origin_wait : it.origin_wait ≡ wait_text traffic.net (waits_told s traffic all.last)
+  pub gap : it.gap ≡ gap_text all.lines
+  pub report : it.report ≡ report_text (summary_of s traffic all.last all.line)
 
 -- the scenario of a scale: its texts depend on no other scale, and on no number of workers
 pub record IsScenario (s : Settings) (net : NetRows) (cells : List DemandCell) (scale : ℕ)

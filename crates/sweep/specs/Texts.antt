@@ -1,9 +1,8 @@
 -- The texts of a sweep, as functions of what they tell.
-use Rattle.std.specs.Prelude.{ℕ, ◌≡◌, ◌⊎◌, List, ◌++◌, length, codes, decimal}
+use Rattle.std.specs.Prelude.{ℕ, List, [], ◌∷◌, ◌++◌, length, codes, decimal}
 use Rattle.std.specs.List.{enumerate_from, flat_map}
 use Rattle.desk_io.specs.declared.desk.Output.TheVariants as output
-use Rattle.desk_io.specs.Desk.{Taken, grown}
-use Rattle.desk_io.specs.Transfers.{IsPartOut}
+use Rattle.pending_text.specs.Outs.{OutText, text_to}
 use Rattle.sweep.specs.declared.scenario.Scenario.{Scenario}
 
 -- the line before a scenario's texts: its place and its scale in thousandths
@@ -31,15 +30,8 @@ sweep_text scenarios = flat_map numbered_text (enumerate_from 0 scenarios)
 unfoldable pub sweep_report_line : ℕ → List ℕ
 sweep_report_line scenarios = codes "scenarios " ++ decimal scenarios ++ codes "\n"
 
--- both texts of a sweep went out whole, Sweep first
-abbrev pub IsSweepOut : List Scenario → Taken → Taken → Type 0
-IsSweepOut scenarios before after =
-    after ≡ grown output.Report (sweep_report_line (length scenarios))
-    (grown output.Sweep (sweep_text scenarios) before)
-
--- a first part of Sweep went out, or Sweep whole and a first part of Report
-abbrev pub IsSweepCut : List Scenario → Taken → Taken → Type 0
-IsSweepCut scenarios before after =
-    IsPartOut output.Sweep (sweep_text scenarios) before after
-    ⊎ IsPartOut output.Report (sweep_report_line (length scenarios))
-    (grown output.Sweep (sweep_text scenarios) before) after
+-- both, Sweep first
+abbrev pub sweep_texts : List Scenario → List OutText
+sweep_texts scenarios =
+    text_to output.Sweep (sweep_text scenarios)
+    ∷ text_to output.Report (sweep_report_line (length scenarios)) ∷ []

@@ -1,9 +1,10 @@
 // The texts of a sweep.
 ghost use Rattle.std.specs.Prelude.{◌≡◌, ◌++◌, length};
 ghost use Rattle.desk_io.specs.declared.desk.Output.TheVariants as output;
-ghost use Rattle.desk_io.specs.Transfers.{OnlyPuts, Puts};
-ghost use Rattle.sweep.specs.Texts.{IsSweepCut, IsSweepOut, scenario_line, scenario_text};
-ghost use Rattle.sweep.specs.Texts.{sweep_report_line, sweep_text, tables_of};
+ghost use Rattle.desk_io.specs.Transfers.{Puts};
+ghost use Rattle.pending_text.specs.Outs.{PutsAll};
+ghost use Rattle.sweep.specs.Texts.{scenario_line, scenario_text, sweep_report_line, sweep_text};
+ghost use Rattle.sweep.specs.Texts.{sweep_texts, tables_of};
 
 use crate::scenario::{Scenario, Sweep};
 use desk_io::{Desk, Failed, Output, put_all};
@@ -79,8 +80,7 @@ fn report(scenarios: usize) -> Pending
 /// there are. On Failed a first part of one of them went out, of Report only where Sweep is whole.
 /// It takes no memory.
 pub fn put_sweep<D: Desk>(desk: &mut D, sweep: &Sweep) -> Result<(), Failed>
-    ensures { OnlyPuts (IsSweepOut sweep.now) (IsSweepCut sweep.now)
-        (D.state desk.old) (D.state desk.new) result }
+    ensures { PutsAll (sweep_texts sweep.now) (D.state desk.old) (D.state desk.new) result }
 {
     let scenarios = sweep.as_slice();
     put_scenarios(desk, scenarios)?;

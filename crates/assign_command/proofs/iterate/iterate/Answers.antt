@@ -42,7 +42,7 @@ loop-number-preserved g c =
     let i = c.loop-number.invariant in
     let w = (c.requires.loads _ _ _ _ _ _ _ i.routes c.in_ok-loaded.ensures).watches in
     let took = c.requires.receipts _ _ _ _ _ _ _ i.routes c.in_ok-loaded.ensures in
-    let many = i.before.as_many in
+    let many = i.before.at.as_many in
     record {
       before = ahead (settings_in a) (traffic_in a) c.loop-number.number c.loop-number.it.routes c.advance.new.it.routes c.loop-number.it.lines.items
           c.advance.new.it.lines.items (g.D.Desk.state c.args.desk.now).taken _ _ i.before w.done c.in_ok-advance.ensures;
@@ -69,7 +69,7 @@ returns-in_err-loaded-clause-receipts g c =
     let a = c.args.assignment.now in
     let i = c.loop-number.invariant in
     let took = c.requires.receipts _ _ _ _ _ _ _ i.routes c.in_err-loaded.ensures in
-    let many = i.before.as_many in
+    let many = i.before.at.as_many in
     rw (p.1, p.2) (record {
       all = tt;
       some = some-more (settings_in a).plain (numbers_in (settings_in a) (traffic_in a)) _ (c.loop-number.number - 1) 1 _ _ _
@@ -91,7 +91,7 @@ returns-in_err-advance-clause-receipts g c =
     let a = c.args.assignment.now in
     let i = c.loop-number.invariant in
     let took = c.requires.receipts _ _ _ _ _ _ _ i.routes c.in_ok-loaded.ensures in
-    let many = i.before.as_many in
+    let many = i.before.at.as_many in
     rw (p.1, p.2) (record {
       all = tt;
       some = some-more (settings_in a).plain (numbers_in (settings_in a) (traffic_in a)) _ (c.loop-number.number - 1) 1 _ _ _
@@ -117,7 +117,7 @@ returns-in_err-loaded-2-clause-receipts g c =
     let i = c.loop-number.invariant in
     let least = c.requires.is.settings.iterations.0 in
     let last : c.loop-number.number ≡ (settings_in a).iterations = omega (arith, least) in
-    let many = i.before.as_many in
+    let many = i.before.at.as_many in
     let took = c.requires.receipts _ _ _ _ _ _ _ i.routes c.in_err-loaded-2.ensures in
     rw (p.1, p.2) (record {
       all = tt;
@@ -142,7 +142,7 @@ returns-clause-receipts g c =
     let i = c.loop-number.invariant in
     let least = c.requires.is.settings.iterations.0 in
     let last : c.loop-number.number ≡ (settings_in a).iterations = omega (arith, least) in
-    let many = i.before.as_many in
+    let many = i.before.at.as_many in
     let took = c.requires.receipts _ _ _ _ _ _ _ i.routes c.in_ok-loaded-2.ensures in
     gives-more (settings_in a).plain (numbers_in (settings_in a) (traffic_in a)) _ c.measure_last.result (c.loop-number.number - 1) 1 _ _ _
     (omega (arith, last, many)) i.receipts (gives-all c.measure_last.result _ _ _ _ took.all)

@@ -2,10 +2,10 @@ use Rattle.std.proofs.Common.{refl}
 use Rattle.std.proofs.lemmas.Result.{err_from_is_err_and}
 use Rattle.assignment.specs.Lent.{plan_in, settings_in, traffic_in}
 use Rattle.assignment.proofs.AssignmentFacts.{end-in}
-use Rattle.commands.specs.Outputs.{end_lines}
 use Rattle.assign_command.specs.declared.halt.Halt.TheVariants as halt
 use Rattle.assign_command.proofs.IterateFacts.{watch-halts}
 use Rattle.commands.proofs.OutputFacts.{end-lines}
+use Rattle.commands.specs.Texts.{end_lines}
 use Rattle.assign_command.proofs.load.load_plainly.Goals as goal
 
 pub returns-in_err-watch : goal.returns-in_err-watch

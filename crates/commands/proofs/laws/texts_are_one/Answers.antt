@@ -1,8 +1,8 @@
 use Rattle.audit.specs.Audit.{checks_of}
 use Rattle.assignment.proofs.Determined.{RouteLaws}
-use Rattle.commands.specs.Outputs.{audit_plan}
 use Rattle.commands.proofs.AnyOrder.{texts_in_any_order}
 use Rattle.commands.proofs.Determined.{scenarios_are_alone, texts_are_determined}
+use Rattle.commands.specs.Texts.{audit_plan}
 use Rattle.commands.proofs.laws.texts_are_one.Goals as goal
 
 pub returns : goal.returns
