@@ -11,7 +11,8 @@ use Rattle.gap.specs.declared.line.GapLine.{GapLine}
 use Rattle.start_table.specs.Starts.{AreStartRows}
 use Rattle.dta_words.specs.Ranges.{AreSettings}
 use Rattle.dta_words.specs.declared.command.Settings.{Settings}
-use Rattle.assignment.specs.Assignment.{AreIterations, Traffic, VehicleRoutes, end_of}
+use Rattle.assignment.specs.Assignment.{Traffic, VehicleRoutes, end_of}
+use Rattle.assignment.specs.Iterations.{AreIterations}
 use Rattle.assignment.specs.Progress.{HasBegun, HasEnded, HasNext}
 use Rattle.assignment.proofs.AssignmentFacts.{get-kept, ahead as next-at, assigned as ended-at, begun as first-at}
 use Rattle.assign_command.specs.Calls.{OnlyWatches}

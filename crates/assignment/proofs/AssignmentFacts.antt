@@ -31,7 +31,8 @@ use Rattle.reports.specs.Texts.{AreOnNet}
 use Rattle.reports.proofs.TextsFacts.{walks-on-net}
 use Rattle.dta_words.specs.Ranges.{AreSettings}
 use Rattle.dta_words.specs.declared.command.Settings.{Settings}
-use Rattle.assignment.specs.Assignment.{AllIterations, AreIterations, Traffic, VehicleRoutes, costs_of, end_of, plan_of, times_of}
+use Rattle.assignment.specs.Assignment.{Traffic, VehicleRoutes, costs_of, end_of, plan_of, times_of}
+use Rattle.assignment.specs.Iterations.{AllIterations, AreIterations}
 use Rattle.assignment.specs.Progress.{HasBegun, HasEnded, HasNext, IsAssigned, IsAt}
 use Rattle.assignment.specs.Traffic.{AreRoutesOf, AreTripsBelow}
 use Rattle.assignment.specs.declared.iterations.Assigned.{Assigned}

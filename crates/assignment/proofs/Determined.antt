@@ -8,9 +8,11 @@ use Rattle.std.proofs.lemmas.Option.{slice_get-get_or, slice_get_within}
 use Rattle.gap.specs.Gap.{IsGapLine}
 use Rattle.gap.specs.declared.line.GapLine.{GapLine}
 use Rattle.gap.proofs.Determined.{lines_are_determined}
-use Rattle.route_flows.specs.Averages.{AreNextRoutes, free_time}
+use Rattle.route_flows.specs.Averages.{AreNextRoutes}
+use Rattle.route_flows.specs.Selection.{free_time}
 use Rattle.route_flows.specs.Laws.{NextAreDetermined, SinceAreDetermined, StartedAreDetermined}
-use Rattle.assignment.specs.Assignment.{AllIterations, AreIterationsBy, Traffic, VehicleRoutes}
+use Rattle.assignment.specs.Assignment.{Traffic, VehicleRoutes}
+use Rattle.assignment.specs.Iterations.{AllIterations, AreIterationsBy}
 
 abbrev no_line : GapLine
 no_line = record { route_steps = 0; least_steps = 0; gap_steps = 0; ppm = 0 }

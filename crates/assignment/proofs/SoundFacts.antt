@@ -9,14 +9,14 @@ use Rattle.dta_model.proofs.Ends.{journeys_end_in_order}
 use Rattle.dta_model.proofs.InOrder.{left_in_order}
 use Rattle.dta_model.proofs.Onward.{vehicles_are_conserved}
 use Rattle.gap.specs.declared.line.GapLine.{GapLine}
-use Rattle.route_flows.specs.Averages.{free_time}
+use Rattle.route_flows.specs.Selection.{free_time}
 use Rattle.route_flows.proofs.Averaged.{next_walk}
 use Rattle.route_flows.proofs.Started.{started_walk}
 use Rattle.dta_words.specs.Ranges.{AreSettings}
 use Rattle.dta_words.specs.declared.command.Settings.{Settings}
-use Rattle.assignment.specs.Assignment.{AreIterations, Traffic, VehicleRoutes, costs_of, plan_of}
-use Rattle.assignment.specs.Iterations.{AreSoundIterations, ComeFrom, IsSoundLoading}
-use Rattle.assignment.specs.Traffic.{AreRoutesOf, AreTripsBelow}
+use Rattle.assignment.specs.Assignment.{Traffic, VehicleRoutes, costs_of, plan_of}
+use Rattle.assignment.specs.Iterations.{AreIterations, AreSoundIterations, ComeFrom}
+use Rattle.assignment.specs.Traffic.{IsSoundLoading, AreRoutesOf, AreTripsBelow}
 use Rattle.assignment.proofs.AssignmentFacts.{sound-plan}
 
 -- the laws of all loadings, of one that is sound

@@ -1,7 +1,6 @@
--- The iterations of an assignment: routes, loadings, tables of link times and gaps (successive
--- averages over loadings, Zhou and Taylor 2014), and the numbers of its report.
-use Rattle.std.specs.Prelude.{ℕ, ◌≡◌, ◌+◌, ◌-◌, List, count_by, is_none, length, Option, None, Some}
-use Rattle.std.specs.Prelude.{slice_get}
+-- What an assignment is of: its traffic, and over routes their loading, its costs, and the numbers
+-- of a report.
+use Rattle.std.specs.Prelude.{ℕ, List, count_by, is_none, length, Option, None, Some}
 use Rattle.net_core.specs.declared.rows.LinkNo.{LinkNo}
 use Rattle.net_core.specs.declared.rows.NetRows.{NetRows}
 use Rattle.dta_model.specs.LinkTimes.{TimeTable, table_of}
@@ -14,10 +13,7 @@ use Rattle.trip_costs.specs.OriginWaits.{WaitTable, waits_of as waits_of_plan}
 use Rattle.trip_costs.specs.Timings.{Timing}
 use Rattle.trip_costs.specs.declared.loading_costs.Costs.{Costs}
 use Rattle.trip_costs.specs.declared.loading_costs.Costs.TheVariants as by
-use Rattle.gap.specs.Gap.{IsGapLine}
 use Rattle.gap.specs.declared.line.GapLine.{GapLine}
-use Rattle.route_flows.specs.Averages.{AreNextRoutes, AreStartedRoutes}
-use Rattle.start_table.specs.Starts.{AreStartRows}
 use Rattle.start_table.specs.declared.rows.StartRow.{StartRow}
 use Rattle.reports.specs.declared.summary.Summary.{Summary}
 use Rattle.dta_words.specs.declared.command.Settings.{Settings}
@@ -66,47 +62,6 @@ waits_told s traffic routes = told_where s.costs (waits_of s traffic routes)
 -- the state after the last step of that loading
 abbrev pub end_of : Settings → Traffic → VehicleRoutes → Eight
 end_of s traffic routes = eight_after (plan_of s traffic routes) s.horizon
-
--- the routes of iterations one after another, and their gaps, where the loading over routes has
--- these costs
-pub record AreIterationsBy (costs : VehicleRoutes → Timing) (traffic : Traffic)
-    (routes : List VehicleRoutes) (lines : List GapLine) : Type 0 where
-  -- an agent has one row of the start table
-  pub start : AreStartRows traffic.start
-  -- the first routes are the walks of the rows that fit, and else the chosen walks by free-flow
-  -- steps; without a start table no row is there
-  pub first :
-      (r : VehicleRoutes) → slice_get routes 0 ≡ Some r
-      → AreStartedRoutes traffic.net traffic.start traffic.trips r
-  -- after iteration i some vehicles take their chosen walks by its costs, and the others stay
-  pub next :
-      (i : ℕ) (old new : VehicleRoutes) → slice_get routes i ≡ Some old
-      → slice_get routes (i + 1) ≡ Some new
-      → AreNextRoutes (costs old) traffic.net traffic.trips (i + 1) old new
-  -- each gap is that of an iteration's routes by its own costs
-  pub gaps :
-      (i : ℕ) (r : VehicleRoutes) (line : GapLine) → slice_get routes i ≡ Some r
-      → slice_get lines i ≡ Some line
-      → IsGapLine (costs r) traffic.net traffic.trips r line
-
--- the same by the loadings of this traffic
-abbrev pub AreIterations :
-    Settings → Traffic → List VehicleRoutes → List GapLine → Type 0
-AreIterations s traffic routes lines = AreIterationsBy (costs_of s traffic) traffic routes lines
-
--- all iterations of an assignment with so many, where the loading over routes has these costs:
--- their routes and gaps, and those of the last one
-pub record AllIterations (count : ℕ) (costs : VehicleRoutes → Timing) (traffic : Traffic) : Type 0
-    where
-  pub routes : List VehicleRoutes
-  pub lines : List GapLine
-  pub last : VehicleRoutes
-  pub line : GapLine
-  pub iterations : AreIterationsBy costs traffic routes lines
-  pub as_many : length routes ≡ count
-  pub with_gaps : length lines ≡ count
-  pub last_routes : slice_get routes (count - 1) ≡ Some last
-  pub last_line : slice_get lines (count - 1) ≡ Some line
 
 -- how many vehicles have no route
 abbrev pub unrouted : VehicleRoutes → ℕ

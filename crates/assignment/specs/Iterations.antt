@@ -1,23 +1,55 @@
--- What is true of each iteration of an assignment.
-use Rattle.std.specs.Prelude.{ℕ, zero, suc, ◌≡◌, ◌+◌, List, Some, slice_get}
-use Rattle.dta_model.specs.Laws.{EndInOrder, LinksAreLeftInOrder, StaysConserved}
-use Rattle.dta_model.specs.Loading.{journeys_of}
-use Rattle.dta_model.specs.Sound.{IsSound}
-use Rattle.dta_model.specs.declared.plan.Plan.{Plan}
+-- The iterations of an assignment: routes, loadings, tables of link times and gaps (successive
+-- averages over loadings, Zhou and Taylor 2014), and what is true of each.
+use Rattle.std.specs.Prelude.{ℕ, zero, suc, ◌≡◌, ◌+◌, ◌-◌, List, length, Some, slice_get}
+use Rattle.trip_costs.specs.Timings.{Timing}
 use Rattle.gap.specs.Gap.{IsGapLine}
 use Rattle.gap.specs.declared.line.GapLine.{GapLine}
 use Rattle.route_flows.specs.Averages.{AreNextRoutes, AreStartedRoutes}
+use Rattle.start_table.specs.Starts.{AreStartRows}
 use Rattle.dta_words.specs.declared.command.Settings.{Settings}
-use Rattle.assignment.specs.Assignment.{AreIterations, Traffic, VehicleRoutes, costs_of, plan_of}
+use Rattle.assignment.specs.Assignment.{Traffic, VehicleRoutes, costs_of, plan_of}
+use Rattle.assignment.specs.Traffic.{IsSoundLoading}
 
--- a loading is sound: its vehicles depart in order and have walks over its network. After every
--- step each due vehicle that has a route waits, is on one link of the network or has arrived, and
--- links are left in the order of entry, in the trace and so in the journeys
-pub record IsSoundLoading (p : Plan) : Type 0 where
-  pub sound : IsSound p
-  pub conserved : StaysConserved p
-  pub left_in_order : LinksAreLeftInOrder p
-  pub ordered : EndInOrder p (journeys_of p)
+-- the routes of iterations one after another, and their gaps, where the loading over routes has
+-- these costs
+pub record AreIterationsBy (costs : VehicleRoutes → Timing) (traffic : Traffic)
+    (routes : List VehicleRoutes) (lines : List GapLine) : Type 0 where
+  -- an agent has one row of the start table
+  pub start : AreStartRows traffic.start
+  -- the first routes are the walks of the rows that fit, and else the chosen walks by free-flow
+  -- steps; without a start table no row is there
+  pub first :
+      (r : VehicleRoutes) → slice_get routes 0 ≡ Some r
+      → AreStartedRoutes traffic.net traffic.start traffic.trips r
+  -- after iteration i some vehicles take their chosen walks by its costs, and the others stay
+  pub next :
+      (i : ℕ) (old new : VehicleRoutes) → slice_get routes i ≡ Some old
+      → slice_get routes (i + 1) ≡ Some new
+      → AreNextRoutes (costs old) traffic.net traffic.trips (i + 1) old new
+  -- each gap is that of an iteration's routes by its own costs
+  pub gaps :
+      (i : ℕ) (r : VehicleRoutes) (line : GapLine) → slice_get routes i ≡ Some r
+      → slice_get lines i ≡ Some line
+      → IsGapLine (costs r) traffic.net traffic.trips r line
+
+-- the same by the loadings of this traffic
+abbrev pub AreIterations :
+    Settings → Traffic → List VehicleRoutes → List GapLine → Type 0
+AreIterations s traffic routes lines = AreIterationsBy (costs_of s traffic) traffic routes lines
+
+-- all iterations of an assignment with so many, where the loading over routes has these costs:
+-- their routes and gaps, and those of the last one
+pub record AllIterations (count : ℕ) (costs : VehicleRoutes → Timing) (traffic : Traffic) : Type 0
+    where
+  pub routes : List VehicleRoutes
+  pub lines : List GapLine
+  pub last : VehicleRoutes
+  pub line : GapLine
+  pub iterations : AreIterationsBy costs traffic routes lines
+  pub as_many : length routes ≡ count
+  pub with_gaps : length lines ≡ count
+  pub last_routes : slice_get routes (count - 1) ≡ Some last
+  pub last_line : slice_get lines (count - 1) ≡ Some line
 
 -- where the routes at a place of a list of iterations come from: the first ones are the walks of
 -- the start table's rows that fit, and else chosen walks by free-flow steps; of later ones some

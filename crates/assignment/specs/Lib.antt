@@ -1,5 +1,5 @@
 pub mod Assignment
-pub mod Iterations
 pub mod Traffic
+pub mod Iterations
 pub mod Lent
 pub mod Progress

@@ -3,10 +3,11 @@ use Rattle.std.specs.Prelude.{ℕ, ◌≡◌, ◌+◌, List, [], ◌∷◌, ◌+
 use Rattle.dta_model.specs.Loading.{journeys_of}
 use Rattle.gap.specs.Gap.{IsGapLine}
 use Rattle.gap.specs.declared.line.GapLine.{GapLine}
-use Rattle.trip_costs.specs.LoadingCosts.{times_in}
+use Rattle.trip_costs.specs.Costs.{times_in}
 use Rattle.route_flows.specs.Averages.{AreNextRoutes, AreStartedRoutes}
 use Rattle.dta_words.specs.declared.command.Settings.{Settings}
-use Rattle.assignment.specs.Assignment.{AreIterations, Traffic, VehicleRoutes, end_of, plan_of}
+use Rattle.assignment.specs.Assignment.{Traffic, VehicleRoutes, end_of, plan_of}
+use Rattle.assignment.specs.Iterations.{AreIterations}
 use Rattle.assignment.specs.Assignment.{costs_of, times_of, waits_told}
 use Rattle.assignment.specs.Traffic.{AreRoutesOf}
 use Rattle.assignment.specs.declared.iterations.Assigned.{Assigned}

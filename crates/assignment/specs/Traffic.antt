@@ -1,8 +1,11 @@
--- What is true of the traffic of a loading, and of the routes of its vehicles.
+-- What is true of the traffic of a loading, of the routes of its vehicles, and of the loading.
 use Rattle.std.specs.Prelude.{ℕ, ◌≡◌, ◌<◌, List, length, All}
 use Rattle.std.specs.List.Sorted.{IsNonDecreasingBy}
 use Rattle.net_core.specs.Network.{IsNet}
-use Rattle.dta_model.specs.Sound.{AreTrips, AreWalks}
+use Rattle.dta_model.specs.Laws.{EndInOrder, LinksAreLeftInOrder, StaysConserved}
+use Rattle.dta_model.specs.Loading.{journeys_of}
+use Rattle.dta_model.specs.Sound.{AreTrips, AreWalks, IsSound}
+use Rattle.dta_model.specs.declared.plan.Plan.{Plan}
 use Rattle.dta_model.specs.declared.trip.Trip.{Trip}
 use Rattle.start_table.specs.Starts.{AreStartRows}
 use Rattle.assignment.specs.Assignment.{Traffic, VehicleRoutes}
@@ -24,3 +27,12 @@ pub record IsTraffic (horizon : ℕ) (traffic : Traffic) : Type 0 where
 pub record AreRoutesOf (traffic : Traffic) (routes : VehicleRoutes) : Type 0 where
   pub each : length routes ≡ length traffic.trips
   pub walks : AreWalks traffic.net traffic.trips routes
+
+-- a loading is sound: its vehicles depart in order and have walks over its network. After every
+-- step each due vehicle that has a route waits, is on one link of the network or has arrived, and
+-- links are left in the order of entry, in the trace and so in the journeys
+pub record IsSoundLoading (p : Plan) : Type 0 where
+  pub sound : IsSound p
+  pub conserved : StaysConserved p
+  pub left_in_order : LinksAreLeftInOrder p
+  pub ordered : EndInOrder p (journeys_of p)

@@ -2,7 +2,7 @@
 ghost use Rattle.std.specs.Prelude.{◌≡◌, ◌<◌, ◌≤◌, IfOk, OnOk};
 ghost use Rattle.dta_model.specs.Loading.{journeys_of};
 ghost use Rattle.link_times.specs.TimeTables.{IsShort};
-ghost use Rattle.trip_costs.specs.LoadingCosts.{times_in, timing_in};
+ghost use Rattle.trip_costs.specs.Costs.{times_in, timing_in};
 ghost use Rattle.assignment.specs.Assignment.{costs_of as costs_of_routes};
 ghost use Rattle.assignment.specs.Assignment.{end_of as end_of_routes, times_of, waits_told};
 ghost use Rattle.assignment.specs.Lent.{IsAssignment, plan_in, settings_in, traffic_in};

@@ -14,7 +14,8 @@ use Rattle.gap.specs.declared.line.GapLine.{GapLine}
 use Rattle.desk_io.specs.declared.desk.Output.TheVariants as output
 use Rattle.dta_words.specs.declared.command.Command.TheVariants as command
 use Rattle.dta_words.specs.declared.command.Settings.{Settings}
-use Rattle.assignment.specs.Assignment.{AllIterations, Traffic, VehicleRoutes, costs_of, plan_of, told_where, waits_of}
+use Rattle.assignment.specs.Assignment.{Traffic, VehicleRoutes, costs_of, plan_of, told_where, waits_of}
+use Rattle.assignment.specs.Iterations.{AllIterations}
 use Rattle.jobs.specs.Inputs.{Assigning, Auditing, Kind, Skimming, Sweeping, kind_of}
 use Rattle.jobs.specs.Jobs.{JobRows, traffic_of}
 use Rattle.commands.specs.Laws.{AreDetermined, ScenariosAreAlone, TextsAreDetermined, alone, scenario_texts}
@@ -23,7 +24,8 @@ use Rattle.net_core.specs.declared.rows.NetRows.{NetRows}
 use Rattle.dta_model.specs.declared.trip.DemandCell.{DemandCell}
 use Rattle.assignment.proofs.Determined.{RouteLaws, all-last, all-line, all-lines, all-routes}
 use Rattle.sweep.specs.Laws.{Agree, ScenariosStandAlone}
-use Rattle.sweep.specs.Scenarios.{AreScenarios, HasTexts, traffic_at, wait_text}
+use Rattle.sweep.specs.Scenarios.{AreScenarios, HasTexts}
+use Rattle.sweep.specs.Texts.{traffic_at, wait_text}
 use Rattle.sweep.specs.declared.scenario.Scenario.{Scenario}
 use Rattle.commands.specs.Outputs.{AreAssigned, AreSinceTold, AreWatchLines, AreWatchTexts}
 use Rattle.commands.specs.Works.{work_by}

@@ -6,7 +6,8 @@ use Rattle.trip_costs.specs.declared.loading_costs.Costs.{Costs}
 use Rattle.trip_costs.specs.declared.loading_costs.Costs.TheVariants as by
 use Rattle.audit.specs.declared.verdict.Verdict.{Verdict}
 use Rattle.assignment.specs.Assignment.{Traffic}
-use Rattle.sweep.specs.Scenarios.{IsScenario, traffic_at}
+use Rattle.sweep.specs.Scenarios.{IsScenario}
+use Rattle.sweep.specs.Texts.{traffic_at}
 use Rattle.sweep.specs.declared.scenario.Scenario.{Scenario}
 use Rattle.dta_words.specs.declared.command.Command.TheVariants as command
 use Rattle.dta_words.specs.declared.command.Settings.{Settings}

@@ -12,7 +12,8 @@ use Rattle.skims.specs.declared.skim_entry.SkimEntry.{SkimEntry}
 use Rattle.audit.specs.Audit.{IsAudit}
 use Rattle.audit.specs.declared.verdict.Verdict.{Verdict}
 use Rattle.audit.specs.declared.verdict.Verdict.TheVariants as verdict
-use Rattle.assignment.specs.Assignment.{AllIterations, AreIterations, Traffic, VehicleRoutes}
+use Rattle.assignment.specs.Assignment.{Traffic, VehicleRoutes}
+use Rattle.assignment.specs.Iterations.{AllIterations, AreIterations}
 use Rattle.assignment.specs.Assignment.{costs_of, plan_of}
 use Rattle.sweep.specs.Scenarios.{AreScenarios}
 use Rattle.sweep.specs.Texts.{sweep_texts}

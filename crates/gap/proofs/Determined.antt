@@ -3,10 +3,12 @@ use Rattle.std.proofs.Common.{◌≡◌, ℕ, ◌<◌, ◌≤◌, List, length, 
 use Rattle.std.proofs.lemmas.Option.{slice_get-get_or}
 use Rattle.net_core.specs.declared.rows.LinkNo.{LinkNo}
 use Rattle.net_core.specs.declared.rows.NetRows.{NetRows}
-use Rattle.trip_costs.specs.Timings.{IsLeastBy, Timing}
+use Rattle.trip_costs.specs.Timings.{Timing}
+use Rattle.trip_costs.specs.TripWalks.{IsLeastBy}
 use Rattle.trip_costs.proofs.Timed.{none_less_by, some_walk_by}
 use Rattle.dta_model.specs.declared.trip.Trip.{Trip}
-use Rattle.gap.specs.Gap.{AreLeasts, IsLeastOf, over_vehicles, ppm_of}
+use Rattle.gap.specs.Gap.{AreLeasts, IsLeastOf}
+use Rattle.gap.specs.RouteTimes.{over_vehicles, ppm_of}
 use Rattle.gap.specs.Laws.{LinesAreDetermined}
 use Rattle.gap.specs.declared.line.GapLine.{GapLine}
 use Rattle.gap.proofs.Sums.{over-le}

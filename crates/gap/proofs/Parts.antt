@@ -2,7 +2,7 @@
 use Rattle.std.proofs.Common.{◌≡◌, ℕ, suc, ◌+◌, ◌*◌, ◌<◌, ◌≤◌, List, [], ◌∷◌, length, arith, get_or, ap, subst, ◌∙◌, min}
 use Rattle.std.specs.Prelude.{sum}
 use Rattle.std.proofs.lemmas.List.Sums.{sum_by-cons}
-use Rattle.gap.specs.Gap.{over_vehicles}
+use Rattle.gap.specs.RouteTimes.{over_vehicles}
 use Rattle.gap.specs.Shares.{cut_at, IsPart}
 
 -- steps from one number to the next add up to the steps from the first to the last

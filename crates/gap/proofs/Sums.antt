@@ -14,7 +14,8 @@ use Rattle.dta_model.specs.declared.trip.Trip.{Trip}
 use Rattle.dta_model.specs.Sound.{AreWalks}
 use Rattle.trip_costs.specs.Timings.{Timing}
 use Rattle.trip_costs.proofs.Timed.{none_less_by}
-use Rattle.gap.specs.Gap.{AreLeasts, has_route, IsGapLine, IsLeastOf, over_vehicles, ppm_of, route_time, routed, steps_of}
+use Rattle.gap.specs.Gap.{AreLeasts, has_route, IsGapLine, IsLeastOf, routed}
+use Rattle.gap.specs.RouteTimes.{over_vehicles, ppm_of, route_time, steps_of}
 use Rattle.gap.specs.declared.line.GapLine.{GapLine}
 use Rattle.gap.specs.Told.{least_at, least_at_place, least_in}
 use Rattle.time_routes.specs.Destinations.{AreTold, LeastOf}

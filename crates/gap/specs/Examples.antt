@@ -1,6 +1,6 @@
 -- Parts per million of small gaps.
 use Rattle.std.specs.Prelude.{◌≡◌, refl}
-use Rattle.gap.specs.Gap.{ppm_of}
+use Rattle.gap.specs.RouteTimes.{ppm_of}
 use Rattle.gap.specs.declared.measure.TheConstants.{PER_MILLION}
 
 four_of_eighty_four : ppm_of 4 84 ≡ 47619

@@ -1,3 +1,4 @@
+pub mod RouteTimes
 pub mod Gap
 pub mod Told
 pub mod Timed

@@ -3,7 +3,7 @@ use Rattle.std.specs.Prelude.{◌≡◌, ℕ, ◌+◌, ◌*◌, ◌≤◌, ◌^�
 use Rattle.net_core.specs.declared.rows.LinkNo.{LinkNo}
 use Rattle.dta_model.specs.Sound.{AreWalks}
 use Rattle.trip_costs.specs.WalkCosts.{timing}
-use Rattle.gap.specs.Gap.{over_vehicles, route_time}
+use Rattle.gap.specs.RouteTimes.{over_vehicles, route_time}
 use Rattle.gap.specs.declared.timed_trips.TimedTrips.{TimedTrips}
 
 -- where a share begins, and the one before ends

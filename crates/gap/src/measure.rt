@@ -3,8 +3,8 @@ ghost use Rattle.std.specs.Prelude.{◌≡◌, ◌+◌, ◌<◌, ◌≤◌, ◌*
 ghost use Rattle.dta_model.specs.Sound.{AreTrips};
 ghost use Rattle.dta_model.specs.Sound.{AreWalks};
 ghost use Rattle.link_times.specs.TimeTables.{IsShort};
-ghost use Rattle.gap.specs.Gap.{IsGapLine, has_route, over_vehicles, ppm_of};
-ghost use Rattle.gap.specs.Gap.{steps_of};
+ghost use Rattle.gap.specs.Gap.{IsGapLine, has_route};
+ghost use Rattle.gap.specs.RouteTimes.{over_vehicles, ppm_of, steps_of};
 ghost use Rattle.gap.specs.Shares.{AreRoutes, steps_over};
 ghost use Rattle.gap.specs.Told.{asks_for, least_at, least_in};
 ghost use Rattle.net_core.specs.declared.rows.LinkNo.{LinkNo as LinkOf};

@@ -1,6 +1,6 @@
 // The steps of all routes, summed by shares of the vehicles side by side.
 ghost use Rattle.std.specs.Prelude.{◌≡◌, ℕ, ◌+◌, ◌*◌, ◌<◌, ◌≤◌, ◌^◌, length, min, sum, All, IfOk};
-ghost use Rattle.gap.specs.Gap.{over_vehicles};
+ghost use Rattle.gap.specs.RouteTimes.{over_vehicles};
 ghost use Rattle.gap.specs.Shares.{AreRoutes, IsPart, steps_over};
 ghost use Rattle.time_routes.specs.declared.shares.TheConstants.{MOST_SHARES};
 

@@ -7,7 +7,9 @@ use Rattle.net_core.specs.declared.rows.LinkNo.{LinkNo}
 use Rattle.net_core.specs.declared.rows.ZoneNo.{ZoneNo}
 use Rattle.dta_model.specs.Least.{HaveNoWalk}
 use Rattle.dta_model.specs.Plans.{link_numbers}
-use Rattle.trip_costs.specs.Timings.{CostTables, IsChosenBy, IsLeastBy, Timing}
+use Rattle.trip_costs.specs.Timings.{Timing}
+use Rattle.trip_costs.specs.Costs.{CostTables}
+use Rattle.trip_costs.specs.TripWalks.{IsChosenBy, IsLeastBy}
 use Rattle.labels.specs.Named.{zone_named}
 use Rattle.labels.specs.declared.reading.found.Walk.{Walk}
 

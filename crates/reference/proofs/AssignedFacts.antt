@@ -13,8 +13,9 @@ use Rattle.dta_words.specs.Ranges.{AreSettings}
 use Rattle.dta_words.specs.declared.command.Settings.{Settings}
 use Rattle.route_flows.proofs.Determined.{next_are_determined}
 use Rattle.route_flows.proofs.Numbered.{since_are_determined, started_are_determined}
-use Rattle.assignment.specs.Assignment.{AllIterations, AreIterations, Traffic, VehicleRoutes, costs_of, end_of, plan_of}
-use Rattle.assignment.specs.Iterations.{IsSoundLoading}
+use Rattle.assignment.specs.Assignment.{Traffic, VehicleRoutes, costs_of, end_of, plan_of}
+use Rattle.assignment.specs.Iterations.{AllIterations, AreIterations}
+use Rattle.assignment.specs.Traffic.{IsSoundLoading}
 use Rattle.assignment.specs.Traffic.{IsTraffic}
 use Rattle.assignment.proofs.AssignmentFacts.{sound-plan}
 use Rattle.assignment.proofs.Determined.{RouteLaws, all-routes, same-routes}

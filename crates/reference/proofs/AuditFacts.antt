@@ -11,7 +11,7 @@ use Rattle.dta_model.specs.LinkTimes.{table_of}
 use Rattle.dta_model.specs.Loading.{journeys_of}
 use Rattle.dta_words.specs.Ranges.{AreSettings}
 use Rattle.dta_words.specs.declared.command.Settings.{Settings}
-use Rattle.assignment.specs.Iterations.{IsSoundLoading}
+use Rattle.assignment.specs.Traffic.{IsSoundLoading}
 use Rattle.assignment.proofs.SoundFacts.{sound-loading}
 use Rattle.audit.specs.Audit.{all_journey_checks, all_time_checks, checks_of, loading_of, routes_named}
 use Rattle.audit.proofs.Verdicts.{yes_first}

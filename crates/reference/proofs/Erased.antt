@@ -13,7 +13,8 @@ use Rattle.net_core.specs.declared.rows.TurnRow.{TurnRow}
 use Rattle.dta_model.specs.TimedWalks.{arrival_after, penalty_steps, walk_time}
 use Rattle.dta_model.specs.Walks.{IsWalk}
 use Rattle.trip_costs.specs.Timings.{Links}
-use Rattle.reference.specs.Search.{AreTimesWithin, most_links}
+use Rattle.reference.specs.Search.{most_links}
+use Rattle.reference.specs.Searched.{AreTimesWithin}
 use Rattle.reference.proofs.Runs.{Runs, runs_walk, walk_runs}
 
 -- ---- walks that repeat no link

@@ -1,5 +1,6 @@
 -- The line of a gap by the chosen walks is the line of the gap.
-use Rattle.trip_costs.specs.Timings.{IsChosenBy, IsLeastBy, Links, Timing, Trips, walk_time_by}
+use Rattle.trip_costs.specs.Timings.{Links, Timing, Trips, walk_time_by}
+use Rattle.trip_costs.specs.TripWalks.{IsChosenBy, IsLeastBy}
 use Rattle.trip_costs.proofs.Timed.{none_less_by}
 use Rattle.std.proofs.Common.{◌≡◌, ℕ, ◌+◌, ◌-◌, ◌≤◌, List, length, refl, ap, sym, ◌∙◌, subst, arith, Option, None, Some}
 use Rattle.std.specs.Prelude.{slice_get}
@@ -10,12 +11,13 @@ use Rattle.dta_model.specs.Plans.{link_numbers}
 use Rattle.dta_model.specs.Sound.{AreWalks}
 use Rattle.dta_model.specs.Walks.{IsWalk}
 use Rattle.dta_model.specs.declared.trip.Trip.{Trip}
-use Rattle.gap.specs.Gap.{AreLeasts, IsGapLine, IsLeastOf, over_vehicles, route_time, steps_of}
+use Rattle.gap.specs.Gap.{AreLeasts, IsGapLine, IsLeastOf}
+use Rattle.gap.specs.RouteTimes.{over_vehicles, route_time, steps_of}
 use Rattle.gap.proofs.Sums.{over-le}
 use Rattle.time_routes.specs.Destinations.{WalkOf}
 use Rattle.reference.specs.Gaps.{gap_of, least_of, least_time}
 use Rattle.reference.specs.Routes.{chosen_route}
-use Rattle.reference.specs.Search.{AreCosts}
+use Rattle.reference.specs.Searched.{AreCosts}
 use Rattle.reference.proofs.StartFacts.{chosen}
 
 with-rest : (all least : ℕ) → least ≤ all → least + (all - least) ≡ all

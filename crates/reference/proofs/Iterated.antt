@@ -6,17 +6,19 @@ use Rattle.std.proofs.lemmas.List.FromFn.{get_or-map-range_with_len, length-map-
 use Rattle.std.proofs.lemmas.Option.{get_or_from_slice_get, slice_get-get_or, slice_get_within}
 use Rattle.net_core.specs.Network.{IsNet, numbers_below}
 use Rattle.gap.specs.Gap.{IsGapLine}
-use Rattle.route_flows.specs.Averages.{AreNextRoutes, AreStartedRoutes, free_time}
+use Rattle.route_flows.specs.Averages.{AreNextRoutes, AreStartedRoutes}
+use Rattle.route_flows.specs.Selection.{free_time}
 use Rattle.start_table.specs.Starts.{AreStartRows}
 use Rattle.route_flows.proofs.Averaged.{next_walk}
 use Rattle.route_flows.proofs.Started.{started_walk}
 use Rattle.dta_words.specs.Ranges.{AreSettings}
 use Rattle.dta_words.specs.declared.command.Settings.{Settings}
-use Rattle.assignment.specs.Assignment.{AreIterations, Traffic, VehicleRoutes, costs_of, plan_of}
+use Rattle.assignment.specs.Assignment.{Traffic, VehicleRoutes, costs_of, plan_of}
+use Rattle.assignment.specs.Iterations.{AreIterations}
 use Rattle.assignment.specs.Traffic.{AreRoutesOf, AreTripsBelow}
 use Rattle.assignment.proofs.AssignmentFacts.{sound-plan}
 use Rattle.reference.specs.Reference.{all_gaps, gap_at, routes_after, routes_at, routes_until}
-use Rattle.reference.specs.Search.{AreCosts}
+use Rattle.reference.specs.Searched.{AreCosts}
 use Rattle.reference.proofs.GapFacts.{gap-is}
 use Rattle.reference.proofs.LoadedTimes.{free-times, loaded-costs}
 use Rattle.reference.proofs.StartFacts.{first-are, next-are}

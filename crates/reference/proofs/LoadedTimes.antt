@@ -22,14 +22,14 @@ use Rattle.link_times.proofs.Links.{steps_at, steps_least, steps_most}
 use Rattle.link_times.proofs.Places.{bucket_inside, by_bucket-get}
 use Rattle.link_times.proofs.RoundedUp.{mean_least, mean_most}
 use Rattle.link_times.proofs.TravelTimes.{Lasts, Spaced, moves_are_spaced}
-use Rattle.route_flows.specs.Averages.{free_time}
+use Rattle.route_flows.specs.Selection.{free_time}
 use Rattle.trip_costs.specs.LoadingCosts.{costs_by, costs_over}
 use Rattle.trip_costs.specs.OriginWaits.{WaitTable, waits_of}
 use Rattle.trip_costs.specs.Timings.{Links}
 use Rattle.trip_costs.specs.declared.loading_costs.Costs.{Costs}
 use Rattle.trip_costs.specs.declared.loading_costs.Costs.TheVariants as kind
 use Rattle.trip_costs.proofs.Rising.{exits_ordered}
-use Rattle.reference.specs.Search.{AreCosts, AreTimesWithin}
+use Rattle.reference.specs.Searched.{AreCosts, AreTimesWithin}
 
 -- ---- free-flow steps
 abbrev pub InRange : ℕ → Type 0

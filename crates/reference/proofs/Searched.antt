@@ -9,7 +9,8 @@ use Rattle.dta_model.specs.TimedWalks.{walk_time}
 use Rattle.dta_model.specs.Walks.{IsWalk}
 use Rattle.trip_costs.specs.Timings.{Links, Timing, Trips}
 use Rattle.trip_costs.specs.TripCosts.{TravelCosts, time_by}
-use Rattle.reference.specs.Search.{AreCostsWithin, AreTimesWithin, Finds, NeverFalls, WalksAreFound, comes_before, comes_first, most_links, search_within, walks_between}
+use Rattle.reference.specs.Search.{comes_before, comes_first, most_links, search_within, walks_between}
+use Rattle.reference.specs.Searched.{AreCostsWithin, AreTimesWithin, Finds, NeverFalls, WalksAreFound}
 use Rattle.reference.proofs.Among.{Among}
 use Rattle.reference.proofs.Bests.{IsBest, before_first, before_time, best_is, fewer_first, numbers_first}
 use Rattle.reference.proofs.Erased.{as_long, short_walk}

@@ -17,11 +17,13 @@ use Rattle.labels.specs.ToZone.{TellsLeast}
 use Rattle.dta_words.specs.Ranges.{AreSettings}
 use Rattle.dta_words.specs.declared.command.Settings.{Settings}
 use Rattle.skims.specs.GivenTimes.{AreRowsOf, table_given}
-use Rattle.skims.specs.Skim.{IsEntryOf, IsSkim, Question, questions}
+use Rattle.skims.specs.Skim.{IsEntryOf, IsSkim}
+use Rattle.skims.specs.Questions.{Question, questions}
 use Rattle.skims.specs.declared.time_rows.TimeRow.{TimeRow}
 use Rattle.jobs.specs.Jobs.{IsJob, JobRows}
 use Rattle.commands.specs.Outputs.{AreSkimmed}
-use Rattle.reference.specs.Search.{AreTimesWithin, Finds, search_within}
+use Rattle.reference.specs.Search.{search_within}
+use Rattle.reference.specs.Searched.{AreTimesWithin, Finds}
 use Rattle.reference.specs.Skims.{entries_of, entry_of, most_steps}
 use Rattle.reference.proofs.Searched.{walks_are_found}
 

@@ -1,6 +1,7 @@
 -- The routes of a start table, the first routes, the next ones, and since when each is there.
 use Rattle.trip_costs.specs.LoadingCosts.{kind_of}
-use Rattle.trip_costs.specs.Timings.{IsChosenBy, Links, Timing}
+use Rattle.trip_costs.specs.Timings.{Links, Timing}
+use Rattle.trip_costs.specs.TripWalks.{IsChosenBy}
 use Rattle.trip_costs.specs.declared.loading_costs.Costs.{Costs}
 use Rattle.std.proofs.Common.{◌≡◌, ◌⊎◌, inl, inr, ℕ, zero, suc, ◌+◌, ◌<◌, ◌≤◌, Bool, true, false, cond, List, [], ◌∷◌, length, map, refl, ap, sym, ◌∙◌, subst, arith, Option, None, Some}
 use Rattle.std.specs.Prelude.{if◌then◌else◌, nat_eq, nat_lt, option_map, slice_get, ◌&&◌}
@@ -19,15 +20,17 @@ use Rattle.net_core.specs.declared.rows.NetRows.{NetRows}
 use Rattle.dta_model.specs.Plans.{link_numbers}
 use Rattle.dta_model.specs.declared.loading.TheConstants.{MOST_HORIZON}
 use Rattle.dta_model.specs.declared.trip.Trip.{Trip}
-use Rattle.route_flows.specs.Averages.{AreNextRoutes, AreSince, AreStartedRoutes, IsSince, StartsOn, free_time, renews}
-use Rattle.route_flows.specs.Starting.{IsNumbered, TellsRenewal, or_other}
+use Rattle.route_flows.specs.Averages.{AreNextRoutes, AreSince, AreStartedRoutes, IsSince, StartsOn}
+use Rattle.route_flows.specs.Selection.{free_time, renews, or_other}
+use Rattle.route_flows.specs.Starting.{IsNumbered, TellsRenewal}
 use Rattle.start_table.specs.Starts.{AreNamed, AreStartRows, TellsFit, TellsStart, TellsWalk, row_of}
 use Rattle.start_table.specs.declared.rows.StartRow.{StartRow}
 use Rattle.start_table.proofs.Named.{no_row_tells, row_found, row_tells}
 use Rattle.route_flows.proofs.Numbered.{numbered_since}
 use Rattle.time_routes.specs.Destinations.{WalkOf}
 use Rattle.reference.specs.Routes.{all_since, chosen_route, first_and, first_route, first_routes, if_walk, is_walk, last_renewal, links_named, next_route, next_routes, number_of, since, started_route, walk_in, walk_named}
-use Rattle.reference.specs.Search.{AreCosts, Finds, search}
+use Rattle.reference.specs.Search.{search}
+use Rattle.reference.specs.Searched.{AreCosts, Finds}
 use Rattle.reference.proofs.IsWalks.{tests-walks, walks-tested}
 use Rattle.reference.proofs.Searched.{walks_are_found}
 

@@ -10,7 +10,7 @@ use Rattle.dta_model.specs.Walks.{IsWalk}
 use Rattle.trip_costs.specs.TripCosts.{TravelCosts, time_by}
 use Rattle.trip_costs.proofs.Later.{straight_is_earlier}
 use Rattle.trip_costs.proofs.Rounds.{straight_walks}
-use Rattle.reference.specs.Search.{NeverFalls}
+use Rattle.reference.specs.Searched.{NeverFalls}
 use Rattle.reference.proofs.Erased.{has_not}
 
 -- ---- links that stand twice

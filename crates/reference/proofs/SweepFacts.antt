@@ -12,7 +12,8 @@ use Rattle.dta_words.specs.Ranges.{AreSettings}
 use Rattle.dta_words.specs.declared.command.Settings.{Settings}
 use Rattle.scaled_demand.specs.Scales.{AreAllWithin, scaled}
 use Rattle.scaled_demand.proofs.LimitFacts.{scaled_windows}
-use Rattle.sweep.specs.Scenarios.{AreScenarios, IsScenario, traffic_at}
+use Rattle.sweep.specs.Scenarios.{AreScenarios, IsScenario}
+use Rattle.sweep.specs.Texts.{traffic_at}
 use Rattle.assignment.specs.Traffic.{AreTripsBelow, IsTraffic}
 use Rattle.jobs.specs.Jobs.{IsJob, IsSweepJob, JobRows}
 use Rattle.commands.specs.Outputs.{AreSwept}

@@ -16,7 +16,7 @@ use Rattle.dta_model.specs.declared.trip.Trip.{Trip}
 use Rattle.trip_costs.specs.Timings.{Links, Trips}
 use Rattle.trip_costs.specs.TripCosts.{by_links}
 use Rattle.trip_costs.specs.declared.loading_costs.Costs.TheVariants as costs
-use Rattle.route_flows.specs.Averages.{free_time}
+use Rattle.route_flows.specs.Selection.{free_time}
 use Rattle.dta_words.specs.Examples.{defaults}
 use Rattle.dta_words.specs.declared.command.Command.{Command}
 use Rattle.dta_words.specs.declared.command.Command.TheVariants as command

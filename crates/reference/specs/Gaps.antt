@@ -4,7 +4,7 @@ use Rattle.net_core.specs.declared.rows.LinkNo.{LinkNo}
 use Rattle.net_core.specs.declared.rows.NetRows.{NetRows}
 use Rattle.dta_model.specs.declared.trip.Trip.{Trip}
 use Rattle.trip_costs.specs.Timings.{Timing}
-use Rattle.gap.specs.Gap.{over_vehicles, ppm_of, route_time, steps_of}
+use Rattle.gap.specs.RouteTimes.{over_vehicles, ppm_of, route_time, steps_of}
 use Rattle.gap.specs.declared.line.GapLine.{GapLine}
 use Rattle.reference.specs.Routes.{chosen_route}
 

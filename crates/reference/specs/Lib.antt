@@ -1,4 +1,5 @@
 pub mod Search
+pub mod Searched
 pub mod Routes
 pub mod Gaps
 pub mod Reference

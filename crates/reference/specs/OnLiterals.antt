@@ -24,7 +24,7 @@ use Rattle.reports.specs.Texts.{free_link_time_header, free_link_time_text, free
 use Rattle.reports.specs.Texts.{gap_header, gap_line, gap_text, last_gap_lines, link_lines}
 use Rattle.reports.specs.Texts.{link_time_header, link_time_text, report_text, trip_columns}
 use Rattle.reports.specs.Texts.{vehicles, watch_line, way_columns}
-use Rattle.route_flows.specs.Averages.{free_time}
+use Rattle.route_flows.specs.Selection.{free_time}
 use Rattle.skims.specs.Texts.{entry_line, skim_header, skim_report_lines, skim_text}
 use Rattle.sweep.specs.Texts.{scenario_line, scenario_text, sweep_report_line, sweep_text}
 use Rattle.sweep.specs.Texts.{tables_of}

@@ -14,8 +14,7 @@ use Rattle.dta_model.specs.declared.trip.Trip.{Trip}
 use Rattle.trip_costs.specs.LoadingCosts.{kind_of}
 use Rattle.trip_costs.specs.Timings.{Links, Timing}
 use Rattle.trip_costs.specs.declared.loading_costs.Costs.{Costs}
-use Rattle.route_flows.specs.Averages.{free_time, renews}
-use Rattle.route_flows.specs.Starting.{first_number, or_other}
+use Rattle.route_flows.specs.Selection.{first_number, free_time, or_other, renews}
 use Rattle.start_table.specs.Starts.{row_of}
 use Rattle.start_table.specs.declared.rows.StartRow.{StartRow}
 use Rattle.reference.specs.Search.{search}

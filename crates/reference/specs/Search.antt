@@ -1,18 +1,16 @@
 -- The chosen walk between two zones, found among the walks of a bounded number of links.
-use Rattle.std.specs.Prelude.{ℕ, zero, suc, ◌+◌, ◌*◌, ◌<◌, ◌≤◌, ◌&&◌, ◌||◌, Bool, cond, nat_eq}
-use Rattle.std.specs.Prelude.{nat_lt}
+use Rattle.std.specs.Prelude.{ℕ, zero, suc, ◌+◌, ◌*◌, ◌&&◌, ◌||◌, Bool, cond, nat_eq, nat_lt}
 use Rattle.std.specs.Prelude.{List, [], ◌∷◌, filter, length, map, Option, None, Some}
 use Rattle.std.specs.Cmp.Lexicographic.{slice_cmp}
 use Rattle.std.specs.List.{flat_map}
 use Rattle.std.specs.Option.{is_some}
 use Rattle.std.specs.Ordering.{is_le, nat_cmp}
-use Rattle.net_core.specs.Network.{IsNet, numbers_below, turn}
+use Rattle.net_core.specs.Network.{numbers_below, turn}
 use Rattle.net_core.specs.declared.rows.NetRows.{NetRows}
 use Rattle.fixed_units.specs.declared.turn.TheConstants.{MOST_PENALTY_STEPS}
-use Rattle.dta_model.specs.Least.{HaveNoWalk}
 use Rattle.dta_model.specs.Walks.{begins_in, ends_in}
 use Rattle.dta_model.specs.declared.loading.TheConstants.{MOST_HORIZON}
-use Rattle.trip_costs.specs.Timings.{IsChosenBy, Links, Timing, Trips, walk_time_by}
+use Rattle.trip_costs.specs.Timings.{Links, Timing, Trips, walk_time_by}
 
 -- the links of a network
 abbrev pub all_links : NetRows → List ℕ
@@ -78,35 +76,3 @@ search_within most costs net origin destination start =
 abbrev pub search : Timing → NetRows → (origin destination start : ℕ) → Option (List ℕ)
 search costs net origin destination start =
     search_within MOST_HORIZON costs net origin destination start
-
--- link times as tables have them: each link takes a step at least, and not more than these
-pub record AreTimesWithin (most : ℕ) (at : ℕ → ℕ → ℕ) (net : NetRows) : Type 0 where
-  pub least : (l step : ℕ) → l < length net.links → 1 ≤ at l step
-  pub no_more : (l step : ℕ) → l < length net.links → at l step ≤ most
-
--- who enters a link later doesn't leave it earlier
-abbrev pub NeverFalls : (ℕ → ℕ → ℕ) → Type 0
-NeverFalls at = (l r s : ℕ) → r ≤ s → r + at l r ≤ s + at l s
-
--- costs over which the search finds chosen walks: such link times, or trips on links that are left
--- in the order of entry
-abbrev pub AreCostsWithin : (most : ℕ) → Timing → NetRows → Type 0
-AreCostsWithin most (Links at) net = AreTimesWithin most at net
-AreCostsWithin most (Trips costs) net = NeverFalls costs.at
-
-abbrev pub AreCosts : Timing → NetRows → Type 0
-AreCosts costs net = AreCostsWithin MOST_HORIZON costs net
-
--- what a search tells: the chosen walk, or that there is no walk
-abbrev pub Finds :
-    Timing → NetRows → (origin destination start : ℕ) → Option (List ℕ) → Type 0
-Finds costs net origin destination start None = HaveNoWalk net origin destination
-Finds costs net origin destination start (Some walk) =
-    IsChosenBy costs net origin destination start walk
-
-abbrev pub WalksAreFound : Type 0
-WalksAreFound =
-    (most : ℕ) (costs : Timing) (net : NetRows) → IsNet net → AreCostsWithin most costs net
-    → (origin destination start : ℕ)
-    → Finds costs net origin destination start
-    (search_within most costs net origin destination start)

@@ -9,7 +9,7 @@ use Rattle.dta_model.specs.declared.loading.TheConstants.{MOST_HORIZON}
 use Rattle.trip_costs.specs.Timings.{Links}
 use Rattle.dta_words.specs.declared.command.Settings.{Settings}
 use Rattle.skims.specs.GivenTimes.{table_given}
-use Rattle.skims.specs.Skim.{Question, questions}
+use Rattle.skims.specs.Questions.{Question, questions}
 use Rattle.skims.specs.declared.skim_entry.SkimEntry.{SkimEntry}
 use Rattle.skims.specs.declared.time_rows.TimeRow.{TimeRow}
 use Rattle.jobs.specs.Jobs.{JobRows}

@@ -5,7 +5,7 @@ use Rattle.reports.specs.Texts.{agent_text, gap_text, link_time_text, report_tex
 use Rattle.dta_words.specs.declared.command.Settings.{Settings}
 use Rattle.assignment.specs.Assignment.{Traffic, VehicleRoutes, plan_of, summary_of, times_of}
 use Rattle.assignment.specs.Assignment.{waits_told}
-use Rattle.sweep.specs.Scenarios.{traffic_at, wait_text}
+use Rattle.sweep.specs.Texts.{traffic_at, wait_text}
 use Rattle.sweep.specs.declared.scenario.Scenario.{Scenario}
 use Rattle.jobs.specs.Jobs.{JobRows}
 use Rattle.reference.specs.Reference.{all_gaps, gap_at, routes_at}

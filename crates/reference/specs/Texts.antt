@@ -5,10 +5,10 @@ use Rattle.skims.specs.Texts.{skim_texts}
 use Rattle.reports.specs.Texts.{free_texts}
 use Rattle.pending_text.specs.Outs.{OutText}
 use Rattle.audit.specs.Audit.{loading_of}
-use Rattle.sweep.specs.Scenarios.{traffic_at}
+use Rattle.sweep.specs.Texts.{traffic_at}
 use Rattle.dta_words.specs.declared.command.Settings.{Settings}
 use Rattle.assignment.specs.Assignment.{Traffic, plan_of}
-use Rattle.assignment.specs.Iterations.{IsSoundLoading}
+use Rattle.assignment.specs.Traffic.{IsSoundLoading}
 use Rattle.jobs.specs.Inputs.{Assigning, Auditing, FreeFlow, Kind, Skimming, Sweeping, kind_of}
 use Rattle.jobs.specs.Jobs.{JobRows, traffic_of}
 use Rattle.commands.specs.Outputs.{AreWatchTexts}

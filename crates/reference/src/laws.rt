@@ -1,6 +1,6 @@
 // Laws of the reference. Each is the contract of a function that does nothing.
 ghost use Rattle.reference.specs.Laws.{EachJobHasItsTexts};
-ghost use Rattle.reference.specs.Search.{WalksAreFound};
+ghost use Rattle.reference.specs.Searched.{WalksAreFound};
 
 /// The search finds the chosen walk between two zones, from every start, exactly where there is a
 /// walk: over every table of link times, and by whole trips over links that nobody leaves earlier

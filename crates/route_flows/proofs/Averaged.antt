@@ -17,7 +17,8 @@ use Rattle.route_flows.specs.Asked.{AreAsked, Renews}
 use Rattle.trip_costs.specs.Timings.{Timing}
 use Rattle.trip_costs.proofs.Timed.{walks_by}
 use Rattle.trip_costs.specs.LoadingCosts.{kind_of}
-use Rattle.route_flows.specs.Averages.{AreChosenRoutes, AreNextRoutes, renews}
+use Rattle.route_flows.specs.Averages.{AreChosenRoutes, AreNextRoutes}
+use Rattle.route_flows.specs.Selection.{renews}
 
 -- ---- lists by place
 push_before : {X : Type 0} (xs : List X) (x : X) (v : ℕ) → v < length xs → slice_get (xs ++ x ∷ []) v ≡ slice_get xs v

@@ -13,12 +13,12 @@ use Rattle.dta_model.specs.Plans.{link_numbers}
 use Rattle.dta_model.specs.TimedWalks.{walk_time}
 use Rattle.dta_model.specs.declared.trip.Trip.{Trip}
 use Rattle.time_routes.specs.Destinations.{WalkOf}
-use Rattle.trip_costs.specs.Timings.{IsChosenBy, Links, Timing, Trips}
+use Rattle.trip_costs.specs.Timings.{Links, Timing, Trips}
+use Rattle.trip_costs.specs.TripWalks.{IsChosenBy, IsChosenTrip}
 use Rattle.trip_costs.specs.TripCosts.{TravelCosts, time_by}
-use Rattle.trip_costs.specs.TripWalks.{IsChosenTrip}
 use Rattle.trip_costs.proofs.Timed.{walks_by}
 use Rattle.trip_costs.specs.LoadingCosts.{kind_of}
-use Rattle.route_flows.specs.Averages.{renews}
+use Rattle.route_flows.specs.Selection.{renews}
 use Rattle.route_flows.specs.Laws.{ChosenAreDetermined, NextAreDetermined}
 use Rattle.labels.proofs.Basics.{some_same}
 

@@ -18,7 +18,8 @@ use Rattle.link_times.proofs.Places.{bucket_inside, by_bucket-get, by_bucket-lon
 use Rattle.time_routes.specs.Destinations.{AreTold, asks_walk, WalkOf}
 use Rattle.time_routes.specs.declared.vehicles.Ask.{Ask}
 use Rattle.trip_costs.specs.Timings.{Links}
-use Rattle.route_flows.specs.Averages.{AreChosenRoutes, AreFirstRoutes, AreStartedBy, AreStartedRoutes, free_time, StartsOn}
+use Rattle.route_flows.specs.Averages.{AreChosenRoutes, AreFirstRoutes, AreStartedBy, AreStartedRoutes, StartsOn}
+use Rattle.route_flows.specs.Selection.{free_time}
 use Rattle.route_flows.specs.Starting.{asks_for_rest, FillsIn}
 use Rattle.start_table.specs.Starts.{IsStarted, TellsStart}
 use Rattle.start_table.specs.declared.rows.StartRow.{StartRow}

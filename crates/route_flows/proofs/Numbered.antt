@@ -7,7 +7,8 @@ use Rattle.net_core.specs.declared.rows.NetRows.{NetRows}
 use Rattle.dta_model.specs.declared.trip.Trip.{Trip}
 use Rattle.trip_costs.specs.Timings.{Timing}
 use Rattle.trip_costs.specs.declared.loading_costs.Costs.{Costs}
-use Rattle.route_flows.specs.Averages.{IsFirstNumber, IsLastRenewal, IsSince, renews, StartsOn}
+use Rattle.route_flows.specs.Averages.{IsFirstNumber, IsLastRenewal, IsSince, StartsOn}
+use Rattle.route_flows.specs.Selection.{renews}
 use Rattle.route_flows.specs.Laws.{SinceAreDetermined, StartedAreDetermined}
 use Rattle.route_flows.specs.Starting.{IsNumbered}
 use Rattle.start_table.specs.Starts.{AreNamed, AreStartRows, IsStarted, TellsStart}

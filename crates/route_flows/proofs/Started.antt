@@ -15,7 +15,8 @@ use Rattle.time_routes.specs.declared.vehicles.Ask.{Ask}
 use Rattle.trip_costs.specs.Timings.{Timing}
 use Rattle.trip_costs.proofs.Timed.{walks_by}
 use Rattle.route_flows.specs.Averages.{AreStartedBy, StartsOn}
-use Rattle.route_flows.specs.Starting.{asks_for_rest, FillsIn, or_other}
+use Rattle.route_flows.specs.Starting.{asks_for_rest, FillsIn}
+use Rattle.route_flows.specs.Selection.{or_other}
 use Rattle.start_table.specs.Starts.{TellsStart}
 use Rattle.start_table.specs.declared.rows.StartRow.{StartRow}
 

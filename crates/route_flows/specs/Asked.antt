@@ -5,7 +5,7 @@ use Rattle.net_core.specs.declared.rows.LinkNo.{LinkNo}
 use Rattle.gap.specs.Gap.{has_route}
 use Rattle.trip_costs.specs.LoadingCosts.{kind_of}
 use Rattle.trip_costs.specs.WalkCosts.{timing}
-use Rattle.route_flows.specs.Averages.{renews}
+use Rattle.route_flows.specs.Selection.{renews}
 use Rattle.route_flows.specs.declared.change.Change.{Change}
 use Rattle.time_routes.specs.declared.vehicles.Ask.{Ask}
 

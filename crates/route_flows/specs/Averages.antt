@@ -1,27 +1,16 @@
 -- Routes by successive averages.
-use Rattle.std.specs.Prelude.{◌≡◌, ◌⊎◌, ℕ, ◌+◌, ◌*◌, ◌/◌, ◌%◌, ◌<◌, ◌≤◌, nat_eq, Bool, true, false}
-use Rattle.std.specs.Prelude.{List, length, Option, Some, slice_get, slice_index}
+use Rattle.std.specs.Prelude.{◌≡◌, ◌⊎◌, ℕ, ◌+◌, ◌<◌, ◌≤◌, true, false, List, length, Option, Some}
+use Rattle.std.specs.Prelude.{slice_get}
 use Rattle.net_core.specs.declared.rows.LinkNo.{LinkNo}
 use Rattle.net_core.specs.declared.rows.NetRows.{NetRows}
-use Rattle.dta_model.specs.LinkTimes.{free_steps}
 use Rattle.dta_model.specs.declared.trip.Trip.{Trip}
-use Rattle.trip_costs.specs.Changes.{changes_after}
 use Rattle.trip_costs.specs.LoadingCosts.{kind_of}
 use Rattle.trip_costs.specs.Timings.{Links, Timing}
 use Rattle.trip_costs.specs.declared.loading_costs.Costs.{Costs}
-use Rattle.trip_costs.specs.declared.loading_costs.Costs.TheVariants as by
 use Rattle.time_routes.specs.Destinations.{WalkOf}
 use Rattle.start_table.specs.Starts.{HasNoStart, IsStarted}
 use Rattle.start_table.specs.declared.rows.StartRow.{StartRow}
-
--- whether a vehicle takes a new route after iteration k: it is one in k + 1 of all vehicles, and
--- each iteration begins to count at another one
-abbrev pub is_selected : ℕ → ℕ → Bool
-is_selected vehicle k = nat_eq ((vehicle + k * k / 4) % (k + 1)) 0
-
--- each link takes its free-flow steps, whenever it is entered
-unfoldable pub free_time : NetRows → ℕ → ℕ → ℕ
-free_time net l step = slice_index (free_steps net) l
+use Rattle.route_flows.specs.Selection.{free_time, renews}
 
 -- each vehicle has the chosen walk from its departure, and no route exactly where there is no walk
 pub record AreChosenRoutes (costs : Timing) (net : NetRows) (trips : List Trip)
@@ -53,11 +42,6 @@ abbrev pub AreStartedRoutes : NetRows → List StartRow → List Trip → List (
     → Type 0
 AreStartedRoutes net start trips routes =
     AreStartedBy (Links (free_time net)) net start trips routes
-
--- whether a vehicle takes its chosen walk after iteration k, by either costs
-abbrev pub renews : Costs → ℕ → ℕ → Bool
-renews by.Links k vehicle = is_selected vehicle k
-renews by.Trips k vehicle = changes_after vehicle k
 
 -- the routes of the iteration after k: the vehicles that are selected have their chosen walks by
 -- the costs of iteration k, and the others keep what they had

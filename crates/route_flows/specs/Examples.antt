@@ -1,7 +1,7 @@
 -- Who is selected, and the numbers of the limits.
 use Rattle.std.specs.Prelude.{◌≡◌, [], ◌∷◌, true, false, map, refl}
 use Rattle.net_core.specs.Network.{numbers_below}
-use Rattle.route_flows.specs.Averages.{is_selected}
+use Rattle.route_flows.specs.Selection.{is_selected}
 use Rattle.route_flows.specs.declared.selection.TheConstants.{MOST_ITERATION}
 use Rattle.route_flows.specs.declared.flows.TheConstants.{MOST_WORKERS}
 

@@ -1,3 +1,4 @@
+pub mod Selection
 pub mod Starting
 pub mod Averages
 pub mod Asked

@@ -5,15 +5,11 @@ use Rattle.net_core.specs.declared.rows.LinkNo.{LinkNo}
 use Rattle.time_routes.specs.declared.vehicles.Ask.{Ask}
 use Rattle.trip_costs.specs.declared.loading_costs.Costs.{Costs}
 use Rattle.route_flows.specs.Averages.{IsLastRenewal, KeepsFirst}
+use Rattle.route_flows.specs.Selection.{first_number, or_other}
 
 -- the walks of vehicles that have no other are asked for
 abbrev pub asks_for_rest : List (Option (List LinkNo)) → List Ask
 asks_for_rest walks = map (λ walk. record { least = false; walk = is_none walk }) walks
-
--- the walk that is there, or else another one
-abbrev pub or_other : Option (List LinkNo) → Option (List LinkNo) → Option (List LinkNo)
-or_other None other = other
-or_other (Some walk) other = Some walk
 
 -- those that have no walk have others
 pub record FillsIn (others old new : List (Option (List LinkNo))) : Type 0 where
@@ -25,11 +21,6 @@ pub record FillsIn (others old new : List (Option (List LinkNo))) : Type 0 where
 abbrev pub TellsRenewal : Costs → ℕ → ℕ → Option ℕ → Type 0
 TellsRenewal by v iterations None = KeepsFirst by v iterations
 TellsRenewal by v iterations (Some k) = IsLastRenewal by v iterations k
-
--- the number of a first route, by the walk of a row that fits
-abbrev pub first_number : Option (List LinkNo) → ℕ
-first_number None = 1
-first_number (Some walk) = 0
 
 -- the iteration of a vehicle's last new route, or the number of its first one
 abbrev pub IsNumbered : Costs → ℕ → ℕ → Option (List LinkNo) → ℕ → Type 0

@@ -3,7 +3,7 @@ ghost use Rattle.std.specs.Prelude.{◌≡◌, ◌≤◌, ◌&&◌, is_some, len
 ghost use Rattle.dta_model.specs.declared.trip.TheConstants.{MOST_TRIPS};
 ghost use Rattle.route_flows.specs.Asked.{AreAsked, takes as takes_of};
 ghost use Rattle.route_flows.specs.Starting.{asks_for_rest};
-ghost use Rattle.route_flows.specs.Averages.{is_selected as selected_of, renews as renews_of};
+ghost use Rattle.route_flows.specs.Selection.{is_selected as selected_of, renews as renews_of};
 
 use crate::change::Change;
 use dta_model::Route;

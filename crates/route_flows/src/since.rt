@@ -3,7 +3,7 @@ ghost use Rattle.std.specs.Prelude.{◌≡◌, ◌≤◌, IfOk};
 ghost use Rattle.dta_model.specs.Sound.{AreTrips};
 ghost use Rattle.route_flows.specs.Averages.{AreSince};
 ghost use Rattle.route_flows.specs.Starting.{IsNumbered, TellsRenewal};
-ghost use Rattle.route_flows.specs.Starting.{first_number as first_number_of};
+ghost use Rattle.route_flows.specs.Selection.{first_number as first_number_of};
 ghost use Rattle.route_flows.specs.declared.selection.TheConstants.{MOST_ITERATION};
 
 use crate::selection::renews;

@@ -7,7 +7,8 @@ use Rattle.net_core.specs.declared.rows.NetRows.{NetRows}
 use Rattle.dta_model.specs.Least.{IsLeast}
 use Rattle.labels.specs.ToZone.{TellsLeast}
 use Rattle.skims.specs.Laws.{SkimsAreDetermined}
-use Rattle.skims.specs.Skim.{Question, questions, IsEntryOf}
+use Rattle.skims.specs.Skim.{IsEntryOf}
+use Rattle.skims.specs.Questions.{Question, questions}
 use Rattle.skims.specs.declared.skim_entry.SkimEntry.{SkimEntry}
 
 zip-same : {A B : Type 0} (R : A → B → Type 0) (one : (x : A) (y z : B) → R x y → R x z → y ≡ z)

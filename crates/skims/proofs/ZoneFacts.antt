@@ -9,7 +9,7 @@ use Rattle.net_core.specs.Network.{noted}
 use Rattle.net_core.specs.declared.rows.NodeRow.{NodeRow}
 use Rattle.net_core.specs.declared.rows.ZoneNo.{ZoneNo}
 use Rattle.net_core.proofs.Numbers.{numbers_grow}
-use Rattle.trip_costs.specs.Timings.{CostTables}
+use Rattle.trip_costs.specs.Costs.{CostTables}
 use Rattle.net_core.specs.declared.rows.NetRows.{NetRows}
 use Rattle.labels.specs.ToZone.{zone_numbers, ToZones}
 

@@ -17,7 +17,7 @@ use Rattle.dta_model.specs.LinkTimes.{time_at}
 use Rattle.dta_model.specs.TimedWalks.{arrival_after, walk_time}
 use Rattle.skims.specs.GivenTimes.{table_given}
 use Rattle.skims.specs.OnLiterals.{times_on_literals}
-use Rattle.skims.specs.Skim.{Question, questions}
+use Rattle.skims.specs.Questions.{Question, questions}
 use Rattle.skims.specs.Texts.{entry_line, skim_header, skim_report_lines, skim_report_text}
 use Rattle.skims.specs.Texts.{skim_text}
 use Rattle.skims.specs.TimesTable.{times_verdict, wanted_after}

@@ -1,3 +1,4 @@
+pub mod Questions
 pub mod Skim
 pub mod GivenTimes
 pub mod TimesTable

@@ -3,7 +3,8 @@ ghost use Rattle.std.specs.Prelude.{◌≡◌, ◌<◌, length, slice_index, IfO
 ghost use Rattle.net_core.specs.Network.{zones as zones_of};
 ghost use Rattle.dta_model.specs.LinkTimes.{time_at};
 ghost use Rattle.skims.specs.Growing.{Adds};
-ghost use Rattle.skims.specs.Skim.{questions_between, questions_from, IsEntryOf};
+ghost use Rattle.skims.specs.Skim.{IsEntryOf};
+ghost use Rattle.skims.specs.Questions.{questions_between, questions_from};
 ghost use Rattle.skims.specs.Skim.{IsSkim};
 
 use crate::leasts::LeastTimes;

@@ -7,7 +7,8 @@ ghost use Rattle.dta_model.specs.LinkTimes.{time_at};
 ghost use Rattle.skims.specs.Leasts.{AreBetween, AreFrom, AreTo};
 ghost use Rattle.labels.specs.Named.{zone_named};
 ghost use Rattle.labels.specs.ToZone.{destination, zone_numbers, TellsLeast};
-ghost use Rattle.trip_costs.specs.Timings.{Links, timing_of};
+ghost use Rattle.trip_costs.specs.Timings.{Links};
+ghost use Rattle.trip_costs.specs.Costs.{timing_of};
 
 use labels::{GroupLabels, MOST_GROUP};
 use link_times::LinkTimes;

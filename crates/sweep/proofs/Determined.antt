@@ -12,10 +12,12 @@ use Rattle.gap.specs.declared.line.GapLine.{GapLine}
 use Rattle.reports.specs.Texts.{agent_text, gap_text, link_time_text, report_text}
 use Rattle.reports.specs.declared.summary.Summary.{Summary}
 use Rattle.dta_words.specs.declared.command.Settings.{Settings}
-use Rattle.assignment.specs.Assignment.{AllIterations, Traffic, VehicleRoutes, costs_of, plan_of, summary_of, times_of, told_where, unrouted, waits_of, waits_told}
+use Rattle.assignment.specs.Assignment.{Traffic, VehicleRoutes, costs_of, plan_of, summary_of, times_of, told_where, unrouted, waits_of, waits_told}
+use Rattle.assignment.specs.Iterations.{AllIterations}
 use Rattle.assignment.proofs.Determined.{RouteLaws, all-by-same, all-last, all-line, all-lines}
 use Rattle.sweep.specs.Laws.{Agree, ScenariosStandAlone}
-use Rattle.sweep.specs.Scenarios.{HasTexts, traffic_at, wait_text}
+use Rattle.sweep.specs.Scenarios.{HasTexts}
+use Rattle.sweep.specs.Texts.{traffic_at, wait_text}
 use Rattle.sweep.specs.declared.scenario.Scenario.{Scenario}
 
 -- the numbers of a report by the state after the last step

@@ -18,7 +18,8 @@ use Rattle.assignment.specs.Progress.{IsAssigned}
 use Rattle.assignment.specs.declared.iterations.Assigned.{Assigned}
 use Rattle.assignment.proofs.AssignmentFacts.{all-of}
 use Rattle.scaled_demand.specs.Scales.{trips_at}
-use Rattle.sweep.specs.Scenarios.{HasTexts, IsScenario, wait_text}
+use Rattle.sweep.specs.Scenarios.{HasTexts, IsScenario}
+use Rattle.sweep.specs.Texts.{wait_text}
 use Rattle.sweep.specs.declared.scenario.Scenario.{Scenario}
 
 -- the texts of an assignment

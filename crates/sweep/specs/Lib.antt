@@ -1,5 +1,5 @@
-pub mod Scenarios
 pub mod Texts
+pub mod Scenarios
 pub mod Rounds
 pub mod Laws
 pub mod Examples

@@ -1,26 +1,16 @@
 -- The scenarios of a sweep: the assignment for each multiple of the demand.
-use Rattle.std.specs.Prelude.{ℕ, ◌≡◌, List, [], Option, None, Some}
+use Rattle.std.specs.Prelude.{ℕ, ◌≡◌, List}
 use Rattle.std.specs.List.{AllZip}
 use Rattle.net_core.specs.declared.rows.NetRows.{NetRows}
 use Rattle.dta_model.specs.Loading.{journeys_of}
 use Rattle.dta_model.specs.declared.trip.DemandCell.{DemandCell}
-use Rattle.trip_costs.specs.OriginWaits.{WaitTable}
-use Rattle.reports.specs.Texts.{agent_text, gap_text, link_time_text, origin_wait_text}
-use Rattle.reports.specs.Texts.{report_text}
+use Rattle.reports.specs.Texts.{agent_text, gap_text, link_time_text, report_text}
 use Rattle.dta_words.specs.declared.command.Settings.{Settings}
-use Rattle.assignment.specs.Assignment.{AllIterations, Traffic, costs_of, plan_of, summary_of}
+use Rattle.assignment.specs.Assignment.{Traffic, costs_of, plan_of, summary_of}
+use Rattle.assignment.specs.Iterations.{AllIterations}
 use Rattle.assignment.specs.Assignment.{times_of, waits_told}
-use Rattle.scaled_demand.specs.Scales.{trips_at}
+use Rattle.sweep.specs.Texts.{traffic_at, wait_text}
 use Rattle.sweep.specs.declared.scenario.Scenario.{Scenario}
-
--- the traffic of a scenario: the trips of the demand times its scale, without a start table
-abbrev pub traffic_at : NetRows → List DemandCell → ℕ → Traffic
-traffic_at net cells scale = record { net = net; trips = trips_at scale cells; start = [] }
-
--- the text of the waits at origins, where these are told
-abbrev pub wait_text : NetRows → Option WaitTable → List ℕ
-wait_text net None = []
-wait_text net (Some waits) = origin_wait_text net waits
 
 -- the texts of an assignment of this traffic, as `assign` puts them
 pub record HasTexts (s : Settings) (traffic : Traffic) (it : Scenario) : Type 0 where

@@ -1,9 +1,24 @@
--- The texts of a sweep, as functions of what they tell.
-use Rattle.std.specs.Prelude.{ℕ, List, [], ◌∷◌, ◌++◌, length, codes, decimal}
+-- The traffic of a scenario, and the texts of a sweep as functions of what they tell.
+use Rattle.std.specs.Prelude.{ℕ, List, [], ◌∷◌, ◌++◌, length, Option, None, Some, codes, decimal}
 use Rattle.std.specs.List.{enumerate_from, flat_map}
 use Rattle.desk_io.specs.declared.desk.Output.TheVariants as output
 use Rattle.pending_text.specs.Outs.{OutText, text_to}
+use Rattle.net_core.specs.declared.rows.NetRows.{NetRows}
+use Rattle.dta_model.specs.declared.trip.DemandCell.{DemandCell}
+use Rattle.trip_costs.specs.OriginWaits.{WaitTable}
+use Rattle.reports.specs.Texts.{origin_wait_text}
+use Rattle.assignment.specs.Assignment.{Traffic}
+use Rattle.scaled_demand.specs.Scales.{trips_at}
 use Rattle.sweep.specs.declared.scenario.Scenario.{Scenario}
+
+-- the traffic of a scenario: the trips of the demand times its scale, without a start table
+abbrev pub traffic_at : NetRows → List DemandCell → ℕ → Traffic
+traffic_at net cells scale = record { net = net; trips = trips_at scale cells; start = [] }
+
+-- the text of the waits at origins, where these are told
+abbrev pub wait_text : NetRows → Option WaitTable → List ℕ
+wait_text net None = []
+wait_text net (Some waits) = origin_wait_text net waits
 
 -- the line before a scenario's texts: its place and its scale in thousandths
 unfoldable pub scenario_line : ℕ → ℕ → List ℕ

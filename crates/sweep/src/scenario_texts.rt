@@ -7,7 +7,8 @@ ghost use Rattle.assignment.specs.Assignment.{summary_of as summary_of_routes};
 ghost use Rattle.assignment.specs.Assignment.{times_of, waits_told};
 ghost use Rattle.assignment.specs.Lent.{IsAssignment, plan_in, settings_in, traffic_in};
 ghost use Rattle.assignment.specs.Progress.{IsAssigned};
-ghost use Rattle.sweep.specs.Scenarios.{HasTexts, wait_text};
+ghost use Rattle.sweep.specs.Scenarios.{HasTexts};
+ghost use Rattle.sweep.specs.Texts.{wait_text};
 
 use crate::scenario::Scenario;
 use assignment::{Assigned, Assignment, summary_of};

@@ -1,5 +1,6 @@
 -- Answers of vehicles, and how they are put in their places.
-use Rattle.trip_costs.specs.Timings.{CostTables, Timing}
+use Rattle.trip_costs.specs.Timings.{Timing}
+use Rattle.trip_costs.specs.Costs.{CostTables}
 use Rattle.std.proofs.Common.{◌≡◌, ◌⊎◌, inl, inr, ℕ, zero, suc, ◌+◌, ◌-◌, ◌*◌, ◌≤◌, Bool, true, false, cond, List, [], ◌∷◌, ◌++◌, length, refl, sym, ◌∙◌, subst, ap, arith, Some, set, take, drop}
 use Rattle.std.specs.Prelude.{slice_get}
 use Rattle.std.specs.Fork.{slice_chunk}

@@ -1,5 +1,6 @@
 -- Vehicles by their destinations, and what is told of them.
-use Rattle.trip_costs.specs.Timings.{CostTables, Timing, timing_of}
+use Rattle.trip_costs.specs.Timings.{Timing}
+use Rattle.trip_costs.specs.Costs.{CostTables, timing_of}
 use Rattle.std.proofs.Common.{◌≡◌, ◌≢◌, ◌⊎◌, inl, inr, ℕ, zero, suc, ◌+◌, ◌-◌, ◌<◌, ◌≤◌, Bool, true, false, cond, List, [], ◌∷◌, ◌++◌, length, refl, ap, sym, ◌∙◌, subst, arith, rules, Option, Some, None, get_or, nat_eq, set, take, drop}
 use Rattle.std.specs.Prelude.{◌||◌, All, filter, option_and_then, replicate, slice_get}
 use Rattle.std.specs.List.{slice_range}

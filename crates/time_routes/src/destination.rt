@@ -3,7 +3,7 @@ ghost use Rattle.std.specs.Prelude.{◌≡◌, ◌≢◌, ◌<◌, length, slice
 ghost use Rattle.net_core.specs.Network.{zones};
 ghost use Rattle.labels.specs.Named.{zone_named};
 ghost use Rattle.labels.specs.ToZone.{destination, TellsLeast, TellsWalk};
-ghost use Rattle.trip_costs.specs.Timings.{timing_of};
+ghost use Rattle.trip_costs.specs.Costs.{timing_of};
 ghost use Rattle.trip_costs.specs.WalkCosts.{tables};
 
 use crate::answers::{Answer, Gathered};

@@ -12,7 +12,8 @@ use Rattle.dta_model.proofs.Steady.{some_trip}
 use Rattle.trip_costs.specs.LoadingCosts.{costs_by}
 use Rattle.trip_costs.specs.Timings.{Timing}
 use Rattle.trip_costs.proofs.Timed.{none_less_by, some_walk_by}
-use Rattle.gap.specs.Gap.{AreLeasts, over_vehicles, route_time}
+use Rattle.gap.specs.Gap.{AreLeasts}
+use Rattle.gap.specs.RouteTimes.{over_vehicles, route_time}
 use Rattle.gap.proofs.Sums.{over-le, over-more, route_time-is}
 use Rattle.assignment.proofs.SoundFacts.{sound-iterations}
 use Rattle.traffic_laws.specs.Equilibrium.{AreRoutesOf, GapIsNeverNegative}

@@ -38,7 +38,8 @@ use Rattle.start_table.specs.StartTable.{start_verdict}
 use Rattle.start_table.specs.Starts.{AreNamed, AreStartRows, TellsFit, TellsStart, agents_of}
 use Rattle.start_table.specs.Starts.{IsStarted, row_of}
 use Rattle.start_table.specs.declared.rows.StartRow.{StartRow}
-use Rattle.route_flows.specs.Averages.{AreStartedRoutes, StartsOn, free_time}
+use Rattle.route_flows.specs.Averages.{AreStartedRoutes, StartsOn}
+use Rattle.route_flows.specs.Selection.{free_time}
 use Rattle.grid_maker.proofs.LinesFacts.{place-there}
 use Rattle.reports.proofs.TextsFacts.{length-vehicles, walks-on-net}
 use Rattle.reports.specs.Texts.{AreLinksOf, Vehicle, agent_text_by, ids_of, vehicles}

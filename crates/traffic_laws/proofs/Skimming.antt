@@ -9,7 +9,8 @@ use Rattle.net_core.specs.declared.rows.NetRows.{NetRows}
 use Rattle.dta_model.specs.Plans.{link_numbers}
 use Rattle.dta_model.specs.Walks.{IsWalk}
 use Rattle.labels.specs.ToZone.{TellsLeast}
-use Rattle.skims.specs.Skim.{IsEntryOf, Question, questions}
+use Rattle.skims.specs.Skim.{IsEntryOf}
+use Rattle.skims.specs.Questions.{Question, questions}
 use Rattle.skims.specs.declared.skim_entry.SkimEntry.{SkimEntry}
 use Rattle.traffic_laws.specs.LeastTimes.{IsNoSlower, SkimsAreNoSlower}
 

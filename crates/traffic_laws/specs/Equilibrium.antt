@@ -11,9 +11,11 @@ use Rattle.dta_words.specs.Ranges.{AreSettings}
 use Rattle.dta_words.specs.declared.command.Settings.{Settings}
 use Rattle.trip_costs.specs.LoadingCosts.{costs_by}
 use Rattle.trip_costs.specs.Timings.{Timing, walk_time_by}
-use Rattle.assignment.specs.Assignment.{AreIterations, Traffic, VehicleRoutes}
+use Rattle.assignment.specs.Assignment.{Traffic, VehicleRoutes}
+use Rattle.assignment.specs.Iterations.{AreIterations}
 use Rattle.assignment.specs.Traffic.{IsTraffic}
-use Rattle.gap.specs.Gap.{AreLeasts, IsGapLine, over_vehicles, route_time}
+use Rattle.gap.specs.Gap.{AreLeasts, IsGapLine}
+use Rattle.gap.specs.RouteTimes.{over_vehicles, route_time}
 use Rattle.gap.specs.declared.line.GapLine.{GapLine}
 
 -- by these costs no vehicle that has a route would take less time, from its departure, on another

@@ -9,7 +9,8 @@ use Rattle.link_times.specs.TimeTables.{IsShort, IsTimeTable}
 use Rattle.link_times.specs.declared.table.LinkTimes.{LinkTimes}
 use Rattle.trip_costs.specs.TripCosts.{after_time, exit_step, steps_by_trips}
 use Rattle.dta_model.specs.Walks.{IsWalk}
-use Rattle.trip_costs.specs.Timings.{IsChosenBy, IsLeastBy, Links, Timing, Trips, walk_time_by}
+use Rattle.trip_costs.specs.Timings.{Links, Timing, Trips, walk_time_by}
+use Rattle.trip_costs.specs.TripWalks.{IsChosenBy, IsLeastBy}
 use Rattle.trip_costs.specs.WalkCosts.{AreTimed, IsLevel, enter_in, steps_in, table_in}
 use Rattle.trip_costs.specs.declared.walk_costs.WalkCosts.{WalkCosts}
 use Rattle.trip_costs.specs.declared.walk_costs.WalkCosts.TheVariants as costs

@@ -3,12 +3,12 @@ pub mod OriginWaits
 pub mod WaitSums
 pub mod WaitTables
 pub mod TripCosts
+pub mod Timings
 pub mod TripWalks
 pub mod Numbers
 pub mod Latest
 pub mod Entries
 pub mod Costs
-pub mod Timings
 pub mod WalkCosts
 pub mod LoadingCosts
 pub mod Changes

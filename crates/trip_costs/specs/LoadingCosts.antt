@@ -2,14 +2,11 @@
 use Rattle.std.specs.Prelude.{ℕ}
 use Rattle.dta_model.specs.LinkTimes.{TimeTable, table_of, time_at}
 use Rattle.dta_model.specs.declared.plan.Plan.{Plan}
-use Rattle.trip_costs.specs.Costs.{costs_of}
 use Rattle.trip_costs.specs.OriginWaits.{WaitTable, waits_of}
 use Rattle.trip_costs.specs.Timings.{Links, Timing, Trips}
 use Rattle.trip_costs.specs.TripCosts.{by_trips}
 use Rattle.trip_costs.specs.declared.loading_costs.Costs.{Costs}
 use Rattle.trip_costs.specs.declared.loading_costs.Costs.TheVariants as kind
-use Rattle.trip_costs.specs.declared.loading_costs.LoadingCosts.{LoadingCosts}
-use Rattle.trip_costs.specs.declared.loading_costs.LoadingCosts.TheVariants as costs
 
 -- of which kind the costs are by which walks are timed
 abbrev pub kind_of : Timing → Costs
@@ -24,12 +21,3 @@ costs_over kind.Trips t w = Trips (by_trips t w)
 -- those of a loading, by buckets of so many steps
 abbrev pub costs_by : Costs → Plan → ℕ → Timing
 costs_by by p bucket = costs_over by (table_of p bucket) (waits_of p bucket)
-
--- the link times that are kept, and the costs that are told
-abbrev pub times_in : LoadingCosts → TimeTable
-times_in (costs.Links times) = times
-times_in (costs.Trips trips) = trips.exits
-
-abbrev pub timing_in : LoadingCosts → Timing
-timing_in (costs.Links times) = Links (time_at times)
-timing_in (costs.Trips trips) = Trips (costs_of trips)

@@ -1,7 +1,8 @@
 -- By what walks are timed, and what is true of the steps of links by either costs.
 use Rattle.std.specs.Prelude.{◌≡◌, ℕ, ◌<◌, ◌≤◌, ◌^◌, length, slice_index}
 use Rattle.dta_model.specs.LinkTimes.{TimeTable}
-use Rattle.trip_costs.specs.Timings.{CostTables, OfLinks, OfTrips, Timing, timing_of, travel}
+use Rattle.trip_costs.specs.Timings.{Timing, travel}
+use Rattle.trip_costs.specs.Costs.{CostTables, OfLinks, OfTrips, timing_of}
 use Rattle.trip_costs.specs.TripCosts.{IsLevelBy}
 use Rattle.trip_costs.specs.declared.walk_costs.WalkCosts.{WalkCosts}
 use Rattle.trip_costs.specs.declared.walk_costs.WalkCosts.TheVariants as costs

@@ -5,7 +5,8 @@ ghost use Rattle.dta_model.specs.LinkTimes.{table_of};
 ghost use Rattle.dta_model.specs.Loading.{journeys_of};
 ghost use Rattle.dta_model.specs.Sound.{IsSound};
 ghost use Rattle.link_times.specs.TimeTables.{IsShort};
-ghost use Rattle.trip_costs.specs.LoadingCosts.{costs_by, times_in, timing_in};
+ghost use Rattle.trip_costs.specs.LoadingCosts.{costs_by};
+ghost use Rattle.trip_costs.specs.Costs.{times_in, timing_in};
 ghost use Rattle.trip_costs.specs.WalkCosts.{table_in, timing};
 
 use crate::costs::TripCosts;

@@ -12,9 +12,8 @@ use Rattle.net_core.specs.declared.rows.Turn.{Turn}
 use Rattle.dta_model.specs.Least.{IsLeast, HaveNoWalk, IsChosen}
 use Rattle.dta_model.specs.TimedWalks.{penalty_steps, arrival_after}
 use Rattle.dta_model.specs.Walks.{IsWalk, begins_in, ends_in}
-use Rattle.trip_costs.specs.Timings.{IsLeastTrip}
+use Rattle.trip_costs.specs.TripWalks.{IsLeastTrip, IsChosenTrip}
 use Rattle.trip_costs.specs.TripCosts.{TravelCosts, by_links, time_by}
-use Rattle.trip_costs.specs.TripWalks.{IsChosenTrip}
 use Rattle.trip_costs.proofs.Later.{links_are_the_table}
 use Rattle.labels.specs.Named.{zone_named}
 use Rattle.labels.specs.Reading.Paths.{later, path_after, path_time, IsLeastPath, IsChosenPath, IsFewestPath, lex_le}

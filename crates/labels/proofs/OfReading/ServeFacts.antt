@@ -8,7 +8,8 @@ use Rattle.dta_model.specs.Plans.{link_numbers}
 use Rattle.dta_model.specs.Least.{HaveNoWalk}
 use Rattle.dta_model.specs.LinkTimes.{TimeTable, time_at}
 use Rattle.link_times.specs.declared.table.LinkTimes.{LinkTimes}
-use Rattle.trip_costs.specs.Timings.{IsLeastBy, Timing, Links, Trips, travel}
+use Rattle.trip_costs.specs.Timings.{Timing, Links, Trips, travel}
+use Rattle.trip_costs.specs.TripWalks.{IsLeastBy}
 use Rattle.trip_costs.specs.Costs.{costs_of}
 use Rattle.trip_costs.specs.declared.costs.TripCosts.{TripCosts}
 use Rattle.trip_costs.specs.declared.walk_costs.WalkCosts.TheVariants as costs

@@ -5,7 +5,7 @@ ghost use Rattle.labels.specs.Named.{zone_named};
 ghost use Rattle.labels.specs.ToZone.{AreOfFirst, destination, zone_numbers, TellsLeast};
 ghost use Rattle.labels.specs.ToZone.{TellsFound, TellsWalk};
 ghost use Rattle.trip_costs.specs.WalkCosts.{table_in, tables};
-ghost use Rattle.trip_costs.specs.Timings.{timing_of};
+ghost use Rattle.trip_costs.specs.Costs.{timing_of};
 
 use crate::filling::fill_table::{Filled, table_of};
 use crate::filling::label_table::LabelTable;

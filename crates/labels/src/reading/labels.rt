@@ -4,7 +4,7 @@ ghost use Rattle.net_core.specs.Network.{zones};
 ghost use Rattle.labels.specs.Named.{zone_named};
 ghost use Rattle.labels.specs.ToZone.{TellsLeast, TellsWalk};
 ghost use Rattle.trip_costs.specs.WalkCosts.{table_in, tables};
-ghost use Rattle.trip_costs.specs.Timings.{timing_of};
+ghost use Rattle.trip_costs.specs.Costs.{timing_of};
 
 use crate::reading::group_labels::GroupLabels;
 use dta_model::Route;

@@ -1,5 +1,5 @@
 use Rattle.std.proofs.Common.{ap, ◌∙◌}
-use Rattle.trip_costs.specs.LoadingCosts.{times_in}
+use Rattle.trip_costs.specs.Costs.{times_in}
 use Rattle.assignment.specs.Lent.{settings_in, traffic_in}
 use Rattle.assignment.proofs.AssignmentFacts.{free-of}
 use Rattle.commands.proofs.outputs.put_tables.Goals as goal

@@ -1,5 +1,5 @@
 use Rattle.std.proofs.Common.{◌≡◌, ◌*◌, ◌≤◌, ◌^◌}
-use Rattle.gap.specs.Gap.{over_vehicles}
+use Rattle.gap.specs.RouteTimes.{over_vehicles}
 use Rattle.gap.specs.Told.{least_at}
 use Rattle.gap.proofs.measure.all_least_steps.Given as goal
 

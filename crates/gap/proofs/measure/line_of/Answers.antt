@@ -1,6 +1,6 @@
 use Rattle.trip_costs.specs.WalkCosts.{timing}
 use Rattle.std.proofs.Common.{◌≤◌, refl, ◌∙◌, ap, arith}
-use Rattle.gap.specs.Gap.{over_vehicles}
+use Rattle.gap.specs.RouteTimes.{over_vehicles}
 use Rattle.gap.specs.Told.{least_at}
 use Rattle.gap.proofs.Sums.{below, line_is}
 use Rattle.gap.proofs.measure.line_of.Goals as goal

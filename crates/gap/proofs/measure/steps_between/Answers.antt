@@ -1,7 +1,7 @@
 use Rattle.trip_costs.specs.WalkCosts.{timing}
 use Rattle.std.proofs.Common.{◌<◌, length, arith, refl, sym, ◌∙◌, subst, ap, Some}
 use Rattle.std.proofs.lemmas.Option.{slice_get-get_or, slice_get_read}
-use Rattle.gap.specs.Gap.{route_time}
+use Rattle.gap.specs.RouteTimes.{route_time}
 use Rattle.gap.proofs.Sums.{links_within, over-more, route_time-is}
 use Rattle.gap.proofs.measure.steps_between.Goals as goal
 

@@ -1,5 +1,5 @@
 use Rattle.std.proofs.Common.{◌≡◌, ◌+◌, ◌*◌, ◌≤◌, ◌^◌}
-use Rattle.gap.specs.Gap.{over_vehicles}
+use Rattle.gap.specs.RouteTimes.{over_vehicles}
 use Rattle.gap.specs.Shares.{steps_over}
 use Rattle.gap.proofs.measure.steps_between.Given as goal
 

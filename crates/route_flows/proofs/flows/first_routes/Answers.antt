@@ -1,6 +1,6 @@
 use Rattle.std.proofs.Common.{◌∙◌, ap, length}
 use Rattle.trip_costs.specs.Timings.{Links}
-use Rattle.route_flows.specs.Averages.{free_time}
+use Rattle.route_flows.specs.Selection.{free_time}
 use Rattle.route_flows.proofs.Averaged.{chosen_walk}
 use Rattle.route_flows.proofs.FreeTimes.{first_are, free-many, nobody_starts, table_are}
 use Rattle.route_flows.proofs.flows.first_routes.Goals as goal

@@ -1,7 +1,8 @@
 use Rattle.std.proofs.Common.{◌∙◌, ap, length, rules, subst, sym, true}
 use Rattle.time_routes.specs.Destinations.{AreTold}
 use Rattle.trip_costs.specs.Timings.{Links}
-use Rattle.route_flows.specs.Averages.{AreStartedRoutes, free_time}
+use Rattle.route_flows.specs.Averages.{AreStartedRoutes}
+use Rattle.route_flows.specs.Selection.{free_time}
 use Rattle.start_table.specs.Starts.{TellsStart}
 use Rattle.route_flows.proofs.Averaged.{lent}
 use Rattle.route_flows.proofs.FreeTimes.{free-many, from_start, started_table}

@@ -1,5 +1,5 @@
 use Rattle.std.proofs.Common.{◌≡◌, ◌≤◌, ◌<◌, ℕ, false}
-use Rattle.route_flows.specs.Averages.{renews}
+use Rattle.route_flows.specs.Selection.{renews}
 use Rattle.route_flows.proofs.since.last_renewal.Given as goal
 
 abbrev pub invariant-loop-k : goal.invariant-loop-k

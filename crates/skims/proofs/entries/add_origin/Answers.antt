@@ -1,6 +1,7 @@
 use Rattle.std.specs.Prelude.{slice_index}
 use Rattle.dta_model.specs.LinkTimes.{time_at}
-use Rattle.skims.specs.Skim.{questions_between, IsEntryOf}
+use Rattle.skims.specs.Skim.{IsEntryOf}
+use Rattle.skims.specs.Questions.{questions_between}
 use Rattle.skims.proofs.GrowthFacts.{adds-flat}
 use Rattle.skims.proofs.entries.add_origin.Goals as goal
 

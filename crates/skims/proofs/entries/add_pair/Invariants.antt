@@ -2,7 +2,8 @@ use Rattle.std.proofs.Common.{take}
 use Rattle.std.specs.Prelude.{slice_index}
 use Rattle.dta_model.specs.LinkTimes.{time_at}
 use Rattle.skims.specs.Growing.{Adds}
-use Rattle.skims.specs.Skim.{questions_at, IsEntryOf}
+use Rattle.skims.specs.Skim.{IsEntryOf}
+use Rattle.skims.specs.Questions.{questions_at}
 use Rattle.skims.proofs.entries.add_pair.Given as goal
 
 abbrev pub invariant-loop-start : goal.invariant-loop-start

@@ -1,6 +1,7 @@
 use Rattle.std.proofs.Common.{[]}
 use Rattle.dta_model.specs.LinkTimes.{time_at}
-use Rattle.skims.specs.Skim.{questions_from, IsEntryOf}
+use Rattle.skims.specs.Skim.{IsEntryOf}
+use Rattle.skims.specs.Questions.{questions_from}
 use Rattle.skims.proofs.GrowthFacts.{adds-flat}
 use Rattle.skims.proofs.entries.entries_of.Goals as goal
 

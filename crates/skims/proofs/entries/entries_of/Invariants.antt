@@ -2,7 +2,8 @@ use Rattle.std.proofs.Common.{[], take}
 use Rattle.std.specs.List.{flat_map}
 use Rattle.dta_model.specs.LinkTimes.{time_at}
 use Rattle.skims.specs.Growing.{Adds}
-use Rattle.skims.specs.Skim.{questions_from, IsEntryOf}
+use Rattle.skims.specs.Skim.{IsEntryOf}
+use Rattle.skims.specs.Questions.{questions_from}
 use Rattle.skims.proofs.entries.entries_of.Given as goal
 
 abbrev pub invariant-loop-origin : goal.invariant-loop-origin

@@ -1,4 +1,5 @@
-use Rattle.trip_costs.specs.Timings.{Links, OfLinks, timing_of}
+use Rattle.trip_costs.specs.Timings.{Links}
+use Rattle.trip_costs.specs.Costs.{OfLinks, timing_of}
 use Rattle.std.proofs.Common.{◌≡◌, ◌+◌, ◌<◌, ◌≤◌, ap, arith, length, sym, subst, take, ◌∙◌}
 use Rattle.std.specs.Prelude.{slice_index, All}
 use Rattle.std.proofs.lemmas.List.{length-map}

@@ -1,4 +1,4 @@
-use Rattle.trip_costs.specs.Timings.{timing_of}
+use Rattle.trip_costs.specs.Costs.{timing_of}
 use Rattle.std.proofs.Common.{take}
 use Rattle.labels.specs.ToZone.{destination}
 use Rattle.skims.specs.Leasts.{AreTo}

@@ -1,7 +1,7 @@
 use Rattle.std.proofs.Common.{◌≡◌, [], ap, rules, sym, ◌∙◌}
 use Rattle.desk_io.specs.declared.desk.Output.TheVariants as output
 use Rattle.reports.specs.Texts.{origin_wait_text}
-use Rattle.sweep.specs.Scenarios.{wait_text}
+use Rattle.sweep.specs.Texts.{wait_text}
 use Rattle.sweep.proofs.ScenarioFacts.{text-told}
 use Rattle.sweep.proofs.scenario_texts.origin_wait.Goals as goal
 

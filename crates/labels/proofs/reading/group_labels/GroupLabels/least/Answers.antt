@@ -1,7 +1,7 @@
 use Rattle.std.proofs.Common.{◌<◌, Some, None, All, length, subst, sym, get_or, []}
 use Rattle.net_core.specs.Network.{zones}
 use Rattle.trip_costs.specs.WalkCosts.{enter_in, steps_in, table_in, timing}
-use Rattle.trip_costs.specs.Timings.{timing_of}
+use Rattle.trip_costs.specs.Costs.{timing_of}
 use Rattle.trip_costs.proofs.Timed.{later_by}
 use Rattle.labels.specs.Reading.FirstLinks.{AreFirsts, first_label}
 use Rattle.labels.specs.Reading.Serves.{label_in, BestSoFar}

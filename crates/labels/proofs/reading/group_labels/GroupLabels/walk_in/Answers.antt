@@ -7,8 +7,8 @@ use Rattle.labels.specs.Named.{zone_named}
 use Rattle.labels.specs.States.Routers.{begins_from}
 use Rattle.labels.specs.Reading.Serves.{Serves}
 use Rattle.labels.specs.Reading.GroupsTo.{group_of}
-use Rattle.trip_costs.specs.Timings.{Links, Trips, timing_of}
-use Rattle.trip_costs.specs.Costs.{costs_of}
+use Rattle.trip_costs.specs.Timings.{Links, Trips}
+use Rattle.trip_costs.specs.Costs.{timing_of, costs_of}
 use Rattle.dta_model.specs.LinkTimes.{time_at}
 use Rattle.labels.specs.Filling.Tables.{rests}
 use Rattle.labels.specs.ToZone.{destination, zone_numbers, TellsFound}
