@@ -1,6 +1,6 @@
 -- Routes of the next iteration.
 use Rattle.std.proofs.Common.{◌≡◌, ◌≢◌, ◌⊎◌, inl, inr, ℕ, zero, suc, ◌+◌, ◌<◌, ◌≤◌, Bool, true, false, cond, List, [], ◌∷◌, ◌++◌, length, refl, ap, sym, ◌∙◌, subst, arith, Option, Some, None, get_or, set, take, drop, take_at}
-use Rattle.std.specs.Prelude.{◌&&◌, is_some, replicate, slice_get}
+use Rattle.std.specs.Prelude.{is_some, slice_get}
 use Rattle.std.proofs.lemmas.Bool.{cases_lt}
 use Rattle.std.proofs.lemmas.List.{length-append, length-set}
 use Rattle.std.proofs.lemmas.Option.{slice_get-get_or, slice_get_within}
@@ -17,16 +17,16 @@ use Rattle.route_flows.specs.Asked.{AreAsked, Renews}
 use Rattle.trip_costs.specs.Timings.{Timing}
 use Rattle.trip_costs.proofs.Timed.{walks_by}
 use Rattle.trip_costs.specs.LoadingCosts.{kind_of}
-use Rattle.route_flows.specs.Averages.{AreChosenRoutes, AreNextRoutes}
+use Rattle.route_flows.specs.Averages.{AreNextRoutes}
 use Rattle.route_flows.specs.Selection.{renews}
 
 -- ---- lists by place
-push_before : {X : Type 0} (xs : List X) (x : X) (v : ℕ) → v < length xs → slice_get (xs ++ x ∷ []) v ≡ slice_get xs v
+pub push_before : {X : Type 0} (xs : List X) (x : X) (v : ℕ) → v < length xs → slice_get (xs ++ x ∷ []) v ≡ slice_get xs v
 push_before [] x v h = absurd (omega (arith, h))
 push_before (y ∷ xs) x zero h = refl
 push_before (y ∷ xs) x (suc v) h = push_before xs x v (omega (arith, h))
 
-push_last : {X : Type 0} (xs : List X) (x : X) → slice_get (xs ++ x ∷ []) (length xs) ≡ Some x
+pub push_last : {X : Type 0} (xs : List X) (x : X) → slice_get (xs ++ x ∷ []) (length xs) ≡ Some x
 push_last [] x = refl
 push_last (y ∷ xs) x = push_last xs x
 
@@ -43,29 +43,26 @@ set_other (y ∷ xs) (suc i) zero x h = refl
 set_other (y ∷ xs) (suc i) (suc j) x h = set_other xs i j x (λ e. h (ap suc e))
 
 -- ---- what is asked
-pub asked_more : (least : Bool) (selected : ℕ → Bool) (routes : List (Option (List LinkNo))) (count : ℕ) (asks : List Ask) (ask : Ask) → ask ≡ record { least = least && has_route routes count; walk = selected count }
-    → AreAsked least selected routes count asks → AreAsked least selected routes (count + 1) (asks ++ ask ∷ [])
-asked_more least selected routes count asks ask is are = record {
+pub asked_more : (selected : ℕ → Bool) (routes : List (Option (List LinkNo))) (count : ℕ) (asks : List Ask) (ask : Ask) → ask ≡ record { least = has_route routes count; walk = selected count }
+    → AreAsked selected routes count asks → AreAsked selected routes (count + 1) (asks ++ ask ∷ [])
+asked_more selected routes count asks ask is are = record {
   as_many = let long = length-append asks (ask ∷ []) in let many = are.as_many in omega (arith, long, many);
   each = λ v h. by v h (cases_lt v count);
 }
   where
-    by : (v : ℕ) → v < count + 1 → (v < count) ⊎ (count ≤ v) → slice_get (asks ++ ask ∷ []) v ≡ Some (record { least = least && has_route routes v; walk = selected v })
+    by : (v : ℕ) → v < count + 1 → (v < count) ⊎ (count ≤ v) → slice_get (asks ++ ask ∷ []) v ≡ Some (record { least = has_route routes v; walk = selected v })
     by v h (inl b) = let many = are.as_many in push_before asks ask v (omega (arith, b, many)) ∙ are.each v b
     by v h (inr b) =
         let same : v ≡ count = omega (arith, h, b) in
-        subst (λ w. slice_get (asks ++ ask ∷ []) w ≡ Some (record { least = least && has_route routes w; walk = selected w })) (sym same)
-        (subst (λ n. slice_get (asks ++ ask ∷ []) n ≡ Some (record { least = least && has_route routes count; walk = selected count })) are.as_many (push_last asks ask ∙ ap Some is))
+        subst (λ w. slice_get (asks ++ ask ∷ []) w ≡ Some (record { least = has_route routes w; walk = selected w })) (sym same)
+        (subst (λ n. slice_get (asks ++ ask ∷ []) n ≡ Some (record { least = has_route routes count; walk = selected count })) are.as_many (push_last asks ask ∙ ap Some is))
 
-pub ask_is : (least : Bool) (selected : ℕ → Bool) (routes : List (Option (List LinkNo))) (v : ℕ) (route : Option (List LinkNo)) (a b : Bool) (ask : Ask) → slice_get routes v ≡ Some route → a ≡ (least && is_some route) → b ≡ selected v
-    → ask ≡ record { least = a; walk = b } → ask ≡ record { least = least && has_route routes v; walk = selected v }
-ask_is least selected routes v route a b ask r ha hb is = same a b (least && has_route routes v) (selected v) ask (ha ∙ ap (λ o. least && routed o) (sym r)) hb is
+pub ask_is : (selected : ℕ → Bool) (routes : List (Option (List LinkNo))) (v : ℕ) (route : Option (List LinkNo)) (a b : Bool) (ask : Ask) → slice_get routes v ≡ Some route → a ≡ is_some route → b ≡ selected v
+    → ask ≡ record { least = a; walk = b } → ask ≡ record { least = has_route routes v; walk = selected v }
+ask_is selected routes v route a b ask r ha hb is = same a b (has_route routes v) (selected v) ask (ha ∙ ap routed (sym r)) hb is
   where
     same : (a b c d : Bool) (ask : Ask) → a ≡ c → b ≡ d → ask ≡ record { least = a; walk = b } → ask ≡ record { least = c; walk = d }
     same a b c d ask e f is = cc
-
-walk_asked : (least : Bool) (selected : ℕ → Bool) (routes : List (Option (List LinkNo))) (count : ℕ) (asks : List Ask) (v : ℕ) → AreAsked least selected routes count asks → v < count → selected v ≡ true → asks_walk asks v ≡ true
-walk_asked least selected routes count asks v are h s = ap asked_walk (are.each v h) ∙ s
 
 -- ---- routes that are renewed
 -- the routes of the first vehicles are renewed, and the walks of the others are still there
@@ -135,33 +132,29 @@ renewing_more selected walks i old mid left new rest inside long is leaves befor
     by true s e f = subst (λ n. Renewing selected walks (i + 1) old n rest) (sym e) (subst (λ r. Renewing selected walks (i + 1) old (set mid i (get_or left i None)) r) (sym f) (taken s))
     by false s e f = subst (λ n. Renewing selected walks (i + 1) old n rest) (sym e) (subst (λ r. Renewing selected walks (i + 1) old mid r) (sym f) (kept s))
 
--- ---- the next routes
-pub next_are : (costs : Timing) (net : NetRows) (trips : List Trip) (least : Bool) (k : ℕ) (old walks new : List (Option (List LinkNo))) (asks : List Ask) → length old ≡ length trips
-    → AreAsked least (renews (kind_of costs) k) old (length old) asks → AreTold (WalkOf costs net) (asks_walk asks) trips walks → Renews (renews (kind_of costs) k) walks (length old) old new → AreNextRoutes costs net trips k old new
-next_are costs net trips least k old walks new asks long asked told new_are = record {
-  as_many = new_are.as_many ∙ long;
-  selected = λ v trip route s t n. (
-      let inside = slice_get_within trips v trip t in
-      let there : v < length old = omega (arith, inside, long) in
-      told.each v route (sym (new_are.renewed v there s) ∙ n) trip (walk_asked least (renews (kind_of costs) k) old (length old) asks v asked there s) t);
-  others = new_are.others;
-}
-
 -- a list of which all places were lent has what was left there
 pub lent : {X : Type 0} (n : ℕ) (items base now : List X) → n ≡ length items → base ≡ items → length now ≡ length base → take n (now ++ drop (length now) items) ≡ now
 lent n items base now long is many = take_at now (drop (length now) items) n (many ∙ ap length is ∙ sym long)
 
--- the same of lists that are equal to these, where the routes that are renewed were lent
-pub next_told : (costs : Timing) (net : NetRows) (trips : List Trip) (least : Bool) (k : ℕ) (routes shown_routes : List (Option (List LinkNo))) (n : ℕ) (items base told walks renewed new : List (Option (List LinkNo))) (asks shown : List Ask)
-    → length routes ≡ length trips → shown_routes ≡ routes → n ≡ length items → base ≡ items → items ≡ routes → shown ≡ asks
-    → AreAsked least (renews (kind_of costs) k) shown_routes (length shown_routes) asks → AreTold (WalkOf costs net) (asks_walk shown) trips told → walks ≡ told → Renews (renews (kind_of costs) k) walks (length base) base renewed
-    → new ≡ take n (renewed ++ drop (length renewed) items) → AreNextRoutes costs net trips k routes new
-next_told costs net trips least k routes shown_routes n items base told walks renewed new asks shown long ro many bi ir sa asked are wt new_are is =
-    subst (λ r. AreNextRoutes costs net trips k routes r) (sym (is ∙ lent n items base renewed many bi new_are.as_many))
-    (next_are costs net trips least k routes walks renewed asks long
-    (subst (λ l. AreAsked least (renews (kind_of costs) k) l (length l) asks) ro asked)
-    (subst (λ w. AreTold (WalkOf costs net) (asks_walk asks) trips w) (sym wt) (subst (λ a. AreTold (WalkOf costs net) (asks_walk a) trips told) sa are))
-    (subst (λ l. Renews (renews (kind_of costs) k) walks (length l) l renewed) (bi ∙ ir) new_are))
+-- the same where the routes that are renewed were lent
+pub renewed_lent : (selected : ℕ → Bool) (walks shown : List (Option (List LinkNo))) (n : ℕ) (items base renewed new : List (Option (List LinkNo))) → n ≡ length items → base ≡ items → shown ≡ walks
+    → Renews selected shown (length base) base renewed → new ≡ take n (renewed ++ drop (length renewed) items) → Renews selected walks (length items) items new
+renewed_lent selected walks shown n items base renewed new many bi sw are is =
+    subst (λ r. Renews selected walks (length items) items r) (sym (is ∙ lent n items base renewed many bi are.as_many))
+    (subst (λ l. Renews selected walks (length l) l renewed) bi (subst (λ w. Renews selected w (length base) base renewed) sw are))
+
+-- ---- the next routes
+pub next_are : (costs : Timing) (net : NetRows) (trips : List Trip) (k : ℕ) (routes lent_routes base walks new : List (Option (List LinkNo))) (asks shown : List Ask) → length routes ≡ length trips → lent_routes ≡ routes → base ≡ routes → shown ≡ asks
+    → AreAsked (renews (kind_of costs) k) lent_routes (length lent_routes) asks → AreTold (WalkOf costs net) (asks_walk shown) trips walks → Renews (renews (kind_of costs) k) walks (length base) base new → AreNextRoutes costs net trips k routes new
+next_are costs net trips k routes lent_routes base walks new asks shown long lent_is base_is shown_is asked told are = record {
+  as_many = are.as_many ∙ ap length base_is ∙ long;
+  selected = λ v trip route s t n. (
+      let within = slice_get_within trips v trip t in
+      let there : v < length routes = omega (arith, within, long) in
+      let ask : asks_walk shown v ≡ true = ap (λ l. asks_walk l v) shown_is ∙ ap asked_walk (asked.each v (subst (λ l. v < length l) (sym lent_is) there)) ∙ s in
+      told.each v route (sym (are.renewed v (subst (λ l. v < length l) (sym base_is) there) s) ∙ n) trip ask t);
+  others = λ v f. are.others v f ∙ ap (λ l. slice_get l v) base_is;
+}
 
 pub next_walk : (costs : Timing) (net : NetRows) (trips : List Trip) (k : ℕ) (old new : List (Option (List LinkNo))) → AreWalks net trips old → AreNextRoutes costs net trips k old new → AreWalks net trips new
 next_walk costs net trips k old new before next v trip route t n = by (renews (kind_of costs) k v) refl
@@ -169,19 +162,3 @@ next_walk costs net trips k old new before next v trip route t n = by (renews (k
     by : (b : Bool) → renews (kind_of costs) k v ≡ b → IsWalk net trip.origin trip.destination (link_numbers route)
     by true s = walks_by costs net trip.origin trip.destination trip.departure (link_numbers route) (next.selected v trip (Some route) s t n)
     by false s = before v trip route t (sym (next.others v s) ∙ n)
-
--- ---- the first routes
-pub chosen_are : (costs : Timing) (net : NetRows) (trips : List Trip) (asks : List Ask) (walks : List (Option (List LinkNo))) → asks ≡ replicate (length trips) (record { least = false; walk = true })
-    → AreTold (WalkOf costs net) (asks_walk asks) trips walks → AreChosenRoutes costs net trips walks
-chosen_are costs net trips asks walks is told = record {
-  as_many = told.as_many;
-  each = λ v trip route t n. told.each v route n trip (ap (λ l. asks_walk l v) is ∙ all_asked (length trips) v (slice_get_within trips v trip t)) t;
-}
-  where
-    all_asked : (n v : ℕ) → v < n → asks_walk (replicate n (record { least = false; walk = true })) v ≡ true
-    all_asked zero v h = absurd (omega (arith, h))
-    all_asked (suc n) zero h = refl
-    all_asked (suc n) (suc v) h = all_asked n v (omega (arith, h))
-
-pub chosen_walk : (costs : Timing) (net : NetRows) (trips : List Trip) (routes : List (Option (List LinkNo))) → AreChosenRoutes costs net trips routes → AreWalks net trips routes
-chosen_walk costs net trips routes are v trip route t n = walks_by costs net trip.origin trip.destination trip.departure (link_numbers route) (are.each v trip (Some route) t n)

@@ -1,6 +1,6 @@
 -- Free-flow times stand still, and walks by equal times take equal times.
 use Rattle.std.proofs.Common.{◌≡◌, ◌⊎◌, inl, inr, ℕ, zero, suc, ◌+◌, ◌-◌, ◌*◌, ◌/◌, ◌<◌, ◌≤◌, true, false, cond, List, [], ◌∷◌, length, refl, ap, sym, ◌∙◌, subst, arith, Option, Some, None, get_or, map, mul-le-mul_right}
-use Rattle.std.specs.Prelude.{nat_lt, replicate}
+use Rattle.std.specs.Prelude.{nat_lt, slice_get}
 use Rattle.std.proofs.lemmas.Bool.{cases_lt}
 use Rattle.std.proofs.lemmas.Bool.Decides.{nat_tests}
 use Rattle.std.proofs.lemmas.List.{length-map}
@@ -18,13 +18,12 @@ use Rattle.link_times.proofs.Places.{bucket_inside, by_bucket-get, by_bucket-lon
 use Rattle.time_routes.specs.Destinations.{AreTold, asks_walk, WalkOf}
 use Rattle.time_routes.specs.declared.vehicles.Ask.{Ask}
 use Rattle.trip_costs.specs.Timings.{Links}
-use Rattle.route_flows.specs.Averages.{AreChosenRoutes, AreFirstRoutes, AreStartedBy, AreStartedRoutes, StartsOn}
+use Rattle.route_flows.specs.Averages.{AreChosenRoutes, AreStartedBy, AreStartedRoutes, StartsOn}
 use Rattle.route_flows.specs.Selection.{free_time}
 use Rattle.route_flows.specs.Starting.{asks_for_rest, FillsIn}
-use Rattle.start_table.specs.Starts.{IsStarted, TellsStart}
+use Rattle.start_table.specs.Starts.{TellsStart}
 use Rattle.start_table.specs.declared.rows.StartRow.{StartRow}
 use Rattle.route_flows.proofs.Started.{started_are}
-use Rattle.route_flows.proofs.Averaged.{chosen_are}
 
 past : (xs : List ℕ) (i : ℕ) → length xs ≤ i → get_or xs i 0 ≡ 0
 past [] i h = refl
@@ -92,27 +91,12 @@ module _ (at other : ℕ → ℕ → ℕ) (same : (l step : ℕ) → at l step �
   told-same trip None h = h
   told-same trip (Some links) h = chosen-same trip.origin trip.destination trip.departure (link_numbers links) h
 
-  pub routes-same : (trips : List Trip) (routes : List (Option (List LinkNo))) → AreChosenRoutes (Links at) net trips routes → AreChosenRoutes (Links other) net trips routes
-  routes-same trips routes are = record { as_many = are.as_many; each = λ v trip route t n. told-same trip route (are.each v trip route t n) }
-
   pub started-same : (start : List StartRow) (trips : List Trip) (routes : List (Option (List LinkNo))) → AreStartedBy (Links at) net start trips routes → AreStartedBy (Links other) net start trips routes
   started-same start trips routes are = record { as_many = are.as_many; each = λ v trip route t n. by trip route (are.each v trip route t n) }
     where
       by : (trip : Trip) (route : Option (List LinkNo)) → StartsOn (Links at) net start trip route → StartsOn (Links other) net start trip route
       by trip route (inl started) = inl started
       by trip route (inr (none, chosen)) = inr (none, told-same trip route chosen)
-
--- ---- the first routes
-pub first_are : (net : NetRows) (trips : List Trip) (times : TimeTable) (asks : List Ask) (walks routes : List (Option (List LinkNo))) → times ≡ free_table net 1 1 → asks ≡ replicate (length trips) (record { least = false; walk = true })
-    → AreTold (WalkOf (Links (time_at times)) net) (asks_walk asks) trips walks → routes ≡ walks → AreFirstRoutes net trips routes
-first_are net trips times asks walks routes table asked told is =
-    subst (λ r. AreFirstRoutes net trips r) (sym is)
-    (routes-same (time_at times) (free_time net) (λ l step. ap (λ t. time_at t l step) table ∙ free-stands net 1 1 l step (omega arith) (omega arith)) net trips walks
-    (chosen_are (Links (time_at times)) net trips asks walks asked told))
-
-pub table_are : (net : NetRows) (trips : List Trip) (routes : List (Option (List LinkNo))) (bucket horizon : ℕ) → 1 ≤ bucket → 1 ≤ horizon → AreFirstRoutes net trips routes → AreChosenRoutes (Links (time_at (free_table net bucket horizon))) net trips routes
-table_are net trips routes bucket horizon some lasts first =
-    routes-same (free_time net) (time_at (free_table net bucket horizon)) (λ l step. sym (free-stands net bucket horizon l step some lasts)) net trips routes first
 
 -- ---- from a start table
 pub from_start : (net : NetRows) (start : List StartRow) (trips : List Trip) (times : TimeTable) (asks shown : List Ask) (others told_walks old shown_old new : List (Option (List LinkNo))) → times ≡ free_table net 1 1
@@ -127,11 +111,9 @@ pub started_table : (net : NetRows) (start : List StartRow) (trips : List Trip) 
 started_table net start trips routes bucket horizon some lasts are =
     started-same (free_time net) (time_at (free_table net bucket horizon)) (λ l step. sym (free-stands net bucket horizon l step some lasts)) net start trips routes are
 
-pub nobody_starts : (net : NetRows) (trips : List Trip) (routes : List (Option (List LinkNo))) → AreFirstRoutes net trips routes → AreStartedRoutes net [] trips routes
-nobody_starts net trips routes are = record {
-  as_many = are.as_many;
-  each = λ v trip route t n. inr ((λ walk started. lost trip walk started), are.each v trip route t n);
-}
+pub nobody_started : (at : ℕ → ℕ → ℕ) (net : NetRows) (start : List StartRow) (trips : List Trip) (routes : List (Option (List LinkNo))) → start ≡ [] → AreStartedBy (Links at) net start trips routes → AreChosenRoutes (Links at) net trips routes
+nobody_started at net start trips routes none are = record { as_many = are.as_many; each = λ v trip route t n. by trip route (are.each v trip route t n) }
   where
-    lost : (trip : Trip) (walk : List LinkNo) → IsStarted net [] trip walk → ⊥
-    lost trip walk (r, row, at, fits) = cc
+    by : (trip : Trip) (route : Option (List LinkNo)) → StartsOn (Links at) net start trip route → WalkOf (Links at) net trip route
+    by trip route (inl (walk, is, (r, row, here, fits))) = let lost : slice_get [] r ≡ Some row = ap (λ l. slice_get l r) (sym none) ∙ here in absurd (cc lost)
+    by trip route (inr (unstarted, chosen)) = chosen

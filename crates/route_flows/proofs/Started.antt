@@ -17,6 +17,7 @@ use Rattle.trip_costs.proofs.Timed.{walks_by}
 use Rattle.route_flows.specs.Averages.{AreStartedBy, StartsOn}
 use Rattle.route_flows.specs.Starting.{asks_for_rest, FillsIn}
 use Rattle.route_flows.specs.Selection.{or_other}
+use Rattle.route_flows.proofs.Averaged.{push_before, push_last}
 use Rattle.start_table.specs.Starts.{TellsStart}
 use Rattle.start_table.specs.declared.rows.StartRow.{StartRow}
 
@@ -91,15 +92,6 @@ filling_more others i old mid left new rest inside long is leaves before = by (g
     by (Some walk) e f g = subst (λ n. Filling others (i + 1) old n rest) (sym f) (subst (λ r. Filling others (i + 1) old mid r) (sym g) (kept walk e))
 
 -- ---- something of each trip, one after another
-push_before : {X : Type 0} (xs : List X) (x : X) (v : ℕ) → v < length xs → slice_get (xs ++ x ∷ []) v ≡ slice_get xs v
-push_before [] x v h = absurd (omega (arith, h))
-push_before (y ∷ xs) x zero h = refl
-push_before (y ∷ xs) x (suc v) h = push_before xs x v (omega (arith, h))
-
-push_last : {X : Type 0} (xs : List X) (x : X) → slice_get (xs ++ x ∷ []) (length xs) ≡ Some x
-push_last [] x = refl
-push_last (y ∷ xs) x = push_last xs x
-
 same_some : {X : Type 0} (a b : X) → Some a ≡ Some b → a ≡ b
 same_some a b e = cc
 

@@ -1,6 +1,5 @@
 -- What is asked before routes change, and which routes are renewed.
-use Rattle.std.specs.Prelude.{◌≡◌, ℕ, ◌<◌, ◌&&◌, Bool, true, false, List, length, Option, Some}
-use Rattle.std.specs.Prelude.{slice_get}
+use Rattle.std.specs.Prelude.{◌≡◌, ℕ, ◌<◌, Bool, true, false, List, length, Option, Some, slice_get}
 use Rattle.net_core.specs.declared.rows.LinkNo.{LinkNo}
 use Rattle.gap.specs.Gap.{has_route}
 use Rattle.trip_costs.specs.LoadingCosts.{kind_of}
@@ -10,12 +9,12 @@ use Rattle.route_flows.specs.declared.change.Change.{Change}
 use Rattle.time_routes.specs.declared.vehicles.Ask.{Ask}
 
 -- the walks of the first vehicles that are selected are asked for, and the least times of those
--- that have routes, if these are wanted
-pub record AreAsked (least : Bool) (selected : ℕ → Bool) (routes : List (Option (List LinkNo)))
+-- that have routes
+pub record AreAsked (selected : ℕ → Bool) (routes : List (Option (List LinkNo)))
     (count : ℕ) (asks : List Ask) : Type 0 where
   pub as_many : length asks ≡ count
-  pub each : (v : ℕ) → v < count → slice_get asks v
-      ≡ Some (record { least = least && has_route routes v; walk = selected v })
+  pub each : (v : ℕ) → v < count
+      → slice_get asks v ≡ Some (record { least = has_route routes v; walk = selected v })
 
 -- of the first vehicles those that are selected have their walks, and all others their old routes
 pub record Renews (selected : ℕ → Bool) (walks : List (Option (List LinkNo))) (count : ℕ)

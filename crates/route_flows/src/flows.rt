@@ -13,8 +13,8 @@ ghost use Rattle.trip_costs.specs.Timings.{Links};
 ghost use Rattle.trip_costs.specs.WalkCosts.{table_in, timing};
 
 use crate::change::Change;
-use crate::kept::{copies, fill_in, renew_selected};
-use crate::selection::{all_walks, asks_of, rest_of};
+use crate::kept::{copies, fill_in, renewed};
+use crate::selection::{asks_of, rest_of};
 use crate::starts::start_walks;
 use dta_model::{Routes, Trip};
 use gap::{GapLine, TimedTrips, gap_line_by_shares};
@@ -27,42 +27,6 @@ use trip_costs::WalkCosts;
 
 /// The most workers.
 pub const MOST_WORKERS: u32 = 16;
-
-/// The routes of the first iteration: each vehicle's chosen walk by free-flow steps, from its
-/// departure. They are those of the free-flow table of any bucket length up to the horizon.
-pub fn first_routes<R: AllocGlobal + Threads + Sync>(
-    rt: &R,
-    net: &Net,
-    trips: &[Trip],
-    horizon: u32,
-    workers: u32,
-) -> Result<Routes, Memory>
-    requires trips { AreTrips trips.now }
-    requires horizon_least { 1 ≤ horizon }
-    requires horizon_most { horizon ≤ MOST_HORIZON }
-    requires workers_least { 1 ≤ workers }
-    requires workers_most { workers ≤ MOST_WORKERS }
-    ensures first { IfOk result (AreFirstRoutes net.now trips.now) }
-    ensures table { (bucket : ℕ) → 1 ≤ bucket
-        → IfOk result (AreChosenRoutes (Links (time_at (free_table net.now bucket horizon))) net.now
-        trips.now) }
-    ensures walks { IfOk result (AreWalks net.now trips.now) }
-    ensures unstarted { IfOk result (AreStartedRoutes net.now [] trips.now) }
-{
-    let alloc = rt.alloc();
-    // Free-flow steps stand still, so that a table of one step serves.
-    let times = LinkTimes::free(alloc, net, 1, 1)?;
-    let asks = all_walks(alloc, trips.len())?;
-    let told = tell_by_shares(
-        rt,
-        net,
-        WalkCosts::Links(&times),
-        trips,
-        &asks,
-        &TablePool::new(alloc, workers),
-    )?;
-    Ok(Routes::of(told.walks))
-}
 
 /// The routes of the first iteration from a start table: a vehicle that a row fits has that row's
 /// walk, and any other its chosen walk by free-flow steps, from its departure. They are those of
@@ -89,6 +53,7 @@ pub fn started_routes<R: AllocGlobal + Threads + Sync>(
 {
     let alloc = rt.alloc();
     let mut routes = start_walks(alloc, net, trips, start)?;
+    // Free-flow steps stand still, so that a table of one step serves.
     let times = LinkTimes::free(alloc, net, 1, 1)?;
     let asks = rest_of(alloc, &routes)?;
     let Told {
@@ -106,8 +71,63 @@ pub fn started_routes<R: AllocGlobal + Threads + Sync>(
     Ok(Routes::of(routes))
 }
 
-/// The routes of the iteration after k, from those of iteration k and its costs: the vehicles
-/// that are selected have their chosen walks from their departures, the others keep their routes.
+/// The gap of iteration k and the routes of the next one, from those of iteration k and its costs,
+/// in one pass over the destinations: the vehicles that are selected have their chosen walks from
+/// their departures, the others keep their routes. Routes that are kept are moved, and none is
+/// copied. Labels are filled in the pool's memory, by its workers.
+pub fn gap_and_next_routes<R: AllocGlobal + Threads + Sync>(
+    rt: &R,
+    timed: &TimedTrips,
+    routes: Routes,
+    k: u32,
+    pool: &TablePool,
+) -> Result<(GapLine, Routes), Memory>
+    requires trips { AreTrips timed.now.trips.now }
+    requires routes { AreRoutes timed.now routes }
+    requires k_least { 1 ≤ k }
+    requires k_most { k ≤ MOST_ITERATION }
+    ensures gap { IfOk result (λ r. IsGapLine (timing timed.now.costs) timed.now.net.now
+        timed.now.trips.now routes r.0) }
+    ensures next { IfOk result (λ r. AreNextRoutes (timing timed.now.costs) timed.now.net.now
+        timed.now.trips.now k routes r.1) }
+    ensures walks { IfOk result (λ r. AreWalks timed.now.net.now timed.now.trips.now r.1) }
+{
+    let change = Change {
+        costs: timed.costs,
+        k,
+    };
+    let asks = asks_of(rt.alloc(), routes.as_slice(), &change)?;
+    let told = tell_by_shares(rt, timed.net, timed.costs, timed.trips, &asks, pool)?;
+    let line = gap_line_by_shares(rt, timed, &routes, &told.leasts, pool.workers())?;
+    Ok((line, renewed(told.walks, &change, routes.into_vec())))
+}
+
+/// The same as [`started_routes`] without a row: each vehicle has its chosen walk.
+pub fn first_routes<R: AllocGlobal + Threads + Sync>(
+    rt: &R,
+    net: &Net,
+    trips: &[Trip],
+    horizon: u32,
+    workers: u32,
+) -> Result<Routes, Memory>
+    requires trips { AreTrips trips.now }
+    requires horizon_least { 1 ≤ horizon }
+    requires horizon_most { horizon ≤ MOST_HORIZON }
+    requires workers_least { 1 ≤ workers }
+    requires workers_most { workers ≤ MOST_WORKERS }
+    ensures first { IfOk result (AreFirstRoutes net.now trips.now) }
+    ensures table { (bucket : ℕ) → 1 ≤ bucket
+        → IfOk result (AreChosenRoutes (Links (time_at (free_table net.now bucket horizon))) net.now
+        trips.now) }
+    ensures walks { IfOk result (AreWalks net.now trips.now) }
+    ensures unstarted { IfOk result (AreStartedRoutes net.now [] trips.now) }
+{
+    let start = StartRows::new(rt.alloc());
+    let routes = started_routes(rt, net, trips, horizon, workers, &start)?;
+    Ok(routes)
+}
+
+/// The routes of [`gap_and_next_routes`] alone, from routes that are copied.
 pub fn next_routes<R: AllocGlobal + Threads + Sync>(
     rt: &R,
     net: &Net,
@@ -131,58 +151,8 @@ pub fn next_routes<R: AllocGlobal + Threads + Sync>(
     let alloc = rt.alloc();
     let old = routes.as_slice();
     let change = Change { costs, k };
-    let asks = asks_of(alloc, old, false, &change)?;
-    let Told {
-        leasts: _,
-        mut walks,
-    } = tell_by_shares(
-        rt,
-        net,
-        costs,
-        trips,
-        &asks,
-        &TablePool::new(alloc, workers),
-    )?;
-    let mut next = copies(alloc, old)?;
-    renew_selected(&mut walks, &change, &mut next);
-    Ok(Routes::of(next))
-}
-
-/// The gap of iteration k and the routes of the next one, in one pass over the destinations: what
-/// `gap` and [`next_routes`] give. Routes that are kept are moved, and none is copied. Labels
-/// are filled in the pool's memory, by its workers.
-pub fn gap_and_next_routes<R: AllocGlobal + Threads + Sync>(
-    rt: &R,
-    timed: &TimedTrips,
-    routes: Routes,
-    k: u32,
-    pool: &TablePool,
-) -> Result<(GapLine, Routes), Memory>
-    requires trips { AreTrips timed.now.trips.now }
-    requires routes { AreRoutes timed.now routes }
-    requires k_least { 1 ≤ k }
-    requires k_most { k ≤ MOST_ITERATION }
-    ensures gap { IfOk result (λ r. IsGapLine (timing timed.now.costs) timed.now.net.now
-        timed.now.trips.now routes r.0) }
-    ensures next { IfOk result (λ r. AreNextRoutes (timing timed.now.costs) timed.now.net.now
-        timed.now.trips.now k routes r.1) }
-    ensures walks { IfOk result (λ r. AreWalks timed.now.net.now timed.now.trips.now r.1) }
-{
-    let change = Change {
-        costs: timed.costs,
-        k,
-    };
-    let asks = asks_of(rt.alloc(), routes.as_slice(), true, &change)?;
-    let Told { leasts, mut walks } = tell_by_shares(
-        rt,
-        timed.net,
-        timed.costs,
-        timed.trips,
-        &asks,
-        pool,
-    )?;
-    let line = gap_line_by_shares(rt, timed, &routes, &leasts, pool.workers())?;
-    let mut next = routes.into_vec();
-    renew_selected(&mut walks, &change, &mut next);
-    Ok((line, Routes::of(next)))
+    let asks = asks_of(alloc, old, &change)?;
+    let pool = TablePool::new(alloc, workers);
+    let told = tell_by_shares(rt, net, costs, trips, &asks, &pool)?;
+    Ok(renewed(told.walks, &change, copies(alloc, old)?))
 }

@@ -6,7 +6,7 @@ ghost use Rattle.route_flows.specs.Asked.{Renews, takes};
 ghost use Rattle.route_flows.specs.Starting.{FillsIn};
 
 use crate::change::Change;
-use dta_model::Route;
+use dta_model::{Route, Routes};
 use net_core::Memory;
 use std::alloc::Global;
 
@@ -46,13 +46,8 @@ fn renew(walks: &mut [Option<Route>], vehicle: u32, change: &Change, routes: &mu
     }
 }
 
-/// Gives each vehicle that is selected its walk in place of its old route; the others keep theirs.
-/// No route is copied.
-pub(crate) fn renew_selected(
-    walks: &mut [Option<Route>],
-    change: &Change,
-    routes: &mut [Option<Route>],
-)
+// Gives each vehicle that is selected its walk in place of its old route; the others keep theirs.
+fn renew_selected(walks: &mut [Option<Route>], change: &Change, routes: &mut [Option<Route>])
     requires few { length routes.old ≤ MOST_TRIPS }
     requires each { length walks.old ≡ length routes.old }
     ensures { Renews (takes change.now) walks.old (length routes.old) routes.old routes.new }
@@ -60,6 +55,21 @@ pub(crate) fn renew_selected(
     for v in 0..routes.len() {
         renew(walks, v as u32, change, routes);
     }
+}
+
+/// Routes, with the walk of each vehicle that is selected in place of its old route. No route is
+/// copied.
+pub(crate) fn renewed(
+    mut walks: Vec<Option<Route>>,
+    change: &Change,
+    mut routes: Vec<Option<Route>>,
+) -> Routes
+    requires few { length routes.items ≤ MOST_TRIPS }
+    requires each { length walks.items ≡ length routes.items }
+    ensures { Renews (takes change.now) walks.items (length routes.items) routes.items result }
+{
+    renew_selected(&mut walks, change, &mut routes);
+    Routes::of(routes)
 }
 
 // Gives a vehicle its other walk, if it has none.

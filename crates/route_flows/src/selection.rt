@@ -1,5 +1,5 @@
 // Who takes a new route after an iteration, and what is asked for that.
-ghost use Rattle.std.specs.Prelude.{◌≡◌, ◌≤◌, ◌&&◌, is_some, length, IfOk, replicate, true, false};
+ghost use Rattle.std.specs.Prelude.{◌≡◌, ◌≤◌, length, IfOk};
 ghost use Rattle.dta_model.specs.declared.trip.TheConstants.{MOST_TRIPS};
 ghost use Rattle.route_flows.specs.Asked.{AreAsked, takes as takes_of};
 ghost use Rattle.route_flows.specs.Starting.{asks_for_rest};
@@ -45,29 +45,21 @@ impl Change<'_> {
     }
 }
 
-// Whether the least time of a vehicle is asked for: it is wanted, and the vehicle has a route.
-fn is_measured(least: bool, route: &Option<Route>) -> bool
-    ensures { result ≡ (least && is_some route.now) }
-{
-    least && route.is_some()
-}
-
 /// The walks of the vehicles that are selected after an iteration, and the least times of those
-/// that have routes, if they are wanted.
+/// that have routes.
 pub(crate) fn asks_of(
     alloc: Global,
     routes: &[Option<Route>],
-    least: bool,
     change: &Change,
 ) -> Result<Vec<Ask>, Memory>
     requires few { length routes.now ≤ MOST_TRIPS }
     ensures { IfOk result (λ asks.
-        AreAsked least (takes_of change.now) routes.now (length routes.now) asks.items) }
+        AreAsked (takes_of change.now) routes.now (length routes.now) asks.items) }
 {
     let mut asks = Vec::new(alloc);
     for v in 0..routes.len() {
         asks.push(Ask {
-            least: is_measured(least, &routes[v]),
+            least: routes[v].is_some(),
             walk: change.takes(v as u32),
         })?;
     }
@@ -83,21 +75,6 @@ pub(crate) fn rest_of(alloc: Global, walks: &[Option<Route>]) -> Result<Vec<Ask>
         asks.push(Ask {
             least: false,
             walk: walk.is_none(),
-        })?;
-    }
-    Ok(asks)
-}
-
-/// The walks of so many vehicles.
-pub(crate) fn all_walks(alloc: Global, count: usize) -> Result<Vec<Ask>, Memory>
-    ensures { IfOk result (λ asks. asks.items
-        ≡ replicate count (record { least = false; walk = true })) }
-{
-    let mut asks = Vec::new(alloc);
-    for _ in 0..count {
-        asks.push(Ask {
-            least: false,
-            walk: true,
         })?;
     }
     Ok(asks)

@@ -1,9 +1,9 @@
 //! Least times and chosen walks of vehicles, by link times or by whole trips.
 //!
-//! [`tell`] and [`tell_by_shares`] answer what is asked of vehicles, their least times and chosen
-//! walks from their departures, whatever their zones, by the labels of a group of destinations
-//! after another: the first in the calling thread, the second by up to four shares of the groups
-//! side by side. None is told exactly where there is no walk, or where it wasn't asked.
+//! [`tell_by_shares`] answers what is asked of vehicles, their least times and chosen walks from
+//! their departures, whatever their zones, by the labels of a group of destinations after another,
+//! in up to four shares of the groups side by side. None is told exactly where there is no walk, or
+//! where it wasn't asked. [`tell`] does the same in the calling thread alone.
 //!
 //! A vehicle takes the answer that was searched last from its zone where that is of the same zones
 //! and departure. So the links that begin in a zone are looked at once for all of these vehicles; a
