@@ -9,7 +9,7 @@ use Rattle.std.specs.Char.{is_ascii_digit}
 use Rattle.std.specs.Str.Parse.{ParsesUnsigned, digits_value}
 use Rattle.std.proofs.lemmas.Str.Parse.{IsNumeralModel, digits_value_short, numerals_by_value, parse_gives, tells_all_ascii_digits}
 use Rattle.fixed_units.proofs.Spellings.{not-none-length}
-use Rattle.dta_words.specs.Uses.{Text}
+use Rattle.flat_options.specs.Uses.{Text}
 use Rattle.dta_words.specs.Numbers.{is_number, when_between}
 use Rattle.dta_words.specs.Ranges.{IsBetween}
 

@@ -8,7 +8,7 @@ use Rattle.std.proofs.lemmas.Option.{same_Some}
 use Rattle.std.specs.Prelude.{option_and_then, option_map}
 use Rattle.std.specs.List.{All, slice_index_or}
 use Rattle.clap.specs.Walk.{texts}
-use Rattle.dta_words.specs.Uses.{Text}
+use Rattle.flat_options.specs.Uses.{Text}
 use Rattle.dta_words.specs.Pieces.{is_semicolon, list_of, pieces_of, value_before, values_of}
 use Rattle.dta_words.specs.Ranges.{IsBetween}
 use Rattle.dta_words.proofs.NumberFacts.{chosen}

@@ -11,19 +11,19 @@ use Rattle.dta_model.specs.Sound.{IsQueue}
 use Rattle.dta_model.specs.declared.queue.Queue.{Queue}
 use Rattle.dta_model.specs.declared.queue.Queue.TheVariants as queue
 use Rattle.fixed_units.specs.declared.units.Units.{Units}
+use Rattle.flat_options.specs.Uses.{Text, Use, has_name, number_name, uses_of, value_in}
+use Rattle.flat_options.proofs.ClapReads.{taken_where_given}
 use Rattle.dta_words.specs.Grammar.{costs_given, flags_in, link_given, length_unit_of, period_within, queue_of, settings_from, settings_of, settings_over, speed_unit_of, units_by}
 use Rattle.dta_words.specs.Numbers.{number_given, number_of}
 use Rattle.dta_words.specs.Options.{command_of, side_of, takes_of, takes_scales, word_of}
 use Rattle.dta_words.specs.Ranges.{AreScales, AreSettings, AreStarts, IsBetween, IsSide}
 use Rattle.dta_words.specs.Scales.{scale_of, scales_given}
 use Rattle.dta_words.specs.Starts.{start_of, starts_given, when_below}
-use Rattle.dta_words.specs.Uses.{Text, Use, has_name, number_name, uses_of, value_in}
 use Rattle.dta_words.specs.declared.command.Command.{Command}
 use Rattle.dta_words.specs.declared.command.Command.TheVariants as command
 use Rattle.dta_words.specs.declared.command.Settings.{Settings}
 use Rattle.dta_words.specs.declared.options.Bounds.{Bounds}
 use Rattle.dta_words.specs.declared.options.TheConstants.{BUCKET, HORIZON, ITERATIONS, JAM, STEP, WATCH, WAVE, WORKERS}
-use Rattle.dta_words.proofs.ClapReads.{taken_where_given}
 use Rattle.dta_words.proofs.NumberFacts.{bounded}
 use Rattle.dta_words.proofs.SettingsFacts.{start_alone}
 use Rattle.dta_words.proofs.PieceFacts.{list_within}

@@ -1,17 +1,30 @@
 -- Settings by what the words tell.
-use Rattle.std.proofs.Common.{◌≡◌, ◌∙◌, Bool, cond, true, false, codes, refl, sym, ap, arith, List, Option, Some, None, true≢false}
-use Rattle.std.specs.Prelude.{option_and_then}
-use Rattle.clap.specs.Matches.{first_value, one_text}
+use Rattle.std.proofs.Common.{◌≡◌, ◌∙◌, Bool, cond, true, false, codes, refl, sym, ap, subst, arith}
+use Rattle.std.proofs.Common.{drop, List, Option, Some, None, true≢false}
+use Rattle.std.specs.Prelude.{MatchOption, option_and_then}
+use Rattle.clap.specs.Matches.{first_value, found_of, one_text}
+use Rattle.clap.specs.declared.parser.matches.ArgMatches.{ArgMatches}
 use Rattle.clap.specs.declared.parser.matches.Found.{Found}
 use Rattle.std.specs.Str.{bytes_eq}
-use Rattle.dta_words.specs.Uses.{Text, has_name, is_given, number_name, uses_of, value_in}
+use Rattle.flat_options.specs.Uses.{Takes, Text, has_name, is_given, number_name, uses_of, value_in}
+use Rattle.flat_options.specs.Reading.{Reads, flag_text}
+use Rattle.flat_options.proofs.ClapReads.{taken_where_given}
 use Rattle.dta_words.specs.Options.{takes_of}
-use Rattle.dta_words.specs.Reading.{Reads, flag_text}
 use Rattle.dta_words.specs.Grammar.{flags_in, settings_by, settings_from}
 use Rattle.dta_words.specs.declared.command.Command.{Command}
 use Rattle.dta_words.specs.declared.command.Command.TheVariants as command
 use Rattle.dta_words.specs.declared.options.Flags.{Flags}
-use Rattle.dta_words.proofs.ClapReads.{taken_where_given}
+
+-- what clap finds in the words behind a command's name
+pub matches_read : (c : Command) (words : List Text) (takes : Takes) (all : List Text)
+    (found : Option ArgMatches) (m : ArgMatches) → takes ≡ takes_of c → all ≡ words
+    → found ≡ Some m → MatchOption found (uses_of takes (drop 1 all) ≡ None)
+    (λ m. Reads takes (drop 1 all) (found_of m)) → Reads (takes_of c) (drop 1 words) (found_of m)
+matches_read c words takes all found m takes_is all_is found_is read =
+    subst (λ t. Reads t (drop 1 words) (found_of m)) takes_is
+    (subst (λ ws. Reads takes (drop 1 ws) (found_of m)) all_is
+    (subst (λ o. MatchOption o (uses_of takes (drop 1 all) ≡ None)
+    (λ m. Reads takes (drop 1 all) (found_of m))) found_is read))
 
 -- the flags of a command are among those of an assignment
 flags_among : (c : Command) (name : Text) → has_name (takes_of command.Assign).flags name ≡ false

@@ -7,10 +7,10 @@ use Rattle.fixed_units.specs.declared.measure.SpeedUnit.TheVariants as speed_uni
 use Rattle.dta_model.specs.declared.queue.Queue.TheVariants as queue
 use Rattle.fixed_units.specs.Quantity.{number}
 use Rattle.trip_costs.specs.declared.loading_costs.Costs.TheVariants as costs
+use Rattle.flat_options.specs.Uses.{Text}
 use Rattle.dta_words.specs.Grammar.{costs_given, link_given, settings_of}
 use Rattle.dta_words.specs.Numbers.{number_of}
 use Rattle.dta_words.specs.Pieces.{pieces_of}
-use Rattle.dta_words.specs.Uses.{Text}
 use Rattle.dta_words.specs.Starts.{starts_given, starts_of}
 use Rattle.dta_words.specs.Scales.{scale_of, scales_given, scales_in}
 use Rattle.dta_words.specs.declared.command.Command.{Command}

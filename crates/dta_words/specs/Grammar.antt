@@ -13,7 +13,7 @@ use Rattle.dta_model.specs.declared.queue.Queue.{Queue}
 use Rattle.dta_model.specs.declared.queue.Queue.TheVariants as queue
 use Rattle.trip_costs.specs.declared.loading_costs.Costs.{Costs}
 use Rattle.trip_costs.specs.declared.loading_costs.Costs.TheVariants as costs
-use Rattle.dta_words.specs.Uses.{Text, Use, is_given, number_name, uses_of, value_in}
+use Rattle.flat_options.specs.Uses.{Text, Use, is_given, number_name, uses_of, value_in}
 use Rattle.dta_words.specs.Options.{command_of, takes_of, takes_scales, word_of}
 use Rattle.dta_words.specs.Numbers.{number_given}
 use Rattle.dta_words.specs.Starts.{starts_given}

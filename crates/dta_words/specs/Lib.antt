@@ -1,12 +1,9 @@
 pub mod WordsInside
-pub mod Uses
-pub mod Asked
 pub mod Numbers
 pub mod Options
 pub mod Pieces
 pub mod Starts
 pub mod Scales
-pub mod Reading
 pub mod Grammar
 pub mod Ranges
 pub mod Examples

@@ -4,7 +4,7 @@ use Rattle.std.specs.Prelude.{if◌then◌else◌, option_and_then}
 use Rattle.std.specs.List.{list_all}
 use Rattle.std.specs.Char.{is_ascii_digit}
 use Rattle.std.specs.Str.Parse.{digits_value}
-use Rattle.dta_words.specs.Uses.{Text}
+use Rattle.flat_options.specs.Uses.{Text}
 use Rattle.dta_words.specs.declared.numbers.TheConstants.{MOST_DIGITS}
 use Rattle.dta_words.specs.declared.options.Bounds.{Bounds}
 

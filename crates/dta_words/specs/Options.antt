@@ -2,8 +2,8 @@
 use Rattle.std.specs.Prelude.{ℕ, Bool, true, false, List, [], ◌∷◌, ◌++◌, codes, Option, Some, None}
 use Rattle.std.specs.Prelude.{if◌then◌else◌, option_and_then}
 use Rattle.std.specs.Str.{bytes_eq}
+use Rattle.flat_options.specs.Uses.{Takes, Text, has_name}
 use Rattle.dta_words.specs.Numbers.{number_between}
-use Rattle.dta_words.specs.Uses.{Takes, Text, has_name}
 use Rattle.dta_words.specs.declared.command.Command.{Command}
 use Rattle.dta_words.specs.declared.command.Command.TheVariants as command
 use Rattle.dta_words.specs.declared.options.TheConstants.{LEAST_SIDE, MOST_SIDE}

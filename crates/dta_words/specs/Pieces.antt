@@ -2,7 +2,7 @@
 use Rattle.std.specs.Prelude.{ℕ, Bool, ◌==◌, List, [], ◌∷◌, length, nat_le, Option, Some, None}
 use Rattle.std.specs.Prelude.{if◌then◌else◌, option_and_then, option_map}
 use Rattle.std.specs.List.{slice_split}
-use Rattle.dta_words.specs.Uses.{Text}
+use Rattle.flat_options.specs.Uses.{Text}
 
 -- the byte is `;` (59)
 abbrev pub is_semicolon : ℕ → Bool

@@ -3,7 +3,7 @@ use Rattle.std.specs.Prelude.{ℕ, Bool, List, [], Option, Some, None}
 use Rattle.std.specs.Prelude.{if◌then◌else◌, option_and_then}
 use Rattle.std.specs.Result.{result_ok}
 use Rattle.fixed_units.specs.Quantity.{milli_of}
-use Rattle.dta_words.specs.Uses.{Text}
+use Rattle.flat_options.specs.Uses.{Text}
 use Rattle.dta_words.specs.Numbers.{when_between}
 use Rattle.dta_words.specs.Pieces.{list_of}
 use Rattle.dta_words.specs.declared.options.TheConstants.{GREATEST_SCALE, LEAST_SCALE, MOST_SCALES}

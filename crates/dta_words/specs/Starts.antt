@@ -1,7 +1,7 @@
 -- The steps that `--at` gives.
 use Rattle.std.specs.Prelude.{ℕ, List, [], ◌∷◌, nat_lt, Option, Some, None}
 use Rattle.std.specs.Prelude.{if◌then◌else◌, option_and_then}
-use Rattle.dta_words.specs.Uses.{Text}
+use Rattle.flat_options.specs.Uses.{Text}
 use Rattle.dta_words.specs.Numbers.{number_of}
 use Rattle.dta_words.specs.Pieces.{list_of}
 use Rattle.dta_words.specs.declared.options.TheConstants.{MOST_STARTS}

@@ -1,12 +1,13 @@
 // The commands, each with its word and what it takes, and the settings of a run.
 ghost use Rattle.std.specs.Prelude.{◌≡◌};
-ghost use Rattle.dta_words.specs.Asked.{names_in};
-ghost use Rattle.dta_words.specs.Options.{takes_of, takes_scales, word_of};
+ghost use Rattle.flat_options.specs.Asked.{takes_in};
+ghost use Rattle.dta_words.specs.Options.{takes_of, word_of};
 
 use crate::options::LEAST_SIDE;
 use crate::scales::Scales;
 use dta_model::{Queue, Steps};
 use fixed_units::Units;
+use flat_options::FlatOptions;
 use trip_costs::Costs;
 
 /// What the program is asked to do.
@@ -97,65 +98,43 @@ pub(crate) fn command_named(text: &str) -> Option<Command>
     }
 }
 
-/// Names in groups.
-type Groups = &'static [&'static [&'static str]];
-
-/// What a command takes after its own word.
-#[derive(Clone, Copy)]
-pub(crate) struct Takes {
-    /// The names of the options with a value.
-    pub(crate) options: Groups,
-    /// The names of the flags.
-    pub(crate) flags: Groups,
-    /// Whether it takes a number that stands alone.
-    pub(crate) number: bool,
-    /// Whether multiples of the demand are among the options, which then have to be given.
-    pub(crate) scales: bool,
-}
-
-/// What each command over tables takes.
-const TABLES: Takes = Takes {
+// What each command over tables takes.
+const TABLES: FlatOptions = FlatOptions {
     options: &[EVERYWHERE, UNITS],
     flags: &[],
     number: false,
-    scales: false,
 };
 
-/// What a command takes.
-pub(crate) fn taken_by(named: Command) -> Takes
-    ensures options { names_in result.options.now ≡ (takes_of named).options }
-    ensures flags { names_in result.flags.now ≡ (takes_of named).flags }
-    ensures number { result.number ≡ (takes_of named).number }
-    ensures scales { result.scales ≡ takes_scales named }
+/// What a command takes after its own word.
+pub(crate) fn taken_by(named: Command) -> FlatOptions
+    ensures { takes_in result ≡ takes_of named }
 {
     match named {
         Command::Freeflow => TABLES,
-        Command::Assign => Takes {
+        Command::Assign => FlatOptions {
             options: &[EVERYWHERE, UNITS, TIMES, LOADING, ITERATED, WATCHED],
             flags: &[PLAIN, &["start"]],
             ..TABLES
         },
-        Command::Demo(_) => Takes {
+        Command::Demo(_) => FlatOptions {
             options: &[EVERYWHERE, TIMES, LOADING, ITERATED, WATCHED],
             flags: &[PLAIN],
             number: true,
-            ..TABLES
         },
-        Command::Skim => Takes {
+        Command::Skim => FlatOptions {
             options: &[EVERYWHERE, UNITS, TIMES, &["at"]],
             ..TABLES
         },
-        Command::Counts => Takes {
+        Command::Counts => FlatOptions {
             options: &[EVERYWHERE, UNITS, TIMES, LOADING, ITERATED, &["link"]],
             flags: &[PLAIN],
             ..TABLES
         },
-        Command::Sweep => Takes {
+        Command::Sweep => FlatOptions {
             options: &[EVERYWHERE, UNITS, TIMES, LOADING, ITERATED, &["scales"]],
-            scales: true,
             ..TABLES
         },
-        Command::Audit => Takes {
+        Command::Audit => FlatOptions {
             options: &[EVERYWHERE, UNITS, TIMES, LOADING],
             ..TABLES
         },

@@ -2,21 +2,24 @@
 ghost use Rattle.std.specs.Prelude.{◌≡◌, ◌<◌, IfErr, IfOk, List, None, Some, drop, length};
 ghost use Rattle.std.specs.Prelude.{option_and_then, true};
 ghost use Rattle.clap.specs.Matches.{found_of};
+ghost use Rattle.flat_options.specs.Reading.{Reads};
+ghost use Rattle.flat_options.specs.Uses.{Text, uses_of};
 ghost use Rattle.dta_words.specs.Grammar.{flags_in, settings_from, settings_of};
 ghost use Rattle.dta_words.specs.Options.{takes_of};
 ghost use Rattle.dta_words.specs.Ranges.{AreSettings};
-ghost use Rattle.dta_words.specs.Reading.{Reads};
-ghost use Rattle.dta_words.specs.Uses.{Text, uses_of};
 ghost use Rattle.dta_words.specs.declared.refusal.WordsRefusal.TheVariants as refusal;
 
-use crate::command::{Command, Settings, command_named};
+use crate::command::{Command, Settings, command_named, taken_by};
 use crate::options::Flags;
-use crate::reading::read;
 use crate::refusal::WordsRefusal;
 use crate::values::settings_by_values;
 use crate::words::Words;
 use clap::ArgMatches;
+use flat_options::read;
 use std::alloc::Global;
+
+/// The program's name.
+const PROGRAM: &str = "dta";
 
 /// The flags that are given. A command has none that it doesn't take.
 fn flags(named: Command, found: &ArgMatches) -> Flags
@@ -40,7 +43,9 @@ fn settings_behind(alloc: Global, named: Command, words: &Words) -> Result<Setti
         → option_and_then (settings_from named) (uses_of (takes_of named) (drop 1 words.now))
         ≡ None) }
 {
-    let found = read(alloc, named, words)?;
+    let Some(found) = read(alloc, PROGRAM, taken_by(named), words.as_slice())? else {
+        return Err(WordsRefusal::Usage);
+    };
     let flags = flags(named, &found);
     match settings_by_values(alloc, named, &found, flags)? {
         Some(settings) => Ok(settings),

@@ -9,7 +9,6 @@ ghost use Rattle.dta_words.specs.Options.{command_of, takes_scales};
 ghost use Rattle.dta_words.specs.Scales.{scales_given};
 ghost use Rattle.dta_words.specs.Starts.{starts_given};
 
-use crate::clap_command::NUMBER;
 use crate::command::{Command, Settings, taken_by};
 use crate::numbers::number_between;
 use crate::options::{
@@ -22,6 +21,7 @@ use clap::ArgMatches;
 use desk_io::Memory;
 use dta_model::{Queue, Steps};
 use fixed_units::{LengthUnit, SpeedUnit, Units, whole};
+use flat_options::NUMBER;
 use std::alloc::Global;
 use trip_costs::Costs;
 
@@ -140,7 +140,7 @@ fn scales(alloc: Global, named: Command, found: &ArgMatches) -> Result<Option<Sc
 {
     match found.get_str("scales") {
         Some(text) => scales_in(alloc, text),
-        None if taken_by(named).scales => Ok(None),
+        None if matches!(named, Command::Sweep) => Ok(None),
         None => Ok(Some(no_scales(alloc))),
     }
 }

@@ -1,0 +1,5 @@
+pub mod ClapRules
+pub mod ClapWalk
+pub mod ClapReads
+pub mod AskedFacts
+pub mod ReadFacts

@@ -1,0 +1,4 @@
+pub mod Uses
+pub mod Asked
+pub mod Reading
+pub mod Examples
