@@ -2,7 +2,6 @@
 pub mod ElementFacts
 pub mod FallingFacts
 pub mod FreeFlowFacts
-pub mod Joins
 pub mod LeastOver
 pub mod NarrowFacts
 pub mod PlaceFacts

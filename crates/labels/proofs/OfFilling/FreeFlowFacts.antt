@@ -12,7 +12,9 @@ use Rattle.labels.specs.declared.states.onward.Onward.{Onward}
 use Rattle.labels.specs.Filling.Rests.{over, least_over}
 use Rattle.labels.proofs.OfFilling.LeastOver.{least_over_le}
 use Rattle.labels.specs.Filling.FreeFlow.{still, still_least, value, AreAbove, AreShort, is_known, known}
+use Rattle.net_core.specs.declared.rows.TheConstants.{MOST_LINKS}
 use Rattle.labels.specs.Filling.Labels.{most_span, far}
+use Rattle.labels.specs.Filling.Tails.{most_tail}
 use Rattle.labels.specs.declared.states.router.Router.{Router}
 use Rattle.labels.specs.States.RouterWays.{is_own, onwards}
 
@@ -104,3 +106,11 @@ known_few tail = let s = sum_by-le is_known 1 tail (λ k d h. one (get_or tail k
 
     one : (x : ℕ) → is_known x ≤ 1
     one x = by (nat_lt x far)
+
+-- so what is left in free flow is within a long span for each state
+pub short_near : (tail : List ℕ) → length tail ≤ MOST_LINKS → AreShort tail
+    → All (λ x. x < far → x ≤ most_tail) tail
+short_near tail few short k d h below =
+    let s = short k d h below in
+    let n = known_few tail in
+    omega (arith, s, n, few)

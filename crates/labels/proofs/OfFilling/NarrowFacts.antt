@@ -1,7 +1,8 @@
--- What is left in fewer bits is what is left in 64.
-use Rattle.std.proofs.Common.{◌≡◌, ◌⊎◌, inl, inr, ℕ, suc, ◌+◌, ◌-◌, ◌*◌, ◌<◌, ◌≤◌, Bool, true, false, cond, min, List, [], ◌∷◌, length, ap, ◌∙◌, arith, get_or, Some}
+-- What is left in slots is what is left.
+use Rattle.std.proofs.Common.{◌≡◌, ◌⊎◌, inl, inr, ℕ, suc, ◌+◌, ◌-◌, ◌*◌, ◌<◌, ◌≤◌, Bool, true, false, cond, min, List, [], ◌∷◌, length, ap, ◌∙◌, arith, get_or, subst, Some}
 use Rattle.std.specs.Prelude.{slice_get, All}
 use Rattle.std.proofs.lemmas.Bool.{cases_lt}
+use Rattle.std.proofs.lemmas.Option.{slice_get_within, get_or_from_slice_get}
 use Rattle.std.proofs.lemmas.Bool.Decides.{nat_tests}
 use Rattle.dta_model.specs.LinkTimes.{TimeTable}
 use Rattle.trip_costs.specs.WalkCosts.{AreSteps}
@@ -16,12 +17,11 @@ use Rattle.labels.specs.Filling.FreeFlow.{still_least}
 use Rattle.labels.specs.declared.states.onward.Onward.{Onward}
 use Rattle.labels.specs.declared.states.router.Router.{Router}
 use Rattle.labels.proofs.OfReading.Joined.{near}
-use Rattle.labels.proofs.OfFilling.Joins.{either, in_all}
 use Rattle.labels.proofs.OfFilling.LeastOver.{least_over_le}
 use Rattle.labels.proofs.Basics.{All_range}
 
 -- from the horizon on, the least is the narrowed one of numbers that stand still
-narrow_stands : (at : ℕ → ℕ → ℕ) (beyond : ℕ) (rest : ℕ → ℕ → ℕ) (free tail : List ℕ) (horizon count e : ℕ) → beyond ≤ 2147483648 → horizon ≤ e
+narrow_stands : (at : ℕ → ℕ → ℕ) (beyond : ℕ) (rest : ℕ → ℕ → ℕ) (free tail : List ℕ) (horizon count e : ℕ) → beyond ≤ far → horizon ≤ e
     → ((l f : ℕ) → horizon ≤ f → at l f ≡ get_or free l 0) → ((s f : ℕ) → s < count → horizon ≤ f → rest s f ≡ min (get_or tail s 0) beyond)
     → (ws : List Onward) → All (λ w. w.to < count) ws → least_over at beyond rest e ws ≡ min (still_least tail free ws) beyond
 unfolding least_over over
@@ -39,7 +39,7 @@ wide_far : (beyond x : ℕ) → beyond ≤ x → widened beyond x ≡ far
 wide_far beyond x h = grind (arith, nat_tests)
 
 -- numbers that fit have their least there
-widen_least : (at : ℕ → ℕ → ℕ) (beyond : ℕ) (rest : ℕ → ℕ → ℕ) (e : ℕ) → beyond ≤ 2147483648 → (ws : List Onward) → All (λ w. rest w.to (e + span at e w) < beyond → rest w.to (e + span at e w) + span at e w < beyond) ws
+widen_least : (at : ℕ → ℕ → ℕ) (beyond : ℕ) (rest : ℕ → ℕ → ℕ) (e : ℕ) → beyond ≤ far → (ws : List Onward) → All (λ w. rest w.to (e + span at e w) < beyond → rest w.to (e + span at e w) + span at e w < beyond) ws
     → widened beyond (least_over at beyond rest e ws) ≡ least_over at far (λ s f. widened beyond (rest s f)) e ws
 unfolding least_over over
 widen_least at beyond rest e low [] fits = wide_far beyond beyond (omega arith)
@@ -71,12 +71,19 @@ widen_least at beyond rest e low (w ∷ ws) fits = by (widen_least at beyond res
         let c = wide_far beyond (min (rest w.to (e + span at e w) + span at e w) (least_over at beyond rest e ws)) (omega (arith, h, k)) in
         omega (arith, a, b, c, h, k, ih, at_most)
 
+either : (b : Bool) (x y : ℕ) → x ≡ cond b 0 y → cond b (x ≡ 0) (x ≡ y)
+either true x y h = h
+either false x y h = h
+
+in_all : {X : Type 0} (P : X → Type 0) (xs : List X) (k : ℕ) (x : X) → slice_get xs k ≡ Some x → All P xs → P x
+in_all P xs k x h all = subst P (get_or_from_slice_get xs k x x h) (all k x (slice_get_within xs k x h))
+
 -- filled rows over a settled tail hold what is left
-module _ (t : TimeTable) (at : ℕ → ℕ → ℕ) (r : Router) (zone most longest beyond : ℕ) (free old new tail : List ℕ) (low : beyond ≤ 2147483648)
+module _ (t : TimeTable) (at : ℕ → ℕ → ℕ) (r : Router) (zone most longest beyond : ℕ) (free old new tail : List ℕ) (low : beyond ≤ far)
     (sound : AreSteps t at) (links : length r.states.items ≡ length t.free) (frees : (l : ℕ) → get_or t.free l 0 ≡ get_or free l 0)
     (settled : IsTail free r zone most tail) (put : IsPut beyond old tail)
     (rows : AreRows at beyond (length r.zones.items) t.horizon old new r zone 0)
-    (within : AreWithin at r longest) (fits : t.horizon + 2 * longest + most < beyond) where
+    (within : AreWithin at r longest) (fits : t.horizon + 2 * longest + most < beyond) (is_near : t.horizon + 2 * longest + most ≤ most_left) where
   abbrev rest : ℕ → ℕ → ℕ
   rest = rest_in (length r.zones.items) t.horizon new
 
@@ -137,7 +144,10 @@ module _ (t : TimeTable) (at : ℕ → ℕ → ℕ) (r : Router) (zone most long
   wide_near s e small below = by (cases_lt (rest s e) beyond)
     where
       by : (rest s e < beyond) ⊎ (beyond ≤ rest s e) → widened beyond (rest s e) ≤ most_left
-      by (inl h) = let w = wide_same beyond (rest s e) h in omega (arith, w, h, low)
+      by (inl h) =
+          let w = wide_same beyond (rest s e) h in
+          let n = near_all s e small h in
+          omega (arith, w, n, is_near)
       by (inr h) = let w = wide_far beyond (rest s e) h in absurd (omega (arith, w, below))
 
   pub rows_left : AreLeft at (λ s e. widened beyond (rest_in (length r.zones.items) t.horizon new s e)) r zone

@@ -4,8 +4,6 @@ use Rattle.std.specs.Prelude.{nat_eq, slice_set, All}
 use Rattle.std.proofs.lemmas.Grind.{get_or-set_at}
 use Rattle.std.proofs.lemmas.List.{get_or-set_other, length-set}
 use Rattle.std.proofs.lemmas.Bool.{cases_lt}
-use Rattle.dta_model.specs.LinkTimes.{TimeTable}
-use Rattle.trip_costs.specs.WalkCosts.{AreSteps}
 use Rattle.labels.specs.Filling.Labels.{rest_in, value}
 use Rattle.labels.specs.Filling.Rests.{span, over, least_over}
 use Rattle.labels.specs.Filling.Rows.{IsRowTo}
@@ -13,7 +11,6 @@ use Rattle.labels.specs.States.Spans.{AreShortAt}
 use Rattle.labels.specs.declared.states.onward.Onward.{Onward}
 use Rattle.labels.specs.declared.states.router.Router.{Router}
 use Rattle.labels.specs.States.RouterWays.{is_own, onwards}
-use Rattle.labels.proofs.Basics.{All_range}
 
 pub IsRowTo_none : (at : ℕ → ℕ → ℕ) (beyond states horizon : ℕ) (labels : List ℕ) (back step : ℕ) (r : Router) (zone : ℕ) → All (λ x. x ≤ beyond) labels → IsRowTo at beyond states horizon labels labels back step r zone 0
 IsRowTo_none at beyond states horizon labels back step r zone low = record { as_many = refl; before = λ k h. refl; each = λ s h. absurd (omega arith); low = low }
@@ -76,12 +73,3 @@ IsRowTo_next at beyond states horizon old now new back step r zone count own on 
 -- short ways on take time
 pub short_some : (at : ℕ → ℕ → ℕ) (beyond e : ℕ) (ways : List Onward) → AreShortAt at beyond e ways → All (λ w. 0 < span at e w) ways
 short_some at beyond e ways short k d h = (short k d h).0
-
--- each way on takes time
-pub spans_some : (t : TimeTable) (at : ℕ → ℕ → ℕ) (e : ℕ) (ways : List Onward) → AreSteps t at → All (λ w. w.link < length t.free) ways → All (λ w. 0 < span at e w) ways
-spans_some t at e ways sound link k d within =
-    let w = get_or ways k d in
-    let one = sound.least w.link (e + w.wait) (link k d within) in
-    omega (arith, one)
-
-pub ruleset state_by_state = (IsRowTo_none, IsRowTo_more, All_range)

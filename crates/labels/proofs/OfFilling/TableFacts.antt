@@ -56,9 +56,6 @@ AreRows_more at beyond states horizon old now grown new r zone step back sum som
         = least_same at beyond states horizon grown new back step sum some row.before (onwards r s) (inside s h) (going s step h) in
         rw (at_back, now_step) (row.each s (omega arith) ∙ ap (λ x. cond own 0 x) (sym same))
 
-pub AreRows_self : (at : ℕ → ℕ → ℕ) (beyond states horizon : ℕ) (old new : List ℕ) (r : Router) (zone : ℕ) (first : ℕ) → AreRows at beyond states horizon old new r zone first → AreRows at beyond states horizon new new r zone first
-AreRows_self at beyond states horizon old new r zone first rows = record { tail = λ k h. refl; each = rows.each; low = rows.low }
-
 -- a place in a row stands in the table
 pub place_inside : (n wide back k : ℕ) → back ≤ n → k < wide → back * wide + k < (n + 1) * wide
 place_inside n wide back k h inside =

@@ -1,8 +1,8 @@
 -- Tails of zones, one after another, and of the first of them.
-use Rattle.std.proofs.Common.{◌≡◌, ◌⊎◌, inl, inr, ℕ, ◌+◌, ◌<◌, ◌≤◌, List, [], ◌∷◌, ◌++◌, length, take, drop, ap, sym, ◌∙◌, subst, arith, get_or}
+use Rattle.std.proofs.Common.{◌≡◌, ◌⊎◌, inl, inr, ℕ, ◌+◌, ◌<◌, ◌≤◌, List, [], ◌∷◌, ◌++◌, length, map, take, drop, ap, sym, ◌∙◌, subst, arith, get_or}
 use Rattle.std.proofs.lemmas.Bool.{cases_lt}
 use Rattle.std.proofs.lemmas.Grind.{common_steps}
-use Rattle.std.proofs.lemmas.List.{get_or-take, get_or_append_left, get_or-append-add, length-map, length-take-le, take-map}
+use Rattle.std.proofs.lemmas.List.{drop-map, get_or-drop, get_or-take, get_or_append_left, get_or-append-add, length-drop, length-map, length-take-le, take-map}
 use Rattle.net_core.specs.declared.rows.ZoneNo.{ZoneNo}
 use Rattle.labels.specs.Filling.Labels.{far}
 use Rattle.labels.specs.Filling.FreeFlow.{AreSettled}
@@ -43,23 +43,47 @@ AreTailsTo_more free r most more old new zs n tail d small grows grown many sett
 pub numbers_many : (zones : List ZoneNo) → length zones ≡ length (zone_numbers zones)
 numbers_many zones = sym (length-map zones (λ z. z.0))
 
--- the tails of the first of some zones
-pub AreTails_take : (free : List ℕ) (r : Router) (most : ℕ) (tails : List (List ℕ)) (zones : List ZoneNo) (n : ℕ) → n ≤ length zones → AreTails free r most tails (zone_numbers zones) → AreTails free r most (take n tails) (zone_numbers (take n zones))
-AreTails_take free r most tails zones n few are = record {
-  as_many = many ∙ sym (length-map (take n zones) (λ z. z.0) ∙ length-take-le n zones few);
-  each = λ j h. (
-      let inside : j < n = omega (arith, h, many) in
-      let tail = get_or-take n tails j [] inside in
-      let zone : get_or (zone_numbers (take n zones)) j 0 ≡ get_or (zone_numbers zones) j 0 = ap (λ zs. get_or zs j 0) (sym (take-map (λ z. z.0) n zones)) ∙ get_or-take n (zone_numbers zones) j 0 inside in
-      subst (λ x. IsTail free r (get_or (zone_numbers (take n zones)) j 0) most x) (sym tail)
-      (subst (λ z. IsTail free r z most (get_or tails j [])) (sym zone) (are.each j (omega (arith, inside, all, few)))));
-}
+-- the numbers of a range of zones
+pub range_many : (zones : List ZoneNo) (a n : ℕ) → a + n ≤ length zones
+    → length (zone_numbers (take n (drop a zones))) ≡ n
+range_many zones a n within =
+    let m = length-drop a zones in
+    length-map (take n (drop a zones)) (λ z. z.0) ∙ length-take-le n (drop a zones) (omega (arith, m, within))
+
+pub range_number : (zones : List ZoneNo) (a n j : ℕ) → j < n
+    → get_or (zone_numbers (take n (drop a zones))) j 0 ≡ get_or (zone_numbers zones) (a + j) 0
+range_number zones a n j small =
+    ap (λ zs. get_or zs j 0) (sym (take-map (λ z. z.0) n (drop a zones)) ∙ ap (λ zs. take n zs) (sym (drop-map (λ z. z.0) a zones)))
+    ∙ get_or-take n (drop a (zone_numbers zones)) j 0 small ∙ get_or-drop a (zone_numbers zones) j 0
+
+-- the tails of a range of zones
+pub AreTails_range : {X : Type 0} (f : X → List ℕ) (free : List ℕ) (r : Router) (most : ℕ) (rows : List X)
+    (zones : List ZoneNo) (a n : ℕ) → a + n ≤ length zones → AreTails free r most (map f rows) (zone_numbers zones)
+    → AreTails free r most (map f (take n (drop a rows))) (zone_numbers (take n (drop a zones)))
+AreTails_range f free r most rows zones a n within are =
+    subst (λ xs. AreTails free r most xs (zone_numbers (take n (drop a zones))))
+    (ap (λ xs. take n xs) (drop-map f a rows) ∙ take-map f n (drop a rows))
+    (record { as_many = many ∙ sym (range_many zones a n within); each = each })
   where
+    tails : List (List ℕ)
+    tails = map f rows
+
     all : length tails ≡ length zones
     all = are.as_many ∙ sym (numbers_many zones)
 
-    many : length (take n tails) ≡ n
-    many = length-take-le n tails (omega (arith, all, few))
+    many : length (take n (drop a tails)) ≡ n
+    many =
+        let m = length-drop a tails in
+        length-take-le n (drop a tails) (omega (arith, all, m, within))
+
+    each : (j : ℕ) → j < length (take n (drop a tails))
+        → IsTail free r (get_or (zone_numbers (take n (drop a zones))) j 0) most (get_or (take n (drop a tails)) j [])
+    each j h =
+        let inside : j < n = omega (arith, h, many) in
+        let tail = get_or-take n (drop a tails) j [] inside ∙ get_or-drop a tails j [] in
+        let zone = range_number zones a n j inside in
+        subst (λ x. IsTail free r (get_or (zone_numbers (take n (drop a zones))) j 0) most x) (sym tail)
+        (subst (λ z. IsTail free r z most (get_or tails (a + j) [])) (sym zone) (are.each (a + j) (omega (arith, inside, all, within))))
 
 -- a whole list that was lent comes back
 pub whole_lent : {X : Type 0} (new old : List X) (n : ℕ) → length new ≡ length old → n ≡ length old → take n (new ++ drop (length new) old) ≡ new

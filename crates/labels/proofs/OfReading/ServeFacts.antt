@@ -2,7 +2,6 @@
 use Rattle.std.proofs.Common.{◌≡◌, ℕ, ◌<◌, ◌≤◌, length, List, Option, Some, None, Result, Ok, Err, Bor, arith}
 use Rattle.std.specs.Prelude.{IfOk, MatchOption}
 use Rattle.net_core.specs.Network.{IsNet, zones}
-use Rattle.net_core.specs.declared.rows.LinkNo.{LinkNo}
 use Rattle.net_core.specs.declared.rows.NetRows.{NetRows}
 use Rattle.dta_model.specs.Plans.{link_numbers}
 use Rattle.dta_model.specs.Least.{HaveNoWalk}

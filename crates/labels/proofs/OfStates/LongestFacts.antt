@@ -1,10 +1,15 @@
 -- The greatest time of a link.
-use Rattle.std.proofs.Common.{◌≡◌, ◌⊎◌, inl, inr, ℕ, ◌/◌, ◌<◌, ◌≤◌, get_or, sym, ◌∙◌, arith}
+use Rattle.std.proofs.Common.{◌≡◌, ◌⊎◌, inl, inr, ℕ, ◌/◌, ◌<◌, ◌≤◌, false, get_or, refl, sym, ◌∙◌, arith}
+use Rattle.std.specs.Prelude.{nat_lt}
 use Rattle.std.proofs.lemmas.Bool.{cases_lt}
+use Rattle.std.proofs.lemmas.Bool.Decides.{nat_tests}
 use Rattle.dta_model.specs.LinkTimes.{TimeTable, bucket_count, place_in, time_at}
 use Rattle.link_times.proofs.Places.{bucket_inside}
 use Rattle.link_times.proofs.RowFacts.{early_is}
-use Rattle.labels.proofs.OfFilling.Joins.{free_late}
+
+free_late : (t : TimeTable) (l e : ℕ) → t.horizon ≤ e → time_at t l e ≡ get_or t.free l 0
+unfolding time_at
+free_late t l e late = let n : nat_lt e t.horizon ≡ false = grind (arith, nat_tests) in rw n refl
 
 -- from the horizon on all times are the same
 pub late_same : (t : TimeTable) (l e f : ℕ) → t.horizon ≤ e → t.horizon ≤ f → time_at t l e ≡ time_at t l f

@@ -49,10 +49,6 @@ spans_short at beyond e states ways spans short inside is k c h =
     let t = inside k d small in
     (omega (arith, i.0, s.0), omega (arith, i.0, s.1), omega (arith, i.1, t))
 
--- what is below a number is below a greater one
-pub short_at_more : (at : ℕ → ℕ → ℕ) (beyond more e : ℕ) (ways : List Onward) → beyond ≤ more → AreShortAt at beyond e ways → AreShortAt at more e ways
-short_at_more at beyond more e ways grows short k d h = let s = short k d h in (s.0, omega (arith, s.1, grows))
-
 positive : (r : ℕ) → (r ≡ 0 → ⊥) → 0 < r
 positive zero h = absurd (h refl)
 positive (suc r) h = omega arith

@@ -1,7 +1,8 @@
 -- Least free-flow times to zones, and when all that is left over them fits fewer bits.
 use Rattle.std.specs.Prelude.{◌≡◌, ℕ, ◌+◌, ◌*◌, ◌<◌, ◌≤◌, min, cond, nat_lt, List, [], length}
 use Rattle.std.specs.Prelude.{get_or, slice_index, All}
-use Rattle.labels.specs.Filling.Labels.{far}
+use Rattle.net_core.specs.declared.rows.TheConstants.{MOST_LINKS}
+use Rattle.labels.specs.Filling.Labels.{far, most_left, most_span}
 use Rattle.labels.specs.Filling.Rests.{span}
 use Rattle.labels.specs.Filling.FreeFlow.{AreSettled}
 use Rattle.labels.specs.declared.states.router.Router.{Router}
@@ -32,9 +33,14 @@ IsPut beyond labels tail = (s : ℕ) → s < length tail
 abbrev pub AreWithin : (ℕ → ℕ → ℕ) → Router → ℕ → Type 0
 AreWithin at r longest = (e : ℕ) → All (λ w. span at e w ≤ longest) r.ways.items
 
+-- the most that is left in free flow: a long span for each state
+abbrev pub most_tail : ℕ
+most_tail = MOST_LINKS * most_span
+
 -- whatever is left stays below what stands for no walk, and so does a way on before it
 pub record FitsBelow (at : ℕ → ℕ → ℕ) (horizon : ℕ) (r : Router) (most beyond : ℕ)
     : Type 0 where
   pub longest : ℕ
   pub within : AreWithin at r longest
   pub fits : horizon + 2 * longest + most < beyond
+  pub near : horizon + 2 * longest + most ≤ most_left

@@ -1,21 +1,23 @@
 -- When what is left serves walks to a zone.
-use Rattle.std.specs.Prelude.{◌≡◌, ◌≢◌, ℕ, ◌+◌, ◌<◌, ◌≤◌, cond, List, [], ◌∷◌}
+use Rattle.std.specs.Prelude.{◌≡◌, ◌≢◌, ℕ, ◌+◌, ◌<◌, ◌≤◌, cond, map, List, ◌∷◌}
 use Rattle.std.specs.Prelude.{length, get_or, slice_index, slice_index_or, slice_get, Option, Some}
 use Rattle.std.specs.Prelude.{None}
 use Rattle.net_core.specs.Network.{zones}
 use Rattle.net_core.specs.declared.rows.NetRows.{NetRows}
 use Rattle.dta_model.specs.LinkTimes.{TimeTable}
-use Rattle.labels.specs.Filling.Labels.{most_left, far, rest_in}
+use Rattle.labels.specs.Filling.Labels.{most_left, far}
 use Rattle.labels.specs.Reading.Follows.{Follows}
 use Rattle.labels.specs.Reading.Paths.{Ways}
 use Rattle.labels.specs.Filling.Rests.{least_over, AreTurns, AreOrdered, label_of}
 use Rattle.labels.specs.States.Routers.{ways_to}
-use Rattle.labels.specs.Filling.Tables.{places, rests, states_in}
+use Rattle.labels.specs.Filling.Tables.{left_alone, places, rests, states_in}
 use Rattle.labels.specs.States.RouterWays.{is_own, onwards, state_of}
 use Rattle.labels.specs.declared.reading.best.First.{First}
 use Rattle.labels.specs.declared.states.onward.Onward.{Onward}
 use Rattle.labels.specs.declared.states.router.Router.{Router}
 use Rattle.labels.specs.declared.filling.label_table.LabelTable.{LabelTable}
+use Rattle.labels.specs.declared.filling.one.One.{One}
+use Rattle.labels.specs.declared.filling.table_forms.SlotTable.{SlotTable}
 
 -- a place of what is left, and ways on and times of as many states and links
 pub record Fit (l : LabelTable) (place : ℕ) (r : Router) (t : TimeTable) : Type 0 where
@@ -47,10 +49,10 @@ pub record AreLeft (at rest : ℕ → ℕ → ℕ) (r : Router) (zone : ℕ) : T
       → cond (is_own r zone s) (rest s e ≡ 0) (rest s e ≡ least_over at far rest e (onwards r s))
   pub near : (s e : ℕ) → s < length r.zones.items → rest s e < far → rest s e ≤ most_left
 
--- what is left to each zone of a list, in a row for each of them
-abbrev pub AreRowsLeft : (ℕ → ℕ → ℕ) → Router → ℕ → List (List ℕ) → List ℕ → Type 0
-AreRowsLeft at r horizon rows zones = (j : ℕ) → j < length rows
-    → AreLeft at (rest_in (length r.zones.items) horizon (get_or rows j [])) r (slice_index zones j)
+-- what is left to each of the first zones of a list, in a table for each of them
+abbrev pub AreTablesLeft : (ℕ → ℕ → ℕ) → Router → List (SlotTable One) → List ℕ → Type 0
+AreTablesLeft at r tables zones = (j : ℕ) → j < length tables
+    → AreLeft at (get_or (map left_alone tables) j (λ s e. far)) r (slice_index zones j)
 
 -- what is left to each zone of a list
 pub record AreAllLeft (at : ℕ → ℕ → ℕ) (r : Router) (t : LabelTable) (zones : List ℕ) : Type 0 where

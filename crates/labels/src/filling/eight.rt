@@ -21,7 +21,7 @@ impl Slots for Eight {
 
     ghost SLOTS = { 8 };
 
-    const FAR: u32 = SHORT_FAR;
+    const FAR: u64 = SHORT_FAR;
 
     ghost FAR = { 32768 };
 
@@ -33,14 +33,14 @@ impl Slots for Eight {
         }
     }
 
-    fn or_after(self, left: Self, time: u32) -> Self {
+    fn or_after(self, left: Self, time: u64) -> Self {
         let later = left.labels.strict_add(u16x8::splat(time as u16));
         Eight {
             labels: self.labels.simd_min(later),
         }
     }
 
-    fn with(self, place: usize, label: u32) -> Self {
+    fn with(self, place: usize, label: u64) -> Self {
         let mut labels = self.labels.to_array();
         labels[place] = label as u16;
         Eight {
@@ -48,8 +48,8 @@ impl Slots for Eight {
         }
     }
 
-    fn label(self, place: usize) -> u32 {
-        self.labels[place] as u32
+    fn label(self, place: usize) -> u64 {
+        self.labels[place] as u64
     }
 
     ghost low = { λ x j. x.low j };

@@ -21,7 +21,7 @@ impl Slots for Four {
 
     ghost SLOTS = { 4 };
 
-    const FAR: u32 = NARROW_FAR;
+    const FAR: u64 = NARROW_FAR as u64;
 
     ghost FAR = { 2147483648 };
 
@@ -33,23 +33,23 @@ impl Slots for Four {
         }
     }
 
-    fn or_after(self, left: Self, time: u32) -> Self {
-        let later = left.labels.strict_add(u32x4::splat(time));
+    fn or_after(self, left: Self, time: u64) -> Self {
+        let later = left.labels.strict_add(u32x4::splat(time as u32));
         Four {
             labels: self.labels.simd_min(later),
         }
     }
 
-    fn with(self, place: usize, label: u32) -> Self {
+    fn with(self, place: usize, label: u64) -> Self {
         let mut labels = self.labels.to_array();
-        labels[place] = label;
+        labels[place] = label as u32;
         Four {
             labels: u32x4::from_array(labels),
         }
     }
 
-    fn label(self, place: usize) -> u32 {
-        self.labels[place]
+    fn label(self, place: usize) -> u64 {
+        self.labels[place] as u64
     }
 
     ghost low = { λ x j. x.low j };

@@ -1,8 +1,7 @@
 // What is left to each zone of a group.
-ghost use Rattle.std.specs.Prelude.{◌≡◌, ◌+◌, ◌-◌, ◌*◌, ◌^◌, ◌<◌, ◌≤◌, [], length, get_or, map};
-ghost use Rattle.std.specs.Prelude.{All};
-ghost use Rattle.labels.specs.Filling.Labels.{far, in_slot, rest_in};
-ghost use Rattle.labels.specs.Filling.Tails.{widened};
+ghost use Rattle.std.specs.Prelude.{◌≡◌, ◌+◌, ◌-◌, ◌*◌, ◌^◌, ◌<◌, ◌≤◌};
+ghost use Rattle.labels.specs.Filling.Labels.{far};
+ghost use Rattle.labels.specs.Filling.SlotForms.{left_in};
 
 use crate::filling::eight::Eight;
 use crate::filling::four::Four;
@@ -45,44 +44,13 @@ fn place_in_row(back: usize, horizon: u32, wide: usize, number: usize) -> usize
 fn slot_at<S: Slots>(slots: &SlotTable<S>, slot: usize, state: u32, step: u64) -> u64
     requires slot { slot < S.SLOTS }
     requires state { state < slots.now.states }
-    ensures is { result ≡ widened S.FAR (rest_in slots.now.states slots.now.horizon
-        (in_slot S.slot slots.now.labels.items slot) state step) }
+    ensures is { result ≡ left_in S.slot S.FAR slots.now slot state step }
     ensures low { result ≤ far }
 {
     let back = rows_back(slots.horizon, step);
     let place = place_in_row(back, slots.horizon, slots.states, state as usize);
     let left = slots.labels[place].label(slot);
-    if left < S::FAR { left as u64 } else { FAR }
-}
-
-// What is left in a row of its own.
-#[tactic(auto, unfolding(crate::specs::Filling::Labels::rest_in))]
-fn row_at(row: &[u64], states: usize, horizon: u32, state: u32, step: u64) -> u64
-    requires rows { length row.now ≡ (horizon + 1) * states }
-    requires low { All (λ x. x ≤ far) row.now }
-    requires state { state < states }
-    ensures is { result ≡ rest_in states horizon row.now state step }
-    ensures low { result ≤ far }
-{
-    let back = rows_back(horizon, step);
-    row[place_in_row(back, horizon, states, state as usize)]
-}
-
-// What is left to the zone at a place.
-fn place_at(rows: &WideTable, place: usize, state: u32, step: u64) -> u64
-    requires place { place < length rows.now.zones.items }
-    requires state { state < rows.now.states }
-    ensures is { result ≡ rest_in rows.now.states rows.now.horizon
-        (get_or (map (λ row. row.items) rows.now.zones.items) place []) state step }
-    ensures low { result ≤ far }
-{
-    row_at(
-        rows.zones[place].as_slice(),
-        rows.states,
-        rows.horizon,
-        state,
-        step,
-    )
+    if left < S::FAR { left } else { FAR }
 }
 
 // The labels of a table of slots.
@@ -108,7 +76,7 @@ impl LabelTable {
         match self {
             LabelTable::Short(slots) => slot_at(slots, place, state, step),
             LabelTable::Narrow(slots) => slot_at(slots, place, state, step),
-            LabelTable::Wide(rows) => place_at(rows, place, state, step),
+            LabelTable::Wide(tables) => slot_at(&tables.zones[place], 0, state, step),
         }
     }
 

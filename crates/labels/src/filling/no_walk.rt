@@ -7,4 +7,4 @@ pub(crate) const FAR: u64 = 4_611_686_018_427_387_904;
 pub const NARROW_FAR: u32 = 2_147_483_648;
 
 /// What stands for no walk in 16 bits.
-pub(crate) const SHORT_FAR: u32 = 32_768;
+pub(crate) const SHORT_FAR: u64 = 32_768;

@@ -13,7 +13,6 @@ ghost use Rattle.trip_costs.specs.WalkCosts.{steps_in, table_in};
 
 use crate::filling::slots::Slots;
 use crate::filling::timed_router::TimedRouter;
-use crate::filling::wide_fill::place_after;
 use crate::states::onward::Onward;
 use crate::states::router::Router;
 use crate::states::spans::{Span, keep};
@@ -36,6 +35,18 @@ struct SlotRow<'a> {
     ghost numbers: { All (λ z. z.0 < NO_ZONE) zones.now },
 }
 
+// The place of what is left after a span.
+fn place_after(states: usize, back: usize, span: u64, to: u32) -> usize
+    requires span { 0 < span }
+    requires inside { to < states }
+    requires back { 0 < back }
+    requires fits { back * states < 2 ^ 63 }
+    ensures is { result ≡ (back - span) * states + to }
+    ensures low { result < back * states }
+{
+    back.saturating_sub(span as usize) * states + to as usize
+}
+
 // The least over the ways on, in each slot.
 fn least_slots<S: Slots>(labels: &[S], row: &SlotRow, spans: &[Span], ways: &[Onward]) -> S
     requires spans { IsSpans (steps_in row.now.costs) row.now.step ways.now spans.now }
@@ -48,7 +59,7 @@ fn least_slots<S: Slots>(labels: &[S], row: &SlotRow, spans: &[Span], ways: &[On
 {
     let mut least = S::no_walk();
     for span in spans {
-        let place = place_after(row.states, row.back, span.time as u64, span.to);
+        let place = place_after(row.states, row.back, span.time, span.to);
         least = least.or_after(labels[place], span.time);
     }
     least

@@ -32,7 +32,7 @@ fn put_tail<S: Slots>(labels: &mut [S], tail: &[u64], slot: usize)
         ≡ slice_index (in_slot S.slot labels.old j) s }
 {
     for state in 0..tail.len() {
-        let left = tail[state].min(S::FAR as u64) as u32;
+        let left = tail[state].min(S::FAR);
         labels[state] = labels[state].with(slot, left);
     }
 }

@@ -9,7 +9,7 @@ pub(crate) trait Slots: Copy {
     ghost SLOTS: { ℕ };
 
     /// What stands for no walk.
-    const FAR: u32;
+    const FAR: u64;
 
     ghost FAR: { ℕ };
 
@@ -21,22 +21,22 @@ pub(crate) trait Slots: Copy {
         ensures { (j : ℕ) → j < SLOTS → slot result j ≡ FAR };
 
     /// In each slot the lesser of two labels, where a time is added to the second.
-    fn or_after(self, left: Self, time: u32) -> Self
+    fn or_after(self, left: Self, time: u64) -> Self
         requires { time < FAR }
         ensures { (j : ℕ) → j < SLOTS → slot result j ≡ min (slot self j) (slot left j + time) };
 
     /// The same labels but for that of one slot.
-    fn with(self, place: usize, label: u32) -> Self
+    fn with(self, place: usize, label: u64) -> Self
         requires place { place < SLOTS }
         requires label { label ≤ FAR }
         ensures { (j : ℕ) → j < SLOTS → slot result j ≡ cond (nat_eq j place) label (slot self j) };
 
     /// The label of a slot.
-    fn label(self, place: usize) -> u32
+    fn label(self, place: usize) -> u64
         requires { place < SLOTS }
         ensures { result ≡ slot self place };
 
     ghost low: { (x : Self) (j : ℕ) → slot x j ≤ FAR };
 
-    ghost near: { FAR ≤ 2147483648 };
+    ghost near: { FAR ≤ 4611686018427387904 };
 }

@@ -1,6 +1,7 @@
 // The two forms of a table of what is left.
 ghost use Rattle.std.specs.Prelude.{◌≡◌, ◌+◌, ◌*◌, ◌^◌, ◌<◌, ◌≤◌, length, All};
-ghost use Rattle.labels.specs.Filling.Labels.{far};
+
+use crate::filling::one::One;
 
 /// Some zones side by side: a row of labels, with a slot for each zone, of each state for the
 /// horizon and later, then one for each step before the row of the next.
@@ -13,12 +14,10 @@ pub(crate) struct SlotTable<S> {
     ghost fits: { (horizon + 1) * states < 2 ^ 63 },
 }
 
-/// A zone after another in 64 bits: for each the same rows, of a label for each state.
+/// A zone after another in 64 bits: for each a table of its own.
 #[derive(Drop)]
 pub(crate) struct WideTable {
     pub(crate) states: usize,
-    pub(crate) horizon: u32,
-    pub(crate) zones: Vec<Vec<u64>>,
-    ghost sizes: { All (λ row. length row.items ≡ (horizon + 1) * states) zones.items },
-    ghost low: { All (λ row. All (λ x. x ≤ far) row.items) zones.items },
+    pub(crate) zones: Vec<SlotTable<One>>,
+    ghost same: { All (λ zone. zone.states ≡ states) zones.items },
 }

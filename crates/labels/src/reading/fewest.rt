@@ -16,12 +16,12 @@ ghost use Rattle.labels.specs.Reading.SearchesTo.{IsSearchedTo};
 ghost use Rattle.labels.specs.States.RouterWays.{state_of};
 ghost use Rattle.trip_costs.specs.WalkCosts.{AreTimed, enter_in, steps_in, table_in};
 
-use crate::filling::wide_fill::span_of;
 use crate::reading::found::Walk;
 use crate::reading::least::{best_of, first_at};
 use crate::reading::reached::Reached;
 use crate::reading::zone_labels::ZoneLabels;
 use crate::states::onward::Onward;
+use crate::states::spans::span_of;
 use dta_model::Route;
 use net_core::LinkNo;
 use std::alloc::{AllocError, Global};

@@ -15,11 +15,11 @@ ghost use Rattle.labels.specs.Reading.OfZone.{ways_in};
 ghost use Rattle.labels.specs.Filling.Tables.{places, states_in};
 ghost use Rattle.trip_costs.specs.WalkCosts.{AreTimed, enter_in, steps_in, table_in};
 
-use crate::filling::wide_fill::span_of;
 use crate::reading::found::Walk;
 use crate::reading::least::best_of;
 use crate::reading::zone_labels::ZoneLabels;
 use crate::states::onward::Onward;
+use crate::states::spans::span_of;
 use dta_model::Route;
 use net_core::LinkNo;
 use std::alloc::{AllocError, Global};

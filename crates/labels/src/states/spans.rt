@@ -1,12 +1,10 @@
 // What ways on take in the steps of a bucket.
-ghost use Rattle.std.specs.Prelude.{◌≡◌, ◌≢◌, ◌+◌, ◌/◌, ◌%◌, ◌<◌, ◌≤◌, length, All};
+ghost use Rattle.std.specs.Prelude.{◌≡◌, ◌≢◌, ◌+◌, ◌/◌, ◌%◌, ◌^◌, ◌<◌, ◌≤◌, length, All};
 ghost use Rattle.std.specs.Prelude.{true, false, OnOk};
 ghost use Rattle.dta_model.specs.LinkTimes.{bucket_count};
-ghost use Rattle.fixed_units.specs.declared.turn.TheConstants.{MOST_PENALTY_STEPS};
 ghost use Rattle.labels.specs.Filling.Rests.{span};
-ghost use Rattle.labels.specs.States.Spans.{AreMoving, AreShortAt, AreSpansBut, IsSpans, IsStill};
-ghost use Rattle.labels.specs.declared.filling.no_walk.TheConstants.{NARROW_FAR};
-ghost use Rattle.trip_costs.specs.WalkCosts.{steps_in, table_in};
+ghost use Rattle.labels.specs.States.Spans.{AreMoving, AreSpansBut, IsSpans, IsStill};
+ghost use Rattle.trip_costs.specs.WalkCosts.{AreTimed, steps_in, table_in};
 
 use crate::states::onward::Onward;
 use crate::states::router::Router;
@@ -16,32 +14,35 @@ use trip_costs::WalkCosts;
 /// What a way on takes in the steps of a bucket, and the state that it leads to.
 #[derive(Clone, Copy, Drop)]
 pub(crate) struct Span {
-    pub(crate) time: u32,
+    pub(crate) time: u64,
     pub(crate) to: u32,
 }
 
-// The steps until the link of a way on has ended.
-fn time_over(costs: WalkCosts, step: u32, way: &Onward) -> u32
+/// The steps until the link of a way on has ended.
+pub(crate) fn span_of(costs: WalkCosts, step: u64, way: &Onward) -> u64
+    requires timed { AreTimed costs }
     requires link { way.now.link < length (table_in costs).free }
-    requires short { span (steps_in costs) step way.now < NARROW_FAR }
-    requires wait { way.now.wait ≤ MOST_PENALTY_STEPS }
-    ensures { result ≡ span (steps_in costs.entry) step way.now }
+    requires step { step < 2 ^ 63 }
+    ensures is { result ≡ span (steps_in costs.entry) step way.now }
+    ensures some { 0 < result }
+    ensures short { result < 2 ^ 33 }
 {
-    way.wait + costs.steps(LinkNo(way.link), step as u64 + way.wait as u64)
+    let wait = way.wait as u64;
+    wait + costs.steps(LinkNo(way.link), step + wait) as u64
 }
 
 // Writes what each way on takes at a step.
 #[tactic(auto, using(crate::proofs::OfStates::SpanFacts::IsSpansTo_more))]
 fn refresh(spans: &mut [Span], costs: WalkCosts, step: u32, router: &Router)
     requires links { length router.now.states.items ≡ length (table_in costs).free }
-    requires short { AreShortAt (steps_in costs) NARROW_FAR step router.now.ways.items }
+    requires timed { AreTimed costs }
     requires many { length spans.old ≡ length router.now.ways.items }
     ensures { IsSpans (steps_in costs.entry) step router.now.ways.items spans.new }
 {
     for place in 0..router.ways.len() {
         let way = router.ways[place];
         spans[place] = Span {
-            time: time_over(costs, step, &way),
+            time: span_of(costs, step as u64, &way),
             to: way.to,
         };
     }
@@ -97,7 +98,7 @@ fn refresh_listed(
     router: &Router,
 )
     requires links { length router.now.states.items ≡ length (table_in costs).free }
-    requires short { AreShortAt (steps_in costs) NARROW_FAR step router.now.ways.items }
+    requires timed { AreTimed costs }
     requires inside { All (λ k. k < length router.now.ways.items) places.now }
     requires others { AreSpansBut (steps_in costs) step router.now.ways.items
         places.now spans.old }
@@ -107,7 +108,7 @@ fn refresh_listed(
         let place = places[turn];
         let way = router.ways[place];
         spans[place] = Span {
-            time: time_over(costs, step, &way),
+            time: span_of(costs, step as u64, &way),
             to: way.to,
         };
     }
@@ -125,7 +126,7 @@ pub(crate) fn keep(
 ) -> Result<(), Memory>
     requires step { step < (table_in costs).horizon }
     requires links { length router.now.states.items ≡ length (table_in costs).free }
-    requires short { AreShortAt (steps_in costs) NARROW_FAR step router.now.ways.items }
+    requires timed { AreTimed costs }
     requires many { length spans.old ≡ length router.now.ways.items }
     requires next { step + 1 < (table_in costs).horizon
         → IsSpans (steps_in costs) (step + 1) router.now.ways.items spans.old }

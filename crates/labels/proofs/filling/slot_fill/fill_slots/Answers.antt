@@ -2,7 +2,6 @@ use Rattle.std.proofs.Common.{◌≡◌, ◌∙◌, ℕ, ◌+◌, ◌-◌, ◌*�
 use Rattle.std.proofs.lemmas.Grind.{common_steps}
 use Rattle.std.specs.Prelude.{slice_index}
 use Rattle.trip_costs.specs.WalkCosts.{steps_in, table_in}
-use Rattle.labels.specs.declared.filling.no_walk.TheConstants.{NARROW_FAR}
 use Rattle.labels.specs.Filling.Labels.{in_slot}
 use Rattle.labels.specs.Filling.Rows.{IsRowTo}
 use Rattle.labels.specs.Filling.Slots.{AreSlotRows}
@@ -11,7 +10,6 @@ use Rattle.labels.proofs.OfFilling.RowFacts.{short_some}
 use Rattle.labels.proofs.OfFilling.SlotFacts.{in_slot_low, row_fits}
 use Rattle.labels.proofs.OfFilling.TableFacts.{AreRows_more, AreRows_none}
 use Rattle.labels.proofs.OfFilling.TailFacts.{whole_lent}
-use Rattle.labels.proofs.OfStates.SpanFacts.{short_at_more}
 use Rattle.labels.proofs.filling.slot_fill.fill_slots.Goals as goal
 
 pub loop-step-init : goal.loop-step-init
@@ -70,9 +68,6 @@ loop-step-preserved g c =
       λ early. c.in_ok-keep.ensures.spans,
       λ early. c.in_ok-keep.ensures.moving,
     )
-
-pub keep-requires-clause-short : goal.keep-requires-clause-short
-keep-requires-clause-short g c = short_at_more (steps_in c.args.timed.now.costs) g.S.Slots.FAR NARROW_FAR (c.loop-step.step - 1) c.args.timed.now.router.now.ways.items g.met.S.Slots.near (c.requires.short (c.loop-step.step - 1))
 
 pub fill_row-requires-clause-fits : goal.fill_row-requires-clause-fits
 fill_row-requires-clause-fits g c =

@@ -35,5 +35,5 @@ returns-clause-left g c =
     let left : AreSlotsLeft slot at beyond r t.horizon zones c.in_ok-labels.labels.items = λ j h. (
     let small : j < length c.args.tails.now = omega (arith, h, many, c.requires.tails.as_many) in
     rows_left t at r (get_or zones j 0) c.args.most c.requires.fits.longest beyond t.free (in_slot slot c.in_ok-begun.begun.items j) (in_slot slot c.in_ok-labels.labels.items j) (get_or tails j []) g.met.S.Slots.near
-    c.horizon-horizon.ensures.timed c.args.timed.now.each (λ l. refl) (c.requires.tails.each j (omega (arith, small, many))) (c.in_ok-begun.ensures.put j small) (c.in_ok-labels.ensures.rows j h) c.requires.fits.within c.requires.fits.fits) in
+    c.horizon-horizon.ensures.timed c.args.timed.now.each (λ l. refl) (c.requires.tails.each j (omega (arith, small, many))) (c.in_ok-begun.ensures.put j small) (c.in_ok-labels.ensures.rows j h) c.requires.fits.within c.requires.fits.fits c.requires.fits.near) in
     subst (λ n. AreSlotsLeft slot at beyond r n zones c.in_ok-labels.labels.items) (sym c.horizon-horizon.ensures.is) left

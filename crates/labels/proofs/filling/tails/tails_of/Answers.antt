@@ -1,11 +1,14 @@
 use Rattle.std.proofs.Common.{◌≡◌, ◌∙◌, ◌<◌, ◌≤◌, ℕ, ap, arith, get_or, length, map, subst, sym}
+use Rattle.std.specs.Prelude.{All}
 use Rattle.trip_costs.specs.WalkCosts.{table_in}
+use Rattle.net_core.specs.declared.rows.TheConstants.{MOST_LINKS}
 use Rattle.std.proofs.lemmas.Grind.{same_number_lists}
 use Rattle.std.proofs.lemmas.List.{map_push}
 use Rattle.net_core.specs.declared.rows.ZoneNo.{ZoneNo}
 use Rattle.labels.specs.Filling.Labels.{far}
-use Rattle.labels.specs.Filling.Tails.{AreTails}
+use Rattle.labels.specs.Filling.Tails.{AreTails, most_tail}
 use Rattle.labels.specs.ToZone.{zone_numbers}
+use Rattle.labels.proofs.OfFilling.FreeFlowFacts.{short_near}
 use Rattle.labels.proofs.OfFilling.TailFacts.{AreTailsTo_more, numbers_many}
 use Rattle.labels.proofs.filling.tails.tails_of.Goals as goal
 
@@ -30,8 +33,15 @@ loop-zone-preserved c =
       AreTailsTo_more free r c.loop-zone.most c.most_in-most.result (map (λ tail. tail.items) c.loop-zone.tails.items) _ zones n tail d c.loop-zone-test.true most.old grown
           c.in_ok-tail.ensures.many c.in_ok-tail.ensures.settled
           (subst (λ xs. (s : ℕ) → s < length xs → get_or xs s 0 < far → get_or xs s 0 ≤ c.most_in-most.result) same most.near) (c.loop-zone.invariant.0),
-      most.low,
+      most.low (c.loop-zone.invariant.1),
     )
+
+pub most_in-most-requires : goal.most_in-most-requires
+most_in-most-requires c =
+    let tail = c.in_ok-tail.tail.items in
+    let few : length tail ≤ MOST_LINKS = omega (arith, c.in_ok-tail.ensures.many, c.args.timed.now.few_states) in
+    subst (λ xs. All (λ x. x < far → x ≤ most_tail) xs) (sym c.as_slice.ensures.value)
+    (short_near tail few c.in_ok-tail.ensures.short)
 
 pub returns-clause-tails : goal.returns-clause-tails
 returns-clause-tails c =

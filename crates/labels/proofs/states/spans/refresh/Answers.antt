@@ -11,7 +11,7 @@ loop-place-preserved c =
     let at = steps_in c.args.costs in
     let ways = c.args.router.now.ways.items in
     let way : Onward = c.index.result.now in
-    let s : Span = record { time = c.time_over.result; to = way.to } in
+    let s : Span = record { time = c.span_of.result; to = way.to } in
     let small : c.loop-place.place < length ways = omega (arith, c.loop-place-test.true, c.len-place-end.ensures) in
     IsSpansTo_more at c.args.step ways c.loop-place.spans c.loop-place.place s way small
-    (subst (λ w. IsSpan at c.args.step w s) c.index.ensures (c.time_over.ensures, refl)) c.loop-place.invariant
+    (subst (λ w. IsSpan at c.args.step w s) c.index.ensures (c.span_of.ensures.is, refl)) c.loop-place.invariant

@@ -14,9 +14,9 @@ loop-turn-preserved c =
     let ways = c.args.router.now.ways.items in
     let places = c.args.places.now in
     let way : Onward = c.index.result.now in
-    let s : Span = record { time = c.time_over.result; to = way.to } in
+    let s : Span = record { time = c.span_of.result; to = way.to } in
     let place = get_or c.args.places.now c.loop-turn.turn 0 in
     let turns : c.loop-turn.turn < length c.args.places.now = omega (arith, c.loop-turn-test.true) in
     but_fewer at e ways (drop (c.loop-turn.turn + 1) places) c.loop-turn.spans place s way (c.requires.inside c.loop-turn.turn 0 turns)
-    (subst (λ w. IsSpan at e w s) c.index.ensures (c.time_over.ensures, refl))
+    (subst (λ w. IsSpan at e w s) c.index.ensures (c.span_of.ensures.is, refl))
     (subst (λ xs. AreSpansBut at e ways xs c.loop-turn.spans) (drop_more places c.loop-turn.turn 0 turns) c.loop-turn.invariant)
