@@ -1,5 +1,5 @@
 -- How a search begins, goes over to links more, and what it finds.
-use Rattle.std.proofs.Common.{◌≡◌, ◌⊎◌, inl, inr, ℕ, zero, suc, ◌+◌, ◌-◌, ◌≤◌, ◌<◌, ◌^◌, Bool, true, false, cond, List, [], ◌∷◌, ◌++◌, length, refl, ap, sym, ◌∙◌, subst, arith, Option, Some, None}
+use Rattle.std.proofs.Common.{◌≡◌, ◌⊎◌, inl, inr, ℕ, zero, suc, ◌+◌, ◌-◌, ◌≤◌, ◌<◌, Bool, true, false, cond, List, [], ◌∷◌, ◌++◌, length, refl, ap, sym, ◌∙◌, subst, arith, Option, Some, None}
 use Rattle.std.specs.Prelude.{slice_get, nat_eq, ◌||◌}
 use Rattle.std.proofs.lemmas.Bool.{cases_lt}
 use Rattle.std.proofs.lemmas.Option.{slice_get_within}
@@ -95,13 +95,6 @@ module _ (net : NetRows) (zone : ℕ) (at rest : ℕ → ℕ → ℕ) (r : Route
 
   abbrev Takes : List ℕ → Type 0
   Takes walk = path_time (ways_to at net zone) enter (is_among firsts) s walk ≡ Some m
-
-  -- the time is near where a first link meets it
-  pub near_first : (l : ℕ) → first_label enter (label_in at rest r) s l ≡ Some m → s < 2 ^ 40 → enter l s < 2 ^ 41 → (l < length r.states.items → at l (enter l s) < 2 ^ 32) → s + m < 2 ^ 63
-  near_first l h early soon short =
-      let f = later_some (enter l s - s) m (label_in at rest r l (enter l s)) h in
-      let says = label_says net zone at rest r v l (enter l s) (f.0) (f.1) in
-      omega (arith, says.0, says.1, f.2, short (says.2))
 
   -- all places of so many links are done: those of one link more come next
   pub searched_next : (reached : List Reached) (next count : ℕ) → Searched reached next next count → Searched reached next (length reached) (count + 1)

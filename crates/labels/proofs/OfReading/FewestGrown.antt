@@ -13,7 +13,7 @@ use Rattle.labels.proofs.Basics.{some_same}
 use Rattle.labels.proofs.OfReading.FewestPaths.{get_kept, get_last, old_or_last}
 
 -- one place more of a list is an old one or the new one
-pub upto : (P : ℕ → Type 0) (n k : ℕ) → k < n + 1 → ((k : ℕ) → k < n → P k) → P n → P k
+upto : (P : ℕ → Type 0) (n k : ℕ) → k < n + 1 → ((k : ℕ) → k < n → P k) → P n → P k
 upto P n k small before now = by (cases_lt k n)
   where
     by : (k < n) ⊎ (n ≤ k) → P k

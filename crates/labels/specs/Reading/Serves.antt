@@ -89,6 +89,11 @@ BestSoFar label firsts count None = (k l : ℕ) → k < count → slice_get firs
     → label l ≡ None
 BestSoFar label firsts count (Some f) = IsBest label firsts count f.link f.time
 
+-- a time where it is less than a number, or that it isn't
+abbrev pub IsBelow : Option ℕ → ℕ → Option ℕ → Type 0
+IsBelow time most None = (x : ℕ) → time ≡ Some x → most ≤ x
+IsBelow time most (Some x) = (time ≡ Some x) × (x < most)
+
 -- the first way on that takes a time, where there is one
 abbrev pub FirstOver : (Onward → ℕ) → List Onward → ℕ → Option Onward → Type 0
 FirstOver over ways left None = (k : ℕ) (d : Onward) → k < length ways

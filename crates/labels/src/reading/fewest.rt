@@ -17,7 +17,7 @@ ghost use Rattle.labels.specs.States.RouterWays.{state_of};
 ghost use Rattle.trip_costs.specs.WalkCosts.{AreTimed, enter_in, steps_in, table_in};
 
 use crate::reading::found::Walk;
-use crate::reading::least::{best_of, first_at};
+use crate::reading::least::{best_of, first_below};
 use crate::reading::reached::Reached;
 use crate::reading::zone_labels::ZoneLabels;
 use crate::states::onward::Onward;
@@ -40,6 +40,7 @@ struct Aim<'a> {
     firsts: &'a [u32],
     step: u64,
     least: u64,
+    ghost near: { step + least < 2 ^ 63 },
 }
 
 /// Where a search goes on: a place of its list, the step there and what is left.
@@ -185,7 +186,6 @@ fn go_on_all(
     requires timed { AreTimed labels.now.costs }
     requires fit { AreFit labels.now }
     requires serves { AreServed labels.now }
-    requires near { aim.now.step + aim.now.least < 2 ^ 63 }
     requires none { NoneEnds labels.now.router.now labels.now.zone search.old.reached.items
         layer.now.from layer.now.to }
     requires searched { IsSearchedTo labels.now aim.now.firsts.now aim.now.step aim.now.least
@@ -229,7 +229,6 @@ fn seek(search: &mut Search, labels: &ZoneLabels, aim: &Aim) -> Result<usize, Al
     requires timed { AreTimed labels.now.costs }
     requires fit { AreFit labels.now }
     requires serves { AreServed labels.now }
-    requires near { aim.now.step + aim.now.least < 2 ^ 63 }
     requires least { IsLeastPath (ways_in labels.now) (enter_in labels.now.costs) (is_among
         aim.now.firsts.now) aim.now.step aim.now.least }
     requires searched { IsSearchedTo labels.now aim.now.firsts.now aim.now.step aim.now.least
@@ -284,16 +283,13 @@ fn begin_with(
 ) -> Result<(), AllocError>
     requires timed { AreTimed labels.now.costs }
     requires fit { AreFit labels.now }
-    requires serves { AreServed labels.now }
     requires link { link < length (table_in labels.now.costs).free }
     requires step { aim.now.step < 2 ^ 40 }
-    ensures tried { OnOk result (IsTriedFirst (steps_in labels.now.costs) (label_to labels.now)
+    ensures { OnOk result (IsTriedFirst (steps_in labels.now.costs) (label_to labels.now)
         (enter_in labels.now.costs) (state_of labels.now.router.now) aim.now.step aim.now.least link
         search.old.reached.items search.new.reached.items) }
-    ensures near { first_to labels.now aim.now.step link ≡ Some aim.now.least
-        → aim.now.step + aim.now.least < 2 ^ 63 }
 {
-    if first_at(labels, link, aim.step) != Some(aim.least) {
+    if first_below(labels, link, aim.step, aim.least + 1) != Some(aim.least) {
         return Ok(());
     }
     let entry = labels.costs.enter(LinkNo(link), aim.step);
@@ -316,18 +312,13 @@ fn make_room(alloc: Global, search: &mut Search, states: usize) -> Result<(), Al
 fn begin(search: &mut Search, labels: &ZoneLabels, aim: &Aim) -> Result<(), AllocError>
     requires timed { AreTimed labels.now.costs }
     requires fit { AreFit labels.now }
-    requires serves { AreServed labels.now }
     requires firsts { All (λ l. l < length (table_in labels.now.costs).free) aim.now.firsts.now }
     requires rising { (i k a b : ℕ) → i < k → slice_get aim.now.firsts.now i ≡ Some a
         → slice_get aim.now.firsts.now k ≡ Some b → a < b }
     requires step { aim.now.step < 2 ^ 40 }
-    ensures started { OnOk result (AreStarted (steps_in labels.now.costs) (label_to labels.now)
+    ensures { OnOk result (AreStarted (steps_in labels.now.costs) (label_to labels.now)
         (enter_in labels.now.costs) (state_of labels.now.router.now) aim.now.firsts.now aim.now.step
         aim.now.least (length aim.now.firsts.now) search.new.reached.items) }
-    ensures near { OnOk result ((k l : ℕ) → k < length aim.now.firsts.now
-        → slice_get aim.now.firsts.now k ≡ Some l
-        → first_to labels.now aim.now.step l ≡ Some aim.now.least
-        → aim.now.step + aim.now.least < 2 ^ 63) }
 {
     search.reached.clear();
     for link in aim.firsts {

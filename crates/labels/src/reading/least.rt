@@ -1,8 +1,8 @@
 // Least times by what is left.
-ghost use Rattle.std.specs.Prelude.{◌≡◌, ℕ, ◌+◌, ◌<◌, ◌^◌, List, length, All, Option, Some};
+ghost use Rattle.std.specs.Prelude.{◌≡◌, ℕ, ◌+◌, ◌<◌, ◌^◌, List, length, All, Some};
 ghost use Rattle.std.specs.Prelude.{slice_get};
-ghost use Rattle.labels.specs.Reading.Serves.{BestSoFar};
-ghost use Rattle.labels.specs.Reading.OfZone.{AreFit, first_to, label_to};
+ghost use Rattle.labels.specs.Reading.Serves.{BestSoFar, IsBelow};
+ghost use Rattle.labels.specs.Reading.OfZone.{AreFit, first_to};
 ghost use Rattle.trip_costs.specs.WalkCosts.{table_in};
 
 use crate::filling::no_walk::FAR;
@@ -10,53 +10,47 @@ use crate::reading::best::First;
 use crate::reading::zone_labels::ZoneLabels;
 use net_core::LinkNo;
 
-// The time from the entry of a link at a step, where there is a walk.
-#[tactic(auto, using(crate::proofs::OfReading::Leasts::labels))]
-fn label_at(labels: &ZoneLabels, link: u32, step: u64) -> Option<u64>
-    requires fit { AreFit labels.now }
-    requires link { link < length (table_in labels.now.costs).free }
-    requires step { step < 2 ^ 63 }
-    ensures is { result ≡ label_to labels.now link step }
-    ensures low { (x : ℕ) → result ≡ Some x → x < 2 ^ 63 }
-{
-    let time = labels.costs.steps(LinkNo(link), step) as u64;
-    let rest = labels
-        .table
-        .rest_at(labels.place, labels.router.state(link), step + time);
-    if rest < FAR { Some(time + rest) } else { None }
-}
-
-// The time from a step on over a first link, where there is a walk: from the step to its entry, and
-// from there on.
-pub(crate) fn first_at(labels: &ZoneLabels, link: u32, step: u64) -> Option<u64>
+/// The time from a step on over a first link, from the step to its entry and from there on, where
+/// there is a walk and it takes less than a number. What is left is looked up only where the link
+/// by itself takes less.
+pub(crate) fn first_below(labels: &ZoneLabels, link: u32, step: u64, most: u64) -> Option<u64>
     requires fit { AreFit labels.now }
     requires link { link < length (table_in labels.now.costs).free }
     requires step { step < 2 ^ 40 }
-    ensures { result ≡ first_to labels.now step link }
+    ensures below { IsBelow (first_to labels.now step link) most result }
+    ensures low { (x : ℕ) → first_to labels.now step link ≡ Some x → x < 2 ^ 62 + 2 ^ 40 }
 {
     let entry = labels.costs.enter(LinkNo(link), step);
-    match label_at(labels, link, entry) {
-        Some(time) => Some(entry - step + time),
-        None => None,
+    let time = labels.costs.steps(LinkNo(link), entry) as u64;
+    let alone = entry - step + time;
+    if alone >= most {
+        return None;
+    }
+    let state = labels.router.state(link);
+    let rest = labels.table.rest_at(labels.place, state, entry + time);
+    if rest < FAR && alone + rest < most {
+        Some(alone + rest)
+    } else {
+        None
     }
 }
 
 // The better of the best link so far and another one, which comes after it.
-fn better(best: Option<First>, link: u32, time: Option<u64>) -> Option<First>
-    ensures { (label : ℕ → Option ℕ) (firsts : List ℕ) (count : ℕ)
-        → slice_get firsts count ≡ Some link → time ≡ label link
-        → BestSoFar label firsts count best → BestSoFar label firsts (count + 1) result }
+fn better(labels: &ZoneLabels, best: Option<First>, link: u32, step: u64) -> Option<First>
+    requires fit { AreFit labels.now }
+    requires link { link < length (table_in labels.now.costs).free }
+    requires step { step < 2 ^ 40 }
+    ensures { (firsts : List ℕ) (count : ℕ) → slice_get firsts count ≡ Some link
+        → BestSoFar (first_to labels.now step) firsts count best
+        → BestSoFar (first_to labels.now step) firsts (count + 1) result }
 {
-    match (best, time) {
-        (_, None) => best,
-        (None, Some(time)) => Some(First { link, time }),
-        (Some(first), Some(time)) => {
-            if time < first.time {
-                Some(First { link, time })
-            } else {
-                best
-            }
-        }
+    let most = match best {
+        Some(first) => first.time,
+        None => u64::MAX,
+    };
+    match first_below(labels, link, step, most) {
+        Some(time) => Some(First { link, time }),
+        None => best,
     }
 }
 
@@ -69,7 +63,7 @@ pub(crate) fn best_of(labels: &ZoneLabels, firsts: &[u32], step: u64) -> Option<
 {
     let mut best = None;
     for link in firsts {
-        best = better(best, *link, first_at(labels, *link, step));
+        best = better(labels, best, *link, step);
     }
     best
 }

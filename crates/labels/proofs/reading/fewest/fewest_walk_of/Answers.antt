@@ -23,7 +23,7 @@ seek-requires-clause-searched c =
     let l = c.args.labels.now in
     let firsts = c.args.firsts.now in
     let h = subst (λ o. BestSoFar (first_to l c.args.step) firsts (length firsts) o) c.in-Some.is c.best_of.ensures in
-    searched_first l.net.now l.zone (steps_in l.costs) (rest_to l) l.router.now c.requires.serves (enter_in l.costs) firsts c.args.step c.in-Some.first.time c.begin.new.search.reached.items c.in_ok-begin-in-Some.ensures.started
+    searched_first l.net.now l.zone (steps_in l.costs) (rest_to l) l.router.now c.requires.serves (enter_in l.costs) firsts c.args.step c.in-Some.first.time c.begin.new.search.reached.items c.in_ok-begin-in-Some.ensures
     (λ k n x e q. h.least k n x (slice_get_within firsts k n e) e q)
 
 pub returns-in-None : goal.returns-in-None

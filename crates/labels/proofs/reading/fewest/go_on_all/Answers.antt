@@ -47,7 +47,7 @@ go_on-requires-clause-step c =
     let e = slice_get_read xs (length xs) c.loop-place.place c.index-here.result.now refl inside c.index-here.ensures in
     let b = S.begun c.loop-place.place c.index-here.result.now e in
     let soon = b.soon in
-    let near = c.requires.near in
+    let near = c.args.aim.now.near in
     omega (arith, soon, near)
 
 pub go_on-requires-clause-ordered : goal.go_on-requires-clause-ordered

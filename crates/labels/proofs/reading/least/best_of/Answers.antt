@@ -6,8 +6,8 @@ use Rattle.labels.proofs.reading.least.best_of.Goals as goal
 
 pub loop-link-preserved : goal.loop-link-preserved
 loop-link-preserved c =
-    c.better-best.ensures (first_to c.args.labels.now c.args.step) c.args.firsts.now c.loop-link.link-index
-    (slice_get-get_or c.args.firsts.now c.loop-link.link-index 0 c.loop-link-test.true) c.first_at.ensures c.loop-link.invariant
+    c.better-best.ensures c.args.firsts.now c.loop-link.link-index
+    (slice_get-get_or c.args.firsts.now c.loop-link.link-index 0 c.loop-link-test.true) c.loop-link.invariant
 
 pub returns : goal.returns
 returns c =
