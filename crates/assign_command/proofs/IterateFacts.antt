@@ -16,7 +16,8 @@ use Rattle.assignment.specs.Iterations.{AreIterations}
 use Rattle.assignment.specs.Progress.{HasBegun, HasEnded, HasNext}
 use Rattle.assignment.proofs.AssignmentFacts.{get-kept, ahead as next-at, assigned as ended-at, begun as first-at}
 use Rattle.assign_command.specs.Calls.{OnlyWatches}
-use Rattle.commands.specs.Outputs.{AreSinceTold, AreWatchLines, AreWatchTexts, AreWatched}
+use Rattle.commands.specs.Outputs.{AreSinceTold, AreWatched}
+use Rattle.commands.specs.Texts.{AreWatchLines, AreWatchTexts, end_lines}
 use Rattle.assign_command.specs.Progress.{Halts, HaltsIn, IsAssigned, IsAt, IsMeasured}
 use Rattle.commands.specs.Counted.{HasCounts}
 use Rattle.commands.specs.declared.iterated.Iterated.{Iterated}
@@ -24,7 +25,6 @@ use Rattle.assign_command.specs.declared.halt.Halt.{Halt}
 use Rattle.assign_command.specs.declared.halt.Halt.TheVariants as halt
 use Rattle.jobs.proofs.ChainFacts.{rose-earlier}
 use Rattle.commands.proofs.OutputFacts.{end-lines, watch-more}
-use Rattle.commands.specs.Texts.{end_lines}
 
 -- the line of the last state was cut off
 pub watch-halts : (s : Settings) (traffic : Traffic) (iteration : ℕ) (r : VehicleRoutes) (end : Eight)

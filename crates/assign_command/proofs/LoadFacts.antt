@@ -14,7 +14,7 @@ use Rattle.assignment.specs.Assignment.{Traffic, VehicleRoutes, plan_of}
 use Rattle.assign_command.specs.Calls.{OnlyWatches}
 use Rattle.pending_text.specs.Outs.{SomeCutOff, SomeOut}
 use Rattle.reports.specs.Watch.{AreLinesOf}
-use Rattle.commands.specs.Outputs.{AreWatchLines}
+use Rattle.commands.specs.Texts.{AreWatchLines}
 use Rattle.assign_command.specs.Progress.{HaltsIn, halt_of}
 use Rattle.assign_command.specs.Receipts.{Gives, by_workers, numbers_in}
 use Rattle.assign_command.specs.declared.halt.Halt.{Halt}

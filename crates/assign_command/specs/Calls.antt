@@ -9,7 +9,7 @@ use Rattle.assignment.specs.declared.lent.Assignment.{Assignment}
 use Rattle.desk_io.specs.State.{DeskState}
 use Rattle.pending_text.specs.Outs.{SomeOut}
 use Rattle.commands.specs.Works.{PutsFailed}
-use Rattle.commands.specs.Outputs.{AreWatchLines}
+use Rattle.commands.specs.Texts.{AreWatchLines}
 use Rattle.assign_command.specs.Progress.{HaltsIn}
 use Rattle.assign_command.specs.declared.halt.Halt.{Halt}
 use Rattle.assign_command.specs.declared.halt.Halt.TheVariants as halt

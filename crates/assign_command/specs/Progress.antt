@@ -8,7 +8,8 @@ use Rattle.loader.specs.declared.loading.LoadFault.TheVariants as fault
 use Rattle.dta_words.specs.declared.command.Settings.{Settings}
 use Rattle.assignment.specs.Assignment.{Traffic, VehicleRoutes}
 use Rattle.assignment.specs.Progress.{HasEnded, IsAssigned as AreDone, IsAt as IsBefore}
-use Rattle.commands.specs.Outputs.{AreSinceTold, AreWatchLines, AreWatchTexts, AreWatched}
+use Rattle.commands.specs.Outputs.{AreSinceTold, AreWatched}
+use Rattle.commands.specs.Texts.{AreWatchLines, AreWatchTexts}
 use Rattle.commands.specs.declared.iterated.Iterated.{Iterated}
 use Rattle.assign_command.specs.declared.halt.Halt.{Halt}
 use Rattle.assign_command.specs.declared.halt.Halt.TheVariants as halt

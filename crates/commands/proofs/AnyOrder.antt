@@ -19,7 +19,7 @@ use Rattle.assignment.proofs.Determined.{RouteLaws, all-by-same, all-routes}
 use Rattle.reports.specs.declared.summary.Summary.{Summary}
 use Rattle.commands.specs.Laws.{TextsInAnyOrder}
 use Rattle.commands.specs.Orders.{AreNodeOrders, NodeOrders, costs_by, counts_by, end_by, journeys_by, summary_by, times_by, told_by, trace_by, waits_by, watched_by}
-use Rattle.commands.specs.Outputs.{AreWatchLines, AreWatchTexts}
+use Rattle.commands.specs.Texts.{AreWatchLines, AreWatchTexts}
 use Rattle.counts.specs.Text.{counts_text}
 use Rattle.counts.specs.Through.{through_counts, through_counts_in}
 use Rattle.counts.specs.Turns.{turn_counts}

@@ -1,6 +1,6 @@
 -- Settings and a job have one list of texts but for Watch, and with the plain loader of all texts.
 use Rattle.std.proofs.Common.{◌≡◌, ℕ, zero, suc, ◌+◌, Bool, false, true, List, [], ◌∷◌, ◌++◌, map, refl, sym, ap, subst, ◌∙◌}
-use Rattle.sweep.specs.Texts.{sweep_texts}
+use Rattle.sweep.specs.Texts.{sweep_texts, traffic_at, wait_text}
 use Rattle.skims.specs.Texts.{skim_texts}
 use Rattle.pending_text.specs.Outs.{OutText, text_to}
 use Rattle.reports.specs.Watch.{AreToldSteps, text_after}
@@ -25,9 +25,9 @@ use Rattle.dta_model.specs.declared.trip.DemandCell.{DemandCell}
 use Rattle.assignment.proofs.Determined.{RouteLaws, all-last, all-line, all-lines, all-routes}
 use Rattle.sweep.specs.Laws.{Agree, ScenariosStandAlone}
 use Rattle.sweep.specs.Scenarios.{AreScenarios, HasTexts}
-use Rattle.sweep.specs.Texts.{traffic_at, wait_text}
 use Rattle.sweep.specs.declared.scenario.Scenario.{Scenario}
-use Rattle.commands.specs.Outputs.{AreAssigned, AreSinceTold, AreWatchLines, AreWatchTexts}
+use Rattle.commands.specs.Outputs.{AreAssigned, AreSinceTold}
+use Rattle.commands.specs.Texts.{AreWatchLines, AreWatchTexts}
 use Rattle.commands.specs.Works.{work_by}
 use Rattle.commands.specs.Texts.{but_watch, is_watch, last_texts, wait_texts}
 use Rattle.skims.specs.GivenTimes.{table_given}

@@ -18,7 +18,7 @@ use Rattle.dta_words.specs.declared.command.Settings.{Settings}
 use Rattle.assignment.specs.Assignment.{Traffic, VehicleRoutes, end_of, plan_of, summary_of}
 use Rattle.counts.specs.Through.{through_counts}
 use Rattle.counts.specs.Turns.{turn_counts}
-use Rattle.commands.specs.Outputs.{AreWatchLines, AreWatchTexts}
+use Rattle.commands.specs.Texts.{AreWatchLines, AreWatchTexts}
 use Rattle.commands.specs.Texts.{end_lines, counts_out, last_texts, table_texts, told_of}
 
 -- ---- watch lines

@@ -14,9 +14,8 @@ use Rattle.trip_costs.specs.Timings.{Timing}
 use Rattle.gap.specs.declared.line.GapLine.{GapLine}
 use Rattle.reports.specs.declared.summary.Summary.{Summary}
 use Rattle.dta_words.specs.declared.command.Settings.{Settings}
-use Rattle.assignment.specs.Assignment.{Traffic, VehicleRoutes, plan_of}
+use Rattle.assignment.specs.Assignment.{Traffic, VehicleRoutes, plan_of, summary_of, told_where}
 use Rattle.assignment.specs.Iterations.{AllIterations}
-use Rattle.assignment.specs.Assignment.{summary_of, told_where}
 use Rattle.counts.specs.Through.{through_counts_in}
 use Rattle.counts.specs.Turns.{turn_counts_in}
 use Rattle.commands.specs.Outputs.{AreSinceTold}

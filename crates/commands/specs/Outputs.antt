@@ -1,6 +1,5 @@
 -- Which texts a run has.
-use Rattle.std.specs.Prelude.{ℕ, ◌≡◌, ◌+◌, ◌≤◌, Bool, true, false, List, [], ◌∷◌, ◌++◌, length}
-use Rattle.std.specs.Prelude.{Option, Some, None}
+use Rattle.std.specs.Prelude.{ℕ, ◌≡◌, ◌≤◌, Bool, true, false, List, ◌++◌, length, Option, Some, None}
 use Rattle.pending_text.specs.Outs.{OutText}
 use Rattle.dta_model.specs.LinkTimes.{time_at}
 use Rattle.gap.specs.declared.line.GapLine.{GapLine}
@@ -12,29 +11,14 @@ use Rattle.skims.specs.declared.skim_entry.SkimEntry.{SkimEntry}
 use Rattle.audit.specs.Audit.{IsAudit}
 use Rattle.audit.specs.declared.verdict.Verdict.{Verdict}
 use Rattle.audit.specs.declared.verdict.Verdict.TheVariants as verdict
-use Rattle.assignment.specs.Assignment.{Traffic, VehicleRoutes}
+use Rattle.assignment.specs.Assignment.{Traffic, VehicleRoutes, costs_of}
 use Rattle.assignment.specs.Iterations.{AllIterations, AreIterations}
-use Rattle.assignment.specs.Assignment.{costs_of, plan_of}
 use Rattle.sweep.specs.Scenarios.{AreScenarios}
 use Rattle.sweep.specs.Texts.{sweep_texts}
 use Rattle.sweep.specs.declared.scenario.Scenario.{Scenario}
-use Rattle.reports.specs.Watch.{AreLinesOf}
 use Rattle.dta_words.specs.declared.command.Settings.{Settings}
 use Rattle.jobs.specs.Jobs.{JobRows}
-use Rattle.commands.specs.Texts.{last_texts, audit_plan, audit_texts}
-
--- the watch lines of an iteration over these routes
-abbrev pub AreWatchLines :
-    Settings → Traffic → (iteration : ℕ) → VehicleRoutes → List OutText → Type 0
-AreWatchLines s traffic iteration routes lines =
-    AreLinesOf s.watch s.plain iteration (plan_of s traffic routes) lines
-
--- the watch lines of iterations one after another, the first of which has this number
-abbrev pub AreWatchTexts : Settings → Traffic → ℕ → List VehicleRoutes → List OutText → Type 0
-AreWatchTexts s traffic number [] texts = texts ≡ []
-AreWatchTexts s traffic number (routes ∷ others) texts =
-    (lines : List OutText) × (more : List OutText) × AreWatchLines s traffic number routes lines
-    × AreWatchTexts s traffic (number + 1) others more × (texts ≡ lines ++ more)
+use Rattle.commands.specs.Texts.{AreWatchTexts, last_texts, audit_plan, audit_texts}
 
 -- the iterations in which the vehicles took their last routes, which are told exactly where a
 -- start table is asked for

@@ -1,5 +1,6 @@
--- The texts of a run, as functions of what they tell, in the order in which they go out.
-use Rattle.std.specs.Prelude.{ℕ, ◌+◌, suc, zero, Bool, true, false, not, List, [], ◌∷◌, ◌++◌}
+-- The texts of a run, as functions of what they tell, in the order in which they go out, and the
+-- watch lines before them, by their rule.
+use Rattle.std.specs.Prelude.{ℕ, ◌≡◌, ◌+◌, suc, zero, Bool, true, false, not, List, [], ◌∷◌, ◌++◌}
 use Rattle.std.specs.Prelude.{length, filter, ◌==◌, Option, Some, None, option_map}
 use Rattle.std.specs.List.{position}
 use Rattle.desk_io.specs.declared.desk.Output.{Output}
@@ -23,12 +24,25 @@ use Rattle.assignment.specs.Assignment.{Traffic, VehicleRoutes, plan_of, summary
 use Rattle.assignment.specs.Assignment.{waits_told}
 use Rattle.reports.specs.Texts.{agent_text_by, audit_text, gap_text, link_time_text}
 use Rattle.reports.specs.Texts.{origin_wait_text, report_text}
-use Rattle.reports.specs.Watch.{watch_text}
+use Rattle.reports.specs.Watch.{AreLinesOf, watch_text}
 use Rattle.reports.specs.declared.summary.Summary.{Summary}
 use Rattle.dta_words.specs.declared.command.Command.{Command}
 use Rattle.dta_words.specs.declared.command.Command.TheVariants as command
 use Rattle.dta_words.specs.declared.command.Settings.{Settings}
 use Rattle.jobs.specs.Jobs.{JobRows}
+
+-- the watch lines of an iteration over these routes
+abbrev pub AreWatchLines :
+    Settings → Traffic → (iteration : ℕ) → VehicleRoutes → List OutText → Type 0
+AreWatchLines s traffic iteration routes lines =
+    AreLinesOf s.watch s.plain iteration (plan_of s traffic routes) lines
+
+-- the watch lines of iterations one after another, the first of which has this number
+abbrev pub AreWatchTexts : Settings → Traffic → ℕ → List VehicleRoutes → List OutText → Type 0
+AreWatchTexts s traffic number [] texts = texts ≡ []
+AreWatchTexts s traffic number (routes ∷ others) texts =
+    (lines : List OutText) × (more : List OutText) × AreWatchLines s traffic number routes lines
+    × AreWatchTexts s traffic (number + 1) others more × (texts ≡ lines ++ more)
 
 -- the watch lines of an iteration that a loader puts after the last step: that of its state there,
 -- where there is a watch

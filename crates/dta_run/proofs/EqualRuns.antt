@@ -18,9 +18,8 @@ use Rattle.assignment.specs.Assignment.{Traffic, VehicleRoutes, plan_of}
 use Rattle.jobs.specs.Inputs.{Assigning, Kind, kind_of}
 use Rattle.jobs.specs.Jobs.{JobRows, traffic_of}
 use Rattle.jobs.specs.Verdict.{Accepted, Refused, Verdict, verdict}
-use Rattle.commands.specs.Outputs.{AreWatchTexts}
+use Rattle.commands.specs.Texts.{AreWatchTexts, is_watch}
 use Rattle.commands.specs.Status.{refusal_status}
-use Rattle.commands.specs.Texts.{is_watch}
 use Rattle.commands.specs.declared.status.Status.TheVariants as status
 use Rattle.reference.specs.Texts.{AreWatchLinesBy, texts_of}
 use Rattle.dta_run.specs.Laws.{EqualRunsWriteEqualTexts}

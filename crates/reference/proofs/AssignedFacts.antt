@@ -15,15 +15,14 @@ use Rattle.route_flows.proofs.Determined.{next_are_determined}
 use Rattle.route_flows.proofs.Numbered.{since_are_determined, started_are_determined}
 use Rattle.assignment.specs.Assignment.{Traffic, VehicleRoutes, costs_of, end_of, plan_of}
 use Rattle.assignment.specs.Iterations.{AllIterations, AreIterations}
-use Rattle.assignment.specs.Traffic.{IsSoundLoading}
-use Rattle.assignment.specs.Traffic.{IsTraffic}
+use Rattle.assignment.specs.Traffic.{IsSoundLoading, IsTraffic}
 use Rattle.assignment.proofs.AssignmentFacts.{sound-plan}
 use Rattle.assignment.proofs.Determined.{RouteLaws, all-routes, same-routes}
 use Rattle.assignment.proofs.SoundFacts.{sound-loading}
-use Rattle.commands.specs.Outputs.{AreAssigned, AreSinceTold, AreWatchTexts, AreWatched}
+use Rattle.commands.specs.Outputs.{AreAssigned, AreSinceTold, AreWatched}
+use Rattle.commands.specs.Texts.{AreWatchTexts, end_lines}
 use Rattle.commands.proofs.Determined.{lasts-by, same-since}
 use Rattle.commands.proofs.OutputFacts.{end-lines, watch-more}
-use Rattle.commands.specs.Texts.{end_lines}
 use Rattle.reference.specs.Reference.{all_gaps, assigned_texts, gap_at, routes_at, routes_until, since_told, watch_texts}
 use Rattle.reference.specs.Texts.{AreSoundlyLoaded}
 use Rattle.reference.proofs.Iterated.{iterated, place-of, routed}

@@ -1,6 +1,6 @@
 -- The scenarios of the reference are those of the sweep.
 use Rattle.std.proofs.Common.{ℕ, ◌<◌, List, [], ◌∷◌, length, map, refl, arith}
-use Rattle.sweep.specs.Texts.{sweep_texts}
+use Rattle.sweep.specs.Texts.{sweep_texts, traffic_at}
 use Rattle.std.specs.Prelude.{All, get_or}
 use Rattle.std.proofs.lemmas.List.Elements.{All-head, All-tail, All-weaker}
 use Rattle.dta_model.specs.Release.{HaveWindows, trips_of, vehicles_before}
@@ -13,7 +13,6 @@ use Rattle.dta_words.specs.declared.command.Settings.{Settings}
 use Rattle.scaled_demand.specs.Scales.{AreAllWithin, scaled}
 use Rattle.scaled_demand.proofs.LimitFacts.{scaled_windows}
 use Rattle.sweep.specs.Scenarios.{AreScenarios, IsScenario}
-use Rattle.sweep.specs.Texts.{traffic_at}
 use Rattle.assignment.specs.Traffic.{AreTripsBelow, IsTraffic}
 use Rattle.jobs.specs.Jobs.{IsJob, IsSweepJob, JobRows}
 use Rattle.commands.specs.Outputs.{AreSwept}

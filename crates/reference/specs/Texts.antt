@@ -1,18 +1,16 @@
 -- The texts of a run by its command, the watch lines before them, and its loadings.
 use Rattle.std.specs.Prelude.{ℕ, ◌≡◌, ⊤, All, List, [], ◌++◌}
-use Rattle.sweep.specs.Texts.{sweep_texts}
+use Rattle.sweep.specs.Texts.{sweep_texts, traffic_at}
 use Rattle.skims.specs.Texts.{skim_texts}
 use Rattle.reports.specs.Texts.{free_texts}
 use Rattle.pending_text.specs.Outs.{OutText}
 use Rattle.audit.specs.Audit.{loading_of}
-use Rattle.sweep.specs.Texts.{traffic_at}
 use Rattle.dta_words.specs.declared.command.Settings.{Settings}
 use Rattle.assignment.specs.Assignment.{Traffic, plan_of}
 use Rattle.assignment.specs.Traffic.{IsSoundLoading}
 use Rattle.jobs.specs.Inputs.{Assigning, Auditing, FreeFlow, Kind, Skimming, Sweeping, kind_of}
 use Rattle.jobs.specs.Jobs.{JobRows, traffic_of}
-use Rattle.commands.specs.Outputs.{AreWatchTexts}
-use Rattle.commands.specs.Texts.{audit_plan, audit_texts}
+use Rattle.commands.specs.Texts.{AreWatchTexts, audit_plan, audit_texts}
 use Rattle.reference.specs.Audits.{Passes}
 use Rattle.reference.specs.Reference.{assigned_texts, routes_until}
 use Rattle.reference.specs.Skims.{entries_of}
