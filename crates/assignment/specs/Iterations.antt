@@ -39,8 +39,8 @@ AreIterations s traffic routes lines = AreIterationsBy (costs_of s traffic) traf
 
 -- all iterations of an assignment with so many, where the loading over routes has these costs:
 -- their routes and gaps, and those of the last one
-pub record AllIterations (count : ℕ) (costs : VehicleRoutes → Timing) (traffic : Traffic) : Type 0
-    where
+pub record AllIterations (count : ℕ) (costs : VehicleRoutes → Timing) (traffic : Traffic)
+    : Type 0 where
   pub routes : List VehicleRoutes
   pub lines : List GapLine
   pub last : VehicleRoutes
