@@ -11,6 +11,7 @@ use Rattle.dta_model.specs.Room.{leavings, wave_of}
 use Rattle.dta_model.specs.Trace.{Move}
 use Rattle.dta_model.specs.Riders.{RiderState}
 use Rattle.dta_model.specs.Sound.{IsSound}
+use Rattle.dta_model.specs.TimedWalks.{penalty_steps}
 use Rattle.cell_stages.specs.Stages.{line_before, line_after, waiting_before, waiting_after}
 use Rattle.cell_stages.specs.Stages.{arrived_before, room_mail, batch_mail}
 use Rattle.dta_model.specs.declared.plan.Plan.{Plan}
@@ -45,14 +46,10 @@ kept_turns p n l = filter (λ b. is_kept (turn_rates p l b) (turn p l b)) (outs 
 abbrev pub limit_by : (Rates → MeterState) → Rates → Option MeterState
 limit_by meter rates = cond (is_limited rates) (Some (meter rates)) None
 
-abbrev pub penalty_of : Option Turn → ℕ
-penalty_of None = 0
-penalty_of (Some way) = way.penalty
-
 -- the turn to link b with these rates, of which the table tells so much
 abbrev pub turn_by : (Rates → MeterState) → ℕ → Rates → Option Turn → LimitedTurn
 turn_by meter b rates way =
-    record { to = record { 0 = b }; penalty = penalty_of way; limit = limit_by meter rates }
+    record { to = record { 0 = b }; penalty = penalty_steps way; limit = limit_by meter rates }
 
 -- the turn from an in-link to an out-link, between two steps
 abbrev pub turn_of : Plan → ℕ → ℕ → LimitedTurn

@@ -130,7 +130,8 @@ origin_of_another_form : demand_verdict 16 (records (codes "o_zone_id,d_zone_id,
 unfolding demand_on_literals refused
 origin_of_another_form = refl
 
-destination_of_another_form : demand_verdict 16 (records (codes "o_zone_id,d_zone_id,volume\n1,x,1\n"))
+destination_of_another_form :
+    demand_verdict 16 (records (codes "o_zone_id,d_zone_id,volume\n1,x,1\n"))
     ≡ refused 2 code.E4 column.DZoneId
 unfolding demand_on_literals refused
 destination_of_another_form = refl

@@ -1,13 +1,9 @@
 -- Walks from zone to zone over the links of a network. Zones are identifiers, nodes and links
 -- positions from 0.
 use Rattle.std.specs.Prelude.{◌≡◌, ℕ, suc, ◌<◌, ◌≤◌, Bool, true, false, nat_eq, List, length, All}
-use Rattle.std.specs.Prelude.{Option, None, Some, IsSome, IfSome, option_and_then, slice_get}
-use Rattle.net_core.specs.Network.{link_at, turn}
+use Rattle.std.specs.Prelude.{Option, None, Some, IsSome, IfSome, slice_get}
+use Rattle.net_core.specs.Network.{link_at, turn, zone_id}
 use Rattle.net_core.specs.declared.rows.NetRows.{NetRows}
-
--- the zone of a node, if it has one
-abbrev pub zone_at : NetRows → ℕ → Option ℕ
-zone_at net n = option_and_then (λ node. node.zone) (slice_get net.nodes n)
 
 abbrev pub is_zone : ℕ → Option ℕ → Bool
 is_zone zone None = false
@@ -15,10 +11,10 @@ is_zone zone (Some id) = nat_eq id zone
 
 -- whether a link begins at a node of a zone, and whether it ends at one
 unfoldable pub begins_in : NetRows → ℕ → ℕ → Bool
-begins_in net zone l = is_zone zone (zone_at net (link_at net l).from.0)
+begins_in net zone l = is_zone zone (zone_id net (link_at net l).from.0)
 
 unfoldable pub ends_in : NetRows → ℕ → ℕ → Bool
-ends_in net zone l = is_zone zone (zone_at net (link_at net l).to.0)
+ends_in net zone l = is_zone zone (zone_id net (link_at net l).to.0)
 
 -- a walk from a zone to a zone, as its links
 pub record IsWalk (net : NetRows) (origin destination : ℕ) (walk : List ℕ) : Type 0 where

@@ -123,7 +123,7 @@ windows_far kind parts i d why within e =
 
 -- ---- order
 
-above : (step : ℕ) (ws : List Window) (j : ℕ) (w : Window) → rise_after step ws ≡ true → slice_get ws j ≡ Some w → step < w.from
+pub above : (step : ℕ) (ws : List Window) (j : ℕ) (w : Window) → rise_after step ws ≡ true → slice_get ws j ≡ Some w → step < w.from
 above step [] j w h e = absurd cc
 above step (v ∷ ws) zero w h e =
     let parts = and_parts (nat_lt step v.from) (rise_after v.from ws) h in
@@ -135,7 +135,7 @@ above step (v ∷ ws) (suc j) w h e =
     let later : v.from < w.from = above v.from ws j w parts.1 e in
     omega arith
 
-rising : (step : ℕ) (ws : List Window) (i j : ℕ) (v w : Window) → rise_after step ws ≡ true → i < j → slice_get ws i ≡ Some v → slice_get ws j ≡ Some w → v.from < w.from
+pub rising : (step : ℕ) (ws : List Window) (i j : ℕ) (v w : Window) → rise_after step ws ≡ true → i < j → slice_get ws i ≡ Some v → slice_get ws j ≡ Some w → v.from < w.from
 rising step [] i j v w h less e f = absurd cc
 rising step (x ∷ ws) zero zero v w h less e f = absurd (omega arith)
 rising step (x ∷ ws) zero (suc j) v w h less e f =

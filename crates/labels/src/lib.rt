@@ -6,7 +6,7 @@
 //! specs/Least.antt of `dta_model`: over all walks, also those that repeat links, and None exactly
 //! where there is none. [`GroupLabels`] does the same for up to eight zones at once.
 //!
-//! By whole trips (specs/Timings.antt of `trip_costs`) the chosen walk has the fewest links of
+//! By whole trips (specs/TripWalks.antt of `trip_costs`) the chosen walk has the fewest links of
 //! those with the least time: a breadth-first search finds it over the ways on that meet what is
 //! left.
 //!

@@ -2,12 +2,12 @@
 ghost use Rattle.std.specs.Prelude.{◌≡◌, ◌<◌, ◌≤◌, ◌↔◌, All, IfOk, IfSome, IsTrue, length};
 ghost use Rattle.std.specs.Prelude.{nat_eq, option_map};
 ghost use Rattle.std.specs.List.{IsDistinct};
-ghost use Rattle.net_core.specs.Network.{link_at};
+ghost use Rattle.net_core.specs.Network.{link_at, zone_id};
 ghost use Rattle.net_core.specs.Rows.{link_ids};
 ghost use Rattle.net_core.specs.declared.rows.TheConstants.{MOST_LINKS};
 ghost use Rattle.dta_model.specs.Plans.{link_numbers};
 ghost use Rattle.dta_model.specs.Walks.{IsWalk, begins_in as begins_at, ends_in as ends_at};
-ghost use Rattle.dta_model.specs.Walks.{is_zone, zone_at};
+ghost use Rattle.dta_model.specs.Walks.{is_zone};
 ghost use Rattle.start_table.specs.Starts.{TellsFit, TellsStart, TellsWalk};
 ghost use Rattle.start_table.specs.Names.{EndsRight, TellsNames, TurnsOn};
 
@@ -68,7 +68,7 @@ fn links_named(alloc: Global, index: &Ids, ids: &[u64]) -> Result<Option<Vec<Lin
 // Whether a node has a zone.
 fn is_in(net: &Net, zone: u64, node: NodeNo) -> bool
     requires { node.0 < length net.now.nodes }
-    ensures { result ≡ is_zone zone (zone_at net.now node.0) }
+    ensures { result ≡ is_zone zone (zone_id net.now node.0) }
 {
     match net.node(node).zone {
         Some(id) => id == zone,

@@ -9,13 +9,13 @@ use Rattle.std.proofs.lemmas.Option.{slice_get-get_or, slice_get_within, get_or_
 use Rattle.std.proofs.lemmas.Bool.{cases_lt}
 use Rattle.std.proofs.lemmas.List.Elements.{All-push, All-weaker}
 use Rattle.net_core.specs.AreListed.{AreListed}
-use Rattle.net_core.specs.Network.{link_at, numbers_below, zone_number, zones}
+use Rattle.net_core.specs.Network.{link_at, numbers_below, zone_id, zone_number, zones}
 use Rattle.net_core.specs.declared.rows.LinkNo.{LinkNo}
 use Rattle.net_core.specs.declared.rows.NetRows.{NetRows}
 use Rattle.net_core.specs.declared.rows.NodeRow.{NodeRow}
 use Rattle.net_core.specs.declared.rows.ZoneNo.{ZoneNo}
 use Rattle.dta_model.specs.Least.{HaveNoWalk}
-use Rattle.dta_model.specs.Walks.{begins_in, ends_in, is_zone, zone_at}
+use Rattle.dta_model.specs.Walks.{begins_in, ends_in, is_zone}
 use Rattle.dta_model.specs.declared.trip.Trip.{Trip}
 use Rattle.time_routes.specs.Destinations.{asks_least, asks_walk, AreTold, IsAllTold, IsRight, LeastOf, UnaskedAreNone, WalkOf}
 use Rattle.time_routes.specs.Tell.{LeadsTo, LeadsToFirst, noted, origins_of, Settles, Stands, StandsBefore, Tells, wanted, wanted_in, wanted_zone}
@@ -31,7 +31,7 @@ use Rattle.labels.proofs.OfStates.ZoneFacts.{named}
 use Rattle.labels.proofs.Basics.{equal_of, same_true, some_same}
 
 -- ---- zones that no node has
-no_node : (net : NetRows) (n zone : ℕ) → All (λ node. node.zone ≢ Some zone) net.nodes → is_zone zone (zone_at net n) ≡ true → ⊥
+no_node : (net : NetRows) (n zone : ℕ) → All (λ node. node.zone ≢ Some zone) net.nodes → is_zone zone (zone_id net n) ≡ true → ⊥
 no_node net n zone none h = by (slice_get net.nodes n) refl h
   where
     inner : (node : NodeRow) → slice_get net.nodes n ≡ Some node → (o : Option ℕ) → node.zone ≡ o → is_zone zone o ≡ true → ⊥

@@ -20,10 +20,12 @@ use Rattle.net_core.specs.declared.rates.TheConstants.{MOST_WINDOWS, MOST_WINDOW
 use Rattle.net_core.specs.declared.rates.Window.{Window}
 use Rattle.net_core.specs.declared.rows.TheConstants.{MOST_NODES, MOST_LINKS, MOST_TURNS}
 use Rattle.net_core.specs.declared.rows.TurnRow.{TurnRow}
+use Rattle.gmns_tables.proofs.StepsFacts.{above, rising}
+use Rattle.gmns_tables.specs.Windows.{rise_after}
 use Rattle.worked_cases.specs.CheckedNet.{are_link_windows, are_links, are_nodes, are_turns}
 use Rattle.worked_cases.specs.CheckedNet.{are_windows, differ, has_range, has_turn_range}
 use Rattle.worked_cases.specs.CheckedNet.{has_window_range, is_between, is_net, is_rate}
-use Rattle.worked_cases.specs.CheckedNet.{is_turning, rise, rise_from_0}
+use Rattle.worked_cases.specs.CheckedNet.{is_turning, rise_from_0}
 
 none-equal : {K : Type 0} (eq : K → K → Bool) (k : K) (ks : List K)
     → not (list_any (eq k) ks) ≡ true → AllByRecursion (λ y. eq k y ≡ false) ks
@@ -132,37 +134,11 @@ turning-checked links turn e =
 some-same : (v w : Window) → Some v ≡ Some w → v ≡ w
 some-same v w e = cc
 
--- windows after a step begin later, wherever they stand
-rise-after : (step : ℕ) (ws : List Window) (j : ℕ) (w : Window) → rise step ws ≡ true
-    → slice_get ws j ≡ Some w → step < w.from
-rise-after step [] j w e g = absurd cc
-rise-after step (v ∷ ws) zero w e g =
-    let parts = and_parts (nat_lt step v.from) (rise v.from ws) e in
-    let same = some-same v w g in
-    subst (λ (x : Window). step < x.from) same (lt_holds step v.from parts.0)
-rise-after step (v ∷ ws) (suc j) w e g =
-    let parts = and_parts (nat_lt step v.from) (rise v.from ws) e in
-    let later = rise-after v.from ws j w parts.1 g in
-    let now = lt_holds step v.from parts.0 in
-    omega (arith, later, now)
-
-rise-rising : (step : ℕ) (ws : List Window) (i j : ℕ) (v w : Window) → rise step ws ≡ true → i < j
-    → slice_get ws i ≡ Some v → slice_get ws j ≡ Some w → v.from < w.from
-rise-rising step [] i j v w e b f g = absurd cc
-rise-rising step (x ∷ ws) i zero v w e b f g = absurd (omega arith)
-rise-rising step (x ∷ ws) zero (suc j) v w e b f g =
-    let parts = and_parts (nat_lt step x.from) (rise x.from ws) e in
-    let same : x ≡ v = some-same x v f in
-    subst (λ (y : Window). y.from < w.from) same (rise-after x.from ws j w parts.1 g)
-rise-rising step (x ∷ ws) (suc i) (suc j) v w e b f g =
-    let parts = and_parts (nat_lt step x.from) (rise x.from ws) e in
-    rise-rising x.from ws i j v w parts.1 (omega arith) f g
-
 rise_from_0-first : (ws : List Window) → rise_from_0 ws ≡ true
     → IfSome (slice_get ws 0) (λ w. w.from ≡ 0)
 rise_from_0-first [] e = tt
 rise_from_0-first (w ∷ ws) e =
-    let parts = and_parts (nat_eq w.from 0) (rise w.from ws) e in
+    let parts = and_parts (nat_eq w.from 0) (rise_after w.from ws) e in
     let first : w.from ≡ 0 = search (rules, parts.0) in
     first
 
@@ -172,29 +148,29 @@ rise_from_0-rising : (ws : List Window) → rise_from_0 ws ≡ true
 rise_from_0-rising [] e i j v w b f g = absurd cc
 rise_from_0-rising (x ∷ ws) e i zero v w b f g = absurd (omega arith)
 rise_from_0-rising (x ∷ ws) e zero (suc j) v w b f g =
-    let parts = and_parts (nat_eq x.from 0) (rise x.from ws) e in
+    let parts = and_parts (nat_eq x.from 0) (rise_after x.from ws) e in
     let same : x ≡ v = some-same x v f in
-    subst (λ (y : Window). y.from < w.from) same (rise-after x.from ws j w parts.1 g)
+    subst (λ (y : Window). y.from < w.from) same (above x.from ws j w parts.1 g)
 rise_from_0-rising (x ∷ ws) e (suc i) (suc j) v w b f g =
-    let parts = and_parts (nat_eq x.from 0) (rise x.from ws) e in
-    rise-rising x.from ws i j v w parts.1 (omega arith) f g
+    let parts = and_parts (nat_eq x.from 0) (rise_after x.from ws) e in
+    rising x.from ws i j v w parts.1 (omega arith) f g
 
 windows-checked : (ws : List Window) → are_windows ws ≡ true → AreWindows ws
 windows-checked ws e =
     let few = and_parts (nat_le (length ws) MOST_WINDOWS) _ e in
-    let rising = and_parts (rise_from_0 ws) _ few.1 in
+    let rise = and_parts (rise_from_0 ws) _ few.1 in
     let IsEarly : Window → Type 0 = λ w. w.from ≤ MOST_WINDOW_STEP in
     let IsInRange : Window → Type 0 = λ w. IfSome w.rate (λ rate. rate ≤ MOST_RATE) in
     record {
       few = le_holds (length ws) MOST_WINDOWS few.0;
-      first = rise_from_0-first ws rising.0;
-      rising = rise_from_0-rising ws rising.0;
+      first = rise_from_0-first ws rise.0;
+      rising = rise_from_0-rising ws rise.0;
       early = all-checked IsEarly has_window_range
           (λ w h. le_holds w.from MOST_WINDOW_STEP (and_parts (nat_le w.from MOST_WINDOW_STEP) _ h).0)
-          ws rising.1;
+          ws rise.1;
       range = all-checked IsInRange has_window_range
           (λ w h. rate-checked w.rate (and_parts (nat_le w.from MOST_WINDOW_STEP) _ h).1)
-          ws rising.1;
+          ws rise.1;
     }
 
 some-given : (rate : Option ℕ) → is_some rate ≡ true → IsSome rate

@@ -13,6 +13,7 @@ use Rattle.net_core.specs.declared.rows.NetRows.{NetRows}
 use Rattle.net_core.specs.declared.rows.NodeRow.{NodeRow}
 use Rattle.net_core.specs.declared.rows.TheConstants.{MOST_LINKS, MOST_NODES, MOST_TURNS}
 use Rattle.net_core.specs.declared.rows.TurnRow.{TurnRow}
+use Rattle.gmns_tables.specs.Windows.{rise_after}
 
 abbrev pub differ : {K : Type 0} → (K → K → Bool) → List K → Bool
 differ eq [] = true
@@ -51,14 +52,10 @@ are_turns turns =
     differ pair_eq (turn_pairs turns)
     && (nat_le (length turns) MOST_TURNS && list_all has_turn_range turns)
 
--- whether windows begin after a step, each after the one before
-abbrev pub rise : ℕ → List Window → Bool
-rise step [] = true
-rise step (w ∷ ws) = nat_lt step w.from && rise w.from ws
-
+-- whether windows begin with step 0, each after the one before
 abbrev pub rise_from_0 : List Window → Bool
 rise_from_0 [] = true
-rise_from_0 (w ∷ ws) = nat_eq w.from 0 && rise w.from ws
+rise_from_0 (w ∷ ws) = nat_eq w.from 0 && rise_after w.from ws
 
 abbrev pub has_window_range : Window → Bool
 has_window_range w = nat_le w.from MOST_WINDOW_STEP && is_rate w.rate

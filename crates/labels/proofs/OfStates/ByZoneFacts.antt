@@ -6,11 +6,11 @@ use Rattle.std.proofs.lemmas.List.Elements.{filter-append}
 use Rattle.std.proofs.lemmas.Option.{slice_get-get_or}
 use Rattle.std.proofs.lemmas.Bool.{and_parts}
 use Rattle.net_core.specs.AreListed.{AreListed}
-use Rattle.net_core.specs.Network.{IsNet, link_at, numbers_below, zones}
+use Rattle.net_core.specs.Network.{IsNet, link_at, numbers_below, zone_id, zones}
 use Rattle.net_core.specs.declared.rows.NetRows.{NetRows}
 use Rattle.net_core.proofs.ListedFacts.{listed-more}
 use Rattle.net_core.proofs.Numbers.{numbers_more}
-use Rattle.dta_model.specs.Walks.{begins_in, is_zone, zone_at}
+use Rattle.dta_model.specs.Walks.{begins_in, is_zone}
 use Rattle.labels.specs.Reading.FirstLinks.{AreFirsts}
 use Rattle.labels.specs.Named.{zone_named}
 use Rattle.labels.specs.States.Onwards.{begin_zone}
@@ -67,14 +67,14 @@ module _ (net : NetRows) (sound : IsNet net) (origin : ℕ) (small : origin < le
   unfolding begins_from begins_in
   are_firsts = record {
     listed = λ l h. (
-        let p = and_parts (nat_lt l (length net.links)) (is_zone (zone_named net origin) (zone_at net (link_at net l).from.0)) h in
+        let p = and_parts (nat_lt l (length net.links)) (is_zone (zone_named net origin) (zone_id net (link_at net l).from.0)) h in
         let inside : l < length net.links = search (rules, p.0) in
         let r = of_filter starts (numbers_below (length net.links)) l l (number_stands (length net.links) l inside) (zone_same net (link_at net l).from.0 origin sound small ∙ p.1) in
         (r.0, ap (λ xs. slice_get xs (r.0)) list_is ∙ r.1));
     starts = λ k l h. (
         let f = first_is k l h in
         let less = is_below l (length net.links) (f.0) in
-        let in_zone : is_zone (zone_named net origin) (zone_at net (link_at net l).from.0) ≡ true = sym (zone_same net (link_at net l).from.0 origin sound small) ∙ f.1 in
+        let in_zone : is_zone (zone_named net origin) (zone_id net (link_at net l).from.0) ≡ true = sym (zone_same net (link_at net l).from.0 origin sound small) ∙ f.1 in
         rw (less, in_zone) refl);
   }
 

@@ -9,13 +9,13 @@ use Rattle.std.proofs.lemmas.List.{append-nil, length-append, length-drop, get_o
 use Rattle.std.proofs.lemmas.List.Elements.{All-append}
 use Rattle.std.proofs.lemmas.Option.{slice_get-get_or}
 use Rattle.std.proofs.lemmas.Bool.{and_parts}
-use Rattle.net_core.specs.Network.{as_links, as_turn, free_turn, IsNet, is_named, link_at, outs, turn, turn_at, zone_of, zones}
+use Rattle.net_core.specs.Network.{as_links, as_turn, free_turn, IsNet, is_named, link_at, outs, turn, turn_at, zone_id, zone_of, zones}
 use Rattle.net_core.specs.declared.rows.NetRows.{NetRows}
 use Rattle.fixed_units.specs.declared.turn.TheConstants.{MOST_PENALTY_STEPS}
 use Rattle.net_core.specs.declared.rows.Turn.{Turn}
 use Rattle.net_core.specs.declared.rows.TurnRow.{TurnRow}
 use Rattle.net_core.specs.Rows.{IsTurnInRange}
-use Rattle.dta_model.specs.Walks.{ends_in, is_zone, zone_at}
+use Rattle.dta_model.specs.Walks.{ends_in, is_zone}
 use Rattle.labels.specs.Named.{zone_named}
 use Rattle.labels.specs.States.Onwards.{ways_from, zone_or_none, end_zone, AreStates, AreOnwards}
 use Rattle.labels.specs.Filling.Rests.{AreTurns, AreOrdered}
@@ -235,7 +235,7 @@ router_is net leads r sound st o = record { many = st.many; few = (let n = o.zon
             let p : nat_lt l (length net.links) ≡ true = is_below l (length net.links) (omega (arith, h, st.many)) in
             ap (λ z. nat_eq z zone) (at_state ∙ ap (λ n. zone_or_none (zone_of net n.0)) node)
             ∙ zone_same net (link_at net l).to.0 zone sound small
-            ∙ and_true (nat_lt l (length net.links)) (is_zone (zone_named net zone) (zone_at net (link_at net l).to.0)) p
+            ∙ and_true (nat_lt l (length net.links)) (is_zone (zone_named net zone) (zone_id net (link_at net l).to.0)) p
 
         listed_there : (l b wait : ℕ) → wait_between net l b ≡ Some wait → (k : ℕ) × (w : Onward) × (slice_get (onwards r (get_or r.states.items l 0)) k ≡ Some w) × (w.link ≡ b) × (w.wait ≡ wait) × (w.to ≡ get_or r.states.items b 0)
         listed_there l b wait h =

@@ -7,12 +7,12 @@ use Rattle.std.proofs.lemmas.List.Quantifiers.{position-Some}
 use Rattle.std.proofs.lemmas.List.Folds.{list_any_at}
 use Rattle.std.proofs.lemmas.Map.Keys.{apart_from_distinct}
 use Rattle.net_core.specs.Ids.{place_of}
-use Rattle.net_core.specs.Network.{IsNet, zone_number, zone_of, zones}
+use Rattle.net_core.specs.Network.{IsNet, zone_id, zone_number, zone_of, zones}
 use Rattle.net_core.specs.declared.rows.NetRows.{NetRows}
 use Rattle.net_core.specs.declared.rows.NodeRow.{NodeRow}
 use Rattle.net_core.proofs.IdsFacts.{list_any-absent}
 use Rattle.net_core.proofs.ZonesFacts.{distinct-zones, length-zones-le}
-use Rattle.dta_model.specs.Walks.{is_zone, zone_at}
+use Rattle.dta_model.specs.Walks.{is_zone}
 use Rattle.labels.specs.Named.{zone_named}
 use Rattle.labels.specs.States.Onwards.{zone_or_none}
 use Rattle.labels.specs.declared.states.zone_numbers.TheConstants.{NO_ZONE}
@@ -53,7 +53,7 @@ module _ (ids : List ℕ) (id z : ℕ) (distinct : IsDistinct nat_eq ids) (small
           by (inr to) = omega (arith, to, after)
 
 -- a node is in the zone of a number where it is in the zone of its identifier
-pub zone_same : (net : NetRows) (n z : ℕ) → IsNet net → z < length (zones net.nodes) → nat_eq (zone_or_none (zone_of net n)) z ≡ is_zone (zone_named net z) (zone_at net n)
+pub zone_same : (net : NetRows) (n z : ℕ) → IsNet net → z < length (zones net.nodes) → nat_eq (zone_or_none (zone_of net n)) z ≡ is_zone (zone_named net z) (zone_id net n)
 zone_same net n z sound small = by (slice_get net.nodes n)
   where
     short : length (zones net.nodes) ≤ NO_ZONE

@@ -89,7 +89,8 @@ BestSoFar label firsts count None = (k l : ℕ) → k < count → slice_get firs
     → label l ≡ None
 BestSoFar label firsts count (Some f) = IsBest label firsts count f.link f.time
 
--- a time where it is less than a number, or that it isn't
+-- the answer of a look whether there is a time below a number: that time, or none where there is
+-- none below it
 abbrev pub IsBelow : Option ℕ → ℕ → Option ℕ → Type 0
 IsBelow time most None = (x : ℕ) → time ≡ Some x → most ≤ x
 IsBelow time most (Some x) = (time ≡ Some x) × (x < most)

@@ -7,10 +7,11 @@ use Rattle.dta_model.specs.NodeMoves.{left, entered, turned}
 use Rattle.dta_model.specs.Plans.{link_allowance, link_rates, turn, turn_rates}
 use Rattle.dta_model.specs.Room.{room}
 use Rattle.cell_stages.specs.Stages.{room_mail}
+use Rattle.dta_model.specs.TimedWalks.{penalty_steps}
 use Rattle.dta_model.specs.Trace.{Move, leads_to, stands_on}
 use Rattle.dta_model.specs.declared.plan.Plan.{Plan}
 use Rattle.net_core.specs.declared.rates.Rates.{Rates}
-use Rattle.cell_stages.specs.Contents.{is_limited, kept_turns, penalty_of, turn_of, exit_of, room_of}
+use Rattle.cell_stages.specs.Contents.{is_limited, kept_turns, turn_of, exit_of, room_of}
 use Rattle.cell_stages.proofs.MailTells.{rooms_are_told}
 use Rattle.capacity_credits.specs.Meter.{MeterState, granted, closed, unopened}
 use Rattle.cell_stages.specs.declared.exit.Exit.{Exit}
@@ -92,7 +93,7 @@ module _ (p : Plan) (n t : ℕ) (M : List Move) (l : ℕ) where
       turns (b ∷ xs) =
           let none : turned p n t (T p n t) M l b ≡ 0 = omega (arith, turned-le b) in
           let e : opened_turn t (turn_of p l b) ≡ turn_mid p n t M l b =
-          ap (λ k. record { to = record { 0 = b }; penalty = penalty_of (turn p l b); limit = k }) (limit-opens b (turn_rates p l b) (is_limited (turn_rates p l b)) none) in
+          ap (λ k. record { to = record { 0 = b }; penalty = penalty_steps (turn p l b); limit = k }) (limit-opens b (turn_rates p l b) (is_limited (turn_rates p l b)) none) in
           let r : map (opened_turn t) (map (turn_of p l) xs) ≡ map (turn_mid p n t M l) xs = turns xs in
           rw (e, r) refl
 
@@ -104,7 +105,7 @@ module _ (p : Plan) (n t : ℕ) (M : List Move) (l : ℕ) where
       turns [] = refl
       turns (b ∷ xs) =
           let e : closed_turn (turn_mid p n t M l b) ≡ turn_of p l b =
-          ap (λ k. record { to = record { 0 = b }; penalty = penalty_of (turn p l b); limit = k }) (limit-closes b (turn_rates p l b) (is_limited (turn_rates p l b))) in
+          ap (λ k. record { to = record { 0 = b }; penalty = penalty_steps (turn p l b); limit = k }) (limit-closes b (turn_rates p l b) (is_limited (turn_rates p l b))) in
           let r : map closed_turn (map (turn_mid p n t M l) xs) ≡ map (turn_of p l) xs = turns xs in
           rw (e, r) refl
 

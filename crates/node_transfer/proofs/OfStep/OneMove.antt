@@ -8,11 +8,12 @@ use Rattle.dta_model.specs.NodeMoves.{left, entered, turned}
 use Rattle.dta_model.specs.Plans.{link_rates, turn, turn_rates, outs}
 use Rattle.dta_model.specs.Riders.{RiderState, rider_at, moved}
 use Rattle.cell_stages.specs.Stages.{batch_by}
+use Rattle.dta_model.specs.TimedWalks.{penalty_steps}
 use Rattle.dta_model.specs.Trace.{Move, Onto, Arrived, leads_to, stands_on}
 use Rattle.dta_model.specs.declared.plan.Plan.{Plan}
 use Rattle.dta_model.proofs.Queues.{distinct}
 use Rattle.node_transfer.specs.Places.{set_some}
-use Rattle.cell_stages.specs.Contents.{is_limited, kept_turns, penalty_of}
+use Rattle.cell_stages.specs.Contents.{is_limited, kept_turns}
 use Rattle.capacity_credits.specs.Meter.{passed_one}
 use Rattle.node_transfer.specs.Inside.Pass.{place_of, entered_at, entered_in, entered_out, used_at, used_in, used_turn, after_arrival, after_entry}
 use Rattle.cell_stages.specs.declared.out_link.OutLink.{OutLink}
@@ -83,7 +84,7 @@ module _ (p : Plan) (n t : ℕ) (M : List Move) (m : Move) where
     turn-same b e = let c : turned p n t (T p n t) (M ++ m ∷ []) l b ≡ turned p n t (T p n t) M l b = turned-push l b ∙ rw e (omega arith) in rw c refl
 
     turn-one : (b : ℕ) → leads_to b m ≡ true → stands_on l (T p n t) m.vehicle ≡ true → turn_mid p n t (M ++ m ∷ []) l b ≡ used_turn (turn_mid p n t M l b)
-    turn-one b e s = ap (λ y. record { to = record { 0 = b }; penalty = penalty_of (turn p l b); limit = y }) (by_limit (is_limited (turn_rates p l b)) (turned-push l b ∙ rw (e, s) refl))
+    turn-one b e s = ap (λ y. record { to = record { 0 = b }; penalty = penalty_steps (turn p l b); limit = y }) (by_limit (is_limited (turn_rates p l b)) (turned-push l b ∙ rw (e, s) refl))
       where
         by_limit : (c : Bool) → turned p n t (T p n t) (M ++ m ∷ []) l b ≡ turned p n t (T p n t) M l b + 1
             → cond c (Some (meter_mid p t (turn_rates p l b) (turned p n t (T p n t) (M ++ m ∷ []) l b))) None ≡ option_map passed_one (cond c (Some (meter_mid p t (turn_rates p l b) (turned p n t (T p n t) M l b))) None)
